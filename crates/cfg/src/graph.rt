@@ -1,0 +1,51 @@
+use lists::Seq;
+use program::{BlockId, Operand, RegisterId};
+use types::Typed;
+
+/// How a path goes along an edge. No path goes along a reattach.
+#[derive(Clone, Copy, Debug, PartialEq, Eq)]
+pub enum Way {
+    /// Along `br` or `switch`.
+    Branch,
+    /// From a detach to its detached block.
+    Detached,
+    /// From a detach to its continuation.
+    Continued,
+    /// From a sync of this region to its target.
+    Synced(RegisterId),
+}
+
+/// The value that a phi takes on an edge.
+#[derive(Clone, Copy, Debug, PartialEq, Eq)]
+pub struct Move {
+    pub register: RegisterId,
+    pub value: Operand,
+}
+
+/// An edge to a block, with the phi moves that are made at once on it.
+#[derive(Debug, Drop)]
+pub struct Edge {
+    pub to: BlockId,
+    pub way: Way,
+    pub moves: Seq<Move>,
+}
+
+/// The edges that leave a block, in the order of its terminator, and the blocks whose edges lead to it.
+#[derive(Debug, Drop)]
+pub struct BlockEdges {
+    pub edges: Seq<Edge>,
+    pub predecessors: Seq<BlockId>,
+}
+
+/// The edges of a function, a block each.
+#[derive(Debug, Drop)]
+pub struct FunctionGraph {
+    pub blocks: Seq<BlockEdges>,
+}
+
+/// A program with the edges of its functions.
+#[derive(Debug, Drop)]
+pub struct Graph {
+    pub typed: Typed,
+    pub functions: Seq<FunctionGraph>,
+}

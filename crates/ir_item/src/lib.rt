@@ -1,0 +1,6 @@
+//! What stands on one line of a module's text.
+#![tactic(auto)]
+
+mod item;
+
+pub use item::Item;

@@ -1,0 +1,161 @@
+use crate::annotation::Inequality;
+use crate::identifier::{AllocaId, BlockId, FunctionId, ObjectName};
+use linear::RegisterId;
+use lists::Seq;
+use syntax::{BinaryOperator, Conversion, Predicate, Width};
+
+/// A number, or the value of a register.
+#[derive(Clone, Copy, Debug, PartialEq, Eq)]
+pub enum Operand {
+    Number(i64),
+    Register(RegisterId),
+}
+
+/// A cell: the first of an object, or the one that a `getelementptr` of the same block gave.
+#[derive(Clone, Copy, Debug, PartialEq, Eq)]
+pub enum Address {
+    First(ObjectName),
+    Element(RegisterId),
+}
+
+/// An argument of a call: a number or a whole object.
+#[derive(Clone, Copy, Debug, PartialEq, Eq)]
+pub enum Argument {
+    Number(Operand),
+    Object(ObjectName),
+}
+
+/// What a phi takes where the run comes from `predecessor`.
+#[derive(Clone, Copy, Debug, PartialEq, Eq)]
+pub struct PhiEntry {
+    pub value: Operand,
+    pub predecessor: BlockId,
+}
+
+/// A phi (LLVM Language Reference, "phi").
+#[derive(Debug, Drop)]
+pub struct Phi {
+    pub line: u32,
+    pub register: RegisterId,
+    pub width: Width,
+    pub entries: Seq<PhiEntry>,
+}
+
+/// An instruction that is neither a phi nor a terminator. `register` is the register that it defines.
+#[derive(Debug, Drop)]
+pub enum Instruction {
+    Binary {
+        register: RegisterId,
+        operator: BinaryOperator,
+        width: Width,
+        left: Operand,
+        right: Operand,
+    },
+    Compare {
+        register: RegisterId,
+        predicate: Predicate,
+        width: Width,
+        left: Operand,
+        right: Operand,
+    },
+    Convert {
+        register: RegisterId,
+        conversion: Conversion,
+        value: Operand,
+    },
+    /// Counts as an instruction; the cells are made with the frame.
+    Alloca {
+        register: RegisterId,
+        alloca: AllocaId,
+    },
+    /// The cell of an object at an index.
+    ElementPointer {
+        register: RegisterId,
+        object: ObjectName,
+        index: Operand,
+    },
+    Load {
+        register: RegisterId,
+        address: Address,
+    },
+    Store {
+        value: Operand,
+        address: Address,
+    },
+    /// Sets the first cells of an object to 0.
+    StoreZeros {
+        cells: u64,
+        object: ObjectName,
+    },
+    AtomicAdd {
+        address: Address,
+        value: Operand,
+    },
+    Call {
+        register: Option<RegisterId>,
+        callee: FunctionId,
+        arguments: Seq<Argument>,
+    },
+    /// Starts a sync region; `register` names it from here on.
+    StartRegion {
+        register: RegisterId,
+    },
+}
+
+/// An instruction with the `shows` lines directly before it.
+#[derive(Debug, Drop)]
+pub struct Step {
+    pub line: u32,
+    pub shows: Seq<Inequality>,
+    pub instruction: Instruction,
+}
+
+/// A case of a switch.
+#[derive(Clone, Copy, Debug, PartialEq, Eq)]
+pub struct Case {
+    pub number: i64,
+    pub target: BlockId,
+}
+
+/// What ends a block (LLVM Language Reference, "Terminator Instructions"; Tapir for the last three).
+#[derive(Debug, Drop)]
+pub enum Terminator {
+    Jump {
+        target: BlockId,
+    },
+    Branch {
+        condition: RegisterId,
+        when_true: BlockId,
+        when_false: BlockId,
+    },
+    Switch {
+        width: Width,
+        value: Operand,
+        default: BlockId,
+        cases: Seq<Case>,
+    },
+    Return {
+        value: Option<Operand>,
+    },
+    Detach {
+        region: RegisterId,
+        body: BlockId,
+        continuation: BlockId,
+    },
+    Reattach {
+        region: RegisterId,
+        continuation: BlockId,
+    },
+    Sync {
+        region: RegisterId,
+        target: BlockId,
+    },
+}
+
+/// A terminator with the `shows` lines directly before it.
+#[derive(Debug, Drop)]
+pub struct Ending {
+    pub line: u32,
+    pub shows: Seq<Inequality>,
+    pub terminator: Terminator,
+}

@@ -1,0 +1,57 @@
+use crate::annotation::{BlockNotes, FunctionNotes};
+use crate::instruction::{Phi, Step};
+use crate::terminator::Ending;
+use lists::{Name, Seq};
+
+/// `@a = global [N x i64] zeroinitializer`
+#[derive(Debug, Drop)]
+pub struct Global {
+    pub line: u32,
+    pub name: Name,
+    pub cells: u64,
+}
+
+/// `i64` or `void`
+#[derive(Clone, Copy, Debug, PartialEq, Eq)]
+pub enum ResultType {
+    Number,
+    Void,
+}
+
+/// A parameter, on the line of its `define`. A pointer's bytes are eight times its cells.
+#[derive(Debug, Drop)]
+pub enum Parameter {
+    /// `i64 %x`
+    Number { name: Name },
+    /// `ptr noalias dereferenceable(B) %p`
+    Pointer { name: Name, cells: u64 },
+}
+
+/// A label with all that stands up to the next one. A block without an ending is refused by the layers above.
+#[derive(Debug, Drop)]
+pub struct Block {
+    pub line: u32,
+    pub label: Name,
+    pub notes: BlockNotes,
+    pub phis: Seq<Phi>,
+    pub steps: Seq<Step>,
+    pub ending: Option<Ending>,
+}
+
+/// A function; its first block is the entry.
+#[derive(Debug, Drop)]
+pub struct Function {
+    pub line: u32,
+    pub name: Name,
+    pub result_type: ResultType,
+    pub parameters: Seq<Parameter>,
+    pub notes: FunctionNotes,
+    pub blocks: Seq<Block>,
+}
+
+/// A module as its text spells it.
+#[derive(Debug, Drop)]
+pub struct Module {
+    pub globals: Seq<Global>,
+    pub functions: Seq<Function>,
+}

@@ -1,0 +1,6 @@
+//! The phases of the verifier in their order.
+#![tactic(auto)]
+
+mod verified;
+
+pub use verified::Verified;
