@@ -1,0 +1,81 @@
+use std::alloc::{AllocError, AllocFailed};
+
+/// What the program is asked to do.
+#[derive(Clone, Copy, Debug, PartialEq, Eq)]
+pub enum Verb {
+    /// Run the serial elision.
+    Serial,
+    /// Run on workers.
+    Run,
+}
+
+/// A cell of a global, as `@a:5` names it.
+#[derive(Debug, Drop)]
+pub struct CellWord {
+    /// The global's name without `@`.
+    pub name: String,
+    pub index: u64,
+}
+
+/// `@a:5=9`: a cell's number before the run.
+#[derive(Debug, Drop)]
+pub struct Setting {
+    pub cell: CellWord,
+    pub value: i64,
+}
+
+/// The words of a command line, read.
+#[derive(Debug, Drop)]
+pub struct Request {
+    pub verb: Verb,
+    /// The file of the module.
+    pub file: String,
+    /// The file of the schedule, for the verbs that take one.
+    pub schedule: Option<String>,
+    /// How many workers run; 1 where the verb takes none.
+    pub workers: usize,
+    /// The arguments of `@main`, in order.
+    pub args: Vec<i64>,
+    /// Cells to set before the run; of two for one cell the last one stays.
+    pub set: Vec<Setting>,
+    /// Cells to print after the run.
+    pub show: Vec<CellWord>,
+    /// The function whose costs to print, for the verb that takes one.
+    pub table: Option<String>,
+}
+
+/// Why words are no request: a text for the user, or that memory was refused.
+#[derive(Debug, Drop)]
+pub struct WordsFault {
+    /// Empty where memory was refused.
+    pub text: Option<String>,
+    pub memory: bool,
+}
+
+impl WordsFault {
+    pub fn told(text: String) -> WordsFault {
+        WordsFault {
+            text: Some(text),
+            memory: false,
+        }
+    }
+
+    pub fn out_of_memory() -> WordsFault {
+        WordsFault {
+            text: None,
+            memory: true,
+        }
+    }
+}
+
+impl From<AllocError> for WordsFault {
+    fn from(_error: AllocError) -> WordsFault {
+        WordsFault::out_of_memory()
+    }
+}
+
+impl<T: Drop> From<AllocFailed<T>> for WordsFault {
+    fn from(_error: AllocFailed<T>) -> WordsFault {
+        WordsFault::out_of_memory()
+    }
+}

@@ -1,0 +1,197 @@
+//! From words to a request.
+
+use crate::request::{CellWord, Request, Setting, Verb, WordsFault};
+use clap::error::ErrorKind;
+use clap::{Arg, ArgAction, ArgMatches, Command, Error};
+use std::alloc::{AllocError, Global};
+
+/// Whether a text is a name by the rules of the module's text, without its sigil.
+fn is_name(text: &str) -> bool {
+    match text.as_bytes() {
+        [] => false,
+        [first, rest @ ..] => {
+            begins_name(*first) && rest.iter().all(|b| begins_name(*b) || b.is_ascii_digit())
+        }
+    }
+}
+
+fn begins_name(byte: u8) -> bool {
+    byte.is_ascii_alphabetic() || byte == b'_' || byte == b'.'
+}
+
+/// Reads `@a:I`.
+fn cell_word(alloc: Global, text: &str) -> Result<Option<CellWord>, AllocError> {
+    let Some(marked) = text.strip_prefix("@") else {
+        return Ok(None);
+    };
+    let Some((name, index)) = marked.split_once(":") else {
+        return Ok(None);
+    };
+    match index.parse::<u64>() {
+        Ok(index) if is_name(name) => Ok(Some(CellWord {
+            name: String::from_str(alloc, name)?,
+            index,
+        })),
+        _ => Ok(None),
+    }
+}
+
+/// Reads `@a:I=V`.
+fn setting(alloc: Global, text: &str) -> Result<Option<Setting>, AllocError> {
+    let Some((cell, value)) = text.split_once("=") else {
+        return Ok(None);
+    };
+    let Ok(value) = value.parse::<i64>() else {
+        return Ok(None);
+    };
+    match cell_word(alloc, cell)? {
+        Some(cell) => Ok(Some(Setting { cell, value })),
+        None => Ok(None),
+    }
+}
+
+fn wrong_value(alloc: Global, option: &str, text: &str) -> WordsFault {
+    match format!(in alloc; "error: invalid value '{text}' for '{option}'\n") {
+        Ok(text) => WordsFault::told(text),
+        Err(_) => WordsFault::out_of_memory(),
+    }
+}
+
+fn args_of(alloc: Global, matches: &ArgMatches<'_>) -> Result<Vec<i64>, WordsFault> {
+    let mut args = Vec::new(alloc);
+    if let Some(texts) = matches.get_strs("arg") {
+        for text in texts {
+            match text.parse::<i64>() {
+                Ok(value) => args.push(value)?,
+                Err(_) => return Err(wrong_value(alloc, "--arg <V>", text)),
+            }
+        }
+    }
+    Ok(args)
+}
+
+fn settings_of(alloc: Global, matches: &ArgMatches<'_>) -> Result<Vec<Setting>, WordsFault> {
+    let mut settings = Vec::new(alloc);
+    if let Some(texts) = matches.get_strs("set") {
+        for text in texts {
+            match setting(alloc, text)? {
+                Some(setting) => settings.push(setting)?,
+                None => return Err(wrong_value(alloc, "--set <@a:I=V>", text)),
+            }
+        }
+    }
+    Ok(settings)
+}
+
+fn cells_of(alloc: Global, matches: &ArgMatches<'_>) -> Result<Vec<CellWord>, WordsFault> {
+    let mut cells = Vec::new(alloc);
+    if let Some(texts) = matches.get_strs("show") {
+        for text in texts {
+            match cell_word(alloc, text)? {
+                Some(cell) => cells.push(cell)?,
+                None => return Err(wrong_value(alloc, "--show <@a:I>", text)),
+            }
+        }
+    }
+    Ok(cells)
+}
+
+fn workers_of(alloc: Global, matches: &ArgMatches<'_>) -> Result<usize, WordsFault> {
+    match matches.get_str("workers") {
+        None => Ok(1),
+        Some(text) => match text.parse::<usize>() {
+            Ok(workers) => Ok(workers),
+            Err(_) => Err(wrong_value(alloc, "--workers <N>", text)),
+        },
+    }
+}
+
+fn fault_of(alloc: Global, error: Error) -> WordsFault {
+    if error.kind() == ErrorKind::OutOfMemory {
+        return WordsFault::out_of_memory();
+    }
+    match format!(in alloc; "{error}") {
+        Ok(text) => WordsFault::told(text),
+        Err(_) => WordsFault::out_of_memory(),
+    }
+}
+
+/// The options of a verb that runs a module.
+fn running<'a>(alloc: Global, command: Command<'a>) -> Result<Command<'a>, AllocError> {
+    let file = Arg::new(alloc, "file").value_name("FILE").required(true);
+    let arg = Arg::new(alloc, "arg")
+        .long("arg")
+        .value_name("V")
+        .action(ArgAction::Append)
+        .help("an argument of @main, in order");
+    let set = Arg::new(alloc, "set")
+        .long("set")
+        .value_name("@a:I=V")
+        .action(ArgAction::Append)
+        .help("sets a cell before the run");
+    let show = Arg::new(alloc, "show")
+        .long("show")
+        .value_name("@a:I")
+        .action(ArgAction::Append)
+        .help("prints a cell after the run");
+    command.arg(file)?.arg(arg)?.arg(set)?.arg(show)
+}
+
+fn serial_command<'a>(alloc: Global) -> Result<Command<'a>, AllocError> {
+    running(
+        alloc,
+        Command::new(alloc, "serial").about("runs the serial elision of a module"),
+    )
+}
+
+fn run_command<'a>(alloc: Global) -> Result<Command<'a>, AllocError> {
+    let workers = Arg::new(alloc, "workers")
+        .long("workers")
+        .value_name("N")
+        .required(true)
+        .action(ArgAction::Set)
+        .help("from 1 to 64");
+    running(
+        alloc,
+        Command::new(alloc, "run").about("runs a module on workers"),
+    )?
+    .arg(workers)
+}
+
+fn command<'a>(alloc: Global) -> Result<Command<'a>, AllocError> {
+    Command::new(alloc, "tapirvm")
+        .about("A verified fork-join machine for LLVM IR with Tapir's detach, reattach and sync")
+        .subcommand_required(true)
+        .subcommand(serial_command(alloc)?)?
+        .subcommand(run_command(alloc)?)
+}
+
+fn request_of(alloc: Global, verb: Verb, matches: &ArgMatches<'_>) -> Result<Request, WordsFault> {
+    let file = match matches.get_str("file") {
+        Some(file) => String::from_str(alloc, file)?,
+        None => return Err(wrong_value(alloc, "<FILE>", "")),
+    };
+    Ok(Request {
+        verb,
+        file,
+        schedule: None,
+        workers: workers_of(alloc, matches)?,
+        args: args_of(alloc, matches)?,
+        set: settings_of(alloc, matches)?,
+        show: cells_of(alloc, matches)?,
+        table: None,
+    })
+}
+
+/// Reads the program's words, the program's own name first.
+pub fn words<'a>(alloc: Global, words: &'a [&'a str]) -> Result<Request, WordsFault> {
+    let parsed = match command(alloc)?.try_get_matches_from(words) {
+        Ok(matches) => matches,
+        Err(error) => return Err(fault_of(alloc, error)),
+    };
+    match parsed.subcommand() {
+        Some(("serial", matches)) => request_of(alloc, Verb::Serial, matches),
+        Some(("run", matches)) => request_of(alloc, Verb::Run, matches),
+        _ => Err(wrong_value(alloc, "<COMMAND>", "")),
+    }
+}
