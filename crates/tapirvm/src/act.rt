@@ -1,0 +1,156 @@
+//! From a request and the bytes of its files to text and a status.
+
+use crate::request::{CellWord, Request, Setting, Verb};
+use crate::status::Status;
+use schedule_core::{Event, Machine};
+use serial_machine::{Finished, RunFault, serial_run};
+use std::alloc::Global;
+use std::hash::RandomState;
+use std::io;
+use std::io::{Read, Write};
+use store::Memory;
+use verifier::{Refused, Verified, verify};
+
+/// Does what is asked and answers the status.
+///
+/// `module` and `schedule` are the bytes of the files, `None` where one could not be read.
+pub fn act<R: Read, W: Write>(
+    alloc: Global,
+    state: RandomState,
+    request: &Request,
+    module: Option<&[u8]>,
+    _schedule: Option<&[u8]>,
+    _input: &mut R,
+    output: &mut W,
+) -> u8 {
+    match answer(alloc, state, request, module, output) {
+        Ok(status) => status as u8,
+        Err(_) => Status::Stream as u8,
+    }
+}
+
+fn answer<W: Write>(
+    alloc: Global,
+    state: RandomState,
+    request: &Request,
+    module: Option<&[u8]>,
+    output: &mut W,
+) -> io::Result<Status> {
+    let Some(text) = module else {
+        writeln!(output, "unreadable {}", request.file)?;
+        return Ok(Status::Unreadable);
+    };
+    match verify(alloc, state, text) {
+        Ok(verified) => run_verified(alloc, &verified, request, output),
+        Err(Refused::Fault { number, line }) => {
+            writeln!(output, "refused {number} line {line}")?;
+            Ok(Status::Refused)
+        }
+        Err(Refused::Memory) => stop_for_memory(output),
+    }
+}
+
+fn stop_for_memory<W: Write>(output: &mut W) -> io::Result<Status> {
+    writeln!(output, "stopped 803")?;
+    Ok(Status::Stopped)
+}
+
+fn run_verified<W: Write>(
+    alloc: Global,
+    verified: &Verified,
+    request: &Request,
+    output: &mut W,
+) -> io::Result<Status> {
+    let Ok(mut memory) = Memory::zeroed(alloc, verified) else {
+        return stop_for_memory(output);
+    };
+    if !set_cells(&mut memory, request.set.as_slice()) {
+        return Ok(Status::Words);
+    }
+    if !has_cells(&memory, request.show.as_slice()) {
+        return Ok(Status::Words);
+    }
+    let finished = match request.verb {
+        Verb::Serial => serial_run(alloc, verified, request.args.as_slice(), memory),
+        Verb::Run => run_by_one(
+            alloc,
+            verified,
+            request.args.as_slice(),
+            memory,
+            request.workers,
+        ),
+    };
+    match finished {
+        Ok(finished) => print_finished(&finished, request.show.as_slice(), output),
+        Err(fault) => print_run_fault(&fault, output),
+    }
+}
+
+/// Sets cells in order; false where one is not there.
+fn set_cells(memory: &mut Memory, settings: &[Setting]) -> bool {
+    for setting in settings {
+        if !memory.set_global(setting.cell.name.as_str(), setting.cell.index, setting.value) {
+            return false;
+        }
+    }
+    true
+}
+
+fn has_cells(memory: &Memory, cells: &[CellWord]) -> bool {
+    for cell in cells {
+        if memory.get_global(cell.name.as_str(), cell.index).is_none() {
+            return false;
+        }
+    }
+    true
+}
+
+/// Worker 0 makes every step, whatever the number of workers is.
+fn run_by_one(
+    alloc: Global,
+    verified: &Verified,
+    args: &[i64],
+    memory: Memory,
+    workers: usize,
+) -> Result<Finished, RunFault> {
+    let mut machine = Machine::start(alloc, verified, args, memory, workers)?;
+    for _ in 0..verified.budget() {
+        if machine.ended() || !machine.apply(&Event::Step(0))? {
+            break;
+        }
+    }
+    machine.finish()
+}
+
+fn print_finished<W: Write>(
+    finished: &Finished,
+    cells: &[CellWord],
+    output: &mut W,
+) -> io::Result<Status> {
+    writeln!(output, "result {}", finished.result)?;
+    writeln!(output, "instructions {}", finished.instructions)?;
+    writeln!(output, "peak {}", finished.peak)?;
+    print_cells(&finished.memory, cells, output)?;
+    Ok(Status::Done)
+}
+
+fn print_cells<W: Write>(memory: &Memory, cells: &[CellWord], output: &mut W) -> io::Result<()> {
+    for cell in cells {
+        if let Some(value) = memory.get_global(cell.name.as_str(), cell.index) {
+            writeln!(output, "@{}:{} {value}", cell.name, cell.index)?;
+        }
+    }
+    Ok(())
+}
+
+fn print_run_fault<W: Write>(fault: &RunFault, output: &mut W) -> io::Result<Status> {
+    match fault {
+        RunFault::BadArguments { requirement, .. } => {
+            writeln!(output, "stopped 801 requirement {requirement}")?
+        }
+        RunFault::BadWorkers { .. } => writeln!(output, "stopped 802")?,
+        RunFault::OutOfMemory => writeln!(output, "stopped 803")?,
+        RunFault::Trapped => writeln!(output, "stopped 804")?,
+    }
+    Ok(Status::Stopped)
+}
