@@ -1,0 +1,33 @@
+-- What each token of a line is.
+use Rattle.std.specs.Prelude.{◌≡◌, ℕ, ◌-◌, ◌<◌, ◌≤◌, true, List, length, take, drop, map}
+use Rattle.ir_lex.specs.declared.token.Kind.{Kind}
+use Rattle.ir_lex.specs.declared.token.Kind.TheVariants.{Name, Number, Word, Mark, Note}
+use Rattle.ir_lex.specs.declared.token.Token.{Token}
+use Rattle.ir_lex.specs.Spelling.{is_number, is_marked_name, is_note_mark, is_mark}
+
+-- the bytes of a token
+abbrev pub text_at : List ℕ → Token → List ℕ
+text_at line t = take (t.to - t.from) (drop t.from line)
+
+abbrev pub HasKind : Kind → List ℕ → Type 0
+HasKind Name text = is_marked_name text ≡ true
+HasKind Number text = is_number text ≡ true
+HasKind Word text = Unit {0}
+HasKind Mark text = length text ≡ 1
+HasKind Note text = is_note_mark text ≡ true
+
+-- a token lies in its line, and its bytes are of its kind
+pub record IsTokenOf (line : List ℕ) (t : Token) : Type 0 where
+  pub some : t.from < t.to
+  pub within : t.to ≤ length line
+  pub kind : HasKind t.kind (text_at line t)
+
+-- a token without its place: its kind and its bytes
+abbrev pub Lexeme : Type 0
+Lexeme = Kind × List ℕ
+
+abbrev pub lexeme_at : List ℕ → Token → Lexeme
+lexeme_at line t = (t.kind, text_at line t)
+
+abbrev pub lexemes_of : List ℕ → List Token → List Lexeme
+lexemes_of line ts = map (lexeme_at line) ts

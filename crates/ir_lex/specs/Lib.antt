@@ -1,0 +1,4 @@
+pub mod Spelling
+pub mod Tokens
+pub mod Lexemes
+pub mod Faults
