@@ -1,0 +1,357 @@
+use crate::effect::Trap;
+use crate::value::{Cell, Object, Value};
+use lists::OutOfMemory;
+use program::{
+    Address, AllocaId, Argument, Block, BlockId, Function, FunctionId, Instruction, ObjectName,
+    Operand, Phi, Program, RegisterId,
+};
+use std::alloc::Global;
+
+/// What a frame waits for.
+#[derive(Clone, Copy, Debug, PartialEq, Eq)]
+pub enum Wait {
+    Nothing,
+    /// The end of its children within the region.
+    Region(RegisterId),
+    /// The return of its child of this number; `register` takes the result.
+    Call {
+        child: u64,
+        register: Option<RegisterId>,
+    },
+}
+
+/// What a frame runs.
+#[derive(Clone, Copy, Debug, PartialEq, Eq)]
+pub enum Role {
+    /// The body of a function, to its return.
+    Body,
+    /// A detached block, to a reattach within the region; its parent goes on at `continuation`.
+    Child {
+        region: RegisterId,
+        continuation: BlockId,
+    },
+}
+
+/// A function's activation, or a detached child's copy of one (Tapir, "detach").
+#[derive(Debug, Drop)]
+pub struct Frame {
+    pub function: FunctionId,
+    pub block: BlockId,
+    /// The number of instructions of the block that are behind the run, phis not counted.
+    pub index: usize,
+    /// A register without a value is undefined.
+    pub registers: Vec<Option<Value>>,
+    /// The number of children that were made, calls and detaches counted together.
+    pub made: u64,
+    pub waits: Wait,
+    pub role: Role,
+    /// The length of the frame's path.
+    pub depth: usize,
+    /// The length of the path of its function's frame, which owns the allocas.
+    pub home: usize,
+    /// The cells of the function's allocas, in a function's own frame; a detached child has none.
+    pub allocas: Vec<Vec<Option<i64>>>,
+    /// Room for the phi moves of an edge, as many as registers.
+    pub moves: Vec<Option<Value>>,
+}
+
+/// The cells of a function's allocas, undefined.
+fn made_allocas(alloc: Global, function: &Function) -> Result<Vec<Vec<Option<i64>>>, OutOfMemory> {
+    let mut allocas = Vec::new(alloc);
+    for alloca in function.allocas.as_slice() {
+        allocas.push(vec![in alloc; None; alloca.cells as usize]?)?;
+    }
+    Ok(allocas)
+}
+
+impl Frame {
+    /// A frame at the entry of a function, with no register defined. Where the program has no such function, it has no
+    /// registers.
+    fn at_entry(
+        alloc: Global,
+        program: &Program,
+        function: FunctionId,
+        depth: usize,
+    ) -> Result<Frame, OutOfMemory> {
+        let (registers, allocas) = match program.functions.as_slice().get(function.0) {
+            Some(found) => (found.registers.len(), made_allocas(alloc, found)?),
+            None => (0, Vec::new(alloc)),
+        };
+        Ok(Frame {
+            function,
+            block: BlockId(0),
+            index: 0,
+            registers: vec![in alloc; None; registers]?,
+            made: 0,
+            waits: Wait::Nothing,
+            role: Role::Body,
+            depth,
+            home: depth,
+            allocas,
+            moves: vec![in alloc; None; registers]?,
+        })
+    }
+
+    /// The root frame: `main` at its entry, with the arguments in its first registers.
+    pub fn root(alloc: Global, program: &Program, arguments: &[i64]) -> Result<Frame, OutOfMemory> {
+        let mut frame = Frame::at_entry(alloc, program, program.main, 0)?;
+        for (register, argument) in frame.registers.iter_mut().zip(arguments.iter()) {
+            *register = Some(Value::Number(*argument));
+        }
+        Ok(frame)
+    }
+
+    /// The frame of the callee at its entry, with the arguments of the call that is the caller's next instruction.
+    pub fn called(
+        alloc: Global,
+        program: &Program,
+        caller: &Frame,
+        callee: FunctionId,
+    ) -> Result<Frame, OutOfMemory> {
+        let depth = caller.depth.saturating_add(1);
+        let mut frame = Frame::at_entry(alloc, program, callee, depth)?;
+        if let Some(Instruction::Call { arguments, .. }) = caller.next_instruction(program) {
+            for (register, argument) in frame.registers.iter_mut().zip(arguments.as_slice()) {
+                *register = caller.argument(program, *argument).ok();
+            }
+        }
+        Ok(frame)
+    }
+
+    /// The child that a detach makes: a copy of the parent's registers at the detached block, without allocas of its
+    /// own.
+    pub fn detached(
+        alloc: Global,
+        parent: &Frame,
+        region: RegisterId,
+        body: BlockId,
+        continuation: BlockId,
+    ) -> Result<Frame, OutOfMemory> {
+        Ok(Frame {
+            function: parent.function,
+            block: body,
+            index: 0,
+            registers: parent.registers.as_slice().to_vec(alloc)?,
+            made: 0,
+            waits: Wait::Nothing,
+            role: Role::Child {
+                region,
+                continuation,
+            },
+            depth: parent.depth.saturating_add(1),
+            home: parent.home,
+            allocas: Vec::new(alloc),
+            moves: vec![in alloc; None; parent.registers.len()]?,
+        })
+    }
+
+    /// The function that the frame runs.
+    pub fn code<'a>(&self, program: &'a Program) -> Option<&'a Function> {
+        program.functions.as_slice().get(self.function.0)
+    }
+
+    /// The block that the frame runs.
+    pub fn current_block<'a>(&self, program: &'a Program) -> Option<&'a Block> {
+        self.code(program)?.blocks.as_slice().get(self.block.0)
+    }
+
+    /// The next instruction, where it is no terminator.
+    pub fn next_instruction<'a>(&self, program: &'a Program) -> Option<&'a Instruction> {
+        let step = self
+            .current_block(program)?
+            .steps
+            .as_slice()
+            .get(self.index)?;
+        Some(&step.instruction)
+    }
+
+    /// What the register holds.
+    pub fn register(&self, register: RegisterId) -> Result<Value, Trap> {
+        match self.registers.as_slice().get(register.0) {
+            Some(Some(value)) => Ok(*value),
+            _ => Err(Trap::Undefined),
+        }
+    }
+
+    pub fn number(&self, operand: Operand) -> Result<i64, Trap> {
+        match operand {
+            Operand::Number(number) => Ok(number),
+            Operand::Register(register) => match self.register(register)? {
+                Value::Number(number) => Ok(number),
+                _ => Err(Trap::Undefined),
+            },
+        }
+    }
+
+    pub fn truth(&self, register: RegisterId) -> Result<bool, Trap> {
+        match self.register(register)? {
+            Value::Truth(truth) => Ok(truth),
+            _ => Err(Trap::Undefined),
+        }
+    }
+
+    fn object_in(&self, register: RegisterId) -> Result<Object, Trap> {
+        match self.register(register)? {
+            Value::Object(object) => Ok(object),
+            _ => Err(Trap::Undefined),
+        }
+    }
+
+    /// The object that the function's text means by the name. An alloca has one once its instruction is done.
+    pub fn object(&self, program: &Program, name: ObjectName) -> Result<Object, Trap> {
+        match name {
+            ObjectName::Global(global) => Ok(Object::Global(global)),
+            ObjectName::Parameter(register) => self.object_in(register),
+            ObjectName::Alloca(alloca) => {
+                let function = self.code(program).ok_or(Trap::Undefined)?;
+                match function.allocas.as_slice().get(alloca.0) {
+                    Some(found) => self.object_in(found.register),
+                    None => Err(Trap::Undefined),
+                }
+            }
+        }
+    }
+
+    pub fn address(&self, program: &Program, address: Address) -> Result<Cell, Trap> {
+        match address {
+            Address::First(name) => Ok(Cell {
+                object: self.object(program, name)?,
+                index: 0,
+            }),
+            Address::Element(register) => match self.register(register)? {
+                Value::Element(cell) => Ok(cell),
+                _ => Err(Trap::Undefined),
+            },
+        }
+    }
+
+    pub fn argument(&self, program: &Program, argument: Argument) -> Result<Value, Trap> {
+        match argument {
+            Argument::Number(operand) => Ok(Value::Number(self.number(operand)?)),
+            Argument::Object(name) => Ok(Value::Object(self.object(program, name)?)),
+        }
+    }
+
+    /// Goes on behind an instruction that defines no register.
+    pub fn pass(&mut self) {
+        self.index = self.index.saturating_add(1);
+    }
+
+    /// Goes on behind an instruction that defines the register.
+    pub fn define(&mut self, register: RegisterId, value: Value) {
+        if let Some(place) = self.registers.as_mut_slice().get_mut(register.0) {
+            *place = Some(value);
+        }
+        self.pass();
+    }
+
+    /// Goes on at the block, without phi moves: where a detach leads, no block has phis.
+    pub fn continue_at(&mut self, block: BlockId) {
+        self.block = block;
+        self.index = 0;
+    }
+
+    /// Counts a new child; the answer is its number.
+    pub fn count_child(&mut self) -> u64 {
+        let child = self.made;
+        self.made = self.made.saturating_add(1);
+        child
+    }
+
+    /// Counts a new child and waits for its return; the answer is its number.
+    pub fn wait_for_call(&mut self, register: Option<RegisterId>) -> u64 {
+        let child = self.count_child();
+        self.waits = Wait::Call { child, register };
+        child
+    }
+
+    /// Goes on behind the call that the frame waits for, with the callee's result.
+    pub fn resume(&mut self, returned: Option<i64>) {
+        match (self.waits, returned) {
+            (
+                Wait::Call {
+                    register: Some(register),
+                    ..
+                },
+                Some(number),
+            ) => self.define(register, Value::Number(number)),
+            _ => self.pass(),
+        }
+        self.waits = Wait::Nothing;
+    }
+
+    /// What the operand of a phi stands for, whatever its type.
+    fn moved(&self, operand: Operand) -> Result<Value, Trap> {
+        match operand {
+            Operand::Number(number) => Ok(Value::Number(number)),
+            Operand::Register(register) => self.register(register),
+        }
+    }
+
+    /// Reads the values that the phis take where the run comes from the frame's block.
+    fn read_moves(&mut self, phis: &[Phi]) -> Result<(), Trap> {
+        for (i, phi) in phis.iter().enumerate() {
+            let entry = phi
+                .entries
+                .as_slice()
+                .iter()
+                .find(|entry| entry.predecessor == self.block);
+            let value = match entry {
+                Some(entry) => self.moved(entry.value)?,
+                None => return Err(Trap::Unmatched),
+            };
+            match self.moves.as_mut_slice().get_mut(i) {
+                Some(place) => *place = Some(value),
+                None => return Err(Trap::Unmatched),
+            }
+        }
+        Ok(())
+    }
+
+    /// Gives the phis the values that were read.
+    fn write_moves(&mut self, phis: &[Phi]) {
+        for (phi, value) in phis.iter().zip(self.moves.as_slice()) {
+            if let Some(place) = self.registers.as_mut_slice().get_mut(phi.register.0) {
+                *place = *value;
+            }
+        }
+    }
+
+    /// Goes along the edge to the block: its phis take their values all at once (LLVM Language Reference, "phi"). Where
+    /// a value is missing, no register has changed.
+    pub fn enter(&mut self, program: &Program, target: BlockId) -> Result<(), Trap> {
+        let function = self.code(program).ok_or(Trap::Unmatched)?;
+        let Some(block) = function.blocks.as_slice().get(target.0) else {
+            return Err(Trap::Unmatched);
+        };
+        let phis = block.phis.as_slice();
+        self.read_moves(phis)?;
+        self.write_moves(phis);
+        self.continue_at(target);
+        Ok(())
+    }
+
+    /// What a cell of an alloca of this frame holds; none where there is no such cell.
+    pub fn alloca_cell(&self, alloca: AllocaId, index: u64) -> Option<Option<i64>> {
+        self.allocas
+            .as_slice()
+            .get(alloca.0)?
+            .as_slice()
+            .get(index as usize)
+            .copied()
+    }
+
+    /// Gives a cell of an alloca of this frame a number; false where there is no such cell.
+    pub fn set_alloca_cell(&mut self, alloca: AllocaId, index: u64, number: i64) -> bool {
+        let Some(cells) = self.allocas.as_mut_slice().get_mut(alloca.0) else {
+            return false;
+        };
+        match cells.as_mut_slice().get_mut(index as usize) {
+            Some(cell) => {
+                *cell = Some(number);
+                true
+            }
+            None => false,
+        }
+    }
+}

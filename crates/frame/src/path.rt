@@ -1,0 +1,59 @@
+use lists::{OutOfMemory, Seq};
+use std::alloc::Global;
+use std::cmp::Ordering;
+use std::fmt;
+
+/// The name of a frame: the root's is empty, and the k-th call or detach of a frame, counted together from 0, makes the
+/// child with k at the end.
+#[derive(Debug, Drop)]
+pub struct Path {
+    pub numbers: Seq<u64>,
+}
+
+impl Path {
+    /// The path of the root frame.
+    pub fn root(alloc: Global) -> Path {
+        Path {
+            numbers: Seq::new(alloc),
+        }
+    }
+
+    /// The path of the frame's child of this number.
+    pub fn child(&self, alloc: Global, number: u64) -> Result<Path, OutOfMemory> {
+        let mut numbers = Vec::with_capacity(alloc, self.numbers.len().saturating_add(1))?;
+        for each in self.numbers.as_slice() {
+            numbers.push(*each)?;
+        }
+        numbers.push(number)?;
+        Ok(Path {
+            numbers: Seq::from_vec(numbers),
+        })
+    }
+
+    /// The same path again.
+    pub fn copy(&self, alloc: Global) -> Result<Path, OutOfMemory> {
+        Ok(Path {
+            numbers: Seq::from_vec(self.numbers.as_slice().to_vec(alloc)?),
+        })
+    }
+
+    pub fn is_same(&self, other: &Path) -> bool {
+        self.numbers.as_slice() == other.numbers.as_slice()
+    }
+
+    /// The order by numbers, a beginning first.
+    pub fn compare(&self, other: &Path) -> Ordering {
+        self.numbers.as_slice().cmp(&other.numbers.as_slice())
+    }
+}
+
+impl fmt::Display for Path {
+    /// As in `root.0.1`.
+    fn fmt<W: fmt::Write>(&self, f: &mut fmt::Formatter<W>) -> fmt::Result {
+        write!(f, "root")?;
+        for number in self.numbers.as_slice() {
+            write!(f, ".{number}")?;
+        }
+        Ok(())
+    }
+}

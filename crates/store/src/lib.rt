@@ -1,0 +1,6 @@
+//! The cells of a module's globals, by number and by name. The cells of allocas stand with the frames that own them.
+#![tactic(auto)]
+
+mod memory;
+
+pub use memory::{GlobalCells, Memory};
