@@ -1,19 +1,15 @@
+ghost use Rattle.std.specs.Prelude.{◌≡◌, ◌<◌, ◌≤◌, IfOk};
+
 use crate::effect::Trap;
 use program::{BinaryOperator, Conversion, Predicate, Width};
 
 /// The number of bits.
-fn bits(width: Width) -> i64 {
+fn bits(width: Width) -> u64
+    ensures { result ≤ 64 }
+{
     match width {
         Width::Bits64 => 64,
         Width::Bits32 => 32,
-    }
-}
-
-/// The least number of the width.
-fn least(width: Width) -> i64 {
-    match width {
-        Width::Bits64 => i64::MIN,
-        Width::Bits32 => -2147483648,
     }
 }
 
@@ -54,24 +50,19 @@ fn exactly(width: Width, exact: Option<i64>) -> Result<i64, Trap> {
     }
 }
 
-/// Whether a signed division has a result.
-fn can_divide(width: Width, left: i64, right: i64) -> bool {
-    right != 0 && !(left == least(width) && right == -1)
-}
-
+/// The quotient, where the width has it.
 fn signed_quotient(width: Width, left: i64, right: i64) -> Result<i64, Trap> {
-    if can_divide(width, left, right) {
-        Ok(left.wrapping_div(right))
-    } else {
-        Err(Trap::BadDivisor)
+    match left.checked_div(right) {
+        Some(quotient) if fits(width, quotient) => Ok(quotient),
+        _ => Err(Trap::BadDivisor),
     }
 }
 
+/// The remainder, where the width has the quotient.
 fn signed_remainder(width: Width, left: i64, right: i64) -> Result<i64, Trap> {
-    if can_divide(width, left, right) {
-        Ok(left.wrapping_rem(right))
-    } else {
-        Err(Trap::BadDivisor)
+    match (left.checked_div(right), left.checked_rem(right)) {
+        (Some(quotient), Some(remainder)) if fits(width, quotient) => Ok(remainder),
+        _ => Err(Trap::BadDivisor),
     }
 }
 
@@ -92,9 +83,12 @@ fn unsigned_remainder(width: Width, left: i64, right: i64) -> Result<i64, Trap> 
 }
 
 /// The shift amount, where it is below the width.
-fn amount(width: Width, number: i64) -> Result<u32, Trap> {
-    if 0 <= number && number < bits(width) {
-        Ok(number as u32)
+fn amount(width: Width, number: i64) -> Result<u64, Trap>
+    ensures { IfOk result (λ n. n < 64) }
+{
+    let by = unsigned(width, number);
+    if by < bits(width) {
+        Ok(by)
     } else {
         Err(Trap::Undefined)
     }

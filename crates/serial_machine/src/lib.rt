@@ -1,13 +1,11 @@
-// A library with one function.
+//! The serial elision of a module: a detach runs its child to the reattach and then goes on, a sync waits for nothing
+//! (Tapir). It takes no schedule and says what every schedule comes to.
 #![tactic(auto)]
 
-ghost use Rattle.std.specs.Prelude.{◌≡◌};
-ghost use Rattle.serial_machine.specs.Echo.{echo_of};
+mod arguments;
+mod outcome;
+mod run;
 
-// The `ensures` clause is the contract: what `echo` returns is `echo_of` of its argument, a definition
-// in `specs/Echo.antt`, which a caller's clause can cite too.
-pub fn echo(x: usize) -> usize
-    ensures { result ≡ echo_of x }
-{
-    x
-}
+pub use arguments::unmet_requirement;
+pub use outcome::{Finished, RunFault};
+pub use run::serial_run;
