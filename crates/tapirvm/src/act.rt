@@ -89,7 +89,11 @@ fn run_verified<W: Write>(
 /// Sets cells in order; false where one is not there.
 fn set_cells(memory: &mut Memory, settings: &[Setting]) -> bool {
     for setting in settings {
-        if !memory.set_global(setting.cell.name.as_str(), setting.cell.index, setting.value) {
+        if !memory.set_global(
+            setting.cell.name.as_str(),
+            setting.cell.index,
+            setting.value,
+        ) {
             return false;
         }
     }
