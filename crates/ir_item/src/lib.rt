@@ -1,6 +1,18 @@
 //! What stands on one line of a module's text.
 #![tactic(auto)]
 
+mod definition;
+mod effect;
+mod fault;
+mod front;
 mod item;
+mod line;
+mod list;
+mod operator;
+mod switch;
+mod symbol;
+mod terminator;
+mod tokens;
 
 pub use item::Item;
+pub use line::{Line, read_line};

@@ -2,7 +2,7 @@
 use Rattle.std.proofs.Common.{◌≡◌, ℕ, zero, suc, ◌+◌, ◌-◌, ◌<◌, ◌≤◌, ◌⊎◌, inl, inr, Bool, true, false, cond, eqb, List, [], ◌∷◌, ◌++◌, length, take, drop, All, Option, Some, None, refl, sym, subst, ap, ◌∙◌, arith, append_assoc}
 use Rattle.std.specs.Prelude.{option_map}
 use Rattle.std.specs.List.{prefix_len, list_all, AllByRecursion}
-use Rattle.std.proofs.lemmas.List.{length-take, length-take-le, take-append-drop, length-append, length-drop, drop_at, append-nil}
+use Rattle.std.proofs.lemmas.List.{length-take-le, take-append-drop, length-append, length-drop, drop_at}
 use Rattle.std.proofs.lemmas.List.Sums.{prefix_len-le-length}
 use Rattle.std.proofs.lemmas.List.Elements.{All-from_recursion}
 use Rattle.ir_lex.specs.declared.token.Kind.{Kind}
@@ -12,7 +12,7 @@ use Rattle.ir_lex.specs.declared.scan.Front.{Front}
 use Rattle.ir_lex.specs.declared.scan.Front.TheVariants.{Space, Comment, Begins, Wrong}
 use Rattle.ir_lex.specs.Spelling.{is_space, is_mark, is_name, is_number, is_marked_name, is_note_mark, is_run_byte, is_word_byte, is_printed, kind_of}
 use Rattle.ir_lex.specs.Tokens.{lead_of_run, lead, lead_in_note, front_at, begun, tokens_from, tokens_of}
-use Rattle.ir_lex.specs.Lexemes.{text_at, HasKind, IsTokenOf}
+use Rattle.ir_lex.specs.Lexemes.{HasKind, IsTokenOf}
 
 pub chosen : {A : Type 0} (b : Bool) (x y z : A) → cond b x y ≡ z → ((b ≡ true) × (x ≡ z)) ⊎ ((b ≡ false) × (y ≡ z))
 chosen true x y z e = inl (refl, e)

@@ -3,7 +3,7 @@ use Rattle.std.specs.Prelude.{◌≡◌, ℕ, ◌-◌, ◌<◌, ◌≤◌, true,
 use Rattle.ir_lex.specs.declared.token.Kind.{Kind}
 use Rattle.ir_lex.specs.declared.token.Kind.TheVariants.{Name, Number, Word, Mark, Note}
 use Rattle.ir_lex.specs.declared.token.Token.{Token}
-use Rattle.ir_lex.specs.Spelling.{is_number, is_marked_name, is_note_mark, is_mark}
+use Rattle.ir_lex.specs.Spelling.{is_number, is_marked_name, is_note_mark}
 
 -- the bytes of a token
 abbrev pub text_at : List ℕ → Token → List ℕ
