@@ -1,0 +1,9 @@
+//! What it means to run a program, for contracts and proofs; there is no code to run here. `specs/` defines, in this order:
+//!
+//! - `Paths`, `Cells`: paths of frames; objects, cells and memory.
+//! - `Arithmetic`: operations on words of two widths, and traps.
+//! - `Frames`, `Effect`: frames and their registers; what one instruction does.
+//! - `State`: the tree of frames with its memory, and a step of one frame.
+//! - `SerialMeaning`: the serial elision's result, memory, count and depth.
+//! - `Events`, `Replay`: workers, tasks, steps and steals; schedules.
+#![tactic(auto)]
