@@ -1,5 +1,5 @@
 use lists::{Name, OutOfMemory};
-use program::GlobalId;
+use program::{GlobalId, Program};
 use std::alloc::Global;
 use verifier::Verified;
 
@@ -20,8 +20,13 @@ pub struct Memory {
 impl Memory {
     /// The globals of the module, each cell 0.
     pub fn zeroed(alloc: Global, verified: &Verified) -> Result<Memory, OutOfMemory> {
+        Memory::of_program(alloc, verified.program())
+    }
+
+    /// The globals of the program, each cell 0.
+    pub fn of_program(alloc: Global, program: &Program) -> Result<Memory, OutOfMemory> {
         let mut globals = Vec::new(alloc);
-        for global in verified.program().globals.as_slice() {
+        for global in program.globals.as_slice() {
             globals.push(GlobalCells {
                 name: global.name.copy()?,
                 cells: vec![in alloc; 0; global.cells as usize]?,
