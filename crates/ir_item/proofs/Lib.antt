@@ -1,0 +1,2 @@
+pub mod ListLoop
+pub mod Distinct

@@ -8,6 +8,7 @@ mod front;
 mod item;
 mod line;
 mod list;
+mod numeral;
 mod operator;
 mod switch;
 mod symbol;

@@ -1,6 +1,11 @@
 //! From a line to what it says.
 
-ghost use Rattle.std.specs.Prelude.{◌≡◌};
+ghost use Rattle.std.specs.Prelude.{◌≡◌, [], option_map, IsTrue};
+ghost use Rattle.ir_item.specs.declared.item.Item.TheVariants as item;
+ghost use Rattle.ir_item.specs.Outcome.{Gives};
+ghost use Rattle.ir_item.specs.Fronts.{behind};
+ghost use Rattle.ir_item.specs.Shape.{gaps_of};
+ghost use Rattle.ir_item.specs.Grammar.{global_shape, global_from, define_shape, define_from, worded, item_in};
 
 use crate::definition::definition_at;
 use crate::effect::{atomic_at, call_void_at, store_at};
@@ -9,9 +14,9 @@ use crate::front::{
     array_at, behind, end_at, global_at, is_mark, mark_at, result_type_at, word_at,
 };
 use crate::item::Item;
-use crate::list::all_parameters_at;
-use crate::symbol::Symbol;
-use crate::terminator::{br_at, detach_at, reattach_at, return_at, switch_at, sync_at};
+use crate::list::parameters_at;
+use crate::symbol::{Numeral, Symbol};
+use crate::terminator::terminator_at;
 use crate::tokens::symbols_of;
 use ir_lex::{Kind, TextFault, lex};
 use lists::Name;
@@ -27,7 +32,9 @@ pub struct Line {
 }
 
 /// Behind `@name`.
-fn global_item_at(name: Name, line: u32, symbols: &[Symbol]) -> Result<Item, LineFault> {
+fn global_item_at(name: Name, line: u32, symbols: &[Symbol]) -> Result<Item, LineFault>
+    ensures { Gives (λ made. made) result (option_map (global_from line name) (gaps_of global_shape symbols.now)) }
+{
     let rest = mark_at(b'=', symbols)?;
     let rest = word_at(b"global", rest)?;
     let (cells, rest) = array_at(rest)?;
@@ -37,11 +44,13 @@ fn global_item_at(name: Name, line: u32, symbols: &[Symbol]) -> Result<Item, Lin
 }
 
 /// Behind `define`.
-fn define_at(alloc: alloc::Global, symbols: &[Symbol]) -> Result<Item, LineFault> {
+fn define_at(alloc: alloc::Global, symbols: &[Symbol]) -> Result<Item, LineFault>
+    ensures { Gives (λ made. made) result (option_map define_from (gaps_of define_shape symbols.now)) }
+{
     let (result_type, rest) = result_type_at(symbols)?;
     let (name, rest) = global_at(rest)?;
     let rest = mark_at(b'(', rest)?;
-    let (parameters, rest) = all_parameters_at(alloc, rest)?;
+    let (parameters, rest) = parameters_at(alloc, rest)?;
     let rest = mark_at(b'{', rest)?;
     end_at(rest)?;
     Ok(Item::Define {
@@ -51,28 +60,11 @@ fn define_at(alloc: alloc::Global, symbols: &[Symbol]) -> Result<Item, LineFault
     })
 }
 
-/// Behind the first word of a terminator.
-fn terminator_at(alloc: alloc::Global, word: &[u8], symbols: &[Symbol]) -> Result<Item, LineFault> {
-    let terminator = if word == b"br".as_slice() {
-        br_at(symbols)?
-    } else if word == b"switch".as_slice() {
-        switch_at(alloc, symbols)?
-    } else if word == b"ret".as_slice() {
-        return_at(symbols)?
-    } else if word == b"detach".as_slice() {
-        detach_at(symbols)?
-    } else if word == b"reattach".as_slice() {
-        reattach_at(symbols)?
-    } else if word == b"sync".as_slice() {
-        sync_at(symbols)?
-    } else {
-        return Err(LineFault::Unexpected);
-    };
-    Ok(Item::Terminator(terminator))
-}
-
 /// Behind a first word that is no label.
-fn worded_at(alloc: alloc::Global, word: &[u8], symbols: &[Symbol]) -> Result<Item, LineFault> {
+#[tactic(auto, unfolding(crate::specs::Grammar::worded))]
+fn worded_at(alloc: alloc::Global, word: &[u8], symbols: &[Symbol]) -> Result<Item, LineFault>
+    ensures { Gives (λ made. made) result (worded word.now symbols.now) }
+{
     if word == b"define".as_slice() {
         define_at(alloc, symbols)
     } else if word == b"store".as_slice() {
@@ -82,17 +74,22 @@ fn worded_at(alloc: alloc::Global, word: &[u8], symbols: &[Symbol]) -> Result<It
     } else if word == b"call".as_slice() {
         Ok(Item::Instruction(call_void_at(alloc, symbols)?))
     } else {
-        terminator_at(alloc, word, symbols)
+        Ok(Item::Terminator(terminator_at(alloc, word, symbols)?))
     }
 }
 
-fn label_at(name: &Name, symbols: &[Symbol]) -> Result<Item, LineFault> {
+fn label_at(name: &Name, symbols: &[Symbol]) -> Result<Item, LineFault>
+    ensures { Gives (λ made. made) result (option_map (λ gaps. item.Label name.now) (gaps_of [] (behind symbols.now))) }
+{
     end_at(behind(symbols))?;
     Ok(Item::Label(name.copy()?))
 }
 
 /// The item of a line that has tokens and is no annotation.
-pub fn item_of(alloc: alloc::Global, line: u32, symbols: &[Symbol]) -> Result<Item, LineFault> {
+#[tactic(auto, unfolding(crate::specs::Grammar::item_in))]
+pub fn item_of(alloc: alloc::Global, line: u32, symbols: &[Symbol]) -> Result<Item, LineFault>
+    ensures { Gives (λ made. made) result (item_in line symbols.now) }
+{
     match symbols {
         [Symbol::Register(register), rest @ ..] => {
             let rest = mark_at(b'=', rest)?;
@@ -121,8 +118,20 @@ fn text_fault(fault: LineFault, line: u32) -> TextFault {
     }
 }
 
+/// Whether a number is in `i64` and a name has at most 64 bytes.
+fn is_within_limits(symbol: &Symbol) -> bool {
+    match symbol {
+        Symbol::Register(name) | Symbol::Global(name) | Symbol::Word(name) => {
+            name.as_bytes().len() <= 64
+        }
+        Symbol::Number(Numeral::Small(_)) => true,
+        Symbol::Number(Numeral::Large(_)) => false,
+        Symbol::Mark(_) | Symbol::Note => true,
+    }
+}
+
 fn is_within(symbols: &[Symbol]) -> bool {
-    symbols.iter().all(|symbol| symbol.is_within_limits())
+    symbols.iter().all(|symbol| is_within_limits(symbol))
 }
 
 /// What the symbols of a line say.

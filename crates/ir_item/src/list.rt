@@ -1,8 +1,13 @@
 //! Lists within a line.
 
+ghost use Rattle.std.specs.Prelude.{◌≡◌, List, length, Option, option_map};
+ghost use Rattle.ir_item.specs.declared.symbol.Symbol.{Symbol};
+ghost use Rattle.ir_item.specs.Outcome.{Gives};
+ghost use Rattle.ir_item.specs.Lists.{list_at, comma_at, pointer_parameter_at, number_parameter_at, parameter_at, pointer_argument_at, number_argument_at, argument_at, entry_at, all_at, all_entries_at};
+
 use crate::fault::LineFault;
 use crate::front::{
-    address_at, behind, bytes_at, is_mark, is_word, mark_at, operand_at, register_at, word_at,
+    behind, bytes_at, is_mark, is_word, mark_at, operand_at, pointer_at, register_at, word_at,
 };
 use crate::symbol::Symbol;
 use lists::Seq;
@@ -11,17 +16,25 @@ use syntax::{Argument, Parameter, PhiEntry};
 
 /// What lists are made of.
 pub trait Listed: Drop {
-    fn at(symbols: &[Symbol]) -> Result<(Self, &[Symbol]), LineFault>;
+    ghost element: { List Symbol → Option (Self × List Symbol) };
 
-    /// Where the next one begins, if one follows.
-    fn next(symbols: &[Symbol]) -> Option<&[Symbol]>;
+    ghost follows: { List Symbol → Option (List Symbol) };
+
+    fn at(symbols: &[Symbol]) -> Result<(Self, &[Symbol]), LineFault>
+        ensures { Gives (λ found. (found.0, found.1.now)) result (element symbols.now) };
+
+    /// Where another one begins, if one follows.
+    fn next(symbols: &[Symbol]) -> Option<&[Symbol]>
+        ensures { option_map (λ rest. rest.now) result ≡ follows symbols.now };
 }
 
 /// One or more.
 pub fn list_at<T: Listed>(
     alloc: Global,
     symbols: &[Symbol],
-) -> Result<(Seq<T>, &[Symbol]), LineFault> {
+) -> Result<(Seq<T>, &[Symbol]), LineFault>
+    ensures { Gives (λ found. (found.0, found.1.now)) result (list_at T.element T.follows (length symbols.now) symbols.now) }
+{
     let mut found = Vec::new(alloc);
     let mut rest = symbols;
     for _ in 0..symbols.len() {
@@ -35,7 +48,9 @@ pub fn list_at<T: Listed>(
     Err(LineFault::Unexpected)
 }
 
-fn comma_at(symbols: &[Symbol]) -> Option<&[Symbol]> {
+fn comma_at(symbols: &[Symbol]) -> Option<&[Symbol]>
+    ensures { option_map (λ rest. rest.now) result ≡ comma_at symbols.now }
+{
     if is_mark(b',', symbols) {
         Some(behind(symbols))
     } else {
@@ -43,7 +58,9 @@ fn comma_at(symbols: &[Symbol]) -> Option<&[Symbol]> {
     }
 }
 
-fn pointer_at(symbols: &[Symbol]) -> Result<(Parameter, &[Symbol]), LineFault> {
+fn pointer_parameter_at(symbols: &[Symbol]) -> Result<(Parameter, &[Symbol]), LineFault>
+    ensures { Gives (λ found. (found.0, found.1.now)) result (pointer_parameter_at symbols.now) }
+{
     let rest = word_at(b"ptr", symbols)?;
     let rest = word_at(b"noalias", rest)?;
     let rest = word_at(b"dereferenceable", rest)?;
@@ -54,18 +71,24 @@ fn pointer_at(symbols: &[Symbol]) -> Result<(Parameter, &[Symbol]), LineFault> {
     Ok((Parameter::Pointer { name, cells }, rest))
 }
 
-fn number_at(symbols: &[Symbol]) -> Result<(Parameter, &[Symbol]), LineFault> {
+fn number_parameter_at(symbols: &[Symbol]) -> Result<(Parameter, &[Symbol]), LineFault>
+    ensures { Gives (λ found. (found.0, found.1.now)) result (number_parameter_at symbols.now) }
+{
     let rest = word_at(b"i64", symbols)?;
     let (name, rest) = register_at(rest)?;
     Ok((Parameter::Number { name }, rest))
 }
 
 impl Listed for Parameter {
+    ghost element = { parameter_at };
+
+    ghost follows = { comma_at };
+
     fn at(symbols: &[Symbol]) -> Result<(Parameter, &[Symbol]), LineFault> {
         if is_word(b"ptr", symbols) {
-            pointer_at(symbols)
+            pointer_parameter_at(symbols)
         } else {
-            number_at(symbols)
+            number_parameter_at(symbols)
         }
     }
 
@@ -74,15 +97,31 @@ impl Listed for Parameter {
     }
 }
 
+fn pointer_argument_at(symbols: &[Symbol]) -> Result<(Argument, &[Symbol]), LineFault>
+    ensures { Gives (λ found. (found.0, found.1.now)) result (pointer_argument_at symbols.now) }
+{
+    let (address, rest) = pointer_at(symbols)?;
+    Ok((Argument::Pointer(address), rest))
+}
+
+fn number_argument_at(symbols: &[Symbol]) -> Result<(Argument, &[Symbol]), LineFault>
+    ensures { Gives (λ found. (found.0, found.1.now)) result (number_argument_at symbols.now) }
+{
+    let rest = word_at(b"i64", symbols)?;
+    let (value, rest) = operand_at(rest)?;
+    Ok((Argument::Number(value), rest))
+}
+
 impl Listed for Argument {
+    ghost element = { argument_at };
+
+    ghost follows = { comma_at };
+
     fn at(symbols: &[Symbol]) -> Result<(Argument, &[Symbol]), LineFault> {
         if is_word(b"ptr", symbols) {
-            let (address, rest) = address_at(behind(symbols))?;
-            Ok((Argument::Pointer(address), rest))
+            pointer_argument_at(symbols)
         } else {
-            let rest = word_at(b"i64", symbols)?;
-            let (value, rest) = operand_at(rest)?;
-            Ok((Argument::Number(value), rest))
+            number_argument_at(symbols)
         }
     }
 
@@ -92,6 +131,10 @@ impl Listed for Argument {
 }
 
 impl Listed for PhiEntry {
+    ghost element = { entry_at };
+
+    ghost follows = { comma_at };
+
     fn at(symbols: &[Symbol]) -> Result<(PhiEntry, &[Symbol]), LineFault> {
         let rest = mark_at(b'[', symbols)?;
         let (value, rest) = operand_at(rest)?;
@@ -106,27 +149,42 @@ impl Listed for PhiEntry {
     }
 }
 
-/// Arguments up to and with `)`.
-pub fn all_arguments_at(
-    alloc: Global,
-    symbols: &[Symbol],
-) -> Result<(Seq<Argument>, &[Symbol]), LineFault> {
-    all_at(alloc, symbols)
-}
-
 /// Parameters up to and with `)`.
-pub fn all_parameters_at(
+pub fn parameters_at(
     alloc: Global,
     symbols: &[Symbol],
-) -> Result<(Seq<Parameter>, &[Symbol]), LineFault> {
-    all_at(alloc, symbols)
-}
-
-fn all_at<T: Listed>(alloc: Global, symbols: &[Symbol]) -> Result<(Seq<T>, &[Symbol]), LineFault> {
+) -> Result<(Seq<Parameter>, &[Symbol]), LineFault>
+    ensures { Gives (λ found. (found.0, found.1.now)) result (all_at parameter_at symbols.now) }
+{
     if is_mark(b')', symbols) {
         return Ok((Seq::new(alloc), behind(symbols)));
     }
-    let (found, rest) = list_at(alloc, symbols)?;
+    let (found, rest) = list_at::<Parameter>(alloc, symbols)?;
     let rest = mark_at(b')', rest)?;
     Ok((found, rest))
+}
+
+/// Arguments up to and with `)`.
+pub fn arguments_at(
+    alloc: Global,
+    symbols: &[Symbol],
+) -> Result<(Seq<Argument>, &[Symbol]), LineFault>
+    ensures { Gives (λ found. (found.0, found.1.now)) result (all_at argument_at symbols.now) }
+{
+    if is_mark(b')', symbols) {
+        return Ok((Seq::new(alloc), behind(symbols)));
+    }
+    let (found, rest) = list_at::<Argument>(alloc, symbols)?;
+    let rest = mark_at(b')', rest)?;
+    Ok((found, rest))
+}
+
+/// Entries up to the line's end.
+pub fn entries_at(
+    alloc: Global,
+    symbols: &[Symbol],
+) -> Result<(Seq<PhiEntry>, &[Symbol]), LineFault>
+    ensures { Gives (λ found. (found.0, found.1.now)) result (all_entries_at symbols.now) }
+{
+    list_at::<PhiEntry>(alloc, symbols)
 }
