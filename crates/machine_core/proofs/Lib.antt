@@ -1,0 +1,5 @@
+pub mod Actions
+pub mod Places
+pub mod Confluence
+pub mod Steps
+pub mod Diamond

@@ -4,6 +4,7 @@ pub mod Arithmetic
 pub mod Frames
 pub mod Effect
 pub mod State
+pub mod Tree
 pub mod SerialMeaning
 pub mod Events
 pub mod Replay
