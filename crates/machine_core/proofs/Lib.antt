@@ -3,3 +3,5 @@ pub mod Places
 pub mod Confluence
 pub mod Steps
 pub mod Diamond
+pub mod TreeKept
+pub mod Parting
