@@ -5,6 +5,7 @@ pub mod Frames
 pub mod Effect
 pub mod State
 pub mod Tree
+pub mod Conditions
 pub mod SerialMeaning
 pub mod Events
 pub mod Replay
