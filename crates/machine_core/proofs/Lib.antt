@@ -5,3 +5,4 @@ pub mod Steps
 pub mod Diamond
 pub mod TreeKept
 pub mod Parting
+pub mod Feet
