@@ -28,11 +28,11 @@ covers_all z y x a b = record { reads = λ c h. a.reads c (b.reads c h); adds = 
 pub covers_itself : (z : Zone) → Covers z z
 covers_itself z = record { reads = λ c h. h; adds = λ c h. h }
 
-clear_back : (z y : Zone) → Clear z y → Clear y z
+pub clear_back : (z y : Zone) → Clear z y → Clear y z
 clear_back z y c = record { first = λ x a b. c.second x b a; second = λ x a b. c.first x b a }
 
 -- what is covered by clear zones is clear
-clear_within : (z y u v : Zone) → Clear z y → Covers z u → Covers y v → Clear u v
+pub clear_within : (z y u v : Zone) → Clear z y → Covers z u → Covers y v → Clear u v
 clear_within z y u v c a b = record { first = λ x h k. c.first x (a.reads x h) (b.adds x k); second = λ x h k. c.second x (a.adds x h) (b.reads x k) }
 
 abbrev zone_at : Change → Zone
@@ -85,7 +85,7 @@ alive {s} {p} go f is wait =
     let m : may_go s p go.frame.made Halted ≡ true = subst (λ x. may_go s p go.frame.made x ≡ true) w go.may in
     cc
 
-not_halted : (w : Wait) (k : ℕ) (d : Option RegisterId) → w ≡ OnCall k d → w ≢ Halted
+pub not_halted : (w : Wait) (k : ℕ) (d : Option RegisterId) → w ≡ OnCall k d → w ≢ Halted
 not_halted w k d e h = cc
 
 -- the child of a frame that goes is a detached one
@@ -96,11 +96,11 @@ going_child {s} {p} tree go c k there = from c.role refl
     from (Child r n) e = (r, n, e)
     from Body e = let (g, d, at, wait) = tree.awaited k p c there e in absurd (stands go g k d at wait)
 
-alive_now : (s : State) (p : Path) (f : Frame) → s.frames p ≡ Some f → may_go s p f.made f.waits ≡ true → f.waits ≢ Halted
+pub alive_now : (s : State) (p : Path) (f : Frame) → s.frames p ≡ Some f → may_go s p f.made f.waits ≡ true → f.waits ≢ Halted
 alive_now s p f is go = let stand : Goes s p = record { frame = f; is = is; may = go } in alive stand f is
 
 -- a frame that may go waits for no call
-going_now : (s : State) (p : Path) (f : Frame) → may_go s p f.made f.waits ≡ true → Going f
+pub going_now : (s : State) (p : Path) (f : Frame) → may_go s p f.made f.waits ≡ true → Going f
 going_now s p f go k d w = let m : may_go s p f.made (OnCall k d) ≡ true = subst (λ x. may_go s p f.made x ≡ true) w go in cc
 
 nowhere : Zone

@@ -6,3 +6,4 @@ pub mod Diamond
 pub mod TreeKept
 pub mod Parting
 pub mod Feet
+pub mod FeetKept
