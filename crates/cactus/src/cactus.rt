@@ -6,7 +6,7 @@ ghost use Rattle.cactus.specs.Frames.{node_at, node_of_use, frame_at, Lives, IsA
 use crate::node::Node;
 use frame::Path;
 use lists::OutOfMemory;
-use slab::Slab;
+use slab::{Iter, Slab};
 use std::alloc::Global;
 use std::marker::Model;
 
@@ -20,8 +20,8 @@ pub struct Cactus<F> {
 
 impl<F> Model for Cactus<F> {
     ghost use Rattle.std.specs.Option.{option_copied_mut};
-ghost use Rattle.std.specs.Borrow.{sem};
-ghost use Rattle.cactus.specs.Frames.{Frames};
+    ghost use Rattle.std.specs.Borrow.{sem};
+    ghost use Rattle.cactus.specs.Frames.{Frames};
 
     ghost Value = { Frames F };
 
@@ -46,6 +46,18 @@ impl<F: Drop> Cactus<F> {
     /// The number of living frames.
     pub fn live_frames(&self) -> u64 {
         self.nodes.len() as u64
+    }
+
+    /// The number of frames that were made.
+    pub fn frames_made(&self) -> u64
+        ensures { result ≡ self.now.made }
+    {
+        self.made
+    }
+
+    /// The slots where frames stand, by rising slot.
+    pub fn iter(&self) -> Iter<'_, Node<F>> {
+        self.nodes.iter()
     }
 
     /// What stands in a slot; none where no frame does.
