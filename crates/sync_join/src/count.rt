@@ -52,10 +52,8 @@ impl RegionCount {
         requires { 0 < self.old.living }
         ensures counted { self.new.living + 1 ≡ self.old.living }
         ensures ready { (result ≡ Outcome.ResumeReady) ↔ (parent ≡ Parent.Ready child) }
-        ensures stalled {
-            (result ≡ Outcome.ResumeStalled)
-                ↔ ((parent ≡ Parent.Stalled region) × (self.new.living ≡ 0))
-        }
+        ensures stalled { (result ≡ Outcome.ResumeStalled)
+            ↔ ((parent ≡ Parent.Stalled region) × (self.new.living ≡ 0)) }
     {
         self.living -= 1;
         match parent {
