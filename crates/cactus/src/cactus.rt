@@ -6,11 +6,7 @@ ghost use Rattle.cactus.specs.Frames.{node_at, node_of_use, frame_at, Lives, IsA
 use crate::node::Node;
 use frame::Path;
 use lists::OutOfMemory;
-<<<<<<< HEAD
-use slab::Slab;
-=======
 use slab::{Iter, Slab};
->>>>>>> 93317f5a72ed99ae3e70977466fcc16ffb0bd673
 use std::alloc::Global;
 use std::marker::Model;
 
@@ -24,13 +20,8 @@ pub struct Cactus<F> {
 
 impl<F> Model for Cactus<F> {
     ghost use Rattle.std.specs.Option.{option_copied_mut};
-<<<<<<< HEAD
-ghost use Rattle.std.specs.Borrow.{sem};
-ghost use Rattle.cactus.specs.Frames.{Frames};
-=======
     ghost use Rattle.std.specs.Borrow.{sem};
     ghost use Rattle.cactus.specs.Frames.{Frames};
->>>>>>> 93317f5a72ed99ae3e70977466fcc16ffb0bd673
 
     ghost Value = { Frames F };
 
@@ -57,8 +48,6 @@ impl<F: Drop> Cactus<F> {
         self.nodes.len() as u64
     }
 
-<<<<<<< HEAD
-=======
     /// The number of frames that were made.
     pub fn frames_made(&self) -> u64
         ensures { result ≡ self.now.made }
@@ -71,7 +60,6 @@ impl<F: Drop> Cactus<F> {
         self.nodes.iter()
     }
 
->>>>>>> 93317f5a72ed99ae3e70977466fcc16ffb0bd673
     /// What stands in a slot; none where no frame does.
     pub fn node(&self, slot: usize) -> Option<&Node<F>>
         ensures { option_copied result ≡ node_at self.now slot }
