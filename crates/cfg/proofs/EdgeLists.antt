@@ -1,6 +1,5 @@
 -- Lists of edges, built from the front.
-use Rattle.std.proofs.Common.{◌≡◌, ◌==◌, ℕ, ◌+◌, ◌<◌, ◌≤◌, Bool, true, false, cond, List, [], ◌∷◌, ◌++◌, zero, suc, length, take, drop, get_or, ltb, Option, Some, None, refl, sym, ap, ◌∙◌, arith, append-nil, add-one, length-take, drop-cons}
-use Rattle.std.specs.List.{filter_map, flat_map}
+use Rattle.std.proofs.Common.{◌≡◌, ◌==◌, ℕ, ◌+◌, ◌<◌, true, false, List, [], ◌∷◌, ◌++◌, suc, length, take, drop, get_or, ltb, Option, Some, None, refl, sym, ap, ◌∙◌, arith, append-nil, add-one, length-take, drop-cons}
 use Rattle.std.specs.Prelude.{slice_get}
 use Rattle.std.proofs.lemmas.Bool.{ltb-false}
 use Rattle.std.proofs.lemmas.Option.{slice_get_past}
@@ -59,3 +58,7 @@ pub edge_to_none : (blocks : List Block) (from : ℕ) (way : Way) (to : BlockId)
 edge_to_none blocks from way to edges past =
     let none : slice_get blocks to.0 ≡ None = slice_get_past blocks to.0 (ltb-false to.0 (length blocks) (sym past)) in
     rw none (sym (append-nil edges))
+
+pub length-edges_from : (blocks : List Block) (from : ℕ) (rest : List Block) → length (edges_from blocks from rest) ≡ length rest
+length-edges_from blocks from [] = refl
+length-edges_from blocks from (b ∷ bs) = ap suc (length-edges_from blocks (suc from) bs)

@@ -1,5 +1,5 @@
 -- Which fault is named where several rules are broken: that of the lowest line, and there of the lowest number.
-use Rattle.std.specs.Prelude.{◌≡◌, ◌⊎◌, ℕ, ◌<◌, ◌≤◌, Option, Some, None}
+use Rattle.std.specs.Prelude.{◌≡◌, ◌⊎◌, ◌<◌, ◌≤◌, Option, Some, None}
 use Rattle.cfg.specs.declared.refusal.Broken.{Broken}
 
 -- on a lower line, or on the same line and of a lower number

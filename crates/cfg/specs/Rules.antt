@@ -50,8 +50,11 @@ IsGraphRight program = All IsFunctionRight program.functions
 -- ---- how they are broken
 
 -- 211, at a phi
+abbrev pub IsUnmatched : List BlockEdges → ℕ → Phi → Broken → Type 0
+IsUnmatched blocks b phi broken = (broken.number ≡ 211) × (broken.line ≡ phi.line) × (IsMatched blocks b phi.entries → ⊥)
+
 abbrev pub IsPhiBroken : List BlockEdges → ℕ → List Phi → Broken → Type 0
-IsPhiBroken blocks b phis broken = (broken.number ≡ 211) × Any (λ phi. (phi.line ≡ broken.line) × (IsMatched blocks b phi.entries → ⊥)) phis
+IsPhiBroken blocks b phis broken = Any (λ phi. IsUnmatched blocks b phi broken) phis
 
 -- 212, at the label
 abbrev pub IsLabelBroken : List BlockEdges → ℕ → ℕ → Broken → Type 0

@@ -97,7 +97,9 @@ fn make_edges(
             push_cases(alloc, blocks, from, cases.as_slice(), &mut edges)?;
         }
         Terminator::Detach {
-            body, continuation, ..
+            body,
+            continuation,
+            ..
         } => {
             push_edge(alloc, blocks, from, Way::Detached, *body, &mut edges)?;
             push_edge(

@@ -1,5 +1,6 @@
 ghost use Rattle.std.specs.Prelude.{◌≡◌, ◌<◌, ◌↔◌, ◌==◌, ℕ, if◌then◌else◌, length, true, false, map, count_by, IsTrue, IsSome, IfOk, IfErr, slice_index_or};
-ghost use Rattle.cfg.specs.Edges.{graph_of, graphs_of};
+ghost use Rattle.std.specs.List.{list_any};
+ghost use Rattle.cfg.specs.Edges.{graph_of};
 ghost use Rattle.cfg.specs.Paths.{IsOnPath};
 ghost use Rattle.cfg.specs.Faults.{IsJudged};
 ghost use Rattle.cfg.specs.Rules.{leads_to, HasPredecessor, ArePhisMatched, IsPhiBroken, IsLabelRight, IsLabelBroken, IsBlockRight, IsBlockBroken, IsEndBroken, IsFunctionRight, IsFunctionBroken};
@@ -39,11 +40,7 @@ fn is_followed(blocks: &[BlockEdges], block: usize) -> bool
 }
 
 /// Marks the predecessors of a block.
-fn predecessors(
-    alloc: Global,
-    blocks: &[BlockEdges],
-    block: usize,
-) -> Result<Vec<bool>, AllocError>
+fn predecessors(alloc: Global, blocks: &[BlockEdges], block: usize) -> Result<Vec<bool>, AllocError>
     ensures { IfOk result (λ marks. marks.items ≡ map (λ body. leads_to block body.edges) blocks.now) }
 {
     let mut marks = Vec::with_capacity(alloc, blocks.len())?;
@@ -53,12 +50,15 @@ fn predecessors(
     Ok(marks)
 }
 
+/// Whether a mark is set.
+fn is_marked(marks: &[bool]) -> bool
+    ensures { result ≡ list_any (λ mark. mark) marks.now }
+{
+    marks.iter().any(|mark| *mark)
+}
+
 /// Whether each marked block has exactly one entry, and no other block has one.
-fn is_matched(
-    alloc: Global,
-    leading: &[bool],
-    entries: &[PhiEntry],
-) -> Result<bool, AllocError>
+fn is_matched(alloc: Global, leading: &[bool], entries: &[PhiEntry]) -> Result<bool, AllocError>
     ensures { IfOk result (λ r. IsTrue r ↔ ((a : ℕ) → count_by (λ e. e.predecessor.0 == a) entries.now ≡ (if slice_index_or leading.now a false then 1 else 0))) }
 {
     let mut left = leading.to_vec(alloc)?;
@@ -69,7 +69,7 @@ fn is_matched(
         }
         left[from] = false;
     }
-    Ok(!left.contains(&true))
+    Ok(!is_marked(&left))
 }
 
 /// 211: the first line of a phi of the block that is not matched.
@@ -101,12 +101,7 @@ fn phi_fault(
 }
 
 /// 212: the block is on no path, or is the entry and has a predecessor.
-fn label_fault(
-    blocks: &[BlockEdges],
-    on_paths: &[bool],
-    block: usize,
-    line: u32,
-) -> Option<Broken>
+fn label_fault(blocks: &[BlockEdges], on_paths: &[bool], block: usize, line: u32) -> Option<Broken>
     requires within { block < length on_paths.now }
     requires exact { (slice_index_or on_paths.now block false ≡ true) ↔ IsOnPath blocks.now block }
     ensures { IsJudged (IsLabelRight blocks.now block) (IsLabelBroken blocks.now block line) result }
@@ -160,7 +155,8 @@ pub fn function_fault(
 {
     let on_paths = on_paths(alloc, blocks)?;
     let mut named: Option<Broken> = None;
-    for (index, block) in function.blocks.as_slice().iter().enumerate() {
+    let bodies = function.blocks.as_slice();
+    for (index, block) in bodies.iter().enumerate() {
         let broken = block_fault(alloc, blocks, &on_paths, index, block)?;
         named = lower(named, broken);
     }

@@ -1,7 +1,6 @@
 use lists::Seq;
 use program::{BlockId, Operand, RegisterId};
 
-
 /// How a path goes along an edge. No path goes along a reattach.
 #[derive(Clone, Copy, Debug, PartialEq, Eq)]
 pub enum Way {
