@@ -13,6 +13,7 @@ use Rattle.ir_lex.specs.declared.scan.Front.TheVariants.{Space, Comment, Begins,
 use Rattle.ir_lex.specs.Spelling.{is_space, is_mark, is_name, is_number, is_marked_name, is_note_mark, is_run_byte, is_word_byte, is_printed, kind_of}
 use Rattle.ir_lex.specs.Tokens.{lead_of_run, lead, lead_in_note, front_at, begun, tokens_from, tokens_of}
 use Rattle.ir_lex.specs.Lexemes.{HasKind, IsTokenOf}
+use Rattle.ir_lex.proofs.Plain.{name_printed}
 
 pub chosen : {A : Type 0} (b : Bool) (x y z : A) → cond b x y ≡ z → ((b ≡ true) × (x ≡ z)) ⊎ ((b ≡ false) × (y ≡ z))
 chosen true x y z e = inl (refl, e)
@@ -27,7 +28,7 @@ pub record IsFront (bs : List ℕ) (kind : Kind) (n : ℕ) : Type 0 where
 run_kind : (run : List ℕ) (kind : Kind) → kind_of run ≡ Some kind → HasKind kind run
 run_kind run kind h =
     elim (chosen (is_name run) (Some Word) (cond (is_number run) (Some Number) (cond (is_marked_name run) (Some Name) None)) (Some kind) h) [
-      | inl w ↦ let e : Word ≡ kind = cc in subst (λ (k : Kind). HasKind k run) e tt
+      | inl w ↦ let e : Word ≡ kind = cc in subst (λ (k : Kind). HasKind k run) e (name_printed run w.0)
       | inr n ↦ elim (chosen (is_number run) (Some Number) (cond (is_marked_name run) (Some Name) None) (Some kind) n.1) [
         | inl w ↦ let e : Number ≡ kind = cc in subst (λ (k : Kind). HasKind k run) e w.0
         | inr m ↦ elim (chosen (is_marked_name run) (Some Name) None (Some kind) m.1) [
@@ -85,9 +86,11 @@ lead_is_front b bs kind n h =
       ]
     ]
 
-word_kind : (b : Bool) (run : List ℕ) (kind : Kind) → cond b (Some Word) None ≡ Some kind → HasKind kind run
-word_kind true run kind h = let e : Word ≡ kind = cc in subst (λ (k : Kind). HasKind k run) e tt
-word_kind false run kind h = absurd cc
+word_kind : (run : List ℕ) (kind : Kind) → cond (list_all is_printed run) (Some Word) None ≡ Some kind → HasKind kind run
+word_kind run kind h = elim (chosen (list_all is_printed run) (Some Word) None (Some kind) h) [
+  | inl w ↦ let e : Word ≡ kind = cc in subst (λ (k : Kind). HasKind k run) e w.0
+  | inr w ↦ absurd cc
+]
 
 lead_in_note_is_front : (b : ℕ) (bs : List ℕ) (kind : Kind) (n : ℕ) → lead_in_note (b ∷ bs) ≡ Begins kind n → IsFront (b ∷ bs) kind n
 unfolding lead_in_note
@@ -99,7 +102,7 @@ lead_in_note_is_front b bs kind n h =
       | inr w ↦
           let r = of_run found len kind n w.1 in
           let is_word : is_word_byte b ≡ true = rw w.0 refl in
-          run_is_front is_word_byte b bs kind n is_word r.1 (word_kind (list_all is_printed (take len (b ∷ bs))) (take len (b ∷ bs)) kind r.0)
+          run_is_front is_word_byte b bs kind n is_word r.1 (word_kind (take len (b ∷ bs)) kind r.0)
     ]
 
 front_holds : (in_note : Bool) (b : ℕ) (bs : List ℕ) (kind : Kind) (n : ℕ) → front_at in_note (b ∷ bs) ≡ Begins kind n → IsFront (b ∷ bs) kind n

@@ -3,7 +3,8 @@ use Rattle.std.specs.Prelude.{◌≡◌, ℕ, ◌-◌, ◌<◌, ◌≤◌, true,
 use Rattle.ir_lex.specs.declared.token.Kind.{Kind}
 use Rattle.ir_lex.specs.declared.token.Kind.TheVariants.{Name, Number, Word, Mark, Note}
 use Rattle.ir_lex.specs.declared.token.Token.{Token}
-use Rattle.ir_lex.specs.Spelling.{is_number, is_marked_name, is_note_mark}
+use Rattle.std.specs.List.{list_all}
+use Rattle.ir_lex.specs.Spelling.{is_number, is_marked_name, is_note_mark, is_printed}
 
 -- the bytes of a token
 abbrev pub text_at : List ℕ → Token → List ℕ
@@ -12,7 +13,7 @@ text_at line t = take (t.to - t.from) (drop t.from line)
 abbrev pub HasKind : Kind → List ℕ → Type 0
 HasKind Name text = is_marked_name text ≡ true
 HasKind Number text = is_number text ≡ true
-HasKind Word text = Unit {0}
+HasKind Word text = list_all is_printed text ≡ true
 HasKind Mark text = length text ≡ 1
 HasKind Note text = is_note_mark text ≡ true
 
