@@ -1,0 +1,5 @@
+pub mod Address
+pub mod Fault
+pub mod Operand
+pub mod Scope
+pub mod Table

@@ -40,7 +40,7 @@ fn resolve_head(
     let keeps = resolve_inequalities(alloc, scope, place, notes.keeps.as_slice());
     let pending = resolve_all_pending(alloc, world.items, scope, block, notes.pending.as_slice());
     let left = resolve_left(alloc, scope, block, &notes.left);
-    let before = Ok(Vec::new(alloc));
+    let before = Ok(Seq::new(alloc));
     let foot = notes.foot.as_slice();
     let foot = resolve_zones(alloc, world.items, scope, Place::Body, before, foot);
     let ((keeps, pending), (left, foot)) = both(both(keeps, pending), both(left, foot))?;
@@ -48,7 +48,7 @@ fn resolve_head(
         keeps,
         pending,
         left,
-        foot: Seq::from_vec(foot),
+        foot,
     })
 }
 
@@ -105,12 +105,12 @@ pub fn resolve_blocks(
     result_type: ResultType,
     blocks: &[syntax::Block],
 ) -> Result<Seq<Block>, TypeFault> {
-    let mut resolved = Ok(Vec::new(alloc));
+    let mut resolved = Ok(Seq::new(alloc));
     for (place, block) in blocks.iter().enumerate() {
         resolved = joined(
             resolved,
             resolve_block(alloc, world, scope, function, place, result_type, block),
         );
     }
-    Ok(Seq::from_vec(resolved?))
+    resolved
 }

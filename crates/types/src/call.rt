@@ -112,7 +112,7 @@ fn resolve_arguments(
     parameters: &[Parameter],
     arguments: &[syntax::Argument],
 ) -> Result<Seq<Argument>, TypeFault> {
-    let mut resolved = Ok(Vec::new(alloc));
+    let mut resolved = Ok(Seq::new(alloc));
     for (place, argument) in arguments.iter().enumerate() {
         let parameter = parameters.get(place);
         resolved = joined(
@@ -120,7 +120,7 @@ fn resolve_arguments(
             resolve_argument(items, scope, line, parameter, argument),
         );
     }
-    Ok(Seq::from_vec(resolved?))
+    resolved
 }
 
 /// The object that an argument passes.

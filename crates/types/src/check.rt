@@ -1,7 +1,7 @@
 use crate::call::World;
 use crate::fault::{TypeFault, both, type_mismatch, unknown_name, unless};
 use crate::function::resolve_functions;
-use crate::item::{Item, Items};
+use crate::item::{Item, Items, items_of};
 use crate::mention::named_globals;
 use crate::typed::Typed;
 use lists::Seq;
@@ -57,7 +57,7 @@ fn globals_of(alloc: Global, globals: &[syntax::Global]) -> Result<Seq<GlobalArr
 /// The tables of names are hashed with `state`.
 pub fn check_types(alloc: Global, state: RandomState, whole: Module) -> Result<Typed, TypeFault> {
     let functions = whole.functions.as_slice();
-    let items = Items::of(alloc, state, &whole)?;
+    let items = items_of(alloc, state, &whole)?;
     let named = named_globals(alloc, &items, whole.globals.len(), functions)?;
     let world = World {
         items: &items,

@@ -1,7 +1,8 @@
-ghost use Rattle.std.specs.Prelude.{◌≡◌};
-ghost use Rattle.types.specs.declared.fault.TypeFault.TheVariants.{Memory};
+ghost use Rattle.std.specs.Prelude.{◌≡◌, Ok};
+ghost use Rattle.types.specs.Fault.{both_of, earlier_of, joined_of, unless_of, Gives};
+ghost use Rattle.types.specs.declared.fault.TypeFault.TheVariants.{Fault, Memory};
 
-use lists::OutOfMemory;
+use lists::Seq;
 use std::alloc::{AllocError, AllocFailed};
 use thiserror::Error;
 
@@ -31,49 +32,67 @@ impl<T: Drop> From<AllocFailed<T>> for TypeFault {
 }
 
 /// 201: nothing has this name.
-pub fn unknown_name(line: u32) -> TypeFault {
+pub fn unknown_name(line: u32) -> TypeFault
+    ensures { result ≡ Fault 201 line }
+{
     TypeFault::Fault { number: 201, line }
 }
 
 /// 202: what has this name is of another type than stands here.
-pub fn type_mismatch(line: u32) -> TypeFault {
+pub fn type_mismatch(line: u32) -> TypeFault
+    ensures { result ≡ Fault 202 line }
+{
     TypeFault::Fault { number: 202, line }
 }
 
 /// 203: a call with more or fewer arguments than the callee has parameters.
-pub fn wrong_count(line: u32) -> TypeFault {
+pub fn wrong_count(line: u32) -> TypeFault
+    ensures { result ≡ Fault 203 line }
+{
     TypeFault::Fault { number: 203, line }
 }
 
 /// 204: a pointer is used as none may be.
-pub fn pointer_misuse(line: u32) -> TypeFault {
+pub fn pointer_misuse(line: u32) -> TypeFault
+    ensures { result ≡ Fault 204 line }
+{
     TypeFault::Fault { number: 204, line }
 }
 
 /// 205: a call of a function that stands below.
-pub fn downward_call(line: u32) -> TypeFault {
+pub fn downward_call(line: u32) -> TypeFault
+    ensures { result ≡ Fault 205 line }
+{
     TypeFault::Fault { number: 205, line }
 }
 
 /// 206: a form over a limit, or a note that names what its own block defines.
-pub fn form_limit(line: u32) -> TypeFault {
+pub fn form_limit(line: u32) -> TypeFault
+    ensures { result ≡ Fault 206 line }
+{
     TypeFault::Fault { number: 206, line }
 }
 
 /// Nothing where the rule holds, else the fault.
-pub fn unless(holds: bool, fault: TypeFault) -> Result<(), TypeFault> {
+pub fn unless(holds: bool, fault: TypeFault) -> Result<(), TypeFault>
+    ensures { result ≡ unless_of holds fault }
+{
     if holds { Ok(()) } else { Err(fault) }
 }
 
 /// The fault of the lower line, and on one line of the lower number. Want of memory comes first.
-fn earlier(first: TypeFault, second: TypeFault) -> TypeFault {
+fn earlier(first: TypeFault, second: TypeFault) -> TypeFault
+    ensures { result ≡ earlier_of first second }
+{
     match first {
         TypeFault::Memory => TypeFault::Memory,
         TypeFault::Fault { number, line } => earlier_than(number, line, second),
     }
 }
 
-fn earlier_than(number: u16, line: u32, other: TypeFault) -> TypeFault {
+fn earlier_than(number: u16, line: u32, other: TypeFault) -> TypeFault
+    ensures { result ≡ earlier_of (Fault number line) other }
+{
     match other {
         TypeFault::Memory => TypeFault::Memory,
         TypeFault::Fault {
@@ -96,7 +115,9 @@ fn earlier_than(number: u16, line: u32, other: TypeFault) -> TypeFault {
 pub fn both<A: Drop, B: Drop>(
     first: Result<A, TypeFault>,
     second: Result<B, TypeFault>,
-) -> Result<(A, B), TypeFault> {
+) -> Result<(A, B), TypeFault>
+    ensures { result ≡ both_of first second }
+{
     match first {
         Ok(a) => match second {
             Ok(b) => Ok((a, b)),
@@ -111,9 +132,11 @@ pub fn both<A: Drop, B: Drop>(
 
 /// The list with one more part at its end, else the earlier fault of the two.
 pub fn joined<A: Drop>(
-    list: Result<Vec<A>, TypeFault>,
+    list: Result<Seq<A>, TypeFault>,
     part: Result<A, TypeFault>,
-) -> Result<Vec<A>, TypeFault> {
+) -> Result<Seq<A>, TypeFault>
+    ensures { Gives result (joined_of list part) }
+{
     let (mut list, part) = both(list, part)?;
     list.push(part)?;
     Ok(list)

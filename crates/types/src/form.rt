@@ -4,7 +4,7 @@ ghost use Rattle.std.specs.Prelude.{◌≤◌, length};
 
 use crate::fault::{TypeFault, both, form_limit, joined, type_mismatch, unknown_name, unless};
 use crate::operand::resolve_register;
-use crate::scope::{Holding, Named, Origin, Register, Scope};
+use crate::scope::{Named, Register, Scope, is_number, is_number_of, is_parameter, is_step_of};
 use lists::{Name, Seq};
 use program::{Form, Inequality, RegisterId, Term, Width};
 use std::alloc::{AllocError, Global};
@@ -25,11 +25,11 @@ pub enum Place {
 
 /// The parameter of this name.
 pub fn resolve_parameter(scope: &Scope, line: u32, name: &Name) -> Result<Register, TypeFault> {
-    match scope.find(name) {
+    match scope.find(name.as_bytes()) {
         None => Err(unknown_name(line)),
         Some(Named::Label(_)) => Err(unknown_name(line)),
         Some(Named::Register(register)) => {
-            unless(register.origin == Origin::Parameter, unknown_name(line))?;
+            unless(is_parameter(register.origin), unknown_name(line))?;
             Ok(register)
         }
     }
@@ -37,10 +37,8 @@ pub fn resolve_parameter(scope: &Scope, line: u32, name: &Name) -> Result<Regist
 
 fn parameter_term(scope: &Scope, line: u32, name: &Name) -> Result<RegisterId, TypeFault> {
     let register = resolve_parameter(scope, line, name)?;
-    unless(
-        register.holding == Holding::Number(Width::Bits64),
-        type_mismatch(line),
-    )?;
+    let is_number = is_number_of(Width::Bits64, register.holding);
+    unless(is_number, type_mismatch(line))?;
     Ok(register.id)
 }
 
@@ -62,17 +60,13 @@ fn guarantee_term(
 
 fn number_register(scope: &Scope, line: u32, name: &Name) -> Result<Register, TypeFault> {
     let register = resolve_register(scope, line, name)?;
-    match register.holding {
-        Holding::Number(_) => Ok(register),
-        Holding::Truth | Holding::Object { .. } | Holding::Element | Holding::Region => {
-            Err(type_mismatch(line))
-        }
-    }
+    unless(is_number(register.holding), type_mismatch(line))?;
+    Ok(register)
 }
 
 /// The register was not made by an instruction of this block.
 pub fn made_before(line: u32, block: usize, register: Register) -> Result<(), TypeFault> {
-    unless(register.origin != Origin::Step(block), form_limit(line))
+    unless(!is_step_of(block, register.origin), form_limit(line))
 }
 
 /// The register of a form's term.
@@ -123,8 +117,8 @@ fn terms(
     place: Place,
     line: u32,
     items: &[syntax::Term],
-) -> Result<Vec<Term>, TypeFault> {
-    let mut resolved = Ok(Vec::new(alloc));
+) -> Result<Seq<Term>, TypeFault> {
+    let mut resolved = Ok(Seq::new(alloc));
     for item in items {
         resolved = joined(resolved, term(scope, place, line, item));
     }
@@ -248,9 +242,9 @@ pub fn resolve_inequalities(
     place: Place,
     items: &[syntax::Inequality],
 ) -> Result<Seq<Inequality>, TypeFault> {
-    let mut resolved = Ok(Vec::new(alloc));
+    let mut resolved = Ok(Seq::new(alloc));
     for item in items {
         resolved = joined(resolved, resolve_inequality(alloc, scope, place, item));
     }
-    Ok(Seq::from_vec(resolved?))
+    resolved
 }

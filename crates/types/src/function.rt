@@ -39,11 +39,10 @@ fn resolve_head_zones(
 ) -> Result<Seq<Zone>, TypeFault> {
     let items = world.items;
     let place = Place::Head;
-    let none = Ok(Vec::new(alloc));
+    let none = Ok(Seq::new(alloc));
     let reads = resolve_zones(alloc, items, scope, place, none, notes.reads.as_slice());
     let writes = resolve_zones(alloc, items, scope, place, reads, notes.writes.as_slice());
-    let zones = resolve_zones(alloc, items, scope, place, writes, notes.adds.as_slice());
-    Ok(Seq::from_vec(zones?))
+    resolve_zones(alloc, items, scope, place, writes, notes.adds.as_slice())
 }
 
 fn resolve_head(
@@ -130,12 +129,12 @@ pub fn resolve_functions(
     state: RandomState,
     world: &World,
 ) -> Result<Seq<Function>, TypeFault> {
-    let mut resolved = Ok(Vec::new(alloc));
+    let mut resolved = Ok(Seq::new(alloc));
     for (place, function) in world.functions.iter().enumerate() {
         resolved = joined(
             resolved,
             resolve_function(alloc, state, world, place, function),
         );
     }
-    Ok(Seq::from_vec(resolved?))
+    resolved
 }

@@ -46,11 +46,11 @@ fn resolve_entries(
     width: Width,
     entries: &[syntax::PhiEntry],
 ) -> Result<Seq<PhiEntry>, TypeFault> {
-    let mut resolved = Ok(Vec::new(alloc));
+    let mut resolved = Ok(Seq::new(alloc));
     for entry in entries {
         resolved = joined(resolved, resolve_entry(scope, line, width, entry));
     }
-    Ok(Seq::from_vec(resolved?))
+    resolved
 }
 
 fn resolve_phi(alloc: Global, scope: &Scope, phi: &syntax::Phi) -> Result<Phi, TypeFault> {
@@ -73,11 +73,11 @@ pub fn resolve_phis(
     scope: &Scope,
     phis: &[syntax::Phi],
 ) -> Result<Seq<Phi>, TypeFault> {
-    let mut resolved = Ok(Vec::new(alloc));
+    let mut resolved = Ok(Seq::new(alloc));
     for phi in phis {
         resolved = joined(resolved, resolve_phi(alloc, scope, phi));
     }
-    Ok(Seq::from_vec(resolved?))
+    resolved
 }
 
 fn resolve_binary(
@@ -401,12 +401,12 @@ pub fn resolve_steps(
     block: usize,
     steps: &[syntax::Step],
 ) -> Result<Seq<Step>, TypeFault> {
-    let mut resolved = Ok(Vec::new(alloc));
+    let mut resolved = Ok(Seq::new(alloc));
     for step in steps {
         resolved = joined(
             resolved,
             resolve_step(alloc, world, scope, function, block, step),
         );
     }
-    Ok(Seq::from_vec(resolved?))
+    resolved
 }

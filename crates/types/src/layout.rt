@@ -1,6 +1,7 @@
 //! The registers of a function in their order, and what its names stand for.
 
 use crate::scope::{Holding, Named, Origin, Register, Scope};
+use crate::table::NameTable;
 use lists::Name;
 use program::{Alloca, AllocaId, BlockId, ObjectName, RegisterId, RegisterKind, Width};
 use std::alloc::{AllocError, Global};
@@ -45,7 +46,7 @@ fn target_width(conversion: Conversion) -> Width {
 impl Layout {
     fn new(alloc: Global, state: RandomState) -> Layout {
         Layout {
-            scope: Scope::new(alloc, state),
+            scope: NameTable::new(alloc, state),
             registers: Vec::new(alloc),
             allocas: Vec::new(alloc),
         }

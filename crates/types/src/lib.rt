@@ -27,6 +27,7 @@ mod mention;
 mod note;
 mod operand;
 mod scope;
+mod table;
 mod terminator;
 #[cfg(test)]
 mod tests;

@@ -95,9 +95,9 @@ pub fn resolve_zones(
     items: &Items,
     scope: &Scope,
     place: Place,
-    before: Result<Vec<Zone>, TypeFault>,
+    before: Result<Seq<Zone>, TypeFault>,
     zones: &[syntax::Zone],
-) -> Result<Vec<Zone>, TypeFault> {
+) -> Result<Seq<Zone>, TypeFault> {
     let mut resolved = before;
     for zone in zones {
         resolved = joined(resolved, resolve_zone(alloc, items, scope, place, zone));
@@ -140,11 +140,11 @@ pub fn resolve_all_pending(
     block: usize,
     lines: &[syntax::Pending],
 ) -> Result<Seq<Pending>, TypeFault> {
-    let mut resolved = Ok(Vec::new(alloc));
+    let mut resolved = Ok(Seq::new(alloc));
     for line in lines {
         resolved = joined(resolved, resolve_pending(alloc, items, scope, block, line));
     }
-    Ok(Seq::from_vec(resolved?))
+    resolved
 }
 
 /// `left F F`

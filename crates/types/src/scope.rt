@@ -1,8 +1,8 @@
-use indexmap::IndexMap;
-use lists::Name;
+ghost use Rattle.std.specs.Prelude.{◌≡◌};
+ghost use Rattle.types.specs.Scope as spec;
+
+use crate::table::NameTable;
 use program::{BlockId, ObjectName, RegisterId, Width};
-use std::alloc::{AllocError, Global};
-use std::hash::RandomState;
 
 /// What a register holds; of an object its name and its number of cells too.
 #[derive(Clone, Copy, Debug, PartialEq, Eq)]
@@ -43,28 +43,67 @@ pub enum Named {
 }
 
 /// The names of a function: parameters, registers and labels share one name space.
-#[derive(Drop)]
-pub struct Scope {
-    names: IndexMap<Vec<u8>, Named, RandomState>,
+pub type Scope = NameTable<Named>;
+
+/// A register that holds a number of this width.
+pub fn is_number_of(width: Width, holding: Holding) -> bool
+    ensures { result ≡ spec.is_number_of width holding }
+{
+    match holding {
+        Holding::Number(Width::Bits64) => match width {
+            Width::Bits64 => true,
+            Width::Bits32 => false,
+        },
+        Holding::Number(Width::Bits32) => match width {
+            Width::Bits64 => false,
+            Width::Bits32 => true,
+        },
+        Holding::Truth | Holding::Object { .. } | Holding::Element | Holding::Region => false,
+    }
 }
 
-impl Scope {
-    pub fn new(alloc: Global, state: RandomState) -> Scope {
-        Scope {
-            names: IndexMap::with_hasher(alloc, state),
-        }
+pub fn is_number(holding: Holding) -> bool
+    ensures { result ≡ spec.is_number holding }
+{
+    match holding {
+        Holding::Number(_) => true,
+        Holding::Truth | Holding::Object { .. } | Holding::Element | Holding::Region => false,
     }
+}
 
-    /// A name that is defined already keeps its first meaning.
-    pub fn define(&mut self, alloc: Global, name: &Name, named: Named) -> Result<(), AllocError> {
-        if self.find(name).is_none() {
-            let key = Vec::from_slice(alloc, name.as_bytes())?;
-            self.names.insert(key, named)?;
-        }
-        Ok(())
+pub fn is_truth(holding: Holding) -> bool
+    ensures { result ≡ spec.is_truth holding }
+{
+    match holding {
+        Holding::Truth => true,
+        Holding::Number(_) | Holding::Object { .. } | Holding::Element | Holding::Region => false,
     }
+}
 
-    pub fn find(&self, name: &Name) -> Option<Named> {
-        self.names.get(name.as_bytes()).copied()
+pub fn is_region(holding: Holding) -> bool
+    ensures { result ≡ spec.is_region holding }
+{
+    match holding {
+        Holding::Region => true,
+        Holding::Number(_) | Holding::Truth | Holding::Object { .. } | Holding::Element => false,
+    }
+}
+
+pub fn is_parameter(origin: Origin) -> bool
+    ensures { result ≡ spec.is_parameter origin }
+{
+    match origin {
+        Origin::Parameter => true,
+        Origin::Phi | Origin::Step(_) => false,
+    }
+}
+
+/// An instruction of this block that is no phi defines the register.
+pub fn is_step_of(block: usize, origin: Origin) -> bool
+    ensures { result ≡ spec.is_step_of block origin }
+{
+    match origin {
+        Origin::Parameter | Origin::Phi => false,
+        Origin::Step(other) => other == block,
     }
 }

@@ -48,11 +48,11 @@ fn resolve_cases(
     width: Width,
     cases: &[syntax::Case],
 ) -> Result<Seq<Case>, TypeFault> {
-    let mut resolved = Ok(Vec::new(alloc));
+    let mut resolved = Ok(Seq::new(alloc));
     for case in cases {
         resolved = joined(resolved, resolve_case(scope, line, width, case));
     }
-    Ok(Seq::from_vec(resolved?))
+    resolved
 }
 
 fn resolve_switch(
