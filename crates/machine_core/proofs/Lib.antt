@@ -7,3 +7,7 @@ pub mod TreeKept
 pub mod Parting
 pub mod Feet
 pub mod FeetKept
+pub mod Deep
+pub mod SerialRun
+pub mod Sound
+pub mod Undisturbed
