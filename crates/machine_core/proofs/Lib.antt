@@ -11,3 +11,4 @@ pub mod Deep
 pub mod SerialRun
 pub mod Sound
 pub mod Undisturbed
+pub mod Closed
