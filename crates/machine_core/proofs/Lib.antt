@@ -12,3 +12,4 @@ pub mod SerialRun
 pub mod Sound
 pub mod Undisturbed
 pub mod Closed
+pub mod Workers
