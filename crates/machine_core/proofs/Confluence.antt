@@ -13,11 +13,11 @@ Run {State = State} step (p ∷ ps) s t = (mid : State) × (step p s ≡ Some mi
 abbrev pub Over : {Label State : Type 0} → Stepper Label State → State → Type 0
 Over {Label} step s = (p : Label) → step p s ≡ None
 
-abbrev pub Kept : {Label State : Type 0} → Stepper Label State → (State → Type 0) → Type 0
+abbrev pub Kept {ℓ} : {Label State : Type 0} → Stepper Label State → (State → Type ℓ) → Type ℓ
 Kept {Label} {State} step Inv = (p : Label) (s t : State) → Inv s → step p s ≡ Some t → Inv t
 
 -- two steps that are both possible can be done in either order
-abbrev pub Commutes : {Label State : Type 0} → Stepper Label State → (State → Type 0) → Type 0
+abbrev pub Commutes {ℓ} : {Label State : Type 0} → Stepper Label State → (State → Type ℓ) → Type ℓ
 Commutes {Label} {State} step Inv =
     (p q : Label) (s t u : State) → Inv s → p ≢ q → step p s ≡ Some t → step q s ≡ Some u → (v : State) × (step q t ≡ Some v) × (step p u ≡ Some v)
 
@@ -30,11 +30,11 @@ one_result o a b e f = cc
 no_result : {A : Type 0} (o : Option A) (a : A) → o ≡ None → o ≡ Some a → ⊥
 no_result o a e f = cc
 
-pub kept_by_run : {Label State : Type 0} (step : Stepper Label State) (Inv : State → Type 0) → Kept step Inv → (ps : List Label) (s t : State) → Inv s → Run step ps s t → Inv t
+pub kept_by_run {ℓ} : {Label State : Type 0} (step : Stepper Label State) (Inv : State → Type ℓ) → Kept step Inv → (ps : List Label) (s t : State) → Inv s → Run step ps s t → Inv t
 kept_by_run step Inv kept [] s t inv e = subst Inv e inv
 kept_by_run step Inv kept (p ∷ ps) s t inv (mid, e, rest) = kept_by_run step Inv kept ps mid t (kept p s mid inv e) rest
 
-module _ {Label State : Type 0} (step : Stepper Label State) (Inv : State → Type 0) (same : Label → Label → Bool) (tells : Tells same) (kept : Kept step Inv) (commutes : Commutes step Inv) where
+module _ {ℓ} {Label State : Type 0} (step : Stepper Label State) (Inv : State → Type ℓ) (same : Label → Label → Bool) (tells : Tells same) (kept : Kept step Inv) (commutes : Commutes step Inv) where
   -- from the state, n steps lead to the end
   abbrev pub Within : ℕ → State → State → Type 0
   Within zero s end = s ≡ end

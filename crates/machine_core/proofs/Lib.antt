@@ -7,3 +7,9 @@ pub mod TreeKept
 pub mod Parting
 pub mod Feet
 pub mod FeetKept
+pub mod Deep
+pub mod SerialRun
+pub mod Sound
+pub mod Undisturbed
+pub mod Closed
+pub mod Workers

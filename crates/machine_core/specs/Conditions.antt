@@ -1,11 +1,11 @@
 -- Local conditions: what a checked program keeps, each about one frame at one place. They suffice for every schedule.
 -- Z names zones of cells, and zone says which cells; what is shown of a frame is a relation to the name of its zone.
-use Rattle.std.specs.Prelude.{◌≡◌, ◌≢◌, ℕ, suc, ◌∷◌, List, Option, Some, None, Bool, true, ◌⊎◌, is_some, ℤ}
+use Rattle.std.specs.Prelude.{◌≡◌, ◌≢◌, ℕ, suc, ◌∷◌, List, Option, Some, None, Bool, true, false, ◌⊎◌, is_some, ℤ}
 use Rattle.machine_core.specs.Paths.{Path, Under}
 use Rattle.machine_core.specs.Cells.{Object, Shared, Local, Cell, Memory}
 use Rattle.machine_core.specs.Arithmetic.{Trap}
 use Rattle.machine_core.specs.Frames.{Value, Registers, OnCall, Frame}
-use Rattle.machine_core.specs.Effect.{Effect, Plain, Detach, Sync, Call, Return, action_of}
+use Rattle.machine_core.specs.Effect.{Effect, Plain, Detach, Reattach, Sync, Call, Return, action_of}
 use Rattle.machine_core.specs.State.{went, detached, continued, synced, called, waiting, resumed}
 use Rattle.linear.specs.declared.form.RegisterId.{RegisterId}
 use Rattle.program.specs.declared.function.Program.{Program}
@@ -71,3 +71,20 @@ module _ {ℓ} (Z : Type ℓ) (zone : Z → Zone) (prog : Program) (fits : Path 
     pub return_ok : (p : Path) (f : Frame) (z : Z) (m : Memory) (result : Option ℤ) → fits p f z → Going f → action_of prog p f m ≡ Return result → (zone z).gives result
     pub resume_ok : (p : Path) (f : Frame) (z y : Z) (k : ℕ) (d : Option RegisterId) (result : Option ℤ) → fits p f z → f.waits ≡ OnCall k d → expects f y → (zone y).gives result →
         fits p (resumed f d result) z × ((r : ℕ) → Covers (zone (pending p (resumed f d result) r)) (zone (pending p f r)))
+
+-- what is open stays open
+abbrev pub StaysOpen : (Path → Frame → ℕ → Bool) → Path → Frame → Frame → Type 0
+StaysOpen opens p f g = (r : ℕ) → opens p f r ≡ true → opens p g r ≡ true
+
+-- Regions: opens p f r is true where a child within r may live, and nothing is open where a frame ends. holds p f: what is known at its place.
+pub record ClosesRegions (prog : Program) (holds : Path → Frame → Type 0) (opens : Path → Frame → ℕ → Bool) : Type 0 where
+  pub plain_holds : (p : Path) (f : Frame) (m : Memory) (e : Effect) → holds p f → Going f → action_of prog p f m ≡ Plain e → e.trap ≡ None → holds p (went f e) × StaysOpen opens p f (went f e)
+  pub detach_holds : (p : Path) (f : Frame) (m : Memory) (region body next : ℕ) → holds p f → Going f → action_of prog p f m ≡ Detach region body next →
+      holds (f.made ∷ p) (detached f region body next) × holds p (continued f next) × StaysOpen opens p f (continued f next) × (opens p (continued f next) region ≡ true)
+  pub sync_holds : (p : Path) (f : Frame) (m : Memory) (region block : ℕ) (registers : Registers) → holds p f → Going f → action_of prog p f m ≡ Sync region block registers →
+      holds p (synced f region block registers) × ((r : ℕ) → r ≢ region → opens p f r ≡ true → opens p (synced f region block registers) r ≡ true)
+  pub call_holds : (p : Path) (f : Frame) (m : Memory) (d : Option RegisterId) (callee : ℕ) (values : List Value) → holds p f → Going f → action_of prog p f m ≡ Call d callee values →
+      holds (f.made ∷ p) (called p f callee values) × holds p (waiting f d) × StaysOpen opens p f (waiting f d)
+  pub resume_holds : (p : Path) (f : Frame) (k : ℕ) (d : Option RegisterId) (result : Option ℤ) → holds p f → f.waits ≡ OnCall k d → holds p (resumed f d result) × StaysOpen opens p f (resumed f d result)
+  pub reattach_closed : (p : Path) (f : Frame) (m : Memory) (region r : ℕ) → holds p f → Going f → action_of prog p f m ≡ Reattach region → opens p f r ≡ false
+  pub return_closed : (p : Path) (f : Frame) (m : Memory) (result : Option ℤ) (r : ℕ) → holds p f → Going f → action_of prog p f m ≡ Return result → opens p f r ≡ false
