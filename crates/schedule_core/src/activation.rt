@@ -1,6 +1,6 @@
 use frame::{Frame, Trap, Wait};
 use lists::OutOfMemory;
-use program::RegisterId;
+use program::{BlockId, RegisterId};
 use std::alloc::Global;
 use sync_join::{Parent, RegionCount};
 
@@ -15,6 +15,8 @@ pub struct Activation {
     pub callee: Option<usize>,
     /// The worker that runs the task of which this frame is the top.
     pub runner: Option<u8>,
+    /// The block at whose sync the frame stalls; the frame itself stands at the sync's target.
+    pub stalled_in: Option<BlockId>,
 }
 
 impl Activation {
@@ -26,6 +28,7 @@ impl Activation {
             counts,
             callee: None,
             runner: Some(worker),
+            stalled_in: None,
         })
     }
 

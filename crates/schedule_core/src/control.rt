@@ -1,7 +1,7 @@
 use crate::activation::Activation;
 use crate::halt::Halt;
 use crate::machine::{Machine, Phase};
-use frame::{Effect, Frame, Trap, Wait, next_effect};
+use frame::{Effect, Frame, Trap, Wait};
 use program::{BlockId, FunctionId, RegisterId};
 use sync_join::{Outcome, Passage};
 
@@ -94,34 +94,23 @@ impl Machine<'_> {
         self.activation_mut(parent_slot)?.set_count(region, count);
         self.set_hand(worker, None);
         match outcome {
-            Outcome::ResumeReady => self.resume(worker, parent_slot),
-            Outcome::ResumeStalled => {
-                self.resume(worker, parent_slot)?;
-                self.pass_sync(parent_slot)
-            }
+            Outcome::ResumeReady | Outcome::ResumeStalled => self.resume(worker, parent_slot),
             Outcome::Leave => Ok(()),
         }
     }
 
-    /// The worker goes on with the task whose top is in the slot.
+    /// The worker goes on with the task whose top is in the slot. A sync at which it stalled was counted there, and is
+    /// not done again.
     fn resume(&mut self, worker: u8, slot: usize) -> Result<(), Halt> {
-        self.activation_mut(slot)?.runner = Some(worker);
+        let top = self.activation_mut(slot)?;
+        top.frame.waits = Wait::Nothing;
+        top.stalled_in = None;
+        top.runner = Some(worker);
         self.set_hand(worker, Some(slot));
         Ok(())
     }
 
-    /// The frame, which stood at a sync, goes on at the sync's target; the sync was counted when it stalled.
-    fn pass_sync(&mut self, slot: usize) -> Result<(), Halt> {
-        let program = self.program();
-        let stalled = self.activation_mut(slot)?;
-        stalled.frame.waits = Wait::Nothing;
-        match next_effect(program, &stalled.frame)? {
-            Effect::Sync { target, .. } => Ok(stalled.frame.enter(program, target)?),
-            _ => Err(Halt::Trapped(Trap::Unmatched)),
-        }
-    }
-
-    /// The frame waits for its children within the region (Tapir, "sync").
+    /// The frame goes on at the sync's target, once none of its children within the region lives (Tapir, "sync").
     fn sync(
         &mut self,
         worker: u8,
@@ -129,16 +118,18 @@ impl Machine<'_> {
         region: RegisterId,
         target: BlockId,
     ) -> Result<(), Halt> {
-        match self.activation(slot)?.count(region)?.at_sync() {
-            Passage::Pass => self.enter(slot, target),
-            Passage::Stall => {
-                let stalled = self.activation_mut(slot)?;
-                stalled.frame.waits = Wait::Region(region);
-                stalled.runner = None;
-                self.set_hand(worker, None);
-                Ok(())
-            }
+        let passage = self.activation(slot)?.count(region)?.at_sync();
+        let program = self.program();
+        let top = self.activation_mut(slot)?;
+        let block = top.frame.block;
+        top.frame.enter(program, target)?;
+        if passage == Passage::Stall {
+            top.frame.waits = Wait::Region(region);
+            top.stalled_in = Some(block);
+            top.runner = None;
+            self.set_hand(worker, None);
         }
+        Ok(())
     }
 
     /// The callee's frame runs on top of the same task.

@@ -10,6 +10,8 @@ mod halt;
 mod machine;
 mod plain;
 mod schedule;
+#[cfg(test)]
+mod tests;
 mod view;
 
 pub use activation::Activation;

@@ -2,7 +2,7 @@ use crate::activation::Activation;
 use crate::machine::Machine;
 use cactus::Node;
 use frame::{Cell, Frame, Path, Role, Wait};
-use program::{Program, RegisterId};
+use program::{Block, BlockId, Program, RegisterId};
 
 /// How a task stands.
 #[derive(Clone, Copy, Debug, PartialEq, Eq)]
@@ -23,7 +23,7 @@ pub struct TaskView<'a> {
     /// The frame whose instruction is next.
     pub top: &'a Frame,
     pub top_path: &'a Path,
-    /// The line of that instruction.
+    /// The line of that instruction; of a stalled task the line of its sync.
     pub line: u32,
 }
 
@@ -39,10 +39,28 @@ fn standing(top: &Activation) -> Status {
 /// The line of the frame's next instruction.
 fn next_line(program: &Program, frame: &Frame) -> Option<u32> {
     let block = frame.current_block(program)?;
-    match (block.steps.as_slice().get(frame.index), &block.ending) {
-        (Some(step), _) => Some(step.line),
-        (None, Some(ending)) => Some(ending.line),
-        (None, None) => None,
+    match block.steps.as_slice().get(frame.index) {
+        Some(step) => Some(step.line),
+        None => ending_line(block),
+    }
+}
+
+/// The line of the block's terminator.
+fn ending_line(block: &Block) -> Option<u32> {
+    match &block.ending {
+        Some(ending) => Some(ending.line),
+        None => None,
+    }
+}
+
+/// The line at which the task stands whose top this is.
+fn line(program: &Program, top: &Activation) -> Option<u32> {
+    match top.stalled_in {
+        Some(BlockId(block)) => {
+            let function = top.frame.code(program)?;
+            ending_line(function.blocks.as_slice().get(block)?)
+        }
+        None => next_line(program, &top.frame),
     }
 }
 
@@ -91,13 +109,12 @@ impl Machine<'_> {
     fn view(&self, lowest: usize, top: usize) -> Option<TaskView<'_>> {
         let path = &self.cactus.node(lowest)?.path;
         let node = self.cactus.node(top)?;
-        let frame = &node.frame.frame;
         Some(TaskView {
             path,
             status: standing(&node.frame),
-            top: frame,
+            top: &node.frame.frame,
             top_path: &node.path,
-            line: next_line(self.program(), frame)?,
+            line: line(self.program(), &node.frame)?,
         })
     }
 
