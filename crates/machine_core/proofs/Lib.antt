@@ -14,3 +14,4 @@ pub mod Undisturbed
 pub mod Closed
 pub mod Workers
 pub mod Machines
+pub mod Leaves
