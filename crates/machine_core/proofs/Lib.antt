@@ -13,3 +13,5 @@ pub mod Sound
 pub mod Undisturbed
 pub mod Closed
 pub mod Workers
+pub mod Machines
+pub mod Leaves

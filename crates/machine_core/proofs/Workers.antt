@@ -53,18 +53,18 @@ inside_role r (Child q n) e = from (eqb r q) refl e
     from false is h = absurd (cc)
 inside_role r Body e = absurd (cc)
 
-inside_frame : (r : ℕ) (o : Option Frame) → outside r o ≡ false → (f : Frame) × (n : ℕ) × (o ≡ Some f) × (f.role ≡ Child r n)
+pub inside_frame : (r : ℕ) (o : Option Frame) → outside r o ≡ false → (f : Frame) × (n : ℕ) × (o ≡ Some f) × (f.role ≡ Child r n)
 inside_frame r None e = absurd (cc)
 inside_frame r (Some f) e = let (n, role) = inside_role r f.role e in (f, n, refl, role)
 
-not_place : (x y : Path) → same_path y x ≡ false → y ≢ x
+pub not_place : (x y : Path) → same_path y x ≡ false → y ≢ x
 not_place x y e same = let h : same_path y x ≡ true = subst (λ z. same_path y z ≡ true) same (same_path_itself y) in cc
 
 pub both_true : (a b : Bool) → a && b ≡ true → (a ≡ true) × (b ≡ true)
 both_true true b e = (refl, e)
 both_true false b e = absurd (cc)
 
-module _ {prog : Program} (workers : ℕ) (s : State) (hands : ℕ → Option Path) (man : Manned workers s hands) (w : ℕ) (p : Path) (here : hands w ≡ Some p) (c : Change) (dp : Does prog s p c) where
+module _ (prog : Program) (workers : ℕ) (s : State) (hands : ℕ → Option Path) (man : Manned workers s hands) (w : ℕ) (p : Path) (here : hands w ≡ Some p) (c : Change) (dp : Does prog s p c) where
   module _ (next : Option Path) (lands : (y : Path) → next ≡ Some y → ((y ≡ p) ⊎ Unheld hands y) × Goes (apply c s) y)
       (leaves : (x : Path) (g : Frame) → (apply c s).frames x ≡ Some g → is_place next x ≡ false → ((x ≡ p) ⊎ Unheld hands x) → Parked (apply c s) x g) where
     hand_after : (v : ℕ) (x : Path) → with_hand hands w next v ≡ Some x → ((w ≡ v) × (next ≡ Some x)) ⊎ ((w ≢ v) × (hands v ≡ Some x))
@@ -117,7 +117,7 @@ module _ {prog : Program} (workers : ℕ) (s : State) (hands : ℕ → Option Pa
   waiting_unheld x f k d is waits v e = stands (man.goers v x e) f k d is waits
 
   -- a parked frame that the step leaves stays parked, unless it was parked for the frame that goes
-  parked_stays : (x : Path) (g : Frame) → Unheld hands x → c.frames x ≡ None → (apply c s).frames x ≡ Some g →
+  pub parked_stays : (x : Path) (g : Frame) → Unheld hands x → c.frames x ≡ None → (apply c s).frames x ≡ Some g →
       ((k : ℕ) → p ≡ k ∷ x → c.frames p ≡ Some None → g.waits ≡ Free → g.made ≡ suc k → Parked (apply c s) x g) →
       ((k r n : ℕ) (f : Frame) → p ≡ k ∷ x → c.frames p ≡ Some None → g.waits ≡ OnRegion r → s.frames p ≡ Some f → f.role ≡ Child r n → Parked (apply c s) x g) →
       Parked (apply c s) x g
@@ -161,7 +161,7 @@ module _ {prog : Program} (workers : ℕ) (s : State) (hands : ℕ → Option Pa
   others_stay : (h : Frame) → c.frames p ≡ Some (Some h) → (x : Path) (g : Frame) → Unheld hands x → c.frames x ≡ None → (apply c s).frames x ≡ Some g → Parked (apply c s) x g
   others_stay h stays x g none same now = parked_stays x g none same now (λ k up gone free made. absurd (cc)) (λ k r n f up gone wait is in_r. absurd (cc))
 
-  left_place : (o : Option Frame) (x : Path) → p ≢ x → only p o x ≡ None
+  pub left_place : (o : Option Frame) (x : Path) → p ≢ x → only p o x ≡ None
   left_place o x apart = rw (same_path_apart p x apart)
 
   left_both : (q : Path) (o u : Option Frame) (x : Path) → p ≢ x → q ≢ x → both p o q u x ≡ None
@@ -181,7 +181,7 @@ module _ {prog : Program} (workers : ℕ) (s : State) (hands : ℕ → Option Pa
       let same : h ≡ g = cc in
       subst (λ z. Parked (apply c s) z g) e (subst (λ (z : Frame). Parked (apply c s) p z) same parked)
 
-  plain_manned : (f : Frame) → c.frames ≡ only p (Some f) → f.waits ≡ Free → Manned workers (apply c s) (with_hand hands w (Some p))
+  pub plain_manned : (f : Frame) → c.frames ≡ only p (Some f) → f.waits ≡ Free → Manned workers (apply c s) (with_hand hands w (Some p))
   plain_manned f at free =
       let mine : c.frames p ≡ Some (Some f) = ap (λ m. m p) at ∙ only_here p (Some f) in
       manned_next (Some p)
@@ -189,7 +189,7 @@ module _ {prog : Program} (workers : ℕ) (s : State) (hands : ℕ → Option Pa
         (λ x g is off h. let apart = not_place x p off in others_stay f mine x g (unheld x apart h) (ap (λ m. m x) at ∙ left_place (Some f) x apart) is)
 
   -- a child is made, and the worker goes on with it
-  child_manned : (k : ℕ) (f d : Frame) → c.frames ≡ both p (Some f) (k ∷ p) (Some d) → s.frames (k ∷ p) ≡ None → d.waits ≡ Free → Parked (apply c s) p f → Manned workers (apply c s) (with_hand hands w (Some (k ∷ p)))
+  pub child_manned : (k : ℕ) (f d : Frame) → c.frames ≡ both p (Some f) (k ∷ p) (Some d) → s.frames (k ∷ p) ≡ None → d.waits ≡ Free → Parked (apply c s) p f → Manned workers (apply c s) (with_hand hands w (Some (k ∷ p)))
   child_manned k f d at none free parked =
       let mine : c.frames p ≡ Some (Some f) = ap (λ m. m p) at ∙ both_first p (k ∷ p) _ _ in
       let child : c.frames (k ∷ p) ≡ Some (Some d) = ap (λ m. m (k ∷ p)) at ∙ both_second p (k ∷ p) _ _ (λ e. no_own_child k p (sym e)) in
@@ -202,7 +202,7 @@ module _ {prog : Program} (workers : ℕ) (s : State) (hands : ℕ → Option Pa
           ])
 
   -- the frame goes, and the worker goes on above it or is idle
-  gone_manned : c.frames p ≡ Some None → (next : Option Path) → ((y : Path) → next ≡ Some y → Unheld hands y × Goes (apply c s) y) →
+  pub gone_manned : c.frames p ≡ Some None → (next : Option Path) → ((y : Path) → next ≡ Some y → Unheld hands y × Goes (apply c s) y) →
       ((x : Path) (g : Frame) → (apply c s).frames x ≡ Some g → p ≢ x → Unheld hands x → is_place next x ≡ false → Parked (apply c s) x g) → Manned workers (apply c s) (with_hand hands w next)
   gone_manned at next lands leaves =
       manned_next next
@@ -232,7 +232,7 @@ module _ {prog : Program} (workers : ℕ) (s : State) (hands : ℕ → Option Pa
             | inr e ↦ others_stay h mine x g (unheld x e.1 k) (ap (λ m. m x) at ∙ left_place (Some h) x e.1) is
           ])
 
-  sync_manned : (made r : ℕ) (after : Frame) → c.frames ≡ only p (Some after) → after.waits ≡ OnRegion r → after.made ≡ made → (t : Bool) → none_within s p made r ≡ t → Manned workers (apply c s) (with_hand hands w (cond t (Some p) None))
+  pub sync_manned : (made r : ℕ) (after : Frame) → c.frames ≡ only p (Some after) → after.waits ≡ OnRegion r → after.made ≡ made → (t : Bool) → none_within s p made r ≡ t → Manned workers (apply c s) (with_hand hands w (cond t (Some p) None))
   sync_manned made r after at wait same_made true passes =
       let mine : c.frames p ≡ Some (Some after) = ap (λ m. m p) at ∙ only_here p (Some after) in
       manned_next (Some p)
@@ -244,7 +244,7 @@ module _ {prog : Program} (workers : ℕ) (s : State) (hands : ℕ → Option Pa
       let (d, n, lives, role) = inside_frame r (s.frames (k ∷ p)) inside in
       parked_manned after at (stalled r k n d wait (below_alone (Some after) at k ∙ lives) role)
 
-  return_manned : (k : ℕ) (above : Path) (g h : Frame) (j : ℕ) (d : Option RegisterId) → c.frames ≡ both p None above (Some h) → h.waits ≡ Free → p ≡ k ∷ above → s.frames above ≡ Some g → g.waits ≡ OnCall j d → Manned workers (apply c s) (with_hand hands w (caller_of p))
+  pub return_manned : (k : ℕ) (above : Path) (g h : Frame) (j : ℕ) (d : Option RegisterId) → c.frames ≡ both p None above (Some h) → h.waits ≡ Free → p ≡ k ∷ above → s.frames above ≡ Some g → g.waits ≡ OnCall j d → Manned workers (apply c s) (with_hand hands w (caller_of p))
   return_manned k above g h j d at free up is waits =
       let apart : p ≢ above = (λ e. no_own_child k above (sym up ∙ e)) in
       let top : c.frames above ≡ Some (Some h) = ap (λ m. m above) at ∙ both_second p above _ _ apart in
@@ -255,7 +255,7 @@ module _ {prog : Program} (workers : ℕ) (s : State) (hands : ℕ → Option Pa
           let not_above : above ≢ x = not_place x above (rw next at away) in
           parked_stays x u none (ap (λ m. m x) at ∙ left_both above None (Some h) x off not_above) now (λ m e gone free made. absurd (not_above (cc))) (λ m r n f e gone wait fs in_r. absurd (not_above (cc))))
 
-  end_manned : c.frames ≡ only p None → p ≡ [] → Manned workers (apply c s) (with_hand hands w (caller_of p))
+  pub end_manned : c.frames ≡ only p None → p ≡ [] → Manned workers (apply c s) (with_hand hands w (caller_of p))
   end_manned at root =
       let next : caller_of p ≡ None = ap caller_of root in
       gone_manned (ap (λ m. m p) at ∙ only_here p None) (caller_of p)

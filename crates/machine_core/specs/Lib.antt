@@ -9,3 +9,4 @@ pub mod Conditions
 pub mod SerialMeaning
 pub mod Events
 pub mod Replay
+pub mod Schedules
