@@ -2,3 +2,4 @@ pub mod ListLoop
 pub mod Distinct
 pub mod Numbers
 pub mod Said
+pub mod Texts

@@ -8,3 +8,4 @@ pub mod Shape
 pub mod Grammar
 pub mod Symbols
 pub mod Lines
+pub mod Spelling

@@ -11,6 +11,7 @@ mod line;
 mod list;
 mod numeral;
 mod operator;
+mod spelling;
 mod switch;
 mod symbol;
 mod terminator;
