@@ -18,31 +18,31 @@ use Rattle.ir_item.specs.Outcome.{◌>>=◌}
 use Rattle.ir_item.specs.Fronts.{is_word, is_mark, behind, mark_at}
 use Rattle.ir_item.specs.Operators.{operator_of, without_wrap}
 use Rattle.ir_item.specs.Cases.{are_cases_of, cases_from}
-use Rattle.ir_item.specs.Shape.{Piece, word, mark, named, gap, register, function, label, operand, pointer, array, width, result_type, predicate, parameters, arguments, cases, entries, Gaps, gaps_of}
+use Rattle.ir_item.specs.Shape.{Piece, word, mark, named, gap, register, function, label, operand, pointer, array, width, result_type, predicate, parameters, arguments, cases, entries, space, Gaps, gaps_of}
 
 -- Instructions that define a register, behind '%d = WORD'
 
 -- %d = OP T V, V
 abbrev pub binary_shape : List Piece
-binary_shape = gap width ∷ gap operand ∷ mark 44 ∷ gap operand ∷ []
+binary_shape = gap width ∷ space ∷ gap operand ∷ mark 44 ∷ space ∷ gap operand ∷ []
 
 abbrev pub binary_from : List ℕ → BinaryOperator → Gaps binary_shape → Instruction
 binary_from d operator g = instruction.Binary d operator g.0 g.1.0 g.1.1.0
 
 -- %d = icmp PRED T V, V
 abbrev pub compare_shape : List Piece
-compare_shape = gap predicate ∷ gap width ∷ gap operand ∷ mark 44 ∷ gap operand ∷ []
+compare_shape = gap predicate ∷ space ∷ gap width ∷ space ∷ gap operand ∷ mark 44 ∷ space ∷ gap operand ∷ []
 
 abbrev pub compare_from : List ℕ → Gaps compare_shape → Instruction
 compare_from d g = instruction.Compare d g.0 g.1.0 g.1.1.0 g.1.1.1.0
 
 -- %d = trunc i64 V to i32
 abbrev pub truncate_shape : List Piece
-truncate_shape = word (codes "i64") ∷ gap operand ∷ word (codes "to") ∷ word (codes "i32") ∷ []
+truncate_shape = word (codes "i64") ∷ space ∷ gap operand ∷ space ∷ word (codes "to") ∷ space ∷ word (codes "i32") ∷ []
 
 -- %d = sext i32 V to i64, %d = zext i32 V to i64
 abbrev pub extend_shape : List Piece
-extend_shape = word (codes "i32") ∷ gap operand ∷ word (codes "to") ∷ word (codes "i64") ∷ []
+extend_shape = word (codes "i32") ∷ space ∷ gap operand ∷ space ∷ word (codes "to") ∷ space ∷ word (codes "i64") ∷ []
 
 abbrev pub truncate_from : List ℕ → Gaps truncate_shape → Instruction
 truncate_from d g = instruction.Convert d Truncate g.0
@@ -66,35 +66,35 @@ alloca_array_from d g = instruction.Alloca d (Array g.0)
 
 -- %d = getelementptr inbounds i64, ptr P, i64 V
 abbrev pub element_pointer_shape : List Piece
-element_pointer_shape = word (codes "inbounds") ∷ word (codes "i64") ∷ mark 44 ∷ gap pointer ∷ mark 44 ∷ word (codes "i64") ∷ gap operand ∷ []
+element_pointer_shape = word (codes "inbounds") ∷ space ∷ word (codes "i64") ∷ mark 44 ∷ space ∷ gap pointer ∷ mark 44 ∷ space ∷ word (codes "i64") ∷ space ∷ gap operand ∷ []
 
 abbrev pub element_pointer_from : List ℕ → Gaps element_pointer_shape → Instruction
 element_pointer_from d g = instruction.ElementPointer d g.0 g.1.0
 
 -- %d = load i64, ptr P
 abbrev pub load_shape : List Piece
-load_shape = word (codes "i64") ∷ mark 44 ∷ gap pointer ∷ []
+load_shape = word (codes "i64") ∷ mark 44 ∷ space ∷ gap pointer ∷ []
 
 abbrev pub load_from : List ℕ → Gaps load_shape → Instruction
 load_from d g = instruction.Load d g.0
 
 -- %s = call token @llvm.syncregion.start()
 abbrev pub start_region_shape : List Piece
-start_region_shape = word (codes "token") ∷ named (codes "llvm.syncregion.start") ∷ mark 40 ∷ mark 41 ∷ []
+start_region_shape = word (codes "token") ∷ space ∷ named (codes "llvm.syncregion.start") ∷ mark 40 ∷ mark 41 ∷ []
 
 abbrev pub start_region_from : List ℕ → Gaps start_region_shape → Instruction
 start_region_from d g = instruction.StartRegion d
 
 -- %d = call i64 @f(ARG, ..)
 abbrev pub call_shape : List Piece
-call_shape = word (codes "i64") ∷ gap function ∷ mark 40 ∷ gap arguments ∷ []
+call_shape = word (codes "i64") ∷ space ∷ gap function ∷ mark 40 ∷ gap arguments ∷ []
 
 abbrev pub call_from : List ℕ → Gaps call_shape → Instruction
 call_from d g = instruction.Call (Some d) g.0 g.1.0
 
 -- %d = phi T [ V, %l ], ..
 abbrev pub phi_shape : List Piece
-phi_shape = gap width ∷ gap entries ∷ []
+phi_shape = gap width ∷ space ∷ gap entries ∷ []
 
 abbrev pub phi_from : ℕ → List ℕ → Gaps phi_shape → Phi
 phi_from at d g = record { line = at; register = d; width = g.0; entries = g.1.0 }
@@ -103,28 +103,28 @@ phi_from at d g = record { line = at; register = d; width = g.0; entries = g.1.0
 
 -- store i64 V, ptr P
 abbrev pub store_shape : List Piece
-store_shape = word (codes "i64") ∷ gap operand ∷ mark 44 ∷ gap pointer ∷ []
+store_shape = word (codes "i64") ∷ space ∷ gap operand ∷ mark 44 ∷ space ∷ gap pointer ∷ []
 
 abbrev pub store_from : Gaps store_shape → Instruction
 store_from g = instruction.Store g.0 g.1.0
 
 -- store [N x i64] zeroinitializer, ptr P
 abbrev pub store_zeros_shape : List Piece
-store_zeros_shape = gap array ∷ word (codes "zeroinitializer") ∷ mark 44 ∷ gap pointer ∷ []
+store_zeros_shape = gap array ∷ space ∷ word (codes "zeroinitializer") ∷ mark 44 ∷ space ∷ gap pointer ∷ []
 
 abbrev pub store_zeros_from : Gaps store_zeros_shape → Instruction
 store_zeros_from g = instruction.StoreZeros g.0 g.1.0
 
 -- atomicrmw add ptr P, i64 V seq_cst
 abbrev pub atomic_shape : List Piece
-atomic_shape = word (codes "add") ∷ gap pointer ∷ mark 44 ∷ word (codes "i64") ∷ gap operand ∷ word (codes "seq_cst") ∷ []
+atomic_shape = word (codes "add") ∷ space ∷ gap pointer ∷ mark 44 ∷ space ∷ word (codes "i64") ∷ space ∷ gap operand ∷ space ∷ word (codes "seq_cst") ∷ []
 
 abbrev pub atomic_from : Gaps atomic_shape → Instruction
 atomic_from g = instruction.AtomicAdd g.0 g.1.0
 
 -- call void @f(ARG, ..)
 abbrev pub call_void_shape : List Piece
-call_void_shape = word (codes "void") ∷ gap function ∷ mark 40 ∷ gap arguments ∷ []
+call_void_shape = word (codes "void") ∷ space ∷ gap function ∷ mark 40 ∷ gap arguments ∷ []
 
 abbrev pub call_void_from : Gaps call_void_shape → Instruction
 call_void_from g = instruction.Call None g.0 g.1.0
@@ -140,14 +140,14 @@ jump_from g = terminator.Jump g.0
 
 -- br i1 %c, label %t, label %f: the labels differ
 abbrev pub branch_shape : List Piece
-branch_shape = word (codes "i1") ∷ gap register ∷ mark 44 ∷ gap label ∷ mark 44 ∷ gap label ∷ []
+branch_shape = word (codes "i1") ∷ space ∷ gap register ∷ mark 44 ∷ space ∷ gap label ∷ mark 44 ∷ space ∷ gap label ∷ []
 
 abbrev pub branch_from : Gaps branch_shape → Option Terminator
 branch_from g = if bytes_eq g.1.0 g.1.1.0 then None else Some (terminator.Branch g.0 g.1.0 g.1.1.0)
 
 -- switch T V, label %l [ T N, label %l T N, label %l .. ]
 abbrev pub switch_shape : List Piece
-switch_shape = gap width ∷ gap operand ∷ mark 44 ∷ gap label ∷ mark 91 ∷ gap cases ∷ []
+switch_shape = gap width ∷ space ∷ gap operand ∷ mark 44 ∷ space ∷ gap label ∷ space ∷ mark 91 ∷ space ∷ gap cases ∷ []
 
 abbrev pub switch_from : Gaps switch_shape → Option Terminator
 switch_from g = if are_cases_of g.0 g.1.1.0 g.1.1.1.0 then Some (terminator.Switch g.0 g.1.0 g.1.1.0 (cases_from g.1.1.1.0)) else None
@@ -161,21 +161,21 @@ return_void_from g = terminator.Return None
 
 -- ret i64 V
 abbrev pub return_shape : List Piece
-return_shape = word (codes "i64") ∷ gap operand ∷ []
+return_shape = word (codes "i64") ∷ space ∷ gap operand ∷ []
 
 abbrev pub return_from : Gaps return_shape → Terminator
 return_from g = terminator.Return (Some g.0)
 
 -- detach within %s, label %d, label %c: the labels differ
 abbrev pub detach_shape : List Piece
-detach_shape = word (codes "within") ∷ gap register ∷ mark 44 ∷ gap label ∷ mark 44 ∷ gap label ∷ []
+detach_shape = word (codes "within") ∷ space ∷ gap register ∷ mark 44 ∷ space ∷ gap label ∷ mark 44 ∷ space ∷ gap label ∷ []
 
 abbrev pub detach_from : Gaps detach_shape → Option Terminator
 detach_from g = if bytes_eq g.1.0 g.1.1.0 then None else Some (terminator.Detach g.0 g.1.0 g.1.1.0)
 
 -- reattach within %s, label %c, and sync within %s, label %n
 abbrev pub region_shape : List Piece
-region_shape = word (codes "within") ∷ gap register ∷ mark 44 ∷ gap label ∷ []
+region_shape = word (codes "within") ∷ space ∷ gap register ∷ mark 44 ∷ space ∷ gap label ∷ []
 
 abbrev pub reattach_from : Gaps region_shape → Terminator
 reattach_from g = terminator.Reattach g.0 g.1.0
@@ -187,14 +187,14 @@ sync_from g = terminator.Sync g.0 g.1.0
 
 -- @a = global [N x i64] zeroinitializer, behind the name
 abbrev pub global_shape : List Piece
-global_shape = mark 61 ∷ word (codes "global") ∷ gap array ∷ word (codes "zeroinitializer") ∷ []
+global_shape = mark 61 ∷ space ∷ word (codes "global") ∷ space ∷ gap array ∷ space ∷ word (codes "zeroinitializer") ∷ []
 
 abbrev pub global_from : ℕ → List ℕ → Gaps global_shape → Item
 global_from at name g = item.Global (record { line = at; name = name; cells = g.0 })
 
 -- define T @f(PARAM, ..) {, behind define
 abbrev pub define_shape : List Piece
-define_shape = gap result_type ∷ gap function ∷ mark 40 ∷ gap parameters ∷ mark 123 ∷ []
+define_shape = gap result_type ∷ space ∷ gap function ∷ mark 40 ∷ gap parameters ∷ space ∷ mark 123 ∷ []
 
 abbrev pub define_from : Gaps define_shape → Item
 define_from g = item.Define g.1.0 g.0 g.1.1.0

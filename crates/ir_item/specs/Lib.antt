@@ -6,3 +6,6 @@ pub mod Operators
 pub mod Cases
 pub mod Shape
 pub mod Grammar
+pub mod Symbols
+pub mod Lines
+pub mod Spelling

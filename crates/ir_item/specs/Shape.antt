@@ -35,6 +35,7 @@ pub data Piece : Type 0 where
   mark : ℕ → Piece
   named : List ℕ → Piece  -- this global
   gap : Gap → Piece
+  space : Piece  -- a space of the canonical print
 
 -- what a gap holds
 abbrev pub Held : Gap → Type 0
@@ -59,6 +60,7 @@ Gaps (word text ∷ shape) = Gaps shape
 Gaps (mark byte ∷ shape) = Gaps shape
 Gaps (named text ∷ shape) = Gaps shape
 Gaps (gap g ∷ shape) = Held g × Gaps shape
+Gaps (space ∷ shape) = Gaps shape
 
 -- what a gap at the front of a line's rest holds, and what is left
 abbrev pub gap_at : (g : Gap) → List Symbol → Option (Held g × List Symbol)
@@ -83,3 +85,4 @@ gaps_of (word text ∷ shape) line = word_at text line >>= gaps_of shape
 gaps_of (mark byte ∷ shape) line = mark_at byte line >>= gaps_of shape
 gaps_of (named text ∷ shape) line = named_at text line >>= gaps_of shape
 gaps_of (gap g ∷ shape) line = gap_at g line >>= λ found. gaps_of shape found.1 >>= λ gaps. Some (found.0, gaps)
+gaps_of (space ∷ shape) line = gaps_of shape line

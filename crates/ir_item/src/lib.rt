@@ -5,14 +5,18 @@ mod definition;
 mod effect;
 mod fault;
 mod front;
+mod grammar;
 mod item;
 mod line;
 mod list;
 mod numeral;
 mod operator;
+mod spelling;
 mod switch;
 mod symbol;
 mod terminator;
+#[cfg(test)]
+mod tests;
 mod tokens;
 
 pub use item::Item;
