@@ -5,6 +5,7 @@ mod definition;
 mod effect;
 mod fault;
 mod front;
+mod grammar;
 mod item;
 mod line;
 mod list;
@@ -13,6 +14,8 @@ mod operator;
 mod switch;
 mod symbol;
 mod terminator;
+#[cfg(test)]
+mod tests;
 mod tokens;
 
 pub use item::Item;
