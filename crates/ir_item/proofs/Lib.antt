@@ -1,2 +1,4 @@
 pub mod ListLoop
 pub mod Distinct
+pub mod Numbers
+pub mod Said

@@ -6,3 +6,5 @@ pub mod Operators
 pub mod Cases
 pub mod Shape
 pub mod Grammar
+pub mod Symbols
+pub mod Lines

@@ -5,6 +5,7 @@ mod definition;
 mod effect;
 mod fault;
 mod front;
+mod grammar;
 mod item;
 mod line;
 mod list;

@@ -13,6 +13,8 @@ use Rattle.ir_lex.specs.declared.scan.Front.TheVariants.{Space, Comment, Begins,
 use Rattle.ir_lex.specs.Spelling.{is_space, is_mark, is_name, is_number, is_marked_name, is_note_mark, is_run_byte, is_word_byte, is_printed, kind_of}
 use Rattle.ir_lex.specs.Tokens.{lead_of_run, lead, lead_in_note, front_at, begun, tokens_from, tokens_of}
 use Rattle.ir_lex.specs.Lexemes.{HasKind, IsTokenOf}
+use Rattle.std.proofs.lemmas.Bool.{eqb-true}
+use Rattle.ir_lex.proofs.Printed.{both}
 use Rattle.ir_lex.proofs.Plain.{name_printed}
 
 pub chosen : {A : Type 0} (b : Bool) (x y z : A) → cond b x y ≡ z → ((b ≡ true) × (x ≡ z)) ⊎ ((b ≡ false) × (y ≡ z))
@@ -48,13 +50,17 @@ run_is_front p b bs kind n first e holds =
     let within = prefix_len-le-length p (b ∷ bs) in
     record { some = omega arith; within = omega (arith, within); kind_is = subst (λ (k : ℕ). HasKind kind (take k (b ∷ bs))) e holds }
 
-mark_is_front : (b : ℕ) (bs : List ℕ) → IsFront (b ∷ bs) Mark 1
-mark_is_front b bs = record { some = omega arith; within = omega arith; kind_is = refl }
+mark_is_front : (b : ℕ) (bs : List ℕ) → is_mark b ≡ true → IsFront (b ∷ bs) Mark 1
+mark_is_front b bs h = record { some = omega arith; within = omega arith; kind_is = (refl, rw h refl) }
 
 note_is_front : (bs : List ℕ) → is_note_mark bs ≡ true → IsFront bs Note 2
 note_is_front [] h = absurd cc
 note_is_front (b ∷ []) h = absurd cc
-note_is_front (b ∷ c ∷ bs) h = record { some = omega arith; within = omega arith; kind_is = h }
+note_is_front (b ∷ c ∷ bs) h =
+    let t = both (eqb b 59) (eqb c 33) h in
+    let first : b ≡ 59 = eqb-true b 59 t.0 in
+    let second : c ≡ 33 = eqb-true c 33 t.1 in
+    record { some = omega arith; within = omega arith; kind_is = rw (first, second) refl }
 
 lead_is_front : (b : ℕ) (bs : List ℕ) (kind : Kind) (n : ℕ) → lead (b ∷ bs) ≡ Begins kind n → IsFront (b ∷ bs) kind n
 unfolding lead
@@ -69,7 +75,7 @@ lead_is_front b bs kind n h =
         | inl w ↦
             let k : Mark ≡ kind = cc in
             let l : 1 ≡ n = cc in
-            subst (λ (k : Kind). IsFront (b ∷ bs) k n) k (subst (IsFront (b ∷ bs) Mark) l (mark_is_front b bs))
+            subst (λ (k : Kind). IsFront (b ∷ bs) k n) k (subst (IsFront (b ∷ bs) Mark) l (mark_is_front b bs w.0))
         | inr m ↦ elim (chosen (is_note_mark (b ∷ bs)) (Begins Note 2) by_semicolon (Begins kind n) m.1) [
           | inl w ↦
               let k : Note ≡ kind = cc in
