@@ -14,6 +14,8 @@ mod operator;
 mod switch;
 mod symbol;
 mod terminator;
+#[cfg(test)]
+mod tests;
 mod tokens;
 
 pub use item::Item;
