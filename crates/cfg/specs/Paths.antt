@@ -1,5 +1,5 @@
 -- Paths through a function.
-use Rattle.std.specs.Prelude.{◌≡◌, ℕ, Bool, false, List, [], ◌∷◌, zero, suc, Contains, slice_index_or}
+use Rattle.std.specs.Prelude.{◌≡◌, ℕ, Bool, true, false, List, [], ◌∷◌, zero, suc, Contains, slice_index_or}
 use Rattle.cfg.specs.declared.structure.Edge.{Edge}
 use Rattle.cfg.specs.declared.structure.BlockEdges.{BlockEdges}
 
@@ -24,10 +24,10 @@ abbrev pub Avoids : (ℕ → Bool) → List Leg → Type 0
 Avoids stop [] = Unit {0}
 Avoids stop (leg ∷ legs) = (stop leg.from ≡ false) × Avoids stop legs
 
--- a path leads from one block to another, and leaves no stop
-abbrev pub IsReached : List BlockEdges → ℕ → List Bool → ℕ → Type 0
-IsReached blocks from stops to =
-    (legs : List Leg) × IsPath blocks from legs to × Avoids (λ b. slice_index_or stops b false) legs
+-- a path leads from a start to a block, and leaves no stop
+abbrev pub IsReached : List BlockEdges → List Bool → List Bool → ℕ → Type 0
+IsReached blocks starts stops to =
+    (from : ℕ) × (slice_index_or starts from false ≡ true) × (legs : List Leg) × IsPath blocks from legs to × Avoids (λ b. slice_index_or stops b false) legs
 
 -- a path leads from the entry to a block
 abbrev pub IsOnPath : List BlockEdges → ℕ → Type 0

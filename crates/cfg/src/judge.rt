@@ -5,7 +5,7 @@ ghost use Rattle.cfg.specs.Paths.{IsOnPath};
 ghost use Rattle.cfg.specs.Faults.{IsJudged};
 ghost use Rattle.cfg.specs.Rules.{leads_to, HasPredecessor, ArePhisMatched, IsPhiBroken, IsLabelRight, IsLabelBroken, IsBlockRight, IsBlockBroken, IsEndBroken, IsFunctionRight, IsFunctionBroken};
 
-use crate::reach::{no_marks, reached};
+use crate::reach::{no_marks, one_mark, reached};
 use crate::refusal::{Broken, lower};
 use crate::structure::{BlockEdges, Edge};
 use program::{Block, Function, Phi, PhiEntry};
@@ -16,8 +16,9 @@ fn on_paths(alloc: Global, blocks: &[BlockEdges]) -> Result<Vec<bool>, AllocErro
     ensures size { IfOk result (λ marks. length marks.items ≡ length blocks.now) }
     ensures exact { IfOk result (λ marks. (b : ℕ) → b < length blocks.now → (slice_index_or marks.items b false ≡ true) ↔ IsOnPath blocks.now b) }
 {
+    let starts = one_mark(alloc, blocks.len(), 0)?;
     let stops = no_marks(alloc, blocks.len())?;
-    Ok(reached(alloc, blocks, 0, &stops)?)
+    Ok(reached(alloc, blocks, &starts, &stops)?)
 }
 
 /// Whether one of the edges leads to a block.

@@ -12,6 +12,6 @@ mod structure;
 
 pub use build::graph;
 pub use program_graph::Graph;
-pub use reach::{no_marks, reached};
+pub use reach::{no_marks, one_mark, reached};
 pub use refusal::{Broken, GraphFault, lower};
 pub use structure::{BlockEdges, Edge, FunctionGraph, Move, Way};
