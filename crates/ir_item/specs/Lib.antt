@@ -8,7 +8,4 @@ pub mod Shape
 pub mod Grammar
 pub mod Symbols
 pub mod Lines
-<<<<<<< HEAD
 pub mod Spelling
-=======
->>>>>>> 441be096f165501fbce7613e98586fc22289bfbc
