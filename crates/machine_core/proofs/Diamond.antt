@@ -191,7 +191,7 @@ module _ {prog : Program} {s : State} {p q : Path} {c : Change} (tree : Tree s) 
   childless_kept : (made : ℕ) → childless s q made ≡ true → childless (apply c s) q made ≡ true
   childless_kept made h = all_below_kept made _ _ (λ k lt. below_kept k is_none (none_kept k)) h
 
-  own_kept : (f : Frame) → s.frames q ≡ Some f → (apply c s).frames q ≡ Some f
+  pub own_kept : (f : Frame) → s.frames q ≡ Some f → (apply c s).frames q ≡ Some f
   own_kept f is = left_alone c s q (untouched q (is_here refl)) ∙ is
 
   -- the other frame still may do its next instruction

@@ -15,3 +15,5 @@ pub mod Closed
 pub mod Workers
 pub mod Machines
 pub mod Leaves
+pub mod Starting
+pub mod Theorem

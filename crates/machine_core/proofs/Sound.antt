@@ -16,7 +16,7 @@ use Rattle.machine_core.proofs.Deep.{Deep, deep_kept}
 use Rattle.program.specs.declared.function.Program.{Program}
 
 -- a step and its change
-changed : (prog : Program) (p : Path) (s t : State) → core_step prog p s ≡ Some t → (c : Change) × (change_of prog s p ≡ Some c) × (t ≡ apply c s)
+pub changed : (prog : Program) (p : Path) (s t : State) → core_step prog p s ≡ Some t → (c : Change) × (change_of prog s p ≡ Some c) × (t ≡ apply c s)
 changed prog p s t e = from (change_of prog s p) refl e
   where
     from : (o : Option Change) → change_of prog s p ≡ o → applied s o ≡ Some t → (c : Change) × (change_of prog s p ≡ Some c) × (t ≡ apply c s)
