@@ -1,5 +1,5 @@
 use crate::arithmetic::{binary, compare, convert};
-use crate::frame::{Frame, Role};
+use crate::frame::{Frame, Role, block_at};
 use crate::value::{Cell, Object, Value};
 use program::{
     Argument, BlockId, Case, FunctionId, Instruction, ObjectName, Operand, Parameter, Program,
@@ -81,7 +81,7 @@ pub enum Effect {
 
 /// The cells of the object, as the function's text declares them.
 fn extent(program: &Program, frame: &Frame, name: ObjectName) -> u64 {
-    match (name, frame.code(program)) {
+    match (name, program.functions.as_slice().get(frame.function.0)) {
         (ObjectName::Global(global), _) => match program.globals.as_slice().get(global.0) {
             Some(found) => found.cells,
             None => 0,
@@ -109,7 +109,7 @@ fn element(
     name: ObjectName,
     index: Operand,
 ) -> Result<Cell, Trap> {
-    let object = frame.object(program, name)?;
+    let object = frame.object(name)?;
     let index = frame.number(index)?;
     if index < 0 || index.cast_unsigned() >= extent(program, frame, name) {
         return Err(Trap::BadIndex);
@@ -131,16 +131,16 @@ fn chosen(default: BlockId, cases: &[Case], number: i64) -> BlockId {
 /// Whether the register holds a region that this frame started.
 fn owned_region(frame: &Frame, region: RegisterId) -> Result<(), Trap> {
     match frame.register(region)? {
-        Value::Region { depth } if depth == frame.depth => Ok(()),
+        Value::Region { depth } if depth >= frame.depth => Ok(()),
         Value::Region { .. } => Err(Trap::Unmatched),
         _ => Err(Trap::Undefined),
     }
 }
 
 /// Whether the arguments have their values.
-fn check_arguments(program: &Program, frame: &Frame, arguments: &[Argument]) -> Result<(), Trap> {
+fn check_arguments(frame: &Frame, arguments: &[Argument]) -> Result<(), Trap> {
     for argument in arguments {
-        let _value = frame.argument(program, *argument)?;
+        let _value = frame.argument(*argument)?;
     }
     Ok(())
 }
@@ -197,10 +197,7 @@ fn instruction_effect(
         }),
         Instruction::Alloca { register, alloca } => Ok(Effect::Define {
             register: *register,
-            value: Value::Object(Object::Alloca {
-                depth: frame.home,
-                alloca: *alloca,
-            }),
+            value: Value::Pointer(frame.object(ObjectName::Alloca(*alloca))?.first()),
         }),
         Instruction::ElementPointer {
             register,
@@ -208,22 +205,22 @@ fn instruction_effect(
             index,
         } => Ok(Effect::Define {
             register: *register,
-            value: Value::Element(element(program, frame, *object, *index)?),
+            value: Value::Pointer(element(program, frame, *object, *index)?),
         }),
         Instruction::Load { register, address } => Ok(Effect::Load {
             register: *register,
-            cell: frame.address(program, *address)?,
+            cell: frame.address(*address)?,
         }),
         Instruction::Store { value, address } => Ok(Effect::Store {
-            cell: frame.address(program, *address)?,
+            cell: frame.address(*address)?,
             number: frame.number(*value)?,
         }),
         Instruction::StoreZeros { cells, object } => Ok(Effect::StoreZeros {
-            object: frame.object(program, *object)?,
+            object: frame.object(*object)?,
             cells: *cells,
         }),
         Instruction::AtomicAdd { address, value } => Ok(Effect::Add {
-            cell: frame.address(program, *address)?,
+            cell: frame.address(*address)?,
             number: frame.number(*value)?,
         }),
         Instruction::Call {
@@ -231,7 +228,7 @@ fn instruction_effect(
             callee,
             arguments,
         } => {
-            check_arguments(program, frame, arguments.as_slice())?;
+            check_arguments(frame, arguments.as_slice())?;
             Ok(Effect::Call {
                 register: *register,
                 callee: *callee,
@@ -295,14 +292,13 @@ fn terminator_effect(frame: &Frame, terminator: &Terminator) -> Result<Effect, T
 }
 
 fn return_effect(frame: &Frame, value: Option<Operand>) -> Result<Effect, Trap> {
-    if frame.role != Role::Body {
-        return Err(Trap::Unmatched);
-    }
-    match value {
-        Some(operand) => Ok(Effect::Return {
-            value: Some(frame.number(operand)?),
-        }),
-        None => Ok(Effect::Return { value: None }),
+    let value = match value {
+        Some(operand) => Some(frame.number(operand)?),
+        None => None,
+    };
+    match frame.role {
+        Role::Body => Ok(Effect::Return { value }),
+        Role::Child { .. } => Err(Trap::Unmatched),
     }
 }
 
@@ -311,19 +307,18 @@ fn reattach_effect(
     region: RegisterId,
     continuation: BlockId,
 ) -> Result<Effect, Trap> {
-    let own = Role::Child {
-        region,
-        continuation,
-    };
-    if frame.role != own {
-        return Err(Trap::Unmatched);
+    match frame.role {
+        Role::Child {
+            region: own,
+            continuation: next,
+        } if own == region && next == continuation => Ok(Effect::Reattach { region }),
+        _ => Err(Trap::Unmatched),
     }
-    Ok(Effect::Reattach { region })
 }
 
 /// What the frame's next instruction asks for. It changes nothing and takes no memory.
 pub fn next_effect(program: &Program, frame: &Frame) -> Result<Effect, Trap> {
-    let block = frame.current_block(program).ok_or(Trap::Unmatched)?;
+    let block = block_at(program, frame.function, frame.block).ok_or(Trap::Unmatched)?;
     match (block.steps.as_slice().get(frame.index), &block.ending) {
         (Some(step), _) => instruction_effect(program, frame, &step.instruction),
         (None, Some(ending)) if frame.index == block.steps.len() => {

@@ -64,6 +64,20 @@ fn made_allocas(alloc: Global, function: &Function) -> Result<Vec<Vec<Option<i64
     Ok(allocas)
 }
 
+/// The block of a function, where there is one.
+pub fn block_at(program: &Program, function: FunctionId, block: BlockId) -> Option<&Block> {
+    let found = program.functions.as_slice().get(function.0)?;
+    found.blocks.as_slice().get(block.0)
+}
+
+/// The phis of a block; none where there is no such block.
+fn phis_at(program: &Program, function: FunctionId, block: BlockId) -> &[Phi] {
+    match block_at(program, function, block) {
+        Some(found) => found.phis.as_slice(),
+        None => &[],
+    }
+}
+
 impl Frame {
     /// A frame at the entry of a function, with no register defined. Where the program has no such function, it has no
     /// registers.
@@ -112,7 +126,7 @@ impl Frame {
         let mut frame = Frame::at_entry(alloc, program, callee, depth)?;
         if let Some(Instruction::Call { arguments, .. }) = caller.next_instruction(program) {
             for (register, argument) in frame.registers.iter_mut().zip(arguments.as_slice()) {
-                *register = caller.argument(program, *argument).ok();
+                *register = caller.argument(*argument).ok();
             }
         }
         Ok(frame)
@@ -145,20 +159,9 @@ impl Frame {
         })
     }
 
-    /// The function that the frame runs.
-    pub fn code<'a>(&self, program: &'a Program) -> Option<&'a Function> {
-        program.functions.as_slice().get(self.function.0)
-    }
-
-    /// The block that the frame runs.
-    pub fn current_block<'a>(&self, program: &'a Program) -> Option<&'a Block> {
-        self.code(program)?.blocks.as_slice().get(self.block.0)
-    }
-
     /// The next instruction, where it is no terminator.
     pub fn next_instruction<'a>(&self, program: &'a Program) -> Option<&'a Instruction> {
-        let step = self
-            .current_block(program)?
+        let step = block_at(program, self.function, self.block)?
             .steps
             .as_slice()
             .get(self.index)?;
@@ -190,45 +193,36 @@ impl Frame {
         }
     }
 
-    fn object_in(&self, register: RegisterId) -> Result<Object, Trap> {
+    fn pointer(&self, register: RegisterId) -> Result<Cell, Trap> {
         match self.register(register)? {
-            Value::Object(object) => Ok(object),
+            Value::Pointer(cell) => Ok(cell),
             _ => Err(Trap::Undefined),
         }
     }
 
-    /// The object that the function's text means by the name. An alloca has one once its instruction is done.
-    pub fn object(&self, program: &Program, name: ObjectName) -> Result<Object, Trap> {
+    /// The object that the function's text means by the name.
+    pub fn object(&self, name: ObjectName) -> Result<Object, Trap> {
         match name {
             ObjectName::Global(global) => Ok(Object::Global(global)),
-            ObjectName::Parameter(register) => self.object_in(register),
-            ObjectName::Alloca(alloca) => {
-                let function = self.code(program).ok_or(Trap::Undefined)?;
-                match function.allocas.as_slice().get(alloca.0) {
-                    Some(found) => self.object_in(found.register),
-                    None => Err(Trap::Undefined),
-                }
-            }
-        }
-    }
-
-    pub fn address(&self, program: &Program, address: Address) -> Result<Cell, Trap> {
-        match address {
-            Address::First(name) => Ok(Cell {
-                object: self.object(program, name)?,
-                index: 0,
+            ObjectName::Alloca(alloca) => Ok(Object::Alloca {
+                depth: self.home,
+                alloca,
             }),
-            Address::Element(register) => match self.register(register)? {
-                Value::Element(cell) => Ok(cell),
-                _ => Err(Trap::Undefined),
-            },
+            ObjectName::Parameter(register) => Ok(self.pointer(register)?.object),
         }
     }
 
-    pub fn argument(&self, program: &Program, argument: Argument) -> Result<Value, Trap> {
+    pub fn address(&self, address: Address) -> Result<Cell, Trap> {
+        match address {
+            Address::First(name) => Ok(self.object(name)?.first()),
+            Address::Element(register) => self.pointer(register),
+        }
+    }
+
+    pub fn argument(&self, argument: Argument) -> Result<Value, Trap> {
         match argument {
             Argument::Number(operand) => Ok(Value::Number(self.number(operand)?)),
-            Argument::Object(name) => Ok(Value::Object(self.object(program, name)?)),
+            Argument::Object(name) => Ok(Value::Pointer(self.object(name)?.first())),
         }
     }
 
@@ -280,14 +274,6 @@ impl Frame {
         self.waits = Wait::Nothing;
     }
 
-    /// What the operand of a phi stands for, whatever its type.
-    fn moved(&self, operand: Operand) -> Result<Value, Trap> {
-        match operand {
-            Operand::Number(number) => Ok(Value::Number(number)),
-            Operand::Register(register) => self.register(register),
-        }
-    }
-
     /// Reads the values that the phis take where the run comes from the frame's block.
     fn read_moves(&mut self, phis: &[Phi]) -> Result<(), Trap> {
         for (i, phi) in phis.iter().enumerate() {
@@ -296,13 +282,13 @@ impl Frame {
                 .as_slice()
                 .iter()
                 .find(|entry| entry.predecessor == self.block);
-            let value = match entry {
-                Some(entry) => self.moved(entry.value)?,
-                None => return Err(Trap::Unmatched),
+            let number = match entry {
+                Some(entry) => self.number(entry.value)?,
+                None => return Err(Trap::Undefined),
             };
             match self.moves.as_mut_slice().get_mut(i) {
-                Some(place) => *place = Some(value),
-                None => return Err(Trap::Unmatched),
+                Some(place) => *place = Some(Value::Number(number)),
+                None => return Err(Trap::Undefined),
             }
         }
         Ok(())
@@ -320,11 +306,7 @@ impl Frame {
     /// Goes along the edge to the block: its phis take their values all at once (LLVM Language Reference, "phi"). Where
     /// a value is missing, no register has changed.
     pub fn enter(&mut self, program: &Program, target: BlockId) -> Result<(), Trap> {
-        let function = self.code(program).ok_or(Trap::Unmatched)?;
-        let Some(block) = function.blocks.as_slice().get(target.0) else {
-            return Err(Trap::Unmatched);
-        };
-        let phis = block.phis.as_slice();
+        let phis = phis_at(program, self.function, target);
         self.read_moves(phis)?;
         self.write_moves(phis);
         self.continue_at(target);

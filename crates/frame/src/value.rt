@@ -21,10 +21,18 @@ pub enum Value {
     Number(i64),
     /// Of type `i1`.
     Truth(bool),
-    /// A whole object: what an `alloca` or a pointer parameter names.
-    Object(Object),
-    /// What a `getelementptr` gave.
-    Element(Cell),
+    /// A cell; for a whole object, as an `alloca` or an argument gives, its first.
+    Pointer(Cell),
     /// A sync region of the frame whose path has `depth` numbers.
     Region { depth: usize },
+}
+
+impl Object {
+    /// The object's first cell.
+    pub fn first(self) -> Cell {
+        Cell {
+            object: self,
+            index: 0,
+        }
+    }
 }
