@@ -1,8 +1,8 @@
 use crate::activation::Activation;
 use crate::machine::Machine;
 use cactus::Node;
-use frame::{Cell, Frame, Path, Role, Wait};
-use program::{Block, BlockId, Program, RegisterId};
+use frame::{Cell, Frame, Path, Role, Wait, block_at};
+use program::{Block, Program, RegisterId};
 
 /// How a task stands.
 #[derive(Clone, Copy, Debug, PartialEq, Eq)]
@@ -38,7 +38,7 @@ fn standing(top: &Activation) -> Status {
 
 /// The line of the frame's next instruction.
 fn next_line(program: &Program, frame: &Frame) -> Option<u32> {
-    let block = frame.current_block(program)?;
+    let block = block_at(program, frame.function, frame.block)?;
     match block.steps.as_slice().get(frame.index) {
         Some(step) => Some(step.line),
         None => ending_line(block),
@@ -56,10 +56,7 @@ fn ending_line(block: &Block) -> Option<u32> {
 /// The line at which the task stands whose top this is.
 fn line(program: &Program, top: &Activation) -> Option<u32> {
     match top.stalled_in {
-        Some(BlockId(block)) => {
-            let function = top.frame.code(program)?;
-            ending_line(function.blocks.as_slice().get(block)?)
-        }
+        Some(block) => ending_line(block_at(program, top.frame.function, block)?),
         None => next_line(program, &top.frame),
     }
 }
