@@ -31,7 +31,8 @@ fn resolve_global(items: &Items, line: u32, name: &Name) -> Result<WholeObject, 
     }
 }
 
-fn held_object(line: u32, holding: Holding) -> Result<WholeObject, TypeFault>
+/// The whole object that a register holds.
+pub fn held_object(line: u32, holding: Holding) -> Result<WholeObject, TypeFault>
     ensures { result ≡ spec.as_object line holding }
 {
     match holding {

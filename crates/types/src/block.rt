@@ -1,5 +1,9 @@
 //! Blocks.
 
+ghost use Rattle.std.specs.Prelude.{◌≡◌};
+ghost use Rattle.types.specs.Block as spec;
+ghost use Rattle.types.specs.Fault.{Gives};
+
 use crate::call::World;
 use crate::fault::{TypeFault, both, joined};
 use crate::form::{Place, resolve_inequalities};
@@ -35,7 +39,9 @@ fn resolve_head(
     scope: &Scope,
     block: usize,
     notes: &syntax::BlockNotes,
-) -> Result<Head, TypeFault> {
+) -> Result<Head, TypeFault>
+    ensures { Gives result (spec.head_of world.now.items.now scope.now block notes.now) }
+{
     let place = Place::Start(block);
     let keeps = resolve_inequalities(alloc, scope, place, notes.keeps.as_slice());
     let pending = resolve_all_pending(alloc, world.items, scope, block, notes.pending.as_slice());
@@ -60,7 +66,9 @@ fn resolve_body(
     place: usize,
     result_type: ResultType,
     block: &syntax::Block,
-) -> Result<Body, TypeFault> {
+) -> Result<Body, TypeFault>
+    ensures { Gives result (spec.body_of world.now.items.now world.now.functions.now world.now.named.now scope.now function place result_type block.now) }
+{
     let phis = resolve_phis(alloc, scope, block.phis.as_slice());
     let steps = resolve_steps(alloc, world, scope, function, place, block.steps.as_slice());
     let ending = resolve_ending(alloc, scope, result_type, &block.ending);
@@ -80,7 +88,9 @@ fn resolve_block(
     place: usize,
     result_type: ResultType,
     block: &syntax::Block,
-) -> Result<Block, TypeFault> {
+) -> Result<Block, TypeFault>
+    ensures { Gives result (spec.block_of world.now.items.now world.now.functions.now world.now.named.now scope.now function result_type place block.now) }
+{
     let head = resolve_head(alloc, world, scope, place, &block.notes);
     let body = resolve_body(alloc, world, scope, function, place, result_type, block);
     let (head, body) = both(head, body)?;
@@ -104,9 +114,12 @@ pub fn resolve_blocks(
     function: usize,
     result_type: ResultType,
     blocks: &[syntax::Block],
-) -> Result<Seq<Block>, TypeFault> {
+) -> Result<Seq<Block>, TypeFault>
+    ensures { Gives result (spec.blocks_of world.now.items.now world.now.functions.now world.now.named.now scope.now function result_type blocks.now) }
+{
     let mut resolved = Ok(Seq::new(alloc));
-    for (place, block) in blocks.iter().enumerate() {
+    for place in 0..blocks.len() {
+        let block = &blocks[place];
         resolved = joined(
             resolved,
             resolve_block(alloc, world, scope, function, place, result_type, block),

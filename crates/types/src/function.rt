@@ -1,7 +1,7 @@
 //! Functions.
 
 use crate::block::resolve_blocks;
-use crate::call::World;
+use crate::call::{World, parameter_of};
 use crate::fault::{TypeFault, both, joined};
 use crate::form::{Place, resolve_inequalities};
 use crate::layout::Layout;
@@ -69,13 +69,6 @@ fn resolve_head(
         zones,
         measure,
     })
-}
-
-fn parameter_of(parameter: &syntax::Parameter) -> Parameter {
-    match parameter {
-        syntax::Parameter::Number { .. } => Parameter::Number,
-        syntax::Parameter::Pointer { cells, .. } => Parameter::Pointer { cells: *cells },
-    }
 }
 
 fn parameters_of(

@@ -1,5 +1,9 @@
 //! Instructions and phis.
 
+ghost use Rattle.std.specs.Prelude.{◌≡◌};
+ghost use Rattle.types.specs.Fault.{Gives};
+ghost use Rattle.types.specs.Instruction as spec;
+
 use crate::address::{resolve_address, resolve_object};
 use crate::call::{CallText, World, resolve_call};
 use crate::fault::{TypeFault, both, joined, pointer_misuse, type_mismatch, unless};
@@ -22,7 +26,9 @@ pub struct Spot {
 }
 
 /// The register that an instruction defines.
-fn defined_register(scope: &Scope, line: u32, name: &Name) -> Result<RegisterId, TypeFault> {
+fn defined_register(scope: &Scope, line: u32, name: &Name) -> Result<RegisterId, TypeFault>
+    ensures { result ≡ spec.defined_of scope.now line name.now }
+{
     let register = resolve_register(scope, line, name)?;
     Ok(register.id)
 }
@@ -32,7 +38,9 @@ fn resolve_entry(
     line: u32,
     width: Width,
     entry: &syntax::PhiEntry,
-) -> Result<PhiEntry, TypeFault> {
+) -> Result<PhiEntry, TypeFault>
+    ensures { result ≡ spec.entry_of scope.now line width entry.now }
+{
     let value = resolve_operand(scope, line, width, &entry.value);
     let predecessor = resolve_label(scope, line, &entry.predecessor);
     let (value, predecessor) = both(value, predecessor)?;
@@ -45,7 +53,9 @@ fn resolve_entries(
     line: u32,
     width: Width,
     entries: &[syntax::PhiEntry],
-) -> Result<Seq<PhiEntry>, TypeFault> {
+) -> Result<Seq<PhiEntry>, TypeFault>
+    ensures { Gives result (spec.entries_of scope.now line width entries.now) }
+{
     let mut resolved = Ok(Seq::new(alloc));
     for entry in entries {
         resolved = joined(resolved, resolve_entry(scope, line, width, entry));
@@ -53,7 +63,9 @@ fn resolve_entries(
     resolved
 }
 
-fn resolve_phi(alloc: Global, scope: &Scope, phi: &syntax::Phi) -> Result<Phi, TypeFault> {
+fn resolve_phi(alloc: Global, scope: &Scope, phi: &syntax::Phi) -> Result<Phi, TypeFault>
+    ensures { Gives result (spec.phi_of scope.now phi.now) }
+{
     let line = phi.line;
     let width = phi.width;
     let register = defined_register(scope, line, &phi.register);
@@ -72,7 +84,9 @@ pub fn resolve_phis(
     alloc: Global,
     scope: &Scope,
     phis: &[syntax::Phi],
-) -> Result<Seq<Phi>, TypeFault> {
+) -> Result<Seq<Phi>, TypeFault>
+    ensures { Gives result (spec.phis_of scope.now phis.now) }
+{
     let mut resolved = Ok(Seq::new(alloc));
     for phi in phis {
         resolved = joined(resolved, resolve_phi(alloc, scope, phi));
@@ -88,7 +102,9 @@ fn resolve_binary(
     width: Width,
     left: &syntax::Operand,
     right: &syntax::Operand,
-) -> Result<Instruction, TypeFault> {
+) -> Result<Instruction, TypeFault>
+    ensures { result ≡ spec.binary_of scope.now line register.now operator width left.now right.now }
+{
     let register = defined_register(scope, line, register);
     let left = resolve_operand(scope, line, width, left);
     let right = resolve_operand(scope, line, width, right);
@@ -110,7 +126,9 @@ fn resolve_compare(
     width: Width,
     left: &syntax::Operand,
     right: &syntax::Operand,
-) -> Result<Instruction, TypeFault> {
+) -> Result<Instruction, TypeFault>
+    ensures { result ≡ spec.compare_of scope.now line register.now predicate width left.now right.now }
+{
     let register = defined_register(scope, line, register);
     let left = resolve_operand(scope, line, width, left);
     let right = resolve_operand(scope, line, width, right);
@@ -125,7 +143,9 @@ fn resolve_compare(
 }
 
 /// The width of what a conversion takes.
-fn source_width(conversion: Conversion) -> Width {
+fn source_width(conversion: Conversion) -> Width
+    ensures { result ≡ spec.source_width conversion }
+{
     match conversion {
         Conversion::Truncate => Width::Bits64,
         Conversion::SignExtend => Width::Bits32,
@@ -139,7 +159,9 @@ fn resolve_convert(
     register: &Name,
     conversion: Conversion,
     value: &syntax::Operand,
-) -> Result<Instruction, TypeFault> {
+) -> Result<Instruction, TypeFault>
+    ensures { result ≡ spec.convert_of scope.now line register.now conversion value.now }
+{
     let register = defined_register(scope, line, register);
     let value = resolve_operand(scope, line, source_width(conversion), value);
     let (register, value) = both(register, value)?;
@@ -150,24 +172,32 @@ fn resolve_convert(
     })
 }
 
-/// The number of the `alloca` that defines a register.
-fn resolve_alloca_id(scope: &Scope, line: u32, register: &Name) -> Result<AllocaId, TypeFault> {
-    let register = resolve_register(scope, line, register)?;
-    match register.holding {
-        Holding::Object {
-            name: ObjectName::Alloca(id),
-            ..
-        } => Ok(id),
-        Holding::Object { .. }
-        | Holding::Number(_)
-        | Holding::Truth
-        | Holding::Element
-        | Holding::Region => Err(type_mismatch(line)),
+fn held_alloca(line: u32, holding: Holding) -> Result<AllocaId, TypeFault>
+    ensures { result ≡ spec.as_alloca line holding }
+{
+    match holding {
+        Holding::Object { name, .. } => match name {
+            ObjectName::Alloca(id) => Ok(id),
+            ObjectName::Global(_) | ObjectName::Parameter(_) => Err(type_mismatch(line)),
+        },
+        Holding::Number(_) | Holding::Truth | Holding::Element | Holding::Region => {
+            Err(type_mismatch(line))
+        }
     }
 }
 
+/// The number of the `alloca` that defines a register.
+fn resolve_alloca_id(scope: &Scope, line: u32, register: &Name) -> Result<AllocaId, TypeFault>
+    ensures { result ≡ spec.alloca_id_of scope.now line register.now }
+{
+    let register = resolve_register(scope, line, register)?;
+    held_alloca(line, register.holding)
+}
+
 /// An `alloca` stands in the entry block.
-fn resolve_alloca(scope: &Scope, spot: Spot, register: &Name) -> Result<Instruction, TypeFault> {
+fn resolve_alloca(scope: &Scope, spot: Spot, register: &Name) -> Result<Instruction, TypeFault>
+    ensures { result ≡ spec.alloca_of scope.now spot.block spot.line register.now }
+{
     let line = spot.line;
     let id = resolve_alloca_id(scope, line, register);
     let register = defined_register(scope, line, register);
@@ -183,7 +213,9 @@ fn resolve_element_pointer(
     register: &Name,
     base: &syntax::Address,
     index: &syntax::Operand,
-) -> Result<Instruction, TypeFault> {
+) -> Result<Instruction, TypeFault>
+    ensures { result ≡ spec.element_pointer_of world.now.items.now scope.now line register.now base.now index.now }
+{
     let register = defined_register(scope, line, register);
     let object = resolve_object(world.items, scope, line, base);
     let index = resolve_operand(scope, line, Width::Bits64, index);
@@ -201,7 +233,9 @@ fn resolve_load(
     spot: Spot,
     register: &Name,
     address: &syntax::Address,
-) -> Result<Instruction, TypeFault> {
+) -> Result<Instruction, TypeFault>
+    ensures { result ≡ spec.load_of world.now.items.now scope.now spot.block spot.line register.now address.now }
+{
     let line = spot.line;
     let register = defined_register(scope, line, register);
     let address = resolve_address(world.items, scope, spot.block, line, address);
@@ -215,7 +249,9 @@ fn resolve_store(
     spot: Spot,
     value: &syntax::Operand,
     address: &syntax::Address,
-) -> Result<Instruction, TypeFault> {
+) -> Result<Instruction, TypeFault>
+    ensures { result ≡ spec.store_of world.now.items.now scope.now spot.block spot.line value.now address.now }
+{
     let line = spot.line;
     let value = resolve_operand(scope, line, Width::Bits64, value);
     let address = resolve_address(world.items, scope, spot.block, line, address);
@@ -229,7 +265,9 @@ fn resolve_atomic_add(
     spot: Spot,
     address: &syntax::Address,
     value: &syntax::Operand,
-) -> Result<Instruction, TypeFault> {
+) -> Result<Instruction, TypeFault>
+    ensures { result ≡ spec.atomic_add_of world.now.items.now scope.now spot.block spot.line address.now value.now }
+{
     let line = spot.line;
     let address = resolve_address(world.items, scope, spot.block, line, address);
     let value = resolve_operand(scope, line, Width::Bits64, value);
@@ -244,7 +282,9 @@ fn resolve_store_zeros(
     line: u32,
     cells: u64,
     address: &syntax::Address,
-) -> Result<Instruction, TypeFault> {
+) -> Result<Instruction, TypeFault>
+    ensures { result ≡ spec.store_zeros_of world.now.items.now scope.now line cells address.now }
+{
     let object = resolve_object(world.items, scope, line, address)?;
     unless(object.cells == cells, pointer_misuse(line))?;
     Ok(Instruction::StoreZeros {
@@ -258,7 +298,9 @@ fn call_register(
     scope: &Scope,
     line: u32,
     register: &Option<Name>,
-) -> Result<Option<RegisterId>, TypeFault> {
+) -> Result<Option<RegisterId>, TypeFault>
+    ensures { result ≡ spec.call_register_of scope.now line register.now }
+{
     match register {
         None => Ok(None),
         Some(name) => {
@@ -276,7 +318,9 @@ fn resolve_call_step(
     register: &Option<Name>,
     callee: &Name,
     arguments: &[syntax::Argument],
-) -> Result<Instruction, TypeFault> {
+) -> Result<Instruction, TypeFault>
+    ensures { Gives result (spec.call_step_of world.now.items.now world.now.functions.now world.now.named.now scope.now spot.function spot.line register.now callee.now arguments.now) }
+{
     let line = spot.line;
     let text = CallText {
         line,
@@ -294,11 +338,9 @@ fn resolve_call_step(
     })
 }
 
-fn resolve_region_start(
-    scope: &Scope,
-    line: u32,
-    register: &Name,
-) -> Result<Instruction, TypeFault> {
+fn resolve_region_start(scope: &Scope, line: u32, register: &Name) -> Result<Instruction, TypeFault>
+    ensures { result ≡ spec.region_start_of scope.now line register.now }
+{
     let register = defined_register(scope, line, register)?;
     Ok(Instruction::StartRegion { register })
 }
@@ -309,7 +351,9 @@ fn resolve_instruction(
     scope: &Scope,
     spot: Spot,
     instruction: &syntax::Instruction,
-) -> Result<Instruction, TypeFault> {
+) -> Result<Instruction, TypeFault>
+    ensures { Gives result (spec.instruction_of world.now.items.now world.now.functions.now world.now.named.now scope.now spot instruction.now) }
+{
     let line = spot.line;
     match instruction {
         syntax::Instruction::Binary {
@@ -375,7 +419,9 @@ fn resolve_step(
     function: usize,
     block: usize,
     step: &syntax::Step,
-) -> Result<Step, TypeFault> {
+) -> Result<Step, TypeFault>
+    ensures { Gives result (spec.step_of world.now.items.now world.now.functions.now world.now.named.now scope.now function block step.now) }
+{
     let line = step.line;
     let spot = Spot {
         function,
@@ -400,7 +446,9 @@ pub fn resolve_steps(
     function: usize,
     block: usize,
     steps: &[syntax::Step],
-) -> Result<Seq<Step>, TypeFault> {
+) -> Result<Seq<Step>, TypeFault>
+    ensures { Gives result (spec.steps_of world.now.items.now world.now.functions.now world.now.named.now scope.now function block steps.now) }
+{
     let mut resolved = Ok(Seq::new(alloc));
     for step in steps {
         resolved = joined(

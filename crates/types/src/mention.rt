@@ -1,9 +1,12 @@
 //! Which globals a function's text names, itself or by the functions that it calls, directly or through others.
 
+ghost use Rattle.std.specs.Prelude.{◌≡◌, slice_index_or, false};
+
 use crate::item::{Item, Items};
 use lists::{Name, Seq};
 use program::GlobalId;
 use std::alloc::{AllocError, Global};
+use std::marker::Model;
 use syntax::{Address, Argument, Block, Function, FunctionNotes, Instruction, Zone};
 
 /// What the text of one function names behind `@`, with repetitions.
@@ -177,6 +180,14 @@ pub struct NamedGlobals {
     marks: Seq<bool>,
 }
 
+impl Model for NamedGlobals {
+    ghost use Rattle.std.specs.Prelude.{List, Bool};
+
+    ghost Value = { List Bool };
+
+    ghost view = { λ n. n.marks };
+}
+
 impl NamedGlobals {
     fn of(
         alloc: Global,
@@ -196,7 +207,9 @@ impl NamedGlobals {
         })
     }
 
-    pub fn contains(&self, global: GlobalId) -> bool {
+    pub fn contains(&self, global: GlobalId) -> bool
+        ensures { result ≡ slice_index_or self.now global.0 false }
+    {
         self.marks
             .as_slice()
             .get(global.0)

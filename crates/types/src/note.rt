@@ -1,15 +1,23 @@
 //! Zones, what is pending, and what is left.
 
-use crate::fault::{TypeFault, both, joined, pointer_misuse, type_mismatch, unknown_name};
+ghost use Rattle.std.specs.Prelude.{◌≡◌};
+ghost use Rattle.types.specs.Fault.{Gives};
+ghost use Rattle.types.specs.Note as spec;
+ghost use Rattle.types.specs.Table.{look_up};
+
+use crate::address::held_object;
+use crate::fault::{TypeFault, both, joined, unknown_name};
 use crate::form::{Place, made_before, resolve_form, resolve_parameter};
 use crate::item::{Item, Items};
 use crate::operand::{resolve_region, resolve_register};
-use crate::scope::{Holding, Scope};
+use crate::scope::{Register, Scope};
 use lists::{Name, Seq};
 use program::{Left, Measure, ObjectName, Pending, RegisterId, Zone};
 use std::alloc::Global;
 
-fn noted_global(items: &Items, line: u32, name: &Name) -> Result<ObjectName, TypeFault> {
+fn noted_global(items: &Items, line: u32, name: &Name) -> Result<ObjectName, TypeFault>
+    ensures { result ≡ spec.noted_global line (look_up items.now name.now) }
+{
     match items.find(name.as_bytes()) {
         None => Err(unknown_name(line)),
         Some(Item::Function(_)) => Err(unknown_name(line)),
@@ -17,33 +25,38 @@ fn noted_global(items: &Items, line: u32, name: &Name) -> Result<ObjectName, Typ
     }
 }
 
-fn noted_parameter(scope: &Scope, line: u32, name: &Name) -> Result<ObjectName, TypeFault> {
-    let register = resolve_parameter(scope, line, name)?;
-    held_object(line, register.holding)
-}
-
 /// The object that a register names in an annotation.
-fn held_object(line: u32, holding: Holding) -> Result<ObjectName, TypeFault> {
-    match holding {
-        Holding::Object { name, .. } => Ok(name),
-        Holding::Element => Err(pointer_misuse(line)),
-        Holding::Number(_) | Holding::Truth | Holding::Region => Err(type_mismatch(line)),
-    }
+fn noted_holding(line: u32, register: Register) -> Result<ObjectName, TypeFault>
+    ensures { result ≡ spec.noted_holding line register }
+{
+    let object = held_object(line, register.holding)?;
+    Ok(object.name)
 }
 
-fn noted_register(scope: &Scope, line: u32, name: &Name) -> Result<ObjectName, TypeFault> {
+fn noted_parameter(scope: &Scope, line: u32, name: &Name) -> Result<ObjectName, TypeFault>
+    ensures { result ≡ spec.noted_parameter scope.now line name.now }
+{
+    let register = resolve_parameter(scope, line, name)?;
+    noted_holding(line, register)
+}
+
+fn noted_register(scope: &Scope, line: u32, name: &Name) -> Result<ObjectName, TypeFault>
+    ensures { result ≡ spec.noted_register scope.now line name.now }
+{
     let register = resolve_register(scope, line, name)?;
-    held_object(line, register.holding)
+    noted_holding(line, register)
 }
 
-fn starting_register(
+fn noted_before(
     scope: &Scope,
     block: usize,
     line: u32,
     name: &Name,
-) -> Result<ObjectName, TypeFault> {
+) -> Result<ObjectName, TypeFault>
+    ensures { result ≡ spec.noted_before scope.now block line name.now }
+{
     let register = resolve_register(scope, line, name)?;
-    let object = held_object(line, register.holding)?;
+    let object = noted_holding(line, register)?;
     made_before(line, block, register)?;
     Ok(object)
 }
@@ -55,14 +68,16 @@ fn noted_object(
     place: Place,
     line: u32,
     object: &syntax::Address,
-) -> Result<ObjectName, TypeFault> {
+) -> Result<ObjectName, TypeFault>
+    ensures { result ≡ spec.noted_object items.now scope.now place line object.now }
+{
     match object {
         syntax::Address::Global(name) => noted_global(items, line, name),
         syntax::Address::Register(name) => match place {
             Place::Head => noted_parameter(scope, line, name),
             Place::Guarantee(_) => noted_parameter(scope, line, name),
             Place::Body => noted_register(scope, line, name),
-            Place::Start(block) => starting_register(scope, block, line, name),
+            Place::Start(block) => noted_before(scope, block, line, name),
         },
     }
 }
@@ -74,7 +89,9 @@ pub fn resolve_zone(
     scope: &Scope,
     place: Place,
     zone: &syntax::Zone,
-) -> Result<Zone, TypeFault> {
+) -> Result<Zone, TypeFault>
+    ensures { Gives result (spec.zone_of items.now scope.now place zone.now) }
+{
     let line = zone.line;
     let object = noted_object(items, scope, place, line, &zone.object);
     let low = resolve_form(alloc, scope, place, line, &zone.low);
@@ -97,7 +114,9 @@ pub fn resolve_zones(
     place: Place,
     before: Result<Seq<Zone>, TypeFault>,
     zones: &[syntax::Zone],
-) -> Result<Seq<Zone>, TypeFault> {
+) -> Result<Seq<Zone>, TypeFault>
+    ensures { Gives result (spec.more_zones items.now scope.now place before zones.now) }
+{
     let mut resolved = before;
     for zone in zones {
         resolved = joined(resolved, resolve_zone(alloc, items, scope, place, zone));
@@ -111,7 +130,9 @@ fn pending_region(
     block: usize,
     line: u32,
     name: &Name,
-) -> Result<RegisterId, TypeFault> {
+) -> Result<RegisterId, TypeFault>
+    ensures { result ≡ spec.pending_region_of scope.now block line name.now }
+{
     let region = resolve_region(scope, line, name)?;
     let register = resolve_register(scope, line, name)?;
     made_before(line, block, register)?;
@@ -124,7 +145,9 @@ fn resolve_pending(
     scope: &Scope,
     block: usize,
     pending: &syntax::Pending,
-) -> Result<Pending, TypeFault> {
+) -> Result<Pending, TypeFault>
+    ensures { Gives result (spec.pending_of items.now scope.now block pending.now) }
+{
     let line = pending.zone.line;
     let region = pending_region(scope, block, line, &pending.region);
     let zone = resolve_zone(alloc, items, scope, Place::Start(block), &pending.zone);
@@ -139,7 +162,9 @@ pub fn resolve_all_pending(
     scope: &Scope,
     block: usize,
     lines: &[syntax::Pending],
-) -> Result<Seq<Pending>, TypeFault> {
+) -> Result<Seq<Pending>, TypeFault>
+    ensures { Gives result (spec.all_pending_of items.now scope.now block lines.now) }
+{
     let mut resolved = Ok(Seq::new(alloc));
     for line in lines {
         resolved = joined(resolved, resolve_pending(alloc, items, scope, block, line));
@@ -153,7 +178,9 @@ pub fn resolve_left(
     scope: &Scope,
     block: usize,
     left: &syntax::Left,
-) -> Result<Left, TypeFault> {
+) -> Result<Left, TypeFault>
+    ensures { Gives result (spec.left_of scope.now block left.now) }
+{
     let line = left.line;
     let place = Place::Start(block);
     let self_calls = resolve_form(alloc, scope, place, line, &left.self_calls);
@@ -171,7 +198,9 @@ pub fn resolve_measure(
     alloc: Global,
     scope: &Scope,
     measure: &syntax::Measure,
-) -> Result<Measure, TypeFault> {
+) -> Result<Measure, TypeFault>
+    ensures { Gives result (spec.measure_of scope.now measure.now) }
+{
     let line = measure.line;
     let form = resolve_form(alloc, scope, Place::Head, line, &measure.form)?;
     Ok(Measure {

@@ -1,5 +1,9 @@
 //! Terminators.
 
+ghost use Rattle.std.specs.Prelude.{◌≡◌};
+ghost use Rattle.types.specs.Fault.{Gives};
+ghost use Rattle.types.specs.Terminator as spec;
+
 use crate::fault::{TypeFault, both, joined, type_mismatch, unless};
 use crate::form::{Place, resolve_inequalities};
 use crate::operand::{
@@ -17,7 +21,9 @@ fn resolve_branch(
     condition: &Name,
     when_true: &Name,
     when_false: &Name,
-) -> Result<Terminator, TypeFault> {
+) -> Result<Terminator, TypeFault>
+    ensures { result ≡ spec.branch_of scope.now line condition.now when_true.now when_false.now }
+{
     let condition = resolve_condition(scope, line, condition);
     let when_true = resolve_label(scope, line, when_true);
     let when_false = resolve_label(scope, line, when_false);
@@ -34,7 +40,9 @@ fn resolve_case(
     line: u32,
     width: Width,
     case: &syntax::Case,
-) -> Result<Case, TypeFault> {
+) -> Result<Case, TypeFault>
+    ensures { result ≡ spec.case_of scope.now line width case.now }
+{
     let number = case.number;
     let fits = unless(fits_width(width, number), type_mismatch(line));
     let (target, ()) = both(resolve_label(scope, line, &case.target), fits)?;
@@ -47,7 +55,9 @@ fn resolve_cases(
     line: u32,
     width: Width,
     cases: &[syntax::Case],
-) -> Result<Seq<Case>, TypeFault> {
+) -> Result<Seq<Case>, TypeFault>
+    ensures { Gives result (spec.cases_of scope.now line width cases.now) }
+{
     let mut resolved = Ok(Seq::new(alloc));
     for case in cases {
         resolved = joined(resolved, resolve_case(scope, line, width, case));
@@ -63,7 +73,9 @@ fn resolve_switch(
     value: &syntax::Operand,
     default: &Name,
     cases: &[syntax::Case],
-) -> Result<Terminator, TypeFault> {
+) -> Result<Terminator, TypeFault>
+    ensures { Gives result (spec.switch_of scope.now line width value.now default.now cases.now) }
+{
     let value = resolve_operand(scope, line, width, value);
     let default = resolve_label(scope, line, default);
     let cases = resolve_cases(alloc, scope, line, width, cases);
@@ -82,7 +94,9 @@ fn resolve_return(
     line: u32,
     result_type: ResultType,
     value: &Option<syntax::Operand>,
-) -> Result<Terminator, TypeFault> {
+) -> Result<Terminator, TypeFault>
+    ensures { result ≡ spec.return_of scope.now line result_type value.now }
+{
     match value {
         None => match result_type {
             ResultType::Number => Err(type_mismatch(line)),
@@ -104,7 +118,9 @@ fn resolve_detach(
     region: &Name,
     body: &Name,
     continuation: &Name,
-) -> Result<Terminator, TypeFault> {
+) -> Result<Terminator, TypeFault>
+    ensures { result ≡ spec.detach_of scope.now line region.now body.now continuation.now }
+{
     let region = resolve_region(scope, line, region);
     let body = resolve_label(scope, line, body);
     let continuation = resolve_label(scope, line, continuation);
@@ -121,7 +137,9 @@ fn resolve_reattach(
     line: u32,
     region: &Name,
     continuation: &Name,
-) -> Result<Terminator, TypeFault> {
+) -> Result<Terminator, TypeFault>
+    ensures { result ≡ spec.reattach_of scope.now line region.now continuation.now }
+{
     let region = resolve_region(scope, line, region);
     let continuation = resolve_label(scope, line, continuation);
     let (region, continuation) = both(region, continuation)?;
@@ -136,14 +154,18 @@ fn resolve_sync(
     line: u32,
     region: &Name,
     target: &Name,
-) -> Result<Terminator, TypeFault> {
+) -> Result<Terminator, TypeFault>
+    ensures { result ≡ spec.sync_of scope.now line region.now target.now }
+{
     let region = resolve_region(scope, line, region);
     let target = resolve_label(scope, line, target);
     let (region, target) = both(region, target)?;
     Ok(Terminator::Sync { region, target })
 }
 
-fn resolve_jump(scope: &Scope, line: u32, target: &Name) -> Result<Terminator, TypeFault> {
+fn resolve_jump(scope: &Scope, line: u32, target: &Name) -> Result<Terminator, TypeFault>
+    ensures { result ≡ spec.jump_of scope.now line target.now }
+{
     let target = resolve_label(scope, line, target)?;
     Ok(Terminator::Jump { target })
 }
@@ -154,7 +176,9 @@ fn resolve_terminator(
     line: u32,
     result_type: ResultType,
     terminator: &syntax::Terminator,
-) -> Result<Terminator, TypeFault> {
+) -> Result<Terminator, TypeFault>
+    ensures { Gives result (spec.terminator_of scope.now line result_type terminator.now) }
+{
     match terminator {
         syntax::Terminator::Jump { target } => resolve_jump(scope, line, target),
         syntax::Terminator::Branch {
@@ -187,7 +211,9 @@ fn resolve_known_ending(
     scope: &Scope,
     result_type: ResultType,
     ending: &syntax::Ending,
-) -> Result<Ending, TypeFault> {
+) -> Result<Ending, TypeFault>
+    ensures { Gives result (spec.known_ending_of scope.now result_type ending.now) }
+{
     let line = ending.line;
     let shows = resolve_inequalities(alloc, scope, Place::Body, ending.shows.as_slice());
     let terminator = resolve_terminator(alloc, scope, line, result_type, &ending.terminator);
@@ -205,7 +231,9 @@ pub fn resolve_ending(
     scope: &Scope,
     result_type: ResultType,
     ending: &Option<syntax::Ending>,
-) -> Result<Option<Ending>, TypeFault> {
+) -> Result<Option<Ending>, TypeFault>
+    ensures { Gives result (spec.ending_of scope.now result_type ending.now) }
+{
     match ending {
         None => Ok(None),
         Some(ending) => {
