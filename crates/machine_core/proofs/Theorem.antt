@@ -235,15 +235,38 @@ module _ {ℓ} (Z : Type ℓ) (zone : Z → Zone) (prog : Program) (fits : Path 
     some_there None e = absurd (cc)
     some_there (Some f) e = (f, refl)
 
+    -- a step of a worker that is enabled
+    record Enabled (m : Machine) : Type 0 where
+      worker : ℕ
+      next : Machine
+      within : worker < workers
+      is : event prog workers (Step worker) m ≡ Some next
+      reached : Reached next
+      more : next.core.done ≡ suc m.core.done
+
+    by_worker : (m : Machine) → Reached m → (w : ℕ) (y : Path) (g : Frame) (c : Change) → w < workers → m.hands w ≡ Some y → m.core.frames y ≡ Some g → change_of prog m.core y ≡ Some c → Enabled m
+    by_worker m r w y g c lt here there ch = record {
+      worker = w;
+      next = stepped m w c (next_hand workers m (apply c m.core) y g (action_of prog y g m.core.memory));
+      within = lt;
+      is = not_trapped m.trapped (sound_event prog workers (Step w) m) r.fine ∙ step_enabled prog workers m w y g c here there ch;
+      reached = stepped_reached m r w y c g here there ch;
+      more = refl;
+    }
+
+    by_leaf : (m : Machine) → Reached m → (y : Path) (g : Frame) → m.core.frames y ≡ Some g → childless m.core y g.made ≡ true → Enabled m
+    by_leaf m r y g there leaf =
+        let (w, lt, here) = busy workers m.core m.hands r.manned y g there leaf in
+        let (c, ch) = goes_further m.core y (shut_at m r) (facts m r).safe (r.manned.goers w y here) in
+        by_worker m r w y g c lt here there ch
+
     -- until the end some worker's step is enabled, and does one instruction
-    enabled : (m : Machine) → Reached m → has_ended m ≡ false → (w : ℕ) × (next : Machine) × (w < workers) × (event prog workers (Step w) m ≡ Some next) × Reached next × (next.core.done ≡ suc m.core.done)
+    enabled : (m : Machine) → Reached m → has_ended m ≡ false → Enabled m
     enabled m r going =
         let (f, is) = going_is m going in
         let b = facts m r in
         let (y, g, there, leaf, under) = leaf_below m.core b.sound.tree b.sound.deep m.core.peak [] f is (omega arith) in
-        let (w, lt, here) = busy workers m.core m.hands r.manned y g there leaf in
-        let (c, ch) = goes_further m.core y (shut_at m r) b.safe (r.manned.goers w y here) in
-        (w, stepped m w c (next_hand workers m (apply c m.core) y g (action_of prog y g m.core.memory)), lt, not_trapped m.trapped _ r.fine ∙ step_enabled prog workers m w y g c here there ch, stepped_reached m r w y c g here there ch, refl)
+        by_leaf m r y g there leaf
 
     pub kept : (o : Outcome) → length serial ≡ o.count → last.memory ≡ o.memory → last.peak ≡ o.depth → o.ending ≡ Gave last.result → first.done ≡ 0 → (m : Machine) → Reached m → KeepsSchedule prog workers o m
     kept o count memory peak result zero_done m r =
@@ -263,7 +286,7 @@ module _ {ℓ} (Z : Type ℓ) (zone : Z → Zone) (prog : Program) (fits : Path 
           same_count = λ gone. let d : m.core.done ≡ first.done + length serial = (b.ended (ended_is m gone)).1 in omega arith;
           same_peak = λ gone. ap (λ (s : State). s.peak) (b.ended (ended_is m gone)).0 ∙ peak;
           busy_leaves = λ p f is leaf. busy workers m.core m.hands r.manned p f is leaf;
-          goes_on = λ going. let (w, next, lt, e, r2, d) = enabled m r going in (w, next, lt, e);
+          goes_on = λ going. let e = enabled m r going in (e.worker, e.next, e.within, e.is);
           ends_in_time = ends_in_time;
           undisturbed = λ w p others here alone. undisturbed others m r w p here alone;
         }
@@ -274,6 +297,7 @@ module _ {ℓ} (Z : Type ℓ) (zone : Z → Zone) (prog : Program) (fits : Path 
             from : (b : Bool) → has_ended m ≡ b → has_ended m ≡ true
             from true e = e
             from false e =
-                let (w, next, lt, h, r2, d) = enabled m r e in
-                let more : next.core.done ≤ first.done + length serial = (facts next r2).budget in
+                let step = enabled m r e in
+                let more : step.next.core.done ≤ first.done + length serial = (facts step.next step.reached).budget in
+                let one : step.next.core.done ≡ suc m.core.done = step.more in
                 absurd (omega arith)
