@@ -1,34 +1,31 @@
 -- Every schedule of a checked program is a run of the core, and so bounded by the serial one.
-use Rattle.std.proofs.Common.{◌≡◌, ◌≢◌, ℕ, zero, suc, ◌+◌, ◌*◌, ◌≤◌, ◌<◌, max, List, [], ◌∷◌, ◌++◌, length, Option, Some, None, Bool, true, false, cond, ◌⊎◌, inl, inr, refl, sym, ap, ◌∙◌, subst, arith, le_trans, mul-le-mul_left, is_none, is_some, ℤ}
+use Rattle.std.proofs.Common.{◌≡◌, ◌≢◌, ℕ, suc, ◌+◌, ◌*◌, ◌≤◌, ◌<◌, List, [], ◌∷◌, ◌++◌, length, Option, Some, None, Bool, true, false, inl, inr, refl, sym, ap, ◌∙◌, subst, arith, mul-le-mul_left, is_none, is_some, ℤ}
 use Rattle.std.proofs.lemmas.Bool.Decides.{eqb_tells}
-use Rattle.machine_core.specs.Paths.{Path, same_path}
-use Rattle.machine_core.specs.Cells.{Cell, Memory}
-use Rattle.machine_core.specs.Arithmetic.{Trap, Unmatched}
-use Rattle.machine_core.specs.Frames.{Halted, Child, Body, Frame}
-use Rattle.machine_core.specs.Effect.{Effect, Action, Plain, Detach, Reattach, Sync, Call, Return, action_of}
-use Rattle.machine_core.specs.State.{State, Change, apply, act, return_from, return_change, reattach_change, end_change, wait_after, went, plain_change, childless, may_go, change_of, core_step, only, trap_change, root_frame, start_state}
+use Rattle.machine_core.specs.Paths.{Path}
+use Rattle.machine_core.specs.Arithmetic.{Trap}
+use Rattle.machine_core.specs.Frames.{Halted, Frame}
+use Rattle.machine_core.specs.Effect.{Action, Plain, Detach, Reattach, Sync, Call, Return, action_of}
+use Rattle.machine_core.specs.State.{State, Change, apply, act, return_from, return_change, reattach_change, wait_after, went, childless, change_of, core_step}
 use Rattle.machine_core.specs.Tree.{Tree}
 use Rattle.machine_core.specs.Conditions.{Zone, Going, StaysInZone, PassesZonesOn, ClosesRegions}
-use Rattle.machine_core.specs.SerialMeaning.{Gave, Outcome, IsSerialMeaning}
-use Rattle.machine_core.specs.Events.{Machine, Event, Step, Steal, event, sound_event, unless_trapped, by_hand, by_frame, by_change, stepped, stolen, next_hand, with_hand, start}
-use Rattle.machine_core.specs.Replay.{or_unchanged, replay, has_ended, CountsFrames}
-use Rattle.machine_core.specs.Schedules.{StepsOf, read_by, worker_of, NoneBy, Undisturbed, KeepsSchedule}
+use Rattle.machine_core.specs.SerialMeaning.{Gave, Outcome}
+use Rattle.machine_core.specs.Events.{Machine, Event, Step, Steal, event, sound_event, unless_trapped, by_hand, by_frame, by_change, stepped, next_hand, with_hand}
+use Rattle.machine_core.specs.Replay.{or_unchanged, replay, has_ended}
+use Rattle.machine_core.specs.Schedules.{worker_of, NoneBy, Undisturbed, KeepsSchedule}
 use Rattle.machine_core.proofs.Confluence.{Run, Kept, kept_by_run}
 use Rattle.machine_core.proofs.Actions.{return_is_body}
 use Rattle.machine_core.proofs.Places.{only_here}
-use Rattle.machine_core.proofs.Steps.{Does, plain, detach, reattach, sync, call, ret, end, does, change_is}
-use Rattle.machine_core.proofs.Diamond.{Goes, goes, same_frame, own_kept}
+use Rattle.machine_core.proofs.Steps.{Does, plain, detach, reattach, sync, call, ret, end, does}
+use Rattle.machine_core.proofs.Diamond.{Goes, own_kept}
 use Rattle.machine_core.proofs.TreeKept.{step_keeps_tree}
-use Rattle.machine_core.proofs.Feet.{Footed, going_now, alive}
+use Rattle.machine_core.proofs.Feet.{Footed, going_now}
 use Rattle.machine_core.proofs.FeetKept.{step_footed}
-use Rattle.machine_core.proofs.Deep.{Deep}
-use Rattle.machine_core.proofs.Sound.{changed, Sound, sound_kept, Bounded, bounded}
+use Rattle.machine_core.proofs.Sound.{changed, Sound, Bounded, bounded}
 use Rattle.machine_core.proofs.Undisturbed.{steps_stay, cell_stays}
 use Rattle.machine_core.proofs.Closed.{span, Holds, no_more, closes_passes, bare}
 use Rattle.machine_core.proofs.Workers.{Manned}
 use Rattle.machine_core.proofs.Machines.{step_manned, Found, found, stolen_manned}
 use Rattle.machine_core.proofs.Leaves.{leaf_below, busy, few_frames}
-use Rattle.machine_core.proofs.Starting.{begin, at_start, start_tree, start_deep, start_manned, Finishes, finishes}
 use Rattle.program.specs.declared.function.Program.{Program}
 
 -- a step that leaves no halted frame has not trapped
@@ -99,8 +96,8 @@ module _ {ℓ} (Z : Type ℓ) (zone : Z → Zone) (prog : Program) (fits : Path 
       let h : holds p go.frame = (shut.footed.own p go.frame go.is (safe p go.frame go.is)).0 in
       let g : Going go.frame = going_now s p go.frame go.may in
       moves prog s p shut.tree go
-        (λ r at. bare prog holds opens closes s shut.tree shut.feet shut.footed p go (λ q. closes.reattach_closed p go.frame s.memory r q h g at) safe go.frame.made)
-        (λ v at. bare prog holds opens closes s shut.tree shut.feet shut.footed p go (λ q. closes.return_closed p go.frame s.memory v q h g at) safe go.frame.made)
+      (λ r at. bare prog holds opens closes s shut.tree shut.feet shut.footed p go (λ q. closes.reattach_closed p go.frame s.memory r q h g at) safe go.frame.made)
+      (λ v at. bare prog holds opens closes s shut.tree shut.feet shut.footed p go (λ q. closes.return_closed p go.frame s.memory v q h g at) safe go.frame.made)
 
   module _ (first : State) (sound : SoundHere first) (shut : Shut first) (serial : List Path) (last : State) (run : Run (λ p s. core_step prog p s) serial first last) (none : last.frames [] ≡ None) (workers : ℕ) where
     -- a machine that a schedule has led to
@@ -276,11 +273,11 @@ module _ {ℓ} (Z : Type ℓ) (zone : Z → Zone) (prog : Program) (fits : Path 
           no_trap = (r.fine, b.safe);
           within_budget = omega arith;
           few_frames = λ n counts.
-            let few : length counts.living ≤ workers * m.core.peak =
-                  few_frames workers m.core m.hands r.manned b.sound.deep counts.living counts.distinct (λ x member. some_there (m.core.frames x) (sym (counts.all x) ∙ member)) in
-            let high : workers * m.core.peak ≤ workers * o.depth = mul-le-mul_left workers (subst (λ d. m.core.peak ≤ d) peak b.peak) in
-            let is : n ≡ length counts.living = counts.count in
-            omega (arith, few, high);
+              let few : length counts.living ≤ workers * m.core.peak =
+              few_frames workers m.core m.hands r.manned b.sound.deep counts.living counts.distinct (λ x member. some_there (m.core.frames x) (sym (counts.all x) ∙ member)) in
+              let high : workers * m.core.peak ≤ workers * o.depth = mul-le-mul_left workers (subst (λ d. m.core.peak ≤ d) peak b.peak) in
+              let is : n ≡ length counts.living = counts.count in
+              omega (arith, few, high);
           same_memory = λ gone. ap (λ (s : State). s.memory) (b.ended (ended_is m gone)).0 ∙ memory;
           same_result = λ gone. result ∙ ap (λ (s : State). Gave s.result) (sym (b.ended (ended_is m gone)).0);
           same_count = λ gone. let d : m.core.done ≡ first.done + length serial = (b.ended (ended_is m gone)).1 in omega arith;
