@@ -1,17 +1,16 @@
 -- What is true of the actions of all kinds of instruction.
-use Rattle.std.proofs.Common.{◌≡◌, ℕ, ◌∷◌, [], Option, Some, None, Bool, true, false, cond, ◌&&◌, refl, sym, ap, ◌∙◌, subst, eqb, eq-eqb, eqb-true, is_none, is_some, ℤ}
+use Rattle.std.proofs.Common.{◌≡◌, ℕ, ◌∷◌, [], Option, Some, None, Bool, true, false, cond, ◌&&◌, refl, ap, subst, eqb, eq-eqb, eqb-true, is_none, is_some, ℤ}
 use Rattle.machine_core.specs.Paths.{Path, same_path}
 use Rattle.machine_core.specs.Cells.{Object, Shared, Local, Cell, same_object, same_cell, Memory}
 use Rattle.machine_core.specs.Arithmetic.{Unmatched}
-use Rattle.machine_core.specs.Frames.{Registers, Role, Child, Body, Frame, Item, Does, Ends, item_at, word_at, cell_at, region_of, Value}
-use Rattle.machine_core.specs.Effect.{Effect, traps, Action, Plain, Detach, Reattach, Sync, Call, Return, given, loads, adds_to, no_cells, no_adds, within, if_own, syncs, calls, returns, returns_value, reattaches, registers_along, argument_values, instruction_action, terminator_action, item_action, action_of}
+use Rattle.machine_core.specs.Frames.{Registers, Role, Child, Body, Frame, Item, Does, Ends, item_at, word_at, cell_at, region_of}
+use Rattle.machine_core.specs.Effect.{traps, Action, Plain, Detach, Reattach, Sync, Call, Return, given, loads, adds_to, no_cells, no_adds, if_own, syncs, calls, returns, returns_value, reattaches, registers_along, argument_values, instruction_action, terminator_action, item_action, action_of}
 use Rattle.linear.specs.declared.form.RegisterId.{RegisterId}
 use Rattle.program.specs.declared.function.Program.{Program}
 use Rattle.program.specs.declared.instruction.Instruction.{Instruction}
 use Rattle.program.specs.declared.instruction.Instruction.TheVariants as instruction
 use Rattle.program.specs.declared.instruction.Terminator.{Terminator}
 use Rattle.program.specs.declared.instruction.Terminator.TheVariants as terminator
-use Rattle.program.specs.declared.instruction.Operand.{Operand}
 
 -- ---- which frames end how
 

@@ -1,15 +1,13 @@
 -- No child lives where a frame ends: an instance of what is kept of zones, where each child's zone reads all cells, and what is open covers it.
-use Rattle.std.proofs.Common.{◌≡◌, ◌≢◌, ℕ, zero, suc, ◌∷◌, Option, Some, None, Bool, true, false, refl, sym, subst, is_none, ℤ}
+use Rattle.std.proofs.Common.{◌≡◌, ◌≢◌, ℕ, zero, suc, ◌∷◌, Option, Some, None, Bool, true, false, refl, sym, subst, is_none}
 use Rattle.machine_core.specs.Paths.{Path}
 use Rattle.machine_core.specs.Cells.{Shared, Cell}
-use Rattle.machine_core.specs.Frames.{OnRegion, Halted, Child, Frame}
-use Rattle.machine_core.specs.State.{State, Change, apply, childless}
+use Rattle.machine_core.specs.Frames.{Halted, Frame}
+use Rattle.machine_core.specs.State.{State, childless}
 use Rattle.machine_core.specs.Tree.{Tree}
 use Rattle.machine_core.specs.Conditions.{Zone, Covers, Clear, PassesZonesOn, ClosesRegions}
-use Rattle.machine_core.proofs.Steps.{Does}
 use Rattle.machine_core.proofs.Diamond.{Goes}
 use Rattle.machine_core.proofs.Feet.{Footed, covers_itself, going_child, not_waiting, alive}
-use Rattle.machine_core.proofs.FeetKept.{step_footed}
 use Rattle.program.specs.declared.function.Program.{Program}
 
 -- all cells, or none
@@ -46,12 +44,12 @@ module _ (prog : Program) (holds : Path → Frame → Type 0) (opens : Path → 
   closes_passes = record {
     plain_ok = λ p f z m e fit go at fine. let h = closes.plain_holds p f m e fit.0 go at fine in ((h.0, fit.1), λ r. span_covers _ _ (h.1 r));
     detach_ok = λ p f z m r b n fit go at.
-      let h = closes.detach_holds p f m r b n fit.0 go at in
-      (true, span_covers true z (λ e. fit.1), λ q. span_clear true _, (h.0, refl), (h.1, fit.1), λ q. span_covers _ _ (h.2 q), span_covers true _ (λ e. h.3));
+        let h = closes.detach_holds p f m r b n fit.0 go at in
+        (true, span_covers true z (λ e. fit.1), λ q. span_clear true _, (h.0, refl), (h.1, fit.1), λ q. span_covers _ _ (h.2 q), span_covers true _ (λ e. h.3));
     sync_ok = λ p f z m r b rs fit go at. let h = closes.sync_holds p f m r b rs fit.0 go at in ((h.0, fit.1), λ q differ. span_covers _ _ (h.1 q differ));
     call_ok = λ p f z m d g vs fit go at.
-      let h = closes.call_holds p f m d g vs fit.0 go at in
-      (true, span_covers true z (λ e. fit.1), λ q. span_clear true _, (h.0, refl), (h.1, fit.1), λ q. span_covers _ _ (h.2 q), tt);
+        let h = closes.call_holds p f m d g vs fit.0 go at in
+        (true, span_covers true z (λ e. fit.1), λ q. span_clear true _, (h.0, refl), (h.1, fit.1), λ q. span_covers _ _ (h.2 q), tt);
     return_ok = λ p f z m v fit go at. subst (λ x. (span x).gives v) (sym fit.1) tt;
     resume_ok = λ p f z y k d v fit wait so gives. let h = closes.resume_holds p f k d v fit.0 wait in ((h.0, fit.1), λ q. span_covers _ _ (h.1 q));
   }

@@ -1,5 +1,5 @@
 -- Where steps of different labels commute, one finished run tells the end and the length of every run.
-use Rattle.std.proofs.Common.{◌≡◌, ℕ, zero, suc, ◌+◌, ◌≤◌, List, [], ◌∷◌, length, Option, Some, None, ◌≢◌, Bool, true, false, refl, sym, ap, ◌∙◌, subst, arith}
+use Rattle.std.proofs.Common.{◌≡◌, ℕ, zero, suc, ◌+◌, ◌≤◌, List, [], ◌∷◌, length, Option, Some, None, ◌≢◌, Bool, true, false, refl, sym, subst, arith}
 
 -- a machine that takes one labelled step at a time
 abbrev pub Stepper : Type 0 → Type 0 → Type 0

@@ -1,5 +1,5 @@
 -- No frame is deeper than the peak.
-use Rattle.std.proofs.Common.{◌≡◌, ℕ, suc, ◌+◌, ◌≤◌, max, ◌∷◌, length, Option, Some, None, inl, inr, sym, ap, ◌∙◌, arith}
+use Rattle.std.proofs.Common.{◌≡◌, ℕ, suc, ◌+◌, ◌≤◌, max, ◌∷◌, length, Option, Some, inl, inr, sym, ap, ◌∙◌, arith}
 use Rattle.machine_core.specs.Paths.{Path}
 use Rattle.machine_core.specs.Frames.{Frame}
 use Rattle.machine_core.specs.State.{State, Change, apply}

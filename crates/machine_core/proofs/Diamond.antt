@@ -3,10 +3,10 @@ use Rattle.std.proofs.Common.{◌≡◌, ℕ, suc, ◌≤◌, max, [], ◌∷◌
 use Rattle.std.proofs.lemmas.Int.{ints, int_wrap-add_left}
 use Rattle.std.specs.Int.{w64, int_wrap}
 use Rattle.machine_core.specs.Paths.{Path}
-use Rattle.machine_core.specs.Cells.{Cell, Memory}
+use Rattle.machine_core.specs.Cells.{Cell}
 use Rattle.machine_core.specs.Arithmetic.{Trap, cell_sum}
-use Rattle.machine_core.specs.Frames.{Wait, Free, OnRegion, OnCall, Halted, Role, Child, Body, Frame}
-use Rattle.machine_core.specs.Effect.{Effect, Action, Plain, no_cells, no_adds, action_of}
+use Rattle.machine_core.specs.Frames.{Wait, Free, OnRegion, OnCall, Halted, Body, Frame}
+use Rattle.machine_core.specs.Effect.{Action, Plain, no_cells, no_adds, action_of}
 use Rattle.machine_core.specs.State.{State, Change, override, override_result, added, apply, wait_after, called, resumed, may_go, childless, outside, outside_role, change_of, core_step}
 use Rattle.machine_core.specs.Tree.{Tree, MissesAt, is_left, is_unseen, is_added, Misses, Apart}
 use Rattle.machine_core.proofs.Actions.{reads_of, adds_of, action_kept}

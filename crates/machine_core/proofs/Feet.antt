@@ -1,10 +1,10 @@
 -- Frames that keep to their zones do not touch one another's cells.
-use Rattle.std.proofs.Common.{◌≡◌, ℕ, ◌<◌, ◌∷◌, Option, Some, None, ◌≢◌, Bool, true, false, cond, not, ◌⊎◌, inl, inr, refl, sym, ap, ◌∙◌, subst, arith, eqb, eq-eqb, is_some, is_none, ℤ}
-use Rattle.machine_core.specs.Paths.{Path, same_path, Under, itself, deeper}
+use Rattle.std.proofs.Common.{◌≡◌, ℕ, ◌<◌, ◌∷◌, Option, Some, None, ◌≢◌, Bool, true, false, cond, not, inl, inr, refl, sym, ap, ◌∙◌, subst, arith, eqb, eq-eqb, is_some, is_none, ℤ}
+use Rattle.machine_core.specs.Paths.{Path, Under, itself, deeper}
 use Rattle.machine_core.specs.Cells.{Object, Shared, Local, Cell, owns}
-use Rattle.machine_core.specs.Frames.{Wait, Free, OnRegion, OnCall, Halted, Role, Child, Body, Frame}
-use Rattle.machine_core.specs.Effect.{Effect, no_cells, no_writes, no_adds}
-use Rattle.machine_core.specs.State.{State, Change, apply, clears, outside, outside_role, may_go, childless}
+use Rattle.machine_core.specs.Frames.{Wait, OnRegion, OnCall, Halted, Role, Child, Body, Frame}
+use Rattle.machine_core.specs.Effect.{no_cells, no_writes, no_adds}
+use Rattle.machine_core.specs.State.{State, Change, clears, outside, outside_role, may_go, childless}
 use Rattle.machine_core.specs.Tree.{Tree, MissesAt, is_left, is_unseen, is_added, Misses, Apart}
 use Rattle.machine_core.specs.Conditions.{Zone, Covers, Clear, zone_of, touched, OwnedBelow, Going, StaysInZone}
 use Rattle.machine_core.proofs.Places.{same_path_is, all_below_at}
@@ -201,4 +201,3 @@ module _ {ℓ} (Z : Type ℓ) (zone : Z → Zone) (prog : Program) (fits : Path 
           clear_within _ _ _ _ (footed.siblings i j a f g e at at2)
           (covers_all _ _ _ (covers_down (i ∷ a) p gp.frame u gp.is) (keeps_to p c dp))
           (covers_all _ _ _ (covers_down (j ∷ a) q gq.frame v gq.is) (keeps_to q d dq))
-

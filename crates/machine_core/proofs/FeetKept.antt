@@ -1,16 +1,15 @@
 -- Each step leaves frames that keep to their zones.
-use Rattle.std.proofs.Common.{◌≡◌, ℕ, ◌<◌, ◌∷◌, Option, Some, None, ◌≢◌, Bool, true, false, cond, ◌⊎◌, inl, inr, refl, sym, ap, ◌∙◌, subst, ℤ}
+use Rattle.std.proofs.Common.{◌≡◌, ℕ, ◌∷◌, Option, Some, None, ◌≢◌, cond, ◌⊎◌, inl, inr, refl, sym, ap, ◌∙◌, subst}
 use Rattle.machine_core.specs.Paths.{Path, same_path}
 use Rattle.machine_core.specs.Arithmetic.{Trap}
-use Rattle.machine_core.specs.Frames.{Value, Registers, Wait, Free, OnRegion, OnCall, Halted, Role, Child, Body, Frame}
-use Rattle.machine_core.specs.Effect.{Effect}
-use Rattle.machine_core.specs.State.{State, Change, apply, wait_after, went, detached, continued, synced, called, waiting, resumed, may_go}
+use Rattle.machine_core.specs.Frames.{Free, OnRegion, OnCall, Halted, Child, Frame}
+use Rattle.machine_core.specs.State.{State, Change, apply, wait_after, went, detached, continued, synced, called, waiting, resumed}
 use Rattle.machine_core.specs.Tree.{Tree}
 use Rattle.machine_core.specs.Conditions.{Zone, Covers, Clear, PassesZonesOn}
 use Rattle.machine_core.proofs.Actions.{same_path_itself}
 use Rattle.machine_core.proofs.Places.{same_path_apart, only_at, both_at}
 use Rattle.machine_core.proofs.Steps.{Does, plain, detach, reattach, sync, call, ret, end}
-use Rattle.machine_core.proofs.Diamond.{Goes, goes, same_frame, next_free, left_alone}
+use Rattle.machine_core.proofs.Diamond.{Goes, same_frame, next_free, left_alone}
 use Rattle.machine_core.proofs.Feet.{Footed, covers_all, covers_itself, clear_back, clear_within, not_waiting, alive, not_halted, going_child, alive_now, going_now}
 use Rattle.linear.specs.declared.form.RegisterId.{RegisterId}
 use Rattle.program.specs.declared.function.Program.{Program}

@@ -1,5 +1,5 @@
 -- Every frame without children is held by a worker, so the living frames are at most the workers times the greatest depth.
-use Rattle.std.proofs.Common.{◌≡◌, ℕ, zero, suc, ◌+◌, ◌*◌, ◌≤◌, ◌<◌, List, [], ◌∷◌, ◌++◌, length, length-append, Option, Some, None, Bool, true, false, ◌⊎◌, inl, inr, refl, sym, ap, ◌∙◌, subst, arith, is_none, suc-mul}
+use Rattle.std.proofs.Common.{◌≡◌, ℕ, zero, suc, ◌+◌, ◌*◌, ◌≤◌, ◌<◌, List, [], ◌∷◌, ◌++◌, length, length-append, Option, Some, None, Bool, true, false, ◌⊎◌, inl, inr, refl, sym, ap, ◌∙◌, subst, arith, is_none}
 use Rattle.std.proofs.lemmas.Bool.Decides.{eqb_tells}
 use Rattle.std.specs.Prelude.{◌||◌}
 use Rattle.std.specs.Cmp.{IsEquivalence}
@@ -149,10 +149,10 @@ module _ (workers : ℕ) (s : State) (hands : ℕ → Option Path) (man : Manned
   pub few_frames : Deep s → (ps : List Path) → IsDistinct same_path ps → ((x : Path) → is_member same_path ps x ≡ true → (f : Frame) × (s.frames x ≡ Some f)) → length ps ≤ workers * s.peak
   few_frames deep ps distinct live =
       length_bound (length-le_from_is_member path_laws ps (places workers) distinct (λ x member.
-        let (f, is) = live x member in
-        let (y, g, there, none, below) = leaf_below s man.tree deep s.peak x f is (omega arith) in
-        let (w, lt, held) = busy y g there none in
-        in_places workers w x y lt held below))
+      let (f, is) = live x member in
+      let (y, g, there, none, below) = leaf_below s man.tree deep s.peak x f is (omega arith) in
+      let (w, lt, held) = busy y g there none in
+      in_places workers w x y lt held below))
     where
       length_bound : length ps ≤ length (places workers) → length ps ≤ workers * s.peak
       length_bound h = let r : length (places workers) ≤ workers * s.peak = few_places deep workers in omega arith

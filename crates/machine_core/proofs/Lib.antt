@@ -17,3 +17,4 @@ pub mod Machines
 pub mod Leaves
 pub mod Starting
 pub mod Theorem
+pub mod EverySchedule

@@ -1,18 +1,16 @@
 -- Each event that does not trap keeps what is known of workers and tasks.
-use Rattle.std.proofs.Common.{◌≡◌, ℕ, zero, suc, ◌<◌, List, [], ◌∷◌, Option, Some, None, ◌≢◌, Bool, true, false, cond, ◌&&◌, ltb, ltb-true, eqb, eq-eqb, ◌⊎◌, inl, inr, refl, sym, ap, ◌∙◌, subst, arith, is_none, ℤ}
+use Rattle.std.proofs.Common.{◌≡◌, ℕ, zero, suc, ◌<◌, [], ◌∷◌, Option, Some, None, ◌≢◌, Bool, true, false, cond, ◌&&◌, ltb-true, eqb, eq-eqb, ◌⊎◌, inl, inr, refl, sym, ap, ◌∙◌, subst, arith, is_none}
 use Rattle.std.proofs.lemmas.Bool.Decides.{eqb_tells}
-use Rattle.machine_core.specs.Paths.{Path, same_path}
-use Rattle.machine_core.specs.Arithmetic.{Trap, Unmatched}
-use Rattle.machine_core.specs.Frames.{Value, Registers, Wait, Free, OnRegion, OnCall, Halted, Role, Child, Body, Frame}
-use Rattle.machine_core.specs.Effect.{Effect, Action, Plain, Detach, Reattach, Sync, Call, Return, action_of}
-use Rattle.machine_core.specs.State.{State, Change, apply, none_within, may_go, all_below, wait_after, went, detached, continued, synced, called, waiting, resumed, plain_change, detach_change, reattach_change, sync_change, call_change, return_change, end_change, trap_change, outside, change_of}
-use Rattle.machine_core.specs.Tree.{Tree}
-use Rattle.machine_core.specs.Events.{Machine, Event, Step, Steal, is_place, holder, is_task, Status, Running, Ready, Stalled, waiting_status, unheld_status, status_at, top_status, top_of, status_of, with_hand, unless_held, may_be_taken, takes_parent, after_reattach, caller_of, next_hand, stepped, by_change, by_frame, by_hand, if_ready, stolen, sound_event}
-use Rattle.machine_core.proofs.Places.{same_path_tells, same_path_is, only_here, both_second, no_own_child}
+use Rattle.machine_core.specs.Paths.{Path}
+use Rattle.machine_core.specs.Arithmetic.{Trap}
+use Rattle.machine_core.specs.Frames.{Wait, Free, OnRegion, OnCall, Halted, Child, Frame}
+use Rattle.machine_core.specs.Effect.{Action, Plain, Detach, Reattach, Sync, Call, Return, action_of}
+use Rattle.machine_core.specs.State.{State, Change, apply, none_within, may_go, wait_after, went, detached, continued, synced, called, waiting, resumed, reattach_change}
+use Rattle.machine_core.specs.Events.{Machine, Steal, is_place, holder, Status, Running, Ready, Stalled, waiting_status, unheld_status, status_at, top_status, top_of, status_of, with_hand, unless_held, may_be_taken, after_reattach, next_hand, if_ready, stolen, sound_event}
+use Rattle.machine_core.proofs.Places.{same_path_is, only_here, both_second, no_own_child}
 use Rattle.machine_core.proofs.Steps.{Does, plain, detach, reattach, sync, call, ret, end}
 use Rattle.machine_core.proofs.Diamond.{Goes, left_alone, same_frame, next_free}
 use Rattle.machine_core.proofs.Workers.{Unheld, Parked, calls, ready, stalled, Manned, both_true, some_below, inside_frame, not_place, parked_stays, left_place, plain_manned, child_manned, gone_manned, sync_manned, return_manned, end_manned}
-use Rattle.linear.specs.declared.form.RegisterId.{RegisterId}
 use Rattle.program.specs.declared.function.Program.{Program}
 
 -- ---- who holds a frame
@@ -100,38 +98,38 @@ module _ (prog : Program) (workers : ℕ) (m : Machine) (man : Manned workers m.
     join_manned : (o : Option ℕ) (t : Bool) → holder workers m.hands above ≡ o → may_be_taken new k above region g g.waits ≡ t → Manned workers new (with_hand m.hands w (unless_held o t above))
     join_manned (Some v) t held taken =
         gone_manned prog workers m.core m.hands man w p here (reattach_change p) dp gone_now None (λ y e. nobody y e)
-          (λ x h now off none away.
-            parked_stays prog workers m.core m.hands man w p here (reattach_change p) dp x h none (left_place prog workers m.core m.hands man w p here (reattach_change p) dp None x off) now
-              (λ j e gone free made. absurd (let same : above ≡ x = cc in none v (subst (λ z. m.hands v ≡ Some z) same (holder_some workers m.hands above v held))))
-              (λ j r i u e gone wait us in_r. absurd (let same : above ≡ x = cc in none v (subst (λ z. m.hands v ≡ Some z) same (holder_some workers m.hands above v held)))))
+        (λ x h now off none away.
+        parked_stays prog workers m.core m.hands man w p here (reattach_change p) dp x h none (left_place prog workers m.core m.hands man w p here (reattach_change p) dp None x off) now
+        (λ j e gone free made. absurd (let same : above ≡ x = cc in none v (subst (λ z. m.hands v ≡ Some z) same (holder_some workers m.hands above v held))))
+        (λ j r i u e gone wait us in_r. absurd (let same : above ≡ x = cc in none v (subst (λ z. m.hands v ≡ Some z) same (holder_some workers m.hands above v held)))))
     join_manned None true held taken =
         gone_manned prog workers m.core m.hands man w p here (reattach_change p) dp gone_now (Some above)
-          (λ y e. let same : above ≡ y = cc in
-            (subst (λ z. Unheld m.hands z) same (unheld_by workers m.core m.hands man above held), subst (λ z. Goes new z) same (record { frame = g; is = above_now; may = taken_goes g.waits refl taken })))
-          (λ x h now off none away.
-            let apart = not_place x above away in
-            parked_stays prog workers m.core m.hands man w p here (reattach_change p) dp x h none (left_place prog workers m.core m.hands man w p here (reattach_change p) dp None x off) now
-              (λ j e gone free made. absurd (apart (cc)))
-              (λ j r i u e gone wait us in_r. absurd (apart (cc))))
+        (λ y e. let same : above ≡ y = cc in
+        (subst (λ z. Unheld m.hands z) same (unheld_by workers m.core m.hands man above held), subst (λ z. Goes new z) same (record { frame = g; is = above_now; may = taken_goes g.waits refl taken })))
+        (λ x h now off none away.
+        let apart = not_place x above away in
+        parked_stays prog workers m.core m.hands man w p here (reattach_change p) dp x h none (left_place prog workers m.core m.hands man w p here (reattach_change p) dp None x off) now
+        (λ j e gone free made. absurd (apart (cc)))
+        (λ j r i u e gone wait us in_r. absurd (apart (cc))))
     join_manned None false held taken =
         gone_manned prog workers m.core m.hands man w p here (reattach_change p) dp gone_now None (λ y e. nobody y e)
-          (λ x h now off none away.
-            parked_stays prog workers m.core m.hands man w p here (reattach_change p) dp x h none (left_place prog workers m.core m.hands man w p here (reattach_change p) dp None x off) now
-              (λ j e gone free made.
-                let same : x ≡ above = cc in
-                let h_is : h ≡ g = at_above x h same now in
-                absurd (other_newest j taken (subst (λ z. p ≡ j ∷ z) same e) (sym (ap (λ y. y.waits) h_is) ∙ free) (sym (ap (λ y. y.made) h_is) ∙ made)))
-              (λ j r i u e gone wait us in_r.
-                let same : x ≡ above = cc in
-                let h_is : h ≡ g = at_above x h same now in
-                subst (λ z. Parked new z h) (sym same) (subst (λ (z : Frame). Parked new above z) (sym h_is) (other_child r i u taken (sym (ap (λ y. y.waits) h_is) ∙ wait) us in_r))))
+        (λ x h now off none away.
+        parked_stays prog workers m.core m.hands man w p here (reattach_change p) dp x h none (left_place prog workers m.core m.hands man w p here (reattach_change p) dp None x off) now
+        (λ j e gone free made.
+        let same : x ≡ above = cc in
+        let h_is : h ≡ g = at_above x h same now in
+        absurd (other_newest j taken (subst (λ z. p ≡ j ∷ z) same e) (sym (ap (λ y. y.waits) h_is) ∙ free) (sym (ap (λ y. y.made) h_is) ∙ made)))
+        (λ j r i u e gone wait us in_r.
+        let same : x ≡ above = cc in
+        let h_is : h ≡ g = at_above x h same now in
+        subst (λ z. Parked new z h) (sym same) (subst (λ (z : Frame). Parked new above z) (sym h_is) (other_child r i u taken (sym (ap (λ y. y.waits) h_is) ∙ wait) us in_r))))
 
   reattach_manned : (f : Frame) (r n : ℕ) → Does prog m.core p (reattach_change p) → m.core.frames p ≡ Some f → f.role ≡ Child r n → (x : Path) → p ≡ x →
       Manned workers (apply (reattach_change p) m.core) (with_hand m.hands w (after_reattach workers m (apply (reattach_change p) m.core) x r))
   reattach_manned f r n dp is in_r [] up =
       gone_manned prog workers m.core m.hands man w p here (reattach_change p) dp (only_here p None) None
-        (λ y e. absurd (cc))
-        (λ x h now off none away. parked_stays prog workers m.core m.hands man w p here (reattach_change p) dp x h none (left_place prog workers m.core m.hands man w p here (reattach_change p) dp None x off) now (λ j e gone free made. absurd (cc)) (λ j q i u e gone wait us in_q. absurd (cc)))
+      (λ y e. absurd (cc))
+      (λ x h now off none away. parked_stays prog workers m.core m.hands man w p here (reattach_change p) dp x h none (left_place prog workers m.core m.hands man w p here (reattach_change p) dp None x off) now (λ j e gone free made. absurd (cc)) (λ j q i u e gone wait us in_q. absurd (cc)))
   reattach_manned f r n dp is in_r (k ∷ above) up =
       let (g, over, lt) = man.tree.has_parent k above f (subst (λ y. m.core.frames y ≡ Some f) up is) in
       rw over (join_manned k above r n f g dp up is in_r over (holder workers m.hands above) _ refl refl)
@@ -155,15 +153,15 @@ module _ (prog : Program) (workers : ℕ) (m : Machine) (man : Manned workers m.
       as_done c f g (Plain e) is is2 at (plain_manned prog workers m.core m.hands man w p here c (plain f e is go at) (went f e) refl (free_after e.trap fine))
   step_manned c (detach f r b n is go at) fine g is2 =
       as_done c f g (Detach r b n) is is2 at
-        (child_manned prog workers m.core m.hands man w p here c (detach f r b n is go at) f.made (continued f n) (detached f r b n) refl (next_free man.tree p f is) refl
-          (ready f.made (detached f r b n) refl refl (rw (both_second p (f.made ∷ p) (Some (continued f n)) (Some (detached f r b n)) (λ e. no_own_child f.made p (sym e))))))
+      (child_manned prog workers m.core m.hands man w p here c (detach f r b n is go at) f.made (continued f n) (detached f r b n) refl (next_free man.tree p f is) refl
+      (ready f.made (detached f r b n) refl refl (rw (both_second p (f.made ∷ p) (Some (continued f n)) (Some (detached f r b n)) (λ e. no_own_child f.made p (sym e))))))
   step_manned c (reattach f r n is go at none role) fine g is2 =
       as_done c f g (Reattach r) is is2 at (reattach_manned f r n (reattach f r n is go at none role) is role p refl)
   step_manned c (sync f r b rs is go at) fine g is2 =
       as_done c f g (Sync r b rs) is is2 at (sync_manned prog workers m.core m.hands man w p here c (sync f r b rs is go at) f.made r (synced f r b rs) refl refl refl (none_within m.core p f.made r) refl)
   step_manned c (call f d callee vs is go at) fine g is2 =
       as_done c f g (Call d callee vs) is is2 at
-        (child_manned prog workers m.core m.hands man w p here c (call f d callee vs is go at) f.made (waiting f d) (called p f callee vs) refl (next_free man.tree p f is) refl (calls f.made d refl))
+      (child_manned prog workers m.core m.hands man w p here c (call f d callee vs is go at) f.made (waiting f d) (called p f callee vs) refl (next_free man.tree p f is) refl (calls f.made d refl))
   step_manned c (ret f v k above u j d is go at none role up over waits) fine g is2 =
       as_done c f g (Return v) is is2 at (return_manned prog workers m.core m.hands man w p here c (ret f v k above u j d is go at none role up over waits) k above u (resumed u d v) j d refl refl up over waits)
   step_manned c (end f v is go at none role up) fine g is2 =
@@ -206,16 +204,16 @@ module _ (workers : ℕ) (m : Machine) (man : Manned workers m.core m.hands) whe
         tree = man.tree;
         below = λ v y e. elim (hand_after v y e) [ inl h ↦ subst (λ n. n < workers) h.0 lt | inr h ↦ man.below v y h.1 ];
         alone = λ u v y e h.
-          elim (hand_after u y e) [
-            | inl a ↦ elim (hand_after v y h) [ inl b ↦ sym a.0 ∙ b.0 | inr b ↦ absurd (none v (subst (λ z. m.hands v ≡ Some z) (sym a.1) b.1)) ]
-            | inr a ↦ elim (hand_after v y h) [ inl b ↦ absurd (none u (subst (λ z. m.hands u ≡ Some z) (sym b.1) a.1)) | inr b ↦ man.alone u v y a.1 b.1 ]
-          ];
+            elim (hand_after u y e) [
+              | inl a ↦ elim (hand_after v y h) [ inl b ↦ sym a.0 ∙ b.0 | inr b ↦ absurd (none v (subst (λ z. m.hands v ≡ Some z) (sym a.1) b.1)) ]
+              | inr a ↦ elim (hand_after v y h) [ inl b ↦ absurd (none u (subst (λ z. m.hands u ≡ Some z) (sym b.1) a.1)) | inr b ↦ man.alone u v y a.1 b.1 ]
+            ];
         goers = λ v y e. elim (hand_after v y e) [ inl h ↦ subst (λ z. Goes m.core z) h.1 (record { frame = f; is = is; may = rw free }) | inr h ↦ man.goers v y h.1 ];
         parked = λ y g e n. man.parked y g e (λ v has.
-          elim (eqb_tells w v) [
-            | inl h ↦ let i : m.hands v ≡ None = subst (λ k. m.hands k ≡ None) h.1 idle in cc
-            | inr h ↦ n v (rw h.0 has)
-          ]);
+            elim (eqb_tells w v) [
+              | inl h ↦ let i : m.hands v ≡ None = subst (λ k. m.hands k ≡ None) h.1 idle in cc
+              | inr h ↦ n v (rw h.0 has)
+            ]);
       }
     where
       hand_after : (v : ℕ) (y : Path) → with_hand m.hands w (Some x) v ≡ Some y → ((w ≡ v) × (x ≡ y)) ⊎ ((w ≢ v) × (m.hands v ≡ Some y))

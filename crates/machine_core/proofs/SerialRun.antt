@@ -1,18 +1,18 @@
 -- The serial meaning is a run of the core.
-use Rattle.std.proofs.Common.{◌≡◌, ℕ, zero, suc, ◌+◌, ◌≤◌, ◌<◌, max, List, [], ◌∷◌, ◌++◌, length, length-append, Option, Some, None, ◌≢◌, Bool, true, false, cond, ◌⊎◌, inl, inr, refl, sym, ap, ◌∙◌, subst, arith, is_none, ℤ}
-use Rattle.machine_core.specs.Paths.{Path, same_path}
+use Rattle.std.proofs.Common.{◌≡◌, ℕ, zero, suc, ◌+◌, ◌≤◌, max, List, [], ◌∷◌, ◌++◌, length, length-append, Option, Some, None, ◌≢◌, Bool, true, inl, inr, refl, sym, ap, ◌∙◌, subst, arith, ℤ}
+use Rattle.machine_core.specs.Paths.{Path}
 use Rattle.machine_core.specs.Cells.{Memory}
 use Rattle.machine_core.specs.Arithmetic.{Trap}
-use Rattle.machine_core.specs.Frames.{Value, Registers, Wait, Free, OnRegion, OnCall, Halted, Role, Child, Body, Frame}
+use Rattle.machine_core.specs.Frames.{Value, Registers, Wait, Free, OnRegion, OnCall, Halted, Child, Body, Frame}
 use Rattle.machine_core.specs.Effect.{Effect, Action, Plain, Detach, Reattach, Sync, Call, Return, action_of}
-use Rattle.machine_core.specs.State.{State, Change, apply, core_step, change_of, all_below, outside, may_go, childless, went, detached, continued, synced, called, waiting, resumed, plain_change, detach_change, reattach_change, sync_change, call_change, return_change, end_change, only, both}
+use Rattle.machine_core.specs.State.{State, Change, apply, core_step, all_below, may_go, childless, went, detached, continued, synced, called, waiting, resumed, plain_change, detach_change, reattach_change, sync_change, call_change, return_change, only, both}
 use Rattle.machine_core.specs.Tree.{Tree}
 use Rattle.machine_core.specs.SerialMeaning.{Ending, Left, Gave, Outcome, cleared, counted, joined, last, after_effect, after_left, after_child, after_gave, after_call, by_action, meaning}
 use Rattle.machine_core.proofs.Confluence.{Run}
 use Rattle.machine_core.proofs.Actions.{return_is_body, reattach_is_child}
 use Rattle.machine_core.proofs.Places.{same_path_tells, same_path_apart, no_own_child, only_here, both_first, both_second}
-use Rattle.machine_core.proofs.Steps.{Does, plain, detach, reattach, sync, call, ret, end, change_is}
-use Rattle.machine_core.proofs.Diamond.{left_alone, next_free}
+use Rattle.machine_core.proofs.Steps.{Does, plain, detach, reattach, sync, call, ret, change_is}
+use Rattle.machine_core.proofs.Diamond.{left_alone}
 use Rattle.machine_core.proofs.TreeKept.{step_keeps_tree}
 use Rattle.machine_core.proofs.Deep.{Deep, deep_kept}
 use Rattle.linear.specs.declared.form.RegisterId.{RegisterId}
@@ -170,23 +170,23 @@ module _ (prog : Program) where
             last = a3.last;
             run = (apply c1 s, step_by prog s p c1 dp1, run_on a1.labels ((f.made ∷ p) ∷ a3.labels) (apply c1 s) a1.state a3.state a1.run (apply c2 a1.state, step_by prog a1.state (f.made ∷ p) c2 dp2, a3.run));
             count =
-              let n1 : length a1.labels + 1 ≡ o1.count = a1.count in
-              let n3 : length a3.labels + 1 ≡ o3.count = a3.count in
-              let n : length (a1.labels ++ (f.made ∷ p) ∷ a3.labels) ≡ length a1.labels + suc (length a3.labels) = length-append a1.labels ((f.made ∷ p) ∷ a3.labels) in
-              omega arith;
+                let n1 : length a1.labels + 1 ≡ o1.count = a1.count in
+                let n3 : length a3.labels + 1 ≡ o3.count = a3.count in
+                let n : length (a1.labels ++ (f.made ∷ p) ∷ a3.labels) ≡ length a1.labels + suc (length a3.labels) = length-append a1.labels ((f.made ∷ p) ∷ a3.labels) in
+                omega arith;
             stands = a3.stands;
             role = a3.role ∙ role2;
             others = λ x apart. a3.others x apart ∙
-              elim (same_path_tells (f.made ∷ p) x) [
-                | inl e ↦ subst (λ y. (apply c2 a1.state).frames y ≡ s.frames y) e.1 (gone2 ∙ sym (st.bare f.made))
-                | inr e ↦ same_elsewhere x apart e.1
-              ];
+                elim (same_path_tells (f.made ∷ p) x) [
+                  | inl e ↦ subst (λ y. (apply c2 a1.state).frames y ≡ s.frames y) e.1 (gone2 ∙ sym (st.bare f.made))
+                  | inr e ↦ same_elsewhere x apart e.1
+                ];
             memory = a3.memory;
             peak =
-              let h1 : a1.state.peak ≡ max (max s.peak c1.depth) (length (f.made ∷ p) + o1.depth) = a1.peak in
-              let h3 : a3.state.peak ≡ max (max a1.state.peak c2.depth) (length p + o3.depth) = a3.peak in
-              let one : 1 ≤ o1.depth = a1.some_depth in
-              omega arith;
+                let h1 : a1.state.peak ≡ max (max s.peak c1.depth) (length (f.made ∷ p) + o1.depth) = a1.peak in
+                let h3 : a3.state.peak ≡ max (max a1.state.peak c2.depth) (length p + o3.depth) = a3.peak in
+                let one : 1 ≤ o1.depth = a1.some_depth in
+                omega arith;
             result = a3.result ∙ result2 ∙ a1.result ∙ result1;
             ends = a3.ends;
             some_depth = let one : 1 ≤ o1.depth = a1.some_depth in omega arith;
@@ -261,12 +261,12 @@ module _ (prog : Program) where
             let mine : (apply c1 s).frames p ≡ Some g = rw (both_first p (f.made ∷ p) (Some g) (Some d)) in
             let after : a1.state.memory ≡ o1.memory = subst (λ x. at_end (f.made ∷ p) x a1.state.memory ≡ o1.memory) ending a1.memory in
             met _ made
-              (around prog s p f g g d c1 st dp refl refl refl refl free o1 o3 a1 (reattach_change (f.made ∷ p)) dp2
-                (left_alone (reattach_change (f.made ∷ p)) a1.state p (off_one prog (f.made ∷ p) p None (no_own_child f.made p)) ∙ a1.others p (no_own_child f.made p) ∙ mine)
-                (rw (only_here (f.made ∷ p) None))
-                (λ x apart apart2. off_one prog (f.made ∷ p) x None apart2)
-                after refl refl free refl
-                (λ st2 mem2. before p g o3 (apply (reattach_change (f.made ∷ p)) a1.state) st2 (rw mem2 there)))
+            (around prog s p f g g d c1 st dp refl refl refl refl free o1 o3 a1 (reattach_change (f.made ∷ p)) dp2
+            (left_alone (reattach_change (f.made ∷ p)) a1.state p (off_one prog (f.made ∷ p) p None (no_own_child f.made p)) ∙ a1.others p (no_own_child f.made p) ∙ mine)
+            (rw (only_here (f.made ∷ p) None))
+            (λ x apart apart2. off_one prog (f.made ∷ p) x None apart2)
+            after refl refl free refl
+            (λ st2 mem2. before p g o3 (apply (reattach_change (f.made ∷ p)) a1.state) st2 (rw mem2 there)))
 
     by_call : (d : Option RegisterId) (g : ℕ) (vs : List Value) → action_of prog p f s.memory ≡ Call d g vs → (x : Option Outcome) → meaning prog n (f.made ∷ p) (called p f g vs) s.memory ≡ x →
         after_call (meaning prog n) p (waiting f d) d x ≡ Some o → Arrives prog s p f o
@@ -291,12 +291,12 @@ module _ (prog : Program) where
             let c2 = return_change (f.made ∷ p) p f1 d v in
             let after : cleared (f.made ∷ p) a1.state.memory ≡ o1.memory = subst (λ x. at_end (f.made ∷ p) x a1.state.memory ≡ o1.memory) ending a1.memory in
             met _ made
-              (around prog s p f f1 f2 body c1 st dp refl refl refl refl free o1 o3 a1 c2 dp2
-                (rw (both_second (f.made ∷ p) p None (Some (resumed f1 d v)) (no_own_child f.made p)))
-                (rw (both_first (f.made ∷ p) p None (Some (resumed f1 d v))))
-                (λ x apart apart2. off_two prog (f.made ∷ p) p x None _ apart2 apart)
-                after refl refl free refl
-                (λ st2 mem2. before p f2 o3 (apply c2 a1.state) st2 (rw mem2 there)))
+            (around prog s p f f1 f2 body c1 st dp refl refl refl refl free o1 o3 a1 c2 dp2
+            (rw (both_second (f.made ∷ p) p None (Some (resumed f1 d v)) (no_own_child f.made p)))
+            (rw (both_first (f.made ∷ p) p None (Some (resumed f1 d v))))
+            (λ x apart apart2. off_two prog (f.made ∷ p) p x None _ apart2 apart)
+            after refl refl free refl
+            (λ st2 mem2. before p f2 o3 (apply c2 a1.state) st2 (rw mem2 there)))
 
     by_end : (x : Ending) (m : Memory) → Ends prog p f s.memory x → at_end p x s.memory ≡ m → last x m ≡ Some o → Arrives prog s p f o
     unfolding Deep

@@ -1,5 +1,5 @@
 -- What holds in every state that is reached, and what one finished run says of all others.
-use Rattle.std.proofs.Common.{◌≡◌, ℕ, zero, suc, ◌+◌, ◌≤◌, max, List, [], ◌∷◌, length, Option, Some, None, ◌≢◌, Bool, true, false, inl, inr, refl, sym, ap, ◌∙◌, subst, arith}
+use Rattle.std.proofs.Common.{◌≡◌, ℕ, zero, suc, ◌+◌, ◌≤◌, max, List, [], ◌∷◌, length, Option, Some, None, ◌≢◌, true, inl, inr, refl, sym, ap, ◌∙◌, subst, arith}
 use Rattle.machine_core.specs.Paths.{Path, same_path}
 use Rattle.machine_core.specs.Frames.{Halted, Frame}
 use Rattle.machine_core.specs.State.{State, Change, apply, applied, may_go, change_of, core_step}
@@ -7,7 +7,7 @@ use Rattle.machine_core.specs.Tree.{Tree}
 use Rattle.machine_core.specs.Conditions.{Zone, StaysInZone, PassesZonesOn}
 use Rattle.machine_core.proofs.Confluence.{Stepper, Run, Over, Kept, Commutes, Tells, ends_alike, after_run, within_run, Within, kept_by_run}
 use Rattle.machine_core.proofs.Places.{same_path_tells}
-use Rattle.machine_core.proofs.Steps.{Does, does, change_is}
+use Rattle.machine_core.proofs.Steps.{Does, does}
 use Rattle.machine_core.proofs.Diamond.{diamond, Goes, goes, Spot, is_moved, is_gone, is_fresh, is_above, spot, same_frame, left_alone}
 use Rattle.machine_core.proofs.TreeKept.{step_keeps_tree}
 use Rattle.machine_core.proofs.Feet.{Footed, steps_apart}
@@ -125,7 +125,7 @@ module _ {ℓ} (Z : Type ℓ) (zone : Z → Zone) (prog : Program) (fits : Path 
   bounded start sound serial end run none labels s other =
       let over : Over steps end = ended_over end (kept_by_run steps Sound sound_kept serial start end sound run).tree none in
       let far = after_run steps Sound same_path paths_told sound_kept sound_commutes labels (length serial) start s end sound over
-            (within_run steps Sound same_path paths_told sound_kept sound_commutes serial start end run) other in
+      (within_run steps Sound same_path paths_told sound_kept sound_commutes serial start end run) other in
       let alike = ends_alike steps Sound same_path paths_told sound_kept sound_commutes serial start end sound run over labels s other in
       let here = kept_by_run steps Sound sound_kept labels start s sound other in
       let short : length labels ≤ length serial = alike.0 in
@@ -134,9 +134,9 @@ module _ {ℓ} (Z : Type ℓ) (zone : Z → Zone) (prog : Program) (fits : Path 
       record {
         sound = here;
         safe = λ p f is waits.
-          let there : end.frames p ≡ Some f = halted_stays far.0 s end here far.2 p f is waits in
-          let gone : end.frames p ≡ None = end_bare p in
-          cc;
+            let there : end.frames p ≡ Some f = halted_stays far.0 s end here far.2 p f is waits in
+            let gone : end.frames p ≡ None = end_bare p in
+            cc;
         budget = omega arith;
         peak = peak_below far.0 s end far.2;
         ended = λ gone. let (same, long) = alike.1 (ended_over s here.tree gone) in (same, count ∙ ap (λ x. start.done + x) long);

@@ -1,22 +1,19 @@
 -- The start, and the whole serial run from it.
-use Rattle.std.proofs.Common.{◌≡◌, ℕ, suc, ◌+◌, ◌≤◌, ◌<◌, max, List, [], ◌∷◌, ◌++◌, length, length-append, Option, Some, None, Bool, true, false, cond, eqb, eq-eqb, ◌⊎◌, inl, inr, refl, sym, ap, ◌∙◌, subst, arith, ℤ}
+use Rattle.std.proofs.Common.{◌≡◌, ℕ, ◌+◌, ◌≤◌, ◌<◌, max, List, [], ◌∷◌, ◌++◌, length, length-append, Option, Some, None, inl, inr, refl, sym, ap, ◌∙◌, subst, arith, ℤ}
 use Rattle.std.proofs.lemmas.Bool.Decides.{eqb_tells}
-use Rattle.machine_core.specs.Paths.{Path, same_path}
-use Rattle.machine_core.specs.Cells.{Memory, globals_of}
-use Rattle.machine_core.specs.Frames.{Wait, Free, OnCall, Role, Child, Body, Frame}
-use Rattle.machine_core.specs.Effect.{Reattach, Return, action_of}
-use Rattle.machine_core.specs.State.{State, Change, apply, core_step, end_change, override_result, root_frame, start_state}
+use Rattle.machine_core.specs.Paths.{Path}
+use Rattle.machine_core.specs.Cells.{Memory}
+use Rattle.machine_core.specs.Frames.{Free, OnCall, Child, Body, Frame}
+use Rattle.machine_core.specs.State.{State, apply, core_step, end_change, override_result, root_frame, start_state}
 use Rattle.machine_core.specs.Tree.{Tree}
-use Rattle.machine_core.specs.SerialMeaning.{Ending, Left, Gave, Outcome, cleared, meaning, IsSerialMeaning}
-use Rattle.machine_core.specs.Events.{Machine, start}
+use Rattle.machine_core.specs.SerialMeaning.{Ending, Left, Gave, Outcome, IsSerialMeaning}
+use Rattle.machine_core.specs.Events.{start}
 use Rattle.machine_core.proofs.Confluence.{Run}
-use Rattle.machine_core.proofs.Places.{only_here}
 use Rattle.machine_core.proofs.Steps.{end}
 use Rattle.machine_core.proofs.Diamond.{Goes}
 use Rattle.machine_core.proofs.Deep.{Deep}
-use Rattle.machine_core.proofs.SerialRun.{Stands, Awake, free, Ends, leaves_now, gives_now, at_end, Arrives, arrives_from, step_by, run_on, no_children, may}
+use Rattle.machine_core.proofs.SerialRun.{Stands, free, Ends, leaves_now, gives_now, at_end, Arrives, arrives_from, step_by, run_on, no_children, may}
 use Rattle.machine_core.proofs.Workers.{Unheld, Parked, Manned}
-use Rattle.linear.specs.declared.form.RegisterId.{RegisterId}
 use Rattle.program.specs.declared.function.Program.{Program}
 
 module _ (prog : Program) (arguments : List ℤ) (given : Memory) where

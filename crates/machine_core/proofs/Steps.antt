@@ -1,7 +1,7 @@
 -- The steps by cases, as a relation.
 use Rattle.std.proofs.Common.{◌≡◌, ℕ, List, [], ◌∷◌, Option, Some, None, Bool, true, false, cond, refl, subst, ℤ}
 use Rattle.machine_core.specs.Paths.{Path}
-use Rattle.machine_core.specs.Frames.{Value, Registers, Wait, Free, OnRegion, OnCall, Halted, Role, Child, Body, Frame}
+use Rattle.machine_core.specs.Frames.{Value, Registers, Wait, Free, OnRegion, OnCall, Halted, Child, Body, Frame}
 use Rattle.machine_core.specs.Effect.{Effect, Action, Plain, Detach, Reattach, Sync, Call, Return, action_of}
 use Rattle.machine_core.specs.State.{State, Change, plain_change, detach_change, reattach_change, sync_change, call_change, return_change, end_change, may_go, childless, hand_over, to_caller, return_from, act, change_of_frame, change_of}
 use Rattle.machine_core.proofs.Actions.{return_is_body, reattach_is_child}

@@ -1,34 +1,31 @@
 -- Every schedule of a checked program is a run of the core, and so bounded by the serial one.
-use Rattle.std.proofs.Common.{◌≡◌, ◌≢◌, ℕ, zero, suc, ◌+◌, ◌*◌, ◌≤◌, ◌<◌, max, List, [], ◌∷◌, ◌++◌, length, Option, Some, None, Bool, true, false, cond, ◌⊎◌, inl, inr, refl, sym, ap, ◌∙◌, subst, arith, le_trans, mul-le-mul_left, is_none, is_some, ℤ}
+use Rattle.std.proofs.Common.{◌≡◌, ◌≢◌, ℕ, suc, ◌+◌, ◌*◌, ◌≤◌, ◌<◌, List, [], ◌∷◌, ◌++◌, length, Option, Some, None, Bool, true, false, inl, inr, refl, sym, ap, ◌∙◌, subst, arith, mul-le-mul_left, is_none, is_some, ℤ}
 use Rattle.std.proofs.lemmas.Bool.Decides.{eqb_tells}
-use Rattle.machine_core.specs.Paths.{Path, same_path}
-use Rattle.machine_core.specs.Cells.{Cell, Memory}
-use Rattle.machine_core.specs.Arithmetic.{Trap, Unmatched}
-use Rattle.machine_core.specs.Frames.{Halted, Child, Body, Frame}
-use Rattle.machine_core.specs.Effect.{Effect, Action, Plain, Detach, Reattach, Sync, Call, Return, action_of}
-use Rattle.machine_core.specs.State.{State, Change, apply, act, return_from, return_change, reattach_change, end_change, wait_after, went, plain_change, childless, may_go, change_of, core_step, only, trap_change, root_frame, start_state}
+use Rattle.machine_core.specs.Paths.{Path}
+use Rattle.machine_core.specs.Arithmetic.{Trap}
+use Rattle.machine_core.specs.Frames.{Halted, Frame}
+use Rattle.machine_core.specs.Effect.{Action, Plain, Detach, Reattach, Sync, Call, Return, action_of}
+use Rattle.machine_core.specs.State.{State, Change, apply, act, return_from, return_change, reattach_change, wait_after, went, childless, change_of, core_step}
 use Rattle.machine_core.specs.Tree.{Tree}
 use Rattle.machine_core.specs.Conditions.{Zone, Going, StaysInZone, PassesZonesOn, ClosesRegions}
-use Rattle.machine_core.specs.SerialMeaning.{Gave, Outcome, IsSerialMeaning}
-use Rattle.machine_core.specs.Events.{Machine, Event, Step, Steal, event, sound_event, unless_trapped, by_hand, by_frame, by_change, stepped, stolen, next_hand, with_hand, start}
-use Rattle.machine_core.specs.Replay.{or_unchanged, replay, has_ended, CountsFrames}
-use Rattle.machine_core.specs.Schedules.{StepsOf, read_by, worker_of, NoneBy, Undisturbed, KeepsSchedule}
+use Rattle.machine_core.specs.SerialMeaning.{Gave, Outcome}
+use Rattle.machine_core.specs.Events.{Machine, Event, Step, Steal, event, sound_event, unless_trapped, by_hand, by_frame, by_change, stepped, next_hand, with_hand}
+use Rattle.machine_core.specs.Replay.{or_unchanged, replay, has_ended}
+use Rattle.machine_core.specs.Schedules.{worker_of, NoneBy, Undisturbed, KeepsSchedule}
 use Rattle.machine_core.proofs.Confluence.{Run, Kept, kept_by_run}
 use Rattle.machine_core.proofs.Actions.{return_is_body}
 use Rattle.machine_core.proofs.Places.{only_here}
-use Rattle.machine_core.proofs.Steps.{Does, plain, detach, reattach, sync, call, ret, end, does, change_is}
-use Rattle.machine_core.proofs.Diamond.{Goes, goes, same_frame, own_kept}
+use Rattle.machine_core.proofs.Steps.{Does, plain, detach, reattach, sync, call, ret, end, does}
+use Rattle.machine_core.proofs.Diamond.{Goes, own_kept}
 use Rattle.machine_core.proofs.TreeKept.{step_keeps_tree}
-use Rattle.machine_core.proofs.Feet.{Footed, going_now, alive}
+use Rattle.machine_core.proofs.Feet.{Footed, going_now}
 use Rattle.machine_core.proofs.FeetKept.{step_footed}
-use Rattle.machine_core.proofs.Deep.{Deep}
-use Rattle.machine_core.proofs.Sound.{changed, Sound, sound_kept, Bounded, bounded}
+use Rattle.machine_core.proofs.Sound.{changed, Sound, Bounded, bounded}
 use Rattle.machine_core.proofs.Undisturbed.{steps_stay, cell_stays}
 use Rattle.machine_core.proofs.Closed.{span, Holds, no_more, closes_passes, bare}
 use Rattle.machine_core.proofs.Workers.{Manned}
 use Rattle.machine_core.proofs.Machines.{step_manned, Found, found, stolen_manned}
 use Rattle.machine_core.proofs.Leaves.{leaf_below, busy, few_frames}
-use Rattle.machine_core.proofs.Starting.{begin, at_start, start_tree, start_deep, start_manned, Finishes, finishes}
 use Rattle.program.specs.declared.function.Program.{Program}
 
 -- a step that leaves no halted frame has not trapped
@@ -99,8 +96,8 @@ module _ {ℓ} (Z : Type ℓ) (zone : Z → Zone) (prog : Program) (fits : Path 
       let h : holds p go.frame = (shut.footed.own p go.frame go.is (safe p go.frame go.is)).0 in
       let g : Going go.frame = going_now s p go.frame go.may in
       moves prog s p shut.tree go
-        (λ r at. bare prog holds opens closes s shut.tree shut.feet shut.footed p go (λ q. closes.reattach_closed p go.frame s.memory r q h g at) safe go.frame.made)
-        (λ v at. bare prog holds opens closes s shut.tree shut.feet shut.footed p go (λ q. closes.return_closed p go.frame s.memory v q h g at) safe go.frame.made)
+      (λ r at. bare prog holds opens closes s shut.tree shut.feet shut.footed p go (λ q. closes.reattach_closed p go.frame s.memory r q h g at) safe go.frame.made)
+      (λ v at. bare prog holds opens closes s shut.tree shut.feet shut.footed p go (λ q. closes.return_closed p go.frame s.memory v q h g at) safe go.frame.made)
 
   module _ (first : State) (sound : SoundHere first) (shut : Shut first) (serial : List Path) (last : State) (run : Run (λ p s. core_step prog p s) serial first last) (none : last.frames [] ≡ None) (workers : ℕ) where
     -- a machine that a schedule has led to
@@ -235,15 +232,38 @@ module _ {ℓ} (Z : Type ℓ) (zone : Z → Zone) (prog : Program) (fits : Path 
     some_there None e = absurd (cc)
     some_there (Some f) e = (f, refl)
 
+    -- a step of a worker that is enabled
+    record Enabled (m : Machine) : Type 0 where
+      worker : ℕ
+      next : Machine
+      within : worker < workers
+      is : event prog workers (Step worker) m ≡ Some next
+      reached : Reached next
+      more : next.core.done ≡ suc m.core.done
+
+    by_worker : (m : Machine) → Reached m → (w : ℕ) (y : Path) (g : Frame) (c : Change) → w < workers → m.hands w ≡ Some y → m.core.frames y ≡ Some g → change_of prog m.core y ≡ Some c → Enabled m
+    by_worker m r w y g c lt here there ch = record {
+      worker = w;
+      next = stepped m w c (next_hand workers m (apply c m.core) y g (action_of prog y g m.core.memory));
+      within = lt;
+      is = not_trapped m.trapped (sound_event prog workers (Step w) m) r.fine ∙ step_enabled prog workers m w y g c here there ch;
+      reached = stepped_reached m r w y c g here there ch;
+      more = refl;
+    }
+
+    by_leaf : (m : Machine) → Reached m → (y : Path) (g : Frame) → m.core.frames y ≡ Some g → childless m.core y g.made ≡ true → Enabled m
+    by_leaf m r y g there leaf =
+        let (w, lt, here) = busy workers m.core m.hands r.manned y g there leaf in
+        let (c, ch) = goes_further m.core y (shut_at m r) (facts m r).safe (r.manned.goers w y here) in
+        by_worker m r w y g c lt here there ch
+
     -- until the end some worker's step is enabled, and does one instruction
-    enabled : (m : Machine) → Reached m → has_ended m ≡ false → (w : ℕ) × (next : Machine) × (w < workers) × (event prog workers (Step w) m ≡ Some next) × Reached next × (next.core.done ≡ suc m.core.done)
+    enabled : (m : Machine) → Reached m → has_ended m ≡ false → Enabled m
     enabled m r going =
         let (f, is) = going_is m going in
         let b = facts m r in
         let (y, g, there, leaf, under) = leaf_below m.core b.sound.tree b.sound.deep m.core.peak [] f is (omega arith) in
-        let (w, lt, here) = busy workers m.core m.hands r.manned y g there leaf in
-        let (c, ch) = goes_further m.core y (shut_at m r) b.safe (r.manned.goers w y here) in
-        (w, stepped m w c (next_hand workers m (apply c m.core) y g (action_of prog y g m.core.memory)), lt, not_trapped m.trapped _ r.fine ∙ step_enabled prog workers m w y g c here there ch, stepped_reached m r w y c g here there ch, refl)
+        by_leaf m r y g there leaf
 
     pub kept : (o : Outcome) → length serial ≡ o.count → last.memory ≡ o.memory → last.peak ≡ o.depth → o.ending ≡ Gave last.result → first.done ≡ 0 → (m : Machine) → Reached m → KeepsSchedule prog workers o m
     kept o count memory peak result zero_done m r =
@@ -253,17 +273,17 @@ module _ {ℓ} (Z : Type ℓ) (zone : Z → Zone) (prog : Program) (fits : Path 
           no_trap = (r.fine, b.safe);
           within_budget = omega arith;
           few_frames = λ n counts.
-            let few : length counts.living ≤ workers * m.core.peak =
-                  few_frames workers m.core m.hands r.manned b.sound.deep counts.living counts.distinct (λ x member. some_there (m.core.frames x) (sym (counts.all x) ∙ member)) in
-            let high : workers * m.core.peak ≤ workers * o.depth = mul-le-mul_left workers (subst (λ d. m.core.peak ≤ d) peak b.peak) in
-            let is : n ≡ length counts.living = counts.count in
-            omega (arith, few, high);
+              let few : length counts.living ≤ workers * m.core.peak =
+              few_frames workers m.core m.hands r.manned b.sound.deep counts.living counts.distinct (λ x member. some_there (m.core.frames x) (sym (counts.all x) ∙ member)) in
+              let high : workers * m.core.peak ≤ workers * o.depth = mul-le-mul_left workers (subst (λ d. m.core.peak ≤ d) peak b.peak) in
+              let is : n ≡ length counts.living = counts.count in
+              omega (arith, few, high);
           same_memory = λ gone. ap (λ (s : State). s.memory) (b.ended (ended_is m gone)).0 ∙ memory;
           same_result = λ gone. result ∙ ap (λ (s : State). Gave s.result) (sym (b.ended (ended_is m gone)).0);
           same_count = λ gone. let d : m.core.done ≡ first.done + length serial = (b.ended (ended_is m gone)).1 in omega arith;
           same_peak = λ gone. ap (λ (s : State). s.peak) (b.ended (ended_is m gone)).0 ∙ peak;
           busy_leaves = λ p f is leaf. busy workers m.core m.hands r.manned p f is leaf;
-          goes_on = λ going. let (w, next, lt, e, r2, d) = enabled m r going in (w, next, lt, e);
+          goes_on = λ going. let e = enabled m r going in (e.worker, e.next, e.within, e.is);
           ends_in_time = ends_in_time;
           undisturbed = λ w p others here alone. undisturbed others m r w p here alone;
         }
@@ -274,6 +294,7 @@ module _ {ℓ} (Z : Type ℓ) (zone : Z → Zone) (prog : Program) (fits : Path 
             from : (b : Bool) → has_ended m ≡ b → has_ended m ≡ true
             from true e = e
             from false e =
-                let (w, next, lt, h, r2, d) = enabled m r e in
-                let more : next.core.done ≤ first.done + length serial = (facts next r2).budget in
+                let step = enabled m r e in
+                let more : step.next.core.done ≤ first.done + length serial = (facts step.next step.reached).budget in
+                let one : step.next.core.done ≡ suc m.core.done = step.more in
                 absurd (omega arith)

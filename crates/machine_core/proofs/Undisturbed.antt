@@ -1,9 +1,9 @@
 -- The steps of one frame, and the cells that they read, are the same whatever the other frames do between.
-use Rattle.std.proofs.Common.{◌≡◌, ◌≢◌, ℕ, List, [], ◌∷◌, Option, Some, None, Bool, true, false, ◌||◌, ◌⊎◌, inl, inr, refl, sym, ap, ◌∙◌, subst}
+use Rattle.std.proofs.Common.{◌≡◌, ◌≢◌, ℕ, List, [], ◌∷◌, None, Bool, true, false, ◌||◌, ◌⊎◌, inl, inr, refl, sym, ap, subst}
 use Rattle.machine_core.specs.Paths.{Path}
 use Rattle.machine_core.specs.Cells.{Cell}
 use Rattle.machine_core.specs.Frames.{Frame}
-use Rattle.machine_core.specs.State.{State, Change, apply, change_of, core_step}
+use Rattle.machine_core.specs.State.{State, Change, apply}
 use Rattle.machine_core.specs.Tree.{MissesAt, is_left, is_unseen, is_added}
 use Rattle.machine_core.specs.Conditions.{Zone, StaysInZone, PassesZonesOn}
 use Rattle.machine_core.specs.Schedules.{StepsOf, read_by}

@@ -1,17 +1,15 @@
 -- Workers and tasks after each step: who holds a frame can go on with it, and what nobody holds is parked.
-use Rattle.std.proofs.Common.{◌≡◌, ℕ, zero, suc, ◌<◌, [], ◌∷◌, Option, Some, None, ◌≢◌, Bool, true, false, cond, not, ◌&&◌, eqb, eq-eqb, eqb-true, ◌⊎◌, inl, inr, refl, sym, ap, ◌∙◌, subst, arith, is_none, ℤ}
+use Rattle.std.proofs.Common.{◌≡◌, ℕ, zero, suc, ◌<◌, [], ◌∷◌, Option, Some, None, ◌≢◌, Bool, true, false, cond, not, ◌&&◌, eqb, eq-eqb, eqb-true, ◌⊎◌, inl, inr, refl, sym, ap, ◌∙◌, subst}
 use Rattle.std.proofs.lemmas.Bool.Decides.{eqb_tells}
 use Rattle.machine_core.specs.Paths.{Path, same_path}
-use Rattle.machine_core.specs.Arithmetic.{Trap}
-use Rattle.machine_core.specs.Frames.{Registers, Wait, Free, OnRegion, OnCall, Halted, Role, Child, Body, Frame}
-use Rattle.machine_core.specs.Effect.{Effect}
-use Rattle.machine_core.specs.State.{State, Change, apply, only, both, all_below, none_within, outside, outside_role, may_go, childless, wait_after, went, detached, continued, synced, waiting, resumed, plain_change, detach_change, reattach_change, sync_change, call_change, return_change, end_change}
+use Rattle.machine_core.specs.Frames.{Free, OnRegion, OnCall, Role, Child, Body, Frame}
+use Rattle.machine_core.specs.State.{State, Change, apply, only, both, all_below, none_within, outside, outside_role}
 use Rattle.machine_core.specs.Tree.{Tree}
-use Rattle.machine_core.specs.Events.{is_place, holder, with_hand, unless_held, may_be_taken, caller_of}
+use Rattle.machine_core.specs.Events.{is_place, with_hand, caller_of}
 use Rattle.machine_core.proofs.Actions.{same_path_itself}
 use Rattle.machine_core.proofs.Places.{same_path_tells, same_path_apart, only_here, both_first, both_second, no_own_child, all_below_kept}
 use Rattle.machine_core.proofs.Steps.{Does}
-use Rattle.machine_core.proofs.Diamond.{Goes, spot, Spot, is_moved, is_gone, is_fresh, is_above, goes_stays, stands, left_alone, same_frame, next_free}
+use Rattle.machine_core.proofs.Diamond.{Goes, spot, Spot, is_moved, is_gone, is_fresh, is_above, goes_stays, stands, left_alone, same_frame}
 use Rattle.machine_core.proofs.TreeKept.{step_keeps_tree}
 use Rattle.linear.specs.declared.form.RegisterId.{RegisterId}
 use Rattle.program.specs.declared.function.Program.{Program}
@@ -185,8 +183,8 @@ module _ (prog : Program) (workers : ℕ) (s : State) (hands : ℕ → Option Pa
   plain_manned f at free =
       let mine : c.frames p ≡ Some (Some f) = ap (λ m. m p) at ∙ only_here p (Some f) in
       manned_next (Some p)
-        (λ y e. let same : p ≡ y = cc in (inl (sym same), subst (λ z. Goes (apply c s) z) same (free_goes p f mine free)))
-        (λ x g is off h. let apart = not_place x p off in others_stay f mine x g (unheld x apart h) (ap (λ m. m x) at ∙ left_place (Some f) x apart) is)
+      (λ y e. let same : p ≡ y = cc in (inl (sym same), subst (λ z. Goes (apply c s) z) same (free_goes p f mine free)))
+      (λ x g is off h. let apart = not_place x p off in others_stay f mine x g (unheld x apart h) (ap (λ m. m x) at ∙ left_place (Some f) x apart) is)
 
   -- a child is made, and the worker goes on with it
   pub child_manned : (k : ℕ) (f d : Frame) → c.frames ≡ both p (Some f) (k ∷ p) (Some d) → s.frames (k ∷ p) ≡ None → d.waits ≡ Free → Parked (apply c s) p f → Manned workers (apply c s) (with_hand hands w (Some (k ∷ p)))
@@ -194,27 +192,27 @@ module _ (prog : Program) (workers : ℕ) (s : State) (hands : ℕ → Option Pa
       let mine : c.frames p ≡ Some (Some f) = ap (λ m. m p) at ∙ both_first p (k ∷ p) _ _ in
       let child : c.frames (k ∷ p) ≡ Some (Some d) = ap (λ m. m (k ∷ p)) at ∙ both_second p (k ∷ p) _ _ (λ e. no_own_child k p (sym e)) in
       manned_next (Some (k ∷ p))
-        (λ y e. let same : k ∷ p ≡ y = cc in (inr (subst (λ z. Unheld hands z) same (free_name (k ∷ p) none)), subst (λ z. Goes (apply c s) z) same (free_goes (k ∷ p) d child free)))
-        (λ x g is off h.
-          elim (same_path_tells p x) [
-            | inl e ↦ now_at f g x mine e.1 is parked
-            | inr e ↦ others_stay f mine x g (unheld x e.1 h) (ap (λ m. m x) at ∙ left_both (k ∷ p) (Some f) (Some d) x e.1 (not_place x (k ∷ p) off)) is
-          ])
+      (λ y e. let same : k ∷ p ≡ y = cc in (inr (subst (λ z. Unheld hands z) same (free_name (k ∷ p) none)), subst (λ z. Goes (apply c s) z) same (free_goes (k ∷ p) d child free)))
+      (λ x g is off h.
+      elim (same_path_tells p x) [
+        | inl e ↦ now_at f g x mine e.1 is parked
+        | inr e ↦ others_stay f mine x g (unheld x e.1 h) (ap (λ m. m x) at ∙ left_both (k ∷ p) (Some f) (Some d) x e.1 (not_place x (k ∷ p) off)) is
+      ])
 
   -- the frame goes, and the worker goes on above it or is idle
   pub gone_manned : c.frames p ≡ Some None → (next : Option Path) → ((y : Path) → next ≡ Some y → Unheld hands y × Goes (apply c s) y) →
       ((x : Path) (g : Frame) → (apply c s).frames x ≡ Some g → p ≢ x → Unheld hands x → is_place next x ≡ false → Parked (apply c s) x g) → Manned workers (apply c s) (with_hand hands w next)
   gone_manned at next lands leaves =
       manned_next next
-        (λ y e. let (none, go) = lands y e in (inr none, go))
-        (λ x g is off h.
-          elim (same_path_tells p x) [
-            | inl e ↦
-                let now : (apply c s).frames p ≡ None = rw at in
-                let there : (apply c s).frames p ≡ Some g = subst (λ z. (apply c s).frames z ≡ Some g) (sym e.1) is in
-                absurd (cc)
-            | inr e ↦ leaves x g is e.1 (unheld x e.1 h) off
-          ])
+      (λ y e. let (none, go) = lands y e in (inr none, go))
+      (λ x g is off h.
+      elim (same_path_tells p x) [
+        | inl e ↦
+            let now : (apply c s).frames p ≡ None = rw at in
+            let there : (apply c s).frames p ≡ Some g = subst (λ z. (apply c s).frames z ≡ Some g) (sym e.1) is in
+            absurd (cc)
+        | inr e ↦ leaves x g is e.1 (unheld x e.1 h) off
+      ])
 
   -- a change of p alone leaves its children
   below_alone : (o : Option Frame) → c.frames ≡ only p o → (k : ℕ) → (apply c s).frames (k ∷ p) ≡ s.frames (k ∷ p)
@@ -225,20 +223,20 @@ module _ (prog : Program) (workers : ℕ) (s : State) (hands : ℕ → Option Pa
   parked_manned h at parked =
       let mine : c.frames p ≡ Some (Some h) = ap (λ m. m p) at ∙ only_here p (Some h) in
       manned_next None
-        (λ y e. absurd (cc))
-        (λ x g is off k.
-          elim (same_path_tells p x) [
-            | inl e ↦ now_at h g x mine e.1 is parked
-            | inr e ↦ others_stay h mine x g (unheld x e.1 k) (ap (λ m. m x) at ∙ left_place (Some h) x e.1) is
-          ])
+      (λ y e. absurd (cc))
+      (λ x g is off k.
+      elim (same_path_tells p x) [
+        | inl e ↦ now_at h g x mine e.1 is parked
+        | inr e ↦ others_stay h mine x g (unheld x e.1 k) (ap (λ m. m x) at ∙ left_place (Some h) x e.1) is
+      ])
 
   pub sync_manned : (made r : ℕ) (after : Frame) → c.frames ≡ only p (Some after) → after.waits ≡ OnRegion r → after.made ≡ made → (t : Bool) → none_within s p made r ≡ t → Manned workers (apply c s) (with_hand hands w (cond t (Some p) None))
   sync_manned made r after at wait same_made true passes =
       let mine : c.frames p ≡ Some (Some after) = ap (λ m. m p) at ∙ only_here p (Some after) in
       manned_next (Some p)
-        (λ y e. let same : p ≡ y = cc in
-          (inl (sym same), subst (λ z. Goes (apply c s) z) same (record { frame = after; is = rw mine; may = rw (wait, same_made) (all_below_kept made _ _ (λ k lt h. rw (below_alone (Some after) at k) h) passes) })))
-        (λ x g is off h. let apart = not_place x p off in others_stay after mine x g (unheld x apart h) (ap (λ m. m x) at ∙ left_place (Some after) x apart) is)
+      (λ y e. let same : p ≡ y = cc in
+      (inl (sym same), subst (λ z. Goes (apply c s) z) same (record { frame = after; is = rw mine; may = rw (wait, same_made) (all_below_kept made _ _ (λ k lt h. rw (below_alone (Some after) at k) h) passes) })))
+      (λ x g is off h. let apart = not_place x p off in others_stay after mine x g (unheld x apart h) (ap (λ m. m x) at ∙ left_place (Some after) x apart) is)
   sync_manned made r after at wait same_made false stalls =
       let (k, inside) = some_below made _ stalls in
       let (d, n, lives, role) = inside_frame r (s.frames (k ∷ p)) inside in
@@ -250,14 +248,14 @@ module _ (prog : Program) (workers : ℕ) (s : State) (hands : ℕ → Option Pa
       let top : c.frames above ≡ Some (Some h) = ap (λ m. m above) at ∙ both_second p above _ _ apart in
       let next : caller_of p ≡ Some above = ap caller_of up in
       gone_manned (ap (λ m. m p) at ∙ both_first p above _ _) (caller_of p)
-        (λ y e. let same : above ≡ y = cc in (subst (λ z. Unheld hands z) same (waiting_unheld above g j d is waits), subst (λ z. Goes (apply c s) z) same (free_goes above h top free)))
-        (λ x u now off none away.
-          let not_above : above ≢ x = not_place x above (rw next at away) in
-          parked_stays x u none (ap (λ m. m x) at ∙ left_both above None (Some h) x off not_above) now (λ m e gone free made. absurd (not_above (cc))) (λ m r n f e gone wait fs in_r. absurd (not_above (cc))))
+      (λ y e. let same : above ≡ y = cc in (subst (λ z. Unheld hands z) same (waiting_unheld above g j d is waits), subst (λ z. Goes (apply c s) z) same (free_goes above h top free)))
+      (λ x u now off none away.
+      let not_above : above ≢ x = not_place x above (rw next at away) in
+      parked_stays x u none (ap (λ m. m x) at ∙ left_both above None (Some h) x off not_above) now (λ m e gone free made. absurd (not_above (cc))) (λ m r n f e gone wait fs in_r. absurd (not_above (cc))))
 
   pub end_manned : c.frames ≡ only p None → p ≡ [] → Manned workers (apply c s) (with_hand hands w (caller_of p))
   end_manned at root =
       let next : caller_of p ≡ None = ap caller_of root in
       gone_manned (ap (λ m. m p) at ∙ only_here p None) (caller_of p)
-        (λ y e. absurd (cc))
-        (λ x h now off none away. parked_stays x h none (ap (λ m. m x) at ∙ left_place None x off) now (λ m e gone free made. absurd (cc)) (λ m r n f e gone wait fs in_r. absurd (cc)))
+      (λ y e. absurd (cc))
+      (λ x h now off none away. parked_stays x h none (ap (λ m. m x) at ∙ left_place None x off) now (λ m e gone free made. absurd (cc)) (λ m r n f e gone wait fs in_r. absurd (cc)))

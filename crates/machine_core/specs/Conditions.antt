@@ -1,9 +1,8 @@
 -- Local conditions: what a checked program keeps, each about one frame at one place. They suffice for every schedule.
 -- Z names zones of cells, and zone says which cells; what is shown of a frame is a relation to the name of its zone.
-use Rattle.std.specs.Prelude.{◌≡◌, ◌≢◌, ℕ, suc, ◌∷◌, List, Option, Some, None, Bool, true, false, ◌⊎◌, is_some, ℤ}
+use Rattle.std.specs.Prelude.{◌≡◌, ◌≢◌, ℕ, ◌∷◌, List, Option, None, Bool, true, false, ◌⊎◌, is_some, ℤ}
 use Rattle.machine_core.specs.Paths.{Path, Under}
 use Rattle.machine_core.specs.Cells.{Object, Shared, Local, Cell, Memory}
-use Rattle.machine_core.specs.Arithmetic.{Trap}
 use Rattle.machine_core.specs.Frames.{Value, Registers, OnCall, Frame}
 use Rattle.machine_core.specs.Effect.{Effect, Plain, Detach, Reattach, Sync, Call, Return, action_of}
 use Rattle.machine_core.specs.State.{went, detached, continued, synced, called, waiting, resumed}

@@ -1,5 +1,5 @@
 -- What is true of the frames of every state that is reached, and which changes leave each other alone.
-use Rattle.std.specs.Prelude.{◌≡◌, ℕ, ◌<◌, ◌∷◌, Option, Some, None, true, false}
+use Rattle.std.specs.Prelude.{◌≡◌, ℕ, ◌<◌, ◌∷◌, Option, Some, None, false}
 use Rattle.machine_core.specs.Paths.{Path}
 use Rattle.machine_core.specs.Cells.{Cell}
 use Rattle.machine_core.specs.Frames.{OnCall, Body, Frame}
