@@ -1,5 +1,5 @@
 -- What a contract sees of a cactus: the frames in their slots, which is a map from paths to frames.
-use Rattle.std.specs.Prelude.{◌≡◌, ◌≢◌, ℕ, ◌+◌, List, Option, Some, None, IsSome, slice_index_or, slice_set, if◌then◌else◌, ◌==◌}
+use Rattle.std.specs.Prelude.{◌≡◌, ◌≢◌, ℕ, ◌+◌, List, [], ◌∷◌, ◌++◌, Option, Some, None, IsSome, slice_index_or, slice_set, if◌then◌else◌, ◌==◌}
 use Rattle.std.specs.Option.{option_map}
 use Rattle.frame.specs.declared.path.Path.{Path}
 use Rattle.cactus.specs.declared.node.Node.{Node}
@@ -40,6 +40,14 @@ module _ {F : Type 0} where
     pub free : node_at old slot ≡ None
     pub made : new.made ≡ old.made + 1
     pub change : ChangesOnly old new slot (Some (record { generation = old.made; path = path; parent = parent; frame = frame }))
+
+  -- the child of this number of the frame in the parent's slot stands in a slot that was free
+  pub record AddsChild (old new : Frames F) (parent number : ℕ) (frame : F) (slot : ℕ) : Type 0 where
+    pub above : Node F
+    pub stands : node_at old parent ≡ Some above
+    pub path : Path
+    pub numbers : path.numbers ≡ above.path.numbers ++ number ∷ []
+    pub added : IsAdded old new path (Some parent) frame slot
 
   -- the slot is free, and as many frames were made as before
   pub record IsRemoved (old new : Frames F) (slot : ℕ) : Type 0 where

@@ -1,14 +1,26 @@
-ghost use Rattle.std.specs.Prelude.{◌≡◌, ◌+◌, ◌<◌, ◌^◌, [], Some, None, IsSome, IfOk, OnOk, OnErr, option_copied};
+ghost use Rattle.std.specs.Prelude.{◌≡◌, ◌+◌, ◌<◌, ◌^◌, ◌++◌, ◌∷◌, [], Some, None, IsSome, IfOk, OnOk, OnErr, option_copied};
 ghost use Rattle.std.specs.Option.{option_copied_mut};
 ghost use Rattle.std.specs.Borrow.{sem};
-ghost use Rattle.cactus.specs.Frames.{node_at, node_of_use, frame_at, Lives, IsAdded, IsRemoved};
+ghost use Rattle.cactus.specs.Frames.{node_at, node_of_use, frame_at, Lives, IsAdded, AddsChild, IsRemoved};
 
 use crate::node::Node;
 use frame::Path;
-use lists::OutOfMemory;
+use lists::{OutOfMemory, Seq};
 use slab::{Iter, Slab};
 use std::alloc::Global;
 use std::marker::Model;
+
+/// The path of a frame's child of this number.
+fn child_path(alloc: Global, path: &Path, number: u64) -> Result<Path, OutOfMemory>
+    ensures { IfOk result (λ child. child.numbers ≡ path.now.numbers ++ number ∷ []) }
+{
+    let mut numbers = Vec::with_capacity(alloc, path.numbers.len().saturating_add(1))?;
+    numbers.extend_from_slice(path.numbers.as_slice())?;
+    numbers.push(number)?;
+    Ok(Path {
+        numbers: Seq::from_vec(numbers),
+    })
+}
 
 /// The living frames of a run, each with data of type `F`.
 #[derive(Drop)]
@@ -139,9 +151,12 @@ impl<F: Drop> Cactus<F> {
     /// Makes the root; the answer is its slot. Where memory is refused nothing changes.
     pub fn add_root(&mut self, frame: F) -> Result<usize, OutOfMemory>
         requires { self.old.made + 1 < 2 ^ 63 }
+        ensures ok { IfOk result (λ slot. IsAdded self.old self.new (record { numbers = [] }) None frame slot) }
         ensures err { OnErr result (self.new ≡ self.old) }
     {
-        let path = Path::root(self.alloc);
+        let path = Path {
+            numbers: Seq::new(self.alloc),
+        };
         self.put(path, None, frame)
     }
 
@@ -150,9 +165,10 @@ impl<F: Drop> Cactus<F> {
     pub fn add_child(&mut self, parent: usize, number: u64, frame: F) -> Result<usize, OutOfMemory>
         requires lives { Lives self.old parent }
         requires room { self.old.made + 1 < 2 ^ 63 }
+        ensures ok { IfOk result (λ slot. AddsChild self.old self.new parent number frame slot) }
         ensures err { OnErr result (self.new ≡ self.old) }
     {
-        let path = self.nodes[parent].path.child(self.alloc, number)?;
+        let path = child_path(self.alloc, &self.nodes[parent].path, number)?;
         self.put(path, Some(parent), frame)
     }
 
@@ -161,6 +177,7 @@ impl<F: Drop> Cactus<F> {
     pub fn push_call(&mut self, caller: usize, number: u64, frame: F) -> Result<usize, OutOfMemory>
         requires lives { Lives self.old caller }
         requires room { self.old.made + 1 < 2 ^ 63 }
+        ensures ok { IfOk result (λ slot. AddsChild self.old self.new caller number frame slot) }
         ensures err { OnErr result (self.new ≡ self.old) }
     {
         self.add_child(caller, number, frame)

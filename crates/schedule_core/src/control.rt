@@ -1,7 +1,10 @@
+ghost use Rattle.std.specs.Prelude.{◌≡◌, ◌<◌, ◌≤◌, OnOk, vec_len};
+ghost use Rattle.schedule_core.specs.Scheduling.{BeginsChild, GoesOnWith, StallsAt};
+
 use crate::activation::Activation;
 use crate::halt::Halt;
 use crate::machine::{Machine, Phase};
-use frame::{Effect, Frame, Trap, Wait};
+use frame::{Effect, Frame, Trap};
 use program::{BlockId, FunctionId, RegisterId};
 use sync_join::{Outcome, Passage};
 
@@ -10,36 +13,41 @@ const MOST_FRAMES: u64 = 0x7fff_ffff_ffff_ffff;
 
 impl Machine<'_> {
     /// Does what moves the run from block to block, or from frame to frame.
-    pub(crate) fn control(&mut self, worker: u8, top: usize, effect: Effect) -> Result<(), Halt> {
+    pub(crate) fn control(&mut self, worker: u8, top: usize, effect: Effect) -> Result<(), Halt>
+        requires { worker < vec_len self.old.hands }
+        ensures refused { result ≡ Err Halt.OutOfMemory → self.new ≡ self.old }
+    {
         match effect {
-            Effect::Branch { target } => self.enter(top, target),
+            Effect::Branch { target } => Ok(self.enter(top, target)?),
             Effect::Detach {
                 region,
                 body,
                 continuation,
             } => self.detach(worker, top, region, body, continuation),
-            Effect::Reattach { region } => self.reattach(worker, top, region),
-            Effect::Sync { region, target } => self.sync(worker, top, region, target),
+            Effect::Reattach { region } => Ok(self.reattach(worker, top, region)?),
+            Effect::Sync { region, target } => Ok(self.sync(worker, top, region, target)?),
             Effect::Call { register, callee } => self.call(worker, top, register, callee),
-            Effect::Return { value } => self.return_with(worker, top, value),
+            Effect::Return { value } => Ok(self.return_with(worker, top, value)?),
             _ => Err(Halt::Trapped(Trap::Unmatched)),
         }
     }
 
-    /// A frame for writing.
-    fn activation_mut(&mut self, slot: usize) -> Result<&mut Activation, Trap> {
-        self.cactus.frame_mut(slot).ok_or(Trap::Unmatched)
-    }
-
     /// The frame goes along the edge to the block.
-    fn enter(&mut self, slot: usize, target: BlockId) -> Result<(), Halt> {
+    fn enter(&mut self, slot: usize, target: BlockId) -> Result<(), Trap>
+        ensures { self.new ≡ record self.old { cactus = self.new.cactus } }
+    {
         let program = self.program();
-        self.activation_mut(slot)?.frame.enter(program, target)?;
-        Ok(())
+        match self.cactus.frame_mut(slot) {
+            Some(activation) => activation.frame.enter(program, target),
+            None => Err(Trap::Unmatched),
+        }
     }
 
     /// The peak counts a new frame of this depth.
-    fn count_depth(&mut self, depth: usize) {
+    fn count_depth(&mut self, depth: usize)
+        ensures kept { self.new ≡ record self.old { peak = self.new.peak } }
+        ensures peak { self.old.peak ≤ self.new.peak }
+    {
         self.peak = self.peak.max((depth as u64).saturating_add(1));
     }
 
@@ -51,7 +59,11 @@ impl Machine<'_> {
         region: RegisterId,
         body: BlockId,
         continuation: BlockId,
-    ) -> Result<(), Halt> {
+    ) -> Result<(), Halt>
+        requires { worker < vec_len self.old.hands }
+        ensures refused { result ≡ Err Halt.OutOfMemory → self.new ≡ self.old }
+        ensures child_first { OnOk result (BeginsChild self.old.cactus self.new.cactus self.new.hands.items worker slot) }
+    {
         let parent = self.activation(slot)?;
         let mut count = parent.count(region)?;
         if count.living == u64::MAX || self.cactus.frames_made() >= MOST_FRAMES {
@@ -63,11 +75,10 @@ impl Machine<'_> {
         let child = Activation::new(self.alloc, frame, worker)?;
         let child_slot = self.cactus.add_child(slot, number, child)?;
         count.opened();
-        let parent = self.activation_mut(slot)?;
-        let _number = parent.frame.count_child();
-        parent.frame.continue_at(continuation);
-        parent.set_count(region, count);
-        parent.runner = None;
+        match self.cactus.frame_mut(slot) {
+            Some(parent) => parent.after_detach(region, count, continuation),
+            None => return Err(Halt::Trapped(Trap::Unmatched)),
+        }
         self.count_depth(depth);
         self.set_hand(worker, Some(child_slot));
         Ok(())
@@ -75,23 +86,28 @@ impl Machine<'_> {
 
     /// The child ends. The worker goes on with the parent where no thief took it since, or where the parent waited for
     /// this child alone (Tapir, "reattach").
-    fn reattach(&mut self, worker: u8, slot: usize, region: RegisterId) -> Result<(), Halt> {
+    fn reattach(&mut self, worker: u8, slot: usize, region: RegisterId) -> Result<(), Trap>
+        requires { worker < vec_len self.old.hands }
+    {
         let node = self.cactus.node(slot).ok_or(Trap::Unmatched)?;
         let last = node.path.numbers.as_slice().last().copied();
         let (Some(parent_slot), Some(number)) = (node.parent, last) else {
-            return Err(Halt::Trapped(Trap::Unmatched));
+            return Err(Trap::Unmatched);
         };
         if !node.frame.is_childless() {
-            return Err(Halt::Trapped(Trap::Unmatched));
+            return Err(Trap::Unmatched);
         }
         let parent = self.activation(parent_slot)?;
         let mut count = parent.count(region)?;
         if count.living == 0 {
-            return Err(Halt::Trapped(Trap::Unmatched));
+            return Err(Trap::Unmatched);
         }
         let outcome = count.closed(region.0, number, parent.as_parent());
         let _child = self.cactus.remove(slot);
-        self.activation_mut(parent_slot)?.set_count(region, count);
+        match self.cactus.frame_mut(parent_slot) {
+            Some(parent) => parent.set_count(region, count),
+            None => return Err(Trap::Unmatched),
+        }
         self.set_hand(worker, None);
         match outcome {
             Outcome::ResumeReady | Outcome::ResumeStalled => self.resume(worker, parent_slot),
@@ -99,13 +115,15 @@ impl Machine<'_> {
         }
     }
 
-    /// The worker goes on with the task whose top is in the slot. A sync at which it stalled was counted there, and is
-    /// not done again.
-    fn resume(&mut self, worker: u8, slot: usize) -> Result<(), Halt> {
-        let top = self.activation_mut(slot)?;
-        top.frame.waits = Wait::Nothing;
-        top.stalled_in = None;
-        top.runner = Some(worker);
+    /// The worker goes on with the task whose top is in the slot.
+    fn resume(&mut self, worker: u8, slot: usize) -> Result<(), Trap>
+        requires { worker < vec_len self.old.hands }
+        ensures { OnOk result (GoesOnWith self.new.cactus self.new.hands.items worker slot) }
+    {
+        match self.cactus.frame_mut(slot) {
+            Some(top) => top.run_by(worker),
+            None => return Err(Trap::Unmatched),
+        }
         self.set_hand(worker, Some(slot));
         Ok(())
     }
@@ -117,18 +135,35 @@ impl Machine<'_> {
         slot: usize,
         region: RegisterId,
         target: BlockId,
-    ) -> Result<(), Halt> {
-        let passage = self.activation(slot)?.count(region)?.at_sync();
-        let program = self.program();
-        let top = self.activation_mut(slot)?;
+    ) -> Result<(), Trap>
+        requires { worker < vec_len self.old.hands }
+    {
+        let top = self.activation(slot)?;
+        let passage = top.count(region)?.at_sync();
         let block = top.frame.block;
-        top.frame.enter(program, target)?;
-        if passage == Passage::Stall {
-            top.frame.waits = Wait::Region(region);
-            top.stalled_in = Some(block);
-            top.runner = None;
-            self.set_hand(worker, None);
+        self.enter(slot, target)?;
+        match passage {
+            Passage::Pass => Ok(()),
+            Passage::Stall => self.stall(worker, slot, region, block),
         }
+    }
+
+    /// The task of the frame waits; the worker is idle.
+    fn stall(
+        &mut self,
+        worker: u8,
+        slot: usize,
+        region: RegisterId,
+        block: BlockId,
+    ) -> Result<(), Trap>
+        requires { worker < vec_len self.old.hands }
+        ensures { OnOk result (StallsAt self.new.cactus self.new.hands.items worker slot region) }
+    {
+        match self.cactus.frame_mut(slot) {
+            Some(top) => top.stall(region, block),
+            None => return Err(Trap::Unmatched),
+        }
+        self.set_hand(worker, None);
         Ok(())
     }
 
@@ -139,7 +174,10 @@ impl Machine<'_> {
         slot: usize,
         register: Option<RegisterId>,
         callee: FunctionId,
-    ) -> Result<(), Halt> {
+    ) -> Result<(), Halt>
+        requires { worker < vec_len self.old.hands }
+        ensures refused { result ≡ Err Halt.OutOfMemory → self.new ≡ self.old }
+    {
         if self.cactus.frames_made() >= MOST_FRAMES {
             return Err(Halt::Trapped(Trap::Unmatched));
         }
@@ -150,28 +188,32 @@ impl Machine<'_> {
         let number = caller.made;
         let called = Activation::new(self.alloc, frame, worker)?;
         let called_slot = self.cactus.push_call(slot, number, called)?;
-        let caller = self.activation_mut(slot)?;
-        let _number = caller.frame.wait_for_call(register);
-        caller.callee = Some(called_slot);
-        caller.runner = None;
+        match self.cactus.frame_mut(slot) {
+            Some(caller) => caller.wait_for_call(register, called_slot),
+            None => return Err(Halt::Trapped(Trap::Unmatched)),
+        }
         self.count_depth(depth);
         self.set_hand(worker, Some(called_slot));
         Ok(())
     }
 
     /// The function ends; its caller goes on with the result, or the run ends with it.
-    fn return_with(&mut self, worker: u8, slot: usize, value: Option<i64>) -> Result<(), Halt> {
+    fn return_with(&mut self, worker: u8, slot: usize, value: Option<i64>) -> Result<(), Trap>
+        requires { worker < vec_len self.old.hands }
+    {
         let node = self.cactus.node(slot).ok_or(Trap::Unmatched)?;
         if !node.frame.is_childless() {
-            return Err(Halt::Trapped(Trap::Unmatched));
+            return Err(Trap::Unmatched);
         }
         match (node.parent, value) {
             (Some(caller_slot), value) => {
                 let _callee = self.cactus.pop_call(slot);
-                let caller = self.activation_mut(caller_slot)?;
-                caller.callee = None;
-                caller.frame.resume(value);
-                self.resume(worker, caller_slot)
+                match self.cactus.frame_mut(caller_slot) {
+                    Some(caller) => caller.after_call(worker, value),
+                    None => return Err(Trap::Unmatched),
+                }
+                self.set_hand(worker, Some(caller_slot));
+                Ok(())
             }
             (None, Some(result)) => {
                 let _root = self.cactus.pop_call(slot);
@@ -179,7 +221,7 @@ impl Machine<'_> {
                 self.phase = Phase::Ended { result };
                 Ok(())
             }
-            (None, None) => Err(Halt::Trapped(Trap::Undefined)),
+            (None, None) => Err(Trap::Undefined),
         }
     }
 }

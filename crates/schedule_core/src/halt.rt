@@ -1,3 +1,6 @@
+ghost use Rattle.std.specs.Prelude.{◌≡◌};
+ghost use Rattle.schedule_core.specs.declared.halt.Halt.TheVariants.{OutOfMemory as Refused, Trapped};
+
 use frame::Trap;
 use lists::OutOfMemory;
 use std::alloc::{AllocError, AllocFailed};
@@ -10,24 +13,32 @@ pub enum Halt {
 }
 
 impl From<OutOfMemory> for Halt {
+    ghost from_gives = { λ error halt. halt ≡ Refused };
+
     fn from(_error: OutOfMemory) -> Halt {
         Halt::OutOfMemory
     }
 }
 
 impl From<AllocError> for Halt {
+    ghost from_gives = { λ error halt. halt ≡ Refused };
+
     fn from(_error: AllocError) -> Halt {
         Halt::OutOfMemory
     }
 }
 
 impl<T: Drop> From<AllocFailed<T>> for Halt {
+    ghost from_gives = { λ error halt. halt ≡ Refused };
+
     fn from(_error: AllocFailed<T>) -> Halt {
         Halt::OutOfMemory
     }
 }
 
 impl From<Trap> for Halt {
+    ghost from_gives = { λ trap halt. halt ≡ Trapped trap };
+
     fn from(trap: Trap) -> Halt {
         Halt::Trapped(trap)
     }

@@ -1,5 +1,8 @@
-ghost use Rattle.std.specs.Prelude.{◌<◌, OnOk};
-ghost use Rattle.cactus.specs.Frames.{Lives};
+ghost use Rattle.std.specs.Prelude.{◌≡◌, ◌<◌, ℕ, false, IsTrue, IsSomeAnd, IfOk, OnOk, OnErr, OnSome, vec_len};
+ghost use Rattle.std.specs.Vec.{with_item};
+ghost use Rattle.cactus.specs.Frames.{Lives, frame_at};
+ghost use Rattle.schedule_core.specs.Scheduling.{hand_of, IsIdle, IsReady};
+ghost use Rattle.schedule_core.specs.Running.{IsGoing, StepsWhere, Takes, TakesAt};
 
 use crate::activation::Activation;
 use crate::event::Event;
@@ -100,7 +103,10 @@ impl<'v> Machine<'v> {
     }
 
     /// The slot of the top frame of the worker's task.
-    pub(crate) fn hand(&self, worker: u8) -> Option<usize> {
+    pub(crate) fn hand(&self, worker: u8) -> Option<usize>
+        ensures slot { result ≡ hand_of self.now.hands.items worker }
+        ensures worker { OnSome result (worker < vec_len self.now.hands) }
+    {
         self.hands
             .as_slice()
             .get(worker as usize)
@@ -108,10 +114,12 @@ impl<'v> Machine<'v> {
             .flatten()
     }
 
-    pub(crate) fn set_hand(&mut self, worker: u8, hand: Option<usize>) {
-        if let Some(place) = self.hands.as_mut_slice().get_mut(worker as usize) {
-            *place = hand;
-        }
+    /// The worker runs the task with this top from here on, or is idle.
+    pub(crate) fn set_hand(&mut self, worker: u8, hand: Option<usize>)
+        requires { worker < vec_len self.old.hands }
+        ensures { self.new ≡ record self.old { hands = with_item self.old.hands worker hand } }
+    {
+        self.hands[worker as usize] = hand;
     }
 
     /// The frame in a slot.
@@ -129,7 +137,12 @@ impl<'v> Machine<'v> {
     /// # Errors
     ///
     /// Memory was refused: nothing has changed. Only a step that makes a frame takes memory.
-    pub fn apply(&mut self, event: &Event) -> Result<bool, OutOfMemory> {
+    pub fn apply(&mut self, event: &Event) -> Result<bool, OutOfMemory>
+        ensures refused { OnErr result (self.new ≡ self.old) }
+        ensures not_enabled { result ≡ Ok false → self.new ≡ self.old }
+        ensures over { ¬ IsGoing self.old → result ≡ Ok false }
+        ensures step { (worker : ℕ) → event.now ≡ Event.Step worker → IfOk result (StepsWhere self.old self.new worker) }
+    {
         if self.phase != Phase::Going {
             return Ok(false);
         }
@@ -140,7 +153,12 @@ impl<'v> Machine<'v> {
     }
 
     /// The worker executes the next instruction of its task, if it has one.
-    fn step(&mut self, worker: u8) -> Result<bool, OutOfMemory> {
+    fn step(&mut self, worker: u8) -> Result<bool, OutOfMemory>
+        requires { IsGoing self.old }
+        ensures refused { OnErr result (self.new ≡ self.old) }
+        ensures not_enabled { result ≡ Ok false → self.new ≡ self.old }
+        ensures enabled { IfOk result (StepsWhere self.old self.new worker) }
+    {
         let Some(top) = self.hand(worker) else {
             return Ok(false);
         };
@@ -159,21 +177,34 @@ impl<'v> Machine<'v> {
     }
 
     /// The worker takes the task of the path, if the worker is idle and no worker runs the task and it may go on.
-    fn steal(&mut self, worker: u8, path: &Path) -> bool {
+    fn steal(&mut self, worker: u8, path: &Path) -> bool
+        ensures no { ¬ IsTrue result → self.new ≡ self.old }
+        ensures yes { IsTrue result → Takes self.old self.new worker }
+    {
+        match self.top_of(path) {
+            Some(top) => self.take(worker, top),
+            None => false,
+        }
+    }
+
+    /// The worker, if it is idle, takes the task of which the slot's frame is the top, if the task is ready.
+    fn take(&mut self, worker: u8, top: usize) -> bool
+        ensures no { ¬ IsTrue result → self.new ≡ self.old }
+        ensures yes { IsTrue result → TakesAt self.old self.new worker top }
+        ensures enabled { IsIdle self.old.hands.items worker → IsSomeAnd (frame_at self.old.cactus top) IsReady → IsTrue result }
+    {
         if worker as usize >= self.hands.len() || self.hand(worker).is_some() {
             return false;
         }
-        let Some(top) = self.top_of(path) else {
-            return false;
-        };
-        match self.cactus.frame_mut(top) {
-            Some(activation) if activation.is_ready() => {
-                activation.runner = Some(worker);
-                self.set_hand(worker, Some(top));
-                true
-            }
-            _ => false,
+        match self.cactus.node(top) {
+            Some(node) if node.frame.is_ready() => {}
+            _ => return false,
         }
+        if let Some(activation) = self.cactus.frame_mut(top) {
+            activation.run_by(worker);
+        }
+        self.set_hand(worker, Some(top));
+        true
     }
 
     /// Whether `main` has returned.

@@ -1,3 +1,5 @@
+ghost use Rattle.std.specs.Prelude.{◌≡◌, ◌<◌, vec_len};
+
 use crate::halt::Halt;
 use crate::machine::Machine;
 use frame::{Cell, Effect, Object, Trap, Value, next_effect};
@@ -5,47 +7,56 @@ use program::{AllocaId, RegisterId};
 
 impl Machine<'_> {
     /// Executes the next instruction of the worker's top frame.
-    pub(crate) fn execute(&mut self, worker: u8, top: usize) -> Result<(), Halt> {
+    pub(crate) fn execute(&mut self, worker: u8, top: usize) -> Result<(), Halt>
+        requires { worker < vec_len self.old.hands }
+        ensures { result ≡ Err Halt.OutOfMemory → self.new ≡ self.old }
+    {
         let program = self.program();
         match next_effect(program, &self.activation(top)?.frame)? {
-            Effect::Define { register, value } => self.define(top, register, value),
-            Effect::Load { register, cell } => {
-                let number = self.load(top, cell)?;
-                self.define(top, register, Value::Number(number))
-            }
-            Effect::Store { cell, number } => {
-                self.store(top, cell, number)?;
-                self.pass(top)
-            }
-            Effect::StoreZeros { object, cells } => {
-                self.store_zeros(top, object, cells)?;
-                self.pass(top)
-            }
-            Effect::Add { cell, number } => {
-                let held = self.load(top, cell)?;
-                self.store(top, cell, held.wrapping_add(number))?;
-                self.pass(top)
-            }
+            Effect::Define { register, value } => Ok(self.define(top, register, value)?),
+            Effect::Load { register, cell } => Ok(self.load_into(top, register, cell)?),
+            Effect::Store { cell, number } => Ok(self.store_next(top, cell, number)?),
+            Effect::StoreZeros { object, cells } => Ok(self.store_zeros(top, object, cells)?),
+            Effect::Add { cell, number } => Ok(self.add_to(top, cell, number)?),
             control => self.control(worker, top, control),
         }
     }
 
     /// The frame goes on behind an instruction that defines the register.
-    fn define(&mut self, slot: usize, register: RegisterId, value: Value) -> Result<(), Halt> {
+    fn define(&mut self, slot: usize, register: RegisterId, value: Value) -> Result<(), Trap> {
         match self.cactus.frame_mut(slot) {
             Some(activation) => activation.frame.define(register, value),
-            None => return Err(Halt::Trapped(Trap::Unmatched)),
+            None => return Err(Trap::Unmatched),
         }
         Ok(())
     }
 
     /// The frame goes on behind an instruction that defines no register.
-    fn pass(&mut self, slot: usize) -> Result<(), Halt> {
+    fn pass(&mut self, slot: usize) -> Result<(), Trap> {
         match self.cactus.frame_mut(slot) {
             Some(activation) => activation.frame.pass(),
-            None => return Err(Halt::Trapped(Trap::Unmatched)),
+            None => return Err(Trap::Unmatched),
         }
         Ok(())
+    }
+
+    /// The frame's register takes what the cell holds.
+    fn load_into(&mut self, slot: usize, register: RegisterId, cell: Cell) -> Result<(), Trap> {
+        let number = self.load(slot, cell)?;
+        self.define(slot, register, Value::Number(number))
+    }
+
+    /// The cell takes the number.
+    fn store_next(&mut self, slot: usize, cell: Cell, number: i64) -> Result<(), Trap> {
+        self.store(slot, cell, number)?;
+        self.pass(slot)
+    }
+
+    /// The number is added to the cell, modulo 2^64.
+    fn add_to(&mut self, slot: usize, cell: Cell, number: i64) -> Result<(), Trap> {
+        let held = self.load(slot, cell)?;
+        self.store(slot, cell, held.wrapping_add(number))?;
+        self.pass(slot)
     }
 
     /// What a cell holds as the frame in the slot names it; it is a trap where the cell holds nothing, or is not there.
@@ -92,11 +103,11 @@ impl Machine<'_> {
         }
     }
 
-    /// Gives the first cells of an object the number 0.
+    /// The first cells of the object become 0.
     fn store_zeros(&mut self, slot: usize, object: Object, cells: u64) -> Result<(), Trap> {
         for index in 0..cells {
             self.store(slot, Cell { object, index }, 0)?;
         }
-        Ok(())
+        self.pass(slot)
     }
 }

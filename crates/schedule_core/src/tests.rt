@@ -278,7 +278,7 @@ fn refuses_arguments_before_workers(rt: HostRuntime) -> Result<(), Fail> {
     let alloc = rt.alloc();
     let verified = pair(alloc)?;
     let memory = Memory::zeroed(alloc, &verified)?;
-    let memory = match replay(alloc, &verified, [].as_slice(), memory, 0, [].as_slice()) {
+    let memory = match Machine::start(alloc, &verified, [].as_slice(), memory, 0) {
         Err(
             RunFault::BadArguments {
                 requirement: 0,
@@ -287,7 +287,7 @@ fn refuses_arguments_before_workers(rt: HostRuntime) -> Result<(), Fail> {
         ) => memory,
         _ => return Err(Fail::from("no argument")),
     };
-    match replay(alloc, &verified, [7].as_slice(), memory, 65, [].as_slice()) {
+    match Machine::start(alloc, &verified, [7].as_slice(), memory, 65) {
         Err(RunFault::BadWorkers { .. }) => Ok(()),
         _ => Err(Fail::from("65 workers")),
     }
