@@ -13,7 +13,9 @@ fn cost(budget: &Budget, measure: u64) -> u64
     let mut cost = budget.instructions.min(GREATEST);
     for _below in 0..measure {
         let of_self_calls = budget.self_calls.saturating_mul(cost);
-        cost = of_self_calls.saturating_add(budget.instructions).min(GREATEST);
+        cost = of_self_calls
+            .saturating_add(budget.instructions)
+            .min(GREATEST);
     }
     cost
 }
