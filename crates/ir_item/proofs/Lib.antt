@@ -3,3 +3,4 @@ pub mod Distinct
 pub mod Numbers
 pub mod Said
 pub mod Texts
+pub mod Again
