@@ -4,3 +4,4 @@ pub mod Numbers
 pub mod Said
 pub mod Texts
 pub mod Again
+pub mod Items

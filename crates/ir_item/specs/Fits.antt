@@ -1,5 +1,15 @@
 -- Which values the gaps of a line can hold.
-use Rattle.std.specs.Prelude.{◌≡◌, ℕ, ◌*◌, ◌^◌, nat_lt, Bool, true, false, not, ◌&&◌, List, [], ◌∷◌}
+use Rattle.std.specs.Prelude.{ℕ, nat_lt, ◌==◌, Bool, true, false, not, ◌&&◌, List, [], ◌∷◌}
+use Rattle.std.specs.Str.{bytes_eq}
+use Rattle.syntax.specs.declared.instruction.AllocaSize.TheVariants.{Array}
+use Rattle.syntax.specs.declared.instruction.Instruction.{Instruction}
+use Rattle.syntax.specs.declared.instruction.Instruction.TheVariants as instruction
+use Rattle.syntax.specs.declared.terminator.Terminator.{Terminator}
+use Rattle.syntax.specs.declared.terminator.Terminator.TheVariants as terminator
+use Rattle.ir_item.specs.declared.item.Item.{Item}
+use Rattle.ir_item.specs.declared.item.Item.TheVariants as item
+use Rattle.ir_item.specs.Cases.{are_cases_of}
+use Rattle.ir_item.specs.Spelling.{spelled_cases}
 use Rattle.std.specs.List.{list_all}
 use Rattle.syntax.specs.declared.module.Parameter.{Parameter}
 use Rattle.syntax.specs.declared.module.Parameter.TheVariants as parameter
@@ -43,3 +53,26 @@ all_fit (mark byte ∷ shape) gaps = all_fit shape gaps
 all_fit (named text ∷ shape) gaps = all_fit shape gaps
 all_fit (gap g ∷ shape) gaps = (fits g gaps.0 && may_stand g shape) && all_fit shape gaps.1
 all_fit (space ∷ shape) gaps = all_fit shape gaps
+
+abbrev pub instruction_fits : Instruction → Bool
+instruction_fits (instruction.Alloca d (Array n)) = nat_lt 0 n
+instruction_fits (instruction.StoreZeros n p) = nat_lt 0 n
+instruction_fits _ = true
+
+-- the labels of a branch, a detach and a switch differ, and so do the numbers of a switch
+abbrev pub terminator_fits : Terminator → Bool
+terminator_fits (terminator.Branch c t f) = not (bytes_eq t f)
+terminator_fits (terminator.Detach s d c) = not (bytes_eq d c)
+terminator_fits (terminator.Switch w v d cs) = is_some_list (spelled_cases w cs) && are_cases_of w d (spelled_cases w cs)
+terminator_fits _ = true
+
+-- an item that a line of this number can say
+abbrev pub item_fits : ℕ → Item → Bool
+item_fits at (item.Global g) = g.line == at && nat_lt 0 g.cells
+item_fits at (item.Define name r ps) = list_all has_cells ps
+item_fits at (item.Label name) = true
+item_fits at (item.Phi phi) = phi.line == at && is_some_list phi.entries
+item_fits at (item.Instruction i) = instruction_fits i
+item_fits at (item.Terminator t) = terminator_fits t
+item_fits at item.Close = true
+item_fits at (item.Annotation a) = false
