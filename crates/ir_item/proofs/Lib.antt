@@ -3,3 +3,5 @@ pub mod Distinct
 pub mod Numbers
 pub mod Said
 pub mod Texts
+pub mod Again
+pub mod Items

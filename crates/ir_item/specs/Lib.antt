@@ -9,3 +9,4 @@ pub mod Grammar
 pub mod Symbols
 pub mod Lines
 pub mod Spelling
+pub mod Fits

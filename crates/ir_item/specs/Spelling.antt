@@ -27,6 +27,8 @@ use Rattle.syntax.specs.declared.operator.Width.TheVariants.{Bits64, Bits32}
 use Rattle.syntax.specs.declared.terminator.Case.{Case}
 use Rattle.syntax.specs.declared.terminator.Terminator.{Terminator}
 use Rattle.syntax.specs.declared.terminator.Terminator.TheVariants as terminator
+use Rattle.ir_item.specs.declared.item.Item.{Item}
+use Rattle.ir_item.specs.declared.item.Item.TheVariants as item
 use Rattle.ir_item.specs.declared.symbol.Numeral.{Numeral}
 use Rattle.ir_item.specs.declared.symbol.Numeral.TheVariants.{Small, Large}
 use Rattle.ir_item.specs.declared.symbol.Symbol.{Symbol}
@@ -253,3 +255,14 @@ name_atoms name = a_word name ∷ a_mark 58 ∷ []
 -- }
 abbrev pub close_atoms : List Atom
 close_atoms = a_mark 125 ∷ []
+
+-- what an item is spelled by; annotations have words of their own
+abbrev pub item_atoms : Item → List Atom
+item_atoms (item.Global g) = global_atoms g
+item_atoms (item.Define name r ps) = define_atoms name r ps
+item_atoms (item.Label name) = name_atoms name
+item_atoms (item.Phi phi) = phi_atoms phi
+item_atoms (item.Instruction i) = instruction_atoms i
+item_atoms (item.Terminator t) = terminator_atoms t
+item_atoms item.Close = close_atoms
+item_atoms (item.Annotation a) = []

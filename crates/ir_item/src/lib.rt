@@ -11,7 +11,6 @@ mod line;
 mod list;
 mod numeral;
 mod operator;
-mod spelling;
 mod switch;
 mod symbol;
 mod terminator;
