@@ -1,3 +1,4 @@
 pub mod FirstLine
 pub mod Places
+pub mod Pushed
 pub mod Seen

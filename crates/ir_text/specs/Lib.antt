@@ -1,6 +1,10 @@
 pub mod Annotating
 pub mod Draft
 pub mod Faults
+pub mod InstructionText
 pub mod Lines
 pub mod Names
 pub mod Opening
+pub mod Printed
+pub mod Spelling
+pub mod TerminatorText

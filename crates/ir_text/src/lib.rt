@@ -8,12 +8,17 @@
 mod annotating;
 mod draft;
 mod fault;
+mod instruction_text;
 mod limits;
 mod lines;
 mod names;
 mod opening;
+mod printer;
 mod reader;
 mod scope;
+mod spelling;
+mod terminator_text;
 
 pub use ir_lex::TextFault;
+pub use printer::print;
 pub use reader::read;
