@@ -1,0 +1,3 @@
+pub mod Clashes
+pub mod Labelling
+pub mod OneTask
