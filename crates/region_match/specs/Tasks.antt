@@ -3,8 +3,10 @@ use Rattle.std.specs.Prelude.{◌≡◌, ◌≢◌, ℕ, ◌<◌, List, [], ◌�
 use Rattle.cfg.specs.declared.structure.Way.{Way}
 use Rattle.cfg.specs.declared.structure.Way.TheVariants.{Branch, Detached, Continued, Synced}
 use Rattle.cfg.specs.declared.structure.BlockEdges.{BlockEdges}
+use Rattle.cfg.specs.declared.structure.FunctionGraph.{FunctionGraph}
 use Rattle.cfg.specs.Paths.{Leg, IsPath}
 use Rattle.region_match.specs.declared.task.Task.{Task}
+use Rattle.region_match.specs.declared.tables.FunctionTasks.{FunctionTasks}
 use Rattle.region_match.specs.declared.task.Task.TheVariants.{Unreached, Body, Child}
 
 -- the task behind an edge that leaves a block: its detaches, the innermost first
@@ -41,5 +43,12 @@ IsInnermostAt blocks tasks b = (legs : List Leg) → IsPath blocks 0 legs b → 
 -- the table of a function's blocks: Unreached where no path leads, else the innermost detach of each path
 pub record AreTasks (blocks : List BlockEdges) (tasks : List Task) : Type 0 where
   pub size : length tasks ≡ length blocks
-  pub innermost : (b : ℕ) → IsInnermostAt blocks tasks b
+  pub innermost : (b : ℕ) → b < length blocks → IsInnermostAt blocks tasks b
   pub reached : (b : ℕ) → task_at tasks b ≢ Unreached → (detaches : List ℕ) × HasTask blocks b detaches
+
+-- the tables of all functions
+abbrev pub AreAllTasks : List FunctionGraph → List FunctionTasks → Type 0
+AreAllTasks [] [] = Unit {0}
+AreAllTasks [] (t ∷ ts) = ⊥
+AreAllTasks (g ∷ gs) [] = ⊥
+AreAllTasks (g ∷ gs) (t ∷ ts) = AreTasks g.blocks t.tasks × AreAllTasks gs ts

@@ -2,6 +2,11 @@
 #![tactic(auto)]
 
 mod clash;
+mod fault;
+mod label;
+mod tables;
 mod task;
 
+pub use fault::RegionFault;
+pub use tables::{FunctionTasks, Regions};
 pub use task::Task;
