@@ -1,0 +1,4 @@
+pub mod Clashes
+pub mod Labelling
+pub mod Mixing
+pub mod OneTask
