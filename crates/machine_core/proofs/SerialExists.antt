@@ -1,13 +1,13 @@
 -- Where no instruction traps and the rank falls, the serial meaning exists, and what is found of the outcome holds.
-use Rattle.std.proofs.Common.{◌≡◌, ℕ, suc, ◌≤◌, max, ◌∷◌, List, Option, Some, None, refl, sym, subst, arith, ℤ}
+use Rattle.std.proofs.Common.{◌≡◌, ℕ, suc, ◌≤◌, max, [], ◌∷◌, List, Option, Some, None, true, refl, sym, subst, arith, ℤ}
 use Rattle.machine_core.specs.Paths.{Path}
-use Rattle.machine_core.specs.Cells.{Memory}
+use Rattle.machine_core.specs.Cells.{Memory, globals_of}
 use Rattle.machine_core.specs.Arithmetic.{Trap}
 use Rattle.machine_core.specs.Frames.{Value, Registers, Role, Child, Body, Frame}
 use Rattle.machine_core.specs.Effect.{Effect, Action, Plain, Detach, Reattach, Sync, Call, Return, action_of}
-use Rattle.machine_core.specs.State.{went, detached, continued, synced, called, waiting, resumed}
-use Rattle.machine_core.specs.SerialMeaning.{Ending, Left, Gave, Outcome, Rest, written, cleared, after_effect, meaning}
-use Rattle.machine_core.specs.SerialConditions.{Says, Finds, And, FindsBoth, one_more, both_outcomes, at_last, KeptSerially, Rank, Below, RunsOn}
+use Rattle.machine_core.specs.State.{went, detached, continued, synced, called, waiting, resumed, root_frame}
+use Rattle.machine_core.specs.SerialMeaning.{Ending, Left, Gave, Outcome, Rest, written, cleared, after_effect, meaning, IsSerialMeaning}
+use Rattle.machine_core.specs.SerialConditions.{Says, Finds, And, FindsBoth, one_more, both_outcomes, at_last, KeptSerially, Rank, Below, RunsOn, Nothing, SerialRunExists}
 use Rattle.machine_core.proofs.Actions.{return_is_body, reattach_is_child}
 use Rattle.machine_core.proofs.RankInduction.{by_rank}
 use Rattle.machine_core.proofs.Fuel.{more_fuel}
@@ -37,9 +37,6 @@ record At : Type 0 where
   path : Path
   frame : Frame
   memory : Memory
-
-abbrev pub Nothing : Says
-Nothing p f m = Unit {0}
 
 module _ (prog : Program) (good : Says) (post : Finds) (rank : Frame → Rank) (kept : KeptSerially prog Nothing good post) (runs : RunsOn prog good rank) where
   pub record Means (p : Path) (f : Frame) (m : Memory) : Type 0 where
@@ -132,6 +129,16 @@ module _ (prog : Program) (good : Says) (post : Finds) (rank : Frame → Rank) (
       by_rank At (λ x. rank x.frame) (λ x. good x.path x.frame x.memory → Means x.path x.frame x.memory)
       (λ x before here. by_any x.path x.frame x.memory here (λ q h u low fit. before (record { path = q; frame = h; memory = u }) low fit) (action_of prog x.path x.frame x.memory) refl)
       (record { path = p; frame = f; memory = m }) g
+
+-- the serial run of the whole program
+pub serial_meaning : (prog : Program) (good : Says) (post : Finds) (rank : Frame → Rank) → KeptSerially prog Nothing good post → RunsOn prog good rank → (arguments : List ℤ) (given : Memory) → good [] (root_frame prog arguments) (globals_of given) →
+    (o : Outcome) × IsSerialMeaning prog arguments given o × post [] (root_frame prog arguments) (globals_of given) o
+serial_meaning prog good post rank kept runs arguments given start =
+    let means = all_mean prog good post rank kept runs [] (root_frame prog arguments) (globals_of given) start in
+    (means.outcome, record { within = means.fuel; meets = means.is }, means.finds)
+
+pub serial_run_exists : SerialRunExists
+serial_run_exists prog good post rank kept runs arguments given start = serial_meaning prog (λ p f m. good p f m ≡ true) (λ p f m o. post p f m o ≡ true) rank kept runs arguments given start
 
 -- two things that are kept, the second with the help of the first
 pub kept_both : (prog : Program) (base good good2 : Says) (post post2 : Finds) → KeptSerially prog base good post → KeptSerially prog (And base good) good2 post2 → KeptSerially prog base (And good good2) (FindsBoth post post2)

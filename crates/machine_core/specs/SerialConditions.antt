@@ -1,12 +1,12 @@
 -- Local conditions for the serial run alone, where a child is over before its continuation begins: what is kept, that no instruction traps, and
 -- that a rank falls. With them the serial meaning exists.
-use Rattle.std.specs.Prelude.{◌≡◌, ℕ, suc, ◌+◌, ◌<◌, max, List, ◌∷◌, Option, Some, None, ℤ}
+use Rattle.std.specs.Prelude.{◌≡◌, ℕ, suc, ◌+◌, ◌<◌, max, List, [], ◌∷◌, Option, None, Bool, true, ℤ}
 use Rattle.machine_core.specs.Paths.{Path}
-use Rattle.machine_core.specs.Cells.{Memory}
+use Rattle.machine_core.specs.Cells.{Memory, globals_of}
 use Rattle.machine_core.specs.Frames.{Value, Registers, Frame}
 use Rattle.machine_core.specs.Effect.{Effect, Plain, Detach, Reattach, Sync, Call, Return, action_of}
-use Rattle.machine_core.specs.State.{went, detached, continued, synced, called, waiting, resumed}
-use Rattle.machine_core.specs.SerialMeaning.{Ending, Left, Gave, Outcome, written, cleared}
+use Rattle.machine_core.specs.State.{went, detached, continued, synced, called, waiting, resumed, root_frame}
+use Rattle.machine_core.specs.SerialMeaning.{Ending, Left, Gave, Outcome, written, cleared, IsSerialMeaning}
 use Rattle.linear.specs.declared.form.RegisterId.{RegisterId}
 use Rattle.program.specs.declared.function.Program.{Program}
 
@@ -78,3 +78,14 @@ pub record RunsOn (prog : Program) (good : Says) (rank : Frame → Rank) : Type 
       Below (rank (called p f callee values)) (rank f)
   pub resumed_falls : (p : Path) (f : Frame) (m n : Memory) (d : Option RegisterId) (callee : ℕ) (values : List Value) (result : Option ℤ) → good p f m → action_of prog p f m ≡ Call d callee values → good p (resumed (waiting f d) d result) n →
       Below (rank (resumed (waiting f d) d result)) (rank f)
+
+abbrev pub Nothing : Says
+Nothing p f m = Unit {0}
+
+-- for conditions that are given by tests: the serial run of the whole program ends without a trap, and what is found of its outcome holds
+abbrev pub SerialRunExists : Type 0
+SerialRunExists =
+    (prog : Program) (good : Path → Frame → Memory → Bool) (post : Path → Frame → Memory → Outcome → Bool) (rank : Frame → Rank) →
+    KeptSerially prog Nothing (λ p f m. good p f m ≡ true) (λ p f m o. post p f m o ≡ true) → RunsOn prog (λ p f m. good p f m ≡ true) rank →
+    (arguments : List ℤ) (memory : Memory) → good [] (root_frame prog arguments) (globals_of memory) ≡ true →
+    (o : Outcome) × IsSerialMeaning prog arguments memory o × (post [] (root_frame prog arguments) (globals_of memory) o ≡ true)
