@@ -18,3 +18,6 @@ pub mod Leaves
 pub mod Starting
 pub mod Theorem
 pub mod EverySchedule
+pub mod RankInduction
+pub mod Fuel
+pub mod SerialExists

@@ -9,4 +9,5 @@ pub mod Conditions
 pub mod SerialMeaning
 pub mod Events
 pub mod Replay
+pub mod SerialConditions
 pub mod Schedules

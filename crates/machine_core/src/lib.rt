@@ -9,10 +9,16 @@
 #![tactic(auto)]
 
 ghost use Rattle.machine_core.specs.Schedules.{EverySchedule};
+ghost use Rattle.machine_core.specs.SerialConditions.{SerialRunExists};
 
 /// Whatever the schedule, a program that meets the local conditions does what its serial run does: no step traps, no run does
 /// more instructions, living frames are at most the workers times the serial depth, and each run that ends has the serial
 /// memory, result, count and depth.
 pub fn every_schedule()
     ensures { EverySchedule }
+{}
+
+/// Where the local conditions for the serial run hold, no instruction of it traps and it ends.
+pub fn serial_run_exists()
+    ensures { SerialRunExists }
 {}

@@ -1,0 +1,5 @@
+use Rattle.machine_core.proofs.SerialExists.{serial_run_exists}
+use Rattle.machine_core.proofs.serial_run_exists.Goals as goal
+
+pub returns : goal.returns
+returns c = serial_run_exists
