@@ -1,0 +1,7 @@
+pub mod EdgeLists
+pub mod Functions
+pub mod Judging
+pub mod Marking
+pub mod Matching
+pub mod Programs
+pub mod Searching

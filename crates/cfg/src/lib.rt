@@ -1,6 +1,17 @@
-//! The edges between the blocks of a function.
+//! The graph of a program: the edges between the blocks of each function, the moves of the phis along them, and the
+//! one search along edges that the layers above use.
 #![tactic(auto)]
 
-mod graph;
+mod build;
+mod edges;
+mod judge;
+mod program_graph;
+mod reach;
+mod refusal;
+mod structure;
 
-pub use graph::{BlockEdges, Edge, FunctionGraph, Graph, Move, Way};
+pub use build::graph;
+pub use program_graph::Graph;
+pub use reach::{no_marks, one_mark, reached};
+pub use refusal::{Broken, GraphFault, lower};
+pub use structure::{BlockEdges, Edge, FunctionGraph, Move, Way};

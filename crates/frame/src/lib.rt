@@ -10,6 +10,6 @@ mod value;
 
 pub use arithmetic::{binary, compare, convert};
 pub use effect::{Effect, Trap, next_effect};
-pub use frame::{Frame, Role, Wait};
+pub use frame::{Frame, Role, Wait, block_at};
 pub use path::Path;
 pub use value::{Cell, Object, Value};

@@ -1,0 +1,11 @@
+pub mod Outcome
+pub mod Numerals
+pub mod Fronts
+pub mod Lists
+pub mod Operators
+pub mod Cases
+pub mod Shape
+pub mod Grammar
+pub mod Symbols
+pub mod Lines
+pub mod Spelling

@@ -1,8 +1,6 @@
+use ir_annotation::Annotation;
 use lists::{Name, Seq};
-use syntax::{
-    Budget, Global, Inequality, Instruction, Left, Measure, Parameter, Pending, Phi, ResultType,
-    Terminator, Zone,
-};
+use syntax::{Global, Instruction, Parameter, Phi, ResultType, Terminator};
 
 /// What a line of the text says. Lines that are blank or hold only a comment say nothing.
 #[derive(Debug, Drop)]
@@ -21,18 +19,6 @@ pub enum Item {
     Terminator(Terminator),
     /// `}`
     Close,
-    /// `;! requires F R F`
-    Requires(Inequality),
-    /// `;! ensures F R F`
-    Ensures(Inequality),
-    /// `;! reads O F F`, and so `writes` and `adds`
-    FunctionZone(Zone),
-    Measure(Measure),
-    Budget(Budget),
-    Keeps(Inequality),
-    Pending(Pending),
-    Left(Left),
-    /// `;! foot MODE O F F`
-    Foot(Zone),
-    Shows(Inequality),
+    /// `;! ..`
+    Annotation(Annotation),
 }

@@ -2,7 +2,7 @@
 use Rattle.std.proofs.Common.{◌≡◌, ℕ, zero, suc, ◌+◌, ◌-◌, ◌<◌, ◌≤◌, ◌⊎◌, inl, inr, Bool, true, false, cond, eqb, List, [], ◌∷◌, ◌++◌, length, take, drop, All, Option, Some, None, refl, sym, subst, ap, ◌∙◌, arith, append_assoc}
 use Rattle.std.specs.Prelude.{option_map}
 use Rattle.std.specs.List.{prefix_len, list_all, AllByRecursion}
-use Rattle.std.proofs.lemmas.List.{length-take, length-take-le, take-append-drop, length-append, length-drop, drop_at, append-nil}
+use Rattle.std.proofs.lemmas.List.{length-take-le, take-append-drop, length-append, length-drop, drop_at}
 use Rattle.std.proofs.lemmas.List.Sums.{prefix_len-le-length}
 use Rattle.std.proofs.lemmas.List.Elements.{All-from_recursion}
 use Rattle.ir_lex.specs.declared.token.Kind.{Kind}
@@ -12,7 +12,10 @@ use Rattle.ir_lex.specs.declared.scan.Front.{Front}
 use Rattle.ir_lex.specs.declared.scan.Front.TheVariants.{Space, Comment, Begins, Wrong}
 use Rattle.ir_lex.specs.Spelling.{is_space, is_mark, is_name, is_number, is_marked_name, is_note_mark, is_run_byte, is_word_byte, is_printed, kind_of}
 use Rattle.ir_lex.specs.Tokens.{lead_of_run, lead, lead_in_note, front_at, begun, tokens_from, tokens_of}
-use Rattle.ir_lex.specs.Lexemes.{text_at, HasKind, IsTokenOf}
+use Rattle.ir_lex.specs.Lexemes.{HasKind, IsTokenOf}
+use Rattle.std.proofs.lemmas.Bool.{eqb-true}
+use Rattle.ir_lex.proofs.Printed.{both}
+use Rattle.ir_lex.proofs.Plain.{name_printed}
 
 pub chosen : {A : Type 0} (b : Bool) (x y z : A) → cond b x y ≡ z → ((b ≡ true) × (x ≡ z)) ⊎ ((b ≡ false) × (y ≡ z))
 chosen true x y z e = inl (refl, e)
@@ -27,7 +30,7 @@ pub record IsFront (bs : List ℕ) (kind : Kind) (n : ℕ) : Type 0 where
 run_kind : (run : List ℕ) (kind : Kind) → kind_of run ≡ Some kind → HasKind kind run
 run_kind run kind h =
     elim (chosen (is_name run) (Some Word) (cond (is_number run) (Some Number) (cond (is_marked_name run) (Some Name) None)) (Some kind) h) [
-      | inl w ↦ let e : Word ≡ kind = cc in subst (λ (k : Kind). HasKind k run) e tt
+      | inl w ↦ let e : Word ≡ kind = cc in subst (λ (k : Kind). HasKind k run) e (name_printed run w.0)
       | inr n ↦ elim (chosen (is_number run) (Some Number) (cond (is_marked_name run) (Some Name) None) (Some kind) n.1) [
         | inl w ↦ let e : Number ≡ kind = cc in subst (λ (k : Kind). HasKind k run) e w.0
         | inr m ↦ elim (chosen (is_marked_name run) (Some Name) None (Some kind) m.1) [
@@ -47,13 +50,17 @@ run_is_front p b bs kind n first e holds =
     let within = prefix_len-le-length p (b ∷ bs) in
     record { some = omega arith; within = omega (arith, within); kind_is = subst (λ (k : ℕ). HasKind kind (take k (b ∷ bs))) e holds }
 
-mark_is_front : (b : ℕ) (bs : List ℕ) → IsFront (b ∷ bs) Mark 1
-mark_is_front b bs = record { some = omega arith; within = omega arith; kind_is = refl }
+mark_is_front : (b : ℕ) (bs : List ℕ) → is_mark b ≡ true → IsFront (b ∷ bs) Mark 1
+mark_is_front b bs h = record { some = omega arith; within = omega arith; kind_is = (refl, rw h refl) }
 
 note_is_front : (bs : List ℕ) → is_note_mark bs ≡ true → IsFront bs Note 2
 note_is_front [] h = absurd cc
 note_is_front (b ∷ []) h = absurd cc
-note_is_front (b ∷ c ∷ bs) h = record { some = omega arith; within = omega arith; kind_is = h }
+note_is_front (b ∷ c ∷ bs) h =
+    let t = both (eqb b 59) (eqb c 33) h in
+    let first : b ≡ 59 = eqb-true b 59 t.0 in
+    let second : c ≡ 33 = eqb-true c 33 t.1 in
+    record { some = omega arith; within = omega arith; kind_is = rw (first, second) refl }
 
 lead_is_front : (b : ℕ) (bs : List ℕ) (kind : Kind) (n : ℕ) → lead (b ∷ bs) ≡ Begins kind n → IsFront (b ∷ bs) kind n
 unfolding lead
@@ -68,7 +75,7 @@ lead_is_front b bs kind n h =
         | inl w ↦
             let k : Mark ≡ kind = cc in
             let l : 1 ≡ n = cc in
-            subst (λ (k : Kind). IsFront (b ∷ bs) k n) k (subst (IsFront (b ∷ bs) Mark) l (mark_is_front b bs))
+            subst (λ (k : Kind). IsFront (b ∷ bs) k n) k (subst (IsFront (b ∷ bs) Mark) l (mark_is_front b bs w.0))
         | inr m ↦ elim (chosen (is_note_mark (b ∷ bs)) (Begins Note 2) by_semicolon (Begins kind n) m.1) [
           | inl w ↦
               let k : Note ≡ kind = cc in
@@ -85,9 +92,11 @@ lead_is_front b bs kind n h =
       ]
     ]
 
-word_kind : (b : Bool) (run : List ℕ) (kind : Kind) → cond b (Some Word) None ≡ Some kind → HasKind kind run
-word_kind true run kind h = let e : Word ≡ kind = cc in subst (λ (k : Kind). HasKind k run) e tt
-word_kind false run kind h = absurd cc
+word_kind : (run : List ℕ) (kind : Kind) → cond (list_all is_printed run) (Some Word) None ≡ Some kind → HasKind kind run
+word_kind run kind h = elim (chosen (list_all is_printed run) (Some Word) None (Some kind) h) [
+  | inl w ↦ let e : Word ≡ kind = cc in subst (λ (k : Kind). HasKind k run) e w.0
+  | inr w ↦ absurd cc
+]
 
 lead_in_note_is_front : (b : ℕ) (bs : List ℕ) (kind : Kind) (n : ℕ) → lead_in_note (b ∷ bs) ≡ Begins kind n → IsFront (b ∷ bs) kind n
 unfolding lead_in_note
@@ -99,7 +108,7 @@ lead_in_note_is_front b bs kind n h =
       | inr w ↦
           let r = of_run found len kind n w.1 in
           let is_word : is_word_byte b ≡ true = rw w.0 refl in
-          run_is_front is_word_byte b bs kind n is_word r.1 (word_kind (list_all is_printed (take len (b ∷ bs))) (take len (b ∷ bs)) kind r.0)
+          run_is_front is_word_byte b bs kind n is_word r.1 (word_kind (take len (b ∷ bs)) kind r.0)
     ]
 
 front_holds : (in_note : Bool) (b : ℕ) (bs : List ℕ) (kind : Kind) (n : ℕ) → front_at in_note (b ∷ bs) ≡ Begins kind n → IsFront (b ∷ bs) kind n

@@ -1,15 +1,15 @@
 -- Tokens that are printed with what parts them are read again.
-use Rattle.std.proofs.Common.{◌≡◌, ℕ, zero, suc, ◌+◌, ◌-◌, ◌<◌, ◌≤◌, ◌⊎◌, inl, inr, Bool, true, false, cond, eqb, List, [], ◌∷◌, ◌++◌, length, take, drop, map, Option, Some, None, refl, sym, subst, ap, ◌∙◌, arith, append_assoc}
+use Rattle.std.proofs.Common.{◌≡◌, ℕ, ◌+◌, ◌-◌, ◌<◌, Bool, true, false, cond, eqb, List, [], ◌∷◌, ◌++◌, length, take, map, Option, Some, refl, subst, ap, ◌∙◌, arith, append_assoc}
 use Rattle.std.specs.Prelude.{option_map, ◌&&◌, ◌||◌, not}
 use Rattle.std.specs.List.{prefix_len, list_all}
-use Rattle.std.proofs.lemmas.List.{length-append, drop_at, take_at, append-nil}
+use Rattle.std.proofs.lemmas.List.{length-append, drop_at, take_at}
 use Rattle.ir_lex.specs.declared.token.Kind.{Kind}
-use Rattle.ir_lex.specs.declared.token.Kind.TheVariants.{Name, Number, Word, Mark, Note}
+use Rattle.ir_lex.specs.declared.token.Kind.TheVariants.{Mark, Note}
 use Rattle.ir_lex.specs.declared.token.Token.{Token}
 use Rattle.ir_lex.specs.declared.scan.Front.{Front}
-use Rattle.ir_lex.specs.declared.scan.Front.TheVariants.{Space, Comment, Begins, Wrong}
+use Rattle.ir_lex.specs.declared.scan.Front.TheVariants.{Space, Comment, Begins}
 use Rattle.ir_lex.specs.Spelling.{is_space, is_mark, is_note_mark, is_run_byte, kind_of}
-use Rattle.ir_lex.specs.Tokens.{lead_of_run, lead, front_at, tokens_from, tokens_of}
+use Rattle.ir_lex.specs.Tokens.{lead_of_run, lead, front_at, tokens_from}
 use Rattle.ir_lex.specs.Lexemes.{text_at, Lexeme, lexeme_at, lexemes_of}
 use Rattle.ir_lex.proofs.Walk.{at_space, at_token}
 

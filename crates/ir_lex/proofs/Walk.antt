@@ -6,7 +6,6 @@ use Rattle.ir_lex.specs.declared.fault.TextFault.{TextFault}
 use Rattle.ir_lex.specs.declared.fault.TextFault.TheVariants as faults
 use Rattle.ir_lex.specs.declared.token.Kind.{Kind}
 use Rattle.ir_lex.specs.declared.token.Token.{Token}
-use Rattle.ir_lex.specs.declared.scan.Front.{Front}
 use Rattle.ir_lex.specs.declared.scan.Front.TheVariants.{Space, Comment, Begins, Wrong}
 use Rattle.ir_lex.specs.Spelling.{is_space, is_note_mark}
 use Rattle.ir_lex.specs.Tokens.{front_at, begun, tokens_from, tokens_of}

@@ -1,9 +1,10 @@
 -- What each token of a line is.
-use Rattle.std.specs.Prelude.{◌≡◌, ℕ, ◌-◌, ◌<◌, ◌≤◌, true, List, length, take, drop, map}
+use Rattle.std.specs.Prelude.{◌≡◌, ℕ, ◌-◌, ◌<◌, ◌≤◌, true, List, codes, length, take, drop, map}
 use Rattle.ir_lex.specs.declared.token.Kind.{Kind}
 use Rattle.ir_lex.specs.declared.token.Kind.TheVariants.{Name, Number, Word, Mark, Note}
 use Rattle.ir_lex.specs.declared.token.Token.{Token}
-use Rattle.ir_lex.specs.Spelling.{is_number, is_marked_name, is_note_mark, is_mark}
+use Rattle.std.specs.List.{list_all}
+use Rattle.ir_lex.specs.Spelling.{is_number, is_marked_name, is_mark, is_printed}
 
 -- the bytes of a token
 abbrev pub text_at : List ℕ → Token → List ℕ
@@ -12,9 +13,9 @@ text_at line t = take (t.to - t.from) (drop t.from line)
 abbrev pub HasKind : Kind → List ℕ → Type 0
 HasKind Name text = is_marked_name text ≡ true
 HasKind Number text = is_number text ≡ true
-HasKind Word text = Unit {0}
-HasKind Mark text = length text ≡ 1
-HasKind Note text = is_note_mark text ≡ true
+HasKind Word text = list_all is_printed text ≡ true
+HasKind Mark text = (length text ≡ 1) × (list_all is_mark text ≡ true)
+HasKind Note text = text ≡ codes ";!"
 
 -- a token lies in its line, and its bytes are of its kind
 pub record IsTokenOf (line : List ℕ) (t : Token) : Type 0 where

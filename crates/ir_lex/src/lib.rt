@@ -4,6 +4,8 @@
 mod fault;
 mod scan;
 mod spelling;
+#[cfg(test)]
+mod tests;
 mod token;
 
 pub use fault::TextFault;

@@ -34,7 +34,8 @@ impl<T> Seq<T> {
     pub fn into_vec(self) -> Vec<T>
         ensures { result.items ≡ self }
     {
-        self.vec
+        let Seq { vec } = self;
+        vec
     }
 
     pub fn as_slice(&self) -> &[T]

@@ -4,6 +4,9 @@ pub mod Arithmetic
 pub mod Frames
 pub mod Effect
 pub mod State
+pub mod Tree
+pub mod Conditions
 pub mod SerialMeaning
 pub mod Events
 pub mod Replay
+pub mod Schedules

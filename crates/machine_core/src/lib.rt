@@ -7,3 +7,12 @@
 //! - `SerialMeaning`: the serial elision's result, memory, count and depth.
 //! - `Events`, `Replay`: workers, tasks, steps and steals; schedules.
 #![tactic(auto)]
+
+ghost use Rattle.machine_core.specs.Schedules.{EverySchedule};
+
+/// Whatever the schedule, a program that meets the local conditions does what its serial run does: no step traps, no run does
+/// more instructions, living frames are at most the workers times the serial depth, and each run that ends has the serial
+/// memory, result, count and depth.
+pub fn every_schedule()
+    ensures { EverySchedule }
+{}

@@ -2,6 +2,7 @@
 
 use crate::request::{CellWord, Request, Setting, Verb};
 use crate::status::Status;
+use lists::OutOfMemory;
 use schedule_core::{Event, Machine};
 use serial_machine::{Finished, RunFault, serial_run};
 use std::alloc::Global;
@@ -89,7 +90,11 @@ fn run_verified<W: Write>(
 /// Sets cells in order; false where one is not there.
 fn set_cells(memory: &mut Memory, settings: &[Setting]) -> bool {
     for setting in settings {
-        if !memory.set_global(setting.cell.name.as_str(), setting.cell.index, setting.value) {
+        if !memory.set_global(
+            setting.cell.name.as_str(),
+            setting.cell.index,
+            setting.value,
+        ) {
             return false;
         }
     }
@@ -115,11 +120,28 @@ fn run_by_one(
 ) -> Result<Finished, RunFault> {
     let mut machine = Machine::start(alloc, verified, args, memory, workers)?;
     for _ in 0..verified.budget() {
-        if machine.ended() || !machine.apply(&Event::Step(0))? {
-            break;
+        match machine.apply(&Event::Step(0)) {
+            Ok(true) => {}
+            Ok(false) => break,
+            Err(OutOfMemory) => return Err(RunFault::OutOfMemory),
         }
     }
-    machine.finish()
+    finished(machine)
+}
+
+/// What a run came to. One that has not ended within its budget met a trap.
+fn finished(machine: Machine<'_>) -> Result<Finished, RunFault> {
+    let Some(result) = machine.result() else {
+        return Err(RunFault::Trapped);
+    };
+    let instructions = machine.instructions();
+    let peak = machine.peak();
+    Ok(Finished {
+        result,
+        memory: machine.into_memory(),
+        instructions,
+        peak,
+    })
 }
 
 fn print_finished<W: Write>(

@@ -4,34 +4,56 @@
 mod act;
 mod request;
 mod status;
+#[cfg(test)]
+mod tests;
 mod words;
 
 use request::{Request, WordsFault};
 use status::Status;
-use std::env;
 use std::hash::RandomState;
-use std::io;
+use std::io::{BufWriter, Write};
 use std::process::ExitCode;
+use std::{env, fs, io};
 
-/// A file's bytes, `None` where it cannot be read.
-fn bytes_of(rt: &(impl Files + AllocGlobal), path: &str) -> Option<Vec<u8>> {
-    std::fs::read(rt, path).ok()
+/// Prints why words are no request, and answers the status.
+fn refuse_words(rt: &(impl Print + Eprint), fault: &WordsFault) -> io::Result<Status> {
+    match &fault.text {
+        Some(text) => {
+            rt.eprint(text)?;
+            Ok(Status::Words)
+        }
+        None => {
+            rt.println("stopped 803")?;
+            Ok(Status::Stopped)
+        }
+    }
+}
+
+/// Reads the module's file, does what is asked and answers the status.
+fn obey(rt: &HostRuntime, request: &Request) -> io::Result<u8> {
+    let alloc = rt.alloc();
+    let module = fs::read(rt, request.file.as_str()).ok();
+    let bytes = module.as_ref().map(|bytes| bytes.as_slice());
+    let state = RandomState::new(rt)?;
+    let mut output = BufWriter::new(alloc, io::writer(rt))?;
+    let mut input = rt.reader();
+    let status = act::act(alloc, state, request, bytes, None, &mut input, &mut output);
+    if output.flush().is_err() {
+        return Ok(Status::Stream as u8);
+    }
+    if status == Status::Words as u8 {
+        rt.eprintln("error: an option names a cell that the module does not have")?;
+    }
+    Ok(status)
 }
 
 fn main(rt: HostRuntime) -> anyhow::Result<ExitCode> {
     let alloc = rt.alloc();
     let texts: Vec<String> = env::args(&rt)?.collect(alloc)?;
     let words: Vec<&str> = texts.iter().map(|t| t.as_str()).collect(alloc)?;
-    let request = match words::words(alloc, words.as_slice()) {
-        Ok(request) => request,
-        Err(fault) => return print_words_fault(&rt, &fault),
+    let status = match words::words(alloc, words.as_slice()) {
+        Ok(request) => obey(&rt, &request)?,
+        Err(fault) => refuse_words(&rt, &fault)? as u8,
     };
-    let module = bytes_of(&rt, request.file.as_str());
-    let state = RandomState::new(&rt)?;
-    let mut output = io::BufWriter::new(alloc, io::writer(&rt))?;
-    let status = act::act(alloc, state, &request, module.as_deref(), None, &mut rt.reader(), &mut output);
-    if status == Status::Words as u8 {
-        eprintln!(rt; "error: an option names a cell that the module does not have")?;
-    }
     Ok(ExitCode::from(status))
 }

@@ -1,17 +1,23 @@
 //! The program's texts and statuses over whole modules. Expected answers are worked by hand.
 
-mod runs;
 mod refusals;
+mod runs;
 mod samples;
 mod statuses;
 
 use crate::act::act;
 use crate::words::words;
 use std::hash::RandomState;
+use std::process::Abort;
+use std::random::RandomSource;
 use std::test::Fail;
 
 /// What the program writes on a command line, its words parted by one space, over a module; and its status.
-fn told(rt: &HostRuntime, line: &str, module: Option<&[u8]>) -> Result<(u8, Vec<u8>), Fail> {
+fn told(
+    rt: &(impl Abort + AllocGlobal + RandomSource),
+    line: &str,
+    module: Option<&[u8]>,
+) -> Result<(u8, Vec<u8>), Fail> {
     let alloc = rt.alloc();
     let texts: Vec<&str> = line.split(' ').collect(alloc)?;
     let request = match words(alloc, texts.as_slice()) {
@@ -34,7 +40,13 @@ fn told(rt: &HostRuntime, line: &str, module: Option<&[u8]>) -> Result<(u8, Vec<
 }
 
 /// Asserts what is told over a module.
-fn tells(rt: &HostRuntime, line: &str, module: &str, status: u8, text: &str) -> Result<(), Fail> {
+fn tells(
+    rt: &(impl Abort + AllocGlobal + RandomSource),
+    line: &str,
+    module: &str,
+    status: u8,
+    text: &str,
+) -> Result<(), Fail> {
     let (code, output) = told(rt, line, Some(module.as_bytes()))?;
     assert_eq!(rt; code, status, "{line}");
     assert_eq!(rt; output.as_slice(), text.as_bytes(), "{line}");
@@ -42,7 +54,12 @@ fn tells(rt: &HostRuntime, line: &str, module: &str, status: u8, text: &str) -> 
 }
 
 /// A text with the line of this number, from 1, replaced; with no new text the line is taken away.
-fn with_line(rt: &HostRuntime, text: &str, number: usize, new: Option<&str>) -> Result<String, Fail> {
+fn with_line(
+    rt: &(impl Abort + AllocGlobal + RandomSource),
+    text: &str,
+    number: usize,
+    new: Option<&str>,
+) -> Result<String, Fail> {
     let mut changed = String::new(rt.alloc());
     let mut at = 0u64;
     for line in text.lines() {

@@ -1,0 +1,11 @@
+pub mod Address
+pub mod Block
+pub mod Call
+pub mod Fault
+pub mod Form
+pub mod Instruction
+pub mod Note
+pub mod Operand
+pub mod Scope
+pub mod Table
+pub mod Terminator

@@ -1,6 +1,38 @@
-//! Names are resolved and types are judged.
+//! Names are resolved and types are judged: from the syntax tree of a module to the program that it means.
+//!
+//! Each rule has a number and stands alone; of the rules that a module breaks the one of the lowest line is named, and on
+//! that line the lowest number.
+//!
+//! | Number | Rule |
+//! |---|---|
+//! | 201 | each name that is used is defined, and `@main` is |
+//! | 202 | each use has the type that stands there |
+//! | 203 | a call has as many arguments as its callee has parameters |
+//! | 204 | pointers name whole objects, and different ones at a call |
+//! | 205 | a function calls itself or functions above it |
+//! | 206 | forms keep their limits, and a block's notes name nothing that its own instructions define |
 #![tactic(auto)]
 
+mod address;
+mod block;
+mod call;
+mod check;
+mod fault;
+mod form;
+mod function;
+mod instruction;
+mod item;
+mod layout;
+mod mention;
+mod note;
+mod operand;
+mod scope;
+mod table;
+mod terminator;
+#[cfg(test)]
+mod tests;
 mod typed;
 
+pub use check::check_types;
+pub use fault::TypeFault;
 pub use typed::Typed;

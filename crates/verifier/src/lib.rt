@@ -1,6 +1,10 @@
-//! The phases of the verifier in their order.
+//! The phases of the verifier in their order: the text is read, names and types are judged, the graph is built. The first
+//! phase with a fault decides.
 #![tactic(auto)]
 
+mod cost;
+mod refusal;
 mod verified;
 
-pub use verified::Verified;
+pub use refusal::Refused;
+pub use verified::{Verified, verify};

@@ -1,8 +1,14 @@
 use super::samples::*;
 use super::{tells, told, with_line};
+use std::process::Abort;
+use std::random::RandomSource;
 use std::test::Fail;
 
-fn refuses(rt: &HostRuntime, module: &str, text: &str) -> Result<(), Fail> {
+fn refuses(
+    rt: &(impl Abort + AllocGlobal + RandomSource),
+    module: &str,
+    text: &str,
+) -> Result<(), Fail> {
     tells(rt, "tapirvm serial m.ll --arg 7", module, 1, text)
 }
 
@@ -23,7 +29,12 @@ fn refuses_wrong_text(rt: HostRuntime) -> Result<(), Fail> {
     refuses(&rt, twice.as_str(), "refused 106 line 7\n")?;
     let truncated = with_line(&rt, ADD_ONE, 9, None)?;
     refuses(&rt, truncated.as_str(), "refused 105 line 8\n")?;
-    let returned = with_line(&rt, PAIR, 7, Some("%s = call token @llvm.syncregion.start()\r"))?;
+    let returned = with_line(
+        &rt,
+        PAIR,
+        7,
+        Some("%s = call token @llvm.syncregion.start()\r"),
+    )?;
     refuses(&rt, returned.as_str(), "refused 102 line 7\n")?;
     let case_twice = with_line(
         &rt,
@@ -34,7 +45,12 @@ fn refuses_wrong_text(rt: HostRuntime) -> Result<(), Fail> {
     refuses(&rt, case_twice.as_str(), "refused 103 line 10\n")?;
     let too_wide = with_line(&rt, SWITCH, 8, Some("%d = add nsw i32 %t, 2147483648"))?;
     refuses(&rt, too_wide.as_str(), "refused 202 line 8\n")?;
-    let named_add = with_line(&rt, ADDING, 34, Some("%o = atomicrmw add ptr %p, i64 %i seq_cst"))?;
+    let named_add = with_line(
+        &rt,
+        ADDING,
+        34,
+        Some("%o = atomicrmw add ptr %p, i64 %i seq_cst"),
+    )?;
     refuses(&rt, named_add.as_str(), "refused 103 line 34\n")
 }
 

@@ -1,11 +1,23 @@
 use super::samples::*;
 use super::{tells, with_line};
+use std::process::Abort;
+use std::random::RandomSource;
 use std::test::Fail;
 
 /// Runs a module serially, and on 1, 2 and 64 workers.
-fn runs(rt: &HostRuntime, options: &str, module: &str, text: &str) -> Result<(), Fail> {
+fn runs(
+    rt: &(impl Abort + AllocGlobal + RandomSource),
+    options: &str,
+    module: &str,
+    text: &str,
+) -> Result<(), Fail> {
     let alloc = rt.alloc();
-    for verb in ["serial", "run --workers 1", "run --workers 2", "run --workers 64"] {
+    for verb in [
+        "serial",
+        "run --workers 1",
+        "run --workers 2",
+        "run --workers 64",
+    ] {
         let line = format!(in alloc; "tapirvm {verb} m.ll{options}")?;
         tells(rt, line.as_str(), module, 0, text)?;
     }
@@ -82,7 +94,12 @@ fn runs_straight_code(rt: HostRuntime) -> Result<(), Fail> {
         LOAD,
         "result 5\ninstructions 2\npeak 1\n",
     )?;
-    let divide = with_line(&rt, DIVIDE, 3, Some(";! requires %b <= -1\n;! requires %a >= 0"))?;
+    let divide = with_line(
+        &rt,
+        DIVIDE,
+        3,
+        Some(";! requires %b <= -1\n;! requires %a >= 0"),
+    )?;
     runs(
         &rt,
         " --arg 7 --arg=-1",

@@ -1,15 +1,53 @@
 use super::samples::*;
 use super::{tells, told};
+use std::process::Abort;
+use std::random::RandomSource;
 use std::test::Fail;
 
 #[test]
 fn stops_at_bad_arguments(rt: HostRuntime) -> Result<(), Fail> {
-    tells(&rt, "tapirvm serial m.ll --arg 101", ADD_ONE, 3, "stopped 801 requirement 2\n")?;
-    tells(&rt, "tapirvm serial m.ll --arg=-1", ADD_ONE, 3, "stopped 801 requirement 1\n")?;
-    tells(&rt, "tapirvm serial m.ll", ADD_ONE, 3, "stopped 801 requirement 0\n")?;
-    tells(&rt, "tapirvm run m.ll --workers 0 --arg 101", ADD_ONE, 3, "stopped 801 requirement 2\n")?;
-    tells(&rt, "tapirvm run m.ll --workers 0 --arg 41", ADD_ONE, 3, "stopped 802\n")?;
-    tells(&rt, "tapirvm run m.ll --workers 65 --arg 41", ADD_ONE, 3, "stopped 802\n")
+    tells(
+        &rt,
+        "tapirvm serial m.ll --arg 101",
+        ADD_ONE,
+        3,
+        "stopped 801 requirement 2\n",
+    )?;
+    tells(
+        &rt,
+        "tapirvm serial m.ll --arg=-1",
+        ADD_ONE,
+        3,
+        "stopped 801 requirement 1\n",
+    )?;
+    tells(
+        &rt,
+        "tapirvm serial m.ll",
+        ADD_ONE,
+        3,
+        "stopped 801 requirement 0\n",
+    )?;
+    tells(
+        &rt,
+        "tapirvm run m.ll --workers 0 --arg 101",
+        ADD_ONE,
+        3,
+        "stopped 801 requirement 2\n",
+    )?;
+    tells(
+        &rt,
+        "tapirvm run m.ll --workers 0 --arg 41",
+        ADD_ONE,
+        3,
+        "stopped 802\n",
+    )?;
+    tells(
+        &rt,
+        "tapirvm run m.ll --workers 65 --arg 41",
+        ADD_ONE,
+        3,
+        "stopped 802\n",
+    )
 }
 
 #[test]

@@ -1,7 +1,6 @@
 use Rattle.std.proofs.Common.{◌≤◌, length, arith, ap, drop, refl}
 use Rattle.std.proofs.lemmas.List.{length-drop, take_rest}
 use Rattle.ir_lex.specs.Tokens.{tokens_from}
-use Rattle.ir_lex.specs.Faults.{prepend}
 use Rattle.ir_lex.proofs.Walk.{rest_of, over_space, over_token, at_end, stops_at_comment, stops_at_wrong}
 use Rattle.ir_lex.proofs.scan.scan_from.Goals as goal
 

@@ -1,6 +1,4 @@
-use Rattle.std.proofs.Common.{◌≡◌, refl, sym, ◌∙◌}
-use Rattle.std.specs.Prelude.{None}
-use Rattle.ir_lex.specs.Tokens.{tokens_of}
+use Rattle.std.proofs.Common.{refl, sym, ◌∙◌}
 use Rattle.ir_lex.specs.Faults.{NotUtf8}
 use Rattle.ir_lex.proofs.Walk.{is_fault, none_with_note, none_without_note}
 use Rattle.ir_lex.proofs.scan.tokens_of.Goals as goal

@@ -1,6 +1,5 @@
 use lists::Seq;
 use program::{BlockId, Operand, RegisterId};
-use types::Typed;
 
 /// How a path goes along an edge. No path goes along a reattach.
 #[derive(Clone, Copy, Debug, PartialEq, Eq)]
@@ -30,22 +29,14 @@ pub struct Edge {
     pub moves: Seq<Move>,
 }
 
-/// The edges that leave a block, in the order of its terminator, and the blocks whose edges lead to it.
+/// The edges that leave a block, in the order of its terminator.
 #[derive(Debug, Drop)]
 pub struct BlockEdges {
     pub edges: Seq<Edge>,
-    pub predecessors: Seq<BlockId>,
 }
 
 /// The edges of a function, a block each.
 #[derive(Debug, Drop)]
 pub struct FunctionGraph {
     pub blocks: Seq<BlockEdges>,
-}
-
-/// A program with the edges of its functions.
-#[derive(Debug, Drop)]
-pub struct Graph {
-    pub typed: Typed,
-    pub functions: Seq<FunctionGraph>,
 }

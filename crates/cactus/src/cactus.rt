@@ -1,0 +1,203 @@
+ghost use Rattle.std.specs.Prelude.{◌≡◌, ◌+◌, ◌<◌, ◌^◌, ◌++◌, ◌∷◌, [], Some, None, IsSome, IfOk, OnOk, OnErr, option_copied};
+ghost use Rattle.std.specs.Option.{option_copied_mut};
+ghost use Rattle.std.specs.Borrow.{sem};
+ghost use Rattle.cactus.specs.Frames.{node_at, node_of_use, frame_at, Lives, IsAdded, AddsChild, IsRemoved};
+
+use crate::node::Node;
+use frame::Path;
+use lists::{OutOfMemory, Seq};
+use slab::{Iter, Slab};
+use std::alloc::Global;
+use std::marker::Model;
+
+/// The path of a frame's child of this number.
+fn child_path(alloc: Global, path: &Path, number: u64) -> Result<Path, OutOfMemory>
+    ensures { IfOk result (λ child. child.numbers ≡ path.now.numbers ++ number ∷ []) }
+{
+    let mut numbers = Vec::with_capacity(alloc, path.numbers.len().saturating_add(1))?;
+    numbers.extend_from_slice(path.numbers.as_slice())?;
+    numbers.push(number)?;
+    Ok(Path {
+        numbers: Seq::from_vec(numbers),
+    })
+}
+
+/// The living frames of a run, each with data of type `F`.
+#[derive(Drop)]
+pub struct Cactus<F> {
+    alloc: Global,
+    nodes: Slab<Node<F>>,
+    made: u64,
+}
+
+impl<F> Model for Cactus<F> {
+    ghost use Rattle.std.specs.Option.{option_copied_mut};
+    ghost use Rattle.std.specs.Borrow.{sem};
+    ghost use Rattle.cactus.specs.Frames.{Frames};
+
+    ghost Value = { Frames F };
+
+    ghost view = { λ c. record { nodes = c.nodes.slots; made = c.made } };
+}
+
+impl<F: Drop> Cactus<F> {
+    ghost use Rattle.cactus.specs.Lending.{lends_frame};
+
+    /// No frame; it takes no memory.
+    pub fn new(alloc: Global) -> Cactus<F>
+        ensures none { result.nodes ≡ [] }
+        ensures made { result.made ≡ 0 }
+    {
+        Cactus {
+            alloc,
+            nodes: Slab::new(alloc),
+            made: 0,
+        }
+    }
+
+    /// The number of living frames.
+    pub fn live_frames(&self) -> u64 {
+        self.nodes.len() as u64
+    }
+
+    /// The number of frames that were made.
+    pub fn frames_made(&self) -> u64
+        ensures { result ≡ self.now.made }
+    {
+        self.made
+    }
+
+    /// The slots where frames stand, by rising slot.
+    pub fn iter(&self) -> Iter<'_, Node<F>> {
+        self.nodes.iter()
+    }
+
+    /// What stands in a slot; none where no frame does.
+    pub fn node(&self, slot: usize) -> Option<&Node<F>>
+        ensures { option_copied result ≡ node_at self.now slot }
+    {
+        self.nodes.get(slot)
+    }
+
+    /// What stands in a slot since this use of it; none where another use or none stands there.
+    pub fn get(&self, slot: usize, generation: u64) -> Option<&Node<F>>
+        ensures { option_copied result ≡ node_of_use self.now slot generation }
+    {
+        match self.nodes.get(slot) {
+            Some(node) if node.generation == generation => Some(node),
+            _ => None,
+        }
+    }
+
+    /// The path of the frame of this use of a slot.
+    pub fn path_at(&self, slot: usize, generation: u64) -> Option<&Path> {
+        match self.get(slot, generation) {
+            Some(node) => Some(&node.path),
+            None => None,
+        }
+    }
+
+    /// The slot and the generation of the frame of this path.
+    pub fn spot(&self, path: &Path) -> Option<(usize, u64)> {
+        for (slot, node) in self.nodes.iter() {
+            if node.path.is_same(path) {
+                return Some((slot, node.generation));
+            }
+        }
+        None
+    }
+
+    /// The slot of the frame whose path is the first `depth` numbers of the path of the frame in the slot.
+    pub fn ancestor(&self, slot: usize, depth: usize) -> Option<usize> {
+        let length = self.nodes.get(slot)?.path.numbers.len();
+        if length < depth {
+            return None;
+        }
+        let mut found = slot;
+        for _ in depth..length {
+            found = self.nodes.get(found)?.parent?;
+        }
+        Some(found)
+    }
+
+    /// A slot's frame for writing; none where no frame stands there.
+    pub fn frame_mut(&mut self, slot: usize) -> Option<&mut F>
+        ensures* writes_back { sem 𝓛 (lends_frame F.row self.entry slot result) }
+        ensures value { option_copied_mut result ≡ frame_at self.old slot }
+    {
+        match self.nodes.get_mut(slot) {
+            Some(node) => Some(&mut node.frame),
+            None => None,
+        }
+    }
+
+    /// Puts a frame into a slot, with a new generation.
+    fn put(&mut self, path: Path, parent: Option<usize>, frame: F) -> Result<usize, OutOfMemory>
+        requires { self.old.made + 1 < 2 ^ 64 }
+        ensures ok { IfOk result (IsAdded self.old self.new path parent frame) }
+        ensures err { OnErr result (self.new ≡ self.old) }
+    {
+        let generation = self.made;
+        let slot = self.nodes.insert(Node {
+            generation,
+            path,
+            parent,
+            frame,
+        })?;
+        self.made += 1;
+        Ok(slot)
+    }
+
+    /// Makes the root; the answer is its slot. Where memory is refused nothing changes.
+    pub fn add_root(&mut self, frame: F) -> Result<usize, OutOfMemory>
+        requires { self.old.made + 1 < 2 ^ 63 }
+        ensures ok { IfOk result (λ slot. IsAdded self.old self.new (record { numbers = [] }) None frame slot) }
+        ensures err { OnErr result (self.new ≡ self.old) }
+    {
+        let path = Path {
+            numbers: Seq::new(self.alloc),
+        };
+        self.put(path, None, frame)
+    }
+
+    /// Makes the detached child of this number of a living frame; the answer is the child's slot. Where memory is
+    /// refused nothing changes.
+    pub fn add_child(&mut self, parent: usize, number: u64, frame: F) -> Result<usize, OutOfMemory>
+        requires lives { Lives self.old parent }
+        requires room { self.old.made + 1 < 2 ^ 63 }
+        ensures ok { IfOk result (λ slot. AddsChild self.old self.new parent number frame slot) }
+        ensures err { OnErr result (self.new ≡ self.old) }
+    {
+        let path = child_path(self.alloc, &self.nodes[parent].path, number)?;
+        self.put(path, Some(parent), frame)
+    }
+
+    /// Makes the frame of the call of this number of a living frame; the answer is its slot. Where memory is refused
+    /// nothing changes.
+    pub fn push_call(&mut self, caller: usize, number: u64, frame: F) -> Result<usize, OutOfMemory>
+        requires lives { Lives self.old caller }
+        requires room { self.old.made + 1 < 2 ^ 63 }
+        ensures ok { IfOk result (λ slot. AddsChild self.old self.new caller number frame slot) }
+        ensures err { OnErr result (self.new ≡ self.old) }
+    {
+        self.add_child(caller, number, frame)
+    }
+
+    /// Takes a frame away that has returned.
+    pub fn pop_call(&mut self, slot: usize) -> Node<F>
+        requires { Lives self.old slot }
+        ensures value { node_at self.old slot ≡ Some result }
+        ensures rest { IsRemoved self.old self.new slot }
+    {
+        self.remove(slot)
+    }
+
+    /// Takes the frame of a child away that has reattached.
+    pub fn remove(&mut self, slot: usize) -> Node<F>
+        requires { Lives self.old slot }
+        ensures value { node_at self.old slot ≡ Some result }
+        ensures rest { IsRemoved self.old self.new slot }
+    {
+        self.nodes.remove(slot)
+    }
+}

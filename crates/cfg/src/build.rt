@@ -1,0 +1,38 @@
+ghost use Rattle.std.specs.Prelude.{◌≡◌, IfOk, IfErr};
+ghost use Rattle.cfg.specs.Rules.{IsGraphRight, IsGraphFault};
+
+use crate::edges::function_graph;
+use crate::judge::function_fault;
+use crate::program_graph::Graph;
+use crate::refusal::{Broken, GraphFault, lower};
+use crate::structure::FunctionGraph;
+use lists::Seq;
+use std::alloc::Global;
+use types::Typed;
+
+/// The graph of a program (LLVM Language Reference, "phi" and "Terminator Instructions"). Of several faults that of
+/// the lowest line is named, and there that of the lowest number.
+pub fn graph(alloc: Global, typed: Typed) -> Result<Graph, GraphFault>
+    ensures same { IfOk result (λ graph. graph.typed ≡ typed) }
+    ensures right { IfOk result (λ graph. IsGraphRight typed.program) }
+    ensures fault { IfErr result (IsGraphFault typed.program) }
+{
+    let mut functions: Vec<FunctionGraph> = Vec::new(alloc);
+    let mut named: Option<Broken> = None;
+    for function in typed.program.functions.as_slice() {
+        let made = function_graph(alloc, function)?;
+        let broken = function_fault(alloc, function, made.blocks.as_slice())?;
+        named = lower(named, broken);
+        functions.push(made)?;
+    }
+    match named {
+        Some(broken) => Err(GraphFault::Fault {
+            number: broken.number,
+            line: broken.line,
+        }),
+        None => Ok(Graph {
+            typed,
+            functions: Seq::from_vec(functions),
+        }),
+    }
+}

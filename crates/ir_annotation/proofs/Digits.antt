@@ -1,0 +1,110 @@
+-- A numeral is digits, a name is ASCII.
+use Rattle.std.proofs.Common.{◌≡◌, ℕ, ◌^◌, ◌<◌, ◌⊎◌, inl, inr, Bool, true, false, eqb, ltb, List, [], ◌∷◌, length, Some, None, Ok, Err, refl, sym, subst, ap, ◌∙◌, arith}
+use Rattle.std.specs.Prelude.{◌&&◌, ◌||◌, nat_le, IsUtf8, IsAscii}
+use Rattle.std.specs.Char.{is_ascii_digit, is_ascii_alphabetic}
+use Rattle.std.specs.List.{list_all}
+use Rattle.std.specs.Str.{all_ascii_digits}
+use Rattle.std.specs.Str.Parse.{digits_value, ParsesUnsigned}
+use Rattle.std.proofs.lemmas.Bool.{eqb-true, ltb-true, lt-ltb}
+use Rattle.std.proofs.lemmas.Bool.Decides.{nat_tests}
+use Rattle.std.proofs.lemmas.Str.{IsUtf8-from_ascii}
+use Rattle.std.proofs.lemmas.Str.Parse.{IsNumeralModel, numerals_by_value, tells_all_ascii_digits, parse_digits}
+use Rattle.std.proofs.lemmas.Str.Ascii.{IsAscii-cons}
+use Rattle.std.proofs.lemmas.Fmt.{IsAscii-from_digits}
+use Rattle.ir_annotation.specs.Words.{begins_name, continues_name, is_name, is_numeral, small_value}
+
+pub both : (x y : Bool) → (x && y) ≡ true → (x ≡ true) × (y ≡ true)
+both true true h = (refl, refl)
+both true false h = absurd cc
+both false true h = absurd cc
+both false false h = absurd cc
+
+pub either : (x y : Bool) → (x || y) ≡ true → (x ≡ true) ⊎ (y ≡ true)
+either true y h = inl refl
+either false true h = inr refl
+either false false h = absurd cc
+
+pub false_unless : (b : Bool) → (b ≡ true → ⊥) → b ≡ false
+false_unless true h = absurd (h refl)
+false_unless false h = refl
+
+digits : (bs : List ℕ) → list_all is_ascii_digit bs ≡ true → all_ascii_digits bs ≡ true
+digits [] h = refl
+digits (b ∷ bs) h = let t = both (is_ascii_digit b) (list_all is_ascii_digit bs) h in rw (t.0, digits bs t.1) refl
+
+pub numeral_digits : (word : List ℕ) → is_numeral word ≡ true → all_ascii_digits word ≡ true
+numeral_digits [] h = absurd cc
+numeral_digits (b ∷ bs) h =
+    elim (either (eqb b 48 && eqb (length bs) 0) ((nat_le 49 b && nat_le b 57) && list_all is_ascii_digit bs) h) [
+      | inl w ↦ let t = both (eqb b 48) (eqb (length bs) 0) w in lone b bs (eqb-true b 48 t.0) (eqb-true (length bs) 0 t.1)
+      | inr w ↦
+          let t = both (nat_le 49 b && nat_le b 57) (list_all is_ascii_digit bs) w in
+          let r = both (nat_le 49 b) (nat_le b 57) t.0 in
+          let first : is_ascii_digit b ≡ true = grind (arith, nat_tests) in
+          rw (first, digits bs t.1) refl
+    ]
+  where
+    lone : (b : ℕ) (bs : List ℕ) → b ≡ 48 → length bs ≡ 0 → all_ascii_digits (b ∷ bs) ≡ true
+    lone b [] e h = subst (λ (c : ℕ). all_ascii_digits (c ∷ []) ≡ true) (sym e) refl
+    lone b (c ∷ bs) e h = absurd (omega arith)
+
+own : IsNumeralModel (λ ds. all_ascii_digits ds ≡ true) (digits_value 10)
+own = numerals_by_value _ tells_all_ascii_digits
+
+pub numeral_utf8 : (word : List ℕ) → is_numeral word ≡ true → IsUtf8 word
+numeral_utf8 word h = IsUtf8-from_ascii word (IsAscii-from_digits word (own.to word (numeral_digits word h)))
+
+numeral_length : (word : List ℕ) → is_numeral word ≡ true → 0 < length word
+numeral_length [] h = absurd cc
+numeral_length (b ∷ bs) h = omega arith
+
+-- what parsing gives of a numeral
+pub small_parsed : (t word : List ℕ) (n : ℕ) → t ≡ word → is_numeral word ≡ true → ParsesUnsigned {E = ℕ} 64 10 t (Ok n) → Some n ≡ small_value word
+small_parsed t word n same h parsed =
+    let p = parse_digits own {E = ℕ} 64 t (Ok n) parsed (subst (λ (u : List ℕ). all_ascii_digits u ≡ true) (sym same) (numeral_digits word h)) in
+    let e : n ≡ digits_value 10 word = p.1 ∙ ap (digits_value 10) same in
+    let small : digits_value 10 word < 2 ^ 64 = subst (λ (u : List ℕ). digits_value 10 u < 2 ^ 64) same p.0.1 in
+    rw (lt-ltb (digits_value 10 word) (2 ^ 64) small, e) refl
+
+pub large_parsed : (t word : List ℕ) → t ≡ word → is_numeral word ≡ true → ParsesUnsigned {E = ℕ} 64 10 t (Err 0) → None ≡ small_value word
+large_parsed t word same h parsed =
+    let p = parse_digits own {E = ℕ} 64 t (Err 0) parsed (subst (λ (u : List ℕ). all_ascii_digits u ≡ true) (sym same) (numeral_digits word h)) in
+    let never : digits_value 10 word < 2 ^ 64 → ⊥ = λ (small : digits_value 10 word < 2 ^ 64).
+    p (subst (λ (u : List ℕ). 0 < length u) (sym same) (numeral_length word h), subst (λ (u : List ℕ). digits_value 10 u < 2 ^ 64) (sym same) small) in
+    let none : ltb (digits_value 10 word) (2 ^ 64) ≡ false =
+    false_unless (ltb (digits_value 10 word) (2 ^ 64)) (λ (l : ltb (digits_value 10 word) (2 ^ 64) ≡ true). never (ltb-true (digits_value 10 word) (2 ^ 64) l)) in
+    rw none refl
+
+-- ---- names
+
+begins_ascii : (b : ℕ) → begins_name b ≡ true → b < 128
+begins_ascii b h =
+    elim (either (is_ascii_alphabetic b || eqb b 95) (eqb b 46) h) [
+      | inl v ↦ elim (either (is_ascii_alphabetic b) (eqb b 95) v) [
+        | inl w ↦ grind (arith, nat_tests)
+        | inr w ↦ let e = eqb-true b 95 w in omega arith
+      ]
+      | inr w ↦ let e = eqb-true b 46 w in omega arith
+    ]
+
+continues_ascii : (b : ℕ) → continues_name b ≡ true → b < 128
+continues_ascii b h =
+    elim (either (begins_name b) (is_ascii_digit b) h) [
+      | inl w ↦ begins_ascii b w
+      | inr w ↦ grind (arith, nat_tests)
+    ]
+
+continued_ascii : (bs : List ℕ) → list_all continues_name bs ≡ true → IsAscii bs
+continued_ascii [] h = λ (k : ℕ). omega arith
+continued_ascii (b ∷ bs) h =
+    let t = both (continues_name b) (list_all continues_name bs) h in
+    IsAscii-cons b bs (continues_ascii b t.0) (continued_ascii bs t.1)
+
+pub name_ascii : (name : List ℕ) → is_name name ≡ true → IsAscii name
+name_ascii [] h = absurd cc
+name_ascii (b ∷ bs) h =
+    let t = both (begins_name b) (list_all continues_name bs) h in
+    IsAscii-cons b bs (begins_ascii b t.0) (continued_ascii bs t.1)
+
+pub name_utf8 : (name : List ℕ) → is_name name ≡ true → IsUtf8 name
+name_utf8 name h = IsUtf8-from_ascii name (name_ascii name h)

@@ -1,0 +1,26 @@
+//! Annotations: the words behind `;!` on a line of a module's text, read and spelled.
+//!
+//! [`read_annotation`] reads the words of one line; the `push_` functions write the words of one line in their canonical spelling.
+//! Where an annotation may stand, and how often, is judged by the layer above.
+#![tactic(auto)]
+
+mod fault;
+mod forms;
+mod keywords;
+mod limits;
+mod lines;
+mod meaning;
+mod spelling;
+mod sums;
+mod words;
+
+pub use fault::AnnotationFault;
+pub use lines::read_annotation;
+pub use meaning::{Annotation, AnnotationLine};
+pub use spelling::{
+    push_budget, push_foot, push_form, push_inequality, push_left, push_measure, push_pending,
+    push_zone,
+};
+
+#[cfg(test)]
+mod tests;

@@ -1,0 +1,293 @@
+//! The words of an annotation's line.
+
+ghost use Rattle.std.specs.Prelude.{◌≡◌};
+ghost use Rattle.ir_annotation.specs.Reading.{Gives};
+ghost use Rattle.ir_annotation.specs.Lines.{inequality_of, zone_of, measure_of, budget_of, left_of, moded_zone_of, pending_of, annotation_behind, annotation_of};
+
+use crate::fault::AnnotationFault;
+use crate::forms::read_form;
+use crate::keywords::{Keyword, read_keyword};
+use crate::limits::{BUDGET_MOST, Limited, MEASURE_MOST};
+use crate::meaning::{Annotation, AnnotationLine};
+use crate::words::{read_mode, read_number, read_object, read_register, read_relation};
+use lists::Name;
+use std::alloc::Global;
+use syntax::{Budget, Inequality, Left, Measure, Mode, Pending, Zone};
+
+/// `F R F`
+#[tactic(auto, unfolding(crate::specs::Lines::inequality_of))]
+fn read_inequality(
+    alloc: Global,
+    words: &[Name],
+    line: u32,
+) -> Result<Limited<Inequality>, AnnotationFault>
+    ensures { Gives (λ i. i) result (inequality_of line words.now) }
+{
+    let [left, relation, right] = words else {
+        return Err(AnnotationFault::Fault(103));
+    };
+    let left = read_form(alloc, left.as_bytes())?;
+    let relation = read_relation(relation.as_bytes())?;
+    let right = read_form(alloc, right.as_bytes())?;
+    Ok(Limited {
+        value: Inequality {
+            line,
+            left: left.value,
+            relation,
+            right: right.value,
+        },
+        is_within_limits: left.is_within_limits && right.is_within_limits,
+    })
+}
+
+/// `O F F`
+#[tactic(auto, unfolding(crate::specs::Lines::zone_of))]
+fn read_zone(
+    alloc: Global,
+    mode: Mode,
+    words: &[Name],
+    line: u32,
+) -> Result<Limited<Zone>, AnnotationFault>
+    ensures { Gives (λ z. z) result (zone_of line mode words.now) }
+{
+    let [object, low, high] = words else {
+        return Err(AnnotationFault::Fault(103));
+    };
+    let object = read_object(alloc, object.as_bytes())?;
+    let low = read_form(alloc, low.as_bytes())?;
+    let high = read_form(alloc, high.as_bytes())?;
+    Ok(Limited {
+        value: Zone {
+            line,
+            mode,
+            object: object.value,
+            low: low.value,
+            high: high.value,
+        },
+        is_within_limits: object.is_within_limits && low.is_within_limits && high.is_within_limits,
+    })
+}
+
+/// `F max N`
+#[tactic(auto, unfolding(crate::specs::Lines::measure_of))]
+fn read_measure(
+    alloc: Global,
+    words: &[Name],
+    line: u32,
+) -> Result<Limited<Measure>, AnnotationFault>
+    ensures { Gives (λ m. m) result (measure_of line words.now) }
+{
+    let [form, max, bound] = words else {
+        return Err(AnnotationFault::Fault(103));
+    };
+    let form = read_form(alloc, form.as_bytes())?;
+    if max.as_bytes() != b"max".as_slice() {
+        return Err(AnnotationFault::Fault(103));
+    }
+    let bound = read_number(MEASURE_MOST, bound.as_bytes())?;
+    Ok(Limited {
+        value: Measure {
+            line,
+            form: form.value,
+            bound: bound.value,
+        },
+        is_within_limits: form.is_within_limits && bound.is_within_limits,
+    })
+}
+
+/// `K S`
+#[tactic(auto, unfolding(crate::specs::Lines::budget_of))]
+fn read_budget(words: &[Name], line: u32) -> Result<Limited<Budget>, AnnotationFault>
+    ensures { Gives (λ b. b) result (budget_of line words.now) }
+{
+    let [calls, instructions] = words else {
+        return Err(AnnotationFault::Fault(103));
+    };
+    let calls = read_number(BUDGET_MOST, calls.as_bytes())?;
+    let instructions = read_number(BUDGET_MOST, instructions.as_bytes())?;
+    Ok(Limited {
+        value: Budget {
+            line,
+            self_calls: calls.value,
+            instructions: instructions.value,
+        },
+        is_within_limits: calls.is_within_limits && instructions.is_within_limits,
+    })
+}
+
+/// `F F`
+#[tactic(auto, unfolding(crate::specs::Lines::left_of))]
+fn read_left(alloc: Global, words: &[Name], line: u32) -> Result<Limited<Left>, AnnotationFault>
+    ensures { Gives (λ l. l) result (left_of line words.now) }
+{
+    let [calls, instructions] = words else {
+        return Err(AnnotationFault::Fault(103));
+    };
+    let calls = read_form(alloc, calls.as_bytes())?;
+    let instructions = read_form(alloc, instructions.as_bytes())?;
+    Ok(Limited {
+        value: Left {
+            line,
+            self_calls: calls.value,
+            instructions: instructions.value,
+        },
+        is_within_limits: calls.is_within_limits && instructions.is_within_limits,
+    })
+}
+
+/// `MODE O F F`
+#[tactic(auto, unfolding(crate::specs::Lines::moded_zone_of))]
+fn read_moded_zone(
+    alloc: Global,
+    words: &[Name],
+    line: u32,
+) -> Result<Limited<Zone>, AnnotationFault>
+    ensures { Gives (λ z. z) result (moded_zone_of line words.now) }
+{
+    let [mode, words @ ..] = words else {
+        return Err(AnnotationFault::Fault(103));
+    };
+    let mode = read_mode(mode.as_bytes())?;
+    read_zone(alloc, mode, words, line)
+}
+
+/// `%s MODE O F F`
+#[tactic(auto, unfolding(crate::specs::Lines::pending_of))]
+fn read_pending(
+    alloc: Global,
+    words: &[Name],
+    line: u32,
+) -> Result<Limited<Pending>, AnnotationFault>
+    ensures { Gives (λ p. p) result (pending_of line words.now) }
+{
+    let [region, words @ ..] = words else {
+        return Err(AnnotationFault::Fault(103));
+    };
+    let region = read_register(alloc, region.as_bytes())?;
+    let zone = read_moded_zone(alloc, words, line)?;
+    Ok(Limited {
+        value: Pending {
+            region: region.value,
+            zone: zone.value,
+        },
+        is_within_limits: region.is_within_limits && zone.is_within_limits,
+    })
+}
+
+/// What stands behind the first word.
+#[tactic(auto, unfolding(crate::specs::Lines::annotation_behind))]
+fn read_behind(
+    alloc: Global,
+    keyword: Keyword,
+    words: &[Name],
+    line: u32,
+) -> Result<AnnotationLine, AnnotationFault>
+    ensures { Gives (λ a. a) result (annotation_behind line keyword words.now) }
+{
+    match keyword {
+        Keyword::Requires => {
+            let found = read_inequality(alloc, words, line)?;
+            Ok(AnnotationLine {
+                annotation: Annotation::Requires(found.value),
+                is_within_limits: found.is_within_limits,
+            })
+        }
+        Keyword::Ensures => {
+            let found = read_inequality(alloc, words, line)?;
+            Ok(AnnotationLine {
+                annotation: Annotation::Ensures(found.value),
+                is_within_limits: found.is_within_limits,
+            })
+        }
+        Keyword::Reads => {
+            let found = read_zone(alloc, Mode::Reads, words, line)?;
+            Ok(AnnotationLine {
+                annotation: Annotation::FunctionZone(found.value),
+                is_within_limits: found.is_within_limits,
+            })
+        }
+        Keyword::Writes => {
+            let found = read_zone(alloc, Mode::Writes, words, line)?;
+            Ok(AnnotationLine {
+                annotation: Annotation::FunctionZone(found.value),
+                is_within_limits: found.is_within_limits,
+            })
+        }
+        Keyword::Adds => {
+            let found = read_zone(alloc, Mode::Adds, words, line)?;
+            Ok(AnnotationLine {
+                annotation: Annotation::FunctionZone(found.value),
+                is_within_limits: found.is_within_limits,
+            })
+        }
+        Keyword::Measure => {
+            let found = read_measure(alloc, words, line)?;
+            Ok(AnnotationLine {
+                annotation: Annotation::Measure(found.value),
+                is_within_limits: found.is_within_limits,
+            })
+        }
+        Keyword::Budget => {
+            let found = read_budget(words, line)?;
+            Ok(AnnotationLine {
+                annotation: Annotation::Budget(found.value),
+                is_within_limits: found.is_within_limits,
+            })
+        }
+        Keyword::Keeps => {
+            let found = read_inequality(alloc, words, line)?;
+            Ok(AnnotationLine {
+                annotation: Annotation::Keeps(found.value),
+                is_within_limits: found.is_within_limits,
+            })
+        }
+        Keyword::Pending => {
+            let found = read_pending(alloc, words, line)?;
+            Ok(AnnotationLine {
+                annotation: Annotation::Pending(found.value),
+                is_within_limits: found.is_within_limits,
+            })
+        }
+        Keyword::Left => {
+            let found = read_left(alloc, words, line)?;
+            Ok(AnnotationLine {
+                annotation: Annotation::Left(found.value),
+                is_within_limits: found.is_within_limits,
+            })
+        }
+        Keyword::Foot => {
+            let found = read_moded_zone(alloc, words, line)?;
+            Ok(AnnotationLine {
+                annotation: Annotation::Foot(found.value),
+                is_within_limits: found.is_within_limits,
+            })
+        }
+        Keyword::Shows => {
+            let found = read_inequality(alloc, words, line)?;
+            Ok(AnnotationLine {
+                annotation: Annotation::Shows(found.value),
+                is_within_limits: found.is_within_limits,
+            })
+        }
+    }
+}
+
+/// Reads the words behind `;!` of an annotation's line, in the order of the line: runs without blanks.
+///
+/// 107: the first word begins no annotation. 103: there is no word, or the words behind the first are not those of its annotation.
+/// A name or a number past its limit is no fault here: the line then says that it is not within its limits.
+pub fn read_annotation(
+    alloc: Global,
+    words: &[Name],
+    line: u32,
+) -> Result<AnnotationLine, AnnotationFault>
+    ensures { Gives (λ a. a) result (annotation_of words.now line) }
+{
+    let [word, words @ ..] = words else {
+        return Err(AnnotationFault::Fault(103));
+    };
+    match read_keyword(word.as_bytes()) {
+        None => Err(AnnotationFault::Fault(107)),
+        Some(keyword) => read_behind(alloc, keyword, words, line),
+    }
+}

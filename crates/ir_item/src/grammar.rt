@@ -1,0 +1,102 @@
+//! From the symbols of a line to its item.
+
+ghost use Rattle.std.specs.Prelude.{◌≡◌, [], option_map, IsTrue};
+ghost use Rattle.ir_item.specs.declared.item.Item.TheVariants as item;
+ghost use Rattle.ir_item.specs.Outcome.{Gives};
+ghost use Rattle.ir_item.specs.Fronts.{behind};
+ghost use Rattle.ir_item.specs.Shape.{gaps_of};
+ghost use Rattle.ir_item.specs.Grammar.{global_shape, global_from, define_shape, define_from, worded, item_in};
+
+use crate::definition::definition_at;
+use crate::effect::{atomic_at, call_void_at, store_at};
+use crate::fault::LineFault;
+use crate::front::{
+    array_at, behind, end_at, global_at, is_mark, mark_at, result_type_at, word_at,
+};
+use crate::item::Item;
+use crate::list::parameters_at;
+use crate::symbol::Symbol;
+use crate::terminator::terminator_at;
+use lists::Name;
+use std::alloc;
+use syntax::Global;
+
+/// Behind `@name`.
+fn global_item_at(name: Name, line: u32, symbols: &[Symbol]) -> Result<Item, LineFault>
+    ensures { Gives (λ made. made) result (option_map (global_from line name) (gaps_of global_shape symbols.now)) }
+{
+    let rest = mark_at(b'=', symbols)?;
+    let rest = word_at(b"global", rest)?;
+    let (cells, rest) = array_at(rest)?;
+    let rest = word_at(b"zeroinitializer", rest)?;
+    end_at(rest)?;
+    Ok(Item::Global(Global { line, name, cells }))
+}
+
+/// Behind `define`.
+fn define_at(alloc: alloc::Global, symbols: &[Symbol]) -> Result<Item, LineFault>
+    ensures { Gives (λ made. made) result (option_map define_from (gaps_of define_shape symbols.now)) }
+{
+    let (result_type, rest) = result_type_at(symbols)?;
+    let (name, rest) = global_at(rest)?;
+    let rest = mark_at(b'(', rest)?;
+    let (parameters, rest) = parameters_at(alloc, rest)?;
+    let rest = mark_at(b'{', rest)?;
+    end_at(rest)?;
+    Ok(Item::Define {
+        name,
+        result_type,
+        parameters,
+    })
+}
+
+/// Behind a first word that is no label.
+#[tactic(auto, unfolding(crate::specs::Grammar::worded))]
+fn worded_at(alloc: alloc::Global, word: &[u8], symbols: &[Symbol]) -> Result<Item, LineFault>
+    ensures { Gives (λ made. made) result (worded word.now symbols.now) }
+{
+    if word == b"define".as_slice() {
+        define_at(alloc, symbols)
+    } else if word == b"store".as_slice() {
+        Ok(Item::Instruction(store_at(symbols)?))
+    } else if word == b"atomicrmw".as_slice() {
+        Ok(Item::Instruction(atomic_at(symbols)?))
+    } else if word == b"call".as_slice() {
+        Ok(Item::Instruction(call_void_at(alloc, symbols)?))
+    } else {
+        Ok(Item::Terminator(terminator_at(alloc, word, symbols)?))
+    }
+}
+
+fn label_at(name: &Name, symbols: &[Symbol]) -> Result<Item, LineFault>
+    ensures { Gives (λ made. made) result (option_map (λ gaps. item.Label name.now) (gaps_of [] (behind symbols.now))) }
+{
+    end_at(behind(symbols))?;
+    Ok(Item::Label(name.copy()?))
+}
+
+/// The item of a line that has tokens and is no annotation.
+#[tactic(auto, unfolding(crate::specs::Grammar::item_in))]
+pub fn item_of(alloc: alloc::Global, line: u32, symbols: &[Symbol]) -> Result<Item, LineFault>
+    ensures { Gives (λ made. made) result (item_in line symbols.now) }
+{
+    match symbols {
+        [Symbol::Register(register), rest @ ..] => {
+            let rest = mark_at(b'=', rest)?;
+            definition_at(alloc, register.copy()?, line, rest)
+        }
+        [Symbol::Global(name), rest @ ..] => global_item_at(name.copy()?, line, rest),
+        [Symbol::Word(word), rest @ ..] => {
+            if is_mark(b':', rest) {
+                label_at(word, rest)
+            } else {
+                worded_at(alloc, word.as_bytes(), rest)
+            }
+        }
+        [Symbol::Mark(b'}'), rest @ ..] => {
+            end_at(rest)?;
+            Ok(Item::Close)
+        }
+        _ => Err(LineFault::Unexpected),
+    }
+}

@@ -1,0 +1,24 @@
+use lists::Name;
+
+/// A number as a line spells it.
+#[derive(Debug, Drop)]
+pub enum Numeral {
+    Small(i64),
+    /// Outside `i64`, with its digits behind an optional sign.
+    Large(Name),
+}
+
+/// A token with what it stands for.
+#[derive(Debug, Drop)]
+pub enum Symbol {
+    /// `%name`
+    Register(Name),
+    /// `@name`
+    Global(Name),
+    Number(Numeral),
+    Word(Name),
+    /// One of `= , ( ) [ ] { } :`
+    Mark(u8),
+    /// `;!` behind another token
+    Note,
+}

@@ -1,0 +1,83 @@
+-- The schedule theorem: what every schedule of a checked program keeps, against its serial meaning.
+use Rattle.std.specs.Prelude.{◌≡◌, ◌≢◌, ℕ, ◌*◌, ◌≤◌, ◌<◌, List, [], ◌∷◌, Option, Some, None, Bool, true, false, ◌||◌, ◌⊎◌, ℤ}
+use Rattle.machine_core.specs.Paths.{Path}
+use Rattle.machine_core.specs.Cells.{Cell, Memory}
+use Rattle.machine_core.specs.Frames.{Halted, Frame}
+use Rattle.machine_core.specs.State.{State, Change, apply, childless, change_of, root_frame}
+use Rattle.machine_core.specs.SerialMeaning.{Gave, Outcome, IsSerialMeaning}
+use Rattle.machine_core.specs.Events.{Machine, Event, Step, Steal, event, start}
+use Rattle.machine_core.specs.Replay.{replay, has_ended, CountsFrames}
+use Rattle.machine_core.specs.Conditions.{Zone, OwnedBelow, StaysInZone, PassesZonesOn, ClosesRegions}
+use Rattle.program.specs.declared.function.Program.{Program}
+
+-- ---- a worker is undisturbed by the others
+
+-- these changes, one after another, are the steps of the frame at p
+abbrev pub StepsOf : Program → Path → List Change → State → State → Type 0
+StepsOf prog p [] s t = s ≡ t
+StepsOf prog p (c ∷ cs) s t = (change_of prog s p ≡ Some c) × StepsOf prog p cs (apply c s) t
+
+abbrev pub read_by : List Change → Cell → Bool
+read_by [] x = false
+read_by (c ∷ cs) x = c.reads x || read_by cs x
+
+abbrev pub worker_of : Event → ℕ
+worker_of (Step w) = w
+worker_of (Steal w t) = w
+
+abbrev pub NoneBy : ℕ → List Event → Type 0
+NoneBy w [] = Unit {0}
+NoneBy w (e ∷ events) = (worker_of e ≢ w) × NoneBy w events
+
+-- whatever the other workers do in between, this one's frame, its next steps and the cells that they read stay the same
+pub record Undisturbed (prog : Program) (m later : Machine) (w : ℕ) (p : Path) : Type 0 where
+  pub hand : later.hands w ≡ Some p
+  pub frame : later.core.frames p ≡ m.core.frames p
+  pub steps : (cs : List Change) (t : State) → StepsOf prog p cs m.core t → (u : State) × StepsOf prog p cs later.core u
+  pub cells : (cs : List Change) (t : State) (x : Cell) → StepsOf prog p cs m.core t → read_by cs x ≡ true → later.core.memory x ≡ m.core.memory x
+
+-- ---- the theorem
+
+-- of a machine that some schedule has led to, where o is the serial meaning
+pub record KeepsSchedule (prog : Program) (workers : ℕ) (o : Outcome) (m : Machine) : Type 0 where
+  -- no step has trapped
+  pub no_trap : (m.trapped ≡ None) × ((p : Path) (f : Frame) → m.core.frames p ≡ Some f → f.waits ≢ Halted)
+  pub within_budget : m.core.done ≤ o.count
+  pub few_frames : (n : ℕ) → CountsFrames m.core n → n ≤ workers * o.depth
+  -- a run that has ended holds what the serial run does
+  pub same_memory : has_ended m ≡ true → m.core.memory ≡ o.memory
+  pub same_result : has_ended m ≡ true → o.ending ≡ Gave m.core.result
+  pub same_count : has_ended m ≡ true → m.core.done ≡ o.count
+  pub same_peak : has_ended m ≡ true → m.core.peak ≡ o.depth
+  -- each frame without children is on top of a task that a worker runs
+  pub busy_leaves : (p : Path) (f : Frame) → m.core.frames p ≡ Some f → childless m.core p f.made ≡ true → (w : ℕ) × (w < workers) × (m.hands w ≡ Some p)
+  -- until the run has ended some worker's step is enabled, and a run of as many instructions as the serial one has ended
+  pub goes_on : has_ended m ≡ false → (w : ℕ) × (next : Machine) × (w < workers) × (event prog workers (Step w) m ≡ Some next)
+  pub ends_in_time : m.core.done ≡ o.count → has_ended m ≡ true
+  pub undisturbed : (w : ℕ) (p : Path) (others : List Event) → m.hands w ≡ Some p → NoneBy w others → Undisturbed prog m (replay prog workers others m) w p
+
+-- ---- for conditions that are given by tests
+
+-- the cells that pass, and the allocas of the owner's frame and of those below it
+pub record TestedZone : Type 0 where
+  pub owner : Path
+  pub reads : Cell → Bool
+  pub adds : Cell → Bool
+  pub gives : Option ℤ → Bool
+
+abbrev pub tested : TestedZone → Zone
+tested z = record {
+  reads = λ x. (z.reads x ≡ true) ⊎ OwnedBelow z.owner x.object;
+  adds = λ x. (z.adds x ≡ true) ⊎ OwnedBelow z.owner x.object;
+  gives = λ v. z.gives v ≡ true;
+}
+
+abbrev pub EverySchedule : Type 0
+EverySchedule =
+    (prog : Program) (fits : Path → Frame → TestedZone → Bool) (pending : Path → Frame → ℕ → TestedZone) (expects : Frame → TestedZone → Bool) (holds : Path → Frame → Bool) (opens : Path → Frame → ℕ → Bool) →
+    StaysInZone TestedZone tested prog (λ p f z. fits p f z ≡ true) pending →
+    PassesZonesOn TestedZone tested prog (λ p f z. fits p f z ≡ true) pending (λ f z. expects f z ≡ true) →
+    ClosesRegions prog (λ p f. holds p f ≡ true) opens →
+    (arguments : List ℤ) (memory : Memory) (zone : TestedZone) → fits [] (root_frame prog arguments) zone ≡ true → holds [] (root_frame prog arguments) ≡ true →
+    (o : Outcome) → IsSerialMeaning prog arguments memory o → (workers : ℕ) → 1 ≤ workers → (events : List Event) →
+    KeepsSchedule prog workers o (replay prog workers events (start prog arguments memory))

@@ -1,0 +1,2 @@
+pub mod Scheduling
+pub mod Running

@@ -1,0 +1,139 @@
+ghost use Rattle.std.specs.Prelude.{◌≡◌, ◌↔◌, ◌+◌, IsTrue, Some, None, IfOk, OnOk};
+ghost use Rattle.frame.specs.declared.frame.Wait.TheVariants.{Nothing, Region};
+ghost use Rattle.schedule_core.specs.Scheduling.{IsReady, standing_of, count_in};
+
+use frame::{Frame, Trap, Wait};
+use lists::OutOfMemory;
+use program::{BlockId, RegisterId};
+use std::alloc::Global;
+use sync_join::{Parent, RegionCount};
+
+/// A living frame with what the scheduler knows of it. A task is a frame that no call made, with the frames called on top
+/// of it, one on the other; the uppermost is the task's top.
+#[derive(Debug, Drop)]
+pub struct Activation {
+    pub frame: Frame,
+    /// By the register that names a region: the children that the frame detached within it and that still live.
+    pub counts: Vec<RegionCount>,
+    /// The slot of the frame that this one called and waits for.
+    pub callee: Option<usize>,
+    /// The worker that runs the task of which this frame is the top.
+    pub runner: Option<u8>,
+    /// The block at whose sync the frame stalls; the frame itself stands at the sync's target.
+    pub stalled_in: Option<BlockId>,
+}
+
+impl Activation {
+    /// A frame that the worker begins to run.
+    pub fn new(alloc: Global, frame: Frame, worker: u8) -> Result<Activation, OutOfMemory>
+        ensures runner { IfOk result (λ a. a.runner ≡ Some worker) }
+        ensures frame { IfOk result (λ a. a.frame ≡ frame) }
+    {
+        let counts = vec![in alloc; RegionCount::NONE; frame.registers.len()]?;
+        Ok(Activation {
+            frame,
+            counts,
+            callee: None,
+            runner: Some(worker),
+            stalled_in: None,
+        })
+    }
+
+    /// Whether no child that the frame detached lives.
+    pub fn is_childless(&self) -> bool {
+        self.counts.iter().all(|count| count.living == 0)
+    }
+
+    /// Whether the frame is the top of a task that a thief may take.
+    pub fn is_ready(&self) -> bool
+        ensures { IsTrue result ↔ IsReady self.now }
+    {
+        self.runner.is_none() && self.frame.waits == Wait::Nothing
+    }
+
+    /// How a child of the frame finds it at its reattach.
+    pub fn as_parent(&self) -> Parent
+        ensures { result ≡ standing_of self.now }
+    {
+        match (self.runner, self.frame.waits) {
+            (None, Wait::Nothing) => Parent::Ready {
+                newest: self.frame.made.saturating_sub(1),
+            },
+            (None, Wait::Region(RegisterId(region))) => Parent::Stalled { region },
+            _ => Parent::Busy,
+        }
+    }
+
+    /// The count of the children within the region.
+    pub fn count(&self, region: RegisterId) -> Result<RegionCount, Trap>
+        ensures { IfOk result (λ count. count_in self.now region.0 ≡ Some count) }
+    {
+        match self.counts.as_slice().get(region.0) {
+            Some(count) => Ok(*count),
+            None => Err(Trap::Unmatched),
+        }
+    }
+
+    /// Sets the count of the children within a region that is counted.
+    pub fn set_count(&mut self, region: RegisterId, count: RegionCount)
+        ensures runner { self.new.runner ≡ self.old.runner }
+        ensures frame { self.new.frame ≡ self.old.frame }
+    {
+        if let Some(place) = self.counts.as_mut_slice().get_mut(region.0) {
+            *place = count;
+        }
+    }
+
+    /// The frame detached a child within the region: no worker runs it until a thief or the child's end takes it up.
+    pub fn after_detach(&mut self, region: RegisterId, count: RegionCount, continuation: BlockId)
+        ensures { self.new.runner ≡ None }
+    {
+        let _number = self.frame.count_child();
+        self.frame.continue_at(continuation);
+        self.set_count(region, count);
+        self.runner = None;
+    }
+
+    /// The frame, whose worker is this one's, waits for the call.
+    pub fn wait_for_call(&mut self, register: Option<RegisterId>, callee: usize)
+        ensures runner { self.new.runner ≡ None }
+        ensures callee { self.new.callee ≡ Some callee }
+    {
+        let _number = self.frame.wait_for_call(register);
+        self.callee = Some(callee);
+        self.runner = None;
+    }
+
+    /// The callee returned with the value; the worker goes on with this frame.
+    pub fn after_call(&mut self, worker: u8, value: Option<i64>)
+        ensures runner { self.new.runner ≡ Some worker }
+        ensures callee { self.new.callee ≡ None }
+    {
+        self.frame.resume(value);
+        self.callee = None;
+        self.runner = Some(worker);
+    }
+
+    /// The frame, which is at the target of the sync of `block` already, waits for its children within the region.
+    pub fn stall(&mut self, region: RegisterId, block: BlockId)
+        ensures runner { self.new.runner ≡ None }
+        ensures waits { self.new.frame.waits ≡ Region region }
+        ensures stalled { self.new.stalled_in ≡ Some block }
+        ensures place { self.new.frame ≡ record self.old.frame { waits = Region region } }
+    {
+        self.frame.waits = Wait::Region(region);
+        self.stalled_in = Some(block);
+        self.runner = None;
+    }
+
+    /// The worker goes on with the frame. A sync at which it stalled was counted there, and is not done again.
+    pub fn run_by(&mut self, worker: u8)
+        ensures runner { self.new.runner ≡ Some worker }
+        ensures stalled { self.new.stalled_in ≡ None }
+        ensures place { self.new.frame ≡ record self.old.frame { waits = Nothing } }
+    {
+        self.frame.waits = Wait::Nothing;
+        self.stalled_in = None;
+        self.runner = Some(worker);
+    }
+}

@@ -1,0 +1,227 @@
+ghost use Rattle.std.specs.Prelude.{◌≡◌, ◌<◌, ◌≤◌, OnOk, vec_len};
+ghost use Rattle.schedule_core.specs.Scheduling.{BeginsChild, GoesOnWith, StallsAt};
+
+use crate::activation::Activation;
+use crate::halt::Halt;
+use crate::machine::{Machine, Phase};
+use frame::{Effect, Frame, Trap};
+use program::{BlockId, FunctionId, RegisterId};
+use sync_join::{Outcome, Passage};
+
+/// The most frames that a run may make: slots' generations are counted below it.
+const MOST_FRAMES: u64 = 0x7fff_ffff_ffff_ffff;
+
+impl Machine<'_> {
+    /// Does what moves the run from block to block, or from frame to frame.
+    pub(crate) fn control(&mut self, worker: u8, top: usize, effect: Effect) -> Result<(), Halt>
+        requires { worker < vec_len self.old.hands }
+        ensures refused { result ≡ Err Halt.OutOfMemory → self.new ≡ self.old }
+    {
+        match effect {
+            Effect::Branch { target } => Ok(self.enter(top, target)?),
+            Effect::Detach {
+                region,
+                body,
+                continuation,
+            } => self.detach(worker, top, region, body, continuation),
+            Effect::Reattach { region } => Ok(self.reattach(worker, top, region)?),
+            Effect::Sync { region, target } => Ok(self.sync(worker, top, region, target)?),
+            Effect::Call { register, callee } => self.call(worker, top, register, callee),
+            Effect::Return { value } => Ok(self.return_with(worker, top, value)?),
+            _ => Err(Halt::Trapped(Trap::Unmatched)),
+        }
+    }
+
+    /// The frame goes along the edge to the block.
+    fn enter(&mut self, slot: usize, target: BlockId) -> Result<(), Trap>
+        ensures { self.new ≡ record self.old { cactus = self.new.cactus } }
+    {
+        let program = self.program();
+        match self.cactus.frame_mut(slot) {
+            Some(activation) => activation.frame.enter(program, target),
+            None => Err(Trap::Unmatched),
+        }
+    }
+
+    /// The peak counts a new frame of this depth.
+    fn count_depth(&mut self, depth: usize)
+        ensures kept { self.new ≡ record self.old { peak = self.new.peak } }
+        ensures peak { self.old.peak ≤ self.new.peak }
+    {
+        self.peak = self.peak.max((depth as u64).saturating_add(1));
+    }
+
+    /// The worker begins the child; the parent is ready at the continuation (Tapir, "detach").
+    fn detach(
+        &mut self,
+        worker: u8,
+        slot: usize,
+        region: RegisterId,
+        body: BlockId,
+        continuation: BlockId,
+    ) -> Result<(), Halt>
+        requires { worker < vec_len self.old.hands }
+        ensures refused { result ≡ Err Halt.OutOfMemory → self.new ≡ self.old }
+        ensures child_first { OnOk result (BeginsChild self.old.cactus self.new.cactus self.new.hands.items worker slot) }
+    {
+        let parent = self.activation(slot)?;
+        let mut count = parent.count(region)?;
+        if count.living == u64::MAX || self.cactus.frames_made() >= MOST_FRAMES {
+            return Err(Halt::Trapped(Trap::Unmatched));
+        }
+        let frame = Frame::detached(self.alloc, &parent.frame, region, body, continuation)?;
+        let depth = frame.depth;
+        let number = parent.frame.made;
+        let child = Activation::new(self.alloc, frame, worker)?;
+        let child_slot = self.cactus.add_child(slot, number, child)?;
+        count.opened();
+        match self.cactus.frame_mut(slot) {
+            Some(parent) => parent.after_detach(region, count, continuation),
+            None => return Err(Halt::Trapped(Trap::Unmatched)),
+        }
+        self.count_depth(depth);
+        self.set_hand(worker, Some(child_slot));
+        Ok(())
+    }
+
+    /// The child ends. The worker goes on with the parent where no thief took it since, or where the parent waited for
+    /// this child alone (Tapir, "reattach").
+    fn reattach(&mut self, worker: u8, slot: usize, region: RegisterId) -> Result<(), Trap>
+        requires { worker < vec_len self.old.hands }
+    {
+        let node = self.cactus.node(slot).ok_or(Trap::Unmatched)?;
+        let last = node.path.numbers.as_slice().last().copied();
+        let (Some(parent_slot), Some(number)) = (node.parent, last) else {
+            return Err(Trap::Unmatched);
+        };
+        if !node.frame.is_childless() {
+            return Err(Trap::Unmatched);
+        }
+        let parent = self.activation(parent_slot)?;
+        let mut count = parent.count(region)?;
+        if count.living == 0 {
+            return Err(Trap::Unmatched);
+        }
+        let outcome = count.closed(region.0, number, parent.as_parent());
+        let _child = self.cactus.remove(slot);
+        match self.cactus.frame_mut(parent_slot) {
+            Some(parent) => parent.set_count(region, count),
+            None => return Err(Trap::Unmatched),
+        }
+        self.set_hand(worker, None);
+        match outcome {
+            Outcome::ResumeReady | Outcome::ResumeStalled => self.resume(worker, parent_slot),
+            Outcome::Leave => Ok(()),
+        }
+    }
+
+    /// The worker goes on with the task whose top is in the slot.
+    fn resume(&mut self, worker: u8, slot: usize) -> Result<(), Trap>
+        requires { worker < vec_len self.old.hands }
+        ensures { OnOk result (GoesOnWith self.new.cactus self.new.hands.items worker slot) }
+    {
+        match self.cactus.frame_mut(slot) {
+            Some(top) => top.run_by(worker),
+            None => return Err(Trap::Unmatched),
+        }
+        self.set_hand(worker, Some(slot));
+        Ok(())
+    }
+
+    /// The frame goes on at the sync's target, once none of its children within the region lives (Tapir, "sync").
+    fn sync(
+        &mut self,
+        worker: u8,
+        slot: usize,
+        region: RegisterId,
+        target: BlockId,
+    ) -> Result<(), Trap>
+        requires { worker < vec_len self.old.hands }
+    {
+        let top = self.activation(slot)?;
+        let passage = top.count(region)?.at_sync();
+        let block = top.frame.block;
+        self.enter(slot, target)?;
+        match passage {
+            Passage::Pass => Ok(()),
+            Passage::Stall => self.stall(worker, slot, region, block),
+        }
+    }
+
+    /// The task of the frame waits; the worker is idle.
+    fn stall(
+        &mut self,
+        worker: u8,
+        slot: usize,
+        region: RegisterId,
+        block: BlockId,
+    ) -> Result<(), Trap>
+        requires { worker < vec_len self.old.hands }
+        ensures { OnOk result (StallsAt self.new.cactus self.new.hands.items worker slot region) }
+    {
+        match self.cactus.frame_mut(slot) {
+            Some(top) => top.stall(region, block),
+            None => return Err(Trap::Unmatched),
+        }
+        self.set_hand(worker, None);
+        Ok(())
+    }
+
+    /// The callee's frame runs on top of the same task.
+    fn call(
+        &mut self,
+        worker: u8,
+        slot: usize,
+        register: Option<RegisterId>,
+        callee: FunctionId,
+    ) -> Result<(), Halt>
+        requires { worker < vec_len self.old.hands }
+        ensures refused { result ≡ Err Halt.OutOfMemory → self.new ≡ self.old }
+    {
+        if self.cactus.frames_made() >= MOST_FRAMES {
+            return Err(Halt::Trapped(Trap::Unmatched));
+        }
+        let program = self.program();
+        let caller = &self.activation(slot)?.frame;
+        let frame = Frame::called(self.alloc, program, caller, callee)?;
+        let depth = frame.depth;
+        let number = caller.made;
+        let called = Activation::new(self.alloc, frame, worker)?;
+        let called_slot = self.cactus.push_call(slot, number, called)?;
+        match self.cactus.frame_mut(slot) {
+            Some(caller) => caller.wait_for_call(register, called_slot),
+            None => return Err(Halt::Trapped(Trap::Unmatched)),
+        }
+        self.count_depth(depth);
+        self.set_hand(worker, Some(called_slot));
+        Ok(())
+    }
+
+    /// The function ends; its caller goes on with the result, or the run ends with it.
+    fn return_with(&mut self, worker: u8, slot: usize, value: Option<i64>) -> Result<(), Trap>
+        requires { worker < vec_len self.old.hands }
+    {
+        let node = self.cactus.node(slot).ok_or(Trap::Unmatched)?;
+        if !node.frame.is_childless() {
+            return Err(Trap::Unmatched);
+        }
+        match (node.parent, value) {
+            (Some(caller_slot), value) => {
+                let _callee = self.cactus.pop_call(slot);
+                match self.cactus.frame_mut(caller_slot) {
+                    Some(caller) => caller.after_call(worker, value),
+                    None => return Err(Trap::Unmatched),
+                }
+                self.set_hand(worker, Some(caller_slot));
+                Ok(())
+            }
+            (None, Some(result)) => {
+                let _root = self.cactus.pop_call(slot);
+                self.set_hand(worker, None);
+                self.phase = Phase::Ended { result };
+                Ok(())
+            }
+            (None, None) => Err(Trap::Undefined),
+        }
+    }
+}

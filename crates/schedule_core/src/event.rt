@@ -1,0 +1,10 @@
+use frame::Path;
+
+/// One event of a schedule.
+#[derive(Debug, Drop)]
+pub enum Event {
+    /// The worker executes the next instruction of its task.
+    Step(u8),
+    /// The worker takes the task of this path.
+    Steal(u8, Path),
+}

@@ -1,0 +1,8 @@
+//! How a worker leaves a task at a sync and finds one at a reattach: the children of one frame within one sync region
+//! that still live are counted (Tapir, "detach", "reattach" and "sync"; Blumofe and Leiserson, "Scheduling
+//! multithreaded computations by work stealing").
+#![tactic(auto)]
+
+mod count;
+
+pub use count::{Outcome, Parent, Passage, RegionCount};

@@ -1,0 +1,78 @@
+use crate::call::World;
+use crate::fault::{TypeFault, both, type_mismatch, unknown_name, unless};
+use crate::function::resolve_functions;
+use crate::item::{Item, Items, items_of};
+use crate::mention::named_globals;
+use crate::typed::Typed;
+use lists::Seq;
+use program::{FunctionId, Global as GlobalArray, Program};
+use std::alloc::{AllocError, Global};
+use std::hash::RandomState;
+use syntax::{Function, Module, Parameter, ResultType};
+
+fn is_number(parameter: &Parameter) -> bool {
+    match parameter {
+        Parameter::Number { .. } => true,
+        Parameter::Pointer { .. } => false,
+    }
+}
+
+/// `@main` gives an `i64` and takes nothing else.
+fn has_main_form(function: &Function) -> bool {
+    match function.result_type {
+        ResultType::Void => false,
+        ResultType::Number => function.parameters.as_slice().iter().all(is_number),
+    }
+}
+
+/// The function at which the run begins.
+fn resolve_main(items: &Items, functions: &[Function]) -> Result<FunctionId, TypeFault> {
+    match items.find(b"main".as_slice()) {
+        None => Err(unknown_name(1)),
+        Some(Item::Global { .. }) => Err(unknown_name(1)),
+        Some(Item::Function(id)) => match functions.get(id.0) {
+            None => Err(unknown_name(1)),
+            Some(function) => {
+                unless(has_main_form(function), type_mismatch(function.line))?;
+                Ok(id)
+            }
+        },
+    }
+}
+
+fn globals_of(alloc: Global, globals: &[syntax::Global]) -> Result<Seq<GlobalArray>, AllocError> {
+    let mut arrays = Vec::new(alloc);
+    for global in globals {
+        arrays.push(GlobalArray {
+            line: global.line,
+            name: global.name.copy()?,
+            cells: global.cells,
+        })?;
+    }
+    Ok(Seq::from_vec(arrays))
+}
+
+/// The program that a module means, or the fault of the lowest line with the lowest number there.
+///
+/// The tables of names are hashed with `state`.
+pub fn check_types(alloc: Global, state: RandomState, whole: Module) -> Result<Typed, TypeFault> {
+    let functions = whole.functions.as_slice();
+    let items = items_of(alloc, state, &whole)?;
+    let named = named_globals(alloc, &items, whole.globals.len(), functions)?;
+    let world = World {
+        items: &items,
+        functions,
+        named: named.as_slice(),
+    };
+    let main = resolve_main(&items, functions);
+    let functions = resolve_functions(alloc, state, &world);
+    let (main, functions) = both(main, functions)?;
+    let globals = globals_of(alloc, whole.globals.as_slice())?;
+    Ok(Typed {
+        program: Program {
+            globals,
+            functions,
+            main,
+        },
+    })
+}

@@ -1,0 +1,133 @@
+//! Functions.
+
+use crate::block::resolve_blocks;
+use crate::call::{World, parameter_of};
+use crate::fault::{TypeFault, both, joined};
+use crate::form::{Place, resolve_inequalities};
+use crate::layout::Layout;
+use crate::note::{resolve_measure, resolve_zones};
+use crate::scope::Scope;
+use lists::Seq;
+use program::{Budget, Function, Inequality, Measure, Parameter, RegisterId, Zone};
+use std::alloc::{AllocError, Global};
+use std::hash::RandomState;
+use syntax::{FunctionNotes, ResultType};
+
+/// The annotations at a function's head but its budget.
+#[derive(Drop)]
+struct Head {
+    requirements: Seq<Inequality>,
+    guarantees: Seq<Inequality>,
+    zones: Seq<Zone>,
+    measure: Measure,
+}
+
+/// The register that stands for the result in `ensures`: the one behind the last.
+fn result_register(result_type: ResultType, registers: usize) -> Option<RegisterId> {
+    match result_type {
+        ResultType::Number => Some(RegisterId(registers)),
+        ResultType::Void => None,
+    }
+}
+
+/// `reads`, then `writes`, then `adds`.
+fn resolve_head_zones(
+    alloc: Global,
+    world: &World,
+    scope: &Scope,
+    notes: &FunctionNotes,
+) -> Result<Seq<Zone>, TypeFault> {
+    let items = world.items;
+    let place = Place::Head;
+    let none = Ok(Seq::new(alloc));
+    let reads = resolve_zones(alloc, items, scope, place, none, notes.reads.as_slice());
+    let writes = resolve_zones(alloc, items, scope, place, reads, notes.writes.as_slice());
+    resolve_zones(alloc, items, scope, place, writes, notes.adds.as_slice())
+}
+
+fn resolve_head(
+    alloc: Global,
+    world: &World,
+    layout: &Layout,
+    result_type: ResultType,
+    notes: &FunctionNotes,
+) -> Result<Head, TypeFault> {
+    let scope = &layout.scope;
+    let guarantee = Place::Guarantee(result_register(result_type, layout.registers.len()));
+    let requirements = notes.requirements.as_slice();
+    let requirements = resolve_inequalities(alloc, scope, Place::Head, requirements);
+    let guarantees = resolve_inequalities(alloc, scope, guarantee, notes.guarantees.as_slice());
+    let zones = resolve_head_zones(alloc, world, scope, notes);
+    let measure = resolve_measure(alloc, scope, &notes.measure);
+    let ((requirements, guarantees), (zones, measure)) = both(
+        both(requirements, guarantees),
+        both(zones, measure),
+    )?;
+    Ok(Head {
+        requirements,
+        guarantees,
+        zones,
+        measure,
+    })
+}
+
+fn parameters_of(
+    alloc: Global,
+    parameters: &[syntax::Parameter],
+) -> Result<Seq<Parameter>, AllocError> {
+    let parameters: Vec<Parameter> = parameters.iter().map(parameter_of).collect(alloc)?;
+    Ok(Seq::from_vec(parameters))
+}
+
+fn budget_of(budget: &syntax::Budget) -> Budget {
+    Budget {
+        line: budget.line,
+        self_calls: budget.self_calls,
+        instructions: budget.instructions,
+    }
+}
+
+fn resolve_function(
+    alloc: Global,
+    state: RandomState,
+    world: &World,
+    place: usize,
+    function: &syntax::Function,
+) -> Result<Function, TypeFault> {
+    let layout = Layout::of(alloc, state, function)?;
+    let result_type = function.result_type;
+    let head = resolve_head(alloc, world, &layout, result_type, &function.notes);
+    let blocks = function.blocks.as_slice();
+    let blocks = resolve_blocks(alloc, world, &layout.scope, place, result_type, blocks);
+    let (head, blocks) = both(head, blocks)?;
+    Ok(Function {
+        line: function.line,
+        name: function.name.copy()?,
+        result_type,
+        parameters: parameters_of(alloc, function.parameters.as_slice())?,
+        registers: Seq::from_vec(layout.registers),
+        allocas: Seq::from_vec(layout.allocas),
+        requirements: head.requirements,
+        guarantees: head.guarantees,
+        zones: head.zones,
+        measure: head.measure,
+        budget: budget_of(&function.notes.budget),
+        blocks,
+    })
+}
+
+/// The functions of a module.
+pub fn resolve_functions(
+    alloc: Global,
+    state: RandomState,
+    world: &World,
+) -> Result<Seq<Function>, TypeFault> {
+    let mut resolved = Ok(Seq::new(alloc));
+    for (place, function) in world.functions.iter().enumerate() {
+        resolved = joined(
+            resolved,
+            resolve_function(alloc, state, world, place, function),
+        );
+    }
+    resolved
+}

@@ -1,0 +1,21 @@
+-- What a phase's fault says of the module.
+use Rattle.cfg.specs.declared.refusal.GraphFault.{GraphFault}
+use Rattle.cfg.specs.declared.refusal.GraphFault.TheVariants.{Fault as GraphFaultAt, Memory as GraphMemory}
+use Rattle.ir_lex.specs.declared.fault.TextFault.{TextFault}
+use Rattle.ir_lex.specs.declared.fault.TextFault.TheVariants.{Fault as TextFaultAt, Memory as TextMemory}
+use Rattle.types.specs.declared.fault.TypeFault.{TypeFault}
+use Rattle.types.specs.declared.fault.TypeFault.TheVariants.{Fault as TypeFaultAt, Memory as TypeMemory}
+use Rattle.verifier.specs.declared.refusal.Refused.{Refused}
+use Rattle.verifier.specs.declared.refusal.Refused.TheVariants.{Fault, Memory}
+
+abbrev pub by_text : TextFault → Refused
+by_text (TextFaultAt number line) = Fault number line
+by_text TextMemory = Memory
+
+abbrev pub by_types : TypeFault → Refused
+by_types (TypeFaultAt number line) = Fault number line
+by_types TypeMemory = Memory
+
+abbrev pub by_graph : GraphFault → Refused
+by_graph (GraphFaultAt number line) = Fault number line
+by_graph GraphMemory = Memory

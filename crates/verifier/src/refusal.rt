@@ -1,0 +1,51 @@
+ghost use Rattle.std.specs.Prelude.{◌≡◌};
+ghost use Rattle.verifier.specs.Refusals.{by_text, by_types, by_graph};
+
+use cfg::GraphFault;
+use ir_text::TextFault;
+use thiserror::Error;
+use types::TypeFault;
+
+/// Why a module is refused.
+#[derive(Clone, Copy, Debug, PartialEq, Eq, Error)]
+pub enum Refused {
+    /// The rule of this number is broken at this line, counted from 1.
+    #[error("{number} line {line}")]
+    Fault { number: u16, line: u32 },
+    /// Memory was refused.
+    #[error("memory")]
+    Memory,
+}
+
+impl From<TextFault> for Refused {
+    ghost from_gives = { λ fault refused. refused ≡ by_text fault };
+
+    fn from(fault: TextFault) -> Refused {
+        match fault {
+            TextFault::Fault { number, line } => Refused::Fault { number, line },
+            TextFault::Memory => Refused::Memory,
+        }
+    }
+}
+
+impl From<TypeFault> for Refused {
+    ghost from_gives = { λ fault refused. refused ≡ by_types fault };
+
+    fn from(fault: TypeFault) -> Refused {
+        match fault {
+            TypeFault::Fault { number, line } => Refused::Fault { number, line },
+            TypeFault::Memory => Refused::Memory,
+        }
+    }
+}
+
+impl From<GraphFault> for Refused {
+    ghost from_gives = { λ fault refused. refused ≡ by_graph fault };
+
+    fn from(fault: GraphFault) -> Refused {
+        match fault {
+            GraphFault::Fault { number, line } => Refused::Fault { number, line },
+            GraphFault::Memory => Refused::Memory,
+        }
+    }
+}
