@@ -1,9 +1,23 @@
+ghost use Rattle.std.specs.Prelude.{◌≡◌, ◌↔◌, Ok, length, find, All, IsSome, IsTrue};
+ghost use Rattle.std.specs.Ordering.{int_eq};
+ghost use Rattle.std.specs.Option.{option_copied};
+ghost use Rattle.program.specs.declared.instruction.Instruction.TheVariants as instruction;
+ghost use Rattle.program.specs.declared.instruction.Terminator.TheVariants as terminator;
+ghost use Rattle.machine_core.specs.Paths.{Path};
+ghost use Rattle.machine_core.specs.Frames as frames;
+ghost use Rattle.machine_core.specs.Effect as effects;
+ghost use Rattle.frame.specs.Reading.{frame_of};
+ghost use Rattle.frame.specs.Asked.{DoesInstruction, DoesTerminator, DoesNext, asked};
+ghost use Rattle.frame.specs.Answers.{answer_of};
+ghost use Rattle.program.specs.declared.function.Program.{Program};
+ghost use Rattle.machine_core.specs.Cells.{Memory};
+
 use crate::arithmetic::{binary, compare, convert};
-use crate::frame::{Frame, Role, block_at};
+use crate::frame::{Frame, Role, block_at, item_at};
 use crate::value::{Cell, Object, Value};
 use program::{
-    Argument, BlockId, Case, FunctionId, Instruction, ObjectName, Operand, Parameter, Program,
-    RegisterId, Terminator,
+    Address, AllocaId, Argument, BinaryOperator, BlockId, Case, Conversion, FunctionId,
+    Instruction, ObjectName, Operand, Parameter, Predicate, Program, RegisterId, Terminator, Width,
 };
 
 /// Why an instruction has no effect.
@@ -80,20 +94,24 @@ pub enum Effect {
 }
 
 /// The cells of the object, as the function's text declares them.
-fn extent(program: &Program, frame: &Frame, name: ObjectName) -> u64 {
-    match (name, program.functions.as_slice().get(frame.function.0)) {
-        (ObjectName::Global(global), _) => match program.globals.as_slice().get(global.0) {
-            Some(found) => found.cells,
-            None => 0,
-        },
+fn extent(program: &Program, function: FunctionId, name: ObjectName) -> u64
+    ensures { result ≡ frames.cells_of program.now function.0 name }
+{
+    match (name, item_at(program.functions.as_slice(), function.0)) {
+        (ObjectName::Global(global), _) => {
+            match item_at(program.globals.as_slice(), global.0) {
+                Some(found) => found.cells,
+                None => 0,
+            }
+        }
         (ObjectName::Alloca(alloca), Some(function)) => {
-            match function.allocas.as_slice().get(alloca.0) {
+            match item_at(function.allocas.as_slice(), alloca.0) {
                 Some(found) => found.cells,
                 None => 0,
             }
         }
         (ObjectName::Parameter(register), Some(function)) => {
-            match function.parameters.as_slice().get(register.0) {
+            match item_at(function.parameters.as_slice(), register.0) {
                 Some(Parameter::Pointer { cells }) => *cells,
                 _ => 0,
             }
@@ -102,54 +120,199 @@ fn extent(program: &Program, frame: &Frame, name: ObjectName) -> u64 {
     }
 }
 
-/// The cell of the object at the index, which is below the object's extent.
-fn element(
+/// Gives the register the answer of an operation.
+fn number_effect(register: RegisterId, answer: Result<i64, Trap>) -> Result<Effect, Trap>
+    ensures { (prog : Program) (p : Path) (f : frames.Frame) (m : Memory) → asked prog p f m result ≡ effects.Plain (effects.answers f register (answer_of answer)) }
+{
+    match answer {
+        Ok(number) => Ok(Effect::Define {
+            register,
+            value: Value::Number(number),
+        }),
+        Err(trap) => Err(trap),
+    }
+}
+
+fn binary_effect(
     program: &Program,
     frame: &Frame,
-    name: ObjectName,
-    index: Operand,
-) -> Result<Cell, Trap> {
-    let object = frame.object(name)?;
-    let index = frame.number(index)?;
-    if index < 0 || index.cast_unsigned() >= extent(program, frame, name) {
-        return Err(Trap::BadIndex);
-    }
-    Ok(Cell {
-        object,
-        index: index.cast_unsigned(),
+    register: RegisterId,
+    operator: BinaryOperator,
+    width: Width,
+    left: Operand,
+    right: Operand,
+) -> Result<Effect, Trap>
+    ensures { DoesInstruction program.now frame.now (instruction.Binary register operator width left right) result }
+{
+    let left = frame.number(left)?;
+    let right = frame.number(right)?;
+    number_effect(register, binary(operator, width, left, right))
+}
+
+fn compare_effect(
+    program: &Program,
+    frame: &Frame,
+    register: RegisterId,
+    predicate: Predicate,
+    width: Width,
+    left: Operand,
+    right: Operand,
+) -> Result<Effect, Trap>
+    ensures { DoesInstruction program.now frame.now (instruction.Compare register predicate width left right) result }
+{
+    let left = frame.number(left)?;
+    let right = frame.number(right)?;
+    Ok(Effect::Define {
+        register,
+        value: Value::Truth(compare(predicate, width, left, right)),
     })
 }
 
-/// Where the run goes by a switch.
-fn chosen(default: BlockId, cases: &[Case], number: i64) -> BlockId {
-    match cases.iter().find(|case| case.number == number) {
-        Some(case) => case.target,
-        None => default,
-    }
+fn convert_effect(
+    program: &Program,
+    frame: &Frame,
+    register: RegisterId,
+    conversion: Conversion,
+    value: Operand,
+) -> Result<Effect, Trap>
+    ensures { DoesInstruction program.now frame.now (instruction.Convert register conversion value) result }
+{
+    let number = frame.number(value)?;
+    Ok(Effect::Define {
+        register,
+        value: Value::Number(convert(conversion, number)),
+    })
 }
 
-/// Whether the register holds a region that this frame started.
-fn owned_region(frame: &Frame, region: RegisterId) -> Result<(), Trap> {
-    match frame.register(region)? {
-        Value::Region { depth } if depth >= frame.depth => Ok(()),
-        Value::Region { .. } => Err(Trap::Unmatched),
-        _ => Err(Trap::Undefined),
+/// The cell of an object at an index, which is below the object's extent.
+fn element_effect(
+    program: &Program,
+    frame: &Frame,
+    register: RegisterId,
+    object: ObjectName,
+    index: Operand,
+) -> Result<Effect, Trap>
+    ensures { DoesInstruction program.now frame.now (instruction.ElementPointer register object index) result }
+{
+    let extent = extent(program, frame.function, object);
+    let object = frame.object(object)?;
+    let index = frame.number(index)?;
+    if index < 0 || index.cast_unsigned() >= extent {
+        return Err(Trap::BadIndex);
     }
+    let index = index.cast_unsigned();
+    Ok(Effect::Define {
+        register,
+        value: Value::Pointer(Cell { object, index }),
+    })
+}
+
+fn load_effect(
+    program: &Program,
+    frame: &Frame,
+    register: RegisterId,
+    address: Address,
+) -> Result<Effect, Trap>
+    ensures { DoesInstruction program.now frame.now (instruction.Load register address) result }
+{
+    let cell = frame.address(address)?;
+    Ok(Effect::Load { register, cell })
+}
+
+fn store_effect(
+    program: &Program,
+    frame: &Frame,
+    value: Operand,
+    address: Address,
+) -> Result<Effect, Trap>
+    ensures { DoesInstruction program.now frame.now (instruction.Store value address) result }
+{
+    let cell = frame.address(address)?;
+    let number = frame.number(value)?;
+    Ok(Effect::Store { cell, number })
+}
+
+fn store_zeros_effect(
+    program: &Program,
+    frame: &Frame,
+    cells: u64,
+    object: ObjectName,
+) -> Result<Effect, Trap>
+    ensures { DoesInstruction program.now frame.now (instruction.StoreZeros cells object) result }
+{
+    let object = frame.object(object)?;
+    Ok(Effect::StoreZeros { object, cells })
+}
+
+fn add_effect(
+    program: &Program,
+    frame: &Frame,
+    address: Address,
+    value: Operand,
+) -> Result<Effect, Trap>
+    ensures { DoesInstruction program.now frame.now (instruction.AtomicAdd address value) result }
+{
+    let cell = frame.address(address)?;
+    let number = frame.number(value)?;
+    Ok(Effect::Add { cell, number })
 }
 
 /// Whether the arguments have their values.
-fn check_arguments(frame: &Frame, arguments: &[Argument]) -> Result<(), Trap> {
-    for argument in arguments {
-        let _value = frame.argument(*argument)?;
+fn have_values(frame: &Frame, arguments: &[Argument]) -> bool
+    ensures { (p : Path) → IsTrue result ↔ All (λ a. IsSome (effects.argument_value (frame_of p frame.now) a)) arguments.now }
+{
+    arguments
+        .iter()
+        .all(|argument| frame.argument(*argument).is_ok())
+}
+
+fn call_effect(
+    program: &Program,
+    frame: &Frame,
+    register: Option<RegisterId>,
+    callee: FunctionId,
+    arguments: &[Argument],
+) -> Result<Effect, Trap>
+    ensures { DoesInstruction program.now frame.now (instruction.Call register callee arguments.now) result }
+{
+    if have_values(frame, arguments) {
+        Ok(Effect::Call { register, callee })
+    } else {
+        Err(Trap::Undefined)
     }
-    Ok(())
+}
+
+fn alloca_effect(
+    program: &Program,
+    frame: &Frame,
+    register: RegisterId,
+    alloca: AllocaId,
+) -> Result<Effect, Trap>
+    ensures { DoesInstruction program.now frame.now (instruction.Alloca register alloca) result }
+{
+    let object = frame.object(ObjectName::Alloca(alloca))?;
+    Ok(Effect::Define {
+        register,
+        value: Value::Pointer(object.first()),
+    })
+}
+
+fn region_effect(program: &Program, frame: &Frame, register: RegisterId) -> Result<Effect, Trap>
+    ensures { DoesInstruction program.now frame.now (instruction.StartRegion register) result }
+{
+    Ok(Effect::Define {
+        register,
+        value: Value::Region { depth: frame.depth },
+    })
 }
 
 fn instruction_effect(
     program: &Program,
     frame: &Frame,
     instruction: &Instruction,
-) -> Result<Effect, Trap> {
+) -> Result<Effect, Trap>
+    ensures { DoesInstruction program.now frame.now instruction.now result }
+{
     match instruction {
         Instruction::Binary {
             register,
@@ -157,141 +320,99 @@ fn instruction_effect(
             width,
             left,
             right,
-        } => {
-            let number = binary(
-                *operator,
-                *width,
-                frame.number(*left)?,
-                frame.number(*right)?,
-            )?;
-            Ok(Effect::Define {
-                register: *register,
-                value: Value::Number(number),
-            })
-        }
+        } => binary_effect(program, frame, *register, *operator, *width, *left, *right),
         Instruction::Compare {
             register,
             predicate,
             width,
             left,
             right,
-        } => {
-            let truth = compare(
-                *predicate,
-                *width,
-                frame.number(*left)?,
-                frame.number(*right)?,
-            );
-            Ok(Effect::Define {
-                register: *register,
-                value: Value::Truth(truth),
-            })
-        }
+        } => compare_effect(program, frame, *register, *predicate, *width, *left, *right),
         Instruction::Convert {
             register,
             conversion,
             value,
-        } => Ok(Effect::Define {
-            register: *register,
-            value: Value::Number(convert(*conversion, frame.number(*value)?)),
-        }),
-        Instruction::Alloca { register, alloca } => Ok(Effect::Define {
-            register: *register,
-            value: Value::Pointer(frame.object(ObjectName::Alloca(*alloca))?.first()),
-        }),
+        } => convert_effect(program, frame, *register, *conversion, *value),
+        Instruction::Alloca { register, alloca } => {
+            alloca_effect(program, frame, *register, *alloca)
+        }
         Instruction::ElementPointer {
             register,
             object,
             index,
-        } => Ok(Effect::Define {
-            register: *register,
-            value: Value::Pointer(element(program, frame, *object, *index)?),
-        }),
-        Instruction::Load { register, address } => Ok(Effect::Load {
-            register: *register,
-            cell: frame.address(*address)?,
-        }),
-        Instruction::Store { value, address } => Ok(Effect::Store {
-            cell: frame.address(*address)?,
-            number: frame.number(*value)?,
-        }),
-        Instruction::StoreZeros { cells, object } => Ok(Effect::StoreZeros {
-            object: frame.object(*object)?,
-            cells: *cells,
-        }),
-        Instruction::AtomicAdd { address, value } => Ok(Effect::Add {
-            cell: frame.address(*address)?,
-            number: frame.number(*value)?,
-        }),
+        } => element_effect(program, frame, *register, *object, *index),
+        Instruction::Load { register, address } => {
+            load_effect(program, frame, *register, *address)
+        }
+        Instruction::Store { value, address } => store_effect(program, frame, *value, *address),
+        Instruction::StoreZeros { cells, object } => {
+            store_zeros_effect(program, frame, *cells, *object)
+        }
+        Instruction::AtomicAdd { address, value } => {
+            add_effect(program, frame, *address, *value)
+        }
         Instruction::Call {
             register,
             callee,
             arguments,
-        } => {
-            check_arguments(frame, arguments.as_slice())?;
-            Ok(Effect::Call {
-                register: *register,
-                callee: *callee,
-            })
-        }
-        Instruction::StartRegion { register } => Ok(Effect::Define {
-            register: *register,
-            value: Value::Region { depth: frame.depth },
-        }),
+        } => call_effect(program, frame, *register, *callee, arguments.as_slice()),
+        Instruction::StartRegion { register } => region_effect(program, frame, *register),
     }
 }
 
-fn terminator_effect(frame: &Frame, terminator: &Terminator) -> Result<Effect, Trap> {
-    match terminator {
-        Terminator::Jump { target } => Ok(Effect::Branch { target: *target }),
-        Terminator::Branch {
-            condition,
-            when_true,
-            when_false,
-        } => {
-            let target = if frame.truth(*condition)? {
-                *when_true
-            } else {
-                *when_false
-            };
-            Ok(Effect::Branch { target })
-        }
-        Terminator::Switch {
-            value,
-            default,
-            cases,
-            ..
-        } => Ok(Effect::Branch {
-            target: chosen(*default, cases.as_slice(), frame.number(*value)?),
-        }),
-        Terminator::Return { value } => return_effect(frame, *value),
-        Terminator::Detach {
-            region,
-            body,
-            continuation,
-        } => {
-            owned_region(frame, *region)?;
-            Ok(Effect::Detach {
-                region: *region,
-                body: *body,
-                continuation: *continuation,
-            })
-        }
-        Terminator::Reattach {
-            region,
-            continuation,
-        } => reattach_effect(frame, *region, *continuation),
-        Terminator::Sync { region, target } => {
-            owned_region(frame, *region)?;
-            Ok(Effect::Sync {
-                region: *region,
-                target: *target,
-            })
-        }
+/// The case of a switch for the number.
+fn case_of(cases: &[Case], number: i64) -> Option<&Case>
+    ensures { option_copied result ≡ find (λ c. int_eq number c.number) cases.now }
+{
+    cases.iter().find(|case| number == case.number)
+}
+
+/// Where the run goes by a switch.
+fn chosen(default: BlockId, cases: &[Case], number: i64) -> BlockId
+    ensures { result.0 ≡ effects.case_for number default.0 cases.now }
+{
+    match case_of(cases, number) {
+        Some(case) => case.target,
+        None => default,
     }
 }
 
-fn return_effect(frame: &Frame, value: Option<Operand>) -> Result<Effect, Trap> {
+fn branch_effect(
+    program: &Program,
+    frame: &Frame,
+    condition: RegisterId,
+    when_true: BlockId,
+    when_false: BlockId,
+) -> Result<Effect, Trap>
+    ensures { DoesTerminator program.now frame.now (terminator.Branch condition when_true when_false) result }
+{
+    let target = if frame.truth(condition)? {
+        when_true
+    } else {
+        when_false
+    };
+    Ok(Effect::Branch { target })
+}
+
+fn switch_effect(
+    program: &Program,
+    frame: &Frame,
+    width: Width,
+    value: Operand,
+    default: BlockId,
+    cases: &[Case],
+) -> Result<Effect, Trap>
+    ensures { DoesTerminator program.now frame.now (terminator.Switch width value default cases.now) result }
+{
+    let number = frame.number(value)?;
+    Ok(Effect::Branch {
+        target: chosen(default, cases, number),
+    })
+}
+
+fn return_effect(program: &Program, frame: &Frame, value: Option<Operand>) -> Result<Effect, Trap>
+    ensures { DoesTerminator program.now frame.now (terminator.Return value) result }
+{
     let value = match value {
         Some(operand) => Some(frame.number(operand)?),
         None => None,
@@ -302,11 +423,26 @@ fn return_effect(frame: &Frame, value: Option<Operand>) -> Result<Effect, Trap> 
     }
 }
 
+/// The effect, where the register holds a region that this frame started: a region's frame is the one that holds it, or
+/// is above that.
+fn within(frame: &Frame, region: RegisterId, effect: Effect) -> Result<Effect, Trap>
+    ensures { (prog : Program) (p : Path) (m : Memory) → length p ≡ frame.now.depth → asked prog p (frame_of p frame.now) m result ≡ effects.within p (frame_of p frame.now) region (asked prog p (frame_of p frame.now) m (Ok effect)) }
+{
+    match frame.register(region) {
+        Ok(Value::Region { depth }) if depth >= frame.depth => Ok(effect),
+        Ok(Value::Region { .. }) => Err(Trap::Unmatched),
+        _ => Err(Trap::Undefined),
+    }
+}
+
 fn reattach_effect(
+    program: &Program,
     frame: &Frame,
     region: RegisterId,
     continuation: BlockId,
-) -> Result<Effect, Trap> {
+) -> Result<Effect, Trap>
+    ensures { DoesTerminator program.now frame.now (terminator.Reattach region continuation) result }
+{
     match frame.role {
         Role::Child {
             region: own,
@@ -316,14 +452,71 @@ fn reattach_effect(
     }
 }
 
-/// What the frame's next instruction asks for. It changes nothing and takes no memory.
-pub fn next_effect(program: &Program, frame: &Frame) -> Result<Effect, Trap> {
-    let block = block_at(program, frame.function, frame.block).ok_or(Trap::Unmatched)?;
-    match (block.steps.as_slice().get(frame.index), &block.ending) {
-        (Some(step), _) => instruction_effect(program, frame, &step.instruction),
-        (None, Some(ending)) if frame.index == block.steps.len() => {
-            terminator_effect(frame, &ending.terminator)
+fn terminator_effect(
+    program: &Program,
+    frame: &Frame,
+    terminator: &Terminator,
+) -> Result<Effect, Trap>
+    ensures { DoesTerminator program.now frame.now terminator.now result }
+{
+    match terminator {
+        Terminator::Jump { target } => Ok(Effect::Branch { target: *target }),
+        Terminator::Branch {
+            condition,
+            when_true,
+            when_false,
+        } => branch_effect(program, frame, *condition, *when_true, *when_false),
+        Terminator::Switch {
+            width,
+            value,
+            default,
+            cases,
+        } => switch_effect(program, frame, *width, *value, *default, cases.as_slice()),
+        Terminator::Return { value } => return_effect(program, frame, *value),
+        Terminator::Detach {
+            region,
+            body,
+            continuation,
+        } => {
+            let effect = Effect::Detach {
+                region: *region,
+                body: *body,
+                continuation: *continuation,
+            };
+            within(frame, *region, effect)
         }
-        _ => Err(Trap::Unmatched),
+        Terminator::Reattach {
+            region,
+            continuation,
+        } => reattach_effect(program, frame, *region, *continuation),
+        Terminator::Sync { region, target } => {
+            let effect = Effect::Sync {
+                region: *region,
+                target: *target,
+            };
+            within(frame, *region, effect)
+        }
+    }
+}
+
+/// What the frame's next instruction asks for. It changes nothing and takes no memory.
+pub fn next_effect(program: &Program, frame: &Frame) -> Result<Effect, Trap>
+    ensures { DoesNext program.now frame.now result }
+{
+    let Some(block) = block_at(program, frame.function, frame.block) else {
+        return Err(Trap::Unmatched);
+    };
+    if let Some(step) = item_at(block.steps.as_slice(), frame.index) {
+        return instruction_effect(program, frame, &step.instruction);
+    }
+    match &block.ending {
+        None => Err(Trap::Unmatched),
+        Some(ending) => {
+            if frame.index == block.steps.len() {
+                terminator_effect(program, frame, &ending.terminator)
+            } else {
+                Err(Trap::Unmatched)
+            }
+        }
     }
 }

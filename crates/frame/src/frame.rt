@@ -1,3 +1,10 @@
+ghost use Rattle.std.specs.Prelude.{◌≡◌, slice_get};
+ghost use Rattle.std.specs.Option.{option_copied, option_map};
+ghost use Rattle.machine_core.specs.Paths.{Path};
+ghost use Rattle.machine_core.specs.Frames as frames;
+ghost use Rattle.machine_core.specs.Effect as effects;
+ghost use Rattle.frame.specs.Reading.{cell_of, found, frame_of, object_of, read, register_in, registers_of, value_of};
+
 use crate::effect::Trap;
 use crate::value::{Cell, Object, Value};
 use lists::OutOfMemory;
@@ -64,14 +71,25 @@ fn made_allocas(alloc: Global, function: &Function) -> Result<Vec<Vec<Option<i64
     Ok(allocas)
 }
 
+/// The item at the index, where there is one.
+pub fn item_at<T>(items: &[T], index: usize) -> Option<&T>
+    ensures { option_copied result ≡ slice_get items.now index }
+{
+    items.get(index)
+}
+
 /// The block of a function, where there is one.
-pub fn block_at(program: &Program, function: FunctionId, block: BlockId) -> Option<&Block> {
-    let found = program.functions.as_slice().get(function.0)?;
-    found.blocks.as_slice().get(block.0)
+pub fn block_at(program: &Program, function: FunctionId, block: BlockId) -> Option<&Block>
+    ensures { option_copied result ≡ frames.block_at program.now function.0 block.0 }
+{
+    let found = item_at(program.functions.as_slice(), function.0)?;
+    item_at(found.blocks.as_slice(), block.0)
 }
 
 /// The phis of a block; none where there is no such block.
-fn phis_at(program: &Program, function: FunctionId, block: BlockId) -> &[Phi] {
+fn phis_at(program: &Program, function: FunctionId, block: BlockId) -> &[Phi]
+    ensures { result.now ≡ frames.phis_at program.now function.0 block.0 }
+{
     match block_at(program, function, block) {
         Some(found) => found.phis.as_slice(),
         None => &[],
@@ -169,14 +187,18 @@ impl Frame {
     }
 
     /// What the register holds.
-    pub fn register(&self, register: RegisterId) -> Result<Value, Trap> {
-        match self.registers.as_slice().get(register.0) {
+    pub fn register(&self, register: RegisterId) -> Result<Value, Trap>
+        ensures { result ≡ found (register_in self.now.registers.items register.0) }
+    {
+        match item_at(self.registers.as_slice(), register.0) {
             Some(Some(value)) => Ok(*value),
             _ => Err(Trap::Undefined),
         }
     }
 
-    pub fn number(&self, operand: Operand) -> Result<i64, Trap> {
+    pub fn number(&self, operand: Operand) -> Result<i64, Trap>
+        ensures { (p : Path) → result ≡ found (frames.word_at (registers_of p self.now.registers.items) operand) }
+    {
         match operand {
             Operand::Number(number) => Ok(number),
             Operand::Register(register) => match self.register(register)? {
@@ -186,14 +208,18 @@ impl Frame {
         }
     }
 
-    pub fn truth(&self, register: RegisterId) -> Result<bool, Trap> {
+    pub fn truth(&self, register: RegisterId) -> Result<bool, Trap>
+        ensures { (p : Path) → result ≡ found (frames.truth_of (registers_of p self.now.registers.items register.0)) }
+    {
         match self.register(register)? {
             Value::Truth(truth) => Ok(truth),
             _ => Err(Trap::Undefined),
         }
     }
 
-    fn pointer(&self, register: RegisterId) -> Result<Cell, Trap> {
+    fn pointer(&self, register: RegisterId) -> Result<Cell, Trap>
+        ensures { (p : Path) → read (cell_of p) result ≡ found (frames.cell_of (registers_of p self.now.registers.items register.0)) }
+    {
         match self.register(register)? {
             Value::Pointer(cell) => Ok(cell),
             _ => Err(Trap::Undefined),
@@ -201,7 +227,9 @@ impl Frame {
     }
 
     /// The object that the function's text means by the name.
-    pub fn object(&self, name: ObjectName) -> Result<Object, Trap> {
+    pub fn object(&self, name: ObjectName) -> Result<Object, Trap>
+        ensures { (p : Path) → read (object_of p) result ≡ found (frames.object_at (frame_of p self.now) name) }
+    {
         match name {
             ObjectName::Global(global) => Ok(Object::Global(global)),
             ObjectName::Alloca(alloca) => Ok(Object::Alloca {
@@ -212,14 +240,18 @@ impl Frame {
         }
     }
 
-    pub fn address(&self, address: Address) -> Result<Cell, Trap> {
+    pub fn address(&self, address: Address) -> Result<Cell, Trap>
+        ensures { (p : Path) → read (cell_of p) result ≡ found (frames.cell_at (frame_of p self.now) address) }
+    {
         match address {
             Address::First(name) => Ok(self.object(name)?.first()),
             Address::Element(register) => self.pointer(register),
         }
     }
 
-    pub fn argument(&self, argument: Argument) -> Result<Value, Trap> {
+    pub fn argument(&self, argument: Argument) -> Result<Value, Trap>
+        ensures { (p : Path) → read (value_of p) result ≡ found (effects.argument_value (frame_of p self.now) argument) }
+    {
         match argument {
             Argument::Number(operand) => Ok(Value::Number(self.number(operand)?)),
             Argument::Object(name) => Ok(Value::Pointer(self.object(name)?.first())),

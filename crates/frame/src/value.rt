@@ -1,3 +1,5 @@
+ghost use Rattle.std.specs.Prelude.{◌≡◌};
+
 use program::{AllocaId, GlobalId};
 
 /// An array of cells. An alloca's owner is the function's frame itself or a frame above it, so the owner's path is the
@@ -29,7 +31,10 @@ pub enum Value {
 
 impl Object {
     /// The object's first cell.
-    pub fn first(self) -> Cell {
+    pub fn first(self) -> Cell
+        ensures object { result.object ≡ self }
+        ensures index { result.index ≡ 0 }
+    {
         Cell {
             object: self,
             index: 0,
