@@ -1,16 +1,21 @@
 -- What the workers' hands and the frames' runners are after a step.
-use Rattle.std.proofs.Common.{◌≡◌, ◌≢◌, ℕ, ◌<◌, List, length, Option, Some, None, refl, sym, ap, ◌∙◌, arith, slice_set}
-use Rattle.std.specs.Prelude.{option_and_then}
+use Rattle.std.proofs.Common.{◌≡◌, ◌≢◌, ◌↔◌, ℕ, ◌+◌, ◌<◌, subst, List, length, Option, Some, None, refl, sym, ap, ◌∙◌, arith, slice_set}
+use Rattle.std.specs.Prelude.{option_and_then, OnOk, Result, Ok, Err}
 use Rattle.std.proofs.lemmas.List.{get_or-set_same, get_or-set_other}
 use Rattle.std.specs.Option.{option_map}
 use Rattle.linear.specs.declared.form.RegisterId.{RegisterId}
 use Rattle.frame.specs.declared.frame.Wait.TheVariants.{Region}
+use Rattle.sync_join.specs.declared.count.RegionCount.{RegionCount}
+use Rattle.sync_join.specs.declared.count.Parent.{Parent}
+use Rattle.sync_join.specs.declared.count.Parent.TheVariants.{Busy, Ready, Stalled}
+use Rattle.sync_join.specs.declared.count.Outcome.{Outcome}
+use Rattle.sync_join.specs.declared.count.Outcome.TheVariants.{ResumeReady, ResumeStalled, Leave}
 use Rattle.cactus.specs.declared.node.Node.{Node}
 use Rattle.cactus.specs.Frames.{Frames, node_at, frame_at, Lives, AddsChild}
 use Rattle.cactus.specs.Lending.{with_frame}
 use Rattle.cactus.proofs.FramesLemmas.{frame_at-with_frame, node_at-with_frame_other, lives-from_frame}
 use Rattle.schedule_core.specs.declared.activation.Activation.{Activation}
-use Rattle.schedule_core.specs.Scheduling.{hand_of, runner_at, BeginsChild, GoesOnWith, StallsAt}
+use Rattle.schedule_core.specs.Scheduling.{hand_of, runner_at, count_in, living_within, TakesParent, BeginsChild, GoesOnWith, StallsAt}
 
 pub hand_of-set : (hands : List (Option ℕ)) (worker : ℕ) (hand : Option ℕ) → worker < length hands → hand_of (slice_set hands worker hand) worker ≡ hand
 hand_of-set hands worker hand within = get_or-set_same hands worker hand None within
@@ -57,3 +62,40 @@ stalls frames before a hands worker slot region is within unheld waits =
       unheld = runner_at-with_frame frames slot a lives ∙ unheld;
       waits = ap (option_map (λ (b : Activation). b.frame.waits)) (frame_at-with_frame frames slot a lives) ∙ ap Some waits;
     }
+
+pub living_is : (frames : Frames Activation) (slot region : ℕ) (a : Activation) (count : RegionCount) → frame_at frames slot ≡ Some a → count_in a region ≡ Some count → living_within frames slot region ≡ count.living
+living_is frames slot region a count is counted = rw (is, counted) refl
+
+-- the worker goes on exactly where the child's parent is its to take
+module _ (outcome : Outcome) (standing : Parent) (number region living rest : ℕ) (fell : rest + 1 ≡ living) (ready : (outcome ≡ ResumeReady) ↔ (standing ≡ Ready number)) (stalled : (outcome ≡ ResumeStalled) ↔ ((standing ≡ Stalled region) × (rest ≡ 0))) where
+  pub taken_goes_on : TakesParent standing number region living → outcome ≢ Leave
+  taken_goes_on takes leaves = by_standing standing refl takes
+    where
+      by_standing : (p : Parent) → standing ≡ p → TakesParent p number region living → ⊥
+      by_standing (Ready newest) is same =
+          let resumes : outcome ≡ ResumeReady = ready.1 (is ∙ ap Ready same) in
+          cc
+      by_standing (Stalled awaited) is last =
+          let none : rest ≡ 0 = let one : living ≡ 1 = last.1 in omega arith in
+          let resumes : outcome ≡ ResumeStalled = stalled.1 (is ∙ ap Stalled last.0, none) in
+          cc
+      by_standing Busy is never = never
+
+  pub left_leaves : ¬ TakesParent standing number region living → outcome ≡ Leave
+  left_leaves free = by_outcome outcome refl
+    where
+      takes_as : (p : Parent) → standing ≡ p → TakesParent p number region living → ⊥
+      takes_as p is takes = free (subst (λ (q : Parent). TakesParent q number region living) (sym is) takes)
+
+      by_outcome : (o : Outcome) → outcome ≡ o → outcome ≡ Leave
+      by_outcome ResumeReady is = absurd (takes_as (Ready number) (ready.0 is) refl)
+      by_outcome ResumeStalled is =
+          let held : (standing ≡ Stalled region) × (rest ≡ 0) = stalled.0 is in
+          let none : rest ≡ 0 = held.1 in
+          let one : living ≡ 1 = omega arith in
+          absurd (takes_as (Stalled region) held.0 (refl, one))
+      by_outcome Leave is = is
+
+pub both_ok : {T E P Q R : Type 0} (r : Result T E) → OnOk r P → OnOk r Q → (P → Q → R) → OnOk r R
+both_ok (Ok v) p q join = join p q
+both_ok (Err e) p q join = p

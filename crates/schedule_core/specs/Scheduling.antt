@@ -1,12 +1,13 @@
 -- How tasks stand: what a worker runs, which tasks a thief may take, and when a child's worker goes on with the parent.
 use Rattle.std.specs.Prelude.{◌≡◌, ◌<◌, ℕ, ◌-◌, List, length, Option, Some, None, slice_get, slice_index_or, option_and_then}
-use Rattle.std.specs.Option.{option_map}
+use Rattle.std.specs.Option.{option_map, option_map_or}
 use Rattle.linear.specs.declared.form.RegisterId.{RegisterId}
 use Rattle.sync_join.specs.declared.count.RegionCount.{RegionCount}
 use Rattle.sync_join.specs.declared.count.Parent.{Parent}
 use Rattle.sync_join.specs.declared.count.Parent.TheVariants.{Busy, Ready, Stalled}
 use Rattle.frame.specs.declared.frame.Wait.{Wait}
 use Rattle.frame.specs.declared.frame.Wait.TheVariants.{Nothing, Region, Call}
+use Rattle.cactus.specs.declared.node.Node.{Node}
 use Rattle.cactus.specs.Frames.{Frames, node_at, frame_at}
 use Rattle.schedule_core.specs.declared.activation.Activation.{Activation}
 
@@ -63,3 +64,27 @@ pub record StallsAt (new : Frames Activation) (hands : List (Option ℕ)) (worke
   pub idle : hand_of hands worker ≡ None
   pub unheld : runner_at new slot ≡ None
   pub waits : option_map (λ (a : Activation). a.frame.waits) (frame_at new slot) ≡ Some (Region region)
+
+-- the living children that the slot's frame detached within a region
+abbrev pub living_within : Frames Activation → ℕ → ℕ → ℕ
+living_within frames slot region = option_map_or (λ (count : RegionCount). count.living) (option_and_then (λ (a : Activation). count_in a region) (frame_at frames slot)) 0
+
+-- The worker of this child goes on with its parent: no thief took the parent since the child was detached, or the parent is stalled on the region and
+-- this is its last child there.
+abbrev pub TakesParent : Parent → ℕ → ℕ → ℕ → Type 0
+TakesParent (Ready newest) number region living = newest ≡ number
+TakesParent (Stalled awaited) number region living = (awaited ≡ region) × (living ≡ 1)
+TakesParent Busy number region living = ⊥
+
+-- The child in the slot, of this number, ends within the region: its worker goes on with the parent or is idle.
+pub record EndsChild (old new : Frames Activation) (hands : List (Option ℕ)) (worker slot region : ℕ) : Type 0 where
+  pub parent : ℕ
+  pub number : ℕ
+  pub above : Activation
+  pub child : Node Activation
+  pub ended : node_at old slot ≡ Some child
+  pub its_parent : child.parent ≡ Some parent
+  pub its_number : slice_get child.path.numbers (length child.path.numbers - 1) ≡ Some number
+  pub stood : frame_at old parent ≡ Some above
+  pub taken : TakesParent (standing_of above) number region (living_within old parent region) → GoesOnWith new hands worker parent
+  pub left : ¬ TakesParent (standing_of above) number region (living_within old parent region) → hand_of hands worker ≡ None

@@ -1,5 +1,6 @@
-ghost use Rattle.std.specs.Prelude.{◌≡◌, ◌<◌, ◌≤◌, OnOk, vec_len};
-ghost use Rattle.schedule_core.specs.Scheduling.{BeginsChild, GoesOnWith, StallsAt};
+ghost use Rattle.std.specs.Prelude.{◌≡◌, ◌≢◌, ◌<◌, ◌≤◌, None, OnOk, vec_len};
+ghost use Rattle.std.specs.Vec.{with_item};
+ghost use Rattle.schedule_core.specs.Scheduling.{BeginsChild, EndsChild, GoesOnWith, StallsAt, living_within};
 
 use crate::activation::Activation;
 use crate::halt::Halt;
@@ -88,8 +89,11 @@ impl Machine<'_> {
     /// this child alone (Tapir, "reattach").
     fn reattach(&mut self, worker: u8, slot: usize, region: RegisterId) -> Result<(), Trap>
         requires { worker < vec_len self.old.hands }
+        ensures { OnOk result (EndsChild self.old.cactus self.new.cactus self.new.hands.items worker slot region.0) }
     {
-        let node = self.cactus.node(slot).ok_or(Trap::Unmatched)?;
+        let Some(node) = self.cactus.node(slot) else {
+            return Err(Trap::Unmatched);
+        };
         let last = node.path.numbers.as_slice().last().copied();
         let (Some(parent_slot), Some(number)) = (node.parent, last) else {
             return Err(Trap::Unmatched);
@@ -98,20 +102,34 @@ impl Machine<'_> {
             return Err(Trap::Unmatched);
         }
         let parent = self.activation(parent_slot)?;
+        let standing = parent.as_parent();
         let mut count = parent.count(region)?;
         if count.living == 0 {
             return Err(Trap::Unmatched);
         }
-        let outcome = count.closed(region.0, number, parent.as_parent());
+        let outcome = count.closed(region.0, number, standing);
         let _child = self.cactus.remove(slot);
         match self.cactus.frame_mut(parent_slot) {
             Some(parent) => parent.set_count(region, count),
             None => return Err(Trap::Unmatched),
         }
-        self.set_hand(worker, None);
+        self.go_on(worker, parent_slot, outcome)
+    }
+
+    /// The worker goes on with the parent, or is idle.
+    fn go_on(&mut self, worker: u8, parent: usize, outcome: Outcome) -> Result<(), Trap>
+        requires { worker < vec_len self.old.hands }
+        ensures resumed { OnOk result (outcome ≢ Outcome.Leave
+            → GoesOnWith self.new.cactus self.new.hands.items worker parent) }
+        ensures left { OnOk result (outcome ≡ Outcome.Leave
+            → self.new ≡ record self.old { hands = with_item self.old.hands worker None }) }
+    {
         match outcome {
-            Outcome::ResumeReady | Outcome::ResumeStalled => self.resume(worker, parent_slot),
-            Outcome::Leave => Ok(()),
+            Outcome::ResumeReady | Outcome::ResumeStalled => self.resume(worker, parent),
+            Outcome::Leave => {
+                self.set_hand(worker, None);
+                Ok(())
+            }
         }
     }
 
@@ -137,6 +155,10 @@ impl Machine<'_> {
         target: BlockId,
     ) -> Result<(), Trap>
         requires { worker < vec_len self.old.hands }
+        ensures passes { OnOk result (living_within self.old.cactus slot region.0 ≡ 0
+            → self.new ≡ record self.old { cactus = self.new.cactus }) }
+        ensures stalls { OnOk result (0 < living_within self.old.cactus slot region.0
+            → StallsAt self.new.cactus self.new.hands.items worker slot region) }
     {
         let top = self.activation(slot)?;
         let passage = top.count(region)?.at_sync();
@@ -176,6 +198,7 @@ impl Machine<'_> {
         callee: FunctionId,
     ) -> Result<(), Halt>
         requires { worker < vec_len self.old.hands }
+        ensures callee_first { OnOk result (BeginsChild self.old.cactus self.new.cactus self.new.hands.items worker slot) }
         ensures refused { result ≡ Err Halt.OutOfMemory → self.new ≡ self.old }
     {
         if self.cactus.frames_made() >= MOST_FRAMES {

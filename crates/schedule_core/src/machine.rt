@@ -1,4 +1,4 @@
-ghost use Rattle.std.specs.Prelude.{◌≡◌, ◌<◌, ℕ, false, IsTrue, IsSomeAnd, IfOk, OnOk, OnErr, OnSome, vec_len};
+ghost use Rattle.std.specs.Prelude.{◌≡◌, ◌<◌, ℕ, false, Some, IsTrue, IsSomeAnd, IfOk, OnOk, OnErr, OnSome, vec_len};
 ghost use Rattle.std.specs.Vec.{with_item};
 ghost use Rattle.cactus.specs.Frames.{Lives, frame_at};
 ghost use Rattle.schedule_core.specs.Scheduling.{hand_of, IsIdle, IsReady};
@@ -124,7 +124,8 @@ impl<'v> Machine<'v> {
 
     /// The frame in a slot.
     pub(crate) fn activation(&self, slot: usize) -> Result<&Activation, Trap>
-        ensures { OnOk result (Lives self.now.cactus slot) }
+        ensures lives { OnOk result (Lives self.now.cactus slot) }
+        ensures value { IfOk result (λ a. frame_at self.now.cactus slot ≡ Some a.now) }
     {
         match self.cactus.node(slot) {
             Some(node) => Ok(&node.frame),

@@ -1,0 +1,18 @@
+use Rattle.std.proofs.Common.{◌≡◌, ◌<◌, arith, refl, sym, ◌∙◌}
+use Rattle.std.proofs.lemmas.Result.{on_ok_weaker}
+use Rattle.sync_join.specs.declared.count.Passage.TheVariants.{Pass, Stall}
+use Rattle.schedule_core.specs.Scheduling.{living_within}
+use Rattle.schedule_core.proofs.Moves.{living_is}
+use Rattle.schedule_core.proofs.machine.Machine.sync.Goals as goal
+
+pub returns-in-Pass-clause-stalls : goal.returns-in-Pass-clause-stalls
+returns-in-Pass-clause-stalls c some =
+    let living : living_within c.args.self.now.cactus c.args.slot c.args.region.0 ≡ c.in_ok-count.field-0.living = living_is c.args.self.now.cactus c.args.slot c.args.region.0 c.in_ok-top.top.now c.in_ok-count.field-0 c.in_ok-top.ensures.value c.in_ok-count.ensures in
+    let none : c.in_ok-count.field-0.living ≡ 0 = c.in-Pass.ensures.0 refl in
+    absurd (omega arith)
+
+pub returns-in-Stall-clause-passes : goal.returns-in-Stall-clause-passes
+returns-in-Stall-clause-passes c =
+    let living : living_within c.args.self.now.cactus c.args.slot c.args.region.0 ≡ c.in_ok-count.field-0.living = living_is c.args.self.now.cactus c.args.slot c.args.region.0 c.in_ok-top.top.now c.in_ok-count.field-0 c.in_ok-top.ensures.value c.in_ok-count.ensures in
+    let some : c.in_ok-count.field-0.living ≡ 0 → Stall ≡ Pass = c.in-Stall.ensures.1 in
+    on_ok_weaker c.stall.result (λ stalls none. absurd (let passes : Stall ≡ Pass = some (sym living ∙ none) in cc)) c.stall.ensures
