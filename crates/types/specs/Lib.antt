@@ -4,6 +4,7 @@ pub mod Call
 pub mod Fault
 pub mod Form
 pub mod Instruction
+pub mod Layout
 pub mod Note
 pub mod Operand
 pub mod Scope
