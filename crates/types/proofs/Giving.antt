@@ -115,3 +115,14 @@ then_gives {A} {B} f r x a out e g h =
     let is : x ≡ Ok a = subst P e g in
     let Q : Result B TypeFault → Type 0 = λ s. Gives out s in
     subst Q (sym (ap (λ s. and_then s f) is)) h
+
+-- a list behind another whose meaning was given
+pub behind_gives : {A B : Type 0} (f : ℕ → A → Result B TypeFault) (before x out : Result (List B) TypeFault) (xs ys : List A) →
+    xs ≡ ys → Gives before x → Gives out (all_from f 0 before xs) → Gives out (all_from f 0 x ys)
+behind_gives {A} {B} f before x out xs ys same g h =
+    let P : List A → Type 0 = λ zs. Gives out (all_from f 0 before zs) in
+    gives_trans out (all_from f 0 before ys) (all_from f 0 x ys) (subst P same h) (more_gives f 0 before x ys g)
+
+-- the meaning of an equal value
+pub gives_from : {A B : Type 0} (meaning : A → Result B TypeFault) (r : Result B TypeFault) (x y : A) → x ≡ y → Gives r (meaning x) → Gives r (meaning y)
+gives_from {A} meaning r x y same g = let P : A → Type 0 = λ z. Gives r (meaning z) in subst P same g

@@ -3,9 +3,14 @@ pub mod Block
 pub mod Call
 pub mod Fault
 pub mod Form
+pub mod Function
 pub mod Instruction
+pub mod Item
+pub mod Layout
+pub mod Mention
 pub mod Note
 pub mod Operand
 pub mod Scope
 pub mod Table
 pub mod Terminator
+pub mod Typed

@@ -8,7 +8,7 @@ use crate::call::World;
 use crate::fault::{TypeFault, both, joined};
 use crate::form::{Place, resolve_inequalities};
 use crate::instruction::{resolve_phis, resolve_steps};
-use crate::note::{resolve_all_pending, resolve_left, resolve_zones};
+use crate::note::{resolve_all_pending, resolve_first_zones, resolve_left};
 use crate::scope::Scope;
 use crate::terminator::resolve_ending;
 use lists::Seq;
@@ -46,9 +46,8 @@ fn resolve_head(
     let keeps = resolve_inequalities(alloc, scope, place, notes.keeps.as_slice());
     let pending = resolve_all_pending(alloc, world.items, scope, block, notes.pending.as_slice());
     let left = resolve_left(alloc, scope, block, &notes.left);
-    let before = Ok(Seq::new(alloc));
     let foot = notes.foot.as_slice();
-    let foot = resolve_zones(alloc, world.items, scope, Place::Body, before, foot);
+    let foot = resolve_first_zones(alloc, world.items, scope, Place::Body, foot);
     let ((keeps, pending), (left, foot)) = both(both(keeps, pending), both(left, foot))?;
     Ok(Head {
         keeps,

@@ -12,8 +12,8 @@ use crate::fault::{
     wrong_count,
 };
 use crate::item::{Item, Items};
-use crate::mention::NamedGlobals;
 use crate::operand::resolve_operand;
+use crate::reach::NamedGlobals;
 use crate::scope::Scope;
 use lists::{Name, Seq};
 use program::{Argument, FunctionId, ObjectName, Parameter, Width};

@@ -1,8 +1,11 @@
+ghost use Rattle.std.specs.Prelude.{◌≡◌, map, IfOk};
+ghost use Rattle.types.specs.Typed as spec;
+
 use crate::call::World;
 use crate::fault::{TypeFault, both, type_mismatch, unknown_name, unless};
 use crate::function::resolve_functions;
 use crate::item::{Item, Items, items_of};
-use crate::mention::named_globals;
+use crate::reach::named_globals;
 use crate::typed::Typed;
 use lists::Seq;
 use program::{FunctionId, Global as GlobalArray, Program};
@@ -10,7 +13,9 @@ use std::alloc::{AllocError, Global};
 use std::hash::RandomState;
 use syntax::{Function, Module, Parameter, ResultType};
 
-fn is_number(parameter: &Parameter) -> bool {
+fn is_number(parameter: &Parameter) -> bool
+    ensures { result ≡ spec.is_number parameter.now }
+{
     match parameter {
         Parameter::Number { .. } => true,
         Parameter::Pointer { .. } => false,
@@ -18,7 +23,9 @@ fn is_number(parameter: &Parameter) -> bool {
 }
 
 /// `@main` gives an `i64` and takes nothing else.
-fn has_main_form(function: &Function) -> bool {
+fn has_main_form(function: &Function) -> bool
+    ensures { result ≡ spec.main_form function.now.result_type function.now.parameters }
+{
     match function.result_type {
         ResultType::Void => false,
         ResultType::Number => function.parameters.as_slice().iter().all(is_number),
@@ -26,7 +33,9 @@ fn has_main_form(function: &Function) -> bool {
 }
 
 /// The function at which the run begins.
-fn resolve_main(items: &Items, functions: &[Function]) -> Result<FunctionId, TypeFault> {
+fn resolve_main(items: &Items, functions: &[Function]) -> Result<FunctionId, TypeFault>
+    ensures { result ≡ spec.main_of items.now functions.now }
+{
     match items.find(b"main".as_slice()) {
         None => Err(unknown_name(1)),
         Some(Item::Global { .. }) => Err(unknown_name(1)),
@@ -40,16 +49,24 @@ fn resolve_main(items: &Items, functions: &[Function]) -> Result<FunctionId, Typ
     }
 }
 
-fn globals_of(alloc: Global, globals: &[syntax::Global]) -> Result<Seq<GlobalArray>, AllocError> {
-    let mut arrays = Vec::new(alloc);
+fn global_of(global: &syntax::Global) -> Result<GlobalArray, AllocError>
+    ensures { IfOk result (λ found. found ≡ spec.global_of global.now) }
+{
+    Ok(GlobalArray {
+        line: global.line,
+        name: global.name.copy()?,
+        cells: global.cells,
+    })
+}
+
+fn globals_of(alloc: Global, globals: &[syntax::Global]) -> Result<Seq<GlobalArray>, AllocError>
+    ensures { IfOk result (λ found. found ≡ map spec.global_of globals.now) }
+{
+    let mut arrays = Seq::new(alloc);
     for global in globals {
-        arrays.push(GlobalArray {
-            line: global.line,
-            name: global.name.copy()?,
-            cells: global.cells,
-        })?;
+        arrays.push(global_of(global)?)?;
     }
-    Ok(Seq::from_vec(arrays))
+    Ok(arrays)
 }
 
 /// The program that a module means, or the fault of the lowest line with the lowest number there.

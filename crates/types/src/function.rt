@@ -1,11 +1,16 @@
 //! Functions.
 
+ghost use Rattle.std.specs.Prelude.{◌≡◌, map, IfOk};
+ghost use Rattle.types.specs.Call.{parameter_of as parameter_meaning};
+ghost use Rattle.types.specs.Fault.{Gives};
+ghost use Rattle.types.specs.Function as spec;
+
 use crate::block::resolve_blocks;
 use crate::call::{World, parameter_of};
 use crate::fault::{TypeFault, both, joined};
 use crate::form::{Place, resolve_inequalities};
 use crate::layout::Layout;
-use crate::note::{resolve_measure, resolve_zones};
+use crate::note::{resolve_first_zones, resolve_measure, resolve_zones};
 use crate::scope::Scope;
 use lists::Seq;
 use program::{Budget, Function, Inequality, Measure, Parameter, RegisterId, Zone};
@@ -23,7 +28,9 @@ struct Head {
 }
 
 /// The register that stands for the result in `ensures`: the one behind the last.
-fn result_register(result_type: ResultType, registers: usize) -> Option<RegisterId> {
+fn result_register(result_type: ResultType, registers: usize) -> Option<RegisterId>
+    ensures { result ≡ spec.result_register result_type registers }
+{
     match result_type {
         ResultType::Number => Some(RegisterId(registers)),
         ResultType::Void => None,
@@ -36,11 +43,12 @@ fn resolve_head_zones(
     world: &World,
     scope: &Scope,
     notes: &FunctionNotes,
-) -> Result<Seq<Zone>, TypeFault> {
+) -> Result<Seq<Zone>, TypeFault>
+    ensures { Gives result (spec.head_zones_of world.now.items.now scope.now notes.now) }
+{
     let items = world.items;
     let place = Place::Head;
-    let none = Ok(Seq::new(alloc));
-    let reads = resolve_zones(alloc, items, scope, place, none, notes.reads.as_slice());
+    let reads = resolve_first_zones(alloc, items, scope, place, notes.reads.as_slice());
     let writes = resolve_zones(alloc, items, scope, place, reads, notes.writes.as_slice());
     resolve_zones(alloc, items, scope, place, writes, notes.adds.as_slice())
 }
@@ -51,7 +59,9 @@ fn resolve_head(
     layout: &Layout,
     result_type: ResultType,
     notes: &FunctionNotes,
-) -> Result<Head, TypeFault> {
+) -> Result<Head, TypeFault>
+    ensures { Gives result (spec.head_of world.now.items.now layout.now result_type notes.now) }
+{
     let scope = &layout.scope;
     let guarantee = Place::Guarantee(result_register(result_type, layout.registers.len()));
     let requirements = notes.requirements.as_slice();
@@ -74,12 +84,19 @@ fn resolve_head(
 fn parameters_of(
     alloc: Global,
     parameters: &[syntax::Parameter],
-) -> Result<Seq<Parameter>, AllocError> {
-    let parameters: Vec<Parameter> = parameters.iter().map(parameter_of).collect(alloc)?;
-    Ok(Seq::from_vec(parameters))
+) -> Result<Seq<Parameter>, AllocError>
+    ensures { IfOk result (λ found. found ≡ map parameter_meaning parameters.now) }
+{
+    let mut found = Seq::new(alloc);
+    for parameter in parameters {
+        found.push(parameter_of(parameter))?;
+    }
+    Ok(found)
 }
 
-fn budget_of(budget: &syntax::Budget) -> Budget {
+fn budget_of(budget: &syntax::Budget) -> Budget
+    ensures { result ≡ spec.budget_of budget.now }
+{
     Budget {
         line: budget.line,
         self_calls: budget.self_calls,
@@ -93,7 +110,9 @@ fn resolve_function(
     world: &World,
     place: usize,
     function: &syntax::Function,
-) -> Result<Function, TypeFault> {
+) -> Result<Function, TypeFault>
+    ensures { Gives result (spec.function_of world.now.items.now world.now.functions.now world.now.named.now place function.now) }
+{
     let layout = Layout::of(alloc, state, function)?;
     let result_type = function.result_type;
     let head = resolve_head(alloc, world, &layout, result_type, &function.notes);
@@ -105,8 +124,8 @@ fn resolve_function(
         name: function.name.copy()?,
         result_type,
         parameters: parameters_of(alloc, function.parameters.as_slice())?,
-        registers: Seq::from_vec(layout.registers),
-        allocas: Seq::from_vec(layout.allocas),
+        registers: layout.registers,
+        allocas: layout.allocas,
         requirements: head.requirements,
         guarantees: head.guarantees,
         zones: head.zones,
@@ -121,9 +140,13 @@ pub fn resolve_functions(
     alloc: Global,
     state: RandomState,
     world: &World,
-) -> Result<Seq<Function>, TypeFault> {
+) -> Result<Seq<Function>, TypeFault>
+    ensures { Gives result (spec.functions_of world.now.items.now world.now.functions.now world.now.named.now) }
+{
     let mut resolved = Ok(Seq::new(alloc));
-    for (place, function) in world.functions.iter().enumerate() {
+    let functions = world.functions;
+    for place in 0..functions.len() {
+        let function = &functions[place];
         resolved = joined(
             resolved,
             resolve_function(alloc, state, world, place, function),

@@ -1,8 +1,11 @@
 //! The registers of a function in their order, and what its names stand for.
 
+ghost use Rattle.std.specs.Prelude.{◌≡◌, OnOk, IfOk};
+ghost use Rattle.types.specs.Layout as spec;
+
 use crate::scope::{Holding, Named, Origin, Register, Scope};
 use crate::table::NameTable;
-use lists::Name;
+use lists::{Name, Seq};
 use program::{Alloca, AllocaId, BlockId, ObjectName, RegisterId, RegisterKind, Width};
 use std::alloc::{AllocError, Global};
 use std::hash::RandomState;
@@ -12,11 +15,13 @@ use syntax::{AllocaSize, Block, Conversion, Function, Instruction, Parameter, Ph
 #[derive(Drop)]
 pub struct Layout {
     pub scope: Scope,
-    pub registers: Vec<RegisterKind>,
-    pub allocas: Vec<Alloca>,
+    pub registers: Seq<RegisterKind>,
+    pub allocas: Seq<Alloca>,
 }
 
-fn kind_of(holding: Holding) -> RegisterKind {
+fn kind_of(holding: Holding) -> RegisterKind
+    ensures { result ≡ spec.kind_of holding }
+{
     match holding {
         Holding::Number(width) => RegisterKind::Number(width),
         Holding::Truth => RegisterKind::Truth,
@@ -27,7 +32,9 @@ fn kind_of(holding: Holding) -> RegisterKind {
 }
 
 /// The number of cells of an `alloca`.
-fn cells_of(size: AllocaSize) -> u64 {
+fn cells_of(size: AllocaSize) -> u64
+    ensures { result ≡ spec.cells_of size }
+{
     match size {
         AllocaSize::One => 1,
         AllocaSize::Array(cells) => cells,
@@ -35,7 +42,9 @@ fn cells_of(size: AllocaSize) -> u64 {
 }
 
 /// The width of what a conversion gives.
-fn target_width(conversion: Conversion) -> Width {
+fn target_width(conversion: Conversion) -> Width
+    ensures { result ≡ spec.target_width conversion }
+{
     match conversion {
         Conversion::Truncate => Width::Bits32,
         Conversion::SignExtend => Width::Bits64,
@@ -44,11 +53,13 @@ fn target_width(conversion: Conversion) -> Width {
 }
 
 impl Layout {
-    fn new(alloc: Global, state: RandomState) -> Layout {
+    fn new(alloc: Global, state: RandomState) -> Layout
+        ensures { result ≡ spec.no_layout }
+    {
         Layout {
             scope: NameTable::new(alloc, state),
-            registers: Vec::new(alloc),
-            allocas: Vec::new(alloc),
+            registers: Seq::new(alloc),
+            allocas: Seq::new(alloc),
         }
     }
 
@@ -59,7 +70,9 @@ impl Layout {
         name: &Name,
         holding: Holding,
         origin: Origin,
-    ) -> Result<(), AllocError> {
+    ) -> Result<(), AllocError>
+        ensures { OnOk result (self.new ≡ spec.with_register self.old name.now holding origin) }
+    {
         let id = RegisterId(self.registers.len());
         let register = Register {
             id,
@@ -71,7 +84,9 @@ impl Layout {
         Ok(())
     }
 
-    fn add_parameter(&mut self, alloc: Global, parameter: &Parameter) -> Result<(), AllocError> {
+    fn add_parameter(&mut self, alloc: Global, parameter: &Parameter) -> Result<(), AllocError>
+        ensures { OnOk result (self.new ≡ spec.with_parameter self.old parameter.now) }
+    {
         match parameter {
             Parameter::Number { name } => {
                 let holding = Holding::Number(Width::Bits64);
@@ -88,7 +103,9 @@ impl Layout {
         }
     }
 
-    fn add_phi(&mut self, alloc: Global, phi: &Phi) -> Result<(), AllocError> {
+    fn add_phi(&mut self, alloc: Global, phi: &Phi) -> Result<(), AllocError>
+        ensures { OnOk result (self.new ≡ spec.with_phi self.old phi.now) }
+    {
         let holding = Holding::Number(phi.width);
         self.add(alloc, &phi.register, holding, Origin::Phi)
     }
@@ -98,22 +115,23 @@ impl Layout {
         alloc: Global,
         line: u32,
         name: &Name,
-        size: AllocaSize,
+        cells: u64,
         origin: Origin,
-    ) -> Result<(), AllocError> {
-        let object = ObjectName::Alloca(AllocaId(self.allocas.len()));
-        let cells = cells_of(size);
+    ) -> Result<(), AllocError>
+        ensures { OnOk result (self.new ≡ spec.with_alloca self.old line name.now cells origin) }
+    {
         let register = RegisterId(self.registers.len());
+        let holding = Holding::Object {
+            name: ObjectName::Alloca(AllocaId(self.allocas.len())),
+            cells,
+        };
+        self.add(alloc, name, holding, origin)?;
         self.allocas.push(Alloca {
             line,
             register,
             cells,
         })?;
-        let holding = Holding::Object {
-            name: object,
-            cells,
-        };
-        self.add(alloc, name, holding, origin)
+        Ok(())
     }
 
     fn add_call(
@@ -121,17 +139,26 @@ impl Layout {
         alloc: Global,
         register: &Option<Name>,
         origin: Origin,
-    ) -> Result<(), AllocError> {
+    ) -> Result<(), AllocError>
+        ensures { OnOk result (self.new ≡ spec.with_call self.old register.now origin) }
+    {
         match register {
             None => Ok(()),
             Some(name) => self.add(alloc, name, Holding::Number(Width::Bits64), origin),
         }
     }
 
-    /// The register that an instruction of this block defines, if it defines one.
-    fn add_step(&mut self, alloc: Global, block: usize, step: &Step) -> Result<(), AllocError> {
-        let origin = Origin::Step(block);
-        match &step.instruction {
+    /// The register that an instruction defines, if it defines one.
+    fn add_instruction(
+        &mut self,
+        alloc: Global,
+        line: u32,
+        origin: Origin,
+        instruction: &Instruction,
+    ) -> Result<(), AllocError>
+        ensures { OnOk result (self.new ≡ spec.with_instruction self.old line origin instruction.now) }
+    {
+        match instruction {
             Instruction::Binary {
                 register,
                 width,
@@ -149,7 +176,7 @@ impl Layout {
                 self.add(alloc, register, holding, origin)
             }
             Instruction::Alloca { register, size } => {
-                self.add_alloca(alloc, step.line, register, *size, origin)
+                self.add_alloca(alloc, line, register, cells_of(*size), origin)
             }
             Instruction::ElementPointer { register, .. } => {
                 self.add(alloc, register, Holding::Element, origin)
@@ -157,9 +184,9 @@ impl Layout {
             Instruction::Load { register, .. } => {
                 self.add(alloc, register, Holding::Number(Width::Bits64), origin)
             }
-            Instruction::Store { .. }
-            | Instruction::StoreZeros { .. }
-            | Instruction::AtomicAdd { .. } => Ok(()),
+            Instruction::Store { .. } => Ok(()),
+            Instruction::StoreZeros { .. } => Ok(()),
+            Instruction::AtomicAdd { .. } => Ok(()),
             Instruction::Call { register, .. } => self.add_call(alloc, register, origin),
             Instruction::StartRegion { register } => {
                 self.add(alloc, register, Holding::Region, origin)
@@ -167,34 +194,74 @@ impl Layout {
         }
     }
 
-    fn add_block(&mut self, alloc: Global, place: usize, block: &Block) -> Result<(), AllocError> {
-        for phi in block.phis.as_slice() {
+    fn add_phis(&mut self, alloc: Global, phis: &[Phi]) -> Result<(), AllocError>
+        ensures { OnOk result (self.new ≡ spec.with_phis self.old phis.now) }
+    {
+        for phi in phis {
             self.add_phi(alloc, phi)?;
         }
-        for step in block.steps.as_slice() {
-            self.add_step(alloc, place, step)?;
+        Ok(())
+    }
+
+    fn add_steps(&mut self, alloc: Global, block: usize, steps: &[Step]) -> Result<(), AllocError>
+        ensures { OnOk result (self.new ≡ spec.with_steps block self.old steps.now) }
+    {
+        for step in steps {
+            self.add_instruction(alloc, step.line, Origin::Step(block), &step.instruction)?;
+        }
+        Ok(())
+    }
+
+    fn add_block(&mut self, alloc: Global, place: usize, block: &Block) -> Result<(), AllocError>
+        ensures { OnOk result (self.new ≡ spec.with_block place self.old block.now) }
+    {
+        self.add_phis(alloc, block.phis.as_slice())?;
+        self.add_steps(alloc, place, block.steps.as_slice())
+    }
+
+    fn add_parameters(&mut self, alloc: Global, parameters: &[Parameter]) -> Result<(), AllocError>
+        ensures { OnOk result (self.new ≡ spec.with_parameters self.old parameters.now) }
+    {
+        for parameter in parameters {
+            self.add_parameter(alloc, parameter)?;
+        }
+        Ok(())
+    }
+
+    fn add_blocks(&mut self, alloc: Global, blocks: &[Block]) -> Result<(), AllocError>
+        ensures { OnOk result (self.new ≡ spec.with_blocks 0 self.old blocks.now) }
+    {
+        for place in 0..blocks.len() {
+            self.add_block(alloc, place, &blocks[place])?;
+        }
+        Ok(())
+    }
+
+    fn add_label(&mut self, alloc: Global, place: usize, block: &Block) -> Result<(), AllocError>
+        ensures { OnOk result (self.new ≡ spec.with_label place self.old block.now) }
+    {
+        let label = Named::Label(BlockId(place));
+        self.scope.define(alloc, &block.label, label)
+    }
+
+    fn add_labels(&mut self, alloc: Global, blocks: &[Block]) -> Result<(), AllocError>
+        ensures { OnOk result (self.new ≡ spec.with_labels 0 self.old blocks.now) }
+    {
+        for place in 0..blocks.len() {
+            self.add_label(alloc, place, &blocks[place])?;
         }
         Ok(())
     }
 
     /// The layout of a function. The parameters come first, then the other registers, then the labels; a name that is
     /// defined twice keeps its first meaning.
-    pub fn of(
-        alloc: Global,
-        state: RandomState,
-        function: &Function,
-    ) -> Result<Layout, AllocError> {
+    pub fn of(alloc: Global, state: RandomState, function: &Function) -> Result<Layout, AllocError>
+        ensures { IfOk result (λ layout. layout ≡ spec.layout_of function.now) }
+    {
         let mut layout = Layout::new(alloc, state);
-        for parameter in function.parameters.as_slice() {
-            layout.add_parameter(alloc, parameter)?;
-        }
-        for (place, block) in function.blocks.as_slice().iter().enumerate() {
-            layout.add_block(alloc, place, block)?;
-        }
-        for (place, block) in function.blocks.as_slice().iter().enumerate() {
-            let label = Named::Label(BlockId(place));
-            layout.scope.define(alloc, &block.label, label)?;
-        }
+        layout.add_parameters(alloc, function.parameters.as_slice())?;
+        layout.add_blocks(alloc, function.blocks.as_slice())?;
+        layout.add_labels(alloc, function.blocks.as_slice())?;
         Ok(layout)
     }
 }

@@ -26,6 +26,7 @@ mod layout;
 mod mention;
 mod note;
 mod operand;
+mod reach;
 mod scope;
 mod table;
 mod terminator;

@@ -1,237 +1,195 @@
-//! Which globals a function's text names, itself or by the functions that it calls, directly or through others.
+//! What the text of a function names behind `@`.
 
-ghost use Rattle.std.specs.Prelude.{◌≡◌, slice_index_or, false};
+ghost use Rattle.std.specs.Prelude.{◌≡◌, map, IfOk, OnOk};
+ghost use Rattle.types.specs.Mention as spec;
+ghost use Rattle.types.specs.Table.{look_up};
 
 use crate::item::{Item, Items};
 use lists::{Name, Seq};
-use program::GlobalId;
 use std::alloc::{AllocError, Global};
-use std::marker::Model;
-use syntax::{Address, Argument, Block, Function, FunctionNotes, Instruction, Zone};
+use syntax::{Address, Argument, Block, Function, FunctionNotes, Instruction, Pending, Step, Zone};
 
-/// What the text of one function names behind `@`, with repetitions.
+/// The globals that a text names and the functions that it calls, by their places, with repetitions.
 #[derive(Drop)]
-struct Mentions {
-    globals: Vec<usize>,
-    callees: Vec<usize>,
+pub struct Mentions {
+    pub globals: Seq<usize>,
+    pub callees: Seq<usize>,
 }
 
-impl Mentions {
-    fn new(alloc: Global) -> Mentions {
-        Mentions {
-            globals: Vec::new(alloc),
-            callees: Vec::new(alloc),
-        }
-    }
-
-    fn add_global(&mut self, items: &Items, name: &Name) -> Result<(), AllocError> {
-        if let Some(Item::Global { id, .. }) = items.find(name.as_bytes()) {
-            self.globals.push(id.0)?;
-        }
-        Ok(())
-    }
-
-    fn add_address(&mut self, items: &Items, address: &Address) -> Result<(), AllocError> {
-        match address {
-            Address::Global(name) => self.add_global(items, name),
-            Address::Register(_) => Ok(()),
-        }
-    }
-
-    fn add_callee(&mut self, items: &Items, name: &Name) -> Result<(), AllocError> {
-        match items.find(name.as_bytes()) {
-            None => Ok(()),
-            Some(Item::Global { id, .. }) => {
-                self.globals.push(id.0)?;
-                Ok(())
-            }
-            Some(Item::Function(id)) => {
-                self.callees.push(id.0)?;
-                Ok(())
-            }
-        }
-    }
-
-    fn add_arguments(&mut self, items: &Items, arguments: &[Argument]) -> Result<(), AllocError> {
-        for argument in arguments {
-            match argument {
-                Argument::Pointer(address) => self.add_address(items, address)?,
-                Argument::Number(_) => {}
-            }
-        }
-        Ok(())
-    }
-
-    fn add_instruction(
-        &mut self,
-        items: &Items,
-        instruction: &Instruction,
-    ) -> Result<(), AllocError> {
-        match instruction {
-            Instruction::ElementPointer { base, .. } => self.add_address(items, base),
-            Instruction::Load { address, .. } => self.add_address(items, address),
-            Instruction::Store { address, .. } => self.add_address(items, address),
-            Instruction::StoreZeros { address, .. } => self.add_address(items, address),
-            Instruction::AtomicAdd { address, .. } => self.add_address(items, address),
-            Instruction::Call {
-                callee,
-                arguments,
-                ..
-            } => {
-                self.add_callee(items, callee)?;
-                self.add_arguments(items, arguments.as_slice())
-            }
-            Instruction::Binary { .. }
-            | Instruction::Compare { .. }
-            | Instruction::Convert { .. }
-            | Instruction::Alloca { .. }
-            | Instruction::StartRegion { .. } => Ok(()),
-        }
-    }
-
-    fn add_zones(&mut self, items: &Items, zones: &[Zone]) -> Result<(), AllocError> {
-        for zone in zones {
-            self.add_address(items, &zone.object)?;
-        }
-        Ok(())
-    }
-
-    fn add_block(&mut self, items: &Items, block: &Block) -> Result<(), AllocError> {
-        for pending in block.notes.pending.as_slice() {
-            self.add_address(items, &pending.zone.object)?;
-        }
-        self.add_zones(items, block.notes.foot.as_slice())?;
-        for step in block.steps.as_slice() {
-            self.add_instruction(items, &step.instruction)?;
-        }
-        Ok(())
-    }
-
-    fn add_notes(&mut self, items: &Items, notes: &FunctionNotes) -> Result<(), AllocError> {
-        self.add_zones(items, notes.reads.as_slice())?;
-        self.add_zones(items, notes.writes.as_slice())?;
-        self.add_zones(items, notes.adds.as_slice())
-    }
-}
-
-/// What a function's annotations and instructions name.
-fn mentions_of(alloc: Global, items: &Items, function: &Function) -> Result<Mentions, AllocError> {
-    let mut mentions = Mentions::new(alloc);
-    mentions.add_notes(items, &function.notes)?;
-    for block in function.blocks.as_slice() {
-        mentions.add_block(items, block)?;
-    }
-    Ok(mentions)
-}
-
-/// Marks the places in the list.
-fn mark(marks: &mut Vec<bool>, places: &[usize]) {
-    for place in places {
-        if *place < marks.len() {
-            marks[*place] = true;
+fn add_object(found: &mut Mentions, items: &Items, name: &Name) -> Result<(), AllocError>
+    ensures { OnOk result (found.new ≡ spec.with_object found.old (look_up items.now name.now)) }
+{
+    match items.find(name.as_bytes()) {
+        None => Ok(()),
+        Some(Item::Function(_)) => Ok(()),
+        Some(Item::Global { id, .. }) => {
+            found.globals.push(id.0)?;
+            Ok(())
         }
     }
 }
 
-/// Marks what is not marked yet, and puts it to the work.
-fn mark_new(
-    marks: &mut Vec<bool>,
-    work: &mut Vec<usize>,
-    places: &[usize],
-) -> Result<(), AllocError> {
-    for place in places {
-        if *place < marks.len() && !marks[*place] {
-            marks[*place] = true;
-            work.push(*place)?;
+fn add_callee(found: &mut Mentions, items: &Items, name: &Name) -> Result<(), AllocError>
+    ensures { OnOk result (found.new ≡ spec.with_callee found.old (look_up items.now name.now)) }
+{
+    match items.find(name.as_bytes()) {
+        None => Ok(()),
+        Some(Item::Global { id, .. }) => {
+            found.globals.push(id.0)?;
+            Ok(())
         }
+        Some(Item::Function(id)) => {
+            found.callees.push(id.0)?;
+            Ok(())
+        }
+    }
+}
+
+fn add_address(found: &mut Mentions, items: &Items, address: &Address) -> Result<(), AllocError>
+    ensures { OnOk result (found.new ≡ spec.with_address items.now found.old address.now) }
+{
+    match address {
+        Address::Global(name) => add_object(found, items, name),
+        Address::Register(_) => Ok(()),
+    }
+}
+
+fn add_argument(found: &mut Mentions, items: &Items, argument: &Argument) -> Result<(), AllocError>
+    ensures { OnOk result (found.new ≡ spec.with_argument items.now found.old argument.now) }
+{
+    match argument {
+        Argument::Number(_) => Ok(()),
+        Argument::Pointer(address) => add_address(found, items, address),
+    }
+}
+
+fn add_arguments(
+    found: &mut Mentions,
+    items: &Items,
+    arguments: &[Argument],
+) -> Result<(), AllocError>
+    ensures { OnOk result (found.new ≡ spec.with_arguments items.now found.old arguments.now) }
+{
+    for argument in arguments {
+        add_argument(found, items, argument)?;
     }
     Ok(())
 }
 
-/// The functions that this one calls, directly or through others, and itself.
-fn reached_functions(
-    alloc: Global,
-    mentions: &[Mentions],
-    start: usize,
-) -> Result<Vec<bool>, AllocError> {
-    let mut reached = vec![in alloc; false; mentions.len()]?;
-    let mut work: Vec<usize> = Vec::new(alloc);
-    mark_new(&mut reached, &mut work, &[start])?;
-    for _ in 0..mentions.len() {
-        match work.pop() {
-            None => break,
-            Some(function) => {
-                if function < mentions.len() {
-                    mark_new(
-                        &mut reached,
-                        &mut work,
-                        mentions[function].callees.as_slice(),
-                    )?;
-                }
-            }
-        }
-    }
-    Ok(reached)
+fn add_call(
+    found: &mut Mentions,
+    items: &Items,
+    callee: &Name,
+    arguments: &[Argument],
+) -> Result<(), AllocError>
+    ensures { OnOk result (found.new ≡ spec.with_arguments items.now (spec.with_callee found.old (look_up items.now callee.now)) arguments.now) }
+{
+    add_callee(found, items, callee)?;
+    add_arguments(found, items, arguments)
 }
 
-/// The globals that a function and those that it calls name, directly or through others.
-#[derive(Drop)]
-pub struct NamedGlobals {
-    marks: Seq<bool>,
-}
-
-impl Model for NamedGlobals {
-    ghost use Rattle.std.specs.Prelude.{List, Bool};
-
-    ghost Value = { List Bool };
-
-    ghost view = { λ n. n.marks };
-}
-
-impl NamedGlobals {
-    fn of(
-        alloc: Global,
-        mentions: &[Mentions],
-        globals: usize,
-        start: usize,
-    ) -> Result<NamedGlobals, AllocError> {
-        let reached = reached_functions(alloc, mentions, start)?;
-        let mut marks = vec![in alloc; false; globals]?;
-        for (place, names) in mentions.iter().enumerate() {
-            if reached.get(place).copied().unwrap_or(false) {
-                mark(&mut marks, names.globals.as_slice());
-            }
-        }
-        Ok(NamedGlobals {
-            marks: Seq::from_vec(marks),
-        })
-    }
-
-    pub fn contains(&self, global: GlobalId) -> bool
-        ensures { result ≡ slice_index_or self.now global.0 false }
-    {
-        self.marks
-            .as_slice()
-            .get(global.0)
-            .copied()
-            .unwrap_or(false)
+fn add_instruction(
+    found: &mut Mentions,
+    items: &Items,
+    instruction: &Instruction,
+) -> Result<(), AllocError>
+    ensures { OnOk result (found.new ≡ spec.with_instruction items.now found.old instruction.now) }
+{
+    match instruction {
+        Instruction::Binary { .. } => Ok(()),
+        Instruction::Compare { .. } => Ok(()),
+        Instruction::Convert { .. } => Ok(()),
+        Instruction::Alloca { .. } => Ok(()),
+        Instruction::ElementPointer { base, .. } => add_address(found, items, base),
+        Instruction::Load { address, .. } => add_address(found, items, address),
+        Instruction::Store { address, .. } => add_address(found, items, address),
+        Instruction::StoreZeros { address, .. } => add_address(found, items, address),
+        Instruction::AtomicAdd { address, .. } => add_address(found, items, address),
+        Instruction::Call {
+            callee,
+            arguments,
+            ..
+        } => add_call(found, items, callee, arguments.as_slice()),
+        Instruction::StartRegion { .. } => Ok(()),
     }
 }
 
-/// For each function what it and those that it calls name.
-pub fn named_globals(
+fn add_steps(found: &mut Mentions, items: &Items, steps: &[Step]) -> Result<(), AllocError>
+    ensures { OnOk result (found.new ≡ spec.with_steps items.now found.old steps.now) }
+{
+    for step in steps {
+        add_instruction(found, items, &step.instruction)?;
+    }
+    Ok(())
+}
+
+fn add_zones(found: &mut Mentions, items: &Items, zones: &[Zone]) -> Result<(), AllocError>
+    ensures { OnOk result (found.new ≡ spec.with_zones items.now found.old zones.now) }
+{
+    for zone in zones {
+        add_address(found, items, &zone.object)?;
+    }
+    Ok(())
+}
+
+fn add_pending(found: &mut Mentions, items: &Items, lines: &[Pending]) -> Result<(), AllocError>
+    ensures { OnOk result (found.new ≡ spec.with_pending items.now found.old lines.now) }
+{
+    for line in lines {
+        add_address(found, items, &line.zone.object)?;
+    }
+    Ok(())
+}
+
+fn add_block(found: &mut Mentions, items: &Items, block: &Block) -> Result<(), AllocError>
+    ensures { OnOk result (found.new ≡ spec.with_block items.now found.old block.now) }
+{
+    add_pending(found, items, block.notes.pending.as_slice())?;
+    add_zones(found, items, block.notes.foot.as_slice())?;
+    add_steps(found, items, block.steps.as_slice())
+}
+
+fn add_blocks(found: &mut Mentions, items: &Items, blocks: &[Block]) -> Result<(), AllocError>
+    ensures { OnOk result (found.new ≡ spec.with_blocks items.now found.old blocks.now) }
+{
+    for block in blocks {
+        add_block(found, items, block)?;
+    }
+    Ok(())
+}
+
+fn add_notes(found: &mut Mentions, items: &Items, notes: &FunctionNotes) -> Result<(), AllocError>
+    ensures { OnOk result (found.new ≡ spec.with_notes items.now found.old notes.now) }
+{
+    add_zones(found, items, notes.reads.as_slice())?;
+    add_zones(found, items, notes.writes.as_slice())?;
+    add_zones(found, items, notes.adds.as_slice())
+}
+
+/// What a function's annotations and instructions name.
+fn mentions_of(alloc: Global, items: &Items, function: &Function) -> Result<Mentions, AllocError>
+    ensures { IfOk result (λ found. found ≡ spec.mentions_of items.now function.now) }
+{
+    let mut found = Mentions {
+        globals: Seq::new(alloc),
+        callees: Seq::new(alloc),
+    };
+    add_notes(&mut found, items, &function.notes)?;
+    add_blocks(&mut found, items, function.blocks.as_slice())?;
+    Ok(found)
+}
+
+/// What each function's annotations and instructions name.
+pub fn all_mentions(
     alloc: Global,
     items: &Items,
-    globals: usize,
     functions: &[Function],
-) -> Result<Vec<NamedGlobals>, AllocError> {
-    let mut mentions = Vec::new(alloc);
+) -> Result<Seq<Mentions>, AllocError>
+    ensures { IfOk result (λ found. found ≡ map (spec.mentions_of items.now) functions.now) }
+{
+    let mut found = Seq::new(alloc);
     for function in functions {
-        mentions.push(mentions_of(alloc, items, function)?)?;
+        found.push(mentions_of(alloc, items, function)?)?;
     }
-    let mut named = Vec::new(alloc);
-    for start in 0..functions.len() {
-        named.push(NamedGlobals::of(alloc, mentions.as_slice(), globals, start)?)?;
-    }
-    Ok(named)
+    Ok(found)
 }

@@ -124,6 +124,20 @@ pub fn resolve_zones(
     resolved
 }
 
+/// The zones of one kind.
+pub fn resolve_first_zones(
+    alloc: Global,
+    items: &Items,
+    scope: &Scope,
+    place: Place,
+    zones: &[syntax::Zone],
+) -> Result<Seq<Zone>, TypeFault>
+    ensures { Gives result (spec.zones_of items.now scope.now place zones.now) }
+{
+    let none = Ok(Seq::new(alloc));
+    resolve_zones(alloc, items, scope, place, none, zones)
+}
+
 /// The region of a `pending` line of a block.
 fn pending_region(
     scope: &Scope,

@@ -1,0 +1,7 @@
+use Rattle.std.proofs.Common.{take}
+use Rattle.types.specs.Fault.{Gives, all_of}
+use Rattle.types.specs.Function as spec
+use Rattle.types.proofs.function.resolve_functions.Given as goal
+
+abbrev pub invariant-loop-place : goal.invariant-loop-place
+invariant-loop-place l = Gives l.resolved (all_of (spec.function_of l.world.items.now l.world.functions.now l.world.named.now) (take l.place l.functions))
