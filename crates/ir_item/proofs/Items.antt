@@ -49,7 +49,6 @@ no_wrap_again d op other w a b h =
     ap (λ (o : Option BinaryOperator). o >>= λ operator. option_map (binary_from d operator) (gaps_of binary_shape (symbols_in (atoms_of binary_shape (w, (a, (b, tt))))))) h
     ∙ ap (option_map (binary_from d other)) (gaps_again binary_shape (w, (a, (b, tt))) refl)
 
-
 binary_again : (at : ℕ) (d : List ℕ) (op : BinaryOperator) (w : Width) (a b : Operand) → item_in at (symbols_in (instruction_atoms (instruction.Binary d op w a b))) ≡ Some (item.Instruction (instruction.Binary d op w a b))
 unfolding item_in definition fixed operator_of
 binary_again at d Add w a b = ap (option_map item.Instruction) (plain_again d Add w a b)

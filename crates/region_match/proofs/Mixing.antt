@@ -38,13 +38,13 @@ mixed_next bodies blocks marks i block named broken r l is before here lower =
     judged_same _ _ _ _ r
     (λ s b w. ⊎_elim (λ same. rw same s.1) (λ other. s.0 b (omega (arith, w, other))) (cases_eq b i))
     (λ x p. ⊎_elim
-        (λ old. (old.0, old.1, omega (arith, old.2), old.3, old.4, old.5, old.6))
-        (λ new. (i, block, omega arith, read, new.0, new.1, new.2))
-        p)
+    (λ old. (old.0, old.1, omega (arith, old.2), old.3, old.4, old.5, old.6))
+    (λ new. (i, block, omega arith, read, new.0, new.1, new.2))
+    p)
     (λ x p. ⊎_elim
-        (λ same. let h = rw same at p.3 in let e : p.1 ≡ block = same_block bodies i p.1 block h read in inr (p.4, rw (← e) p.5, rw (← same) p.6))
-        (λ other. inl (p.0, p.1, omega (arith, p.2, other), p.3, p.4, p.5, p.6))
-        (cases_eq p.0 i))
+    (λ same. let h = rw same at p.3 in let e : p.1 ≡ block = same_block bodies i p.1 block h read in inr (p.4, rw (← e) p.5, rw (← same) p.6))
+    (λ other. inl (p.0, p.1, omega (arith, p.2, other), p.3, p.4, p.5, p.6))
+    (cases_eq p.0 i))
     (judged_lower (AreUnmixed marks i) (get_or marks i false ≡ false) (AreMixed bodies blocks i) (λ broken. (broken.number ≡ 306) × (broken.line ≡ block.line) × HasTwoTasks blocks i) named broken r before here lower)
 
 pub mixed_all : (bodies : List Block) (blocks : List BlockEdges) (marks : List Bool) (n : ℕ) (r : Option Broken) → length blocks ≡ length bodies → length bodies ≤ n → IsJudged (AreUnmixed marks n) (AreMixed bodies blocks n) r → IsJudged ((b : ℕ) → b < length blocks → get_or marks b false ≡ false) (IsMixedBlock bodies blocks) r

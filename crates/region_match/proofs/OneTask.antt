@@ -193,8 +193,8 @@ marks_exact blocks tasks starts stops marks s clash none exact b l = (
   λ two. ⊎_elim
       (λ on. on)
       (λ off.
-          let clear : IsClear blocks tasks b = λ d legs path p q. unmarked_innermost blocks tasks starts stops marks s clash none exact d p (start_within blocks d b legs path l) (unmarked_before blocks tasks starts stops marks s clash none exact b d legs l off path) q in
-          let at = clear b [] refl in
-          absurd (two.4 (one_task blocks tasks (suc (length two.0)) b b two.0 two.1 (n-less-suc (length two.0)) clear clear two.2 two.3 (sym (at two.0 two.2) ∙ at two.1 two.3))))
+      let clear : IsClear blocks tasks b = λ d legs path p q. unmarked_innermost blocks tasks starts stops marks s clash none exact d p (start_within blocks d b legs path l) (unmarked_before blocks tasks starts stops marks s clash none exact b d legs l off path) q in
+      let at = clear b [] refl in
+      absurd (two.4 (one_task blocks tasks (suc (length two.0)) b b two.0 two.1 (n-less-suc (length two.0)) clear clear two.2 two.3 (sym (at two.0 two.2) ∙ at two.1 two.3))))
       (cases_Bool (get_or marks b false)),
 )
