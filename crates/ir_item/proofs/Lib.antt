@@ -5,3 +5,6 @@ pub mod Said
 pub mod Texts
 pub mod Again
 pub mod Items
+pub mod Digits
+pub mod Lexed
+pub mod LineAgain

@@ -1,5 +1,5 @@
 -- How items are spelled: the symbols and spaces of their canonical print.
-use Rattle.std.specs.Prelude.{ℕ, ◌*◌, ℤ, pos, List, [], ◌∷◌, ◌++◌, codes, flat_map, Option, Some, None}
+use Rattle.std.specs.Prelude.{ℕ, zero, suc, ◌*◌, ℤ, pos, List, [], ◌∷◌, ◌++◌, codes, flat_map, Option, Some, None}
 use Rattle.std.specs.Fmt.{signed_decimal}
 use Rattle.syntax.specs.declared.instruction.AllocaSize.TheVariants.{One, Array}
 use Rattle.syntax.specs.declared.instruction.Operand.{Operand}
@@ -266,3 +266,8 @@ item_atoms (item.Instruction i) = instruction_atoms i
 item_atoms (item.Terminator t) = terminator_atoms t
 item_atoms item.Close = close_atoms
 item_atoms (item.Annotation a) = []
+
+-- so many spaces
+abbrev pub spaces : ℕ → List ℕ
+spaces zero = []
+spaces (suc k) = 32 ∷ spaces k

@@ -57,7 +57,7 @@ prefix_of_run (b ∷ w) rest all parted =
     let t = both (is_run_byte b) (list_all is_run_byte w) all in
     rw (t.0, prefix_of_run w rest t.1 parted) (omega arith)
 
-no_note : (b : ℕ) (bs : List ℕ) → eqb b 59 ≡ false → is_note_mark (b ∷ bs) ≡ false
+pub no_note : (b : ℕ) (bs : List ℕ) → eqb b 59 ≡ false → is_note_mark (b ∷ bs) ≡ false
 no_note b [] h = refl
 no_note b (c ∷ bs) h = rw h refl
 
@@ -97,7 +97,7 @@ mark_then : (i m : ℕ) (rest : List ℕ) → is_space m ≡ false → is_mark m
     → tokens_from false 0 i (m ∷ rest) ≡ option_map (λ ts. record { kind = Mark; from = i; to = i + 1 } ∷ ts) (tokens_from false 0 (i + 1) rest)
 mark_then i m rest s h = at_token false i (m ∷ rest) Mark 1 (omega arith) (omega arith) (front_of_mark m rest s h)
 
-space_then : (i : ℕ) (rest : List ℕ) → tokens_from false 0 i (32 ∷ rest) ≡ tokens_from false 0 (i + 1) rest
+pub space_then : (i : ℕ) (rest : List ℕ) → tokens_from false 0 i (32 ∷ rest) ≡ tokens_from false 0 (i + 1) rest
 space_then i rest = at_space false i (32 ∷ rest) (omega arith) (front_of_space rest)
 
 -- a run that is parted from the rest, or a mark
@@ -120,7 +120,7 @@ over_space_if : (b : Bool) (i : ℕ) (rest : List ℕ) → tokens_from false 0 i
 over_space_if true i rest = space_then i rest
 over_space_if false i rest = ap (λ (k : ℕ). tokens_from false 0 k rest) (omega arith)
 
-one_then : (i : ℕ) (kind : Kind) (w rest : List ℕ) → IsLexeme rest kind w
+pub one_then : (i : ℕ) (kind : Kind) (w rest : List ℕ) → IsLexeme rest kind w
     → tokens_from false 0 i (w ++ rest) ≡ option_map (λ ts. record { kind = kind; from = i; to = i + length w } ∷ ts) (tokens_from false 0 (i + length w) rest)
 one_then i _ _ rest (Run kind w k all some parted) = run_then i kind w rest k all some parted
 one_then i _ _ rest (Sign m a b) = mark_then i m rest b a
