@@ -1,0 +1,4 @@
+pub mod Forms
+pub mod Made
+pub mod Search
+pub mod Shown

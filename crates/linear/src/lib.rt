@@ -1,6 +1,15 @@
-//! Linear forms over the registers of a function.
+//! Linear forms over the registers of a function, and what facts show of them.
 #![tactic(auto)]
 
+mod fault;
 mod form;
+mod make;
+mod show;
+mod side;
 
-pub use form::{Fact, Form, RegisterId, Term};
+pub use fault::FormFault;
+pub use form::{Fact, Form, RegisterId, Replacement, Term};
+pub use show::shown;
+
+#[cfg(test)]
+mod tests;

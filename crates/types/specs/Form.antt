@@ -1,10 +1,12 @@
 -- Forms of annotations, and what they may name.
-use Rattle.std.specs.Prelude.{ℕ, ◌+◌, ℤ, pos, negsuc, ◌-ℤ◌, int_le, int_lt, nat_eq, nat_lt, nat_le, Bool, true, ◌&&◌, ◌||◌, not, codes, List, [], ◌∷◌, length, insert, fold, count_by, Option, Some, None, if◌then◌else◌, Result, Ok, Err}
-use Rattle.std.specs.List.{list_all, prefix_len}
+use Rattle.std.specs.Prelude.{ℕ, ◌+◌, ℤ, pos, negsuc, ◌-ℤ◌, int_le, int_lt, nat_eq, nat_le, Bool, ◌&&◌, ◌||◌, not, codes, List, [], ◌∷◌, length, count_by, Option, Some, None, if◌then◌else◌, Result, Ok, Err}
+use Rattle.std.specs.List.{list_all}
 use Rattle.std.specs.Str.{bytes_eq}
 use Rattle.linear.specs.declared.form.Form.{Form}
 use Rattle.linear.specs.declared.form.RegisterId.{RegisterId}
 use Rattle.linear.specs.declared.form.Term.{Term}
+use Rattle.linear.specs.Forms.{constant_form}
+use Rattle.linear.specs.Made.{with_term}
 use Rattle.program.specs.declared.annotation.Inequality.{Inequality}
 use Rattle.syntax.specs.declared.annotation.Form.{Form as FormText}
 use Rattle.syntax.specs.declared.annotation.Inequality.{Inequality as InequalityText}
@@ -76,22 +78,29 @@ term_of scope place line term =
 abbrev pub keeps_limits : FormText → Bool
 keeps_limits form = nat_le (length form.terms) 4 && int_le (negsuc 9223372036854775806) form.constant
 
-abbrev pub is_below : RegisterId → Term → Bool
-is_below register term = nat_lt term.register.0 register.0
+-- 206 where the coefficient of a register would pass the bounds of a form
+abbrev pub within_bounds : ℕ → Option Form → Result Form TypeFault
+within_bounds line None = Err (Fault 206 line)
+within_bounds line (Some form) = Ok form
 
--- with one more term, before those of registers that are not below its own
-abbrev pub with_term : List Term → Term → List Term
-with_term terms term = insert terms (prefix_len (is_below term.register) terms) term
+-- a form with one more term, at its place among the registers
+abbrev pub with_one : ℕ → Form → Term → Result Form TypeFault
+with_one line form term = within_bounds line (with_term form term.register term.coefficient)
+
+-- a form with more terms
+abbrev pub with_all : ℕ → Form → List Term → Result Form TypeFault
+with_all line form [] = Ok form
+with_all line form (term ∷ terms) = and_then (with_one line form term) (λ more. with_all line more terms)
 
 -- a form whose terms rise by their registers
-abbrev pub ordered_form : List Term → ℤ → Form
-ordered_form terms constant = record { terms = fold with_term [] terms; constant = constant }
+abbrev pub ordered_form : ℕ → List Term → ℤ → Result Form TypeFault
+ordered_form line terms constant = with_all line (constant_form constant) terms
 
 -- `F`
 abbrev pub form_of : Scope → Place → ℕ → FormText → Result Form TypeFault
 form_of scope place line form =
-    made_of (λ p. ordered_form p.0 form.constant)
-    (both_of (all_of (λ _. term_of scope place line) form.terms) (unless_of (keeps_limits form) (Fault 206 line)))
+    and_then (both_of (all_of (λ _. term_of scope place line) form.terms) (unless_of (keeps_limits form) (Fault 206 line)))
+    (λ p. ordered_form line p.0 form.constant)
 
 -- what a register is multiplied by
 abbrev pub coefficient_in : List Term → RegisterId → ℤ

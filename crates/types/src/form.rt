@@ -1,16 +1,17 @@
 //! Forms of annotations, and what they may name.
 
-ghost use Rattle.std.specs.Prelude.{◌≡◌, ◌≤◌, length, count_by, IfOk};
-ghost use Rattle.std.specs.List.{list_all, prefix_len};
+ghost use Rattle.std.specs.Prelude.{◌≡◌, count_by};
+ghost use Rattle.std.specs.List.{list_all};
 ghost use Rattle.types.specs.Fault.{Gives, all_of};
 ghost use Rattle.types.specs.Form as spec;
 
 use crate::fault::{TypeFault, both, form_limit, joined, type_mismatch, unknown_name, unless};
 use crate::operand::resolve_register;
 use crate::scope::{Named, Register, Scope, is_number, is_number_of, is_parameter, is_step_of};
+use linear::FormFault;
 use lists::{Name, Seq};
 use program::{Form, Inequality, RegisterId, Term, Width};
-use std::alloc::{AllocError, Global};
+use std::alloc::Global;
 use syntax::Relation;
 
 /// Where an annotation stands, which says what it may name.
@@ -146,30 +147,26 @@ fn terms(
     resolved
 }
 
-/// How many terms name a register below this one.
-fn place_of(terms: &[Term], register: RegisterId) -> usize
-    ensures value { result ≡ prefix_len (spec.is_below register) terms.now }
-    ensures within { result ≤ length terms.now }
+/// The form with one more term: 206 past the bounds of a form.
+fn with_one(line: u32, form: Form, term: Term) -> Result<Form, TypeFault>
+    ensures { Gives result (spec.with_one line form term) }
 {
-    terms
-        .iter()
-        .take_while(|term| term.register.0 < register.0)
-        .count()
+    match form.plus_term(term.register, term.coefficient) {
+        Ok(form) => Ok(form),
+        Err(FormFault::Bounds) => Err(form_limit(line)),
+        Err(FormFault::Memory) => Err(TypeFault::Memory),
+    }
 }
 
 /// The form with these terms, put in the order of their registers.
-fn make_form(alloc: Global, terms: &[Term], constant: i64) -> Result<Form, AllocError>
-    ensures { IfOk result (λ form. form ≡ spec.ordered_form terms.now constant) }
+fn make_form(alloc: Global, line: u32, terms: &[Term], constant: i64) -> Result<Form, TypeFault>
+    ensures { Gives result (spec.ordered_form line terms.now constant) }
 {
-    let mut sorted: Vec<Term> = Vec::new(alloc);
+    let mut form = Form::from_constant(alloc, constant as i128);
     for term in terms {
-        let place = place_of(sorted.as_slice(), term.register);
-        sorted.insert(place, *term)?;
+        form = with_one(line, form, *term)?;
     }
-    Ok(Form {
-        terms: Seq::from_vec(sorted),
-        constant: constant as i128,
-    })
+    Ok(form)
 }
 
 /// The number of registers and the constant of a form keep their limits.
@@ -192,7 +189,7 @@ pub fn resolve_form(
     let within = keeps_limits(form);
     let terms = terms(alloc, scope, place, line, form.terms.as_slice());
     let (terms, ()) = both(terms, unless(within, form_limit(line)))?;
-    Ok(make_form(alloc, terms.as_slice(), form.constant)?)
+    make_form(alloc, line, terms.as_slice(), form.constant)
 }
 
 fn coefficient_in(terms: &[Term], register: RegisterId) -> i64

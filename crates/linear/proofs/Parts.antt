@@ -1,0 +1,20 @@
+-- Searches through lists of factors and sides.
+use Rattle.std.proofs.Common.{◌≡◌, ℕ, ◌≤◌, suc, List, length, take}
+use Rattle.std.specs.List.{All, Contains}
+use Rattle.std.specs.Int.RustNames.{unsigned_abs}
+use Rattle.std.proofs.lemmas.List.{length-map, take_all}
+use Rattle.std.proofs.lemmas.List.Elements.{All-contains}
+use Rattle.linear.specs.declared.form.Term.{Term}
+use Rattle.linear.specs.declared.form.Fact.{Fact}
+use Rattle.linear.specs.Shown.{sides}
+use Rattle.linear.specs.Search.{factors}
+
+pub length_sides : (facts : List Fact) → length (sides facts) ≡ suc (length facts)
+length_sides facts = rw (length-map facts (λ (f : Fact). f.form))
+
+pub length_factors : (terms : List Term) → length (factors terms) ≡ suc (length terms)
+length_factors terms = rw (length-map terms (λ (t : Term). unsigned_abs t.coefficient))
+
+-- a search that found nothing
+pub none_found : {X : Type 0} (P : X → Type 0) (xs : List X) (i : ℕ) → All (λ x. P x → ⊥) (take i xs) → length xs ≤ i → (x : X) → Contains xs x → P x → ⊥
+none_found P xs i all l x found = All-contains (λ x. P x → ⊥) xs x (rw (take_all i xs l) at all) found

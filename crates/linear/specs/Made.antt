@@ -1,0 +1,68 @@
+-- How forms are made.
+use Rattle.std.specs.Prelude.{◌≡◌, ℕ, ◌<◌, ◌^◌, ℤ, pos, ◌+ℤ◌, ◌==◌, Bool, nat_lt, List, [], ◌∷◌, take, unsigned_abs, Option, Some, None, slice_get, slice_set, insert, if◌then◌else◌}
+use Rattle.std.specs.List.{prefix_len}
+use Rattle.linear.specs.declared.form.RegisterId.{RegisterId}
+use Rattle.linear.specs.declared.form.Term.{Term}
+use Rattle.linear.specs.declared.form.Replacement.{Replacement}
+use Rattle.linear.specs.Forms.{Combination, coefficient_of, IsRising, AreSmall, register_form}
+
+-- a register times a number
+abbrev pub term_form : RegisterId → ℤ → Combination
+term_form register coefficient = record { terms = record { register = register; coefficient = coefficient } ∷ []; constant = pos 0 }
+
+-- each coefficient and the constant are within the bounds of a form
+pub record IsBounded (f : Combination) : Type 0 where
+  pub terms : (r : ℕ) → unsigned_abs (coefficient_of f.terms r) < 2 ^ 24
+  pub constant : unsigned_abs f.constant < 2 ^ 100
+
+-- ---- one more term among terms whose registers rise
+
+-- the terms say the same as the old ones with the term before them
+pub record IsTermAdded (term : Term) (old new : List Term) : Type 0 where
+  pub same : (r : ℕ) → coefficient_of new r ≡ coefficient_of (term ∷ old) r
+  pub rising : IsRising new
+  pub small : AreSmall new
+
+abbrev pub is_below : ℕ → Term → Bool
+is_below r t = nat_lt t.register.0 r
+
+abbrev pub own_coefficient : ℕ → Option Term → Option ℤ
+own_coefficient r None = None
+own_coefficient r (Some t) = if t.register.0 == r then Some t.coefficient else None
+
+-- the coefficient of a register, where the term at the place is its own
+abbrev pub coefficient_at : List Term → ℕ → ℕ → Option ℤ
+coefficient_at ts place r = own_coefficient r (slice_get ts place)
+
+abbrev pub is_bounded : ℤ → Bool
+is_bounded z = nat_lt (unsigned_abs z) 16777216
+
+-- the term of a register at its place, in front of the terms of greater registers
+abbrev pub placed_at : List Term → ℕ → RegisterId → ℤ → Option ℤ → Option (List Term)
+placed_at ts place register amount None =
+    if is_bounded (pos 0 +ℤ amount) then Some (insert ts place (record { register = register; coefficient = pos 0 +ℤ amount })) else None
+placed_at ts place register amount (Some c) =
+    if is_bounded (c +ℤ amount) then Some (slice_set ts place (record { register = register; coefficient = c +ℤ amount })) else None
+
+-- the terms with a register times a number, unless its coefficient would pass the bounds
+unfoldable pub placed : List Term → RegisterId → ℤ → Option (List Term)
+placed ts register amount = placed_at ts (prefix_len (is_below register.0) ts) register amount (coefficient_at ts (prefix_len (is_below register.0) ts) register.0)
+
+abbrev pub with_terms : ℤ → Option (List Term) → Option Combination
+with_terms constant None = None
+with_terms constant (Some ts) = Some (record { terms = ts; constant = constant })
+
+-- a form with a register times a number, unless its coefficient would pass the bounds
+abbrev pub with_term : Combination → RegisterId → ℤ → Option Combination
+with_term f register amount = with_terms f.constant (placed f.terms register amount)
+
+-- ---- registers replaced by forms
+
+-- the form that replaces a register; a register that none replaces stays
+abbrev pub replaced_by : List Replacement → ℕ → Combination
+replaced_by [] r = register_form r
+replaced_by (p ∷ ps) r = if p.register.0 == r then p.form else replaced_by ps r
+
+-- a form's first terms, and its constant
+abbrev pub first_terms : ℕ → Combination → Combination
+first_terms n e = record { terms = take n e.terms; constant = e.constant }

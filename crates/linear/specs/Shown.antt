@@ -1,0 +1,31 @@
+-- What facts show: e = a * f + b * g + c for two facts f and g, of which either may be absent, a constant c that is not below 0, and
+-- factors a and b that are 1 or the size of one of e's coefficients.
+use Rattle.std.specs.Prelude.{◌≡◌, ℕ, ◌⊎◌, ℤ, pos, ◌+ℤ◌, ◌*ℤ◌, ◌≤ℤ◌, List, ◌∷◌, map, All, Contains, unsigned_abs}
+use Rattle.linear.specs.declared.form.Fact.{Fact}
+use Rattle.linear.specs.Forms.{Combination, coefficient_of, constant_form, Holds}
+
+pub record IsSum (e : Combination) (a : ℕ) (f : Combination) (b : ℕ) (g : Combination) : Type 0 where
+  pub terms : (r : ℕ) → coefficient_of e.terms r ≡ (pos a *ℤ coefficient_of f.terms r) +ℤ (pos b *ℤ coefficient_of g.terms r)
+  pub constant : ((pos a *ℤ f.constant) +ℤ (pos b *ℤ g.constant)) ≤ℤ e.constant
+
+abbrev pub IsFactor : Combination → ℕ → Type 0
+IsFactor e a = (a ≡ 1) ⊎ ((r : ℕ) × (a ≡ unsigned_abs (coefficient_of e.terms r)))
+
+-- the facts' forms, and 0 for an absent one
+abbrev pub sides : List Fact → List Combination
+sides facts = constant_form (pos 0) ∷ map (λ f. f.form) facts
+
+pub record IsShown (facts : List Fact) (e : Combination) : Type 0 where
+  pub f : Combination
+  pub g : Combination
+  pub a : ℕ
+  pub b : ℕ
+  pub f_is : Contains (sides facts) f
+  pub g_is : Contains (sides facts) g
+  pub a_is : IsFactor e a
+  pub b_is : IsFactor e b
+  pub sum : IsSum e a f b g
+
+-- each fact is true of these values
+abbrev pub AllHold : (ℕ → ℤ) → List Fact → Type 0
+AllHold v facts = All (λ f. Holds v f.form) facts

@@ -1,0 +1,266 @@
+//! How forms are made.
+
+ghost use Rattle.std.specs.Prelude.{◌≡◌, ℕ, ◌<◌, ◌≤◌, ◌^◌, ◌+ℤ◌, ◌∷◌, length, unsigned_abs, pos, negsuc, ◌*ℤ◌, OnOk, IfOk, IfSome, IfNone, Err, Some, None};
+ghost use Rattle.std.specs.List.{prefix_len};
+ghost use Rattle.linear.specs.Forms.{IsRising, AreSmall, coefficient_of, Same, constant_form, register_form, plus, scaled, minus, put};
+ghost use Rattle.linear.specs.Made.{IsTermAdded, is_below, coefficient_at, term_form, IsBounded, placed, with_term, replaced_by, first_terms};
+ghost use Rattle.linear.specs.declared.fault.FormFault.TheVariants.{Bounds};
+
+use crate::fault::FormFault;
+use crate::form::{Form, RegisterId, Replacement, Term};
+use crate::side::side_of;
+use lists::Seq;
+use std::alloc::{AllocError, Global};
+
+/// How many terms stand before a register's.
+fn place_of(terms: &[Term], register: RegisterId) -> usize
+    ensures value { result ≡ prefix_len (is_below register.0) terms.now }
+    ensures within { result ≤ length terms.now }
+{
+    terms
+        .iter()
+        .take_while(|t| t.register.0 < register.0)
+        .count()
+}
+
+fn coefficient_at(terms: &[Term], place: usize, register: RegisterId) -> Option<i64>
+    ensures { result ≡ coefficient_at terms.now place register.0 }
+{
+    match terms.get(place) {
+        None => None,
+        Some(term) => {
+            if term.register.0 == register.0 {
+                Some(term.coefficient)
+            } else {
+                None
+            }
+        }
+    }
+}
+
+/// The sum of a coefficient and a number, where it is within the bounds of a coefficient.
+fn bounded_sum(coefficient: i64, amount: i64) -> Option<i64>
+    requires { unsigned_abs coefficient < 2 ^ 24 }
+    ensures sum { IfSome result (λ sum. sum ≡ coefficient +ℤ amount) }
+    ensures small { IfSome result (λ sum. unsigned_abs sum < 2 ^ 24) }
+    ensures none { IfNone result (2 ^ 24 ≤ unsigned_abs (coefficient +ℤ amount)) }
+{
+    let sum = i128::from(coefficient) + i128::from(amount);
+    if -16_777_215 <= sum && sum <= 16_777_215 {
+        Some(sum as i64)
+    } else {
+        None
+    }
+}
+
+/// The greatest size of a constant: 2^100 - 1.
+const CONSTANT_MOST: i128 = 1_267_650_600_228_229_401_496_703_205_375;
+
+fn product(factor: i64, coefficient: i64) -> i64
+    requires factor { unsigned_abs factor < 2 ^ 24 }
+    requires coefficient { unsigned_abs coefficient < 2 ^ 24 }
+    ensures { result ≡ factor *ℤ coefficient }
+{
+    factor * coefficient
+}
+
+fn constant_product(factor: i64, constant: i128) -> i128
+    requires factor { unsigned_abs factor < 2 ^ 24 }
+    requires constant { unsigned_abs constant < 2 ^ 100 }
+    ensures value { result ≡ factor *ℤ constant }
+    ensures small { unsigned_abs result < 2 ^ 125 }
+{
+    i128::from(factor) * constant
+}
+
+/// Adds a register times a number to terms whose registers rise.
+fn add_term(terms: &mut Vec<Term>, register: RegisterId, amount: i64) -> Result<(), FormFault>
+    requires rising { IsRising terms.old.items }
+    requires small { AreSmall terms.old.items }
+    ensures placed { OnOk result (placed terms.old.items register amount ≡ Some terms.new.items) }
+    ensures refused { result ≡ Err Bounds → placed terms.old.items register amount ≡ None }
+    ensures ok { OnOk result (IsTermAdded (record { register = register; coefficient = amount }) terms.old.items terms.new.items) }
+    ensures bounds { result ≡ Err Bounds → 2 ^ 24 ≤ unsigned_abs (coefficient_of (record { register = register; coefficient = amount } ∷ terms.old.items) register.0) }
+{
+    let place = place_of(terms.as_slice(), register);
+    match coefficient_at(terms.as_slice(), place, register) {
+        None => match bounded_sum(0, amount) {
+            None => Err(FormFault::Bounds),
+            Some(coefficient) => {
+                let term = Term {
+                    register,
+                    coefficient,
+                };
+                terms.insert(place, term)?;
+                Ok(())
+            }
+        },
+        Some(coefficient) => match bounded_sum(coefficient, amount) {
+            None => Err(FormFault::Bounds),
+            Some(coefficient) => {
+                terms[place] = Term {
+                    register,
+                    coefficient,
+                };
+                Ok(())
+            }
+        },
+    }
+}
+
+impl Form {
+    /// A number.
+    pub fn from_constant(alloc: Global, constant: i128) -> Form
+        requires { unsigned_abs constant < 2 ^ 100 }
+        ensures { result ≡ constant_form constant }
+    {
+        Form {
+            terms: Seq::new(alloc),
+            constant,
+        }
+    }
+
+    /// A register.
+    pub fn from_register(alloc: Global, register: RegisterId) -> Result<Form, AllocError>
+        ensures { IfOk result (λ f. f ≡ register_form register.0) }
+    {
+        let mut terms = Seq::new(alloc);
+        terms.push(Term {
+            register,
+            coefficient: 1,
+        })?;
+        Ok(Form { terms, constant: 0 })
+    }
+
+    /// The same form again.
+    pub fn copy(&self, alloc: Global) -> Result<Form, AllocError>
+        ensures { IfOk result (λ f. f ≡ self.now) }
+    {
+        let terms = Vec::from_slice(alloc, self.terms.as_slice())?;
+        Ok(Form {
+            terms: Seq::from_vec(terms),
+            constant: self.constant,
+        })
+    }
+
+    /// The sum with a register times a number.
+    pub fn plus_term(self, register: RegisterId, coefficient: i64) -> Result<Form, FormFault>
+        ensures placed { IfOk result (λ f. with_term self register coefficient ≡ Some f) }
+        ensures refused { result ≡ Err Bounds → with_term self register coefficient ≡ None }
+        ensures ok { IfOk result (λ f. Same f (plus (term_form register coefficient) self)) }
+        ensures bounds { result ≡ Err Bounds → 2 ^ 24 ≤ unsigned_abs (coefficient +ℤ coefficient_of self.terms register.0) }
+    {
+        let Form { terms, constant } = self;
+        let mut terms = terms.into_vec();
+        add_term(&mut terms, register, coefficient)?;
+        Ok(Form {
+            terms: Seq::from_vec(terms),
+            constant,
+        })
+    }
+
+    /// The sum with a number.
+    pub fn plus_constant(self, constant: i128) -> Result<Form, FormFault>
+        requires { unsigned_abs constant < 2 ^ 125 }
+        ensures ok { IfOk result (λ f. Same f (plus (constant_form constant) self)) }
+        ensures bounds { result ≡ Err Bounds → 2 ^ 100 ≤ unsigned_abs (constant +ℤ self.constant) }
+    {
+        let Form {
+            terms,
+            constant: old,
+        } = self;
+        let sum = constant + old;
+        if -CONSTANT_MOST <= sum && sum <= CONSTANT_MOST {
+            Ok(Form {
+                terms,
+                constant: sum,
+            })
+        } else {
+            Err(FormFault::Bounds)
+        }
+    }
+
+    /// The sum with another form times a number.
+    pub fn plus_multiple(self, factor: i64, other: &Form) -> Result<Form, FormFault>
+        requires { unsigned_abs factor < 2 ^ 24 }
+        ensures ok { IfOk result (λ f. Same f (plus self (scaled factor other.now))) }
+        ensures bounds { result ≡ Err Bounds → IsBounded (plus self (scaled factor other.now)) → ⊥ }
+    {
+        let side = side_of(other);
+        let mut sum = self;
+        for term in side.terms {
+            sum = sum.plus_term(term.register, product(factor, term.coefficient))?;
+        }
+        sum.plus_constant(constant_product(factor, side.constant))
+    }
+
+    /// The sum of two forms.
+    pub fn sum(&self, alloc: Global, other: &Form) -> Result<Form, FormFault>
+        ensures ok { IfOk result (λ f. Same f (plus self.now other.now)) }
+        ensures bounds { result ≡ Err Bounds → IsBounded (plus self.now other.now) → ⊥ }
+    {
+        self.copy(alloc)?.plus_multiple(1, other)
+    }
+
+    /// The difference of two forms.
+    pub fn difference(&self, alloc: Global, other: &Form) -> Result<Form, FormFault>
+        ensures ok { IfOk result (λ f. Same f (minus self.now other.now)) }
+        ensures bounds { result ≡ Err Bounds → IsBounded (minus self.now other.now) → ⊥ }
+    {
+        self.copy(alloc)?.plus_multiple(-1, other)
+    }
+
+    /// The form times a number.
+    pub fn multiple(&self, alloc: Global, factor: i64) -> Result<Form, FormFault>
+        requires { unsigned_abs factor < 2 ^ 24 }
+        ensures ok { IfOk result (λ f. Same f (scaled factor self.now)) }
+        ensures bounds { result ≡ Err Bounds → IsBounded (scaled factor self.now) → ⊥ }
+    {
+        Form::from_constant(alloc, 0).plus_multiple(factor, self)
+    }
+
+    /// The form with registers replaced by forms, all at once; a register that none replaces stays.
+    ///
+    /// It is refused where the form of some first terms passes the bounds.
+    pub fn put(&self, alloc: Global, replacements: &[Replacement]) -> Result<Form, FormFault>
+        ensures ok { IfOk result (λ f. Same f (put (replaced_by replacements.now) self.now)) }
+        ensures bounds { result ≡ Err Bounds → (n : ℕ) × (IsBounded (put (replaced_by replacements.now) (first_terms n self.now)) → ⊥) }
+    {
+        let side = side_of(self);
+        let mut sum = Form::from_constant(alloc, side.constant);
+        for term in side.terms {
+            sum = sum.plus_replaced(term.register, term.coefficient, replacements)?;
+        }
+        Ok(sum)
+    }
+
+    /// The sum with a multiple of what replaces a register.
+    fn plus_replaced(
+        self,
+        register: RegisterId,
+        coefficient: i64,
+        replacements: &[Replacement],
+    ) -> Result<Form, FormFault>
+        requires { unsigned_abs coefficient < 2 ^ 24 }
+        ensures ok { IfOk result (λ f. Same f (plus self (scaled coefficient (replaced_by replacements.now register.0)))) }
+        ensures bounds { result ≡ Err Bounds → IsBounded (plus self (scaled coefficient (replaced_by replacements.now register.0))) → ⊥ }
+    {
+        match replacement(replacements, register) {
+            None => self.plus_term(register, coefficient),
+            Some(form) => self.plus_multiple(coefficient, form),
+        }
+    }
+}
+
+/// What replaces a register.
+fn replacement(replacements: &[Replacement], register: RegisterId) -> Option<&Form>
+    ensures none { IfNone result (replaced_by replacements.now register.0 ≡ register_form register.0) }
+    ensures some { IfSome result (λ f. f.now ≡ replaced_by replacements.now register.0) }
+{
+    for p in replacements {
+        if p.register.0 == register.0 {
+            return Some(&p.form);
+        }
+    }
+    None
+}

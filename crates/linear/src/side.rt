@@ -1,0 +1,27 @@
+//! The parts of a form, lent.
+
+ghost use Rattle.std.specs.Prelude.{◌≡◌, ◌<◌, ◌^◌, unsigned_abs};
+ghost use Rattle.linear.specs.Forms.{AreSmall, IsRising};
+
+use crate::form::{Form, Term};
+
+/// The terms and the constant of a form.
+#[derive(Clone, Copy)]
+pub struct Side<'a> {
+    pub terms: &'a [Term],
+    pub constant: i128,
+}
+
+/// A form's terms, which rise, and its constant, within their bounds.
+pub fn side_of(form: &Form) -> Side<'_>
+    ensures terms { result.terms.now ≡ form.now.terms }
+    ensures constant { result.constant ≡ form.now.constant }
+    ensures rising { IsRising result.terms.now }
+    ensures small { AreSmall result.terms.now }
+    ensures small_constant { unsigned_abs result.constant < 2 ^ 100 }
+{
+    Side {
+        terms: form.terms.as_slice(),
+        constant: form.constant,
+    }
+}
