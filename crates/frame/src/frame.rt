@@ -261,13 +261,19 @@ impl Frame {
     /// Goes on behind an instruction that defines no register.
     pub fn pass(&mut self) {
         self.index = self.index.saturating_add(1);
+        self.waits = Wait::Nothing;
+    }
+
+    /// Gives the register a value, where there is such a register.
+    fn set_register(&mut self, register: RegisterId, value: Value) {
+        if let Some(place) = self.registers.as_mut_slice().get_mut(register.0) {
+            *place = Some(value);
+        }
     }
 
     /// Goes on behind an instruction that defines the register.
     pub fn define(&mut self, register: RegisterId, value: Value) {
-        if let Some(place) = self.registers.as_mut_slice().get_mut(register.0) {
-            *place = Some(value);
-        }
+        self.set_register(register, value);
         self.pass();
     }
 
@@ -275,6 +281,7 @@ impl Frame {
     pub fn continue_at(&mut self, block: BlockId) {
         self.block = block;
         self.index = 0;
+        self.waits = Wait::Nothing;
     }
 
     /// Counts a new child; the answer is its number.
@@ -284,24 +291,25 @@ impl Frame {
         child
     }
 
-    /// Counts a new child and waits for its return; the answer is its number.
+    /// Goes on behind a call, to wait for its return; the answer is the child's number.
     pub fn wait_for_call(&mut self, register: Option<RegisterId>) -> u64 {
         let child = self.count_child();
+        self.pass();
         self.waits = Wait::Call { child, register };
         child
     }
 
-    /// Goes on behind the call that the frame waits for, with the callee's result.
+    /// Takes the result of the call that the frame waits for.
     pub fn resume(&mut self, returned: Option<i64>) {
-        match (self.waits, returned) {
-            (
-                Wait::Call {
-                    register: Some(register),
-                    ..
-                },
-                Some(number),
-            ) => self.define(register, Value::Number(number)),
-            _ => self.pass(),
+        if let (
+            Wait::Call {
+                register: Some(register),
+                ..
+            },
+            Some(number),
+        ) = (self.waits, returned)
+        {
+            self.set_register(register, Value::Number(number));
         }
         self.waits = Wait::Nothing;
     }
