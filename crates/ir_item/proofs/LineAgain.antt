@@ -58,7 +58,7 @@ begins rest _ _ (Run kind (b ∷ w) k all some parted) =
     record { first = b; others = w; is = refl; no_space = n.0; no_semicolon = n.1 }
 begins rest _ _ (Sign m h s) = record { first = m; others = []; is = refl; no_space = s; no_semicolon = no_semicolon_mark m h }
 
-spaces_then : (k : ℕ) (b : ℕ) (bs : List ℕ) → is_space b ≡ false → prefix_len is_space (spaces k ++ b ∷ bs) ≡ k
+pub spaces_then : (k : ℕ) (b : ℕ) (bs : List ℕ) → is_space b ≡ false → prefix_len is_space (spaces k ++ b ∷ bs) ≡ k
 spaces_then zero b bs h = rw h refl
 spaces_then (suc k) b bs h = rw (spaces_then k b bs h) (omega arith)
 
@@ -66,7 +66,7 @@ only_spaces : (k : ℕ) → prefix_len is_space (spaces k ++ []) ≡ k
 only_spaces zero = refl
 only_spaces (suc k) = rw (only_spaces k) (omega arith)
 
-length_spaces : (k : ℕ) → length (spaces k) ≡ k
+pub length_spaces : (k : ℕ) → length (spaces k) ≡ k
 length_spaces zero = refl
 length_spaces (suc k) = omega (arith, length_spaces k)
 
