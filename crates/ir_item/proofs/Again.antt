@@ -127,11 +127,11 @@ long_enough f [] = omega arith
 long_enough f (x ∷ xs) = omega (arith, long_enough f xs, length-append (f x) (others f xs))
 
 -- the symbols of parted elements
-parted_symbols : {A : Type 0} (f : A → List Atom) (xs : List A) → symbols_in (flat_map (other_atoms f) xs) ≡ others (λ x. symbols_in (f x)) xs
+pub parted_symbols : {A : Type 0} (f : A → List Atom) (xs : List A) → symbols_in (flat_map (other_atoms f) xs) ≡ others (λ x. symbols_in (f x)) xs
 parted_symbols f [] = refl
 parted_symbols f (x ∷ xs) = ap (λ (t : List Symbol). Mark 44 ∷ t) (symbols_appended (f x) (flat_map (other_atoms f) xs) ∙ ap (λ (t : List Symbol). symbols_in (f x) ++ t) (parted_symbols f xs))
 
-some_parted : {A : Type 0} (f : A → List Atom) (x : A) (xs : List A) (rest : List Symbol) → symbols_in (parted f (x ∷ xs)) ++ rest ≡ symbols_in (f x) ++ (others (λ x. symbols_in (f x)) xs ++ rest)
+pub some_parted : {A : Type 0} (f : A → List Atom) (x : A) (xs : List A) (rest : List Symbol) → symbols_in (parted f (x ∷ xs)) ++ rest ≡ symbols_in (f x) ++ (others (λ x. symbols_in (f x)) xs ++ rest)
 some_parted f x xs rest =
     ap (λ (t : List Symbol). t ++ rest) (symbols_appended (f x) (flat_map (other_atoms f) xs) ∙ ap (λ (t : List Symbol). symbols_in (f x) ++ t) (parted_symbols f xs))
     ∙ append_assoc (symbols_in (f x)) (others (λ x. symbols_in (f x)) xs) rest

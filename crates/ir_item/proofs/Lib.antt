@@ -9,3 +9,4 @@ pub mod Digits
 pub mod Lexed
 pub mod LineAgain
 pub mod NoteAgain
+pub mod Takes
