@@ -1,10 +1,9 @@
 -- What is spelled by a shape is read again.
-use Rattle.std.proofs.Common.{◌≡◌, ℕ, zero, suc, ◌+◌, ◌*◌, ◌/◌, ◌%◌, ◌≤◌, ◌<◌, List, [], ◌∷◌, ◌++◌, length, Bool, true, false, cond, eqb, eq-eqb, Option, Some, None, refl, sym, ap, ◌∙◌, append_assoc, length-append, arith}
+use Rattle.std.proofs.Common.{◌≡◌, ℕ, zero, suc, ◌*◌, ◌/◌, ◌%◌, ◌≤◌, ◌<◌, List, [], ◌∷◌, ◌++◌, length, Bool, true, false, cond, eqb, eq-eqb, Option, Some, None, refl, ap, ◌∙◌, append_assoc, length-append, arith}
 use Rattle.std.specs.Prelude.{codes, flat_map, pos, nat_lt, ◌&&◌}
 use Rattle.std.specs.List.{list_all}
 use Rattle.std.specs.Str.{bytes_eq}
 use Rattle.std.proofs.lemmas.Bool.{ltb-true, lt-ltb}
-use Rattle.std.proofs.lemmas.List.{append-nil}
 use Rattle.std.proofs.lemmas.Slice.Eq.{bytes_eq-Decides}
 use Rattle.syntax.specs.declared.instruction.Operand.{Operand}
 use Rattle.syntax.specs.declared.instruction.Operand.TheVariants as operands
@@ -20,18 +19,17 @@ use Rattle.syntax.specs.declared.operator.Predicate.{Predicate}
 use Rattle.syntax.specs.declared.operator.Predicate.TheVariants.{Equal, NotEqual, UnsignedGreater, UnsignedAtLeast, UnsignedLess, UnsignedAtMost, SignedGreater, SignedAtLeast, SignedLess, SignedAtMost}
 use Rattle.syntax.specs.declared.operator.Width.{Width}
 use Rattle.syntax.specs.declared.operator.Width.TheVariants.{Bits64, Bits32}
-use Rattle.ir_item.specs.declared.symbol.Numeral.{Numeral}
-use Rattle.ir_item.specs.declared.symbol.Numeral.TheVariants.{Small, Large}
+use Rattle.ir_item.specs.declared.symbol.Numeral.TheVariants.{Small}
 use Rattle.ir_item.specs.declared.symbol.Symbol.{Symbol}
-use Rattle.ir_item.specs.declared.symbol.Symbol.TheVariants.{Register, Global, Number, Word, Mark}
+use Rattle.ir_item.specs.declared.symbol.Symbol.TheVariants.{Register, Number, Word, Mark}
 use Rattle.ir_item.specs.declared.switch.SpelledCase.{SpelledCase}
 use Rattle.ir_item.specs.Outcome.{◌>>=◌}
 use Rattle.ir_item.specs.Numerals.{count_of, cells_of}
-use Rattle.ir_item.specs.Fronts.{is_mark, count_at, bytes_at, array_at, operand_at, address_at, pointer_at, width_at}
+use Rattle.ir_item.specs.Fronts.{is_mark, array_at, operand_at, pointer_at, width_at}
 use Rattle.ir_item.specs.Operators.{predicate_of, predicate_at}
-use Rattle.ir_item.specs.Lists.{list_at, more_at, comma_at, case_follows, parameter_at, argument_at, entry_at, case_at, all_at, all_cases_at, all_entries_at}
+use Rattle.ir_item.specs.Lists.{list_at, comma_at, case_follows, parameter_at, argument_at, entry_at, case_at, all_at, all_cases_at, all_entries_at}
 use Rattle.ir_item.specs.Shape.{Gap, register, function, label, operand, pointer, array, width, result_type, predicate, parameters, arguments, cases, entries, Piece, word, mark, named, gap, space, Held, Gaps, gap_at, gaps_of}
-use Rattle.ir_item.specs.Spelling.{Atom, Token, Blank, symbols_in, operand_symbol, address_symbol, width_word, result_word, predicate_word, array_atoms, pointer_atoms, parameter_atoms, argument_atoms, entry_atoms, case_atoms, other_atoms, parted, cases_atoms, gap_atoms, atoms_of}
+use Rattle.ir_item.specs.Spelling.{Atom, Token, Blank, symbols_in, operand_symbol, address_symbol, width_word, predicate_word, array_atoms, parameter_atoms, argument_atoms, entry_atoms, case_atoms, other_atoms, parted, cases_atoms, gap_atoms, atoms_of}
 use Rattle.ir_item.specs.Fits.{has_cells, fits, may_stand, all_fit}
 use Rattle.ir_lex.proofs.Printed.{both}
 
@@ -129,11 +127,11 @@ long_enough f [] = omega arith
 long_enough f (x ∷ xs) = omega (arith, long_enough f xs, length-append (f x) (others f xs))
 
 -- the symbols of parted elements
-parted_symbols : {A : Type 0} (f : A → List Atom) (xs : List A) → symbols_in (flat_map (other_atoms f) xs) ≡ others (λ x. symbols_in (f x)) xs
+pub parted_symbols : {A : Type 0} (f : A → List Atom) (xs : List A) → symbols_in (flat_map (other_atoms f) xs) ≡ others (λ x. symbols_in (f x)) xs
 parted_symbols f [] = refl
 parted_symbols f (x ∷ xs) = ap (λ (t : List Symbol). Mark 44 ∷ t) (symbols_appended (f x) (flat_map (other_atoms f) xs) ∙ ap (λ (t : List Symbol). symbols_in (f x) ++ t) (parted_symbols f xs))
 
-some_parted : {A : Type 0} (f : A → List Atom) (x : A) (xs : List A) (rest : List Symbol) → symbols_in (parted f (x ∷ xs)) ++ rest ≡ symbols_in (f x) ++ (others (λ x. symbols_in (f x)) xs ++ rest)
+pub some_parted : {A : Type 0} (f : A → List Atom) (x : A) (xs : List A) (rest : List Symbol) → symbols_in (parted f (x ∷ xs)) ++ rest ≡ symbols_in (f x) ++ (others (λ x. symbols_in (f x)) xs ++ rest)
 some_parted f x xs rest =
     ap (λ (t : List Symbol). t ++ rest) (symbols_appended (f x) (flat_map (other_atoms f) xs) ∙ ap (λ (t : List Symbol). symbols_in (f x) ++ t) (parted_symbols f xs))
     ∙ append_assoc (symbols_in (f x)) (others (λ x. symbols_in (f x)) xs) rest

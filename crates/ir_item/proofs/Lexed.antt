@@ -1,13 +1,12 @@
 -- The symbols of a line that is printed are cut out of it again.
-use Rattle.std.proofs.Common.{◌≡◌, ℕ, ◌+◌, ◌-◌, ◌<◌, ◌≤◌, Bool, true, false, cond, eqb, List, [], ◌∷◌, ◌++◌, length, take, drop, map, Option, Some, None, refl, sym, subst, ap, ◌∙◌, arith, append_assoc}
-use Rattle.std.specs.Prelude.{◌&&◌, ◌||◌, not, option_map, codes}
-use Rattle.std.specs.List.{list_all}
-use Rattle.std.proofs.lemmas.List.{length-append, drop_at, take_at, append-nil}
+use Rattle.std.proofs.Common.{◌≡◌, ℕ, ◌+◌, ◌-◌, ◌<◌, true, false, List, [], ◌∷◌, ◌++◌, length, map, Option, Some, refl, sym, ap, ◌∙◌, arith, append_assoc}
+use Rattle.std.specs.Prelude.{◌&&◌, option_map}
+use Rattle.std.proofs.lemmas.List.{length-append, drop_at, take_at}
 use Rattle.std.specs.Fmt.{signed_decimal}
 use Rattle.ir_lex.specs.declared.token.Kind.{Kind}
 use Rattle.ir_lex.specs.declared.token.Kind.TheVariants as kinds
 use Rattle.ir_lex.specs.declared.token.Token.{Token}
-use Rattle.ir_lex.specs.Spelling.{is_space, is_mark, is_run_byte, begins_name, continues_name, is_name, is_number, is_marked_name, kind_of}
+use Rattle.ir_lex.specs.Spelling.{is_name, is_number}
 use Rattle.ir_lex.specs.Tokens.{tokens_from}
 use Rattle.ir_lex.specs.Lexemes.{text_at}
 use Rattle.ir_lex.proofs.Printed.{both, is_parted, IsLexeme, Run, Sign, space_then, one_then}
@@ -16,7 +15,7 @@ use Rattle.ir_lex.proofs.KindLaws.{number_kind, number_runs, sigil_kind, mark_is
 use Rattle.ir_item.specs.declared.symbol.Numeral.TheVariants.{Small, Large}
 use Rattle.ir_item.specs.declared.symbol.Symbol.{Symbol}
 use Rattle.ir_item.specs.declared.symbol.Symbol.TheVariants.{Register, Global, Number, Word, Mark, Note}
-use Rattle.ir_item.specs.Symbols.{fits_i64, number_of, small_or_large, symbol_of, symbol_at}
+use Rattle.ir_item.specs.Symbols.{small_or_large, symbol_of, symbol_at}
 use Rattle.ir_item.specs.Spelling.{Atom, Blank, symbol_text, text_of, symbols_in}
 use Rattle.ir_item.specs.Spelling as spelling
 use Rattle.ir_item.specs.Spelled.{is_spelled, parts, is_parted_from, are_spelled}

@@ -8,3 +8,5 @@ pub mod Items
 pub mod Digits
 pub mod Lexed
 pub mod LineAgain
+pub mod NoteAgain
+pub mod Takes

@@ -1,9 +1,9 @@
 -- A line that is printed says its item again.
-use Rattle.std.proofs.Common.{◌≡◌, ℕ, zero, suc, ◌+◌, ◌-◌, ◌<◌, ◌≤◌, Bool, true, false, cond, eqb, List, [], ◌∷◌, ◌++◌, length, take, drop, map, Option, Some, None, Result, Ok, Err, refl, sym, subst, ap, ◌∙◌, arith, append_assoc}
-use Rattle.std.specs.Prelude.{◌&&◌, ◌||◌, not, option_map, codes}
+use Rattle.std.proofs.Common.{◌≡◌, ℕ, zero, suc, ◌+◌, Bool, true, false, cond, eqb, List, [], ◌∷◌, ◌++◌, length, drop, map, Option, Some, None, Ok, refl, sym, ap, ◌∙◌, arith}
+use Rattle.std.specs.Prelude.{◌&&◌, ◌||◌, not, option_map}
 use Rattle.std.specs.List.{list_all, prefix_len}
 use Rattle.std.proofs.lemmas.Bool.{eqb-true}
-use Rattle.std.proofs.lemmas.List.{length-append, drop_at, append-nil}
+use Rattle.std.proofs.lemmas.List.{drop_at}
 use Rattle.ir_lex.specs.declared.token.Kind.{Kind}
 use Rattle.ir_lex.specs.declared.token.Kind.TheVariants as kinds
 use Rattle.ir_lex.specs.declared.token.Token.{Token}
@@ -11,11 +11,10 @@ use Rattle.ir_lex.specs.Spelling.{is_space, is_mark, is_run_byte, is_note_mark}
 use Rattle.ir_lex.specs.Tokens.{tokens_from, tokens_of}
 use Rattle.ir_lex.specs.Lexemes.{text_at}
 use Rattle.ir_lex.proofs.Printed.{both, no_note, IsLexeme, Run, Sign}
-use Rattle.ir_lex.proofs.KindLaws.{mark_is_no_space}
 use Rattle.ir_item.specs.declared.item.Item.{Item}
 use Rattle.ir_item.specs.declared.line.Line.{Line}
 use Rattle.ir_item.specs.declared.symbol.Symbol.{Symbol}
-use Rattle.ir_item.specs.declared.symbol.Symbol.TheVariants.{Register, Global, Number, Word, Mark, Note}
+use Rattle.ir_item.specs.declared.symbol.Symbol.TheVariants.{Note}
 use Rattle.ir_item.specs.Symbols.{symbol_of, symbol_at, is_within_limits}
 use Rattle.ir_item.specs.Grammar.{item_in}
 use Rattle.ir_item.specs.Lines.{item_line, tokens_line, meaning_of, meaning_if_any, line_of}
@@ -23,7 +22,7 @@ use Rattle.ir_item.specs.Spelling.{Atom, Blank, symbol_text, text_of, symbols_in
 use Rattle.ir_item.specs.Spelling as spelling
 use Rattle.ir_item.specs.Spelled.{is_spelled, is_parted_from, are_spelled}
 use Rattle.ir_item.specs.Fits.{item_fits}
-use Rattle.ir_item.proofs.Lexed.{IsSymbolText, symbol_text_is, AreCut, atoms_cut}
+use Rattle.ir_item.proofs.Lexed.{symbol_text_is, AreCut, atoms_cut}
 use Rattle.ir_item.proofs.Items.{item_again}
 
 -- the first byte of a lexeme
@@ -59,7 +58,7 @@ begins rest _ _ (Run kind (b ∷ w) k all some parted) =
     record { first = b; others = w; is = refl; no_space = n.0; no_semicolon = n.1 }
 begins rest _ _ (Sign m h s) = record { first = m; others = []; is = refl; no_space = s; no_semicolon = no_semicolon_mark m h }
 
-spaces_then : (k : ℕ) (b : ℕ) (bs : List ℕ) → is_space b ≡ false → prefix_len is_space (spaces k ++ b ∷ bs) ≡ k
+pub spaces_then : (k : ℕ) (b : ℕ) (bs : List ℕ) → is_space b ≡ false → prefix_len is_space (spaces k ++ b ∷ bs) ≡ k
 spaces_then zero b bs h = rw h refl
 spaces_then (suc k) b bs h = rw (spaces_then k b bs h) (omega arith)
 
@@ -67,7 +66,7 @@ only_spaces : (k : ℕ) → prefix_len is_space (spaces k ++ []) ≡ k
 only_spaces zero = refl
 only_spaces (suc k) = rw (only_spaces k) (omega arith)
 
-length_spaces : (k : ℕ) → length (spaces k) ≡ k
+pub length_spaces : (k : ℕ) → length (spaces k) ≡ k
 length_spaces zero = refl
 length_spaces (suc k) = omega (arith, length_spaces k)
 

@@ -1,5 +1,5 @@
 -- The faults of a line, by where they come from.
-use Rattle.std.proofs.Common.{◌≡◌, ℕ, List, Option, Some, None, Result, Ok, Err, refl, ap, ◌∙◌}
+use Rattle.std.proofs.Common.{◌≡◌, ℕ, List, Some, Result, Ok, Err, ap, ◌∙◌}
 use Rattle.std.specs.Prelude.{IsUtf8, IfErr}
 use Rattle.ir_lex.specs.declared.fault.TextFault.{TextFault}
 use Rattle.ir_lex.specs.declared.fault.TextFault.TheVariants as faults
@@ -7,7 +7,7 @@ use Rattle.ir_lex.specs.declared.token.Token.{Token}
 use Rattle.ir_lex.specs.Faults.{IsLexFault}
 use Rattle.ir_lex.specs.Faults as lexed
 use Rattle.ir_lex.specs.Tokens.{tokens_of}
-use Rattle.ir_item.specs.Lines.{meaning_of, meaning_if_any, line_of, IsLineFault, NotUtf8, NotSaid, IsFaultOf, IsMeaningFault}
+use Rattle.ir_item.specs.Lines.{meaning_of, meaning_if_any, IsLineFault, NotUtf8, NotSaid, IsFaultOf, IsMeaningFault}
 
 of_lexing : (at : ℕ) (line : List ℕ) (number : ℕ) → IsLexFault line number → IsLineFault at line number
 of_lexing at line _ (lexed.NotUtf8 h) = NotUtf8 h

@@ -1,6 +1,6 @@
 -- The text of symbols and spaces.
 use Rattle.std.proofs.Common.{◌≡◌, ℕ, List, [], ◌∷◌, ◌++◌, refl, sym, ap, ◌∙◌, append_assoc}
-use Rattle.std.specs.Prelude.{flat_map, codes}
+use Rattle.std.specs.Prelude.{flat_map}
 use Rattle.std.proofs.lemmas.List.{append-nil}
 use Rattle.ir_item.specs.Spelling.{Atom, Token, Blank, symbol_text, text_of, parted, other_atoms}
 

@@ -40,6 +40,15 @@ fits arguments xs = true
 fits cases cs = is_some_list cs
 fits entries es = is_some_list es
 
+-- what a shape's gaps hold fits them
+abbrev pub gaps_fit : (shape : List Piece) → Gaps shape → Bool
+gaps_fit [] gaps = true
+gaps_fit (word text ∷ shape) gaps = gaps_fit shape gaps
+gaps_fit (mark byte ∷ shape) gaps = gaps_fit shape gaps
+gaps_fit (named text ∷ shape) gaps = gaps_fit shape gaps
+gaps_fit (gap g ∷ shape) gaps = fits g gaps.0 && gaps_fit shape gaps.1
+gaps_fit (space ∷ shape) gaps = gaps_fit shape gaps
+
 -- entries go up to the line's end
 abbrev pub may_stand : Gap → List Piece → Bool
 may_stand entries [] = true

@@ -1,5 +1,5 @@
 -- What stands at the front of a line's rest, and what is left behind it.
-use Rattle.std.specs.Prelude.{ℕ, ℤ, Bool, true, false, List, [], ◌∷◌, codes, ◌==◌, Option, Some, None, if◌then◌else◌, option_map}
+use Rattle.std.specs.Prelude.{ℕ, Bool, false, List, [], ◌∷◌, codes, ◌==◌, Option, Some, None, if◌then◌else◌, option_map}
 use Rattle.std.specs.Str.{bytes_eq}
 use Rattle.syntax.specs.declared.instruction.Operand.{Operand}
 use Rattle.syntax.specs.declared.instruction.Operand.TheVariants as operand

@@ -11,3 +11,4 @@ pub mod Lines
 pub mod Spelling
 pub mod Fits
 pub mod Spelled
+pub mod Laws

@@ -1,5 +1,5 @@
 -- What a line says.
-use Rattle.std.specs.Prelude.{◌≡◌, ℕ, Bool, true, false, List, [], ◌∷◌, map, Option, Some, None, Result, Ok, Err, IsUtf8}
+use Rattle.std.specs.Prelude.{◌≡◌, ℕ, List, [], ◌∷◌, map, Option, Some, None, Result, Ok, Err, IsUtf8}
 use Rattle.std.specs.List.{list_all}
 use Rattle.ir_annotation.specs.declared.meaning.AnnotationLine.{AnnotationLine}
 use Rattle.ir_annotation.specs.Lines.{annotation_of}

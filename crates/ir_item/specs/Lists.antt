@@ -1,7 +1,5 @@
 -- Lists within a line.
-use Rattle.std.specs.Prelude.{ℕ, zero, suc, ℤ, Bool, true, false, not, ◌&&◌, nat_le, List, [], ◌∷◌, length, map, codes, Option, Some, None, if◌then◌else◌}
-use Rattle.std.specs.List.{list_all, list_any}
-use Rattle.std.specs.Str.{bytes_eq}
+use Rattle.std.specs.Prelude.{ℕ, zero, suc, List, [], ◌∷◌, length, codes, Option, Some, None, if◌then◌else◌}
 use Rattle.syntax.specs.declared.instruction.Argument.{Argument}
 use Rattle.syntax.specs.declared.instruction.Argument.TheVariants as argument
 use Rattle.syntax.specs.declared.instruction.PhiEntry.{PhiEntry}

@@ -7,6 +7,7 @@ mod fault;
 mod front;
 mod grammar;
 mod item;
+mod laws;
 mod line;
 mod list;
 mod numeral;
@@ -19,4 +20,5 @@ mod tests;
 mod tokens;
 
 pub use item::Item;
+pub use laws::lines_are_read_back;
 pub use line::{Line, read_line};

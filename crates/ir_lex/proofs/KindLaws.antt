@@ -1,12 +1,11 @@
 -- Of which kind names, numbers and marks are, and how they go on.
-use Rattle.std.proofs.Common.{◌≡◌, ℕ, ◌≤◌, ◌<◌, ◌⊎◌, inl, inr, Bool, true, false, cond, eqb, leb, List, [], ◌∷◌, length, Option, Some, None, refl, sym, ap, ◌∙◌, arith}
-use Rattle.std.specs.Prelude.{◌&&◌, ◌||◌, not}
+use Rattle.std.proofs.Common.{◌≡◌, ℕ, ◌≤◌, inl, inr, Bool, true, false, cond, eqb, leb, List, [], ◌∷◌, length, Some, None, refl, ap, ◌∙◌, arith}
+use Rattle.std.specs.Prelude.{◌&&◌, ◌||◌}
 use Rattle.std.specs.Char.{is_ascii_digit}
 use Rattle.std.specs.List.{list_all}
 use Rattle.std.proofs.lemmas.Bool.{eqb-true, leb-true}
 use Rattle.std.proofs.lemmas.Bool.Decides.{nat_tests}
-use Rattle.ir_lex.specs.declared.token.Kind.{Kind}
-use Rattle.ir_lex.specs.declared.token.Kind.TheVariants.{Name, Number, Word}
+use Rattle.ir_lex.specs.declared.token.Kind.TheVariants.{Name, Number}
 use Rattle.ir_lex.specs.Spelling.{is_space, is_mark, is_run_byte, begins_name, continues_name, is_name, is_positive, is_number, is_marked_name, kind_of}
 use Rattle.ir_lex.proofs.Names.{byte_runs, name_runs}
 use Rattle.ir_lex.proofs.Plain.{one_of}

@@ -2,3 +2,4 @@ pub mod Spelling
 pub mod Tokens
 pub mod Lexemes
 pub mod Faults
+pub mod Words

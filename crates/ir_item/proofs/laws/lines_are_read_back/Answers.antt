@@ -1,0 +1,9 @@
+use Rattle.ir_item.proofs.LineAgain.{line_again}
+use Rattle.ir_item.proofs.NoteAgain.{note_again}
+use Rattle.ir_item.proofs.laws.lines_are_read_back.Goals as goal
+
+pub returns-clause-items : goal.returns-clause-items
+returns-clause-items c = line_again
+
+pub returns-clause-words : goal.returns-clause-words
+returns-clause-words c = note_again

@@ -1,0 +1,20 @@
+-- The canonical print is read back, line by line.
+use Rattle.std.specs.Prelude.{◌≡◌, ℕ, true, List, ◌∷◌, ◌++◌, Option, Some, Result, Ok}
+use Rattle.std.specs.List.{list_all}
+use Rattle.ir_annotation.specs.Lines.{annotation_of}
+use Rattle.ir_item.specs.declared.item.Item.{Item}
+use Rattle.ir_item.specs.Symbols.{is_within_limits}
+use Rattle.ir_item.specs.Lines.{annotation_line, line_of}
+use Rattle.ir_item.specs.Spelling.{spaces, text_of, symbols_in, item_atoms}
+use Rattle.ir_lex.specs.Words.{words_text, are_words}
+use Rattle.ir_item.specs.Spelled.{are_spelled}
+use Rattle.ir_item.specs.Fits.{item_fits}
+
+-- behind any spaces an item's print says the item
+abbrev pub ItemsAreReadBack : Type 0
+ItemsAreReadBack = (at k : ℕ) (i : Item) → item_fits at i ≡ true → are_spelled (item_atoms i) ≡ true
+    → line_of at (spaces k ++ text_of (item_atoms i)) ≡ Ok (Some (record { item = i; is_within_limits = list_all is_within_limits (symbols_in (item_atoms i)) }))
+
+-- and words behind ;! say the annotation that they make
+abbrev pub WordsAreReadBack : Type 0
+WordsAreReadBack = (at k : ℕ) (words : List (List ℕ)) → are_words words ≡ true → line_of at (spaces k ++ (59 ∷ 33 ∷ words_text words)) ≡ annotation_line (annotation_of words at)
