@@ -4,5 +4,6 @@ pub mod Found
 pub mod Making
 pub mod Parts
 pub mod Placing
+pub mod Respects
 pub mod Signed
 pub mod Values

@@ -2,7 +2,7 @@
 -- factors a and b that are 1 or the size of one of e's coefficients.
 use Rattle.std.specs.Prelude.{◌≡◌, ℕ, ◌⊎◌, ℤ, pos, ◌+ℤ◌, ◌*ℤ◌, ◌≤ℤ◌, List, ◌∷◌, map, All, Contains, unsigned_abs}
 use Rattle.linear.specs.declared.form.Fact.{Fact}
-use Rattle.linear.specs.Forms.{Combination, coefficient_of, constant_form, Holds}
+use Rattle.linear.specs.Forms.{Combination, coefficient_of, constant_form, Same, Holds}
 
 pub record IsSum (e : Combination) (a : ℕ) (f : Combination) (b : ℕ) (g : Combination) : Type 0 where
   pub terms : (r : ℕ) → coefficient_of e.terms r ≡ (pos a *ℤ coefficient_of f.terms r) +ℤ (pos b *ℤ coefficient_of g.terms r)
@@ -29,3 +29,7 @@ pub record IsShown (facts : List Fact) (e : Combination) : Type 0 where
 -- each fact is true of these values
 abbrev pub AllHold : (ℕ → ℤ) → List Fact → Type 0
 AllHold v facts = All (λ f. Holds v f.form) facts
+
+-- each form of the first facts is the same as one of the others'
+abbrev pub SameFacts : List Fact → List Fact → Type 0
+SameFacts facts others = All (λ f. (g : Combination) × Contains (sides others) g × Same f.form g) facts

@@ -1,0 +1,41 @@
+//! Laws of forms and of what is shown: contracts of functions that do nothing.
+
+ghost use Rattle.std.specs.Prelude.{◌≡◌, ℕ, ℤ, pos, negsuc, ◌+ℤ◌, ◌*ℤ◌, List};
+ghost use Rattle.linear.specs.declared.form.Fact.{Fact};
+ghost use Rattle.linear.specs.Forms.{Combination, Same, Holds, value, plus, minus, scaled, put};
+ghost use Rattle.linear.specs.Shown.{IsShown, AllHold, SameFacts};
+
+/// What is shown by true facts is true.
+pub fn shown_is_true()
+    ensures { (facts : List Fact) (e : Combination) → IsShown facts e → (v : ℕ → ℤ) → AllHold v facts → Holds v e }
+{}
+
+/// What is shown depends on coefficients and constants alone.
+pub fn shown_respects_same()
+    ensures { (facts others : List Fact) (e f : Combination) → Same e f → SameFacts facts others → IsShown facts e → IsShown others f }
+{}
+
+/// Forms with the same coefficients and constant have the same value.
+pub fn same_value()
+    ensures { (v : ℕ → ℤ) (e f : Combination) → Same e f → value v e ≡ value v f }
+{}
+
+/// The value of a sum is the sum of the values.
+pub fn sum_value()
+    ensures { (v : ℕ → ℤ) (e f : Combination) → value v (plus e f) ≡ value v e +ℤ value v f }
+{}
+
+/// The value of a multiple is the multiple of the value.
+pub fn multiple_value()
+    ensures { (v : ℕ → ℤ) (k : ℤ) (e : Combination) → value v (scaled k e) ≡ k *ℤ value v e }
+{}
+
+/// The value of a difference is the difference of the values.
+pub fn difference_value()
+    ensures { (v : ℕ → ℤ) (e f : Combination) → value v (minus e f) ≡ value v e +ℤ (negsuc 0 *ℤ value v f) }
+{}
+
+/// The value of a form whose registers are replaced is its value where each register has the value of what replaces it.
+pub fn put_value()
+    ensures { (v : ℕ → ℤ) (σ : ℕ → Combination) (e : Combination) → value v (put σ e) ≡ value (λ r. value v (σ r)) e }
+{}
