@@ -34,6 +34,123 @@ ret i64 %t\n\
 }\n\
 ";
 
+const SPREAD: &str = "; a comment\n\
+@a = global [4 x i64]   zeroinitializer\n\
+define i64 @main ( i64 %n,ptr noalias dereferenceable(16) %p ) {   ; note\n\
+;!budget 2 15\n\
+;! writes @a 0 2*%n+3-%n+0*%p\n\
+;! ensures -%n-%.ret >= -1\n\
+\n\
+;! requires 2*%n+3-%n+0*%b <= 9\n\
+;! adds @a 1 2\n\
+;! reads %p 0 2\n\
+entry:\n\
+\t%s = call token @llvm.syncregion.start( )\n\
+%x = alloca i64\n\
+%y = alloca [2 x i64]\n\
+;! shows -%b-%a <= 0\n\
+;! shows 1 >= 0\n\
+detach within %s,label %d,label %c\n\
+d:\n\
+;! foot adds @a 0 1\n\
+;! left %n 0\n\
+;! keeps %n >= 0\n\
+%g = getelementptr inbounds i64,ptr @a,i64 -1\n\
+store i64 %n, ptr %g\n\
+store [2 x i64] zeroinitializer, ptr %y\n\
+atomicrmw add ptr %g, i64 1 seq_cst\n\
+reattach within %s, label %c\n\
+c:\n\
+;! pending %s writes %x 0 %n-1\n\
+%i = phi i64 [ 0,%entry ] , [ %n, %c ]\n\
+%k = phi i32 [ 7, %entry ]\n\
+%l = load i64, ptr %x\n\
+%t = trunc i64 %l to i32\n\
+%u = zext i32 %t to i64\n\
+%v = sext i32 -3 to i64\n\
+%w = add nsw i64 %u, %v\n\
+%z = icmp ult i32 %t, 5\n\
+call void @f(i64 %w, ptr @a)\n\
+%r = call i64 @main(i64 1,ptr %y)\n\
+br i1 %z, label %d, label %e\n\
+e:\n\
+switch i32 %t, label %o [ i32 0, label %d i32 -1,label %c ]\n\
+o:\n\
+sync within %s, label %q\n\
+q:\n\
+br label %h\n\
+h:\n\
+ret i64 %w\n\
+}\n\
+define void @f() {\n\
+;! measure 0 max 3\n\
+l:\n\
+ret void\n\
+}\n\
+";
+
+const CANONICAL: &str = "@a = global [4 x i64] zeroinitializer\n\
+define i64 @main(i64 %n, ptr noalias dereferenceable(16) %p) {\n\
+\x20\x20;! requires %n+3 <= 9\n\
+\x20\x20;! ensures -%.ret-%n >= -1\n\
+\x20\x20;! reads %p 0 2\n\
+\x20\x20;! writes @a 0 %n+3\n\
+\x20\x20;! adds @a 1 2\n\
+\x20\x20;! measure 0 max 0\n\
+\x20\x20;! budget 2 15\n\
+entry:\n\
+\x20\x20;! left 0 0\n\
+\x20\x20%s = call token @llvm.syncregion.start()\n\
+\x20\x20%x = alloca i64\n\
+\x20\x20%y = alloca [2 x i64]\n\
+\x20\x20;! shows -%a-%b <= 0\n\
+\x20\x20;! shows 1 >= 0\n\
+\x20\x20detach within %s, label %d, label %c\n\
+d:\n\
+\x20\x20;! keeps %n >= 0\n\
+\x20\x20;! left %n 0\n\
+\x20\x20;! foot adds @a 0 1\n\
+\x20\x20%g = getelementptr inbounds i64, ptr @a, i64 -1\n\
+\x20\x20store i64 %n, ptr %g\n\
+\x20\x20store [2 x i64] zeroinitializer, ptr %y\n\
+\x20\x20atomicrmw add ptr %g, i64 1 seq_cst\n\
+\x20\x20reattach within %s, label %c\n\
+c:\n\
+\x20\x20;! pending %s writes %x 0 %n-1\n\
+\x20\x20;! left 0 0\n\
+\x20\x20%i = phi i64 [ 0, %entry ], [ %n, %c ]\n\
+\x20\x20%k = phi i32 [ 7, %entry ]\n\
+\x20\x20%l = load i64, ptr %x\n\
+\x20\x20%t = trunc i64 %l to i32\n\
+\x20\x20%u = zext i32 %t to i64\n\
+\x20\x20%v = sext i32 -3 to i64\n\
+\x20\x20%w = add nsw i64 %u, %v\n\
+\x20\x20%z = icmp ult i32 %t, 5\n\
+\x20\x20call void @f(i64 %w, ptr @a)\n\
+\x20\x20%r = call i64 @main(i64 1, ptr %y)\n\
+\x20\x20br i1 %z, label %d, label %e\n\
+e:\n\
+\x20\x20;! left 0 0\n\
+\x20\x20switch i32 %t, label %o [ i32 0, label %d i32 -1, label %c ]\n\
+o:\n\
+\x20\x20;! left 0 0\n\
+\x20\x20sync within %s, label %q\n\
+q:\n\
+\x20\x20;! left 0 0\n\
+\x20\x20br label %h\n\
+h:\n\
+\x20\x20;! left 0 0\n\
+\x20\x20ret i64 %w\n\
+}\n\
+define void @f() {\n\
+\x20\x20;! measure 0 max 3\n\
+\x20\x20;! budget 0 0\n\
+l:\n\
+\x20\x20;! left 0 0\n\
+\x20\x20ret void\n\
+}\n\
+";
+
 /// The fault's number and line; (0, 0) where the text is read.
 fn fault_in(alloc: Global, state: RandomState, text: &str) -> (u16, u32) {
     match read(alloc, state, text.as_bytes()) {
@@ -252,6 +369,17 @@ fn reads_no_beginning(rt: HostRuntime) -> Result<(), Fail> {
         let is_without_function = len == 0 || len == 37 || len == 38;
         let is_read = read(rt.alloc(), state, &bytes[..len]).is_ok();
         assert_eq!(rt; is_read, is_whole || is_without_function, "{len}");
+    }
+    Ok(())
+}
+
+#[test]
+fn prints_canonically(rt: HostRuntime) -> Result<(), Fail> {
+    let state = RandomState::new(&rt)?;
+    for (text, canonical) in [("", ""), (SPREAD, CANONICAL), (CANONICAL, CANONICAL)] {
+        let whole = read(rt.alloc(), state, text.as_bytes())?;
+        let printed = print(rt.alloc(), &whole)?;
+        assert_eq!(rt; printed.as_str(), canonical);
     }
     Ok(())
 }
