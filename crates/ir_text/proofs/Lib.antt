@@ -1,4 +1,6 @@
 pub mod FirstLine
-pub mod Places
+pub mod Follows
+pub mod LineByLine
 pub mod Pushed
 pub mod Seen
+pub mod Tracked

@@ -1,10 +1,16 @@
 pub mod Annotating
+pub mod Counting
+pub mod Defined
 pub mod Draft
 pub mod Faults
 pub mod InstructionText
+pub mod Limits
 pub mod Lines
 pub mod Names
 pub mod Opening
 pub mod Printed
+pub mod Reading
+pub mod Scoping
 pub mod Spelling
 pub mod TerminatorText
+pub mod Tracking

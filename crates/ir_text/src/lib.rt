@@ -22,3 +22,6 @@ mod terminator_text;
 pub use ir_lex::TextFault;
 pub use printer::print;
 pub use reader::read;
+
+#[cfg(test)]
+mod tests;

@@ -1,8 +1,14 @@
 //! The limits of a module, each named at the item that passes it.
 
+ghost use Rattle.std.specs.Prelude.{◌≡◌, length};
+ghost use Rattle.ir_text.specs.Counting.{IsSmall, counts_of, counts_with, with_instruction, are_counts_within, is_within_limits};
+ghost use Rattle.ir_text.specs.Defined.{defined_register, option_list};
+ghost use Rattle.ir_text.specs.Limits.{instruction_cells, are_function_notes_within, are_block_notes_within, is_function_head_within, is_block_head_within, is_place_within};
+
 use crate::draft::{Draft, Place};
+use crate::scope::defined_register;
 use ir_item::Item;
-use syntax::{AllocaSize, BlockNotes, FunctionNotes, Instruction};
+use syntax::{AllocaSize, Block, BlockNotes, Function, FunctionNotes, Instruction, Module};
 
 /// Of a text.
 pub const MAX_BYTES: usize = 1_048_576;
@@ -11,7 +17,7 @@ pub const MAX_BYTES: usize = 1_048_576;
 const MAX_FUNCTIONS: usize = 256;
 
 /// Of all globals of a module.
-const MAX_GLOBAL_CELLS: u64 = 1_048_576;
+const MAX_GLOBAL_CELLS: u128 = 1_048_576;
 
 /// Of a function.
 const MAX_BLOCKS: usize = 1024;
@@ -23,31 +29,51 @@ const MAX_REGISTERS: u64 = 4096;
 const MAX_PARAMETERS: usize = 16;
 
 /// Of all `alloca`s of a function.
-const MAX_ALLOCA_CELLS: u64 = 4096;
+const MAX_ALLOCA_CELLS: u128 = 4096;
 
 /// Lines of one annotation word at one place: a function's head, a block's head, the lines before an instruction.
 const MAX_LINES: usize = 32;
 
-/// What is counted as the items come. Sums stay at the largest number that they can hold.
+/// What is counted as the items come. Cells are wide enough for any one item more.
 #[derive(Clone, Copy, Debug)]
 pub struct Counts {
     /// Of all globals.
-    global_cells: u64,
+    pub global_cells: u128,
     /// Registers of the open function.
-    registers: u64,
+    pub registers: u64,
     /// Of the `alloca`s of the open function.
-    alloca_cells: u64,
+    pub alloca_cells: u128,
 }
 
-fn alloca_cells(size: AllocaSize) -> u64 {
-    match size {
-        AllocaSize::One => 1,
-        AllocaSize::Array(cells) => cells,
+fn instruction_cells(instruction: &Instruction) -> u64
+    ensures { result ≡ instruction_cells instruction.now }
+{
+    match instruction {
+        Instruction::Alloca {
+            size: AllocaSize::One,
+            ..
+        } => 1,
+        Instruction::Alloca {
+            size: AllocaSize::Array(cells),
+            ..
+        } => *cells,
+        _ => 0,
+    }
+}
+
+fn register_count(instruction: &Instruction) -> u64
+    ensures { result ≡ length (option_list (defined_register instruction.now)) }
+{
+    match defined_register(instruction) {
+        None => 0,
+        Some(_) => 1,
     }
 }
 
 impl Counts {
-    pub fn new() -> Counts {
+    pub fn new() -> Counts
+        ensures { result ≡ record { global_cells = 0; registers = 0; alloca_cells = 0 } }
+    {
         Counts {
             global_cells: 0,
             registers: 0,
@@ -55,62 +81,54 @@ impl Counts {
         }
     }
 
-    fn with_register(self) -> Counts {
+    fn with_instruction(self, instruction: &Instruction) -> Counts
+        requires { IsSmall self }
+        ensures { result ≡ with_instruction self instruction.now }
+    {
+        let registers = self.registers + register_count(instruction);
+        let alloca_cells = self.alloca_cells + u128::from(instruction_cells(instruction));
         Counts {
-            registers: self.registers.saturating_add(1),
-            ..self
-        }
-    }
-
-    fn with_alloca(self, size: AllocaSize) -> Counts {
-        Counts {
-            alloca_cells: self.alloca_cells.saturating_add(alloca_cells(size)),
-            ..self
-        }
-    }
-
-    fn with_instruction(self, instruction: &Instruction) -> Counts {
-        match instruction {
-            Instruction::Alloca { size, .. } => self.with_register().with_alloca(*size),
-            Instruction::Binary { .. }
-            | Instruction::Compare { .. }
-            | Instruction::Convert { .. }
-            | Instruction::ElementPointer { .. }
-            | Instruction::Load { .. }
-            | Instruction::StartRegion { .. } => self.with_register(),
-            Instruction::Call { register, .. } => {
-                if register.is_some() {
-                    self.with_register()
-                } else {
-                    self
-                }
-            }
-            Instruction::Store { .. }
-            | Instruction::StoreZeros { .. }
-            | Instruction::AtomicAdd { .. } => self,
+            global_cells: self.global_cells,
+            registers,
+            alloca_cells,
         }
     }
 
     /// With one more item.
-    pub fn with(self, item: &Item) -> Counts {
+    pub fn with(self, item: &Item) -> Counts
+        requires { IsSmall self }
+        ensures { result ≡ counts_with self item.now }
+    {
         match item {
             Item::Global(global) => Counts {
-                global_cells: self.global_cells.saturating_add(global.cells),
-                ..self
+                global_cells: self.global_cells + u128::from(global.cells),
+                registers: self.registers,
+                alloca_cells: self.alloca_cells,
             },
             Item::Define { parameters, .. } => Counts {
+                global_cells: self.global_cells,
                 registers: parameters.len() as u64,
                 alloca_cells: 0,
-                ..self
             },
-            Item::Phi(_) => self.with_register(),
+            Item::Phi(_) => Counts {
+                global_cells: self.global_cells,
+                registers: self.registers + 1,
+                alloca_cells: self.alloca_cells,
+            },
             Item::Instruction(instruction) => self.with_instruction(instruction),
-            Item::Label(_) | Item::Terminator(_) | Item::Close | Item::Annotation(_) => self,
+            Item::Close => Counts {
+                global_cells: self.global_cells,
+                registers: 0,
+                alloca_cells: 0,
+            },
+            Item::Label(_) | Item::Terminator(_) | Item::Annotation(_) => self,
         }
     }
 }
 
-fn are_function_notes_within(notes: &FunctionNotes) -> bool {
+fn are_function_notes_within(notes: &FunctionNotes) -> bool
+    ensures { result ≡ are_function_notes_within notes.now }
+{
     notes.requirements.len() <= MAX_LINES
         && notes.guarantees.len() <= MAX_LINES
         && notes.reads.len() <= MAX_LINES
@@ -118,30 +136,52 @@ fn are_function_notes_within(notes: &FunctionNotes) -> bool {
         && notes.adds.len() <= MAX_LINES
 }
 
-fn are_block_notes_within(notes: &BlockNotes) -> bool {
+fn are_block_notes_within(notes: &BlockNotes) -> bool
+    ensures { result ≡ are_block_notes_within notes.now }
+{
     notes.keeps.len() <= MAX_LINES
         && notes.pending.len() <= MAX_LINES
         && notes.foot.len() <= MAX_LINES
 }
 
-/// Whether the draft, whose items but the last were within the limits, is within them.
-pub fn is_within_limits(draft: &Draft, counts: Counts) -> bool {
-    match &draft.place {
-        Place::Outside => counts.global_cells <= MAX_GLOBAL_CELLS,
-        Place::FunctionHead(head) => {
-            draft.whole.functions.len() < MAX_FUNCTIONS
-                && head.function.parameters.len() <= MAX_PARAMETERS
-                && are_function_notes_within(&head.function.notes)
-        }
-        Place::BlockHead(function, head) => {
-            function.blocks.len() < MAX_BLOCKS && are_block_notes_within(&head.block.notes)
-        }
-        Place::Phis(_, _) => counts.registers <= MAX_REGISTERS,
-        Place::Body(_, _, shows) => {
-            counts.registers <= MAX_REGISTERS
-                && counts.alloca_cells <= MAX_ALLOCA_CELLS
-                && shows.len() <= MAX_LINES
-        }
-        Place::Ended(_, _) => true,
+fn are_counts_within(counts: Counts) -> bool
+    ensures { result ≡ are_counts_within counts }
+{
+    counts.global_cells <= MAX_GLOBAL_CELLS
+        && counts.registers <= MAX_REGISTERS
+        && counts.alloca_cells <= MAX_ALLOCA_CELLS
+}
+
+fn is_function_head_within(whole: &Module, function: &Function) -> bool
+    ensures { result ≡ is_function_head_within whole.now function.now }
+{
+    whole.functions.len() < MAX_FUNCTIONS
+        && function.parameters.len() <= MAX_PARAMETERS
+        && are_function_notes_within(&function.notes)
+}
+
+fn is_block_head_within(function: &Function, block: &Block) -> bool
+    ensures { result ≡ is_block_head_within function.now block.now }
+{
+    function.blocks.len() < MAX_BLOCKS && are_block_notes_within(&block.notes)
+}
+
+fn is_place_within(whole: &Module, place: &Place) -> bool
+    ensures { result ≡ is_place_within whole.now place.now }
+{
+    match place {
+        Place::FunctionHead(head) => is_function_head_within(whole, &head.function),
+        Place::BlockHead(function, head) => is_block_head_within(function, &head.block),
+        Place::Body(_, _, shows) => shows.len() <= MAX_LINES,
+        Place::Outside | Place::Phis(_, _) | Place::Ended(_, _) => true,
     }
+}
+
+/// Whether the draft, of which all but the last item was within the limits, is within them.
+pub fn is_within_limits(draft: &Draft, counts: Counts) -> bool
+    requires { counts ≡ counts_of draft.now }
+    ensures { result ≡ is_within_limits draft.now }
+{
+    let is_place_within = is_place_within(&draft.whole, &draft.place);
+    are_counts_within(counts) && is_place_within
 }

@@ -1,8 +1,8 @@
 //! The lines of a text.
 
-ghost use Rattle.std.specs.Prelude.{◌≡◌, ◌<◌, ◌≤◌, ◌∷◌, length};
+ghost use Rattle.std.specs.Prelude.{◌≡◌, ◌<◌, ◌≤◌, ◌+◌, ◌∷◌, length};
 ghost use Rattle.std.specs.List.{prefix_len};
-ghost use Rattle.ir_text.specs.Lines.{lines_of, is_inner};
+ghost use Rattle.ir_text.specs.Lines.{lines_of, is_inner, content};
 
 fn line_len(text: &[u8]) -> usize
     ensures value { result ≡ prefix_len is_inner text.now }
@@ -11,17 +11,21 @@ fn line_len(text: &[u8]) -> usize
     text.iter().take_while(|b| **b != b'\n').count()
 }
 
-/// The first line, without its end, and what follows it.
+/// The first line, with the LF that ends it, and what follows it.
 pub fn cut_line(text: &[u8]) -> (&[u8], &[u8])
     requires { 0 < length text.now }
     ensures lines { lines_of text.now ≡ result.0.now ∷ lines_of result.1.now }
-    ensures shorter { length result.1.now < length text.now }
+    ensures lengths { length result.0.now + length result.1.now ≡ length text.now }
+    ensures some { 0 < length result.0.now }
 {
     let len = line_len(text);
-    let line = &text[..len];
-    if len == text.len() {
-        (line, &text[len..])
-    } else {
-        (line, &text[len + 1..])
-    }
+    let end = text.len().min(len + 1);
+    (&text[..end], &text[end..])
+}
+
+/// A line without its LF.
+pub fn content(line: &[u8]) -> &[u8]
+    ensures { result.now ≡ content line.now }
+{
+    &line[..line_len(line)]
 }

@@ -1,7 +1,7 @@
 //! The names that stand so far, to find one that is defined twice.
 
 ghost use Rattle.std.specs.Prelude.{◌≡◌, ◌++◌, ◌∷◌, [], not, OnErr, IfOk, if◌then◌else◌};
-ghost use Rattle.ir_text.specs.Names.{is_known};
+ghost use Rattle.ir_text.specs.Names.{is_repeated};
 
 use indexmap::IndexSet;
 use lists::OutOfMemory;
@@ -40,7 +40,7 @@ impl Names {
 
     /// Whether the name is new; it then goes last.
     pub fn define(&mut self, alloc: Global, name: &[u8]) -> Result<bool, OutOfMemory>
-        ensures fresh { IfOk result (λ fresh. fresh ≡ not (is_known self.old name.now)) }
+        ensures fresh { IfOk result (λ fresh. fresh ≡ not (is_repeated self.old (name.now ∷ []))) }
         ensures ok { IfOk result (λ fresh. self.new ≡ (if fresh then self.old ++ name.now ∷ [] else self.old)) }
         ensures err { OnErr result (self.new ≡ self.old) }
     {

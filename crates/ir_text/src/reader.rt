@@ -1,13 +1,18 @@
 //! From bytes to a module, line by line.
 
-ghost use Rattle.std.specs.Prelude.{◌≡◌, ◌<◌, ◌≤◌, length, IfErr};
-ghost use Rattle.ir_text.specs.Faults.{IsAt, IsOnLineOf};
+ghost use Rattle.std.specs.Prelude.{◌≡◌, length, IfErr, IfOk, Ok, Some};
+ghost use Rattle.ir_text.specs.Draft.{placed};
+ghost use Rattle.ir_text.specs.declared.draft.Draft as draft_type;
+ghost use Rattle.ir_text.specs.Faults.{IsOnLineOf};
 ghost use Rattle.ir_text.specs.Lines.{lines_of};
+ghost use Rattle.ir_text.specs.Counting.{counts_of};
+ghost use Rattle.ir_text.specs.Tracking.{IsTracked, OrMemory, judged_reader, judged_place};
+ghost use Rattle.ir_text.specs.Reading.{start, with_item, FailsItem, FailsAt, Steps, FaultSteps, FaultOverlong, FaultTooLate, at_line, ended, FaultEnded, Answers, IsFaultOfText};
 
 use crate::draft::{Draft, Place};
 use crate::fault::ItemFault;
 use crate::limits::{Counts, MAX_BYTES, is_within_limits};
-use crate::lines::cut_line;
+use crate::lines::{content, cut_line};
 use crate::scope::Scope;
 use ir_item::{Line, read_line};
 use ir_lex::TextFault;
@@ -18,15 +23,15 @@ use syntax::Module;
 
 /// What was read, and what finds the next item's faults.
 #[derive(Drop)]
-struct Reader {
-    draft: Draft,
-    counts: Counts,
-    scope: Scope,
+pub struct Reader {
+    pub draft: Draft,
+    pub counts: Counts,
+    pub scope: Scope,
 }
 
 /// An item's fault with its line.
 fn at_line(fault: ItemFault, line: u32) -> TextFault
-    ensures { IsAt line result }
+    ensures { result ≡ at_line fault line }
 {
     match fault {
         ItemFault::Fault(number) => TextFault::Fault { number, line },
@@ -34,8 +39,66 @@ fn at_line(fault: ItemFault, line: u32) -> TextFault
     }
 }
 
+/// The reader, unless its last item passed a limit or defined a name again.
+fn judged(reader: Reader, is_within: bool, is_new: bool) -> Result<Reader, ItemFault>
+    requires { reader.counts ≡ counts_of reader.draft }
+    ensures { result ≡ judged_reader is_within is_new reader }
+{
+    let is_good = is_within_limits(&reader.draft, reader.counts);
+    if !is_within || !is_good {
+        drop(reader);
+        Err(ItemFault::Fault(104))
+    } else if is_new {
+        Ok(reader)
+    } else {
+        drop(reader);
+        Err(ItemFault::Fault(106))
+    }
+}
+
+/// Puts the line's item behind what was read; counts and scope have it already.
+fn placed(
+    alloc: Global,
+    draft: Draft,
+    counts: Counts,
+    scope: Scope,
+    is_new: bool,
+    number: u32,
+    line: Line,
+) -> Result<Reader, ItemFault>
+    requires { (e : draft_type.Draft) → Some e ≡ placed draft number line.item → counts ≡ counts_of e }
+    ensures { OrMemory result (judged_place (placed draft number line.item) line.is_within_limits is_new counts scope) }
+{
+    let Line {
+        item,
+        is_within_limits,
+    } = line;
+    match draft.put(alloc, number, item) {
+        Ok(Some(draft)) => judged(
+            Reader {
+                draft,
+                counts,
+                scope,
+            },
+            is_within_limits,
+            is_new,
+        ),
+        Ok(None) => {
+            drop(scope);
+            Err(ItemFault::Fault(103))
+        }
+        Err(_) => {
+            drop(scope);
+            Err(ItemFault::Memory)
+        }
+    }
+}
+
 impl Reader {
-    fn new(alloc: Global, state: RandomState) -> Result<Reader, OutOfMemory> {
+    fn new(alloc: Global, state: RandomState) -> Result<Reader, OutOfMemory>
+        ensures draft { IfOk result (λ r. r.draft ≡ start) }
+        ensures tracked { IfOk result IsTracked }
+    {
         let scope = Scope::new(alloc, state)?;
         Ok(Reader {
             draft: Draft {
@@ -51,32 +114,34 @@ impl Reader {
     }
 
     /// What was read, with one more item. Of several faults the lowest number is named.
-    fn put(self, alloc: Global, number: u32, line: Line) -> Result<Reader, ItemFault> {
+    fn put(self, alloc: Global, number: u32, line: Line) -> Result<Reader, ItemFault>
+        requires { IsTracked self }
+        ensures tracked { IfOk result IsTracked }
+        ensures read { IfOk result (λ r. with_item self.draft number line ≡ Ok r.draft) }
+        ensures fault { IfErr result (λ e. FailsItem e (with_item self.draft number line)) }
+    {
         let Reader {
             draft,
             counts,
             mut scope,
         } = self;
         let counts = counts.with(&line.item);
-        let is_new = scope.define(alloc, &line.item)?;
-        let Some(draft) = draft.put(alloc, number, line.item)? else {
-            return Err(ItemFault::Fault(103));
-        };
-        if !line.is_within_limits || !is_within_limits(&draft, counts) {
-            return Err(ItemFault::Fault(104));
+        match scope.define(alloc, &line.item) {
+            Ok(is_new) => placed(alloc, draft, counts, scope, is_new, number, line),
+            Err(_) => {
+                drop(draft);
+                drop(scope);
+                drop(line);
+                Err(ItemFault::Memory)
+            }
         }
-        if !is_new {
-            return Err(ItemFault::Fault(106));
-        }
-        Ok(Reader {
-            draft,
-            counts,
-            scope,
-        })
     }
 
     fn put_line(self, alloc: Global, number: u32, line: Line) -> Result<Reader, TextFault>
-        ensures fault { IfErr result (IsAt number) }
+        requires { IsTracked self }
+        ensures tracked { IfOk result IsTracked }
+        ensures read { IfOk result (λ r. with_item self.draft number line ≡ Ok r.draft) }
+        ensures fault { IfErr result (FailsAt number (with_item self.draft number line)) }
     {
         match self.put(alloc, number, line) {
             Ok(reader) => Ok(reader),
@@ -86,7 +151,10 @@ impl Reader {
 
     /// What was read, with one more line.
     fn step(self, alloc: Global, number: u32, line: &[u8]) -> Result<Reader, TextFault>
-        ensures fault { IfErr result (IsAt number) }
+        requires { IsTracked self }
+        ensures tracked { IfOk result IsTracked }
+        ensures read { IfOk result (λ r. Steps self.draft number line.now (Ok r.draft)) }
+        ensures fault { IfErr result (FaultSteps self.draft number line.now) }
     {
         match read_line(alloc, line, number) {
             Ok(None) => Ok(self),
@@ -98,40 +166,61 @@ impl Reader {
         }
     }
 
-    /// The fault of the line with which the text grows too long.
-    fn overlong(self, alloc: Global, number: u32, line: &[u8]) -> TextFault
-        ensures fault { IsAt number result }
+    /// The fault of a line that says this and with which the text grows too long.
+    fn too_late(self, alloc: Global, number: u32, line: Line) -> TextFault
+        ensures { FaultTooLate self.draft number line result }
     {
-        let line = match read_line(alloc, line, number) {
-            Ok(Some(line)) => line,
-            Ok(None) => return at_line(ItemFault::Fault(104), number),
-            Err(fault) => return fault,
-        };
         match self.draft.put(alloc, number, line.item) {
-            Ok(Some(_)) => at_line(ItemFault::Fault(104), number),
+            Ok(Some(draft)) => {
+                drop(draft);
+                at_line(ItemFault::Fault(104), number)
+            }
             Ok(None) => at_line(ItemFault::Fault(103), number),
             Err(_) => TextFault::Memory,
         }
     }
 
+    /// The fault of the line with which the text grows too long.
+    fn overlong(self, alloc: Global, number: u32, line: &[u8]) -> TextFault
+        ensures { FaultOverlong self.draft number line.now result }
+    {
+        match read_line(alloc, line, number) {
+            Ok(Some(line)) => self.too_late(alloc, number, line),
+            Ok(None) => {
+                drop(self);
+                at_line(ItemFault::Fault(104), number)
+            }
+            Err(fault) => {
+                drop(self);
+                fault
+            }
+        }
+    }
+
     /// The module, where it is not in a function that the text ends.
     fn end(self, number: u32) -> Result<Module, TextFault>
-        ensures fault { IfErr result (IsAt number) }
+        ensures read { IfOk result (λ m. ended self.draft.whole self.draft.place number ≡ Ok m) }
+        ensures fault { IfErr result (FaultEnded (ended self.draft.whole self.draft.place number)) }
     {
         let Draft { whole, place } = self.draft;
-        if matches!(place, Place::Outside) {
-            drop(place);
-            Ok(whole)
-        } else {
-            drop(place);
-            drop(whole);
-            Err(at_line(ItemFault::Fault(105), number))
+        match place {
+            Place::Outside => Ok(whole),
+            other => {
+                drop(other);
+                drop(whole);
+                Err(TextFault::Fault {
+                    number: 105,
+                    line: number,
+                })
+            }
         }
     }
 }
 
-/// Reads a module's text.
+/// Reads a module's text: it answers the module that the lines make, or the first fault with its line.
 pub fn read(alloc: Global, state: RandomState, text: &[u8]) -> Result<Module, TextFault>
+    ensures exact { IfOk result (λ m. Answers text.now (Ok m)) }
+    ensures fault { IfErr result (IsFaultOfText text.now) }
     ensures line { IfErr result (IsOnLineOf (length (lines_of text.now))) }
 {
     let Ok(mut reader) = Reader::new(alloc, state) else {
@@ -143,9 +232,9 @@ pub fn read(alloc: Global, state: RandomState, text: &[u8]) -> Result<Module, Te
         let (line, after) = cut_line(rest);
         number += 1;
         if text.len() - after.len() > MAX_BYTES {
-            return Err(reader.overlong(alloc, number, line));
+            return Err(reader.overlong(alloc, number, content(line)));
         }
-        reader = reader.step(alloc, number, line)?;
+        reader = reader.step(alloc, number, content(line))?;
         rest = after;
     }
     reader.end(number)

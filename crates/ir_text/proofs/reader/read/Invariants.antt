@@ -1,13 +1,16 @@
-use Rattle.std.proofs.Common.{◌≡◌, ◌+◌, ◌≤◌, length}
+use Rattle.std.proofs.Common.{◌≡◌, ◌+◌, ◌-◌, ◌≤◌, length}
 use Rattle.ir_text.specs.Lines.{lines_of}
+use Rattle.ir_text.specs.Tracking.{IsTracked}
+use Rattle.ir_text.proofs.LineByLine.{Goes-on}
 use Rattle.ir_text.proofs.reader.read.Given as goal
 
--- the lines so far and those that are left are the lines of the text
 abbrev pub invariant-loop-rest : goal.invariant-loop-rest
 invariant-loop-rest l = record {
+  tracked : IsTracked l.reader;
   counted : l.number + length (lines_of l.rest) ≡ length (lines_of l.text);
   within : l.number + length l.rest ≤ length l.text;
   short : length l.text ≤ length l.rest + 1048576;
+  so_far : Goes-on l.text l.reader.draft (l.number + 1) (length l.rest + 1048576 - length l.text) (lines_of l.rest);
 }
 
 abbrev pub decreases-loop-rest : goal.decreases-loop-rest
