@@ -1,10 +1,10 @@
 -- Answers that are their meaning, unless memory was refused.
-use Rattle.std.proofs.Common.{◌≡◌, ℕ, zero, suc, ◌+◌, ◌<◌, ◌≤◌, Bool, true, false, List, [], ◌∷◌, ◌++◌, length, get_or, take, min, refl, ap, ◌∙◌, sym, subst, arith, Result, Ok, Err, is_ok, true≢false, cond}
-use Rattle.std.proofs.lemmas.List.{take_more, take_all}
+use Rattle.std.proofs.Common.{◌≡◌, ℕ, ◌+◌, ◌<◌, List, [], ◌∷◌, ◌++◌, length, get_or, take, refl, ap, ◌∙◌, sym, subst, arith, Result, Ok, Err}
+use Rattle.std.proofs.lemmas.List.{take_more}
 use lib.ListN.{length-take}
 use Rattle.types.specs.declared.fault.TypeFault.{TypeFault}
 use Rattle.types.specs.declared.fault.TypeFault.TheVariants.{Fault, Memory}
-use Rattle.types.specs.Fault.{earlier_of, both_of, and_then, made_of, joined_of, all_from, all_of, Gives, is_earlier}
+use Rattle.types.specs.Fault.{earlier_of, both_of, and_then, made_of, joined_of, all_from, all_of, Gives}
 
 -- what takes no memory
 pub gives_self : {A : Type 0} (r : Result A TypeFault) → Gives r r

@@ -1,5 +1,5 @@
 -- The answer of the whole.
-use Rattle.std.proofs.Common.{◌≡◌, ℕ, List, map, length, sym, ap, ◌∙◌, subst, Result, Ok, Err}
+use Rattle.std.proofs.Common.{◌≡◌, ℕ, List, map, length, ap, ◌∙◌, subst, Result, Ok, Err}
 use Rattle.syntax.specs.declared.module.Module.{Module}
 use Rattle.types.specs.declared.fault.TypeFault.{TypeFault}
 use Rattle.types.specs.declared.fault.TypeFault.TheVariants.{Fault, Memory}
@@ -10,7 +10,7 @@ use Rattle.types.specs.Call.{Named}
 use Rattle.types.specs.Fault.{Gives}
 use Rattle.types.specs.Item.{items_of}
 use Rattle.types.specs.Mention.{mentions_of, IsNamedTable}
-use Rattle.types.specs.Typed.{typed_from, IsNamedIn, Means, Judges}
+use Rattle.types.specs.Typed.{typed_from, IsNamedIn, Judges}
 
 by_table : (whole : Module) (named : Named) (answer : Result Typed TypeFault) → IsNamedIn whole named → Gives answer (typed_from (items_of whole) named whole) → Judges whole answer
 by_table whole named (Ok typed) table g = (named, table, g)

@@ -1,10 +1,10 @@
 -- Which globals the marked functions name, as far as the loop has come.
-use Rattle.std.proofs.Common.{◌≡◌, ◌⊎◌, ◌↔◌, ℕ, ◌+◌, ◌<◌, ◌≤◌, Bool, true, false, List, [], ◌∷◌, ◌++◌, length, get_or, replicate, inl, inr, refl, sym, ◌∙◌, ⊎_elim, subst, arith}
+use Rattle.std.proofs.Common.{◌≡◌, ◌↔◌, ℕ, ◌+◌, ◌<◌, ◌≤◌, Bool, true, false, List, [], ◌∷◌, ◌++◌, length, get_or, replicate, refl, sym, ◌∙◌, ⊎_elim, subst, arith}
 use Rattle.std.specs.List.{Contains}
-use Rattle.std.proofs.lemmas.Bool.{cases_eq, cases_lt, true≢false}
+use Rattle.std.proofs.lemmas.Bool.{cases_eq, true≢false}
 use Rattle.std.proofs.lemmas.List.{length-replicate, get_or_push, get_or_append_left, length_push}
 use Rattle.types.specs.declared.mention.Mentions.{Mentions}
-use Rattle.types.specs.Mention.{globals_at, IsReached, IsNamed, IsNamedTable, NamesExactly, MarksPlaces}
+use Rattle.types.specs.Mention.{globals_at, IsReached, IsNamedTable, NamesExactly, MarksPlaces}
 use Rattle.types.proofs.Searching.{marked_within, none_marked}
 
 pub record Naming (mentions : List Mentions) (marked : List Bool) (globals i : ℕ) (marks : List Bool) : Type 0 where

@@ -1,12 +1,12 @@
 -- The search along calls, as far as it has come.
-use Rattle.std.proofs.Common.{◌≡◌, ◌⊎◌, ◌↔◌, ℕ, ◌+◌, ◌<◌, ◌≤◌, Bool, true, false, List, [], ◌∷◌, ◌++◌, zero, suc, length, get_or, set, replicate, inl, inr, refl, sym, ◌∙◌, ⊎_elim, arith, get_or-set_same, get_or-set_other}
+use Rattle.std.proofs.Common.{◌≡◌, ◌⊎◌, ◌↔◌, ℕ, ◌<◌, Bool, true, false, List, [], ◌∷◌, ◌++◌, zero, suc, length, get_or, set, replicate, inl, inr, refl, sym, ◌∙◌, ⊎_elim, arith, get_or-set_same, get_or-set_other}
 use Rattle.std.specs.List.{All, Contains}
 use Rattle.std.proofs.lemmas.Bool.{cases_eq, cases_lt, true≢false, false≢true}
 use Rattle.std.proofs.lemmas.List.{length-set, get_or_past, get_or-replicate, length-replicate}
-use Rattle.std.proofs.lemmas.List.Elements.{All-nil, All-push, All-weaker, All-contains, Contains-append_left, Contains-push, Contains-push_cases}
+use Rattle.std.proofs.lemmas.List.Elements.{All-nil, All-push, All-contains, Contains-append_left, Contains-push, Contains-push_cases}
 use Rattle.types.specs.declared.mention.Mentions.{Mentions}
 use Rattle.types.specs.Mention.{callees_at, globals_at, IsChain, IsReached, MarksPlaces}
-use Rattle.types.proofs.Marks.{marked_kept, All-from_contains}
+use Rattle.types.proofs.Marks.{All-from_contains}
 
 pub marked_within : (marks : List Bool) (b : ℕ) → get_or marks b false ≡ true → b < length marks
 marked_within marks b h = ⊎_elim (λ l. l) (λ g. absurd (false≢true (sym (get_or_past marks b false g) ∙ h))) (cases_lt b (length marks))

@@ -1,6 +1,5 @@
 -- Uses of pointers.
 use Rattle.std.specs.Prelude.{ℕ, List, Option, Some, None, Result, Ok, Err}
-use Rattle.program.specs.declared.identifier.ObjectName.{ObjectName}
 use Rattle.program.specs.declared.identifier.ObjectName.TheVariants as object
 use Rattle.program.specs.declared.instruction.Address.{Address}
 use Rattle.program.specs.declared.instruction.Address.TheVariants as address

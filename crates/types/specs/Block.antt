@@ -1,5 +1,5 @@
 -- Blocks.
-use Rattle.std.specs.Prelude.{ℕ, List, Result, Ok, Err}
+use Rattle.std.specs.Prelude.{ℕ, List, Result}
 use Rattle.program.specs.declared.function.Block.{Block}
 use Rattle.syntax.specs.declared.annotation.BlockNotes.{BlockNotes}
 use Rattle.syntax.specs.declared.module.Block.{Block as BlockText}

@@ -1,5 +1,5 @@
 -- Forms of annotations, and what they may name.
-use Rattle.std.specs.Prelude.{ℕ, ◌+◌, ℤ, pos, negsuc, ◌-ℤ◌, int_le, int_lt, nat_eq, nat_lt, nat_le, Bool, true, ◌&&◌, ◌||◌, not, codes, List, [], ◌∷◌, length, insert, fold, count_by, Option, Some, None, if◌then◌else◌, Result, Ok, Err}
+use Rattle.std.specs.Prelude.{ℕ, ◌+◌, ℤ, pos, negsuc, ◌-ℤ◌, int_le, int_lt, nat_eq, nat_lt, nat_le, Bool, ◌&&◌, ◌||◌, not, codes, List, [], ◌∷◌, length, insert, fold, count_by, Option, Some, None, if◌then◌else◌, Result, Ok, Err}
 use Rattle.std.specs.List.{list_all, prefix_len}
 use Rattle.std.specs.Str.{bytes_eq}
 use Rattle.linear.specs.declared.form.Form.{Form}

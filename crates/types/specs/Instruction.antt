@@ -2,7 +2,6 @@
 use Rattle.std.specs.Prelude.{ℕ, nat_eq, List, Option, Some, None, is_some, Result, Ok, Err}
 use Rattle.linear.specs.declared.form.RegisterId.{RegisterId}
 use Rattle.program.specs.declared.identifier.AllocaId.{AllocaId}
-use Rattle.program.specs.declared.identifier.ObjectName.{ObjectName}
 use Rattle.program.specs.declared.identifier.ObjectName.TheVariants as object
 use Rattle.program.specs.declared.instruction.Instruction.{Instruction}
 use Rattle.program.specs.declared.instruction.Instruction.TheVariants as instruction

@@ -1,5 +1,5 @@
 -- Which globals a function's text names, itself or by the functions that it calls, directly or through others.
-use Rattle.std.specs.Prelude.{◌≡◌, ◌⊎◌, ◌↔◌, ℕ, ◌+◌, ◌<◌, nat_lt, ◌&&◌, zero, suc, Bool, true, false, not, List, [], ◌∷◌, ◌++◌, length, map, count_by, slice_index_or, Contains, All, Option, Some, None}
+use Rattle.std.specs.Prelude.{◌≡◌, ◌⊎◌, ◌↔◌, ℕ, ◌+◌, ◌<◌, nat_lt, ◌&&◌, zero, suc, Bool, true, false, not, List, [], ◌∷◌, ◌++◌, length, count_by, slice_index_or, Contains, Option, Some, None}
 use Rattle.syntax.specs.declared.annotation.FunctionNotes.{FunctionNotes}
 use Rattle.syntax.specs.declared.annotation.Pending.{Pending as PendingText}
 use Rattle.syntax.specs.declared.annotation.Zone.{Zone as ZoneText}
@@ -12,12 +12,10 @@ use Rattle.syntax.specs.declared.instruction.Instruction.TheVariants as text
 use Rattle.syntax.specs.declared.instruction.Step.{Step as StepText}
 use Rattle.syntax.specs.declared.module.Block.{Block as BlockText}
 use Rattle.syntax.specs.declared.module.Function.{Function as FunctionText}
-use Rattle.syntax.specs.declared.module.Module.{Module}
 use Rattle.types.specs.declared.item.Item.{Item}
 use Rattle.types.specs.declared.item.Item.TheVariants as item
 use Rattle.types.specs.declared.mention.Mentions.{Mentions}
 use Rattle.types.specs.Address.{Items}
-use Rattle.types.specs.Item.{items_of}
 use Rattle.types.specs.Table.{look_up}
 
 -- with what a name behind `@` stands for, where no call names it

@@ -21,7 +21,7 @@ use Rattle.types.specs.declared.item.Item.{Item}
 use Rattle.types.specs.declared.item.Item.TheVariants as item
 use Rattle.types.specs.declared.scope.Register.{Register}
 use Rattle.types.specs.Address.{Items, as_object}
-use Rattle.types.specs.Fault.{all_from, all_of, and_then, both_of, made_of, unless_of}
+use Rattle.types.specs.Fault.{all_from, all_of, and_then, both_of, made_of}
 use Rattle.types.specs.Form.{form_of, made_before, parameter_of}
 use Rattle.types.specs.Operand.{region_of, register_of}
 use Rattle.types.specs.Scope.{Scope}

@@ -1,5 +1,5 @@
 -- The program that a module means.
-use Rattle.std.specs.Prelude.{◌≡◌, ℕ, Bool, true, false, List, [], ◌∷◌, map, length, codes, slice_get, Option, Some, None, Result, Ok, Err}
+use Rattle.std.specs.Prelude.{◌≡◌, Bool, true, false, List, map, length, codes, slice_get, Option, Some, None, Result, Ok, Err}
 use Rattle.std.specs.List.{list_all}
 use Rattle.program.specs.declared.function.Function.{Function}
 use Rattle.program.specs.declared.function.Global.{Global}
@@ -18,7 +18,7 @@ use Rattle.types.specs.declared.item.Item.TheVariants as item
 use Rattle.types.specs.declared.typed.Typed.{Typed}
 use Rattle.types.specs.Address.{Items}
 use Rattle.types.specs.Call.{Named}
-use Rattle.types.specs.Fault.{and_then, both_of, made_of, unless_of}
+use Rattle.types.specs.Fault.{both_of, made_of, unless_of}
 use Rattle.types.specs.Function.{functions_of}
 use Rattle.types.specs.Item.{items_of}
 use Rattle.types.specs.Mention.{mentions_of, IsNamedTable}

@@ -1,4 +1,4 @@
-use Rattle.std.proofs.Common.{◌≡◌, ap, ◌∙◌}
+use Rattle.std.proofs.Common.{ap, ◌∙◌}
 use Rattle.types.specs.Table.{look_up}
 use Rattle.types.proofs.Tables.{look_up-seen}
 use Rattle.types.proofs.table.NameTable.find.Goals as goal
