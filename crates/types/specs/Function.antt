@@ -1,5 +1,5 @@
 -- Functions.
-use Rattle.std.specs.Prelude.{ℕ, List, [], length, map, Option, Some, None, Result, Ok, Err}
+use Rattle.std.specs.Prelude.{ℕ, List, length, map, Option, Some, None, Result}
 use Rattle.linear.specs.declared.form.RegisterId.{RegisterId}
 use Rattle.program.specs.declared.annotation.Budget.{Budget}
 use Rattle.program.specs.declared.annotation.Zone.{Zone}

@@ -1,11 +1,7 @@
 -- The registers of a function in their order, and what its names stand for.
 use Rattle.std.specs.Prelude.{ℕ, ◌+◌, List, [], ◌∷◌, ◌++◌, length, Option, Some, None}
-use Rattle.linear.specs.declared.form.RegisterId.{RegisterId}
-use Rattle.program.specs.declared.function.Alloca.{Alloca}
 use Rattle.program.specs.declared.function.RegisterKind.{RegisterKind}
 use Rattle.program.specs.declared.function.RegisterKind.TheVariants as kind
-use Rattle.program.specs.declared.identifier.AllocaId.{AllocaId}
-use Rattle.program.specs.declared.identifier.BlockId.{BlockId}
 use Rattle.program.specs.declared.identifier.ObjectName.TheVariants as object
 use Rattle.syntax.specs.declared.instruction.AllocaSize.{AllocaSize}
 use Rattle.syntax.specs.declared.instruction.AllocaSize.TheVariants.{One, Array}

@@ -1,5 +1,5 @@
 -- Which globals a function's text names, itself or by the functions that it calls, directly or through others.
-use Rattle.std.specs.Prelude.{◌≡◌, ◌⊎◌, ◌↔◌, ℕ, ◌+◌, ◌<◌, zero, suc, Bool, true, false, not, List, [], ◌∷◌, ◌++◌, length, map, count_by, slice_index_or, Contains, All, Option, Some, None}
+use Rattle.std.specs.Prelude.{◌≡◌, ◌⊎◌, ◌↔◌, ℕ, ◌+◌, ◌<◌, nat_lt, ◌&&◌, zero, suc, Bool, true, false, not, List, [], ◌∷◌, ◌++◌, length, count_by, slice_index_or, Contains, Option, Some, None}
 use Rattle.syntax.specs.declared.annotation.FunctionNotes.{FunctionNotes}
 use Rattle.syntax.specs.declared.annotation.Pending.{Pending as PendingText}
 use Rattle.syntax.specs.declared.annotation.Zone.{Zone as ZoneText}
@@ -12,12 +12,10 @@ use Rattle.syntax.specs.declared.instruction.Instruction.TheVariants as text
 use Rattle.syntax.specs.declared.instruction.Step.{Step as StepText}
 use Rattle.syntax.specs.declared.module.Block.{Block as BlockText}
 use Rattle.syntax.specs.declared.module.Function.{Function as FunctionText}
-use Rattle.syntax.specs.declared.module.Module.{Module}
 use Rattle.types.specs.declared.item.Item.{Item}
 use Rattle.types.specs.declared.item.Item.TheVariants as item
 use Rattle.types.specs.declared.mention.Mentions.{Mentions}
 use Rattle.types.specs.Address.{Items}
-use Rattle.types.specs.Item.{items_of}
 use Rattle.types.specs.Table.{look_up}
 
 -- with what a name behind `@` stands for, where no call names it
@@ -110,3 +108,25 @@ IsReached mentions from to = (from < length mentions) × (callers : List ℕ) ×
 -- the function names the global, itself or by those that it calls
 abbrev pub IsNamed : List Mentions → ℕ → ℕ → Type 0
 IsNamed mentions from global = (to : ℕ) × IsReached mentions from to × Contains (globals_at mentions to) global
+
+-- a step of the search: the places in the list are marked, and those that were not marked before are work
+pub record MarksPlaces (places : List ℕ) (marks : List Bool) (work : List ℕ) (marks' : List Bool) (work' : List ℕ) : Type 0 where
+  pub size : length marks' ≡ length marks
+  pub targets : (b : ℕ) → Contains places b → b < length marks → slice_index_or marks' b false ≡ true
+  pub kept : (b : ℕ) → slice_index_or marks b false ≡ true → slice_index_or marks' b false ≡ true
+  pub added : (b : ℕ) → slice_index_or marks' b false ≡ true → (slice_index_or marks b false ≡ true) ⊎ (Contains work' b × Contains places b)
+  pub waiting : (b : ℕ) → Contains work b → Contains work' b
+  pub new : (b : ℕ) → Contains work' b → Contains work b ⊎ (slice_index_or marks' b false ≡ true)
+  pub count : count_by not marks' + length work' ≡ count_by not marks + length work
+
+abbrev pub is_unmarked : List Bool → ℕ → Bool
+is_unmarked marks place = nat_lt place (length marks) && not (slice_index_or marks place false)
+
+-- the marks are just the globals that the function names, itself or by those that it calls
+abbrev pub NamesExactly : List Mentions → ℕ → ℕ → List Bool → Type 0
+NamesExactly mentions globals from marks = (global : ℕ) → (slice_index_or marks global false ≡ true) ↔ ((global < globals) × IsNamed mentions from global)
+
+-- for each function just the globals that it names, itself or by those that it calls
+pub record IsNamedTable (mentions : List Mentions) (globals : ℕ) (named : List (List Bool)) : Type 0 where
+  pub size : length named ≡ length mentions
+  pub exact : (from : ℕ) → from < length mentions → NamesExactly mentions globals from (slice_index_or named from [])

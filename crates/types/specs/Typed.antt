@@ -1,5 +1,5 @@
 -- The program that a module means.
-use Rattle.std.specs.Prelude.{◌≡◌, ℕ, Bool, true, false, List, [], ◌∷◌, map, codes, slice_get, Option, Some, None, Result, Ok, Err}
+use Rattle.std.specs.Prelude.{◌≡◌, Bool, true, false, List, map, length, codes, slice_get, Option, Some, None, Result, Ok, Err}
 use Rattle.std.specs.List.{list_all}
 use Rattle.program.specs.declared.function.Function.{Function}
 use Rattle.program.specs.declared.function.Global.{Global}
@@ -12,15 +12,16 @@ use Rattle.syntax.specs.declared.module.Parameter.TheVariants as parameter
 use Rattle.syntax.specs.declared.module.ResultType.{ResultType}
 use Rattle.syntax.specs.declared.module.ResultType.TheVariants.{Number, Void}
 use Rattle.types.specs.declared.fault.TypeFault.{TypeFault}
-use Rattle.types.specs.declared.fault.TypeFault.TheVariants.{Fault}
+use Rattle.types.specs.declared.fault.TypeFault.TheVariants.{Fault, Memory}
 use Rattle.types.specs.declared.item.Item.{Item}
 use Rattle.types.specs.declared.item.Item.TheVariants as item
 use Rattle.types.specs.declared.typed.Typed.{Typed}
 use Rattle.types.specs.Address.{Items}
 use Rattle.types.specs.Call.{Named}
-use Rattle.types.specs.Fault.{and_then, both_of, made_of, unless_of, Gives}
+use Rattle.types.specs.Fault.{both_of, made_of, unless_of}
 use Rattle.types.specs.Function.{functions_of}
 use Rattle.types.specs.Item.{items_of}
+use Rattle.types.specs.Mention.{mentions_of, IsNamedTable}
 use Rattle.types.specs.Table.{look_up}
 
 abbrev pub is_number : ParameterText → Bool
@@ -51,8 +52,21 @@ global_of global = record { line = global.line; name = global.name; cells = glob
 abbrev pub typed_with : Module → FunctionId → List Function → Typed
 typed_with whole main functions = record { program = record { globals = map global_of whole.globals; functions = functions; main = main } }
 
+-- the program that a module means by these tables of names, else its earliest fault
+abbrev pub typed_from : Items → Named → Module → Result Typed TypeFault
+typed_from items named whole =
+    made_of (λ p. typed_with whole p.0 p.1) (both_of (main_of items whole.functions) (functions_of items whole.functions named))
+
+-- for each function of the module just the globals that it names, itself or by those that it calls
+abbrev pub IsNamedIn : Module → Named → Type 0
+IsNamedIn whole named = IsNamedTable (map (mentions_of (items_of whole)) whole.functions) (length whole.globals) named
+
 -- the program that a module means, else its earliest fault
-abbrev pub typed_of : Named → Module → Result Typed TypeFault
-typed_of named whole =
-    made_of (λ p. typed_with whole p.0 p.1)
-    (both_of (main_of (items_of whole) whole.functions) (functions_of (items_of whole) whole.functions named))
+abbrev pub Means : Module → Result Typed TypeFault → Type 0
+Means whole meaning = (named : Named) × IsNamedIn whole named × (typed_from (items_of whole) named whole ≡ meaning)
+
+-- the answer is what the module means, unless memory was refused
+abbrev pub Judges : Module → Result Typed TypeFault → Type 0
+Judges whole (Ok typed) = Means whole (Ok typed)
+Judges whole (Err Memory) = Unit {0}
+Judges whole (Err (Fault number line)) = Means whole (Err (Fault number line))

@@ -1,11 +1,14 @@
 ghost use Rattle.std.specs.Prelude.{◌≡◌, map, IfOk};
+ghost use Rattle.std.specs.List.{list_all};
+ghost use Rattle.types.specs.Fault.{Gives};
 ghost use Rattle.types.specs.Typed as spec;
 
 use crate::call::World;
 use crate::fault::{TypeFault, both, type_mismatch, unknown_name, unless};
 use crate::function::resolve_functions;
 use crate::item::{Item, Items, items_of};
-use crate::reach::named_globals;
+use crate::mention::all_mentions;
+use crate::reach::{NamedGlobals, named_globals};
 use crate::typed::Typed;
 use lists::Seq;
 use program::{FunctionId, Global as GlobalArray, Program};
@@ -22,13 +25,19 @@ fn is_number(parameter: &Parameter) -> bool
     }
 }
 
+fn are_numbers(parameters: &[Parameter]) -> bool
+    ensures { result ≡ list_all spec.is_number parameters.now }
+{
+    parameters.iter().all(is_number)
+}
+
 /// `@main` gives an `i64` and takes nothing else.
 fn has_main_form(function: &Function) -> bool
     ensures { result ≡ spec.main_form function.now.result_type function.now.parameters }
 {
     match function.result_type {
         ResultType::Void => false,
-        ResultType::Number => function.parameters.as_slice().iter().all(is_number),
+        ResultType::Number => are_numbers(function.parameters.as_slice()),
     }
 }
 
@@ -69,19 +78,23 @@ fn globals_of(alloc: Global, globals: &[syntax::Global]) -> Result<Seq<GlobalArr
     Ok(arrays)
 }
 
-/// The program that a module means, or the fault of the lowest line with the lowest number there.
-///
-/// The tables of names are hashed with `state`.
-pub fn check_types(alloc: Global, state: RandomState, whole: Module) -> Result<Typed, TypeFault> {
+/// The program that a module means by these tables of names.
+fn resolve_program(
+    alloc: Global,
+    state: RandomState,
+    whole: &Module,
+    items: &Items,
+    named: &[NamedGlobals],
+) -> Result<Typed, TypeFault>
+    ensures { Gives result (spec.typed_from items.now named.now whole.now) }
+{
     let functions = whole.functions.as_slice();
-    let items = items_of(alloc, state, &whole)?;
-    let named = named_globals(alloc, &items, whole.globals.len(), functions)?;
     let world = World {
-        items: &items,
+        items,
         functions,
-        named: named.as_slice(),
+        named,
     };
-    let main = resolve_main(&items, functions);
+    let main = resolve_main(items, functions);
     let functions = resolve_functions(alloc, state, &world);
     let (main, functions) = both(main, functions)?;
     let globals = globals_of(alloc, whole.globals.as_slice())?;
@@ -92,4 +105,16 @@ pub fn check_types(alloc: Global, state: RandomState, whole: Module) -> Result<T
             main,
         },
     })
+}
+
+/// The program that a module means, or the fault of the lowest line with the lowest number there.
+///
+/// The tables of names are hashed with `state`.
+pub fn check_types(alloc: Global, state: RandomState, whole: Module) -> Result<Typed, TypeFault>
+    ensures { spec.Judges whole result }
+{
+    let items = items_of(alloc, state, &whole)?;
+    let mentions = all_mentions(alloc, &items, whole.functions.as_slice())?;
+    let named = named_globals(alloc, mentions.as_slice(), whole.globals.len())?;
+    resolve_program(alloc, state, &whole, &items, named.as_slice())
 }
