@@ -1,11 +1,6 @@
 -- Forms of annotations, and what they may name.
-<<<<<<< HEAD
 use Rattle.std.specs.Prelude.{ℕ, ◌+◌, ℤ, pos, negsuc, ◌-ℤ◌, int_le, int_lt, nat_eq, nat_le, Bool, ◌&&◌, ◌||◌, not, codes, List, [], ◌∷◌, length, count_by, Option, Some, None, if◌then◌else◌, Result, Ok, Err}
 use Rattle.std.specs.List.{list_all}
-=======
-use Rattle.std.specs.Prelude.{ℕ, ◌+◌, ℤ, pos, negsuc, ◌-ℤ◌, int_le, int_lt, nat_eq, nat_lt, nat_le, Bool, ◌&&◌, ◌||◌, not, codes, List, [], ◌∷◌, length, insert, fold, count_by, Option, Some, None, if◌then◌else◌, Result, Ok, Err}
-use Rattle.std.specs.List.{list_all, prefix_len}
->>>>>>> fe5269fae88cc6e7f75426c197e1bb1e53a2de52
 use Rattle.std.specs.Str.{bytes_eq}
 use Rattle.linear.specs.declared.form.Form.{Form}
 use Rattle.linear.specs.declared.form.RegisterId.{RegisterId}
