@@ -1,16 +1,15 @@
 -- The sample program meets the local conditions, so they are not void.
-use Rattle.std.proofs.Common.{◌≡◌, ◌≢◌, ℕ, suc, List, [], ◌∷◌, Option, Some, None, Bool, true, false, cond, ◌&&◌, eqb, eqb-true, ◌⊎◌, inl, inr, refl, sym, ap, ◌∙◌, subst, is_some, ℤ, pos, ◌+ℤ◌}
+use Rattle.std.proofs.Common.{◌≡◌, ◌≢◌, ℕ, suc, List, [], ◌∷◌, Option, Some, None, Bool, true, false, cond, ◌&&◌, eqb, eqb-true, ◌⊎◌, inl, inr, refl, sym, ap, ◌∙◌, subst, is_some, ℤ, ◌+ℤ◌}
 use Rattle.std.proofs.lemmas.Bool.Decides.{eqb_tells}
-use Rattle.machine_core.specs.Paths.{Path, same_path, Under, itself, deeper}
+use Rattle.machine_core.specs.Paths.{Path}
 use Rattle.machine_core.specs.Cells.{Object, Shared, Local, Cell, same_object, same_cell, Memory, globals_of}
 use Rattle.machine_core.specs.Arithmetic.{Trap, Undefined, Gives, wrapped}
-use Rattle.machine_core.specs.Frames.{Value, Word, Pointer, Region, Registers, Role, Child, Body, Frame, OnCall, word_of, cell_of, set_register}
+use Rattle.machine_core.specs.Frames.{Value, Word, Pointer, Region, Registers, Child, Body, Frame, OnCall, word_of}
 use Rattle.machine_core.specs.Effect.{Effect, Action, Plain, Detach, Reattach, Sync, Call, Return, sets, stops, given, answers, loads, stores, returns, returns_value, action_of}
-use Rattle.machine_core.specs.State.{wait_after, went, detached, continued, synced, called, waiting, resumed, root_frame}
-use Rattle.machine_core.specs.Conditions.{Zone, Covers, Clear, touched, OwnedBelow, Going, StaysInZone, PassesZonesOn, StaysOpen, ClosesRegions}
+use Rattle.machine_core.specs.State.{wait_after, went, detached, continued, synced, root_frame}
+use Rattle.machine_core.specs.Conditions.{Zone, Covers, Clear, touched, OwnedBelow, StaysInZone, PassesZonesOn, StaysOpen, ClosesRegions}
 use Rattle.machine_core.specs.SerialMeaning.{Gave, Outcome, IsSerialMeaning, meaning}
 use Rattle.machine_core.specs.Pair.{register, pair, cell_of_a, PairOnEverySchedule, PairOnTwoWorkers}
-use Rattle.machine_core.proofs.Places.{same_path_is}
 use Rattle.machine_core.proofs.Feet.{covers_itself}
 use Rattle.machine_core.proofs.EverySchedule.{schedule_theorem}
 use Rattle.linear.specs.declared.form.RegisterId.{RegisterId}
@@ -211,7 +210,7 @@ did n p f z m (last_point g h role) =
 did n p f z m (last_load g h role at) =
     let act : action_of pair [] f m ≡ Plain (loads f (register 5) (cell_of_a 0) (m (cell_of_a 0))) = rw (h.function, h.is_block, h.is_index, at) in
     subst (λ a. Did n [] f All a) (sym act)
-      (loaded n f 5 (cell_of_a 0) 3 1 h refl (λ v. last_point_again (went f (sets f (register 5) v)) (next_at n f 3 1 (sets f (register 5) v) h refl refl refl) role) (m (cell_of_a 0)))
+    (loaded n f 5 (cell_of_a 0) 3 1 h refl (λ v. last_point_again (went f (sets f (register 5) v)) (next_at n f 3 1 (sets f (register 5) v) h refl refl refl) role) (m (cell_of_a 0)))
 did n p f z m (last_point_again g h role) =
     let ef : Effect = sets f (register 6) (Pointer (cell_of_a 1)) in
     let act : action_of pair [] f m ≡ Plain ef = rw (h.function, h.is_block, h.is_index) in
@@ -219,7 +218,7 @@ did n p f z m (last_point_again g h role) =
 did n p f z m (last_load_again g h role at) =
     let act : action_of pair [] f m ≡ Plain (loads f (register 7) (cell_of_a 1) (m (cell_of_a 1))) = rw (h.function, h.is_block, h.is_index, at) in
     subst (λ a. Did n [] f All a) (sym act)
-      (loaded n f 7 (cell_of_a 1) 3 3 h refl (λ v. last_add (went f (sets f (register 7) v)) (next_at n f 3 3 (sets f (register 7) v) h refl refl refl) role) (m (cell_of_a 1)))
+    (loaded n f 7 (cell_of_a 1) 3 3 h refl (λ v. last_add (went f (sets f (register 7) v)) (next_at n f 3 3 (sets f (register 7) v) h refl refl refl) role) (m (cell_of_a 1)))
 did n p f z m (last_add g h role) =
     let act : action_of pair [] f m ≡ Plain (given f (word_of (f.registers 5)) (λ x. given f (word_of (f.registers 7)) (λ y. answers f (register 8) (Gives (wrapped Bits64 (x +ℤ y)))))) = rw (h.function, h.is_block, h.is_index) in
     subst (λ a. Did n [] f All a) (sym act) (added_up n f h role (word_of (f.registers 5)) (word_of (f.registers 7)))
@@ -321,14 +320,14 @@ module _ (n : ℤ) where
           let b_is : 1 ≡ b = (let e : Detach 1 1 2 ≡ Detach r b k = sym is ∙ at in cc) in
           let k_is : 2 ≡ k = (let e : Detach 1 1 2 ≡ Detach r b k = sym is ∙ at in cc) in
           let ok : Forked p f z 1 1 2 = (
-                First,
-                subst (λ x. Covers (zone x) (zone First)) (sym whole) (in_all (zone First)),
-                off_pending p f 0 (zone First) block refl,
-                child,
-                next,
-                λ q. covers_off _ p f 0 q block refl,
-                covers_itself (zone First),
-              ) in
+            First,
+            subst (λ x. Covers (zone x) (zone First)) (sym whole) (in_all (zone First)),
+            off_pending p f 0 (zone First) block refl,
+            child,
+            next,
+            λ q. covers_off _ p f 0 q block refl,
+            covers_itself (zone First),
+          ) in
           subst (λ i. Forked p f z i b k) r_is (subst (λ i. Forked p f z 1 i k) b_is (subst (λ i. Forked p f z 1 1 i) k_is ok))
       detach p f z m r b k at a is (leaves block) = absurd (cc)
       detach p f z m r b k at a is (joins block rs next) = absurd (cc)

@@ -1,6 +1,6 @@
 -- A sample program: a child stores the argument in one cell of @a while its parent stores it in the other; then the parent adds both.
 -- It is `examples/pair.ll`.
-use Rattle.std.specs.Prelude.{◌≡◌, ℕ, ◌≤◌, List, [], ◌∷◌, ◌++◌, Option, Some, None, true, false, ℤ, pos, ◌+ℤ◌, codes}
+use Rattle.std.specs.Prelude.{◌≡◌, ℕ, ◌≤◌, List, [], ◌∷◌, ◌++◌, Some, None, true, false, ℤ, pos, ◌+ℤ◌, codes}
 use Rattle.machine_core.specs.Cells.{Shared, Cell, Memory}
 use Rattle.machine_core.specs.Arithmetic.{wrapped}
 use Rattle.machine_core.specs.SerialMeaning.{Gave, Outcome, IsSerialMeaning}
@@ -23,7 +23,6 @@ use Rattle.program.specs.declared.function.Parameter.TheVariants as parameter
 use Rattle.program.specs.declared.function.Block.{Block}
 use Rattle.program.specs.declared.function.Function.{Function}
 use Rattle.program.specs.declared.function.Program.{Program}
-use Rattle.program.specs.declared.instruction.Operand.{Operand}
 use Rattle.program.specs.declared.instruction.Operand.TheVariants as operand
 use Rattle.program.specs.declared.instruction.Address.TheVariants as address
 use Rattle.program.specs.declared.instruction.Instruction.{Instruction}
@@ -65,28 +64,48 @@ points_at d index = instruction.ElementPointer (register d) global_a (operand.Nu
 -- registers: n 0, s 1, p 2, q 3, u 4, x 5, v 6, y 7, t 8
 abbrev pub entry_block : Block
 entry_block = record {
-  line = 5; keeps = []; pending = []; left = left_of 6 14; foot = []; phis = [];
+  line = 5;
+  keeps = [];
+  pending = [];
+  left = left_of 6 14;
+  foot = [];
+  phis = [];
   steps = line_of 7 (instruction.StartRegion (register 1)) ∷ [];
   ending = Some (ending_of 8 (terminator.Detach (register 1) (block 1) (block 2)));
 }
 
 abbrev pub child_block : Block
 child_block = record {
-  line = 9; keeps = []; pending = []; left = left_of 10 3; foot = writes_a 11 0 1 ∷ []; phis = [];
+  line = 9;
+  keeps = [];
+  pending = [];
+  left = left_of 10 3;
+  foot = writes_a 11 0 1 ∷ [];
+  phis = [];
   steps = line_of 12 (points_at 2 0) ∷ line_of 13 (instruction.Store (operand.Register (register 0)) (address.Element (register 2))) ∷ [];
   ending = Some (ending_of 14 (terminator.Reattach (register 1) (block 2)));
 }
 
 abbrev pub continuation_block : Block
 continuation_block = record {
-  line = 15; keeps = []; pending = record { region = register 1; zone = writes_a 16 0 1 } ∷ []; left = left_of 17 9; foot = []; phis = [];
+  line = 15;
+  keeps = [];
+  pending = record { region = register 1; zone = writes_a 16 0 1 } ∷ [];
+  left = left_of 17 9;
+  foot = [];
+  phis = [];
   steps = line_of 18 (points_at 3 1) ∷ line_of 19 (instruction.Store (operand.Register (register 0)) (address.Element (register 3))) ∷ [];
   ending = Some (ending_of 20 (terminator.Sync (register 1) (block 3)));
 }
 
 abbrev pub last_block : Block
 last_block = record {
-  line = 21; keeps = []; pending = []; left = left_of 22 6; foot = []; phis = [];
+  line = 21;
+  keeps = [];
+  pending = [];
+  left = left_of 22 6;
+  foot = [];
+  phis = [];
   steps = line_of 23 (points_at 4 0) ∷ line_of 24 (instruction.Load (register 5) (address.Element (register 4))) ∷ line_of 25 (points_at 6 1) ∷ line_of 26 (instruction.Load (register 7) (address.Element (register 6))) ∷
       line_of 27 (instruction.Binary (register 8) operator.Add Bits64 (operand.Register (register 5)) (operand.Register (register 7))) ∷ [];
   ending = Some (ending_of 28 (terminator.Return (Some (operand.Register (register 8)))));
@@ -94,10 +113,17 @@ last_block = record {
 
 abbrev pub main_function : Function
 main_function = record {
-  line = 2; name = codes "main"; result_type = result_type.Number; parameters = parameter.Number ∷ [];
+  line = 2;
+  name = codes "main";
+  result_type = result_type.Number;
+  parameters = parameter.Number ∷ [];
   registers = kind.Number Bits64 ∷ kind.Region ∷ kind.Element ∷ kind.Element ∷ kind.Element ∷ kind.Number Bits64 ∷ kind.Element ∷ kind.Number Bits64 ∷ kind.Number Bits64 ∷ [];
-  allocas = []; requirements = []; guarantees = []; zones = writes_a 3 0 2 ∷ [];
-  measure = record { line = 2; form = constant 0; bound = 0 }; budget = record { line = 4; self_calls = 0; instructions = 14 };
+  allocas = [];
+  requirements = [];
+  guarantees = [];
+  zones = writes_a 3 0 2 ∷ [];
+  measure = record { line = 2; form = constant 0; bound = 0 };
+  budget = record { line = 4; self_calls = 0; instructions = 14 };
   blocks = entry_block ∷ child_block ∷ continuation_block ∷ last_block ∷ [];
 }
 

@@ -28,12 +28,10 @@ pub fn serial_run_exists()
 /// and the schedule theorem holds of it on any number of workers.
 pub fn pair_on_every_schedule()
     ensures { PairOnEverySchedule }
-{
-}
+{}
 
 /// One schedule of `pair` on two workers, by the definitions: after a steal the root stalls at its sync, and the worker of the
 /// child takes it at the reattach.
 pub fn pair_on_two_workers()
     ensures { PairOnTwoWorkers }
-{
-}
+{}
