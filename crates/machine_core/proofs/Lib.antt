@@ -21,3 +21,4 @@ pub mod EverySchedule
 pub mod RankInduction
 pub mod Fuel
 pub mod SerialExists
+pub mod PairSample

@@ -11,3 +11,4 @@ pub mod Events
 pub mod Replay
 pub mod SerialConditions
 pub mod Schedules
+pub mod Pair

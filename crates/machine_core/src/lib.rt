@@ -8,6 +8,7 @@
 //! - `Events`, `Replay`: workers, tasks, steps and steals; schedules.
 #![tactic(auto)]
 
+ghost use Rattle.machine_core.specs.Pair.{PairOnEverySchedule, PairOnTwoWorkers};
 ghost use Rattle.machine_core.specs.Schedules.{EverySchedule};
 ghost use Rattle.machine_core.specs.SerialConditions.{SerialRunExists};
 
@@ -21,4 +22,16 @@ pub fn every_schedule()
 /// Where the local conditions for the serial run hold, no instruction of it traps and it ends.
 pub fn serial_run_exists()
     ensures { SerialRunExists }
+{}
+
+/// The sample program `pair` meets the local conditions: whatever its argument n, its serial run gives n + n after 14 instructions,
+/// and the schedule theorem holds of it on any number of workers.
+pub fn pair_on_every_schedule()
+    ensures { PairOnEverySchedule }
+{}
+
+/// One schedule of `pair` on two workers, by the definitions: after a steal the root stalls at its sync, and the worker of the
+/// child takes it at the reattach.
+pub fn pair_on_two_workers()
+    ensures { PairOnTwoWorkers }
 {}

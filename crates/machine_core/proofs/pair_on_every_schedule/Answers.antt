@@ -1,0 +1,5 @@
+use Rattle.machine_core.proofs.PairSample.{pair_on_every_schedule}
+use Rattle.machine_core.proofs.pair_on_every_schedule.Goals as goal
+
+pub returns : goal.returns
+returns c = pair_on_every_schedule
