@@ -1,5 +1,5 @@
 -- What an event does to a machine.
-use Rattle.std.specs.Prelude.{◌≡◌, ◌↔◌, ℕ, ◌+◌, ◌<◌, ◌≤◌, Bool, IsTrue, Some, IsSome, IsSomeAnd, [], vec_len}
+use Rattle.std.specs.Prelude.{◌≡◌, ◌↔◌, ℕ, ◌+◌, ◌<◌, ◌≤◌, ℤ, Bool, IsTrue, Option, None, Some, IsSome, IsSomeAnd, [], vec_len}
 use Rattle.std.specs.Option.{option_map}
 use Rattle.frame.specs.declared.path.Path.{Path}
 use Rattle.cactus.specs.declared.node.Node.{Node}
@@ -8,10 +8,20 @@ use Rattle.schedule_core.specs.Scheduling.{hand_of, IsIdle, IsReady, GoesOnWith}
 use Rattle.schedule_core.specs.Tasks.{IsTaskTop}
 use Rattle.schedule_core.specs.declared.activation.Activation.{Activation}
 use Rattle.schedule_core.specs.declared.machine.Machine.{Machine}
-use Rattle.schedule_core.specs.declared.machine.Phase.TheVariants.{Going, Trapped}
+use Rattle.schedule_core.specs.declared.machine.Phase.{Phase}
+use Rattle.schedule_core.specs.declared.machine.Phase.TheVariants.{Going, Ended, Trapped}
 
 abbrev pub IsGoing : Machine → Type 0
 IsGoing m = m.phase ≡ Going
+
+abbrev pub IsTrapped : Machine → Type 0
+IsTrapped m = m.phase ≡ Trapped
+
+-- what main returned, once it has
+abbrev pub result_of : Phase → Option ℤ
+result_of Going = None
+result_of (Ended z) = Some z
+result_of Trapped = None
 
 -- a step is enabled exactly where the worker runs a task, and counts one unless it traps
 pub record StepsWhere (old new : Machine) (worker : ℕ) (enabled : Bool) : Type 0 where
