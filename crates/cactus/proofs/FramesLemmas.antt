@@ -1,10 +1,11 @@
 -- What stands in the slots after a change of one.
-use Rattle.std.proofs.Common.{◌≡◌, ◌≢◌, ℕ, ◌<◌, List, length, get_or, set, Option, Some, None, refl, sym, ap, ◌∙◌, arith, slice_index_or, slice_set}
-use Rattle.std.specs.Prelude.{IsSome}
+use Rattle.std.proofs.Common.{◌≡◌, ◌≢◌, ℕ, suc, ◌<◌, List, length, get_or, set, Option, Some, None, refl, sym, ap, ◌∙◌, arith, slice_index_or, slice_set}
+use Rattle.std.specs.Prelude.{IsSome, Bool, true, false, ◌==◌, if◌then◌else◌}
+use Rattle.std.proofs.lemmas.Bool.Decides.{nat_tests}
 use Rattle.std.proofs.lemmas.List.{get_or-set_same, get_or-set_other, get_or_past}
 use Rattle.std.specs.Option.{option_map}
 use Rattle.cactus.specs.declared.node.Node.{Node}
-use Rattle.cactus.specs.Frames.{Frames, node_at, frame_at, Lives}
+use Rattle.cactus.specs.Frames.{Frames, node_at, node_of_use, of_generation, frame_at, slot_above, Lives}
 use Rattle.cactus.specs.Lending.{with_frame, written}
 
 module _ {F : Type 0} where
@@ -42,3 +43,29 @@ module _ {F : Type 0} where
       from : (found : Option (Node F)) → node_at frames slot ≡ found → option_map (λ (node : Node F). node.frame) found ≡ Some frame → Lives frames slot
       from None none here = absurd (cc)
       from (Some node) found here = rw found refl
+
+  -- one parent further up
+  pub slot_above-step : (frames : Frames F) (n m slot above : ℕ) (node : Node F) → n ≡ suc m → node_at frames slot ≡ Some node → node.parent ≡ Some above → slot_above frames n slot ≡ slot_above frames m above
+  slot_above-step frames n m slot above node one is parent = rw (one, is, parent) refl
+
+  -- a use is its own
+  pub node_of_use-own : (frames : Frames F) (slot : ℕ) (node : Node F) → node_at frames slot ≡ Some node → node_of_use frames slot node.generation ≡ Some node
+  node_of_use-own frames slot node is = rw is (own node (equal node.generation))
+    where
+      equal : (n : ℕ) → (n == n) ≡ true
+      equal n = grind (arith, nat_tests)
+
+      own : (n : Node F) → (n.generation == n.generation) ≡ true → of_generation n.generation (Some n) ≡ Some n
+      own n same = rw same refl
+
+  -- a use of a slot stands in the slot
+  pub node_at-use : (frames : Frames F) (slot generation : ℕ) (node : Node F) → node_of_use frames slot generation ≡ Some node → node_at frames slot ≡ Some node
+  node_at-use frames slot generation node is = from (node_at frames slot) is
+    where
+      by_test : (n : Node F) (b : Bool) → (if b then Some n else None) ≡ Some node → Some n ≡ Some node
+      by_test n true same = same
+      by_test n false same = absurd (cc)
+
+      from : (o : Option (Node F)) → of_generation generation o ≡ Some node → o ≡ Some node
+      from None none = absurd (cc)
+      from (Some n) some = by_test n (n.generation == generation) some

@@ -1,7 +1,8 @@
-ghost use Rattle.std.specs.Prelude.{◌≡◌, ◌+◌, ◌<◌, ◌^◌, ◌++◌, ◌∷◌, [], Some, None, IsSome, IfOk, OnOk, OnErr, option_copied};
-ghost use Rattle.std.specs.Option.{option_copied_mut};
+ghost use Rattle.std.specs.Prelude.{count_by, is_some, IfSome, IfNone, ◌≡◌, ◌+◌, ◌<◌, ◌^◌, ◌++◌, ◌∷◌, [], Some, None, IsSome, IfOk, OnOk, OnErr, option_copied};
+ghost use Rattle.std.specs.Option.{option_copied_mut, option_map};
 ghost use Rattle.std.specs.Borrow.{sem};
-ghost use Rattle.cactus.specs.Frames.{node_at, node_of_use, frame_at, Lives, IsAdded, AddsChild, IsRemoved};
+ghost use Rattle.slab.specs.Slab.{entries_from};
+ghost use Rattle.cactus.specs.Frames.{node_at, node_of_use, HasPath, HasNoPath, owner_at, slot_above, frame_at, Lives, IsAdded, AddsChild, IsRemoved};
 
 use crate::node::Node;
 use frame::Path;
@@ -56,7 +57,9 @@ impl<F: Drop> Cactus<F> {
     }
 
     /// The number of living frames.
-    pub fn live_frames(&self) -> u64 {
+    pub fn live_frames(&self) -> u64
+        ensures { result ≡ count_by is_some self.now.nodes }
+    {
         self.nodes.len() as u64
     }
 
@@ -68,7 +71,9 @@ impl<F: Drop> Cactus<F> {
     }
 
     /// The slots where frames stand, by rising slot.
-    pub fn iter(&self) -> Iter<'_, Node<F>> {
+    pub fn iter(&self) -> Iter<'_, Node<F>>
+        ensures { result ≡ entries_from 0 self.now.nodes }
+    {
         self.nodes.iter()
     }
 
@@ -90,7 +95,10 @@ impl<F: Drop> Cactus<F> {
     }
 
     /// The path of the frame of this use of a slot.
-    pub fn path_at(&self, slot: usize, generation: u64) -> Option<&Path> {
+    pub fn path_at(&self, slot: usize, generation: u64) -> Option<&Path>
+        ensures { option_copied result
+            ≡ option_map (λ node. node.path) (node_of_use self.now slot generation) }
+    {
         match self.get(slot, generation) {
             Some(node) => Some(&node.path),
             None => None,
@@ -98,9 +106,12 @@ impl<F: Drop> Cactus<F> {
     }
 
     /// The slot and the generation of the frame of this path.
-    pub fn spot(&self, path: &Path) -> Option<(usize, u64)> {
+    pub fn spot(&self, path: &Path) -> Option<(usize, u64)>
+        ensures found { IfSome result (λ spot. HasPath self.now spot.0 spot.1 path.now) }
+        ensures absent { IfNone result (HasNoPath self.now path.now) }
+    {
         for (slot, node) in self.nodes.iter() {
-            if node.path.is_same(path) {
+            if node.has_path(path) {
                 return Some((slot, node.generation));
             }
         }
@@ -108,14 +119,23 @@ impl<F: Drop> Cactus<F> {
     }
 
     /// The slot of the frame whose path is the first `depth` numbers of the path of the frame in the slot.
-    pub fn ancestor(&self, slot: usize, depth: usize) -> Option<usize> {
-        let length = self.nodes.get(slot)?.path.numbers.len();
+    pub fn ancestor(&self, slot: usize, depth: usize) -> Option<usize>
+        ensures { result ≡ owner_at self.now depth slot }
+    {
+        let length = self.node(slot)?.path.numbers.len();
         if length < depth {
             return None;
         }
+        self.ascend(slot, length - depth)
+    }
+
+    /// The slot so many parents above a slot.
+    fn ascend(&self, slot: usize, count: usize) -> Option<usize>
+        ensures { result ≡ slot_above self.now count slot }
+    {
         let mut found = slot;
-        for _ in depth..length {
-            found = self.nodes.get(found)?.parent?;
+        for _ in 0..count {
+            found = self.node(found)?.parent?;
         }
         Some(found)
     }

@@ -5,6 +5,8 @@
 
 mod cactus;
 mod node;
+#[cfg(test)]
+mod tests;
 
 pub use cactus::Cactus;
 pub use node::Node;

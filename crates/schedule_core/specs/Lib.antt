@@ -1,2 +1,3 @@
 pub mod Scheduling
+pub mod Tasks
 pub mod Running

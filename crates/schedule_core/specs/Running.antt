@@ -1,12 +1,27 @@
 -- What an event does to a machine.
-use Rattle.std.specs.Prelude.{◌≡◌, ℕ, ◌+◌, Bool, true, IsSome, IsTrue, ◌↔◌, IsSomeAnd}
-use Rattle.cactus.specs.Frames.{frame_at}
+use Rattle.std.specs.Prelude.{◌≡◌, ◌↔◌, ℕ, ◌+◌, ◌<◌, ◌≤◌, ℤ, Bool, IsTrue, Option, None, Some, IsSome, IsSomeAnd, [], vec_len}
+use Rattle.std.specs.Option.{option_map}
+use Rattle.frame.specs.declared.path.Path.{Path}
+use Rattle.cactus.specs.declared.node.Node.{Node}
+use Rattle.cactus.specs.Frames.{node_at, frame_at}
 use Rattle.schedule_core.specs.Scheduling.{hand_of, IsIdle, IsReady, GoesOnWith}
+use Rattle.schedule_core.specs.Tasks.{IsTaskTop}
+use Rattle.schedule_core.specs.declared.activation.Activation.{Activation}
 use Rattle.schedule_core.specs.declared.machine.Machine.{Machine}
-use Rattle.schedule_core.specs.declared.machine.Phase.TheVariants.{Going, Trapped}
+use Rattle.schedule_core.specs.declared.machine.Phase.{Phase}
+use Rattle.schedule_core.specs.declared.machine.Phase.TheVariants.{Going, Ended, Trapped}
 
 abbrev pub IsGoing : Machine → Type 0
 IsGoing m = m.phase ≡ Going
+
+abbrev pub IsTrapped : Machine → Type 0
+IsTrapped m = m.phase ≡ Trapped
+
+-- what main returned, once it has
+abbrev pub result_of : Phase → Option ℤ
+result_of Going = None
+result_of (Ended z) = Some z
+result_of Trapped = None
 
 -- a step is enabled exactly where the worker runs a task, and counts one unless it traps
 pub record StepsWhere (old new : Machine) (worker : ℕ) (enabled : Bool) : Type 0 where
@@ -20,5 +35,19 @@ pub record TakesAt (old new : Machine) (worker top : ℕ) : Type 0 where
   pub runs : GoesOnWith new.cactus new.hands.items worker top
   pub counts_nothing : new.instructions ≡ old.instructions
 
-abbrev pub Takes : Machine → Machine → ℕ → Type 0
-Takes old new worker = (top : ℕ) × TakesAt old new worker top
+-- the worker takes the ready task of the path
+abbrev pub Takes : Machine → Machine → ℕ → Path → Type 0
+Takes old new worker path = (top : ℕ) × IsTaskTop old.cactus path top × TakesAt old new worker top
+
+-- worker 0 runs the root, the others are idle, and nothing is done
+pub record IsStart (m : Machine) (workers : ℕ) : Type 0 where
+  pub going : IsGoing m
+  pub nothing_done : m.instructions ≡ 0
+  pub root_alone : m.peak ≡ 1
+  pub as_many : vec_len m.hands ≡ workers
+  pub root : ℕ
+  pub named : option_map (λ (node : Node Activation). node.path.numbers) (node_at m.cactus root) ≡ Some []
+  pub runs : GoesOnWith m.cactus m.hands.items 0 root
+
+abbrev pub IsNumberOfWorkers : ℕ → Type 0
+IsNumberOfWorkers workers = (0 < workers) × (workers ≤ 64)

@@ -1,6 +1,10 @@
-ghost use Rattle.std.specs.Prelude.{◌≡◌, ◌≢◌, ◌<◌, ◌≤◌, None, OnOk, vec_len};
+ghost use Rattle.std.specs.Prelude.{ℕ, Some, ◌≡◌, ◌≢◌, ◌<◌, ◌≤◌, None, OnOk, vec_len};
 ghost use Rattle.std.specs.Vec.{with_item};
-ghost use Rattle.schedule_core.specs.Scheduling.{BeginsChild, EndsChild, GoesOnWith, StallsAt, living_within};
+ghost use Rattle.cactus.specs.declared.node.Node.{Node};
+ghost use Rattle.cactus.specs.Frames.{node_at};
+ghost use Rattle.schedule_core.specs.declared.activation.Activation.{Activation};
+ghost use Rattle.schedule_core.specs.Running.{result_of};
+ghost use Rattle.schedule_core.specs.Scheduling.{hand_of, BeginsChild, EndsChild, GoesOnWith, StallsAt, living_within};
 
 use crate::activation::Activation;
 use crate::halt::Halt;
@@ -223,6 +227,10 @@ impl Machine<'_> {
     /// The function ends; its caller goes on with the result, or the run ends with it.
     fn return_with(&mut self, worker: u8, slot: usize, value: Option<i64>) -> Result<(), Trap>
         requires { worker < vec_len self.old.hands }
+        ensures returns { (node : Node Activation) (caller : ℕ) → node_at self.old.cactus slot ≡ Some node → node.parent ≡ Some caller
+            → OnOk result (hand_of self.new.hands.items worker ≡ Some caller) }
+        ensures ends { (node : Node Activation) → node_at self.old.cactus slot ≡ Some node → node.parent ≡ None
+            → OnOk result (result_of self.new.phase ≡ value) }
     {
         let node = self.cactus.node(slot).ok_or(Trap::Unmatched)?;
         if !node.frame.is_childless() {

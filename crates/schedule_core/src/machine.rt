@@ -1,8 +1,10 @@
-ghost use Rattle.std.specs.Prelude.{◌≡◌, ◌<◌, ℕ, false, Some, IsTrue, IsSomeAnd, IfOk, OnOk, OnErr, OnSome, vec_len};
+ghost use Rattle.std.specs.Prelude.{◌↔◌, IsSome, is_some, count_by, ◌≡◌, ◌<◌, ℕ, false, true, Some, IsTrue, IsSomeAnd, IfOk, OnOk, OnErr, OnSome, vec_len};
 ghost use Rattle.std.specs.Vec.{with_item};
 ghost use Rattle.cactus.specs.Frames.{Lives, frame_at};
 ghost use Rattle.schedule_core.specs.Scheduling.{hand_of, IsIdle, IsReady};
-ghost use Rattle.schedule_core.specs.Running.{IsGoing, StepsWhere, Takes, TakesAt};
+ghost use Rattle.frame.specs.declared.path.Path.{Path};
+ghost use Rattle.store.specs.declared.memory.Memory.{Memory};
+ghost use Rattle.schedule_core.specs.Running.{IsGoing, IsTrapped, result_of, IsStart, IsNumberOfWorkers, StepsWhere, Takes, TakesAt};
 
 use crate::activation::Activation;
 use crate::event::Event;
@@ -54,7 +56,12 @@ impl<'v> Machine<'v> {
         arguments: &[i64],
         memory: Memory,
         workers: usize,
-    ) -> Result<Machine<'v>, RunFault> {
+    ) -> Result<Machine<'v>, RunFault>
+        ensures started { IfOk result (λ m. IsStart m workers) }
+        ensures in_range { OnOk result (IsNumberOfWorkers workers) }
+        ensures bad_workers { (m : Memory) → result ≡ Err (RunFault.BadWorkers m) → (m ≡ memory) × ¬ IsNumberOfWorkers workers }
+        ensures bad_arguments { (requirement : ℕ) (m : Memory) → result ≡ Err (RunFault.BadArguments requirement m) → m ≡ memory }
+    {
         let program = verified.program();
         if let Some(requirement) = unmet_requirement(program, arguments) {
             return Err(RunFault::BadArguments {
@@ -80,6 +87,7 @@ impl<'v> Machine<'v> {
         workers: usize,
     ) -> Result<Machine<'v>, OutOfMemory>
         requires { 0 < workers }
+        ensures { IfOk result (λ m. IsStart m workers) }
     {
         let frame = Frame::root(alloc, verified.program(), arguments)?;
         let mut cactus = Cactus::new(alloc);
@@ -180,7 +188,7 @@ impl<'v> Machine<'v> {
     /// The worker takes the task of the path, if the worker is idle and no worker runs the task and it may go on.
     fn steal(&mut self, worker: u8, path: &Path) -> bool
         ensures no { ¬ IsTrue result → self.new ≡ self.old }
-        ensures yes { IsTrue result → Takes self.old self.new worker }
+        ensures yes { IsTrue result → Takes self.old self.new worker path.now }
     {
         match self.top_of(path) {
             Some(top) => self.take(worker, top),
@@ -209,32 +217,44 @@ impl<'v> Machine<'v> {
     }
 
     /// Whether `main` has returned.
-    pub fn ended(&self) -> bool {
+    pub fn ended(&self) -> bool
+        ensures { IsTrue result ↔ IsSome (result_of self.now.phase) }
+    {
         matches!(self.phase, Phase::Ended { .. })
     }
 
     /// Whether an instruction had no effect; then no event is enabled any more.
-    pub fn is_trapped(&self) -> bool {
+    pub fn is_trapped(&self) -> bool
+        ensures { IsTrue result ↔ IsTrapped self.now }
+    {
         self.phase == Phase::Trapped
     }
 
     /// The number of living frames.
-    pub fn live_frames(&self) -> u64 {
+    pub fn live_frames(&self) -> u64
+        ensures { result ≡ count_by is_some self.now.cactus.nodes }
+    {
         self.cactus.live_frames()
     }
 
     /// The number of instructions that were executed, terminators counted, phis not.
-    pub fn instructions(&self) -> u64 {
+    pub fn instructions(&self) -> u64
+        ensures { result ≡ self.now.instructions }
+    {
         self.instructions
     }
 
     /// The most frames from the root to a frame that ever lived.
-    pub fn peak(&self) -> u64 {
+    pub fn peak(&self) -> u64
+        ensures { result ≡ self.now.peak }
+    {
         self.peak
     }
 
     /// What `main` returned.
-    pub fn result(&self) -> Option<i64> {
+    pub fn result(&self) -> Option<i64>
+        ensures { result ≡ result_of self.now.phase }
+    {
         match self.phase {
             Phase::Ended { result } => Some(result),
             _ => None,
@@ -247,12 +267,16 @@ impl<'v> Machine<'v> {
     }
 
     /// The globals, as the events left them.
-    pub fn memory(&self) -> &Memory {
+    pub fn memory(&self) -> &Memory
+        ensures { result.now ≡ self.now.memory }
+    {
         &self.memory
     }
 
     /// The globals of a run that has ended, or was given up.
-    pub fn into_memory(self) -> Memory {
+    pub fn into_memory(self) -> Memory
+        ensures { result ≡ self.entry.memory }
+    {
         self.memory
     }
 }

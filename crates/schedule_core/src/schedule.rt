@@ -1,3 +1,7 @@
+ghost use Rattle.std.specs.Prelude.{◌≡◌, ℕ, IfOk, OnOk};
+ghost use Rattle.store.specs.declared.memory.Memory.{Memory};
+ghost use Rattle.schedule_core.specs.Running.{IsTrapped, IsNumberOfWorkers};
+
 use crate::event::Event;
 use crate::machine::Machine;
 use serial_machine::RunFault;
@@ -17,7 +21,12 @@ pub fn replay<'v>(
     memory: Memory,
     workers: usize,
     events: &[Event],
-) -> Result<Machine<'v>, RunFault> {
+) -> Result<Machine<'v>, RunFault>
+    ensures sound { IfOk result (λ m. ¬ IsTrapped m) }
+    ensures in_range { OnOk result (IsNumberOfWorkers workers) }
+    ensures bad_workers { (m : Memory) → result ≡ Err (RunFault.BadWorkers m) → (m ≡ memory) × ¬ IsNumberOfWorkers workers }
+    ensures bad_arguments { (requirement : ℕ) (m : Memory) → result ≡ Err (RunFault.BadArguments requirement m) → m ≡ memory }
+{
     let mut machine = Machine::start(alloc, verified, arguments, memory, workers)?;
     for event in events {
         if machine.apply(event).is_err() {

@@ -1,3 +1,6 @@
+ghost use Rattle.std.specs.Prelude.{IsTrue, IfSome};
+ghost use Rattle.schedule_core.specs.Tasks.{IsLowest, IsTopAbove, IsTaskTop};
+
 use crate::activation::Activation;
 use crate::machine::Machine;
 use cactus::Node;
@@ -63,12 +66,16 @@ fn line(program: &Program, top: &Activation) -> Option<u32> {
 
 impl Machine<'_> {
     /// Whether a path is that of a task: the root's, or a detached child's.
-    fn is_lowest(node: &Node<Activation>) -> bool {
+    fn is_lowest(node: &Node<Activation>) -> bool
+        ensures { IsTrue result → IsLowest node.now }
+    {
         node.parent.is_none() || node.frame.frame.role != Role::Body
     }
 
     /// The slot of the top of the task whose lowest frame is in the slot.
-    fn top_above(&self, lowest: usize) -> Option<usize> {
+    fn top_above(&self, lowest: usize) -> Option<usize>
+        ensures { IfSome result (IsTopAbove self.now.cactus lowest) }
+    {
         let mut top = lowest;
         for _ in 0..self.cactus.live_frames() {
             match self.cactus.node(top)?.frame.callee {
@@ -93,9 +100,12 @@ impl Machine<'_> {
     }
 
     /// The slot of the top of the task of the path.
-    pub(crate) fn top_of(&self, path: &Path) -> Option<usize> {
-        let (lowest, _generation) = self.cactus.spot(path)?;
-        if Machine::is_lowest(self.cactus.node(lowest)?) {
+    pub(crate) fn top_of(&self, path: &Path) -> Option<usize>
+        ensures { IfSome result (IsTaskTop self.now.cactus path.now) }
+    {
+        let (lowest, generation) = self.cactus.spot(path)?;
+        let node = self.cactus.get(lowest, generation)?;
+        if Machine::is_lowest(node) {
             self.top_above(lowest)
         } else {
             None
@@ -117,11 +127,9 @@ impl Machine<'_> {
 
     /// The task of the path; none where the path is no task's.
     pub fn task(&self, path: &Path) -> Option<TaskView<'_>> {
+        let top = self.top_of(path)?;
         let (lowest, _generation) = self.cactus.spot(path)?;
-        if !Machine::is_lowest(self.cactus.node(lowest)?) {
-            return None;
-        }
-        self.view(lowest, self.top_above(lowest)?)
+        self.view(lowest, top)
     }
 
     /// The task that the worker runs; none where it is idle.

@@ -4,5 +4,7 @@
 #![tactic(auto)]
 
 mod count;
+#[cfg(test)]
+mod tests;
 
 pub use count::{Outcome, Parent, Passage, RegionCount};
