@@ -10,3 +10,4 @@ pub mod Lexed
 pub mod LineAgain
 pub mod NoteAgain
 pub mod Takes
+pub mod ItemTakes
