@@ -42,7 +42,7 @@ abbrev Defines : List ℕ → List ℕ → List Symbol → Instruction → Type 
 Defines d text rest i = Spells instruction_atoms instruction_fits (Register d ∷ Mark 61 ∷ Word text ∷ rest) i
 
 -- whatever the word is, it is this one
-by_word : (text known : List ℕ) (P : List ℕ → Type 0) → bytes_eq text known ≡ true → P known → P text
+pub by_word : (text known : List ℕ) (P : List ℕ → Type 0) → bytes_eq text known ≡ true → P known → P text
 by_word text known P h p = subst P (sym (same_bytes text known h)) p
 
 operator_is : (w : List ℕ) (op : BinaryOperator) → operator_of w ≡ Some op → Word w ∷ [] ≡ symbols_in (operator_atoms op)
@@ -105,7 +105,7 @@ binary_takes d w op rest i within is h =
           let nsw : rest ≡ Word (codes "nsw") ∷ behind rest = word_is (codes "nsw") rest v.0 in
           let words : Word w ∷ Word (codes "nsw") ∷ [] ≡ symbols_in (operator_atoms b.0) = ap (λ (l : List Symbol). l ++ Word (codes "nsw") ∷ []) is ∙ sym (wrap_is op b.0 b.1) in
           let s = spelled instruction_atoms instruction_fits binary_shape (binary_from d b.0) (Register d ∷ Mark 61 ∷ Word w ∷ Word (codes "nsw") ∷ []) (behind rest) i (behind_within rest (Word (codes "nsw") ∷ []) (behind rest) within nsw) b.2
-              (λ g. ap (λ (l : List Symbol). Register d ∷ Mark 61 ∷ (l ++ symbols_in (atoms_of binary_shape g))) words ∙ ap (λ (l : List Symbol). Register d ∷ Mark 61 ∷ l) (sym (symbols_appended (operator_atoms b.0) (Blank ∷ atoms_of binary_shape g)))) (λ g f. refl) in
+          (λ g. ap (λ (l : List Symbol). Register d ∷ Mark 61 ∷ (l ++ symbols_in (atoms_of binary_shape g))) words ∙ ap (λ (l : List Symbol). Register d ∷ Mark 61 ∷ l) (sym (symbols_appended (operator_atoms b.0) (Blank ∷ atoms_of binary_shape g)))) (λ g f. refl) in
           (ap (λ (l : List Symbol). Register d ∷ Mark 61 ∷ Word w ∷ l) nsw ∙ s.0, s.1)
       | inr v ↦
           spelled instruction_atoms instruction_fits binary_shape (binary_from d op) (Register d ∷ Mark 61 ∷ Word w ∷ []) rest i within v.1
@@ -156,10 +156,10 @@ fixed_takes d text rest i w h =
       ]
     ]
 
-abbrev ItemSpells : ℕ → List Symbol → Item → Type 0
+abbrev pub ItemSpells : ℕ → List Symbol → Item → Type 0
 ItemSpells at line i = Spells item_atoms (item_fits at) line i
 
-of_instruction : (at : ℕ) (line : List Symbol) (j : Instruction) (i : Item) → item.Instruction j ≡ i → Spells instruction_atoms instruction_fits line j → ItemSpells at line i
+pub of_instruction : (at : ℕ) (line : List Symbol) (j : Instruction) (i : Item) → item.Instruction j ≡ i → Spells instruction_atoms instruction_fits line j → ItemSpells at line i
 of_instruction at line j i e s = subst (λ (i : Item). ItemSpells at line i) e s
 
 phi_good : (at : ℕ) (d : List ℕ) (g : Gaps phi_shape) → gaps_fit phi_shape g ≡ true → item_fits at (item.Phi (phi_from at d g)) ≡ true

@@ -11,3 +11,4 @@ pub mod LineAgain
 pub mod NoteAgain
 pub mod Takes
 pub mod ItemTakes
+pub mod LineTakes

@@ -185,9 +185,11 @@ array_takes line x w h =
     let e4 = word_takes (codes "i64") t.0 s.0 t.2 in
     let e5 = mark_takes 93 s.0 r.0 s.2 in
     let e6 = some_is (p.0.0, r.0) x r.2 in
-    let n : p.0.0 ≡ x.0 = ap (λ (y : ℕ × List Symbol). y.0) e6 in
-    (e1 ∙ ap (λ (l : List Symbol). Mark 91 ∷ l) (e2.0 ∙ ap (λ (l : List Symbol). Number (Small (pos p.0.0)) ∷ l) (e3 ∙ ap (λ (l : List Symbol). Word (codes "x") ∷ l) (e4 ∙ ap (λ (l : List Symbol). Word (codes "i64") ∷ l) e5)))
-    ∙ ap (λ (y : ℕ × List Symbol). symbols_in (array_atoms y.0) ++ y.1) e6, ap (nat_lt 0) (sym n) ∙ e2.1)
+    let n : p.0.0 ≡ x.0 = ap (λ (y : ℕ × List Symbol). y.0) e6 in (
+      e1 ∙ ap (λ (l : List Symbol). Mark 91 ∷ l) (e2.0 ∙ ap (λ (l : List Symbol). Number (Small (pos p.0.0)) ∷ l) (e3 ∙ ap (λ (l : List Symbol). Word (codes "x") ∷ l) (e4 ∙ ap (λ (l : List Symbol). Word (codes "i64") ∷ l) e5)))
+          ∙ ap (λ (y : ℕ × List Symbol). symbols_in (array_atoms y.0) ++ y.1) e6,
+      ap (nat_lt 0) (sym n) ∙ e2.1,
+    )
 
 pub word_is : (text : List ℕ) (line : List Symbol) → is_word text line ≡ true → line ≡ Word text ∷ behind line
 word_is text (Word found ∷ rest) h = ap (λ (t : List ℕ). Word t ∷ rest) (same_bytes found text h)
@@ -285,10 +287,11 @@ pointer_parameter_takes line x w h =
     let e7 = register_takes v.0 u.0 v.2 in
     let e8 = some_is (parameter.Pointer u.0.0 p.0.0, u.0.1) x u.2 in
     let tail : p.0.1 ≡ Mark 41 ∷ Register u.0.0 ∷ u.0.1 = cc in
-    let number : q.0 ≡ Number (Small (pos (8 * p.0.0))) ∷ p.0.1 = e5.0 in
-    (before ∙ ap (λ (l : List Symbol). Word (codes "ptr") ∷ Word (codes "noalias") ∷ Word (codes "dereferenceable") ∷ Mark 40 ∷ l) (number ∙ ap (λ (l : List Symbol). Number (Small (pos (8 * p.0.0))) ∷ l) tail)
-    ∙ ap (λ (y : Parameter × List Symbol). symbols_in (parameter_atoms y.0) ++ y.1) e8,
-    ap (λ (y : Parameter × List Symbol). has_cells y.0) (sym e8) ∙ lt-ltb 0 p.0.0 e5.1)
+    let number : q.0 ≡ Number (Small (pos (8 * p.0.0))) ∷ p.0.1 = e5.0 in (
+      before ∙ ap (λ (l : List Symbol). Word (codes "ptr") ∷ Word (codes "noalias") ∷ Word (codes "dereferenceable") ∷ Mark 40 ∷ l) (number ∙ ap (λ (l : List Symbol). Number (Small (pos (8 * p.0.0))) ∷ l) tail)
+          ∙ ap (λ (y : Parameter × List Symbol). symbols_in (parameter_atoms y.0) ++ y.1) e8,
+      ap (λ (y : Parameter × List Symbol). has_cells y.0) (sym e8) ∙ lt-ltb 0 p.0.0 e5.1,
+    )
 
 number_parameter_takes : (line : List Symbol) (x : Parameter × List Symbol) → number_parameter_at line ≡ Some x → Takes has_cells (λ p. symbols_in (parameter_atoms p)) line x
 number_parameter_takes line x h =
@@ -296,9 +299,10 @@ number_parameter_takes line x h =
     let v = bind_some (word_at (codes "i64") line) register_at u.0 u.1 in
     let e1 = word_takes (codes "i64") line v.0 v.1 in
     let e2 = register_takes v.0 u.0 v.2 in
-    let e3 = some_is (parameter.Number u.0.0, u.0.1) x u.2 in
-    (e1 ∙ ap (λ (l : List Symbol). Word (codes "i64") ∷ l) e2 ∙ ap (λ (y : Parameter × List Symbol). symbols_in (parameter_atoms y.0) ++ y.1) e3,
-    ap (λ (y : Parameter × List Symbol). has_cells y.0) (sym e3))
+    let e3 = some_is (parameter.Number u.0.0, u.0.1) x u.2 in (
+      e1 ∙ ap (λ (l : List Symbol). Word (codes "i64") ∷ l) e2 ∙ ap (λ (y : Parameter × List Symbol). symbols_in (parameter_atoms y.0) ++ y.1) e3,
+      ap (λ (y : Parameter × List Symbol). has_cells y.0) (sym e3),
+    )
 
 parameter_takes : (line : List Symbol) (x : Parameter × List Symbol) → are_within line → parameter_at line ≡ Some x → Takes has_cells (λ p. symbols_in (parameter_atoms p)) line x
 parameter_takes line x w h = elim (chosen (is_word (codes "ptr") line) (pointer_parameter_at line) (number_parameter_at line) (Some x) h) [
@@ -334,9 +338,11 @@ entry_takes line x w h =
     let e3 = mark_takes 44 p.0.1 s.0 s.1 in
     let e4 = register_takes s.0 r.0 s.2 in
     let e5 = mark_takes 93 r.0.1 t.0 t.1 in
-    let entry : PhiEntry = record { value = p.0.0; predecessor = r.0.0 } in
-    (e1 ∙ ap (λ (l : List Symbol). Mark 91 ∷ l) (e2 ∙ ap (λ (l : List Symbol). operand_symbol p.0.0 ∷ l) (e3 ∙ ap (λ (l : List Symbol). Mark 44 ∷ l) (e4 ∙ ap (λ (l : List Symbol). Register r.0.0 ∷ l) e5)))
-    ∙ ap (λ (y : PhiEntry × List Symbol). symbols_in (entry_atoms y.0) ++ y.1) (some_is (entry, t.0) x t.2), refl)
+    let entry : PhiEntry = record { value = p.0.0; predecessor = r.0.0 } in (
+      e1 ∙ ap (λ (l : List Symbol). Mark 91 ∷ l) (e2 ∙ ap (λ (l : List Symbol). operand_symbol p.0.0 ∷ l) (e3 ∙ ap (λ (l : List Symbol). Mark 44 ∷ l) (e4 ∙ ap (λ (l : List Symbol). Register r.0.0 ∷ l) e5)))
+          ∙ ap (λ (y : PhiEntry × List Symbol). symbols_in (entry_atoms y.0) ++ y.1) (some_is (entry, t.0) x t.2),
+      refl,
+    )
 
 case_takes : (line : List Symbol) (x : SpelledCase × List Symbol) → case_at line ≡ Some x → line ≡ symbols_in (case_atoms x.0) ++ x.1
 case_takes line x h =
@@ -428,9 +434,10 @@ all_takes {A} at ok f takes line x w h =
           let e = some_is (b.0.0, c.0) x c.2 in
           let whole : line ≡ symbols_in (parted f b.0.0) ++ (Mark 41 ∷ c.0) = listed_symbols ok f line b.0 l ∙ ap (λ (t : List Symbol). symbols_in (parted f b.0.0) ++ t) (mark_takes 41 b.0.1 c.0 c.1) in
           let closed : symbols_in (parted f b.0.0 ++ Token (Mark 41) ∷ []) ++ c.0 ≡ symbols_in (parted f b.0.0) ++ (Mark 41 ∷ c.0) =
-              ap (λ (t : List Symbol). t ++ c.0) (symbols_appended (parted f b.0.0) (Token (Mark 41) ∷ [])) ∙ append_assoc (symbols_in (parted f b.0.0)) (Mark 41 ∷ []) c.0 in
-          (whole ∙ sym closed ∙ ap (λ (y : List A × List Symbol). symbols_in (parted f y.0 ++ Token (Mark 41) ∷ []) ++ y.1) e,
-          ap (λ (y : List A × List Symbol). list_all ok y.0) (sym e) ∙ listed_good ok (λ x. symbols_in (f x)) line b.0 l)
+          ap (λ (t : List Symbol). t ++ c.0) (symbols_appended (parted f b.0.0) (Token (Mark 41) ∷ [])) ∙ append_assoc (symbols_in (parted f b.0.0)) (Mark 41 ∷ []) c.0 in (
+            whole ∙ sym closed ∙ ap (λ (y : List A × List Symbol). symbols_in (parted f y.0 ++ Token (Mark 41) ∷ []) ++ y.1) e,
+            ap (λ (y : List A × List Symbol). list_all ok y.0) (sym e) ∙ listed_good ok (λ x. symbols_in (f x)) line b.0 l,
+          )
     ]
 
 -- cases
@@ -472,9 +479,10 @@ all_cases_take line x h =
     let b = bind_some (list_at case_at case_follows (length line) line) (λ found. mark_at 93 found.1 >>= λ rest. Some (found.0, rest)) x h in
     let c = bind_some (mark_at 93 b.0.1) (λ rest. Some (b.0.0, rest)) x b.2 in
     let t = cases_take (length line) line b.0 b.1 in
-    let e = some_is (b.0.0, c.0) x c.2 in
-    (t.0 ∙ ap (λ (l : List Symbol). joined b.0.0 ++ l) (mark_takes 93 b.0.1 c.0 c.1) ∙ sym (cases_end b.0.0 c.0) ∙ ap (λ (y : List SpelledCase × List Symbol). symbols_in (cases_atoms y.0) ++ y.1) e,
-    ap (λ (y : List SpelledCase × List Symbol). is_some_list y.0) (sym e) ∙ t.1)
+    let e = some_is (b.0.0, c.0) x c.2 in (
+      t.0 ∙ ap (λ (l : List Symbol). joined b.0.0 ++ l) (mark_takes 93 b.0.1 c.0 c.1) ∙ sym (cases_end b.0.0 c.0) ∙ ap (λ (y : List SpelledCase × List Symbol). symbols_in (cases_atoms y.0) ++ y.1) e,
+      ap (λ (y : List SpelledCase × List Symbol). is_some_list y.0) (sym e) ∙ t.1,
+    )
 
 -- a gap, and a whole shape
 
@@ -519,7 +527,8 @@ gaps_take (gap g ∷ shape) line gaps w h =
     let c = bind_some (gaps_of shape b.0.1) (λ more. Some (b.0.0, more)) gaps b.2 in
     let t = gap_takes g line b.0 w b.1 in
     let u = gaps_take shape b.0.1 c.0 (behind_within line (symbols_in (gap_atoms g b.0.0)) b.0.1 w t.0) c.1 in
-    let e = some_is (b.0.0, c.0) gaps c.2 in
-    (t.0 ∙ ap (λ (r : List Symbol). symbols_in (gap_atoms g b.0.0) ++ r) u.0 ∙ sym (symbols_appended (gap_atoms g b.0.0) (atoms_of shape c.0))
-    ∙ ap (λ (y : Held g × Gaps shape). symbols_in (gap_atoms g y.0 ++ atoms_of shape y.1)) e,
-    ap (λ (y : Held g × Gaps shape). fits g y.0 && gaps_fit shape y.1) (sym e) ∙ (let v : (fits g b.0.0 && gaps_fit shape c.0) ≡ true = rw (t.1, u.1) refl in v))
+    let e = some_is (b.0.0, c.0) gaps c.2 in (
+      t.0 ∙ ap (λ (r : List Symbol). symbols_in (gap_atoms g b.0.0) ++ r) u.0 ∙ sym (symbols_appended (gap_atoms g b.0.0) (atoms_of shape c.0))
+          ∙ ap (λ (y : Held g × Gaps shape). symbols_in (gap_atoms g y.0 ++ atoms_of shape y.1)) e,
+      ap (λ (y : Held g × Gaps shape). fits g y.0 && gaps_fit shape y.1) (sym e) ∙ (let v : (fits g b.0.0 && gaps_fit shape c.0) ≡ true = rw (t.1, u.1) refl in v),
+    )
