@@ -10,3 +10,5 @@ pub mod Lexed
 pub mod LineAgain
 pub mod NoteAgain
 pub mod Takes
+pub mod ItemTakes
+pub mod LineTakes

@@ -191,11 +191,11 @@ array_takes line x w h =
       ap (nat_lt 0) (sym n) ∙ e2.1,
     )
 
-word_is : (text : List ℕ) (line : List Symbol) → is_word text line ≡ true → line ≡ Word text ∷ behind line
+pub word_is : (text : List ℕ) (line : List Symbol) → is_word text line ≡ true → line ≡ Word text ∷ behind line
 word_is text (Word found ∷ rest) h = ap (λ (t : List ℕ). Word t ∷ rest) (same_bytes found text h)
 word_is text _ h = absurd cc
 
-mark_is : (byte : ℕ) (line : List Symbol) → is_mark byte line ≡ true → line ≡ Mark byte ∷ behind line
+pub mark_is : (byte : ℕ) (line : List Symbol) → is_mark byte line ≡ true → line ≡ Mark byte ∷ behind line
 mark_is byte (Mark found ∷ rest) h = ap (λ (b : ℕ). Mark b ∷ rest) (eqb-true found byte h)
 mark_is byte _ h = absurd cc
 
@@ -219,7 +219,7 @@ result_takes line x h =
           word_is (codes "void") line t.0 ∙ ap (λ (y : ResultType × List Symbol). Word (result_word y.0) ∷ y.1) t.1
     ]
 
-pick : {A : Type 0} (b : Bool) (a : A) (rest : Option A) (p : A) → cond b (Some a) rest ≡ Some p → ((b ≡ true) × (a ≡ p)) ⊎ (rest ≡ Some p)
+pub pick : {A : Type 0} (b : Bool) (a : A) (rest : Option A) (p : A) → cond b (Some a) rest ≡ Some p → ((b ≡ true) × (a ≡ p)) ⊎ (rest ≡ Some p)
 pick true a rest p h = inl (refl, cc)
 pick false a rest p h = inr h
 

@@ -3,7 +3,9 @@ use Rattle.std.specs.Prelude.{◌≡◌, ℕ, true, List, ◌∷◌, ◌++◌, O
 use Rattle.std.specs.List.{list_all}
 use Rattle.ir_annotation.specs.Lines.{annotation_of}
 use Rattle.ir_item.specs.declared.item.Item.{Item}
+use Rattle.ir_item.specs.declared.symbol.Symbol.{Symbol}
 use Rattle.ir_item.specs.Symbols.{is_within_limits}
+use Rattle.ir_item.specs.Grammar.{item_in}
 use Rattle.ir_item.specs.Lines.{annotation_line, line_of}
 use Rattle.ir_item.specs.Spelling.{spaces, text_of, symbols_in, item_atoms}
 use Rattle.ir_lex.specs.Words.{words_text, are_words}
@@ -18,3 +20,8 @@ ItemsAreReadBack = (at k : ℕ) (i : Item) → item_fits at i ≡ true → are_s
 -- and words behind ;! say the annotation that they make
 abbrev pub WordsAreReadBack : Type 0
 WordsAreReadBack = (at k : ℕ) (words : List (List ℕ)) → are_words words ≡ true → line_of at (spaces k ++ (59 ∷ 33 ∷ words_text words)) ≡ annotation_line (annotation_of words at)
+
+-- Symbols within the limits that say an item are its spelling, and the item is one that a line of this number can say.
+abbrev pub SymbolsSpellTheirItem : Type 0
+SymbolsSpellTheirItem = (at : ℕ) (line : List Symbol) (i : Item) → list_all is_within_limits line ≡ true → item_in at line ≡ Some i
+    → (line ≡ symbols_in (item_atoms i)) × (item_fits at i ≡ true)

@@ -1,4 +1,5 @@
 use Rattle.ir_item.proofs.LineAgain.{line_again}
+use Rattle.ir_item.proofs.LineTakes.{item_takes}
 use Rattle.ir_item.proofs.NoteAgain.{note_again}
 use Rattle.ir_item.proofs.laws.lines_are_read_back.Goals as goal
 
@@ -7,3 +8,6 @@ returns-clause-items c = line_again
 
 pub returns-clause-words : goal.returns-clause-words
 returns-clause-words c = note_again
+
+pub returns-clause-spelled : goal.returns-clause-spelled
+returns-clause-spelled c = item_takes
