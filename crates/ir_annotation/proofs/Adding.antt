@@ -55,7 +55,7 @@ signed_here b cut h =
       | inr e ↦ subst (λ (v : ℕ). onto_cut v cut ≡ signed_at v cut) (sym (eqb-true b 45 e)) refl
     ]
 
-plain_here : (b : ℕ) (cut : Cut) → is_no_sign b ≡ true → onto_cut b cut ≡ record { first = b ∷ cut.first; rest = cut.rest }
+pub plain_here : (b : ℕ) (cut : Cut) → is_no_sign b ≡ true → onto_cut b cut ≡ record { first = b ∷ cut.first; rest = cut.rest }
 plain_here b cut h = let n = neither (eqb b 43) (eqb b 45) h in rw (n.0, n.1) refl
 
 pub cut_of-at : (text : List ℕ) → cut_of text ≡ cut_at text (prefix_len is_no_sign text)

@@ -48,7 +48,7 @@ numeral_digits (b ∷ bs) h =
     lone b [] e h = subst (λ (c : ℕ). all_ascii_digits (c ∷ []) ≡ true) (sym e) refl
     lone b (c ∷ bs) e h = absurd (omega arith)
 
-own : IsNumeralModel (λ ds. all_ascii_digits ds ≡ true) (digits_value 10)
+pub own : IsNumeralModel (λ ds. all_ascii_digits ds ≡ true) (digits_value 10)
 own = numerals_by_value _ tells_all_ascii_digits
 
 pub numeral_utf8 : (word : List ℕ) → is_numeral word ≡ true → IsUtf8 word

@@ -1,2 +1,4 @@
 pub mod Adding
+pub mod Again
+pub mod AgainTerms
 pub mod Digits

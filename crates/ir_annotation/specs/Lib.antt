@@ -1,4 +1,5 @@
 pub mod Bounds
+pub mod Canonical
 pub mod Forms
 pub mod Keywords
 pub mod Limits

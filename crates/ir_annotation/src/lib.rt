@@ -7,6 +7,7 @@
 mod fault;
 mod forms;
 mod keywords;
+pub mod laws;
 mod limits;
 mod lines;
 mod meaning;
