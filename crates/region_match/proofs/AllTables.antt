@@ -1,19 +1,18 @@
 -- The tables of all functions.
-use Rattle.std.proofs.Common.{◌≡◌, ◌⊎◌, ℕ, ◌+◌, ◌<◌, ◌≤◌, List, [], ◌∷◌, ◌++◌, zero, suc, length, map, take, get_or, Option, Some, None, inl, inr, refl, sym, ap, subst, ⊎_elim, ◌∙◌, arith, take_all}
-use Rattle.std.specs.List.{All, Any}
+use Rattle.std.proofs.Common.{◌≡◌, ℕ, ◌+◌, ◌<◌, ◌≤◌, List, [], ◌∷◌, ◌++◌, zero, suc, length, map, take, get_or, Option, None, refl, sym, ap, subst, ⊎_elim, ◌∙◌, arith, take_all}
+use Rattle.std.specs.List.{Any}
 use Rattle.std.proofs.lemmas.List.{take_more, get_or-map, length-map}
 use Rattle.program.specs.declared.function.Function.{Function}
 use Rattle.program.specs.declared.function.Program.{Program}
 use Rattle.cfg.specs.declared.structure.FunctionGraph.{FunctionGraph}
 use Rattle.cfg.specs.declared.refusal.Broken.{Broken}
-use Rattle.cfg.specs.Edges.{graph_of, graphs_of}
+use Rattle.cfg.specs.Edges.{graph_of}
 use Rattle.cfg.specs.Faults.{IsLowerOf, IsJudged}
 use Rattle.cfg.proofs.Judging.{judged_lower, judged_same, Any-append_left, Any-push_cases}
 use Rattle.std.proofs.lemmas.List.Quantifiers.{Any-push}
 use Rattle.region_match.specs.declared.tables.FunctionTasks.{FunctionTasks}
 use Rattle.region_match.specs.Tasks.{AreTasks, AreAllTasks}
 use Rattle.region_match.specs.Mixed.{IsMixedIn, IsMixed}
-use Rattle.region_match.specs.ByLabel.{IsNamed}
 
 pub all_push : (graphs : List FunctionGraph) (tables : List FunctionTasks) (graph : FunctionGraph) (table : FunctionTasks) → AreAllTasks graphs tables → AreTasks graph.blocks table.tasks → AreAllTasks (graphs ++ graph ∷ []) (tables ++ table ∷ [])
 all_push [] [] graph table all one = (one, tt)

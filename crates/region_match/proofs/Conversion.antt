@@ -1,7 +1,5 @@
 -- Between labels and tasks.
-use Rattle.std.proofs.Common.{◌≡◌, ◌≢◌, ◌⊎◌, ◌↔◌, ℕ, ◌<◌, ◌≤◌, Bool, true, false, List, [], ◌∷◌, suc, length, Option, Some, None, inl, inr, refl, sym, ap, subst, ⊎_elim, ◌∙◌, arith}
-use Rattle.std.specs.Prelude.{slice_get}
-use Rattle.std.specs.List.{Any}
+use Rattle.std.proofs.Common.{◌≡◌, ◌≢◌, ℕ, ◌<◌, true, List, [], ◌∷◌, suc, length, Option, Some, None, inl, inr, refl, sym, ap, subst, ⊎_elim, ◌∙◌, arith}
 use Rattle.std.proofs.lemmas.Option.{slice_get_within}
 use Rattle.linear.specs.declared.form.RegisterId.{RegisterId}
 use Rattle.program.specs.declared.identifier.BlockId.{BlockId}
@@ -12,12 +10,11 @@ use Rattle.program.specs.declared.instruction.Terminator.TheVariants.{Jump, Bran
 use Rattle.program.specs.declared.function.Block.{Block}
 use Rattle.cfg.specs.declared.structure.BlockEdges.{BlockEdges}
 use Rattle.cfg.specs.declared.refusal.Broken.{Broken}
-use Rattle.cfg.specs.Paths.{Leg, IsPath}
 use Rattle.region_match.specs.declared.task.Task.{Task}
 use Rattle.region_match.specs.declared.task.Task.TheVariants.{Unreached, Body, Child}
 use Rattle.region_match.specs.Tasks.{task_on, innermost, task_at, HasTask, AreTasks}
 use Rattle.region_match.specs.Labels.{is_seen}
-use Rattle.region_match.specs.Rules.{ending_at, IsDetach, Starts, IsStarted, IsStray, IsElsewhere, IsForeign, IsInside, IsEndingWrong, IsEndingBroken, IsPendingBroken}
+use Rattle.region_match.specs.Rules.{IsStray, IsElsewhere, IsForeign, IsInside, IsEndingWrong, IsEndingBroken, IsPendingBroken}
 use Rattle.region_match.specs.ByLabel.{IsStrayBy, IsElsewhereBy, IsForeignBy, IsInsideBy, IsEndingWrongBy, IsEndingBrokenBy, IsPendingBrokenBy}
 use Rattle.region_match.proofs.OneTask.{one_task, start_within, no_task, IsClear}
 

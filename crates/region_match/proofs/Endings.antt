@@ -1,14 +1,13 @@
 -- What a terminator breaks.
-use Rattle.std.proofs.Common.{◌≡◌, ◌⊎◌, ℕ, ◌<◌, ◌≤◌, List, Option, Some, None, inl, inr, refl, sym, subst, ⊎_elim, ◌∙◌, arith}
+use Rattle.std.proofs.Common.{◌≡◌, ◌⊎◌, ℕ, List, Option, Some, None, inr, refl, sym, subst, ⊎_elim, arith}
 use Rattle.linear.specs.declared.form.RegisterId.{RegisterId}
 use Rattle.program.specs.declared.identifier.BlockId.{BlockId}
 use Rattle.program.specs.declared.instruction.Ending.{Ending}
 use Rattle.program.specs.declared.instruction.Terminator.{Terminator}
-use Rattle.program.specs.declared.instruction.Terminator.TheVariants.{Detach, Reattach, Sync}
 use Rattle.program.specs.declared.function.Block.{Block}
 use Rattle.cfg.specs.declared.refusal.Broken.{Broken}
 use Rattle.region_match.specs.declared.task.Task.{Task}
-use Rattle.region_match.specs.declared.task.Task.TheVariants.{Unreached, Body, Child}
+use Rattle.region_match.specs.declared.task.Task.TheVariants.{Child}
 use Rattle.region_match.specs.Rules.{ending_at, IsDetach}
 use Rattle.region_match.specs.ByLabel.{IsNamed, IsStrayBy, IsElsewhereBy, IsForeignBy, IsEndingWrongBy, IsEndingBrokenBy}
 use Rattle.region_match.proofs.Lists.{named_one, named_same}
@@ -26,10 +25,13 @@ reattach_elsewhere bodies task detach region continuation line is within other =
     (λ b p. (p.0, ⊎_elim (λ k. absurd (not_stray bodies task detach region is within k.1)) (λ k. omega (arith, k.0)) p.1))
 
 pub reattach_right : (bodies : List Block) (task : Task) (detach : BlockId) (region : RegisterId) (continuation : BlockId) (line : ℕ) → task ≡ Child detach → (k : BlockId) × IsDetach (ending_at bodies detach.0) region k → (r : RegisterId) × IsDetach (ending_at bodies detach.0) r continuation → IsNamed (λ broken. (broken.line ≡ line) × (((broken.number ≡ 301) × IsStrayBy bodies task region) ⊎ ((broken.number ≡ 302) × IsElsewhereBy bodies task continuation))) None
-reattach_right bodies task detach region continuation line is within before = (tt, λ b p. ⊎_elim
-    (λ k. not_stray bodies task detach region is within k.1)
-    (λ k. let here : IsElsewhereBy bodies (Child detach) continuation = subst (λ t. IsElsewhereBy bodies t continuation) is k.1 in here before.0 before.1)
-    p.1)
+reattach_right bodies task detach region continuation line is within before = (
+  tt,
+  λ b p. ⊎_elim
+      (λ k. not_stray bodies task detach region is within k.1)
+      (λ k. let here : IsElsewhereBy bodies (Child detach) continuation = subst (λ t. IsElsewhereBy bodies t continuation) is k.1 in here before.0 before.1)
+      p.1,
+)
 
 -- a known terminator
 pub ending_known : (bodies : List Block) (tasks : List Task) (task : Task) (opt : Option Ending) (ending : Ending) (terminator : Terminator) (r : Option Broken) → opt ≡ Some ending → ending.terminator ≡ terminator → IsNamed (λ broken. (broken.line ≡ ending.line) × IsEndingWrongBy bodies tasks task terminator broken.number) r → IsNamed (IsEndingBrokenBy bodies tasks task opt) r

@@ -1,5 +1,5 @@
 -- What is named of a function.
-use Rattle.std.proofs.Common.{◌≡◌, ◌⊎◌, ℕ, ◌<◌, ◌≤◌, List, length, Option, sym, ap, subst, ◌∙◌}
+use Rattle.std.proofs.Common.{◌≡◌, ◌⊎◌, ℕ, ◌≤◌, List, length, Option, sym, ap, subst, ◌∙◌}
 use Rattle.program.specs.declared.function.Block.{Block}
 use Rattle.program.specs.declared.function.Function.{Function}
 use Rattle.cfg.specs.declared.structure.BlockEdges.{BlockEdges}

@@ -1,14 +1,10 @@
 -- Lists, judged element by element.
-use Rattle.std.proofs.Common.{◌≡◌, ◌⊎◌, ℕ, ◌+◌, ◌<◌, ◌≤◌, List, length, get_or, take, Option, Some, None, inl, inr, refl, sym, ap, subst, ⊎_elim, ◌∙◌, arith, take_all}
-use Rattle.std.specs.Prelude.{slice_get}
+use Rattle.std.proofs.Common.{◌≡◌, ◌⊎◌, ℕ, ◌+◌, ◌<◌, ◌≤◌, List, length, get_or, take, Option, Some, None, sym, subst, arith, take_all}
 use Rattle.std.specs.List.{All, Any}
-use Rattle.std.proofs.lemmas.Bool.{cases_eq}
 use Rattle.std.proofs.lemmas.List.{take_more}
-use Rattle.std.proofs.lemmas.List.Elements.{All-nil, All-push}
-use Rattle.std.proofs.lemmas.Option.{slice_get-get_or, slice_get_within}
-use Rattle.program.specs.declared.function.Block.{Block}
+use Rattle.std.proofs.lemmas.List.Elements.{All-push}
 use Rattle.cfg.specs.declared.refusal.Broken.{Broken}
-use Rattle.cfg.specs.Faults.{IsLowerOf, IsJudged}
+use Rattle.cfg.specs.Faults.{IsLowerOf}
 use Rattle.cfg.proofs.Judging.{judged_lower, judged_same, judged_next}
 use Rattle.region_match.specs.ByLabel.{IsNamed}
 

@@ -1,6 +1,6 @@
 -- Blocks that two paths give different tasks.
-use Rattle.std.proofs.Common.{◌≡◌, ◌≢◌, ◌⊎◌, ◌↔◌, ℕ, ◌+◌, ◌<◌, ◌≤◌, Bool, true, false, List, [], ◌∷◌, ◌++◌, zero, suc, length, get_or, inl, inr, refl, sym, ap, subst, ◌∙◌, ⊎_elim, arith}
-use Rattle.std.specs.List.{Any, Contains}
+use Rattle.std.proofs.Common.{◌≡◌, ◌≢◌, ◌⊎◌, ◌↔◌, ℕ, ◌<◌, Bool, true, false, List, [], ◌∷◌, ◌++◌, zero, suc, length, get_or, inl, inr, refl, sym, ap, subst, ◌∙◌, ⊎_elim, arith}
+use Rattle.std.specs.List.{Contains}
 use Rattle.std.proofs.lemmas.Bool.{cases_eq, cases_Bool, true≢false}
 use Rattle.std.proofs.lemmas.List.Elements.{All-contains}
 use Rattle.program.specs.declared.identifier.BlockId.{BlockId}
@@ -12,8 +12,8 @@ use Rattle.cfg.specs.Paths.{edges_of, Leg, IsPath, Avoids, IsReached}
 use Rattle.region_match.specs.declared.task.Task.{Task}
 use Rattle.region_match.specs.declared.task.Task.TheVariants.{Unreached, Body, Child}
 use Rattle.region_match.specs.Tasks.{task_along, task_on, innermost, task_at, HasTwoTasks, IsInnermostAt}
-use Rattle.region_match.specs.Labels.{next_task, is_seen, IsLabelled, IsClash, HasClash}
-use Rattle.region_match.proofs.Labelling.{next_innermost, seen_within}
+use Rattle.region_match.specs.Labels.{next_task, is_seen, IsLabelled, HasClash}
+use Rattle.region_match.proofs.Labelling.{next_innermost}
 
 -- ---- paths put together
 

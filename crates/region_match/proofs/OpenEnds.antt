@@ -1,6 +1,5 @@
 -- The ends of tasks that a detach is open at.
-use Rattle.std.proofs.Common.{◌≡◌, ◌≢◌, ◌⊎◌, ◌↔◌, ℕ, ◌+◌, ◌<◌, ◌≤◌, Bool, true, false, IsTrue, List, length, Option, Some, None, inl, inr, refl, sym, ap, subst, ⊎_elim, ◌∙◌, arith}
-use Rattle.std.specs.Prelude.{slice_get}
+use Rattle.std.proofs.Common.{◌≡◌, ◌↔◌, ℕ, ◌+◌, ◌<◌, ◌≤◌, Bool, true, IsTrue, List, length, Option, Some, None, inl, inr, sym, ap, subst, ⊎_elim, ◌∙◌, arith}
 use Rattle.std.proofs.lemmas.Bool.{cases_eq, cases_lt}
 use Rattle.std.proofs.lemmas.Option.{slice_get_past}
 use Rattle.linear.specs.declared.form.RegisterId.{RegisterId}
@@ -32,9 +31,9 @@ detach_within bodies d r k h =
     ⊎_elim
     (λ l. l)
     (λ g.
-        let none : ending_at bodies d ≡ None = ap ending_of (slice_get_past bodies d g) in
-        let e : None ≡ Some (Detach r h.0 k) = sym none ∙ h.1 in
-        absurd cc)
+    let none : ending_at bodies d ≡ None = ap ending_of (slice_get_past bodies d g) in
+    let e : None ≡ Some (Detach r h.0 k) = sym none ∙ h.1 in
+    absurd cc)
     (cases_lt d (length bodies))
 
 module _ (bodies : List Block) (blocks : List BlockEdges) (tasks : List Task) (t : AreTasks blocks tasks) (size : length blocks ≡ length bodies) where
@@ -103,9 +102,9 @@ pub open_all : (bodies : List Block) (blocks : List BlockEdges) (n : ℕ) (r : O
 open_all bodies blocks n r past j = named_same _ _ r
     (λ x p. (p.2.0, p.2.1, p.2.2, p.2.3, p.2.4, p.2.5, p.2.6, p.2.7, p.0, p.2.8))
     (λ x p.
-        let o : IsOpen bodies blocks p.8 p.0 = p.9 in
-        let w = detach_within bodies p.8 o.region o.continuation o.is_detach in
-        (p.8, omega (arith, w, past), (p.0, p.1, p.2, p.3, p.4, p.5, p.6, p.7, o)))
+    let o : IsOpen bodies blocks p.8 p.0 = p.9 in
+    let w = detach_within bodies p.8 o.region o.continuation o.is_detach in
+    (p.8, omega (arith, w, past), (p.0, p.1, p.2, p.3, p.4, p.5, p.6, p.7, o)))
     j
 
 -- a block that does not end with a detach

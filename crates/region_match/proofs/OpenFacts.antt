@@ -1,14 +1,12 @@
 -- Detaches that no sync follows.
-use Rattle.std.proofs.Common.{◌≡◌, ◌≢◌, ◌⊎◌, ◌↔◌, ℕ, ◌+◌, ◌<◌, ◌≤◌, Bool, true, false, IsTrue, List, [], ◌∷◌, ◌++◌, length, get_or, Option, Some, None, inl, inr, refl, sym, ap, subst, ⊎_elim, ◌∙◌, arith}
-use Rattle.std.specs.Prelude.{slice_get}
-use Rattle.std.proofs.lemmas.Bool.{cases_Bool, cases_eq, true≢false, false≢true}
+use Rattle.std.proofs.Common.{◌≡◌, ◌↔◌, ℕ, ◌+◌, ◌<◌, Bool, true, false, IsTrue, List, [], ◌∷◌, ◌++◌, length, get_or, refl, sym, subst, ⊎_elim, ◌∙◌, arith}
+use Rattle.std.proofs.lemmas.Bool.{cases_Bool, cases_eq, true≢false}
 use Rattle.std.proofs.lemmas.List.{length_push, get_or_append_left, get_or_push}
 use Rattle.linear.specs.declared.form.RegisterId.{RegisterId}
 use Rattle.program.specs.declared.identifier.BlockId.{BlockId}
-use Rattle.program.specs.declared.instruction.Ending.{Ending}
 use Rattle.program.specs.declared.function.Block.{Block}
 use Rattle.cfg.specs.declared.structure.BlockEdges.{BlockEdges}
-use Rattle.cfg.specs.Paths.{Leg, IsPath, Avoids, IsReached, edges_of}
+use Rattle.cfg.specs.Paths.{Leg, IsPath, Avoids, IsReached}
 use Rattle.region_match.specs.Rules.{ending_at, IsSync, IsUnsynced}
 use Rattle.region_match.proofs.OneTask.{start_within, edges_within}
 
@@ -25,12 +23,12 @@ SyncMarks-next bodies region n marks mark s at = record {
   size = omega (arith, length_push marks mark, s.size);
   exact = λ b l. ⊎_elim
       (λ same.
-          let read : get_or (marks ++ mark ∷ []) b false ≡ mark = get_or_push marks mark false b (s.size ∙ sym same) in
-          (λ h. rw same (at.0 (sym read ∙ h)), λ k. read ∙ at.1 (rw (← same) k)))
+      let read : get_or (marks ++ mark ∷ []) b false ≡ mark = get_or_push marks mark false b (s.size ∙ sym same) in
+      (λ h. rw same (at.0 (sym read ∙ h)), λ k. read ∙ at.1 (rw (← same) k)))
       (λ other.
-          let w : b < n = omega (arith, l, other) in
-          let read : get_or (marks ++ mark ∷ []) b false ≡ get_or marks b false = get_or_append_left marks (mark ∷ []) false b (omega (arith, w, s.size)) in
-          (λ h. (s.exact b w).0 (sym read ∙ h), λ k. read ∙ (s.exact b w).1 k))
+      let w : b < n = omega (arith, l, other) in
+      let read : get_or (marks ++ mark ∷ []) b false ≡ get_or marks b false = get_or_append_left marks (mark ∷ []) false b (omega (arith, w, s.size)) in
+      (λ h. (s.exact b w).0 (sym read ∙ h), λ k. read ∙ (s.exact b w).1 k))
       (cases_eq b n);
 }
 

@@ -1,6 +1,6 @@
 -- What stands where it may not.
-use Rattle.std.proofs.Common.{◌≡◌, ◌≢◌, ◌⊎◌, ◌↔◌, ℕ, ◌+◌, ◌<◌, ◌≤◌, Bool, true, false, not, IsTrue, List, [], ◌∷◌, zero, suc, length, get_or, take, Option, Some, None, inl, inr, refl, sym, ap, subst, ⊎_elim, ◌∙◌, arith}
-use Rattle.std.specs.List.{Any, list_any}
+use Rattle.std.proofs.Common.{◌≡◌, ◌≢◌, ◌⊎◌, ◌↔◌, ℕ, ◌+◌, ◌<◌, ◌≤◌, Bool, true, false, not, IsTrue, List, [], ◌∷◌, zero, suc, length, Option, inl, inr, refl, sym, ⊎_elim, ◌∙◌, arith}
+use Rattle.std.specs.List.{Any}
 use Rattle.std.proofs.lemmas.Bool.{cases_Bool, cases_eq, cases_lt, true≢false, false≢true}
 use Rattle.linear.specs.declared.form.RegisterId.{RegisterId}
 use Rattle.program.specs.declared.annotation.Zone.{Zone}
@@ -14,7 +14,7 @@ use Rattle.cfg.specs.declared.structure.Edge.{Edge}
 use Rattle.cfg.specs.declared.structure.BlockEdges.{BlockEdges}
 use Rattle.cfg.specs.declared.refusal.Broken.{Broken}
 use Rattle.cfg.specs.Paths.{edges_of}
-use Rattle.cfg.specs.Rules.{leads_to, IsPredecessor}
+use Rattle.cfg.specs.Rules.{IsPredecessor}
 use Rattle.region_match.specs.Rules.{IsEntered, IsShared, IsStartBroken, IsPhiBroken, IsFootBroken, IsLabelBroken}
 use Rattle.region_match.specs.ByLabel.{IsNamed}
 use Rattle.region_match.proofs.Lists.{named_same}
@@ -79,8 +79,8 @@ pub starts_named : (blocks : List BlockEdges) (b : ℕ) (steps : List Step) (wro
 starts_named blocks b steps wrong detached r at entered j = named_same _ _ r
     (λ x any. let w = at.0 any.4.0 in (w.0, λ e. true≢false (sym (entered.1 e) ∙ w.1), (any.0, any.1, any.2, any.3, (any.4.1, any.4.2, any.4.3, any.4.4))))
     (λ x p.
-        let off : detached ≡ false = ⊎_elim (λ on. absurd (p.1 (entered.0 on))) (λ e. e) (cases_Bool detached) in
-        (p.2.0, p.2.1, p.2.2, p.2.3, (at.1 (p.0, off), p.2.4.0, p.2.4.1, p.2.4.2, p.2.4.3)))
+    let off : detached ≡ false = ⊎_elim (λ on. absurd (p.1 (entered.0 on))) (λ e. e) (cases_Bool detached) in
+    (p.2.0, p.2.1, p.2.2, p.2.3, (at.1 (p.0, off), p.2.4.0, p.2.4.1, p.2.4.2, p.2.4.3)))
     j
 
 pub phis_named : (blocks : List BlockEdges) (b : ℕ) (phis : List Phi) (wrong detached continued : Bool) (r : Option Broken) → IsTrue wrong ↔ (IsTrue detached ⊎ IsTrue continued) → IsTrue detached ↔ IsEntered blocks b Detached → IsTrue continued ↔ IsEntered blocks b Continued → IsNamed (ArePhisWrong wrong phis) r → IsNamed (IsPhiBroken blocks b phis) r
@@ -93,9 +93,9 @@ pub foot_named : (blocks : List BlockEdges) (b : ℕ) (foot : List Zone) (detach
 foot_named blocks b foot detached r d j = named_same _ _ r
     (λ x any. (λ e. let on : detached ≡ true = d.1 e in let wrong : not detached ≡ true = any.4.0 in false≢true (rw on at wrong), (any.0, any.1, any.2, any.3, (any.4.1, any.4.2))))
     (λ x p.
-        let off : detached ≡ false = ⊎_elim (λ on. absurd (p.0 (d.0 on))) (λ e. e) (cases_Bool detached) in
-        let wrong : not detached ≡ true = rw off refl in
-        (p.1.0, p.1.1, p.1.2, p.1.3, (wrong, p.1.4.0, p.1.4.1)))
+    let off : detached ≡ false = ⊎_elim (λ on. absurd (p.0 (d.0 on))) (λ e. e) (cases_Bool detached) in
+    let wrong : not detached ≡ true = rw off refl in
+    (p.1.0, p.1.1, p.1.2, p.1.3, (wrong, p.1.4.0, p.1.4.1)))
     j
 
 pub label_named : (blocks : List BlockEdges) (b : ℕ) (block : Block) (shared : Bool) (r : Option Broken) → IsTrue shared ↔ IsShared blocks b → IsNamed (λ x. (IsTrue shared) × (x.number ≡ 307) × (x.line ≡ block.line)) r → IsNamed (IsLabelBroken blocks b block) r

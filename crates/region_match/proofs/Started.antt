@@ -1,5 +1,5 @@
 -- The blocks that start a region, one by one.
-use Rattle.std.proofs.Common.{◌≡◌, ◌⊎◌, ℕ, ◌+◌, ◌<◌, ◌≤◌, List, length, get_or, Option, Some, None, sym, ap, ⊎_elim, ◌∙◌, arith}
+use Rattle.std.proofs.Common.{◌≡◌, ℕ, ◌+◌, ◌<◌, ◌≤◌, List, length, get_or, Some, sym, ap, ⊎_elim, ◌∙◌, arith}
 use Rattle.std.specs.Prelude.{slice_get}
 use Rattle.std.proofs.lemmas.Bool.{cases_eq}
 use Rattle.std.proofs.lemmas.Option.{slice_get-get_or, slice_get_within}
@@ -24,8 +24,8 @@ pub not_started_more : (bodies : List Block) (tasks : List Task) (region : Regis
 not_started_more bodies tasks region task i block l is before here b x w h starts t =
     ⊎_elim
     (λ same.
-        let e : x ≡ block = same_block bodies i x block (rw (← same) h) (block_read bodies i block l is) in
-        here (rw (← e) starts) (rw (← same) t))
+    let e : x ≡ block = same_block bodies i x block (rw (← same) h) (block_read bodies i block l is) in
+    here (rw (← e) starts) (rw (← same) t))
     (λ other. before b x (omega (arith, w, other)) h starts t)
     (cases_eq b i)
 

@@ -1,5 +1,5 @@
 -- The blocks of a function, judged one by one.
-use Rattle.std.proofs.Common.{◌≡◌, ◌⊎◌, ℕ, ◌+◌, ◌<◌, ◌≤◌, List, length, get_or, Option, Some, None, inl, inr, sym, ap, ⊎_elim, ◌∙◌, arith}
+use Rattle.std.proofs.Common.{◌≡◌, ℕ, ◌+◌, ◌<◌, ◌≤◌, List, length, get_or, Option, Some, None, inl, inr, ⊎_elim, arith}
 use Rattle.std.specs.Prelude.{slice_get}
 use Rattle.std.proofs.lemmas.Bool.{cases_eq}
 use Rattle.std.proofs.lemmas.Option.{slice_get_within}
@@ -27,9 +27,9 @@ below_next Bad bodies i block named broken r l is before here lower =
     named_same _ _ r
     (λ x p. ⊎_elim (λ old. (old.0, old.1, omega (arith, old.2), old.3, old.4)) (λ new. (i, block, omega arith, read, new)) p)
     (λ x p. ⊎_elim
-        (λ same. let h = rw same at p.3 in let e : p.1 ≡ block = same_block bodies i p.1 block h read in inr (rw (← e, ← same) p.4))
-        (λ other. inl (p.0, p.1, omega (arith, p.2, other), p.3, p.4))
-        (cases_eq p.0 i))
+    (λ same. let h = rw same at p.3 in let e : p.1 ≡ block = same_block bodies i p.1 block h read in inr (rw (← e, ← same) p.4))
+    (λ other. inl (p.0, p.1, omega (arith, p.2, other), p.3, p.4))
+    (cases_eq p.0 i))
     (named_both (Below Bad bodies i) (Bad i block) named broken r before here lower)
 
 pub below_all : (Bad : ℕ → Block → Broken → Type 0) (bodies : List Block) (n : ℕ) (r : Option Broken) → length bodies ≤ n → IsNamed (Below Bad bodies n) r → IsNamed (Within Bad bodies) r

@@ -11,14 +11,11 @@ use Rattle.program.specs.declared.instruction.Ending.{Ending}
 use Rattle.program.specs.declared.instruction.Terminator.{Terminator}
 use Rattle.program.specs.declared.instruction.Terminator.TheVariants.{Jump, Branch, Switch, Return, Detach, Reattach, Sync}
 use Rattle.program.specs.declared.function.Block.{Block}
-use Rattle.program.specs.declared.function.Function.{Function}
-use Rattle.program.specs.declared.function.Program.{Program}
 use Rattle.cfg.specs.declared.structure.Way.{Way}
 use Rattle.cfg.specs.declared.structure.Way.TheVariants.{Detached, Continued}
 use Rattle.cfg.specs.declared.structure.BlockEdges.{BlockEdges}
 use Rattle.cfg.specs.declared.refusal.Broken.{Broken}
-use Rattle.cfg.specs.Edges.{graph_of}
-use Rattle.cfg.specs.Paths.{edges_of, Leg, IsPath, Avoids}
+use Rattle.cfg.specs.Paths.{edges_of, Leg, IsPath}
 use Rattle.cfg.specs.Rules.{IsPredecessor}
 use Rattle.region_match.specs.Tasks.{HasTask}
 

@@ -92,9 +92,12 @@ fn is_detach_before(bodies: &[Block], block: BlockId, continuation: BlockId) -> 
     ensures { IsTrue result ↔ ((region : RegisterId) × IsDetach (ending_at bodies.now block.0) region continuation) }
 {
     match ending_of(bodies, block.0) {
-        Some(Terminator::Detach {
-            continuation: its, ..
-        }) => its.0 == continuation.0,
+        Some(
+            Terminator::Detach {
+                continuation: its,
+                ..
+            },
+        ) => its.0 == continuation.0,
         _ => false,
     }
 }

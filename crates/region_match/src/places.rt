@@ -156,14 +156,8 @@ pub fn place_fault(blocks: &[BlockEdges], index: usize, block: &Block) -> Option
 {
     let is_detached = is_entered(blocks, index, Way::Detached);
     let is_continued = is_entered(blocks, index, Way::Continued);
-    let at_starts = start_fault(
-        block.steps.as_slice(),
-        is_start_wrong(index, is_detached),
-    );
-    let at_phis = phi_fault(
-        block.phis.as_slice(),
-        is_either(is_detached, is_continued),
-    );
+    let at_starts = start_fault(block.steps.as_slice(), is_start_wrong(index, is_detached));
+    let at_phis = phi_fault(block.phis.as_slice(), is_either(is_detached, is_continued));
     let at_foot = foot_fault(block.foot.as_slice(), !is_detached);
     let at_label = named_at(is_shared(blocks, index), block.line);
     lower(lower(at_starts, at_phis), lower(at_foot, at_label))

@@ -30,21 +30,19 @@ fn detach_of(bodies: &[Block], block: usize) -> Option<(RegisterId, BlockId)>
     ensures { MatchOption result ((region : RegisterId) (continuation : BlockId) → IsDetach (ending_at bodies.now block) region continuation → ⊥) (λ d. IsDetach (ending_at bodies.now block) d.0 d.1) }
 {
     match ending_of(bodies, block) {
-        Some(Terminator::Detach {
-            region,
-            continuation,
-            ..
-        }) => Some((*region, *continuation)),
+        Some(
+            Terminator::Detach {
+                region,
+                continuation,
+                ..
+            },
+        ) => Some((*region, *continuation)),
         _ => None,
     }
 }
 
 /// Marks the blocks that end with a sync within a region.
-fn sync_marks(
-    alloc: Global,
-    bodies: &[Block],
-    region: RegisterId,
-) -> Result<Vec<bool>, AllocError>
+fn sync_marks(alloc: Global, bodies: &[Block], region: RegisterId) -> Result<Vec<bool>, AllocError>
     ensures size { IfOk result (λ marks. length marks.items ≡ length bodies.now) }
     ensures exact { IfOk result (λ marks. (b : ℕ) → b < length bodies.now → (slice_index_or marks.items b false ≡ true) ↔ IsSync (ending_at bodies.now b) region) }
 {

@@ -1,4 +1,4 @@
-use Rattle.std.proofs.Common.{◌≡◌, ◌<◌, length, ap, sym, ◌∙◌, arith}
+use Rattle.std.proofs.Common.{◌≡◌, ◌<◌, length, ap, arith}
 use Rattle.program.specs.declared.function.Function.{Function}
 use Rattle.cfg.specs.declared.refusal.Broken.{Broken}
 use Rattle.region_match.specs.Matched.{IsFunctionBroken}

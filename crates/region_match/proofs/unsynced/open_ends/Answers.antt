@@ -1,4 +1,4 @@
-use Rattle.std.proofs.Common.{◌≡◌, ◌↔◌, ◌<◌, false, true, length, get_or, IsTrue, sym, ◌∙◌, arith}
+use Rattle.std.proofs.Common.{◌≡◌, ◌↔◌, ◌<◌, false, length, get_or, IsTrue, sym, ◌∙◌, arith}
 use Rattle.std.proofs.lemmas.List.{get_or_read}
 use Rattle.region_match.specs.Rules.{IsOpen}
 use Rattle.region_match.proofs.OpenEnds.{OpenAt, open_iff, end_open, open_within}
