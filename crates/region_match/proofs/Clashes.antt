@@ -1,8 +1,8 @@
 -- The marks of clashes, edge by edge and block by block.
-use Rattle.std.proofs.Common.{◌≡◌, ◌≢◌, ◌⊎◌, ◌↔◌, ℕ, ◌+◌, ◌<◌, ◌≤◌, Bool, true, false, IsTrue, List, [], ◌∷◌, ◌++◌, zero, suc, length, take, get_or, set, inl, inr, refl, sym, ap, subst, ◌∙◌, ⊎_elim, arith, get_or-set_same, get_or-set_other, length-append, take_all}
+use Rattle.std.proofs.Common.{◌≡◌, ◌⊎◌, ◌↔◌, ℕ, ◌+◌, ◌<◌, ◌≤◌, Bool, true, false, List, [], ◌∷◌, ◌++◌, zero, suc, length, take, get_or, set, inl, inr, refl, sym, ap, ◌∙◌, ⊎_elim, arith, get_or-set_same, get_or-set_other, take_all}
 use Rattle.std.specs.List.{Any}
 use Rattle.std.proofs.lemmas.Bool.{cases_eq, cases_lt, true≢false}
-use Rattle.std.proofs.lemmas.List.{length-set, length_push, take_more, get_or_append_left, get_or_push}
+use Rattle.std.proofs.lemmas.List.{length-set, take_more}
 use Rattle.std.proofs.lemmas.List.Quantifiers.{Any-push}
 use Rattle.cfg.specs.declared.structure.Edge.{Edge}
 use Rattle.cfg.specs.declared.structure.BlockEdges.{BlockEdges}
@@ -10,7 +10,7 @@ use Rattle.cfg.specs.Paths.{edges_of}
 use Rattle.cfg.proofs.Judging.{Any-append_left, Any-push_cases}
 use Rattle.region_match.specs.declared.task.Task.{Task}
 use Rattle.region_match.specs.Tasks.{task_at}
-use Rattle.region_match.specs.Labels.{is_seen, next_task, IsClash, HasClash}
+use Rattle.region_match.specs.Labels.{is_seen, IsClash, HasClash}
 
 -- the edges so far
 pub record ClashMarks (from : ℕ) (edges : List Edge) (tasks : List Task) (marks marks' : List Bool) : Type 0 where

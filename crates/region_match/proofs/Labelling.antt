@@ -1,5 +1,5 @@
 -- The search for labels, as far as it has come.
-use Rattle.std.proofs.Common.{◌≡◌, ◌⊎◌, ℕ, ◌+◌, ◌<◌, true, false, not, cond, List, [], ◌∷◌, ◌++◌, zero, suc, length, get_or, set, take, replicate, count_by, inl, inr, refl, sym, ap, ◌∙◌, ◌≤◌, Bool, arith, get_or-set_same, get_or-set_other}
+use Rattle.std.proofs.Common.{◌≡◌, ◌⊎◌, ℕ, ◌+◌, ◌<◌, true, false, not, cond, List, [], ◌∷◌, ◌++◌, zero, suc, length, get_or, set, take, replicate, count_by, inl, inr, refl, sym, ap, ◌∙◌, Bool, arith, get_or-set_same, get_or-set_other}
 use Rattle.std.specs.List.{All, Contains}
 use Rattle.std.proofs.lemmas.Bool.{cases_eq, cases_lt, true≢false, false≢true}
 use Rattle.std.proofs.lemmas.List.{length-set, length_push, take_more, get_or_past, get_or_read, get_or-replicate, length-replicate}

@@ -1,4 +1,14 @@
+pub mod AllTables
 pub mod Clashes
+pub mod Conversion
+pub mod Endings
+pub mod FunctionFacts
 pub mod Labelling
+pub mod Lists
 pub mod Mixing
 pub mod OneTask
+pub mod OpenEnds
+pub mod OpenFacts
+pub mod PlaceFacts
+pub mod Started
+pub mod Sweeps

@@ -1,6 +1,6 @@
 -- Blocks that two paths give different tasks.
-use Rattle.std.proofs.Common.{◌≡◌, ◌≢◌, ◌⊎◌, ◌↔◌, ℕ, ◌+◌, ◌<◌, ◌≤◌, Bool, true, false, List, [], ◌∷◌, ◌++◌, zero, suc, length, get_or, inl, inr, refl, sym, ap, subst, ◌∙◌, ⊎_elim, arith}
-use Rattle.std.specs.List.{Any, Contains}
+use Rattle.std.proofs.Common.{◌≡◌, ◌≢◌, ◌⊎◌, ◌↔◌, ℕ, ◌<◌, Bool, true, false, List, [], ◌∷◌, ◌++◌, zero, suc, length, get_or, inl, inr, refl, sym, ap, subst, ◌∙◌, ⊎_elim, arith}
+use Rattle.std.specs.List.{Contains}
 use Rattle.std.proofs.lemmas.Bool.{cases_eq, cases_Bool, true≢false}
 use Rattle.std.proofs.lemmas.List.Elements.{All-contains}
 use Rattle.program.specs.declared.identifier.BlockId.{BlockId}
@@ -12,8 +12,8 @@ use Rattle.cfg.specs.Paths.{edges_of, Leg, IsPath, Avoids, IsReached}
 use Rattle.region_match.specs.declared.task.Task.{Task}
 use Rattle.region_match.specs.declared.task.Task.TheVariants.{Unreached, Body, Child}
 use Rattle.region_match.specs.Tasks.{task_along, task_on, innermost, task_at, HasTwoTasks, IsInnermostAt}
-use Rattle.region_match.specs.Labels.{next_task, is_seen, IsLabelled, IsClash, HasClash}
-use Rattle.region_match.proofs.Labelling.{next_innermost, seen_within}
+use Rattle.region_match.specs.Labels.{next_task, is_seen, IsLabelled, HasClash}
+use Rattle.region_match.proofs.Labelling.{next_innermost}
 
 -- ---- paths put together
 
@@ -32,7 +32,7 @@ pub still_different : (legs p q : List Leg) → task_on (legs ++ p) ≡ task_on 
 still_different [] p q e = e
 still_different (leg ∷ legs) p q e = still_different legs p q (along_same leg.edge.way leg.from (task_on (legs ++ p)) (task_on (legs ++ q)) e)
 
-edges_within : (blocks : List BlockEdges) (b : ℕ) (e : Edge) → Contains (edges_of blocks b) e → b < length blocks
+pub edges_within : (blocks : List BlockEdges) (b : ℕ) (e : Edge) → Contains (edges_of blocks b) e → b < length blocks
 edges_within [] b e c = absurd (omega (arith, c.1))
 edges_within (x ∷ xs) zero e c = omega arith
 edges_within (x ∷ xs) (suc b) e c = let w = edges_within xs b e c in omega (arith, w)
@@ -133,7 +133,7 @@ module _ (blocks : List BlockEdges) (tasks : List Task) (starts stops marks : Li
 -- ---- labels fix the whole task
 
 -- the labels of a block and of all that leads to it are those of each path
-pub IsClear : List BlockEdges → List Task → ℕ → Type 0
+abbrev pub IsClear : List BlockEdges → List Task → ℕ → Type 0
 IsClear blocks tasks b = (d : ℕ) (legs : List Leg) → IsPath blocks d legs b → IsInnermostAt blocks tasks d
 
 -- the part of a path that leads to the innermost detach, and the part behind it
@@ -166,12 +166,11 @@ no_task [] h = refl
 no_task (d ∷ ds) h = absurd cc
 
 clear_before : (blocks : List BlockEdges) (tasks : List Task) (b d : ℕ) (legs : List Leg) → IsClear blocks tasks b → IsPath blocks d legs b → IsClear blocks tasks d
-unfolding IsClear
 clear_before blocks tasks b d legs clear path e before p = clear e (legs ++ before) (joined blocks e d b legs before p path)
 
 -- the same label at two blocks is the same task
 pub one_task : (blocks : List BlockEdges) (tasks : List Task) → (n b c : ℕ) (p q : List Leg) → length p < n → IsClear blocks tasks b → IsClear blocks tasks c → IsPath blocks 0 p b → IsPath blocks 0 q c → innermost (task_on p) ≡ innermost (task_on q) → task_on p ≡ task_on q
-unfolding Part IsClear
+unfolding Part
 one_task blocks tasks zero b c p q l clear clear' path path' same = absurd (omega (arith, l))
 one_task blocks tasks (suc n) b c p q l clear clear' path path' same =
     elim (task_cases (task_on p)) [
@@ -187,7 +186,6 @@ one_task blocks tasks (suc n) b c p q l clear clear' path path' same =
 -- ---- the answer on all blocks
 
 pub marks_exact : (blocks : List BlockEdges) (tasks : List Task) (starts stops marks : List Bool) → IsLabelled blocks tasks → ((b : ℕ) → b < length blocks → (get_or starts b false ≡ true) ↔ HasClash blocks tasks b) → ((b : ℕ) → get_or stops b false ≡ false) → ((b : ℕ) → b < length blocks → (get_or marks b false ≡ true) ↔ IsReached blocks starts stops b) → (b : ℕ) → b < length blocks → (get_or marks b false ≡ true) ↔ HasTwoTasks blocks b
-unfolding IsClear
 marks_exact blocks tasks starts stops marks s clash none exact b l = (
   marked_two blocks tasks starts stops marks s clash none exact b l,
   λ two. ⊎_elim

@@ -1,5 +1,5 @@
 -- A step of the labelling of blocks by their innermost detach.
-use Rattle.std.specs.Prelude.{◌≡◌, ◌≢◌, ◌⊎◌, ℕ, ◌+◌, ◌<◌, Bool, true, false, not, List, length, All, Any, Contains, count_by, slice_index_or}
+use Rattle.std.specs.Prelude.{◌≡◌, ◌≢◌, ◌⊎◌, ℕ, ◌+◌, ◌<◌, Bool, true, false, not, List, length, All, Any, Contains, count_by}
 use Rattle.cfg.specs.declared.structure.Way.{Way}
 use Rattle.cfg.specs.declared.structure.Way.TheVariants.{Branch, Detached, Continued, Synced}
 use Rattle.cfg.specs.declared.structure.Edge.{Edge}

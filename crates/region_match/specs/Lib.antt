@@ -1,3 +1,6 @@
+pub mod ByLabel
 pub mod Labels
+pub mod Matched
 pub mod Mixed
+pub mod Rules
 pub mod Tasks

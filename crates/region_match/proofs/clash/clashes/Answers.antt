@@ -1,5 +1,4 @@
-use Rattle.std.proofs.Common.{sym, ap, ◌∙◌}
-use Rattle.cfg.specs.declared.structure.BlockEdges.{BlockEdges}
+use Rattle.std.proofs.Common.{sym, ◌∙◌}
 use Rattle.region_match.proofs.Labelling.{edges_item}
 use Rattle.region_match.proofs.Clashes.{AllClashMarks-skip, AllClashMarks-next, AllClashMarks-all}
 use Rattle.region_match.proofs.clash.clashes.Goals.{then-is_reached, else-is_reached}

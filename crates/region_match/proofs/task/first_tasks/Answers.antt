@@ -1,7 +1,7 @@
 use Rattle.std.proofs.Common.{◌≡◌, ◌<◌, length, sym, ◌∙◌, arith, rules}
 use Rattle.std.proofs.lemmas.Bool.{eqb-true, eqb-false}
 use Rattle.region_match.proofs.task.first_tasks.Goals.{then-not-is_empty+in_ok-push-2, else-not-is_empty}
-use Rattle.region_match.proofs.Labelling.{next_within, next_marked, Labelling-start, Labelling-none, Labelling-step, Labelling-end, edges_of-read, read_label}
+use Rattle.region_match.proofs.Labelling.{next_within, next_marked, Labelling-start, Labelling-none, Labelling-step, edges_of-read, read_label}
 use Rattle.region_match.proofs.task.first_tasks.Goals as goal
 
 pub loop-block-2-init : goal.loop-block-2-init

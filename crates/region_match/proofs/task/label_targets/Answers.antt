@@ -1,5 +1,4 @@
-use Rattle.std.proofs.Common.{◌≡◌, true, false, sym, ap, ◌∙◌, arith}
-use Rattle.region_match.specs.Labels.{is_seen}
+use Rattle.std.proofs.Common.{arith}
 use Rattle.region_match.proofs.Labelling.{labels_skip, labels_set, read_seen}
 use Rattle.region_match.proofs.task.label_targets.Goals.{then-to-len+then-not-is_reached+in_ok-push, else-to-len, else-to-len-via-then-to-len+else-not-is_reached, else-to-len-via-else-to-len}
 use Rattle.region_match.proofs.task.label_targets.Goals as goal

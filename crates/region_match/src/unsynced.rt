@@ -1,0 +1,160 @@
+ghost use Rattle.std.specs.Prelude.{◌≡◌, ◌<◌, ◌↔◌, ℕ, List, true, false, length, Some, IsTrue, IfOk, MatchOption, slice_index_or};
+ghost use Rattle.linear.specs.declared.form.RegisterId.{RegisterId};
+ghost use Rattle.program.specs.declared.identifier.BlockId.{BlockId};
+ghost use Rattle.program.specs.declared.instruction.Ending.{Ending};
+ghost use Rattle.cfg.specs.Paths.{Leg, IsPath};
+ghost use Rattle.region_match.specs.Tasks.{AreTasks};
+ghost use Rattle.region_match.specs.Rules.{ending_at, IsDetach, IsSync, IsUnsynced, is_leave, IsOpenEnd};
+ghost use Rattle.region_match.specs.ByLabel.{IsNamed, IsOpenEndOf};
+
+use crate::clash::is_same;
+use crate::matching::ending_of;
+use crate::places::is_both;
+use crate::task::Task;
+use cfg::{BlockEdges, Broken, lower, one_mark, reached};
+use program::{Block, BlockId, Ending, RegisterId, Terminator};
+use std::alloc::{AllocError, Global};
+
+/// Whether a block ends with a sync within a region.
+fn is_sync(bodies: &[Block], block: usize, region: RegisterId) -> bool
+    ensures { IsTrue result ↔ IsSync (ending_at bodies.now block) region }
+{
+    match ending_of(bodies, block) {
+        Some(Terminator::Sync { region: its, .. }) => its.0 == region.0,
+        _ => false,
+    }
+}
+
+/// The region and the continuation of the detach that a block ends with.
+fn detach_of(bodies: &[Block], block: usize) -> Option<(RegisterId, BlockId)>
+    ensures { MatchOption result ((region : RegisterId) (continuation : BlockId) → IsDetach (ending_at bodies.now block) region continuation → ⊥) (λ d. IsDetach (ending_at bodies.now block) d.0 d.1) }
+{
+    match ending_of(bodies, block) {
+        Some(
+            Terminator::Detach {
+                region,
+                continuation,
+                ..
+            },
+        ) => Some((*region, *continuation)),
+        _ => None,
+    }
+}
+
+/// Marks the blocks that end with a sync within a region.
+fn sync_marks(alloc: Global, bodies: &[Block], region: RegisterId) -> Result<Vec<bool>, AllocError>
+    ensures size { IfOk result (λ marks. length marks.items ≡ length bodies.now) }
+    ensures exact { IfOk result (λ marks. (b : ℕ) → b < length bodies.now → (slice_index_or marks.items b false ≡ true) ↔ IsSync (ending_at bodies.now b) region) }
+{
+    let mut marks = Vec::with_capacity(alloc, bodies.len())?;
+    for block in 0..bodies.len() {
+        marks.push(is_sync(bodies, block, region))?;
+    }
+    Ok(marks)
+}
+
+/// Marks the blocks that a path from a continuation leads to with no sync of the region.
+fn open_marks(
+    alloc: Global,
+    bodies: &[Block],
+    blocks: &[BlockEdges],
+    region: RegisterId,
+    continuation: BlockId,
+) -> Result<Vec<bool>, AllocError>
+    requires { length blocks.now ≡ length bodies.now }
+    ensures size { IfOk result (λ marks. length marks.items ≡ length blocks.now) }
+    ensures exact { IfOk result (λ marks. (b : ℕ) → b < length blocks.now → (slice_index_or marks.items b false ≡ true) ↔ ((legs : List Leg) × IsPath blocks.now continuation.0 legs b × IsUnsynced bodies.now region legs)) }
+{
+    let starts = one_mark(alloc, blocks.len(), continuation.0)?;
+    let stops = sync_marks(alloc, bodies, region)?;
+    Ok(reached(alloc, blocks, &starts, &stops)?)
+}
+
+/// Whether a task ends here.
+fn is_leaving(terminator: &Terminator) -> bool
+    ensures { result ≡ is_leave terminator.now }
+{
+    match terminator {
+        Terminator::Return { .. } | Terminator::Reattach { .. } => true,
+        Terminator::Jump { .. }
+        | Terminator::Branch { .. }
+        | Terminator::Switch { .. }
+        | Terminator::Detach { .. }
+        | Terminator::Sync { .. } => false,
+    }
+}
+
+/// 304: an end that a detach is open at.
+fn end_fault(ending: &Option<Ending>, is_open: bool) -> Option<Broken>
+    ensures { IsNamed (λ b. (end : Ending) × (ending.now ≡ Some end) × (is_leave end.terminator ≡ true) × (b.number ≡ 304) × (b.line ≡ end.line) × (IsTrue is_open)) result }
+{
+    let Some(ending) = ending else {
+        return None;
+    };
+    if is_open && is_leaving(&ending.terminator) {
+        Some(Broken {
+            line: ending.line,
+            number: 304,
+        })
+    } else {
+        None
+    }
+}
+
+/// 304: the ends of its task that a detach is open at.
+fn open_ends(
+    alloc: Global,
+    bodies: &[Block],
+    blocks: &[BlockEdges],
+    tasks: &[Task],
+    detach: usize,
+    region: RegisterId,
+    continuation: BlockId,
+) -> Result<Option<Broken>, AllocError>
+    requires tasks { AreTasks blocks.now tasks.now }
+    requires size { length blocks.now ≡ length bodies.now }
+    requires within { detach < length bodies.now }
+    requires detach { IsDetach (ending_at bodies.now detach) region continuation }
+    ensures { IfOk result (IsNamed (IsOpenEndOf bodies.now blocks.now detach)) }
+{
+    let marks = open_marks(alloc, bodies, blocks, region, continuation)?;
+    let task = tasks[detach];
+    let mut named: Option<Broken> = None;
+    for (to, body) in bodies.iter().enumerate() {
+        let is_same_task = is_both(task.is_reached(), is_same(tasks[to], task));
+        let is_open = is_both(is_same_task, marks[to]);
+        let broken = end_fault(&body.ending, is_open);
+        named = lower(named, broken);
+    }
+    Ok(named)
+}
+
+/// 304: the ends of tasks that a detach is open at.
+pub fn unsynced_fault(
+    alloc: Global,
+    bodies: &[Block],
+    blocks: &[BlockEdges],
+    tasks: &[Task],
+) -> Result<Option<Broken>, AllocError>
+    requires tasks { AreTasks blocks.now tasks.now }
+    requires size { length blocks.now ≡ length bodies.now }
+    ensures { IfOk result (IsNamed (IsOpenEnd bodies.now blocks.now)) }
+{
+    let mut named: Option<Broken> = None;
+    for detach in 0..bodies.len() {
+        let broken = match detach_of(bodies, detach) {
+            Some((region, continuation)) => open_ends(
+                alloc,
+                bodies,
+                blocks,
+                tasks,
+                detach,
+                region,
+                continuation,
+            )?,
+            None => None,
+        };
+        named = lower(named, broken);
+    }
+    Ok(named)
+}
