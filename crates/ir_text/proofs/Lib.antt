@@ -1,5 +1,6 @@
 pub mod FirstLine
 pub mod Follows
+pub mod Keeping
 pub mod LineByLine
 pub mod Pushed
 pub mod Seen

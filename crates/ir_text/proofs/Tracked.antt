@@ -20,7 +20,7 @@ use Rattle.ir_text.specs.Tracking.{IsTracked, OrMemory, judged_reader, judged_pl
 use Rattle.ir_text.specs.Reading.{start, defines_again, judged, judged_if_placed, with_item, FailsItem}
 use Rattle.ir_text.proofs.Follows.{Follows, placed_follows}
 
-both : (x y : Bool) → (x && y) ≡ true → (x ≡ true) × (y ≡ true)
+pub both : (x y : Bool) → (x && y) ≡ true → (x ≡ true) × (y ≡ true)
 both true true h = (refl, refl)
 both true false h = absurd cc
 both false y h = absurd cc
@@ -29,7 +29,7 @@ abbrev pub reader : Draft → Counts → Scope → Reader
 reader d c s = record { draft = d; counts = c; scope = s }
 
 -- counts within the limits are small
-counts_small : (c : Counts) → are_counts_within c ≡ true → IsSmall c
+pub counts_small : (c : Counts) → are_counts_within c ≡ true → IsSmall c
 counts_small c h =
     let outer = both (leb c.global_cells 1048576 && leb c.registers 4096) (leb c.alloca_cells 4096) h in
     let inner = both (leb c.global_cells 1048576) (leb c.registers 4096) outer.0 in

@@ -4,6 +4,7 @@ pub mod Defined
 pub mod Draft
 pub mod Faults
 pub mod InstructionText
+pub mod Kept
 pub mod Limits
 pub mod Lines
 pub mod Names

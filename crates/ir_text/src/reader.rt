@@ -4,6 +4,7 @@ ghost use Rattle.std.specs.Prelude.{◌≡◌, length, IfErr, IfOk, Ok, Some};
 ghost use Rattle.ir_text.specs.Draft.{placed};
 ghost use Rattle.ir_text.specs.declared.draft.Draft as draft_type;
 ghost use Rattle.ir_text.specs.Faults.{IsOnLineOf};
+ghost use Rattle.ir_text.specs.Kept.{IsKept};
 ghost use Rattle.ir_text.specs.Lines.{lines_of};
 ghost use Rattle.ir_text.specs.Counting.{counts_of};
 ghost use Rattle.ir_text.specs.Tracking.{IsTracked, OrMemory, judged_reader, judged_place};
@@ -220,6 +221,7 @@ impl Reader {
 /// Reads a module's text: it answers the module that the lines make, or the first fault with its line.
 pub fn read(alloc: Global, state: RandomState, text: &[u8]) -> Result<Module, TextFault>
     ensures exact { IfOk result (λ m. Answers text.now (Ok m)) }
+    ensures kept { IfOk result IsKept }
     ensures fault { IfErr result (IsFaultOfText text.now) }
     ensures line { IfErr result (IsOnLineOf (length (lines_of text.now))) }
 {

@@ -6,6 +6,7 @@ use Rattle.std.proofs.lemmas.Result.{err_from_is_err_and, IfOk-weaker, IfErr-wea
 use Rattle.ir_text.specs.declared.draft.Draft.{Draft}
 use Rattle.ir_text.specs.Lines.{lines_of}
 use Rattle.ir_text.specs.Reading.{start, Reads, Done, Steps, FaultSteps, FaultOverlong, Read}
+use Rattle.ir_text.proofs.Keeping.{answers_kept}
 use Rattle.ir_text.proofs.LineByLine.{stopped, too_long, goes_on, unfinished, on_a_line, if_on_a_line}
 use Rattle.ir_text.proofs.reader.read.Goals as goal
 
@@ -81,3 +82,6 @@ returns-clause-fault c =
 
 pub returns-clause-line : goal.returns-clause-line
 returns-clause-line c = if_on_a_line c.args.text.now _ (returns-clause-fault c)
+
+pub returns-clause-kept : goal.returns-clause-kept
+returns-clause-kept c = IfOk-weaker c.end.result _ _ (λ m h. answers_kept c.args.text.now m h) (returns-clause-exact c)

@@ -1,0 +1,220 @@
+-- What is read keeps names defined once and stays within limits.
+use Rattle.std.proofs.Common.{◌≡◌, ℕ, ◌+◌, ◌<◌, ◌≤◌, Bool, true, false, cond, List, [], ◌∷◌, ◌++◌, length, refl, sym, subst, ap, ◌∙◌, arith, append_assoc, length-append}
+use Rattle.std.specs.Prelude.{◌==◌, ◌&&◌, ◌||◌, Result, Ok, Err, Option, Some, None, IfOk, if◌then◌else◌}
+use Rattle.std.specs.List.{All}
+use Rattle.std.proofs.lemmas.List.{append-nil}
+use Rattle.std.proofs.lemmas.List.Elements.{All-push, All-nil}
+use Rattle.ir_lex.specs.declared.fault.TextFault.{TextFault}
+use Rattle.ir_annotation.specs.declared.meaning.Annotation.{Annotation}
+use Rattle.ir_annotation.specs.declared.meaning.Annotation.TheVariants as annotation
+use Rattle.ir_item.specs.declared.item.Item.{Item}
+use Rattle.ir_item.specs.declared.item.Item.TheVariants as item
+use Rattle.ir_item.specs.declared.line.Line.{Line}
+use Rattle.syntax.specs.declared.annotation.Inequality.{Inequality}
+use Rattle.syntax.specs.declared.module.Block.{Block}
+use Rattle.syntax.specs.declared.module.Function.{Function}
+use Rattle.syntax.specs.declared.module.Module.{Module}
+use Rattle.ir_text.specs.declared.annotating.FunctionHead.{FunctionHead}
+use Rattle.ir_text.specs.declared.annotating.BlockHead.{BlockHead}
+use Rattle.ir_text.specs.declared.draft.Draft.{Draft}
+use Rattle.ir_text.specs.declared.draft.Place.{Place}
+use Rattle.ir_text.specs.declared.draft.Place.TheVariants as place
+use Rattle.ir_text.specs.Opening.{with_block, with_function}
+use Rattle.ir_text.specs.Annotating.{annotated_function, annotated_block}
+use Rattle.ir_text.specs.Draft.{placed, placed_in, placed_outside, placed_at_function, placed_in_function_head, placed_at_block, annotated_in_block_head, placed_in_block_head, placed_in_phis, placed_in_body, placed_in_ended}
+use Rattle.ir_text.specs.Names.{is_known, is_repeated}
+use Rattle.ir_text.specs.Defined.{module_names, function_names, reserved_outside, reserved_inside, open_function, names_outside, names_in, names_inside, defined_outside, defined_inside, inside_before}
+use Rattle.ir_text.specs.Limits.{register_count, function_cells, is_place_within}
+use Rattle.ir_text.specs.Counting.{IsSmall, counts_in, counts_of, are_counts_within, is_within_limits}
+use Rattle.ir_text.specs.Tracking.{IsStepless}
+use Rattle.ir_text.specs.Lines.{lines_of}
+use Rattle.ir_text.specs.Reading.{start, defines_again, judged, judged_if_placed, with_item, with_said, Steps, Said, Faulty, Reads, Done, Next, Stop, Overlong, ended, Answers, Read, Unread}
+use Rattle.ir_text.specs.Kept.{IsKeptFunction, IsKept}
+use Rattle.ir_text.proofs.Follows.{Follows, placed_follows}
+use Rattle.ir_text.proofs.Tracked.{both, counts_small}
+
+-- the open function, as far as it was read
+pub record IsOpenFunction (f : Function) : Type 0 where
+  pub distinct : is_repeated [] (reserved_inside ∷ function_names f) ≡ false
+  pub registers : register_count f ≤ 4096
+  pub alloca_cells : function_cells f ≤ 4096
+
+abbrev IsOpenKept : Option Function → Type 0
+IsOpenKept None = Unit {0}
+IsOpenKept (Some f) = IsOpenFunction f
+
+pub record IsKeptDraft (d : Draft) : Type 0 where
+  pub outside : is_repeated [] (names_outside d) ≡ false
+  pub inside : is_repeated [] (names_inside d) ≡ false
+  pub small : IsSmall (counts_of d)
+  pub stepless : IsStepless d.place
+  pub functions : All IsKeptFunction d.whole.functions
+
+-- functions
+
+abbrev Grows : Module → Option Function → Option Draft → Type 0
+Grows m f None = Unit {0}
+Grows m f (Some e) = All IsKeptFunction m.functions → IsOpenKept f → All IsKeptFunction e.whole.functions
+
+closed : (f : Function) (b : Block) → IsOpenFunction (with_block f b) → IsKeptFunction (with_block f b)
+closed f b h = record { distinct = h.distinct; some = omega (arith, length-append f.blocks (b ∷ [])); registers = h.registers; alloca_cells = h.alloca_cells }
+
+ended_grows : (m : Module) (f : Function) (b : Block) (line : ℕ) (i : Item) → Grows m (Some (with_block f b)) (placed_in_ended m f b line i)
+ended_grows m f b line (item.Label label) = λ all one. all
+ended_grows m f b line item.Close = λ all one. All-push IsKeptFunction m.functions (with_block f b) all (closed f b one)
+ended_grows m f b line _ = tt
+
+if_grows : (m : Module) (f : Option Function) (test : Bool) (e : Option Draft) → Grows m f e → Grows m f (if test then e else None)
+if_grows m f true e h = h
+if_grows m f false e h = tt
+
+body_grows : (m : Module) (f : Function) (b : Block) (shows : List Inequality) (line : ℕ) (i : Item) → Grows m (Some (with_block f b)) (placed_in_body m f b shows line i)
+body_grows m f b shows line (item.Annotation (annotation.Shows i)) = λ all one. all
+body_grows m f b shows line (item.Annotation _) = tt
+body_grows m f b shows line (item.Instruction i) = λ all one. all
+body_grows m f b shows line (item.Terminator t) = λ all one. all
+body_grows m f b shows line i = if_grows m (Some (with_block f b)) (length shows == 0) (placed_in_ended m f b line i) (ended_grows m f b line i)
+
+phis_grows : (m : Module) (f : Function) (b : Block) (line : ℕ) (i : Item) → Grows m (Some (with_block f b)) (placed_in_phis m f b line i)
+phis_grows m f b line (item.Phi p) = λ all one. all
+phis_grows m f b line i = body_grows m f b [] line i
+
+at_block_grows : (m : Module) (f : Function) (o : Option Function) (h : Option BlockHead) → Grows m o (placed_at_block m f h)
+at_block_grows m f o None = tt
+at_block_grows m f o (Some h) = λ all one. all
+
+annotated_grows : (m : Module) (f : Function) (h : BlockHead) (a : Annotation) → Grows m (Some (with_block f h.block)) (annotated_in_block_head m f h a)
+annotated_grows m f h (annotation.Shows i) = λ all one. all
+annotated_grows m f h a = at_block_grows m f (Some (with_block f h.block)) (annotated_block h a)
+
+block_head_grows : (m : Module) (f : Function) (h : BlockHead) (line : ℕ) (i : Item) → Grows m (Some (with_block f h.block)) (placed_in_block_head m f h line i)
+block_head_grows m f h line (item.Annotation a) = annotated_grows m f h a
+block_head_grows m f h line i = phis_grows m f h.block line i
+
+at_function_grows : (m : Module) (o : Option Function) (h : Option FunctionHead) → Grows m o (placed_at_function m h)
+at_function_grows m o None = tt
+at_function_grows m o (Some h) = λ all one. all
+
+function_head_grows : (m : Module) (h : FunctionHead) (line : ℕ) (i : Item) → Grows m (Some h.function) (placed_in_function_head m h line i)
+function_head_grows m h line (item.Label label) = λ all one. all
+function_head_grows m h line (item.Annotation a) = at_function_grows m (Some h.function) (annotated_function h a)
+function_head_grows m h line _ = tt
+
+outside_grows : (m : Module) (line : ℕ) (i : Item) → Grows m None (placed_outside m line i)
+outside_grows m line (item.Global g) = if_grows m None (length m.functions == 0) (Some _) (λ all one. all)
+outside_grows m line (item.Define name result_type parameters) = λ all one. all
+outside_grows m line _ = tt
+
+in_place : (m : Module) (p : Place) (line : ℕ) (i : Item) → Grows m (open_function p) (placed_in m p line i)
+in_place m place.Outside line i = outside_grows m line i
+in_place m (place.FunctionHead h) line i = function_head_grows m h line i
+in_place m (place.BlockHead f h) line i = block_head_grows m f h line i
+in_place m (place.Phis f b) line i = phis_grows m f b line i
+in_place m (place.Body f b shows) line i = body_grows m f b shows line i
+in_place m (place.Ended f b) line i = ended_grows m f b line i
+
+-- names
+
+or_assoc : (x y z : Bool) → (x || (y || z)) ≡ ((x || y) || z)
+or_assoc true y z = refl
+or_assoc false y z = refl
+
+repeats-append : (known xs ys : List (List ℕ)) → is_repeated known (xs ++ ys) ≡ (is_repeated known xs || is_repeated (known ++ xs) ys)
+repeats-append known [] ys = ap (λ (ns : List (List ℕ)). is_repeated ns ys) (sym (append-nil known))
+repeats-append known (x ∷ xs) ys =
+    ap (λ (t : Bool). is_known known x || t) (repeats-append (known ++ x ∷ []) xs ys)
+    ∙ or_assoc (is_known known x) (is_repeated (known ++ x ∷ []) xs) (is_repeated ((known ++ x ∷ []) ++ xs) ys)
+    ∙ ap (λ (ns : List (List ℕ)). (is_known known x || is_repeated (known ++ x ∷ []) xs) || is_repeated ns ys) (append_assoc known (x ∷ []) xs)
+
+neither : (x y : Bool) → (x || y) ≡ false → (x ≡ false) × (y ≡ false)
+neither true y h = absurd cc
+neither false true h = absurd cc
+neither false false h = (refl, refl)
+
+distinct-append : (xs ys : List (List ℕ)) → is_repeated [] xs ≡ false → is_repeated xs ys ≡ false → is_repeated [] (xs ++ ys) ≡ false
+distinct-append xs ys first later = repeats-append [] xs ys ∙ ap (λ (t : Bool). t || is_repeated xs ys) first ∙ later
+
+before_distinct : (names : List (List ℕ)) (i : Item) → is_repeated [] names ≡ false → is_repeated [] (inside_before names i) ≡ false
+before_distinct names (item.Define name result_type parameters) h = refl
+before_distinct names item.Close h = refl
+before_distinct names _ h = h
+
+open_kept : (m : Module) (f : Option Function) → is_repeated [] (names_in f) ≡ false → IsSmall (counts_in m f) → IsOpenKept f
+open_kept m None names small = tt
+open_kept m (Some f) names small = record { distinct = names; registers = small.registers; alloca_cells = small.alloca_cells }
+
+-- one more item
+
+item_kept : (d e : Draft) (at : ℕ) (i : Item) → IsKeptDraft d → placed d at i ≡ Some e → is_within_limits e ≡ true → defines_again d i ≡ false → IsKeptDraft e
+item_kept d e at i kept put within once =
+    let follows : Follows _ _ i e = placed_follows d e at i kept.stepless put in
+    let new_names = neither (is_repeated (names_outside d) (defined_outside i)) (is_repeated (inside_before (names_inside d) i) (defined_inside i)) once in
+    let grown : Grows d.whole (open_function d.place) (Some e) = subst (Grows d.whole (open_function d.place)) put (in_place d.whole d.place at i) in
+    record {
+      outside = ap (is_repeated []) follows.adds.outside ∙ distinct-append (names_outside d) (defined_outside i) kept.outside new_names.0;
+      inside = ap (is_repeated []) follows.adds.inside ∙ distinct-append (inside_before (names_inside d) i) (defined_inside i) (before_distinct (names_inside d) i kept.inside) new_names.1;
+      small = counts_small (counts_of e) (both (are_counts_within (counts_of e)) (is_place_within e.whole e.place) within).0;
+      stepless = follows.stepless;
+      functions = grown kept.functions (open_kept d.whole (open_function d.place) kept.inside kept.small);
+    }
+
+abbrev ok : Draft → Result Draft ℕ
+ok d = Ok d
+
+judged_kept : (d e g : Draft) (at : ℕ) (i : Item) (good again : Bool) → IsKeptDraft d → placed d at i ≡ Some g → (good ≡ true → is_within_limits g ≡ true) → (again ≡ false → defines_again d i ≡ false)
+    → (if good then (if again then Err 106 else ok g) else Err 104) ≡ ok e → IsKeptDraft e
+judged_kept d e g at i false again kept put within once h = absurd cc
+judged_kept d e g at i true true kept put within once h = absurd cc
+judged_kept d e g at i true false kept put within once h =
+    let same : g ≡ e = cc in
+    subst IsKeptDraft same (item_kept d g at i kept put (within refl) (once refl))
+
+placed_kept : (d e : Draft) (at : ℕ) (line : Line) (o : Option Draft) → IsKeptDraft d → placed d at line.item ≡ o → judged_if_placed d line o ≡ ok e → IsKeptDraft e
+placed_kept d e at line None kept put h = absurd cc
+placed_kept d e at line (Some g) kept put h =
+    judged_kept d e g at line.item (line.is_within_limits && is_within_limits g) (defines_again d line.item) kept put (λ w. (both line.is_within_limits (is_within_limits g) w).1) (λ o. o) h
+
+line_kept : (d e : Draft) (at : ℕ) (line : Line) → IsKeptDraft d → with_item d at line ≡ ok e → IsKeptDraft e
+unfolding with_item
+line_kept d e at line kept h = placed_kept d e at line (placed d at line.item) kept refl h
+
+said_kept : (d e : Draft) (at : ℕ) (said : Option Line) → IsKeptDraft d → with_said d at said ≡ ok e → IsKeptDraft e
+said_kept d e at None kept h = let same : d ≡ e = cc in subst IsKeptDraft same kept
+said_kept d e at (Some line) kept h = line_kept d e at line kept h
+
+step_kept : (d e : Draft) (at : ℕ) (line : List ℕ) → Steps d at line (Ok e) → IsKeptDraft d → IsKeptDraft e
+step_kept d e at line (Said said _ utf8 means h) kept = said_kept d e at said kept h
+
+abbrev KeptIfOk : Result Draft (ℕ × ℕ) → Type 0
+KeptIfOk (Ok d) = IsKeptDraft d
+KeptIfOk (Err e) = Unit {0}
+
+reads_kept : (d : Draft) (at room : ℕ) (lines : List (List ℕ)) (out : Result Draft (ℕ × ℕ)) → Reads d at room lines out → IsKeptDraft d → KeptIfOk out
+reads_kept _ _ _ _ _ (Done d at room) kept = kept
+reads_kept _ _ _ _ _ (Next d e at room line lines out fits step later) kept = reads_kept e (at + 1) _ lines out later (step_kept d e at _ step kept)
+reads_kept _ _ _ _ _ (Stop d at room line lines number fits step) kept = tt
+reads_kept _ _ _ _ _ (Overlong d at room line lines number past h) kept = tt
+
+start_kept : IsKeptDraft start
+unfolding module_names
+start_kept = record { outside = refl; inside = refl; small = record { global_cells = omega arith; registers = omega arith; alloca_cells = omega arith }; stepless = tt; functions = All-nil IsKeptFunction }
+
+abbrev whole : Module → Result Module (ℕ × ℕ)
+whole m = Ok m
+
+ended_kept : (m n : Module) (p : Place) (count : ℕ) → IsKeptDraft (record { whole = m; place = p }) → ended m p count ≡ whole n → IsKept n
+ended_kept m n place.Outside count kept h =
+    let same : m ≡ n = cc in
+    subst IsKept same (record {
+      distinct = ap (λ (ns : List (List ℕ)). is_repeated [] (reserved_outside ∷ ns)) (sym (append-nil (module_names m))) ∙ kept.outside;
+      functions = kept.functions;
+      cells = kept.small.global_cells;
+    })
+ended_kept m n (place.FunctionHead f) count kept h = absurd cc
+ended_kept m n (place.BlockHead f b) count kept h = absurd cc
+ended_kept m n (place.Phis f b) count kept h = absurd cc
+ended_kept m n (place.Body f b shows) count kept h = absurd cc
+ended_kept m n (place.Ended f b) count kept h = absurd cc
+
+pub answers_kept : (text : List ℕ) (m : Module) → Answers text (Ok m) → IsKept m
+answers_kept text m (Read d _ all h) = ended_kept d.whole m d.place (length (lines_of text)) (reads_kept start 1 1048576 (lines_of text) (Ok d) all start_kept) h
