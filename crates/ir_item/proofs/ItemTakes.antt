@@ -1,24 +1,21 @@
 -- A line that says an item is the item's spelling.
-use Rattle.std.proofs.Common.{◌≡◌, ℕ, ◌⊎◌, inl, inr, List, [], ◌∷◌, ◌++◌, Bool, true, false, cond, eqb, eq-eqb, Option, Some, None, refl, sym, subst, ap, ◌∙◌}
-use Rattle.std.specs.Prelude.{codes, not, ◌&&◌, option_map, nat_lt}
-use Rattle.std.specs.List.{list_all}
+use Rattle.std.proofs.Common.{◌≡◌, ℕ, inl, inr, List, [], ◌∷◌, ◌++◌, Bool, true, eq-eqb, Option, Some, None, refl, sym, subst, ap, ◌∙◌}
+use Rattle.std.specs.Prelude.{codes, option_map, nat_lt}
 use Rattle.std.specs.Str.{bytes_eq}
-use Rattle.std.proofs.lemmas.Bool.{eqb-true}
 use Rattle.syntax.specs.declared.instruction.Instruction.{Instruction}
-use Rattle.syntax.specs.declared.instruction.Instruction.TheVariants as instruction
 use Rattle.syntax.specs.declared.operator.BinaryOperator.{BinaryOperator}
 use Rattle.syntax.specs.declared.operator.BinaryOperator.TheVariants.{Add, Subtract, Multiply, AddNoWrap, SubtractNoWrap, MultiplyNoWrap, SignedDivide, UnsignedDivide, SignedRemainder, UnsignedRemainder, ShiftLeft, LogicalShiftRight, ArithmeticShiftRight, And, Or, ExclusiveOr}
 use Rattle.syntax.specs.declared.operator.Conversion.TheVariants.{SignExtend, ZeroExtend}
 use Rattle.ir_item.specs.declared.item.Item.{Item}
 use Rattle.ir_item.specs.declared.item.Item.TheVariants as item
 use Rattle.ir_item.specs.declared.symbol.Symbol.{Symbol}
-use Rattle.ir_item.specs.declared.symbol.Symbol.TheVariants.{Register, Global, Number, Word, Mark, Note}
+use Rattle.ir_item.specs.declared.symbol.Symbol.TheVariants.{Register, Word, Mark}
 use Rattle.ir_item.specs.Outcome.{◌>>=◌}
-use Rattle.ir_item.specs.Fronts.{mark_at, is_word, is_mark, behind}
+use Rattle.ir_item.specs.Fronts.{is_word, behind}
 use Rattle.ir_item.specs.Operators.{operator_of, without_wrap}
 use Rattle.ir_item.specs.Shape.{Piece, Gaps, gaps_of}
 use Rattle.ir_item.specs.Grammar.{binary_shape, binary_from, compare_shape, compare_from, truncate_shape, truncate_from, extend_shape, extend_from, alloca_shape, alloca_from, alloca_array_shape, alloca_array_from, element_pointer_shape, element_pointer_from, load_shape, load_from, start_region_shape, start_region_from, call_shape, call_from, phi_shape, phi_from, binary, alloca, call, fixed, definition}
-use Rattle.ir_item.specs.Spelling.{Atom, Token, Blank, symbols_in, operator_atoms, atoms_of, instruction_atoms, item_atoms}
+use Rattle.ir_item.specs.Spelling.{Atom, Blank, symbols_in, operator_atoms, atoms_of, instruction_atoms, item_atoms}
 use Rattle.ir_item.specs.Fits.{is_some_list, gaps_fit, instruction_fits, item_fits}
 use Rattle.ir_lex.proofs.Printed.{both}
 use Rattle.ir_item.proofs.Again.{symbols_appended}

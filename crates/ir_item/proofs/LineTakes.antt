@@ -1,5 +1,5 @@
 -- A line that says an item is the item's spelling: terminators and the other lines.
-use Rattle.std.proofs.Common.{◌≡◌, ℕ, ◌⊎◌, inl, inr, List, [], ◌∷◌, ◌++◌, Bool, true, false, cond, eqb, eq-eqb, Option, Some, None, refl, sym, subst, ap, ◌∙◌}
+use Rattle.std.proofs.Common.{◌≡◌, ℕ, inl, inr, List, [], ◌∷◌, ◌++◌, Bool, true, false, cond, eqb, eq-eqb, Some, None, refl, sym, subst, ap, ◌∙◌}
 use Rattle.std.specs.Prelude.{codes, not, ◌&&◌, option_map, nat_lt, nat_le, length}
 use Rattle.std.specs.List.{list_all}
 use Rattle.std.specs.Str.{bytes_eq}
@@ -15,19 +15,19 @@ use Rattle.ir_item.specs.declared.item.Item.TheVariants as item
 use Rattle.ir_item.specs.declared.symbol.Numeral.{Numeral}
 use Rattle.ir_item.specs.declared.symbol.Numeral.TheVariants.{Small, Large}
 use Rattle.ir_item.specs.declared.symbol.Symbol.{Symbol}
-use Rattle.ir_item.specs.declared.symbol.Symbol.TheVariants.{Register, Global, Number, Word, Mark, Note}
+use Rattle.ir_item.specs.declared.symbol.Symbol.TheVariants.{Register, Global, Number, Word, Mark}
 use Rattle.ir_item.specs.declared.switch.SpelledCase.{SpelledCase}
 use Rattle.ir_item.specs.Outcome.{◌>>=◌}
 use Rattle.ir_item.specs.Symbols.{is_within_limits}
 use Rattle.ir_item.specs.Fronts.{mark_at, is_word, is_mark, behind}
 use Rattle.ir_item.specs.Cases.{is_same_width, is_case_of, are_distinct, are_cases_of, cases_from}
-use Rattle.ir_item.specs.Shape.{Piece, Gaps, gaps_of}
+use Rattle.ir_item.specs.Shape.{Gaps, gaps_of}
 use Rattle.ir_item.specs.Grammar.{store_shape, store_from, store_zeros_shape, store_zeros_from, atomic_shape, atomic_from, call_void_shape, call_void_from, store, jump_shape, jump_from, branch_shape, branch_from, branch_in, br, switch_shape, switch_from, return_void_shape, return_void_from, return_shape, return_from, return, detach_shape, detach_from, region_shape, reattach_from, sync_from, global_shape, global_from, define_shape, define_from, definition, terminator_in, worded, item_in}
-use Rattle.ir_item.specs.Spelling.{Atom, symbols_in, operand_symbol, width_word, cases_atoms, atoms_of, instruction_atoms, terminator_atoms, item_atoms, spelled_cases}
+use Rattle.ir_item.specs.Spelling.{symbols_in, operand_symbol, width_word, cases_atoms, atoms_of, instruction_atoms, terminator_atoms, item_atoms, spelled_cases}
 use Rattle.ir_item.specs.Fits.{has_cells, is_some_list, gaps_fit, instruction_fits, terminator_fits, item_fits}
 use Rattle.ir_lex.proofs.Printed.{both}
 use Rattle.ir_item.proofs.Again.{symbols_appended}
-use Rattle.ir_item.proofs.Takes.{bind_some, map_some, chosen, tested, some_is, same_bytes, are_within, behind_within, mark_is, mark_takes, gaps_take}
+use Rattle.ir_item.proofs.Takes.{bind_some, map_some, chosen, tested, are_within, behind_within, mark_is, mark_takes, gaps_take}
 use Rattle.ir_item.proofs.ItemTakes.{Spells, spelled, by_word, ItemSpells, of_instruction, definition_takes}
 
 abbrev Ends : List ℕ → List Symbol → Terminator → Type 0

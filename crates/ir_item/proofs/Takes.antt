@@ -1,6 +1,6 @@
 -- A line that is read is the spelling of what is read.
-use Rattle.std.proofs.Common.{◌≡◌, ℕ, zero, suc, ◌+◌, ◌*◌, ◌/◌, ◌%◌, ◌≤◌, ◌<◌, ◌⊎◌, inl, inr, List, [], ◌∷◌, ◌++◌, length, Bool, true, false, cond, eqb, Option, Some, None, refl, sym, subst, ap, ◌∙◌, append_assoc, arith}
-use Rattle.std.specs.Prelude.{codes, flat_map, pos, negsuc, nat_lt, ◌&&◌, option_map}
+use Rattle.std.proofs.Common.{◌≡◌, ℕ, zero, suc, ◌*◌, ◌/◌, ◌%◌, ◌<◌, ◌⊎◌, inl, inr, List, [], ◌∷◌, ◌++◌, length, Bool, true, false, cond, eqb, Option, Some, None, refl, sym, subst, ap, ◌∙◌, append_assoc, arith}
+use Rattle.std.specs.Prelude.{codes, pos, negsuc, nat_lt, ◌&&◌, option_map}
 use Rattle.std.specs.List.{list_all}
 use Rattle.std.specs.Str.{bytes_eq}
 use Rattle.std.proofs.lemmas.Bool.{eqb-true, ltb-true, lt-ltb}
@@ -23,19 +23,19 @@ use Rattle.syntax.specs.declared.operator.Width.TheVariants.{Bits64, Bits32}
 use Rattle.ir_item.specs.declared.symbol.Numeral.{Numeral}
 use Rattle.ir_item.specs.declared.symbol.Numeral.TheVariants.{Small, Large}
 use Rattle.ir_item.specs.declared.symbol.Symbol.{Symbol}
-use Rattle.ir_item.specs.declared.symbol.Symbol.TheVariants.{Register, Global, Number, Word, Mark, Note}
+use Rattle.ir_item.specs.declared.symbol.Symbol.TheVariants.{Register, Global, Number, Word, Mark}
 use Rattle.ir_item.specs.declared.switch.SpelledCase.{SpelledCase}
 use Rattle.ir_item.specs.Outcome.{◌>>=◌}
 use Rattle.ir_item.specs.Symbols.{is_within_limits}
 use Rattle.ir_item.specs.Numerals.{count_of, cells_of}
 use Rattle.ir_item.specs.Fronts.{mark_at, word_at, named_at, end_at, is_word, is_mark, behind, register_at, global_at, label_at, numeral_at, operand_at, address_at, pointer_at, count_at, array_at, bytes_at, width_at, result_type_at}
 use Rattle.ir_item.specs.Operators.{predicate_of, predicate_at}
-use Rattle.ir_item.specs.Lists.{list_at, more_at, comma_at, case_follows, pointer_parameter_at, number_parameter_at, parameter_at, pointer_argument_at, number_argument_at, argument_at, entry_at, case_at, all_at, all_cases_at, all_entries_at}
+use Rattle.ir_item.specs.Lists.{list_at, more_at, comma_at, case_follows, pointer_parameter_at, number_parameter_at, parameter_at, pointer_argument_at, number_argument_at, argument_at, entry_at, case_at, all_at, all_cases_at}
 use Rattle.ir_item.specs.Shape.{Gap, register, function, label, operand, pointer, array, width, result_type, predicate, parameters, arguments, cases, entries, Piece, word, mark, named, gap, space, Held, Gaps, gap_at, gaps_of}
-use Rattle.ir_item.specs.Spelling.{Atom, Token, Blank, symbols_in, operand_symbol, address_symbol, width_word, result_word, predicate_word, array_atoms, pointer_atoms, parameter_atoms, argument_atoms, entry_atoms, case_atoms, other_atoms, parted, cases_atoms, gap_atoms, atoms_of}
+use Rattle.ir_item.specs.Spelling.{Atom, Token, symbols_in, operand_symbol, address_symbol, width_word, result_word, predicate_word, array_atoms, parameter_atoms, argument_atoms, entry_atoms, case_atoms, parted, cases_atoms, gap_atoms, atoms_of}
 use Rattle.ir_item.specs.Fits.{has_cells, is_some_list, fits, gaps_fit}
 use Rattle.ir_lex.proofs.Printed.{both}
-use Rattle.ir_item.proofs.Again.{symbols_appended, others, parted_symbols, some_parted}
+use Rattle.ir_item.proofs.Again.{symbols_appended, others, some_parted}
 
 -- steps that did not fail
 

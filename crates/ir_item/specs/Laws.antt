@@ -1,5 +1,5 @@
 -- The canonical print is read back, line by line.
-use Rattle.std.specs.Prelude.{◌≡◌, ℕ, true, List, ◌∷◌, ◌++◌, Option, Some, Result, Ok}
+use Rattle.std.specs.Prelude.{◌≡◌, ℕ, true, List, ◌∷◌, ◌++◌, Some, Ok}
 use Rattle.std.specs.List.{list_all}
 use Rattle.ir_annotation.specs.Lines.{annotation_of}
 use Rattle.ir_item.specs.declared.item.Item.{Item}
