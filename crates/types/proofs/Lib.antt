@@ -1,4 +1,6 @@
+pub mod CallLaws
 pub mod Giving
+pub mod Inversion
 pub mod Judging
 pub mod Marks
 pub mod Naming
