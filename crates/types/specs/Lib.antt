@@ -1,4 +1,5 @@
 pub mod Address
+pub mod Apart
 pub mod Block
 pub mod Call
 pub mod Fault
