@@ -6,9 +6,6 @@ use std::alloc::Global;
 use store::Memory;
 use verifier::Verified;
 
-/// The most instructions that a module may declare.
-const MOST_INSTRUCTIONS: u64 = 1_000_000_000_000;
-
 /// A run: its frames from the root on, each made by the one before it, and the globals. The frame of depth d stands at d.
 #[derive(Drop)]
 struct Run {
@@ -191,5 +188,6 @@ pub fn serial_run(
             memory,
         });
     }
-    Ok(run_within(alloc, program, arguments, memory, MOST_INSTRUCTIONS)?)
+    let budget = verified.budget();
+    Ok(run_within(alloc, program, arguments, memory, budget)?)
 }

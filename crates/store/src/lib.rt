@@ -3,4 +3,4 @@
 
 mod memory;
 
-pub use memory::{GlobalCells, Memory};
+pub use memory::Memory;

@@ -1,30 +1,87 @@
+ghost use Rattle.std.specs.Prelude.{◌≡◌, ◌↔◌, ◌<◌, ℕ, Some, IfOk, IsSome, IsTrue, length, map, slice_set};
+ghost use Rattle.std.specs.Bool.{OnFalse, OnTrue};
+ghost use Rattle.store.specs.Cells.{NamedCells, Sets, cell_at, cell_named, number_of, zeros};
+
 use lists::{Name, OutOfMemory};
 use program::{GlobalId, Program};
 use std::alloc::Global;
+use std::marker::Model;
 use verifier::Verified;
 
 /// A global: its name and its numbers.
 #[derive(Debug, Drop)]
-pub struct GlobalCells {
-    pub name: Name,
-    pub cells: Vec<i64>,
+struct GlobalCells {
+    name: Name,
+    cells: Vec<i64>,
 }
 
-/// The memory that a run begins and ends with: the globals of a module, in its order.
+impl Model for GlobalCells {
+    ghost Value = { NamedCells };
+
+    ghost view = { λ g. record { name = g.name; cells = g.cells.items } };
+}
+
+impl GlobalCells {
+    /// The same global again.
+    fn copy(&self) -> Result<GlobalCells, OutOfMemory>
+        ensures { IfOk result (λ g. g ≡ self.now) }
+    {
+        Ok(GlobalCells {
+            name: self.name.copy()?,
+            cells: self.cells.clone()?,
+        })
+    }
+
+    fn is_same(&self, other: &GlobalCells) -> bool
+        ensures { IsTrue result ↔ (self.now ≡ other.now) }
+    {
+        self.name.is_same(&other.name) && self.cells.as_slice() == other.cells.as_slice()
+    }
+
+    /// Gives a cell a number; false, and nothing is changed, where there is no such cell.
+    fn set(&mut self, index: usize, value: i64) -> bool
+        ensures there { IsTrue result ↔ (index < length self.old.cells) }
+        ensures not_there { OnFalse result (self.new ≡ self.old) }
+        ensures set { OnTrue result (self.new ≡ record self.old { cells = slice_set self.old.cells index value }) }
+    {
+        if index < self.cells.len() {
+            self.cells[index] = value;
+            true
+        } else {
+            false
+        }
+    }
+}
+
+/// The memory that a run begins and ends with: the globals of a module, in its order. Contracts see it as their names
+/// and numbers.
 #[derive(Debug, Drop)]
 pub struct Memory {
     alloc: Global,
     globals: Vec<GlobalCells>,
 }
 
+impl Model for Memory {
+    ghost use Rattle.std.specs.Prelude.{List};
+    ghost use Rattle.store.specs.Cells.{NamedCells};
+
+    ghost Value = { List NamedCells };
+
+    ghost view = { λ m. m.globals.items };
+}
+
 impl Memory {
     /// The globals of the module, each cell 0.
-    pub fn zeroed(alloc: Global, verified: &Verified) -> Result<Memory, OutOfMemory> {
+    pub fn zeroed(alloc: Global, verified: &Verified) -> Result<Memory, OutOfMemory>
+        ensures { IfOk result (λ m. m ≡ map zeros verified.now.globals) }
+    {
         Memory::of_program(alloc, verified.program())
     }
 
     /// The globals of the program, each cell 0.
-    pub fn of_program(alloc: Global, program: &Program) -> Result<Memory, OutOfMemory> {
+    pub fn of_program(alloc: Global, program: &Program) -> Result<Memory, OutOfMemory>
+        ensures { IfOk result (λ m. m ≡ map zeros program.now.globals) }
+    {
         let mut globals = Vec::new(alloc);
         for global in program.globals.as_slice() {
             globals.push(GlobalCells {
@@ -36,14 +93,20 @@ impl Memory {
     }
 
     /// The number of the global of this name.
-    fn find(&self, name: &str) -> Option<usize> {
+    fn find(&self, name: &str) -> Option<usize>
+        ensures { result ≡ number_of self.now name.now }
+    {
         self.globals
             .iter()
             .position(|global| global.name.as_bytes() == name.as_bytes())
     }
 
     /// Gives a cell a number; false, and nothing is changed, where there is no such cell.
-    pub fn set_global(&mut self, name: &str, index: u64, value: i64) -> bool {
+    pub fn set_global(&mut self, name: &str, index: u64, value: i64) -> bool
+        ensures there { IsTrue result ↔ IsSome (cell_named self.old name.now index) }
+        ensures not_there { OnFalse result (self.new ≡ self.old) }
+        ensures set { OnTrue result ((g : ℕ) → number_of self.old name.now ≡ Some g → Sets self.old self.new g index value) }
+    {
         match self.find(name) {
             Some(found) => self.set_cell(GlobalId(found), index, value),
             None => false,
@@ -51,38 +114,44 @@ impl Memory {
     }
 
     /// What a cell holds; none where there is no such cell.
-    pub fn get_global(&self, name: &str, index: u64) -> Option<i64> {
-        self.cell(GlobalId(self.find(name)?), index)
+    pub fn get_global(&self, name: &str, index: u64) -> Option<i64>
+        ensures { result ≡ cell_named self.now name.now index }
+    {
+        match self.find(name) {
+            Some(found) => self.cell(GlobalId(found), index),
+            None => None,
+        }
     }
 
     /// What a cell holds, by the global's number; none where there is no such cell.
-    pub fn cell(&self, global: GlobalId, index: u64) -> Option<i64> {
+    pub fn cell(&self, global: GlobalId, index: u64) -> Option<i64>
+        ensures { result ≡ cell_at self.now global.0 index }
+    {
         let found = self.globals.as_slice().get(global.0)?;
         found.cells.as_slice().get(index as usize).copied()
     }
 
     /// Gives a cell a number, by the global's number; false, and nothing is changed, where there is no such cell.
-    pub fn set_cell(&mut self, global: GlobalId, index: u64, value: i64) -> bool {
-        let Some(found) = self.globals.as_mut_slice().get_mut(global.0) else {
-            return false;
-        };
-        match found.cells.as_mut_slice().get_mut(index as usize) {
-            Some(cell) => {
-                *cell = value;
-                true
-            }
-            None => false,
+    pub fn set_cell(&mut self, global: GlobalId, index: u64, value: i64) -> bool
+        ensures there { IsTrue result ↔ IsSome (cell_at self.old global.0 index) }
+        ensures not_there { OnFalse result (self.new ≡ self.old) }
+        ensures set { OnTrue result (Sets self.old self.new global.0 index value) }
+    {
+        if global.0 < self.globals.len() {
+            let found = &mut self.globals[global.0];
+            found.set(index as usize, value)
+        } else {
+            false
         }
     }
 
     /// The same memory again.
-    pub fn copy(&self) -> Result<Memory, OutOfMemory> {
+    pub fn copy(&self) -> Result<Memory, OutOfMemory>
+        ensures { IfOk result (λ m. m ≡ self.now) }
+    {
         let mut globals = Vec::new(self.alloc);
         for global in &self.globals {
-            globals.push(GlobalCells {
-                name: global.name.copy()?,
-                cells: global.cells.clone()?,
-            })?;
+            globals.push(global.copy()?)?;
         }
         Ok(Memory {
             alloc: self.alloc,
@@ -91,11 +160,17 @@ impl Memory {
     }
 
     /// Whether both have the same globals with the same numbers.
-    pub fn same(&self, other: &Memory) -> bool {
-        self.globals.len() == other.globals.len()
-            && self.globals.iter().zip(other.globals.iter()).all(|(mine, its)| mine
-                .name
-                .is_same(&its.name)
-                && mine.cells == its.cells)
+    pub fn same(&self, other: &Memory) -> bool
+        ensures { IsTrue result ↔ (self.now ≡ other.now) }
+    {
+        if self.globals.len() != other.globals.len() {
+            return false;
+        }
+        for i in 0..self.globals.len() {
+            if !self.globals[i].is_same(&other.globals[i]) {
+                return false;
+            }
+        }
+        true
     }
 }
