@@ -18,9 +18,6 @@ use std::alloc::Global;
 use store::Memory;
 use verifier::Verified;
 
-/// The most instructions that a verified module declares.
-pub const MOST_INSTRUCTIONS: u64 = 1_000_000_000_000;
-
 /// Whether a run goes on.
 #[derive(Clone, Copy, Debug, PartialEq, Eq)]
 pub(crate) enum Phase {
@@ -171,7 +168,7 @@ impl<'v> Machine<'v> {
         let Some(top) = self.hand(worker) else {
             return Ok(false);
         };
-        if self.instructions >= MOST_INSTRUCTIONS {
+        if self.instructions >= self.verified.budget() {
             self.phase = Phase::Trapped;
             return Ok(true);
         }

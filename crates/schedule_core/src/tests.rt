@@ -1,198 +1,108 @@
-//! Schedules of a program with one detach, whose lines are those of its text in `examples/pair.ll`.
+//! Schedules of a program with one detach.
 use crate::{Event, Machine, Status, replay};
-use cfg::Graph;
 use frame::Path;
-use lists::{Name, Seq};
-use program::{
-    Address, BinaryOperator, Block, BlockId, Budget, Ending, Form, Function, FunctionId, GlobalId,
-    Instruction, Left, Measure, ObjectName, Operand, Parameter, Program, RegisterId, RegisterKind,
-    ResultType, Step, Terminator, Width,
-};
+use program::RegisterId;
 use serial_machine::RunFault;
-use std::alloc::{AllocError, Global};
+use std::alloc::AllocError;
+use std::hash::RandomState;
 use std::test::Fail;
 use store::Memory;
-use types::Typed;
-use verifier::Verified;
+use verifier::{Verified, verify};
 
-const WORD: RegisterKind = RegisterKind::Number(Width::Bits64);
+/// The text of `examples/pair.ll`.
+const PAIR: &str = "\
+@a = global [2 x i64] zeroinitializer
+define i64 @main(i64 %n) {
+;! writes @a 0 2
+;! budget 0 14
+entry:
+;! left 0 14
+%s = call token @llvm.syncregion.start()
+detach within %s, label %d, label %c
+d:
+;! left 0 3
+;! foot writes @a 0 1
+%p = getelementptr inbounds i64, ptr @a, i64 0
+store i64 %n, ptr %p
+reattach within %s, label %c
+c:
+;! pending %s writes @a 0 1
+;! left 0 9
+%q = getelementptr inbounds i64, ptr @a, i64 1
+store i64 %n, ptr %q
+sync within %s, label %j
+j:
+;! left 0 6
+%u = getelementptr inbounds i64, ptr @a, i64 0
+%x = load i64, ptr %u
+%v = getelementptr inbounds i64, ptr @a, i64 1
+%y = load i64, ptr %v
+%t = add i64 %x, %y
+ret i64 %t
+}
+";
 
-fn zero(alloc: Global) -> Form {
-    Form {
-        terms: Seq::new(alloc),
-        constant: 0,
+/// The text of `examples/fib.ll`.
+const FIB: &str = "\
+define i64 @fib(i64 %n) {
+;! requires %n >= 0
+;! requires %n <= 20
+;! measure %n max 20
+;! budget 2 15
+entry:
+;! left 2 15
+%x = alloca i64
+%s = call token @llvm.syncregion.start()
+%c = icmp slt i64 %n, 2
+br i1 %c, label %small, label %big
+small:
+;! left 0 1
+ret i64 %n
+big:
+;! keeps %n >= 2
+;! keeps %n <= 20
+;! left 2 11
+%m = sub nsw i64 %n, 1
+detach within %s, label %kid, label %rest
+kid:
+;! keeps %m >= 0
+;! keeps %m <= 20
+;! keeps %m+1 <= %n
+;! left 1 3
+;! foot writes %x 0 1
+%r = call i64 @fib(i64 %m)
+store i64 %r, ptr %x
+reattach within %s, label %rest
+rest:
+;! keeps %n >= 2
+;! keeps %n <= 20
+;! pending %s writes %x 0 1
+;! left 1 6
+%l = sub nsw i64 %n, 2
+%y = call i64 @fib(i64 %l)
+sync within %s, label %join
+join:
+;! left 0 3
+%z = load i64, ptr %x
+%t = add i64 %z, %y
+ret i64 %t
+}
+define i64 @main(i64 %n) {
+;! requires %n >= 0
+;! requires %n <= 20
+;! budget 0 31457267
+entry:
+;! left 0 31457267
+%r = call i64 @fib(i64 %n)
+ret i64 %r
+}
+";
+
+fn verified(rt: &HostRuntime, text: &str) -> Result<Verified, Fail> {
+    match verify(rt.alloc(), RandomState::new(rt)?, text.as_bytes()) {
+        Ok(verified) => Ok(verified),
+        Err(_) => Err(Fail::from("refused")),
     }
-}
-
-/// A block whose lines are those of its instructions, from `first` on.
-fn block(
-    alloc: Global,
-    first: u32,
-    instructions: Vec<Instruction>,
-    line: u32,
-    terminator: Terminator,
-) -> Result<Block, AllocError> {
-    let mut steps = Seq::new(alloc);
-    let mut line_of_step = first;
-    for instruction in instructions {
-        steps.push(Step {
-            line: line_of_step,
-            shows: Seq::new(alloc),
-            instruction,
-        })?;
-        line_of_step = line_of_step.wrapping_add(1);
-    }
-    Ok(Block {
-        line: first,
-        keeps: Seq::new(alloc),
-        pending: Seq::new(alloc),
-        left: Left {
-            line: first,
-            self_calls: zero(alloc),
-            instructions: zero(alloc),
-        },
-        foot: Seq::new(alloc),
-        phis: Seq::new(alloc),
-        steps,
-        ending: Some(Ending {
-            line,
-            shows: Seq::new(alloc),
-            terminator,
-        }),
-    })
-}
-
-/// The cell of `@a` at an index, named by the register.
-fn element(register: usize, index: i64) -> Instruction {
-    Instruction::ElementPointer {
-        register: RegisterId(register),
-        object: ObjectName::Global(GlobalId(0)),
-        index: Operand::Number(index),
-    }
-}
-
-fn store(address: usize) -> Instruction {
-    Instruction::Store {
-        value: Operand::Register(RegisterId(0)),
-        address: Address::Element(RegisterId(address)),
-    }
-}
-
-fn load(register: usize, address: usize) -> Instruction {
-    Instruction::Load {
-        register: RegisterId(register),
-        address: Address::Element(RegisterId(address)),
-    }
-}
-
-/// The blocks of `main`; its registers are `%n`, `%s`, `%p`, `%q`, `%u`, `%x`, `%v`, `%y` and `%t`.
-fn blocks(alloc: Global) -> Result<Seq<Block>, AllocError> {
-    let region = RegisterId(1);
-    let entry = block(
-        alloc,
-        7,
-        vec![in alloc; Instruction::StartRegion { register: region }]?,
-        8,
-        Terminator::Detach {
-            region,
-            body: BlockId(1),
-            continuation: BlockId(2),
-        },
-    )?;
-    let child = block(
-        alloc,
-        12,
-        vec![in alloc; element(2, 0), store(2)]?,
-        14,
-        Terminator::Reattach {
-            region,
-            continuation: BlockId(2),
-        },
-    )?;
-    let rest = block(
-        alloc,
-        18,
-        vec![in alloc; element(3, 1), store(3)]?,
-        20,
-        Terminator::Sync {
-            region,
-            target: BlockId(3),
-        },
-    )?;
-    let sum = Instruction::Binary {
-        register: RegisterId(8),
-        operator: BinaryOperator::Add,
-        width: Width::Bits64,
-        left: Operand::Register(RegisterId(5)),
-        right: Operand::Register(RegisterId(7)),
-    };
-    let join = block(
-        alloc,
-        23,
-        vec![in alloc; element(4, 0), load(5, 4), element(6, 1), load(7, 6), sum]?,
-        28,
-        Terminator::Return {
-            value: Some(Operand::Register(RegisterId(8))),
-        },
-    )?;
-    Ok(Seq::from_vec(vec![in alloc; entry, child, rest, join]?))
-}
-
-fn registers(alloc: Global) -> Result<Seq<RegisterKind>, AllocError> {
-    let element = RegisterKind::Element;
-    Ok(Seq::from_vec(vec![in alloc;
-        WORD,
-        RegisterKind::Region,
-        element,
-        element,
-        element,
-        WORD,
-        element,
-        WORD,
-        WORD,
-    ]?))
-}
-
-fn main_function(alloc: Global) -> Result<Function, AllocError> {
-    Ok(Function {
-        line: 2,
-        name: Name::from_text(String::from_str(alloc, "main")?),
-        result_type: ResultType::Number,
-        parameters: Seq::from_vec(vec![in alloc; Parameter::Number]?),
-        registers: registers(alloc)?,
-        allocas: Seq::new(alloc),
-        requirements: Seq::new(alloc),
-        guarantees: Seq::new(alloc),
-        zones: Seq::new(alloc),
-        measure: Measure {
-            line: 2,
-            form: zero(alloc),
-            bound: 0,
-        },
-        budget: Budget {
-            line: 4,
-            self_calls: 0,
-            instructions: 14,
-        },
-        blocks: blocks(alloc)?,
-    })
-}
-
-fn pair(alloc: Global) -> Result<Verified, AllocError> {
-    let global = program::Global {
-        line: 1,
-        name: Name::from_text(String::from_str(alloc, "a")?),
-        cells: 2,
-    };
-    let program = Program {
-        globals: Seq::from_vec(vec![in alloc; global]?),
-        functions: Seq::from_vec(vec![in alloc; main_function(alloc)?]?),
-        main: FunctionId(0),
-    };
-    Ok(Verified::new(Graph {
-        typed: Typed { program },
-        functions: Seq::new(alloc),
-    }))
 }
 
 /// So many steps of the worker.
@@ -213,7 +123,7 @@ fn is_at(machine: &Machine, path: &Path, status: Status, line: u32) -> bool {
 #[test]
 fn stalls_and_resumes_a_stolen_root(rt: HostRuntime) -> Result<(), Fail> {
     let alloc = rt.alloc();
-    let verified = pair(alloc)?;
+    let verified = verified(&rt, PAIR)?;
     let root = Path::root(alloc);
     let mut events = Vec::new(alloc);
     steps(&mut events, 0, 2)?;
@@ -252,7 +162,7 @@ fn stalls_and_resumes_a_stolen_root(rt: HostRuntime) -> Result<(), Fail> {
 #[test]
 fn skips_events_that_are_not_enabled(rt: HostRuntime) -> Result<(), Fail> {
     let alloc = rt.alloc();
-    let verified = pair(alloc)?;
+    let verified = verified(&rt, PAIR)?;
     let mut events = Vec::new(alloc);
     steps(&mut events, 5, 1)?;
     steps(&mut events, 0, 5)?;
@@ -276,7 +186,7 @@ fn skips_events_that_are_not_enabled(rt: HostRuntime) -> Result<(), Fail> {
 #[test]
 fn refuses_arguments_before_workers(rt: HostRuntime) -> Result<(), Fail> {
     let alloc = rt.alloc();
-    let verified = pair(alloc)?;
+    let verified = verified(&rt, PAIR)?;
     let memory = Memory::zeroed(alloc, &verified)?;
     let memory = match Machine::start(alloc, &verified, [].as_slice(), memory, 0) {
         Err(
@@ -291,4 +201,21 @@ fn refuses_arguments_before_workers(rt: HostRuntime) -> Result<(), Fail> {
         Err(RunFault::BadWorkers { .. }) => Ok(()),
         _ => Err(Fail::from("65 workers")),
     }
+}
+
+#[test]
+fn one_worker_runs_the_serial_order(rt: HostRuntime) -> Result<(), Fail> {
+    let alloc = rt.alloc();
+    let verified = verified(&rt, FIB)?;
+    let memory = Memory::zeroed(alloc, &verified)?;
+    let machine = Machine::start(alloc, &verified, [10].as_slice(), memory, 1);
+    let mut machine = machine.ok().ok_or("start")?;
+    for _ in 0..1767 {
+        assert!(rt; machine.apply(&Event::Step(0))?);
+        assert!(rt; machine.live_frames() <= 20);
+    }
+    assert_eq!(rt; machine.result(), Some(55));
+    assert_eq!(rt; machine.instructions(), 1767);
+    assert_eq!(rt; machine.peak(), 20);
+    Ok(())
 }
