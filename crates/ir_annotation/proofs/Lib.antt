@@ -2,3 +2,4 @@ pub mod Adding
 pub mod Again
 pub mod AgainTerms
 pub mod Digits
+pub mod Ordered
