@@ -49,7 +49,3 @@ runs_out element next front count i line total le so_far =
     let k : count - i ≡ 0 = omega arith in
     let one : with_front front (list_at element next (count - i) line) ≡ None = rw k refl in
     sym so_far ∙ one
-
--- nothing follows, and where the next one begins
-pub follows_none : (result next : Option (List Symbol)) → result ≡ next → result ≡ None → next ≡ None
-follows_none result next e h = sym e ∙ h
