@@ -1,5 +1,5 @@
-ghost use Rattle.std.specs.Prelude.{◌≡◌, IfOk};
-ghost use Rattle.verifier.specs.Accepted.{IsAccepted};
+ghost use Rattle.std.specs.Prelude.{◌≡◌, IfOk, IfErr};
+ghost use Rattle.verifier.specs.Accepted.{IsAccepted, IsProgramOf, IsRefused};
 ghost use Rattle.verifier.specs.Budgets.{declared_budget};
 
 use crate::cost::declared;
@@ -62,7 +62,8 @@ impl Verified {
 ///
 /// A refusal names a rule of the first phase with a fault, by its number, and the line that breaks it.
 pub fn verify(alloc: Global, state: RandomState, text: &[u8]) -> Result<Verified, Refused>
-    ensures { IfOk result IsAccepted }
+    ensures accepted { IfOk result (IsProgramOf text.now) }
+    ensures refused { IfErr result (IsRefused text.now) }
 {
     let module = read(alloc, state, text)?;
     let typed = check_types(alloc, state, module)?;
