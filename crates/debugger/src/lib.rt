@@ -1,0 +1,14 @@
+//! Schedules as text, and a debugger's view of a run.
+//!
+//! A schedule is a list of events. `read_schedule` and `print_schedule` turn its text into the list and back: each list has
+//! one spelling, and each text that is read is the spelling of its list.
+#![tactic(auto)]
+
+mod fault;
+mod line;
+mod numeral;
+mod read;
+
+pub use fault::ScheduleFault;
+pub use line::Line;
+pub use read::read_schedule;
