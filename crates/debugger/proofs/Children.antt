@@ -1,6 +1,6 @@
 -- The numbers of a path, one after another.
-use Rattle.std.proofs.Common.{◌≡◌, ◌≢◌, ℕ, ◌≤◌, ◌<◌, Bool, true, false, eqb, List, [], ◌∷◌, ◌++◌, length, drop, refl, sym, ap, ◌∙◌, subst, append_assoc, append-nil, arith}
-use Rattle.std.specs.List.{prefix_len, list_all}
+use Rattle.std.proofs.Common.{◌≡◌, ◌≢◌, ℕ, ◌≤◌, true, false, eqb, List, [], ◌∷◌, ◌++◌, length, drop, refl, sym, ap, ◌∙◌, subst, append_assoc, append-nil, arith}
+use Rattle.std.specs.List.{prefix_len}
 use Rattle.std.proofs.lemmas.List.Folds.{list_all-append}
 use Rattle.std.proofs.lemmas.Bool.{eqb-true}
 use Rattle.debugger.specs.Reading.{is_not, IsFirstChild}
@@ -8,7 +8,7 @@ use Rattle.debugger.specs.ScheduleText.{IsNumeral, AreChildren}
 use Rattle.debugger.proofs.Cuts.{lacks, starts, same_front}
 use Rattle.debugger.proofs.Numerals.{numeral_lacks, same_number}
 
-children_start : (text numbers : List ℕ) → AreChildren text numbers → prefix_len (is_not 46) text ≡ 0
+pub children_start : (text numbers : List ℕ) → AreChildren text numbers → prefix_len (is_not 46) text ≡ 0
 children_start text [] h = subst (λ (t : List ℕ). prefix_len (is_not 46) t ≡ 0) (sym h) refl
 children_start text (k ∷ numbers) h = subst (λ (t : List ℕ). prefix_len (is_not 46) t ≡ 0) (sym h.2) (starts 46 (h.0 ++ h.1))
 

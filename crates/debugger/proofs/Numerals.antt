@@ -1,11 +1,9 @@
 -- Numerals hold digits alone.
-use Rattle.std.proofs.Common.{◌≡◌, ℕ, ◌<◌, Bool, true, false, eqb, List, [], ◌∷◌, refl, sym, ◌∙◌, arith}
+use Rattle.std.proofs.Common.{◌≡◌, ℕ, ◌<◌, true, false, eqb, List, [], ◌∷◌, refl, sym, ◌∙◌, arith}
 use Rattle.std.specs.Char.{is_ascii_digit}
 use Rattle.std.specs.Str.{all_ascii_digits}
 use Rattle.std.proofs.lemmas.Bool.Decides.{nat_tests}
-use Rattle.ir_annotation.specs.Words.{is_numeral}
 use Rattle.ir_annotation.proofs.Digits.{both, numeral_digits}
-use Rattle.debugger.specs.Reading.{is_not}
 use Rattle.debugger.specs.ScheduleText.{IsNumeral}
 use Rattle.debugger.proofs.Cuts.{lacks}
 

@@ -1,5 +1,5 @@
 -- A line is made of its words in one way.
-use Rattle.std.proofs.Common.{◌≡◌, ◌≢◌, ℕ, ◌≤◌, ◌<◌, min, List, [], ◌∷◌, ◌++◌, codes, Option, Some, None, refl, sym, ap, ◌∙◌, subst, append_assoc, arith}
+use Rattle.std.proofs.Common.{◌≡◌, ◌≢◌, ℕ, ◌≤◌, min, List, ◌∷◌, ◌++◌, codes, Option, Some, None, sym, ap, ◌∙◌, subst, arith}
 use Rattle.std.specs.Option.{MatchOption, IfSome, IfNone}
 use denote.Bor.{Bor}
 use Rattle.std.proofs.lemmas.List.{append_cancel_left}

@@ -1,5 +1,5 @@
 -- What was read so far, and what one more line makes of it.
-use Rattle.std.proofs.Common.{◌≡◌, ◌≢◌, ℕ, suc, ◌+◌, ◌-◌, ◌≤◌, ◌<◌, min, ◌⊎◌, inl, inr, Bool, true, false, eqb, List, [], ◌∷◌, ◌++◌, length, Option, Some, None, refl, sym, ap, ◌∙◌, subst, append_assoc, append-nil, length-append, arith}
+use Rattle.std.proofs.Common.{◌≡◌, ℕ, suc, ◌+◌, ◌-◌, ◌≤◌, ◌<◌, ◌⊎◌, inl, inr, true, false, eqb, List, [], ◌∷◌, ◌++◌, length, Option, None, refl, sym, ap, ◌∙◌, subst, append_assoc, append-nil, length-append, arith}
 use Rattle.std.specs.Prelude.{replicate}
 use Rattle.std.proofs.lemmas.Grind.{flat_map-append}
 use Rattle.std.proofs.lemmas.List.{length-replicate}
@@ -9,8 +9,6 @@ use Rattle.debugger.specs.declared.line.Line.{Line}
 use Rattle.debugger.specs.declared.line.Line.TheVariants.{Steps, Steals}
 use Rattle.debugger.specs.Reading.{IsNext, cap, capped}
 use Rattle.debugger.specs.ScheduleText.{IsSpelled, IsText, AreApart, AreLines, Differs, IsSchedule, IsBadLine, IsTooLong, stepper, last_stepper, line_events, events_of, most}
-use Rattle.debugger.proofs.Cuts.{by_test}
-use Rattle.debugger.proofs.Spelled.{capped_stepper}
 use Rattle.debugger.proofs.Children.{nothing_left, some_left}
 
 pub record Progress (text rest : List ℕ) (before : Option ℕ) (number : ℕ) (events : List Event) : Type 0 where

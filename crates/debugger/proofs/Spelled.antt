@@ -1,14 +1,12 @@
 -- What a line that is spelled has.
-use Rattle.std.proofs.Common.{◌≡◌, ◌≢◌, ℕ, ◌<◌, Bool, true, false, List, [], ◌∷◌, ◌++◌, get_or, codes, Option, Some, None, refl, sym, ap, ◌∙◌, subst, arith}
-use Rattle.std.specs.List.{list_all}
+use Rattle.std.proofs.Common.{◌≡◌, ℕ, Bool, true, false, List, ◌∷◌, ◌++◌, get_or, codes, Option, Some, refl, sym, ap, ◌∙◌, subst, arith}
 use Rattle.std.specs.Prelude.{IsTrue, ◌↔◌}
 use Rattle.std.proofs.lemmas.List.{append_cancel_left}
 use Rattle.std.proofs.lemmas.List.Folds.{list_all-append}
-use Rattle.frame.specs.declared.path.Path.{Path}
 use Rattle.debugger.specs.declared.line.Line.{Line}
 use Rattle.debugger.specs.declared.line.Line.TheVariants.{Steps, Steals}
 use Rattle.debugger.specs.Reading.{is_not, CutAt, capped}
-use Rattle.debugger.specs.ScheduleText.{IsNumeral, IsSpelled, IsStepping, IsStealing, stepper, Differs}
+use Rattle.debugger.specs.ScheduleText.{IsNumeral, IsSpelled, stepper, Differs}
 use Rattle.debugger.proofs.Cuts.{lacks, same_cut}
 use Rattle.debugger.proofs.Numerals.{numeral_lacks, same_number}
 use Rattle.debugger.proofs.Children.{children_lack}

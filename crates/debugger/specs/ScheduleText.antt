@@ -117,3 +117,11 @@ pub record IsTooLong (text : List ℕ) (number : ℕ) : Type 0 where
   pub is_spelled : IsSpelled line next
   pub is_apart : Differs (last_stepper None lines) (stepper next)
   pub is_over : (most < length (before ++ (line ++ 10 ∷ []))) ⊎ (most < length (events_of lines ++ line_events next))
+
+-- ---- laws
+
+abbrev pub OneSpelling : Type 0
+OneSpelling = (text other : List ℕ) (events : List Event) → IsSchedule text events → IsSchedule other events → text ≡ other
+
+abbrev pub OneReading : Type 0
+OneReading = (text : List ℕ) (events others : List Event) → IsSchedule text events → IsSchedule text others → events ≡ others

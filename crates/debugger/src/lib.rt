@@ -5,10 +5,15 @@
 #![tactic(auto)]
 
 mod fault;
+pub mod laws;
 mod line;
 mod numeral;
+mod print;
 mod read;
+#[cfg(test)]
+mod tests;
 
 pub use fault::ScheduleFault;
 pub use line::Line;
+pub use print::print_schedule;
 pub use read::read_schedule;

@@ -1,4 +1,4 @@
-use Rattle.std.proofs.Common.{List, ℕ, ◌∷◌, ◌++◌, arith}
+use Rattle.std.proofs.Common.{arith}
 use Rattle.debugger.proofs.Cuts.{cut_here, found}
 use Rattle.debugger.proofs.line.cut_at.Goals as goal
 

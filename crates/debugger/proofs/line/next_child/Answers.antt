@@ -1,4 +1,3 @@
-use Rattle.std.proofs.Common.{◌∷◌, ap, ◌∙◌}
 use Rattle.debugger.proofs.Children.{same_child, behind_dot}
 use Rattle.debugger.proofs.line.next_child.Goals as goal
 

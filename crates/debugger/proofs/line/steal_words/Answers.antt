@@ -1,4 +1,3 @@
-use Rattle.std.proofs.Common.{sym}
 use Rattle.debugger.proofs.Parts.{steal_words, joined}
 use Rattle.debugger.proofs.line.steal_words.Goals as goal
 

@@ -1,4 +1,4 @@
-use Rattle.ir_annotation.proofs.Digits.{numeral_utf8, small_parsed, large_parsed}
+use Rattle.ir_annotation.proofs.Digits.{numeral_utf8, large_parsed}
 use Rattle.debugger.proofs.numeral.small_value.Goals as goal
 
 pub returns-in-Err : goal.returns-in-Err

@@ -1,5 +1,5 @@
-use Rattle.std.proofs.Common.{subst, sym, List, ℕ, Option}
-use Rattle.debugger.specs.ScheduleText.{IsSpelled, Differs}
+use Rattle.std.proofs.Common.{subst, List, ℕ}
+use Rattle.debugger.specs.ScheduleText.{IsSpelled}
 use Rattle.debugger.proofs.Spelled.{same_line, not_next, refused}
 use Rattle.debugger.proofs.read.next_line.Goals as goal
 

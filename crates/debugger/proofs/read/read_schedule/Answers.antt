@@ -1,6 +1,4 @@
-use Rattle.std.proofs.Common.{◌≡◌, ◌≤◌, length, subst, sym, Option, ℕ}
-use Rattle.debugger.specs.ScheduleText.{most}
-use Rattle.debugger.proofs.Progress.{Progress, too_long, one_more_line, few_so_far}
+use Rattle.debugger.proofs.Progress.{too_long, one_more_line}
 use Rattle.debugger.proofs.read.read_schedule.Goals as goal
 
 pub returns-then-is_over-clause-fault : goal.returns-then-is_over-clause-fault
