@@ -6,8 +6,11 @@ use Rattle.ir_text.specs.Reading.{Answers}
 use Rattle.types.specs.declared.typed.Typed.{Typed}
 use Rattle.types.specs.declared.fault.TypeFault.TheVariants.{Fault as TypeFaultAt}
 use Rattle.types.specs.Typed.{Means}
+use Rattle.cfg.specs.declared.refusal.Broken.{Broken}
 use Rattle.cfg.specs.declared.refusal.GraphFault.TheVariants.{Fault as GraphFaultAt}
 use Rattle.cfg.specs.Rules.{IsGraphRight, IsGraphFault}
+use Rattle.definedness.specs.declared.fault.DefinedFault.TheVariants.{Fault as DefinedFaultAt}
+use Rattle.definedness.specs.Definedness.{IsDefinednessBroken, IsDefinednessFault}
 use Rattle.region_match.specs.declared.fault.RegionFault.TheVariants.{Fault as RegionFaultAt}
 use Rattle.region_match.specs.Matched.{AreRegionsRight, IsRegionFault}
 use Rattle.verifier.specs.declared.refusal.Refused.{Refused}
@@ -17,6 +20,7 @@ use Rattle.verifier.specs.declared.refusal.Refused.TheVariants.{Fault, Memory}
 pub record IsRight (program : Program) : Type 0 where
   pub graph : IsGraphRight program
   pub regions : AreRegionsRight program
+  pub definedness : (b : Broken) → IsDefinednessBroken program b → ⊥
 
 -- the text is read as a module, the module means this program, and the program keeps the rules
 abbrev pub IsProgramOf : List ℕ → Program → Type 0
@@ -26,7 +30,8 @@ IsProgramOf text program = (whole : Module) × Answers text (Ok whole) × (typed
 abbrev pub IsFaulty : Program → ℕ → ℕ → Type 0
 IsFaulty program number line =
     IsGraphFault program (GraphFaultAt number line)
-    ⊎ (IsGraphRight program × IsRegionFault program (RegionFaultAt number line))
+    ⊎ (IsGraphRight program
+    × (IsRegionFault program (RegionFaultAt number line) ⊎ (AreRegionsRight program × IsDefinednessFault program (DefinedFaultAt number line))))
 
 -- the first phase with a fault names it
 abbrev pub IsRefused : List ℕ → Refused → Type 0

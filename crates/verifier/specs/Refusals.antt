@@ -1,6 +1,8 @@
 -- What a phase's fault says of the module.
 use Rattle.cfg.specs.declared.refusal.GraphFault.{GraphFault}
 use Rattle.cfg.specs.declared.refusal.GraphFault.TheVariants.{Fault as GraphFaultAt, Memory as GraphMemory}
+use Rattle.definedness.specs.declared.fault.DefinedFault.{DefinedFault}
+use Rattle.definedness.specs.declared.fault.DefinedFault.TheVariants.{Fault as DefinedFaultAt, Memory as DefinedMemory}
 use Rattle.ir_lex.specs.declared.fault.TextFault.{TextFault}
 use Rattle.ir_lex.specs.declared.fault.TextFault.TheVariants.{Fault as TextFaultAt, Memory as TextMemory}
 use Rattle.region_match.specs.declared.fault.RegionFault.{RegionFault}
@@ -25,3 +27,7 @@ by_graph GraphMemory = Memory
 abbrev pub by_regions : RegionFault → Refused
 by_regions (RegionFaultAt number line) = Fault number line
 by_regions RegionMemory = Memory
+
+abbrev pub by_definedness : DefinedFault → Refused
+by_definedness (DefinedFaultAt number line) = Fault number line
+by_definedness DefinedMemory = Memory
