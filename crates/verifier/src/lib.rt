@@ -1,5 +1,5 @@
-//! The phases of the verifier in their order: the text is read, names and types are judged, the graph is built. The first
-//! phase with a fault decides.
+//! The phases of the verifier in their order: the text is read, names and types are judged, the graph is built, tasks and
+//! regions are matched. The first phase with a fault decides.
 #![tactic(auto)]
 
 mod cost;

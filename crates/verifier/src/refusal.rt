@@ -1,8 +1,9 @@
 ghost use Rattle.std.specs.Prelude.{◌≡◌};
-ghost use Rattle.verifier.specs.Refusals.{by_text, by_types, by_graph};
+ghost use Rattle.verifier.specs.Refusals.{by_text, by_types, by_graph, by_regions};
 
 use cfg::GraphFault;
 use ir_text::TextFault;
+use region_match::RegionFault;
 use thiserror::Error;
 use types::TypeFault;
 
@@ -46,6 +47,17 @@ impl From<GraphFault> for Refused {
         match fault {
             GraphFault::Fault { number, line } => Refused::Fault { number, line },
             GraphFault::Memory => Refused::Memory,
+        }
+    }
+}
+
+impl From<RegionFault> for Refused {
+    ghost from_gives = { λ fault refused. refused ≡ by_regions fault };
+
+    fn from(fault: RegionFault) -> Refused {
+        match fault {
+            RegionFault::Fault { number, line } => Refused::Fault { number, line },
+            RegionFault::Memory => Refused::Memory,
         }
     }
 }

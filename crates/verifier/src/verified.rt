@@ -7,6 +7,7 @@ use crate::refusal::Refused;
 use cfg::{Graph, graph};
 use ir_text::read;
 use program::Program;
+use region_match::regions;
 use std::alloc::Global;
 use std::hash::RandomState;
 use std::marker::Model;
@@ -68,6 +69,7 @@ pub fn verify(alloc: Global, state: RandomState, text: &[u8]) -> Result<Verified
     let module = read(alloc, state, text)?;
     let typed = check_types(alloc, state, module)?;
     let graph = graph(alloc, typed)?;
+    regions(alloc, &graph)?;
     let budget = declared(&graph.typed.program);
     Ok(Verified { graph, budget })
 }
