@@ -21,4 +21,7 @@ pub mod EverySchedule
 pub mod RankInduction
 pub mod Fuel
 pub mod SerialExists
+pub mod Budgets
 pub mod PairSample
+pub mod PairSerial
+pub mod PairRuns

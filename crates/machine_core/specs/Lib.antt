@@ -10,5 +10,6 @@ pub mod SerialMeaning
 pub mod Events
 pub mod Replay
 pub mod SerialConditions
+pub mod Budgets
 pub mod Schedules
 pub mod Pair

@@ -6,26 +6,29 @@
 //! - `State`: the tree of frames with its memory, and a step of one frame.
 //! - `SerialMeaning`: the serial elision's result, memory, count and depth.
 //! - `Events`, `Replay`: workers, tasks, steps and steals; schedules.
+//! - `Conditions`, `SerialConditions`, `Budgets`: local conditions, each about one frame at one place.
+//! - `Schedules`: the schedule theorem. `Pair`: a sample program.
 #![tactic(auto)]
 
 ghost use Rattle.machine_core.specs.Pair.{PairOnEverySchedule, PairOnTwoWorkers};
 ghost use Rattle.machine_core.specs.Schedules.{EverySchedule};
-ghost use Rattle.machine_core.specs.SerialConditions.{SerialRunExists};
+ghost use Rattle.machine_core.specs.Budgets.{SerialRunExists};
 
-/// Whatever the schedule, a program that meets the local conditions does what its serial run does: no step traps, no run does
-/// more instructions, living frames are at most the workers times the serial depth, and each run that ends has the serial
-/// memory, result, count and depth.
+/// The schedule theorem: a program that meets the local conditions, for arguments and memory for which they hold at the root within a
+/// budget and a depth, has one serial meaning, within both; and on any number of workers, whatever the events, no step traps, no run
+/// does more instructions than the serial one, living frames are at most the workers times the serial depth, and each run that
+/// ends has the serial memory, result, count and depth.
 pub fn every_schedule()
     ensures { EverySchedule }
 {}
 
-/// Where the local conditions for the serial run hold, no instruction of it traps and it ends.
+/// Where the local conditions for the serial run hold, no instruction of it traps, and it ends within its budget and depth.
 pub fn serial_run_exists()
     ensures { SerialRunExists }
 {}
 
-/// The sample program `pair` meets the local conditions: whatever its argument n, its serial run gives n + n after 14 instructions,
-/// and the schedule theorem holds of it on any number of workers.
+/// The sample program `pair` meets all local conditions, and the schedule theorem holds of it with a budget of 14 and a depth of 2:
+/// whatever its argument n, its serial run uses both whole and gives n + n.
 pub fn pair_on_every_schedule()
     ensures { PairOnEverySchedule }
 {}
