@@ -2,6 +2,7 @@
 
 mod beginnings;
 mod choices;
+mod documented;
 mod forms;
 mod limits;
 mod long_names;
