@@ -25,3 +25,5 @@ pub mod Budgets
 pub mod PairSample
 pub mod PairSerial
 pub mod PairRuns
+pub mod ChildCounts
+pub mod TaskLaws

@@ -9,6 +9,8 @@ pub mod Conditions
 pub mod SerialMeaning
 pub mod Events
 pub mod Replay
+pub mod Counts
+pub mod Tasks
 pub mod SerialConditions
 pub mod Budgets
 pub mod Schedules
