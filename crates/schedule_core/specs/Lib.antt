@@ -1,3 +1,4 @@
 pub mod Scheduling
 pub mod Tasks
 pub mod Running
+pub mod Seen

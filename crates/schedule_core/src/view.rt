@@ -1,4 +1,5 @@
-ghost use Rattle.std.specs.Prelude.{IsTrue, IfSome};
+ghost use Rattle.std.specs.Prelude.{◌≡◌, ◌↔◌, IsTrue, IfSome};
+ghost use Rattle.schedule_core.specs.Seen.{FindsTop, top_within};
 ghost use Rattle.schedule_core.specs.Tasks.{IsLowest, IsTopAbove, IsTaskTop};
 
 use crate::activation::Activation;
@@ -67,23 +68,27 @@ fn line(program: &Program, top: &Activation) -> Option<u32> {
 impl Machine<'_> {
     /// Whether a path is that of a task: the root's, or a detached child's.
     fn is_lowest(node: &Node<Activation>) -> bool
-        ensures { IsTrue result → IsLowest node.now }
+        ensures { IsTrue result ↔ IsLowest node.now }
     {
         node.parent.is_none() || node.frame.frame.role != Role::Body
     }
 
-    /// The slot of the top of the task whose lowest frame is in the slot.
+    /// The slot of the top of the task whose lowest frame is in the slot: no task has more frames than the peak.
     fn top_above(&self, lowest: usize) -> Option<usize>
-        ensures { IfSome result (IsTopAbove self.now.cactus lowest) }
+        ensures is_top { IfSome result (IsTopAbove self.now.cactus lowest) }
+        ensures exact { result ≡ top_within self.now.cactus self.now.peak lowest }
     {
         let mut top = lowest;
-        for _ in 0..self.cactus.live_frames() {
+        for _ in 0..self.peak {
             match self.cactus.node(top)?.frame.callee {
                 Some(callee) => top = callee,
                 None => return Some(top),
             }
         }
-        None
+        match self.cactus.node(top)?.frame.callee {
+            Some(_) => None,
+            None => Some(top),
+        }
     }
 
     /// The slot of the lowest frame of the task whose top is in the slot.
@@ -101,7 +106,8 @@ impl Machine<'_> {
 
     /// The slot of the top of the task of the path.
     pub(crate) fn top_of(&self, path: &Path) -> Option<usize>
-        ensures { IfSome result (IsTaskTop self.now.cactus path.now) }
+        ensures is_top { IfSome result (IsTaskTop self.now.cactus path.now) }
+        ensures exact { FindsTop self.now.cactus self.now.peak path.now result }
     {
         let (lowest, generation) = self.cactus.spot(path)?;
         let node = self.cactus.get(lowest, generation)?;

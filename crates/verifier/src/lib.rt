@@ -4,6 +4,8 @@
 
 mod cost;
 mod refusal;
+#[cfg(test)]
+mod tests;
 mod verified;
 
 pub use refusal::Refused;
