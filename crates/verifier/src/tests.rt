@@ -1,10 +1,12 @@
 //! Modules as texts, and the fault that each names. Expected faults are worked by hand from the rules in `docs/RULES.md`.
 
 mod calls;
+mod definedness;
 mod forms;
 mod graph;
 mod names;
 mod pointers;
+mod regions;
 mod samples;
 mod types;
 
