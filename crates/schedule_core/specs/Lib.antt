@@ -2,3 +2,5 @@ pub mod Scheduling
 pub mod Tasks
 pub mod Running
 pub mod Seen
+pub mod Viewed
+pub mod Stepping

@@ -4,6 +4,7 @@ ghost use Rattle.cactus.specs.Frames.{Lives, frame_at};
 ghost use Rattle.schedule_core.specs.Scheduling.{hand_of, IsIdle, IsReady};
 ghost use Rattle.frame.specs.declared.path.Path.{Path};
 ghost use Rattle.store.specs.declared.memory.Memory.{Memory};
+ghost use Rattle.store.specs.Cells.{cell_named};
 ghost use Rattle.schedule_core.specs.Seen.{Agrees, StealsIf, taken};
 ghost use Rattle.schedule_core.specs.Running.{IsGoing, IsTrapped, result_of, IsStart, IsNumberOfWorkers, StepsWhere, Takes, TakesAt};
 
@@ -260,7 +261,9 @@ impl<'v> Machine<'v> {
     }
 
     /// What a cell of a global holds; none where there is no such cell.
-    pub fn get_global(&self, name: &str, index: u64) -> Option<i64> {
+    pub fn get_global(&self, name: &str, index: u64) -> Option<i64>
+        ensures { result ≡ cell_named self.now.memory name.now index }
+    {
         self.memory.get_global(name, index)
     }
 

@@ -1,4 +1,8 @@
-ghost use Rattle.std.specs.Prelude.{◌≡◌, ◌↔◌, IsTrue, IfSome};
+ghost use Rattle.std.specs.Prelude.{◌≡◌, ◌↔◌, IsTrue, IfSome, IfNone};
+ghost use Rattle.std.specs.Option.{option_copied, option_map};
+ghost use Rattle.cactus.specs.Frames.{HasPath, HasNoPath, node_of_use};
+ghost use Rattle.schedule_core.specs.Seen.{Agrees};
+ghost use Rattle.schedule_core.specs.Viewed.{status_by, Shows, IsTask, IsRunBy};
 ghost use Rattle.schedule_core.specs.Seen.{FindsTop, top_within};
 ghost use Rattle.schedule_core.specs.Tasks.{IsLowest, IsTopAbove, IsTaskTop};
 
@@ -32,7 +36,9 @@ pub struct TaskView<'a> {
 }
 
 /// How the task stands whose top this is.
-fn standing(top: &Activation) -> Status {
+fn standing(top: &Activation) -> Status
+    ensures { result ≡ status_by top.now.runner top.now.frame.waits }
+{
     match (top.runner, top.frame.waits) {
         (Some(worker), _) => Status::Running(worker),
         (None, Wait::Region(region)) => Status::Stalled(region),
@@ -119,7 +125,9 @@ impl Machine<'_> {
     }
 
     /// The task with this lowest frame and this top.
-    fn view(&self, lowest: usize, top: usize) -> Option<TaskView<'_>> {
+    fn view(&self, lowest: usize, top: usize) -> Option<TaskView<'_>>
+        ensures { IfSome result (λ view. Shows self.now.cactus lowest top view) }
+    {
         let path = &self.cactus.node(lowest)?.path;
         let node = self.cactus.node(top)?;
         Some(TaskView {
@@ -132,14 +140,18 @@ impl Machine<'_> {
     }
 
     /// The task of the path; none where the path is no task's.
-    pub fn task(&self, path: &Path) -> Option<TaskView<'_>> {
+    pub fn task(&self, path: &Path) -> Option<TaskView<'_>>
+        ensures { Agrees self.now.cactus self.now.hands.items → IfSome result (IsTask self.now path.now) }
+    {
         let top = self.top_of(path)?;
         let (lowest, _generation) = self.cactus.spot(path)?;
         self.view(lowest, top)
     }
 
     /// The task that the worker runs; none where it is idle.
-    pub fn task_of(&self, worker: u8) -> Option<TaskView<'_>> {
+    pub fn task_of(&self, worker: u8) -> Option<TaskView<'_>>
+        ensures { Agrees self.now.cactus self.now.hands.items → IfSome result (IsRunBy self.now worker) }
+    {
         let top = self.hand(worker)?;
         self.view(self.lowest_below(top)?, top)
     }
@@ -169,12 +181,17 @@ impl Machine<'_> {
     }
 
     /// The slot and the generation of the frame of this path; none where no such frame lives.
-    pub fn spot(&self, path: &Path) -> Option<(usize, u64)> {
+    pub fn spot(&self, path: &Path) -> Option<(usize, u64)>
+        ensures found { IfSome result (λ spot. HasPath self.now.cactus spot.0 spot.1 path.now) }
+        ensures absent { IfNone result (HasNoPath self.now.cactus path.now) }
+    {
         self.cactus.spot(path)
     }
 
     /// The path of the frame that lives in this use of a slot.
-    pub fn path_at(&self, slot: usize, generation: u64) -> Option<&Path> {
+    pub fn path_at(&self, slot: usize, generation: u64) -> Option<&Path>
+        ensures { option_copied result ≡ option_map (λ node. node.path) (node_of_use self.now.cactus slot generation) }
+    {
         self.cactus.path_at(slot, generation)
     }
 
