@@ -1,0 +1,5 @@
+pub mod Moves
+pub mod Edges
+pub mod Costs
+pub mod Depths
+pub mod Serially
