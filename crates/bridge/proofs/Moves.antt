@@ -177,7 +177,7 @@ EndsByTerminator f t (Sync r b rs) = Unit {0}
 EndsByTerminator f t (Call d g vs) = Unit {0}
 EndsByTerminator f t (Return v) = EndsFrame t
 
-abbrev IsEnding : Action → Type 0
+abbrev pub IsEnding : Action → Type 0
 IsEnding (Plain e) = ⊥
 IsEnding (Detach r b k) = ⊥
 IsEnding (Reattach r) = Unit {0}
@@ -301,6 +301,14 @@ module _ (prog : Program) (p : Path) (f : Frame) (m : Memory) where
           missing is = let a : Plain (stops Unmatched f) ≡ Sync r b rs = sym (ap (λ o. item_action prog p f m o) is) ∙ at in cc
       from (Some (Does i)) is h = absurd h
       from (Some (Ends t)) is h = h
+
+  pub sync_here : (r b : ℕ) (rs : Registers) → action_of prog p f m ≡ Sync r b rs → (t : Terminator) × (item_at prog f.function f.block f.index ≡ Some (Ends t))
+  sync_here r b rs at = from (item_at prog f.function f.block f.index) refl (here (Sync r b rs) at)
+    where
+      from : (o : Option Item) → item_at prog f.function f.block f.index ≡ o → OfItem prog f o (Sync r b rs) → (t : Terminator) × (item_at prog f.function f.block f.index ≡ Some (Ends t))
+      from None is h = absurd (let a : Plain (stops Unmatched f) ≡ Sync r b rs = sym (ap (λ o. item_action prog p f m o) is) ∙ at in cc)
+      from (Some (Does i)) is h = absurd h
+      from (Some (Ends t)) is h = (t, is)
 
   -- the call that stands there
   pub calls_here : (d : Option RegisterId) (callee : ℕ) (values : List Value) → action_of prog p f m ≡ Call d callee values → Calls prog f d callee values

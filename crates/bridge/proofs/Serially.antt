@@ -9,11 +9,14 @@ use Rattle.machine_core.specs.SerialConditions.{Says, Finds, And, FindsBoth, Not
 use Rattle.machine_core.specs.Budgets.{RunsSerially}
 use Rattle.machine_core.proofs.SerialExists.{kept_both}
 use Rattle.machine_core.proofs.Budgets.{serially}
+use Rattle.linear.specs.declared.form.Fact.{Fact}
 use Rattle.program.specs.declared.function.Program.{Program}
 use Rattle.bridge.specs.Costs.{bound_of, cost_below, IsEntry, rank_of, may_use}
 use Rattle.bridge.specs.Depths.{may_reach}
-use Rattle.bridge.specs.Serially.{IsCheckedSerially, RunsWithinTables, SerialRunWithinTables}
+use Rattle.bridge.specs.Serially.{IsCheckedSerially, IsShownSerially, RunsWithinTables, SerialRunWithinTables}
 use Rattle.bridge.proofs.Costs.{Costed, NoFinds, costed_kept, costs_spend, costs_run, entry_costed, entry_budget}
+use Rattle.bridge.specs.ShownCosts.{Out}
+use Rattle.bridge.proofs.ShownCosts.{costs_shown}
 use Rattle.bridge.proofs.Depths.{depths_stay, entry_reach}
 
 module _ (prog : Program) (base : Says) (post : Finds) (fits : Frame → Type 0) (level depth : ℕ → ℕ → ℕ) (checked : IsCheckedSerially prog base post fits level depth) where
@@ -50,6 +53,10 @@ module _ (prog : Program) (base : Says) (post : Finds) (fits : Frame → Type 0)
       under : (n k : ℕ) (z : ℤ) → pos n ≤ℤ z → z ≤ℤ pos k → n ≤ k
       under n k z h l = omega (arith, ints)
 
+pub by_shown : (prog : Program) (base : Says) (post : Finds) (fits : Frame → Type 0) (known : ℕ → ℕ → ℕ → List Fact) (outs : ℕ → ℕ → List Out) (level depth : ℕ → ℕ → ℕ) → IsShownSerially prog base post fits known outs level depth → IsCheckedSerially prog base post fits level depth
+by_shown prog base post fits known outs level depth c = record { kept = c.kept; no_trap = c.no_trap; fit = c.fit; costs = costs_shown prog fits known outs c.costs c.holds; levels = c.levels; depths = c.depths }
+
 pub serial_run_within_tables : SerialRunWithinTables
-serial_run_within_tables prog base post fits level depth checked arguments memory start =
-    within_tables prog (λ p f m. base p f m ≡ true) (λ p f m o. post p f m o ≡ true) (λ f. fits f ≡ true) level depth checked arguments memory start
+serial_run_within_tables prog base post fits known outs level depth c arguments memory start =
+    within_tables prog (λ p f m. base p f m ≡ true) (λ p f m o. post p f m o ≡ true) (λ f. fits f ≡ true) level depth
+    (by_shown prog (λ p f m. base p f m ≡ true) (λ p f m o. post p f m o ≡ true) (λ f. fits f ≡ true) known outs level depth c) arguments memory start
