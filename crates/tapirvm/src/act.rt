@@ -2,8 +2,9 @@
 
 use crate::request::{CellWord, Request, Setting, Verb};
 use crate::status::Status;
+use debugger::{ScheduleFault, read_schedule};
 use lists::OutOfMemory;
-use schedule_core::{Event, Machine};
+use schedule_core::{Event, Machine, replay};
 use serial_machine::{Finished, RunFault, serial_run};
 use std::alloc::Global;
 use std::hash::RandomState;
@@ -20,11 +21,11 @@ pub fn act<R: Read, W: Write>(
     state: RandomState,
     request: &Request,
     module: Option<&[u8]>,
-    _schedule: Option<&[u8]>,
+    schedule: Option<&[u8]>,
     _input: &mut R,
     output: &mut W,
 ) -> u8 {
-    match answer(alloc, state, request, module, output) {
+    match answer(alloc, state, request, module, schedule, output) {
         Ok(status) => status as u8,
         Err(_) => Status::Stream as u8,
     }
@@ -35,6 +36,7 @@ fn answer<W: Write>(
     state: RandomState,
     request: &Request,
     module: Option<&[u8]>,
+    schedule: Option<&[u8]>,
     output: &mut W,
 ) -> io::Result<Status> {
     let Some(text) = module else {
@@ -42,7 +44,7 @@ fn answer<W: Write>(
         return Ok(Status::Unreadable);
     };
     match verify(alloc, state, text) {
-        Ok(verified) => run_verified(alloc, &verified, request, output),
+        Ok(verified) => run_verified(alloc, &verified, request, schedule, output),
         Err(Refused::Fault { number, line }) => {
             writeln!(output, "refused {number} line {line}")?;
             Ok(Status::Refused)
@@ -60,31 +62,94 @@ fn run_verified<W: Write>(
     alloc: Global,
     verified: &Verified,
     request: &Request,
+    schedule: Option<&[u8]>,
     output: &mut W,
 ) -> io::Result<Status> {
+    let Some(file) = &request.schedule else {
+        return run_events(alloc, verified, request, &[], output);
+    };
+    let Some(text) = schedule else {
+        writeln!(output, "unreadable {file}")?;
+        return Ok(Status::Unreadable);
+    };
+    match read_schedule(alloc, text) {
+        Ok(events) => run_events(alloc, verified, request, events.as_slice(), output),
+        Err(ScheduleFault::Memory) => stop_for_memory(output),
+        Err(fault) => {
+            writeln!(output, "schedule {fault}")?;
+            Ok(Status::Schedule)
+        }
+    }
+}
+
+/// The memory to begin with; else the status: an option names no cell, or memory was refused.
+fn prepared(alloc: Global, verified: &Verified, request: &Request) -> Result<Memory, Status> {
     let Ok(mut memory) = Memory::zeroed(alloc, verified) else {
-        return stop_for_memory(output);
+        return Err(Status::Stopped);
     };
-    if !set_cells(&mut memory, request.set.as_slice()) {
-        return Ok(Status::Words);
+    if set_cells(&mut memory, request.set.as_slice())
+        && has_cells(&memory, request.show.as_slice())
+    {
+        Ok(memory)
+    } else {
+        Err(Status::Words)
     }
-    if !has_cells(&memory, request.show.as_slice()) {
-        return Ok(Status::Words);
-    }
-    let finished = match request.verb {
-        Verb::Serial => serial_run(alloc, verified, request.args.as_slice(), memory),
-        Verb::Run => run_by_one(
-            alloc,
-            verified,
-            request.args.as_slice(),
-            memory,
-            request.workers,
+}
+
+/// Runs the module. The events are those of a replay.
+fn run_events<W: Write>(
+    alloc: Global,
+    verified: &Verified,
+    request: &Request,
+    events: &[Event],
+    output: &mut W,
+) -> io::Result<Status> {
+    let memory = match prepared(alloc, verified, request) {
+        Ok(memory) => memory,
+        Err(Status::Stopped) => return stop_for_memory(output),
+        Err(status) => return Ok(status),
+    };
+    let args = request.args.as_slice();
+    let cells = request.show.as_slice();
+    let workers = request.workers;
+    match request.verb {
+        Verb::Serial => print_run(&serial_run(alloc, verified, args, memory), cells, output),
+        Verb::Run => print_run(
+            &run_by_one(alloc, verified, args, memory, workers),
+            cells,
+            output,
         ),
-    };
-    match finished {
-        Ok(finished) => print_finished(&finished, request.show.as_slice(), output),
-        Err(fault) => print_run_fault(&fault, output),
+        Verb::Replay => match replay(alloc, verified, args, memory, workers, events) {
+            Ok(machine) => print_replayed(machine, cells, output),
+            Err(fault) => print_run_fault(&fault, output),
+        },
     }
+}
+
+fn print_run<W: Write>(
+    finished: &Result<Finished, RunFault>,
+    cells: &[CellWord],
+    output: &mut W,
+) -> io::Result<Status> {
+    match finished {
+        Ok(finished) => print_finished(finished, cells, output),
+        Err(fault) => print_run_fault(fault, output),
+    }
+}
+
+fn print_replayed<W: Write>(
+    machine: Machine<'_>,
+    cells: &[CellWord],
+    output: &mut W,
+) -> io::Result<Status> {
+    if machine.ended() {
+        return print_run(&finished(machine), cells, output);
+    }
+    writeln!(output, "not ended")?;
+    writeln!(output, "instructions {}", machine.instructions())?;
+    writeln!(output, "frames {}", machine.live_frames())?;
+    print_cells(machine.memory(), cells, output)?;
+    Ok(Status::Done)
 }
 
 /// Sets cells in order; false where one is not there.

@@ -29,15 +29,28 @@ fn refuse_words(rt: &(impl Print + Eprint), fault: &WordsFault) -> io::Result<St
     }
 }
 
-/// Reads the module's file, does what is asked and answers the status.
+/// Reads the files, does what is asked and answers the status.
 fn obey(rt: &HostRuntime, request: &Request) -> io::Result<u8> {
     let alloc = rt.alloc();
     let module = fs::read(rt, request.file.as_str()).ok();
     let bytes = module.as_ref().map(|bytes| bytes.as_slice());
+    let schedule = match &request.schedule {
+        Some(file) => fs::read(rt, file.as_str()).ok(),
+        None => None,
+    };
+    let events = schedule.as_ref().map(|bytes| bytes.as_slice());
     let state = RandomState::new(rt)?;
     let mut output = BufWriter::new(alloc, io::writer(rt))?;
     let mut input = rt.reader();
-    let status = act::act(alloc, state, request, bytes, None, &mut input, &mut output);
+    let status = act::act(
+        alloc,
+        state,
+        request,
+        bytes,
+        events,
+        &mut input,
+        &mut output,
+    );
     if output.flush().is_err() {
         return Ok(Status::Stream as u8);
     }

@@ -7,6 +7,8 @@ pub enum Verb {
     Serial,
     /// Run on workers.
     Run,
+    /// Run by a schedule.
+    Replay,
 }
 
 /// A cell of a global, as `@a:5` names it.

@@ -11,6 +11,8 @@ pub enum Status {
     Stopped = 3,
     /// A file could not be read.
     Unreadable = 4,
+    /// The schedule is none.
+    Schedule = 5,
     /// Standard output could not be written.
     Stream = 6,
 }

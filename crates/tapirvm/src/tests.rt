@@ -1,6 +1,7 @@
 //! The program's texts and statuses over whole modules. Expected answers are worked by hand.
 
 mod refusals;
+mod replays;
 mod runs;
 mod samples;
 mod statuses;
@@ -12,11 +13,13 @@ use std::process::Abort;
 use std::random::RandomSource;
 use std::test::Fail;
 
-/// What the program writes on a command line, its words parted by one space, over a module; and its status.
+/// What the program writes on a command line, its words parted by one space, over a module and a
+/// schedule; and its status.
 fn told(
     rt: &(impl Abort + AllocGlobal + RandomSource),
     line: &str,
     module: Option<&[u8]>,
+    schedule: Option<&[u8]>,
 ) -> Result<(u8, Vec<u8>), Fail> {
     let alloc = rt.alloc();
     let texts: Vec<&str> = line.split(' ').collect(alloc)?;
@@ -32,7 +35,7 @@ fn told(
         state,
         &request,
         module,
-        None,
+        schedule,
         &mut input,
         &mut output,
     );
@@ -47,7 +50,7 @@ fn tells(
     status: u8,
     text: &str,
 ) -> Result<(), Fail> {
-    let (code, output) = told(rt, line, Some(module.as_bytes()))?;
+    let (code, output) = told(rt, line, Some(module.as_bytes()), None)?;
     assert_eq!(rt; code, status, "{line}");
     assert_eq!(rt; output.as_slice(), text.as_bytes(), "{line}");
     Ok(())

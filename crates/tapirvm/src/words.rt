@@ -144,18 +144,33 @@ fn serial_command<'a>(alloc: Global) -> Result<Command<'a>, AllocError> {
     )
 }
 
-fn run_command<'a>(alloc: Global) -> Result<Command<'a>, AllocError> {
-    let workers = Arg::new(alloc, "workers")
+fn workers<'a>(alloc: Global) -> Arg<'a> {
+    Arg::new(alloc, "workers")
         .long("workers")
         .value_name("N")
         .required(true)
         .action(ArgAction::Set)
-        .help("from 1 to 64");
+        .help("from 1 to 64")
+}
+
+fn run_command<'a>(alloc: Global) -> Result<Command<'a>, AllocError> {
     running(
         alloc,
         Command::new(alloc, "run").about("runs a module on workers"),
     )?
-    .arg(workers)
+    .arg(workers(alloc))
+}
+
+fn replay_command<'a>(alloc: Global) -> Result<Command<'a>, AllocError> {
+    let schedule = Arg::new(alloc, "schedule")
+        .value_name("SCHEDULE")
+        .required(true);
+    running(
+        alloc,
+        Command::new(alloc, "replay").about("runs a module by a schedule"),
+    )?
+    .arg(schedule)?
+    .arg(workers(alloc))
 }
 
 fn command<'a>(alloc: Global) -> Result<Command<'a>, AllocError> {
@@ -163,7 +178,15 @@ fn command<'a>(alloc: Global) -> Result<Command<'a>, AllocError> {
         .about("A verified fork-join machine for LLVM IR with Tapir's detach, reattach and sync")
         .subcommand_required(true)
         .subcommand(serial_command(alloc)?)?
-        .subcommand(run_command(alloc)?)
+        .subcommand(run_command(alloc)?)?
+        .subcommand(replay_command(alloc)?)
+}
+
+fn schedule_of(alloc: Global, matches: &ArgMatches<'_>) -> Result<String, WordsFault> {
+    match matches.get_str("schedule") {
+        Some(schedule) => Ok(String::from_str(alloc, schedule)?),
+        None => Err(wrong_value(alloc, "<SCHEDULE>", "")),
+    }
 }
 
 fn request_of(alloc: Global, verb: Verb, matches: &ArgMatches<'_>) -> Result<Request, WordsFault> {
@@ -192,6 +215,14 @@ pub fn words<'a>(alloc: Global, words: &'a [&'a str]) -> Result<Request, WordsFa
     match parsed.subcommand() {
         Some(("serial", matches)) => request_of(alloc, Verb::Serial, matches),
         Some(("run", matches)) => request_of(alloc, Verb::Run, matches),
+        Some(("replay", matches)) => {
+            let request = request_of(alloc, Verb::Replay, matches)?;
+            let schedule = schedule_of(alloc, matches)?;
+            Ok(Request {
+                schedule: Some(schedule),
+                ..request
+            })
+        }
         _ => Err(wrong_value(alloc, "<COMMAND>", "")),
     }
 }

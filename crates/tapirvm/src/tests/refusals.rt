@@ -61,7 +61,7 @@ fn refuses_an_alias(rt: HostRuntime) -> Result<(), Fail> {
 
 #[test]
 fn refuses_bytes_that_are_no_text(rt: HostRuntime) -> Result<(), Fail> {
-    let (status, output) = told(&rt, "tapirvm serial m.ll", Some(b"; \xff\n"))?;
+    let (status, output) = told(&rt, "tapirvm serial m.ll", Some(b"; \xff\n"), None)?;
     assert_eq!(rt; status, 1);
     assert_eq!(rt; output.as_slice(), b"refused 101 line 1\n".as_slice());
     Ok(())
@@ -72,7 +72,7 @@ fn refuses_each_beginning_of_pair(rt: HostRuntime) -> Result<(), Fail> {
     let bytes = PAIR.as_bytes();
     let last = bytes.len().saturating_sub(2);
     for end in 0..last {
-        let (status, _) = told(&rt, "tapirvm serial m.ll", bytes.get(..end))?;
+        let (status, _) = told(&rt, "tapirvm serial m.ll", bytes.get(..end), None)?;
         assert_eq!(rt; status, 1, "{end} bytes");
     }
     Ok(())

@@ -52,7 +52,7 @@ fn stops_at_bad_arguments(rt: HostRuntime) -> Result<(), Fail> {
 
 #[test]
 fn says_what_cannot_be_read(rt: HostRuntime) -> Result<(), Fail> {
-    let (status, output) = told(&rt, "tapirvm serial m.ll", None)?;
+    let (status, output) = told(&rt, "tapirvm serial m.ll", None, None)?;
     assert_eq!(rt; status, 4);
     assert_eq!(rt; output.as_slice(), b"unreadable m.ll\n".as_slice());
     Ok(())
@@ -79,7 +79,7 @@ fn knows_no_other_words(rt: HostRuntime) -> Result<(), Fail> {
         "tapirvm verify m.ll",
     ];
     for line in wrong {
-        let (status, output) = told(&rt, line, Some(LOAD.as_bytes()))?;
+        let (status, output) = told(&rt, line, Some(LOAD.as_bytes()), None)?;
         assert_eq!(rt; status, 2, "{line}");
         assert_eq!(rt; output.len(), 0, "{line}");
     }
