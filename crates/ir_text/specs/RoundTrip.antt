@@ -1,0 +1,15 @@
+-- Printing and reading again.
+use Rattle.std.specs.Prelude.{◌≡◌, ◌≤◌, ℕ, List, length, Result, Ok}
+use Rattle.syntax.specs.declared.module.Module.{Module}
+use Rattle.ir_text.specs.Kept.{IsKept}
+use Rattle.ir_text.specs.Printed.{module_text}
+use Rattle.ir_text.specs.Reading.{Answers}
+use Rattle.ir_text.specs.Unlined.{unlined}
+
+-- Where the canonical text of a module that is kept is no longer than a text may be, reading it gives the module, lines aside.
+abbrev pub PrintIsReadBack : Type 0
+PrintIsReadBack = (m : Module) → IsKept m → length (module_text m) ≤ 1048576 → (w : Module) × (Answers (module_text m) (Ok w) × (unlined w ≡ unlined m))
+
+-- a text has one answer
+abbrev pub AnswersAreOne : Type 0
+AnswersAreOne = (text : List ℕ) (a b : Result Module (ℕ × ℕ)) → Answers text a → Answers text b → a ≡ b
