@@ -1,5 +1,5 @@
 -- What is read keeps names defined once and stays within limits.
-use Rattle.std.proofs.Common.{◌≡◌, ℕ, ◌+◌, ◌<◌, ◌≤◌, Bool, true, false, cond, List, [], ◌∷◌, ◌++◌, length, refl, sym, subst, ap, ◌∙◌, arith, append_assoc, length-append}
+use Rattle.std.proofs.Common.{◌≡◌, ℕ, ◌+◌, ◌<◌, ◌≤◌, Bool, true, false, cond, List, [], ◌∷◌, ◌++◌, length, get_or, refl, sym, subst, ap, ◌∙◌, arith, append_assoc, length-append}
 use Rattle.std.specs.Prelude.{◌==◌, ◌&&◌, ◌||◌, Result, Ok, Err, Option, Some, None, IfOk, if◌then◌else◌}
 use Rattle.std.specs.List.{All}
 use Rattle.std.proofs.lemmas.List.{append-nil}
@@ -35,6 +35,7 @@ use Rattle.ir_item.specs.Lines.{line_of}
 use Rattle.ir_item.specs.Printed.{IsKeptItem}
 use Rattle.ir_item.proofs.ReadSpelled.{line_kept as read_kept}
 use Rattle.ir_text.proofs.Tracked.{both, counts_small}
+use Rattle.ir_text.proofs.Naming.{function_short, module_short}
 use Rattle.ir_text.proofs.Writing.{IsDraftWritten, placed_written, start_written}
 use Rattle.ir_text.proofs.Limiting.{IsOpenFunction, IsOpenKept, IsDraftWithin, placed_within, start_within}
 
@@ -207,10 +208,12 @@ start_kept : IsKeptDraft start
 unfolding module_names
 start_kept = record { outside = refl; inside = refl; small = record { global_cells = omega arith; registers = omega arith; alloca_cells = omega arith }; stepless = tt; functions = All-nil IsCountedFunction; written = start_written; within = start_within }
 
+whole_function : (f : Function) → IsCountedFunction f → IsFunctionWritten f → IsFunctionWithin f → IsKeptFunction f
+whole_function f c written within =
+    record { distinct = c.distinct; names = function_short f written; some = c.some; registers = c.registers; alloca_cells = c.alloca_cells; written = written; within = within }
+
 all_kept : (fs : List Function) → All IsCountedFunction fs → All IsFunctionWritten fs → All IsFunctionWithin fs → All IsKeptFunction fs
-all_kept fs counted written within = λ k d h.
-    let c = counted k d h in
-    record { distinct = c.distinct; some = c.some; registers = c.registers; alloca_cells = c.alloca_cells; written = written k d h; within = within k d h }
+all_kept fs counted written within = λ k d h. whole_function (get_or fs k d) (counted k d h) (written k d h) (within k d h)
 
 abbrev whole : Module → Result Module (ℕ × ℕ)
 whole m = Ok m
@@ -220,6 +223,7 @@ ended_kept m n place.Outside count kept h =
     let same : m ≡ n = cc in
     subst IsKept same (record {
       distinct = ap (λ (ns : List (List ℕ)). is_repeated [] (reserved_outside ∷ ns)) (sym (append-nil (module_names m))) ∙ kept.outside;
+      names = module_short m kept.written.whole.globals kept.written.whole.functions;
       functions = all_kept m.functions kept.functions kept.written.whole.functions kept.within.whole.functions;
       cells = kept.small.global_cells;
       globals = kept.written.whole.globals;

@@ -15,3 +15,4 @@ pub mod Again
 pub mod OneAnswer
 pub mod Bridge
 pub mod RoundTrip
+pub mod Naming

@@ -13,7 +13,7 @@ use Rattle.syntax.specs.declared.module.Global.{Global}
 use Rattle.syntax.specs.declared.module.Block.{Block}
 use Rattle.syntax.specs.declared.module.Function.{Function}
 use Rattle.syntax.specs.declared.module.Module.{Module}
-use Rattle.ir_annotation.specs.Annotations.{IsInequality, IsZone, IsPending, IsMeasure, IsBudget, IsLeft}
+use Rattle.ir_annotation.specs.Annotations.{IsShortName, IsInequality, IsZone, IsPending, IsMeasure, IsBudget, IsLeft}
 use Rattle.ir_item.specs.declared.item.Item.TheVariants as item
 use Rattle.ir_item.specs.Printed.{IsKeptItem}
 use Rattle.ir_text.specs.Names.{is_repeated}
@@ -107,18 +107,20 @@ pub record IsFunctionWithin (f : Function) : Type 0 where
 
 -- ---- all of it
 
--- labels, registers and parameters are defined once, and none has the reserved name; there is a block
+-- labels, registers and parameters are names of at most 64 bytes, defined once, and none has the reserved name; there is a block
 pub record IsKeptFunction (f : Function) : Type 0 where
   pub distinct : is_repeated [] (reserved_inside ∷ function_names f) ≡ false
+  pub names : All IsShortName (function_names f)
   pub some : 0 < length f.blocks
   pub registers : register_count f ≤ 4096
   pub alloca_cells : function_cells f ≤ 4096
   pub written : IsFunctionWritten f
   pub within : IsFunctionWithin f
 
--- globals and functions are defined once, and none has the reserved name
+-- globals and functions have names of at most 64 bytes, defined once, and none has the reserved name
 pub record IsKept (m : Module) : Type 0 where
   pub distinct : is_repeated [] (reserved_outside ∷ module_names m) ≡ false
+  pub names : All IsShortName (module_names m)
   pub functions : All IsKeptFunction m.functions
   pub cells : global_cells m ≤ 1048576
   pub globals : All IsGlobalWritten m.globals

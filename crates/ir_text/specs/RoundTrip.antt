@@ -1,6 +1,7 @@
 -- Printing and reading again.
-use Rattle.std.specs.Prelude.{◌≡◌, ◌≤◌, ℕ, List, length, Result, Ok}
+use Rattle.std.specs.Prelude.{◌≡◌, ◌≤◌, ℕ, List, length, flat_map, Result, Ok}
 use Rattle.syntax.specs.declared.module.Module.{Module}
+use Rattle.ir_text.specs.Items.{module_items, item_line}
 use Rattle.ir_text.specs.Kept.{IsKept}
 use Rattle.ir_text.specs.Printed.{module_text}
 use Rattle.ir_text.specs.Reading.{Answers}
@@ -13,3 +14,7 @@ PrintIsReadBack = (m : Module) → IsKept m → length (module_text m) ≤ 10485
 -- a text has one answer
 abbrev pub AnswersAreOne : Type 0
 AnswersAreOne = (text : List ℕ) (a b : Result Module (ℕ × ℕ)) → Answers text a → Answers text b → a ≡ b
+
+-- the canonical text is that of the module's items, line by line
+abbrev pub TextIsOfItems : Type 0
+TextIsOfItems = (m : Module) → flat_map item_line (module_items m) ≡ module_text m
