@@ -1,5 +1,6 @@
 -- What a module that is kept prints is read again as the module, lines aside.
 use Rattle.std.proofs.Common.{◌≡◌, ℕ, ◌+◌, ◌<◌, ◌≤◌, Bool, true, false, List, [], ◌∷◌, ◌++◌, length, map, Option, Some, None, Result, Ok, Err, refl, sym, subst, ap, ◌∙◌, arith, append-nil}
+use Rattle.std.specs.Prelude.{IfOk}
 use Rattle.std.specs.List.{All, flat_map}
 use Rattle.std.proofs.lemmas.List.{length-map}
 use Rattle.std.proofs.lemmas.List.Elements.{All-nil, All-cons, All-head, All-tail}
@@ -31,11 +32,13 @@ use Rattle.ir_text.specs.Kept.{IsZoneOf, AreFunctionNotesWritten, AreBlockNotesW
 use Rattle.ir_text.specs.Lines.{lines_of}
 use Rattle.ir_text.specs.Printed.{module_text}
 use Rattle.ir_text.specs.Reading.{start, Reads, ended, Answers, Read}
+use Rattle.ir_text.specs.RoundTrip.{IsAgain, IsReadBackAs}
 use Rattle.ir_text.specs.Unlined.{unlined_step, unlined_block, unlined_function, unlined}
 use Rattle.ir_text.proofs.Again.{reads_again}
 use Rattle.ir_text.proofs.Bridge.{module_same}
 use Rattle.ir_text.proofs.Fills.{Fills, IsWhole, module_fills}
 use Rattle.ir_text.proofs.Limiting.{IsOpenFunction, IsWholeWithin, IsWholeFew, IsDraftFew}
+use Rattle.ir_text.proofs.OneAnswer.{one_answer}
 use Rattle.ir_text.proofs.PrintedLines.{AreKept, printed_lines}
 use Rattle.ir_text.proofs.Rerun.{IsGoodDraft, Passes, all_pass}
 use Rattle.ir_text.proofs.Unlining.{unlined_place, unlined_draft, function_names-unlined, module_names-unlined, register_count-unlined, function_cells-unlined, global_cells-unlined}
@@ -193,3 +196,14 @@ round_trip m is short =
         ap (λ (d : Draft). d.whole) again.1.0,
       ),
     )
+
+read_back_as : (m : Module) (text : List ℕ) → text ≡ module_text m → IsReadBackAs m text
+read_back_as m text e = λ kept short out answers.
+    let fits : length (module_text m) ≤ 1048576 = subst (λ (t : List ℕ). length t ≤ 1048576) e short in
+    let again = round_trip m kept fits in
+    let same : out ≡ Ok again.0 = one_answer (module_text m) out (Ok again.0) (subst (λ (t : List ℕ). Answers t out) e answers) again.1.0 in
+    subst (IsAgain m) (sym same) again.1.1
+
+pub if_read_back : {S E : Type 0} (bytes : S → List ℕ) (m : Module) (r : Result S E) → IfOk r (λ text. bytes text ≡ module_text m) → IfOk r (λ text. IsReadBackAs m (bytes text))
+if_read_back bytes m (Ok text) h = read_back_as m (bytes text) h
+if_read_back bytes m (Err e) h = tt
