@@ -16,3 +16,4 @@ pub mod Parted
 pub mod ReadSpelled
 pub mod Shown
 pub mod ItemsAgain
+pub mod Names

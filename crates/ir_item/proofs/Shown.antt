@@ -52,7 +52,7 @@ join : (xs ys : List ℕ) → Printed xs → Printed ys → Printed (xs ++ ys)
 join xs ys hx hy = list_all-append is_printed xs ys ∙ rw (hx, hy) refl
 
 -- both crates have the same names
-same_name : (w : List ℕ) → words.is_name w ≡ is_name w
+pub same_name : (w : List ℕ) → words.is_name w ≡ is_name w
 same_name [] = refl
 same_name (b ∷ bs) = refl
 

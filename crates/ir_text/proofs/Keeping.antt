@@ -1,5 +1,5 @@
 -- What is read keeps names defined once and stays within limits.
-use Rattle.std.proofs.Common.{◌≡◌, ℕ, ◌+◌, ◌<◌, ◌≤◌, Bool, true, false, cond, List, [], ◌∷◌, ◌++◌, length, refl, sym, subst, ap, ◌∙◌, arith, append_assoc, length-append}
+use Rattle.std.proofs.Common.{◌≡◌, ℕ, ◌+◌, ◌<◌, ◌≤◌, Bool, true, false, cond, List, [], ◌∷◌, ◌++◌, length, get_or, refl, sym, subst, ap, ◌∙◌, arith, append_assoc, length-append}
 use Rattle.std.specs.Prelude.{◌==◌, ◌&&◌, ◌||◌, Result, Ok, Err, Option, Some, None, IfOk, if◌then◌else◌}
 use Rattle.std.specs.List.{All}
 use Rattle.std.proofs.lemmas.List.{append-nil}
@@ -29,39 +29,44 @@ use Rattle.ir_text.specs.Counting.{IsSmall, counts_in, counts_of, are_counts_wit
 use Rattle.ir_text.specs.Tracking.{IsStepless}
 use Rattle.ir_text.specs.Lines.{lines_of}
 use Rattle.ir_text.specs.Reading.{start, defines_again, judged, judged_if_placed, with_item, with_said, Steps, Said, Faulty, Reads, Done, Next, Stop, Overlong, ended, Answers, Read, Unread}
-use Rattle.ir_text.specs.Kept.{IsKeptFunction, IsKept}
+use Rattle.ir_text.specs.Kept.{IsFunctionWritten, IsFunctionWithin, IsKeptFunction, IsKept}
 use Rattle.ir_text.proofs.Follows.{Follows, placed_follows}
+use Rattle.ir_item.specs.Lines.{line_of}
+use Rattle.ir_item.specs.Printed.{IsKeptItem}
+use Rattle.ir_item.proofs.ReadSpelled.{line_kept as read_kept}
 use Rattle.ir_text.proofs.Tracked.{both, counts_small}
+use Rattle.ir_text.proofs.Naming.{function_short, module_short}
+use Rattle.ir_text.proofs.Writing.{IsDraftWritten, placed_written, start_written}
+use Rattle.ir_text.proofs.Limiting.{IsOpenFunction, IsOpenKept, IsDraftWithin, placed_within, start_within}
 
--- the open function, as far as it was read
-pub record IsOpenFunction (f : Function) : Type 0 where
+-- what a function has of its names and registers, and a block at least
+pub record IsCountedFunction (f : Function) : Type 0 where
   pub distinct : is_repeated [] (reserved_inside ∷ function_names f) ≡ false
+  pub some : 0 < length f.blocks
   pub registers : register_count f ≤ 4096
   pub alloca_cells : function_cells f ≤ 4096
-
-abbrev IsOpenKept : Option Function → Type 0
-IsOpenKept None = Unit {0}
-IsOpenKept (Some f) = IsOpenFunction f
 
 pub record IsKeptDraft (d : Draft) : Type 0 where
   pub outside : is_repeated [] (names_outside d) ≡ false
   pub inside : is_repeated [] (names_inside d) ≡ false
   pub small : IsSmall (counts_of d)
   pub stepless : IsStepless d.place
-  pub functions : All IsKeptFunction d.whole.functions
+  pub functions : All IsCountedFunction d.whole.functions
+  pub written : IsDraftWritten d
+  pub within : IsDraftWithin d
 
 -- functions
 
 abbrev Grows : Module → Option Function → Option Draft → Type 0
 Grows m f None = Unit {0}
-Grows m f (Some e) = All IsKeptFunction m.functions → IsOpenKept f → All IsKeptFunction e.whole.functions
+Grows m f (Some e) = All IsCountedFunction m.functions → IsOpenKept f → All IsCountedFunction e.whole.functions
 
-closed : (f : Function) (b : Block) → IsOpenFunction (with_block f b) → IsKeptFunction (with_block f b)
+closed : (f : Function) (b : Block) → IsOpenFunction (with_block f b) → IsCountedFunction (with_block f b)
 closed f b h = record { distinct = h.distinct; some = omega (arith, length-append f.blocks (b ∷ [])); registers = h.registers; alloca_cells = h.alloca_cells }
 
 ended_grows : (m : Module) (f : Function) (b : Block) (line : ℕ) (i : Item) → Grows m (Some (with_block f b)) (placed_in_ended m f b line i)
 ended_grows m f b line (item.Label label) = λ all one. all
-ended_grows m f b line item.Close = λ all one. All-push IsKeptFunction m.functions (with_block f b) all (closed f b one)
+ended_grows m f b line item.Close = λ all one. All-push IsCountedFunction m.functions (with_block f b) all (closed f b one)
 ended_grows m f b line _ = tt
 
 if_grows : (m : Module) (f : Option Function) (test : Bool) (e : Option Draft) → Grows m f e → Grows m f (if test then e else None)
@@ -119,14 +124,14 @@ or_assoc : (x y z : Bool) → (x || (y || z)) ≡ ((x || y) || z)
 or_assoc true y z = refl
 or_assoc false y z = refl
 
-repeats-append : (known xs ys : List (List ℕ)) → is_repeated known (xs ++ ys) ≡ (is_repeated known xs || is_repeated (known ++ xs) ys)
+pub repeats-append : (known xs ys : List (List ℕ)) → is_repeated known (xs ++ ys) ≡ (is_repeated known xs || is_repeated (known ++ xs) ys)
 repeats-append known [] ys = ap (λ (ns : List (List ℕ)). is_repeated ns ys) (sym (append-nil known))
 repeats-append known (x ∷ xs) ys =
     ap (λ (t : Bool). is_known known x || t) (repeats-append (known ++ x ∷ []) xs ys)
     ∙ or_assoc (is_known known x) (is_repeated (known ++ x ∷ []) xs) (is_repeated ((known ++ x ∷ []) ++ xs) ys)
     ∙ ap (λ (ns : List (List ℕ)). (is_known known x || is_repeated (known ++ x ∷ []) xs) || is_repeated ns ys) (append_assoc known (x ∷ []) xs)
 
-neither : (x y : Bool) → (x || y) ≡ false → (x ≡ false) × (y ≡ false)
+pub neither : (x y : Bool) → (x || y) ≡ false → (x ≡ false) × (y ≡ false)
 neither true y h = absurd cc
 neither false true h = absurd cc
 neither false false h = (refl, refl)
@@ -145,45 +150,49 @@ open_kept m (Some f) names small = record { distinct = names; registers = small.
 
 -- one more item
 
-item_kept : (d e : Draft) (at : ℕ) (i : Item) → IsKeptDraft d → placed d at i ≡ Some e → is_within_limits e ≡ true → defines_again d i ≡ false → IsKeptDraft e
-item_kept d e at i kept put within once =
+item_kept : (d e : Draft) (at : ℕ) (i : Item) → IsKeptDraft d → IsKeptItem i → placed d at i ≡ Some e → is_within_limits e ≡ true → defines_again d i ≡ false → IsKeptDraft e
+item_kept d e at i kept is put within once =
     let follows : Follows _ _ i e = placed_follows d e at i kept.stepless put in
     let new_names = neither (is_repeated (names_outside d) (defined_outside i)) (is_repeated (inside_before (names_inside d) i) (defined_inside i)) once in
     let grown : Grows d.whole (open_function d.place) (Some e) = subst (Grows d.whole (open_function d.place)) put (in_place d.whole d.place at i) in
+    let limits = both (are_counts_within (counts_of e)) (is_place_within e.whole e.place) within in
     record {
       outside = ap (is_repeated []) follows.adds.outside ∙ distinct-append (names_outside d) (defined_outside i) kept.outside new_names.0;
       inside = ap (is_repeated []) follows.adds.inside ∙ distinct-append (inside_before (names_inside d) i) (defined_inside i) (before_distinct (names_inside d) i kept.inside) new_names.1;
-      small = counts_small (counts_of e) (both (are_counts_within (counts_of e)) (is_place_within e.whole e.place) within).0;
+      small = counts_small (counts_of e) limits.0;
       stepless = follows.stepless;
       functions = grown kept.functions (open_kept d.whole (open_function d.place) kept.inside kept.small);
+      written = placed_written d e at i kept.written is put;
+      within = placed_within d e at i kept.within put limits.1;
     }
 
 abbrev ok : Draft → Result Draft ℕ
 ok d = Ok d
 
-judged_kept : (d e g : Draft) (at : ℕ) (i : Item) (good again : Bool) → IsKeptDraft d → placed d at i ≡ Some g → (good ≡ true → is_within_limits g ≡ true) → (again ≡ false → defines_again d i ≡ false)
+judged_kept : (d e g : Draft) (at : ℕ) (i : Item) (good again : Bool) → IsKeptDraft d → placed d at i ≡ Some g → (good ≡ true → IsKeptItem i) → (good ≡ true → is_within_limits g ≡ true) → (again ≡ false → defines_again d i ≡ false)
     → (if good then (if again then Err 106 else ok g) else Err 104) ≡ ok e → IsKeptDraft e
-judged_kept d e g at i false again kept put within once h = absurd cc
-judged_kept d e g at i true true kept put within once h = absurd cc
-judged_kept d e g at i true false kept put within once h =
+judged_kept d e g at i false again kept put is within once h = absurd cc
+judged_kept d e g at i true true kept put is within once h = absurd cc
+judged_kept d e g at i true false kept put is within once h =
     let same : g ≡ e = cc in
-    subst IsKeptDraft same (item_kept d g at i kept put (within refl) (once refl))
+    subst IsKeptDraft same (item_kept d g at i kept (is refl) put (within refl) (once refl))
 
-placed_kept : (d e : Draft) (at : ℕ) (line : Line) (o : Option Draft) → IsKeptDraft d → placed d at line.item ≡ o → judged_if_placed d line o ≡ ok e → IsKeptDraft e
-placed_kept d e at line None kept put h = absurd cc
-placed_kept d e at line (Some g) kept put h =
-    judged_kept d e g at line.item (line.is_within_limits && is_within_limits g) (defines_again d line.item) kept put (λ w. (both line.is_within_limits (is_within_limits g) w).1) (λ o. o) h
+placed_kept : (d e : Draft) (at : ℕ) (line : Line) (o : Option Draft) → IsKeptDraft d → (line.is_within_limits ≡ true → IsKeptItem line.item) → placed d at line.item ≡ o → judged_if_placed d line o ≡ ok e → IsKeptDraft e
+placed_kept d e at line None kept is put h = absurd cc
+placed_kept d e at line (Some g) kept is put h =
+    judged_kept d e g at line.item (line.is_within_limits && is_within_limits g) (defines_again d line.item) kept put (λ w. is (both line.is_within_limits (is_within_limits g) w).0)
+    (λ w. (both line.is_within_limits (is_within_limits g) w).1) (λ o. o) h
 
-line_kept : (d e : Draft) (at : ℕ) (line : Line) → IsKeptDraft d → with_item d at line ≡ ok e → IsKeptDraft e
+line_kept : (d e : Draft) (at : ℕ) (line : Line) → IsKeptDraft d → (line.is_within_limits ≡ true → IsKeptItem line.item) → with_item d at line ≡ ok e → IsKeptDraft e
 unfolding with_item
-line_kept d e at line kept h = placed_kept d e at line (placed d at line.item) kept refl h
+line_kept d e at line kept is h = placed_kept d e at line (placed d at line.item) kept is refl h
 
-said_kept : (d e : Draft) (at : ℕ) (said : Option Line) → IsKeptDraft d → with_said d at said ≡ ok e → IsKeptDraft e
-said_kept d e at None kept h = let same : d ≡ e = cc in subst IsKeptDraft same kept
-said_kept d e at (Some line) kept h = line_kept d e at line kept h
+said_kept : (d e : Draft) (at : ℕ) (text : List ℕ) (said : Option Line) → IsKeptDraft d → line_of at text ≡ Ok said → with_said d at said ≡ ok e → IsKeptDraft e
+said_kept d e at text None kept means h = let same : d ≡ e = cc in subst IsKeptDraft same kept
+said_kept d e at text (Some line) kept means h = line_kept d e at line kept (read_kept at text line means) h
 
 step_kept : (d e : Draft) (at : ℕ) (line : List ℕ) → Steps d at line (Ok e) → IsKeptDraft d → IsKeptDraft e
-step_kept d e at line (Said said _ utf8 means h) kept = said_kept d e at said kept h
+step_kept d e at line (Said said _ utf8 means h) kept = said_kept d e at line said kept means h
 
 abbrev KeptIfOk : Result Draft (ℕ × ℕ) → Type 0
 KeptIfOk (Ok d) = IsKeptDraft d
@@ -197,7 +206,14 @@ reads_kept _ _ _ _ _ (Overlong d at room line lines number past h) kept = tt
 
 start_kept : IsKeptDraft start
 unfolding module_names
-start_kept = record { outside = refl; inside = refl; small = record { global_cells = omega arith; registers = omega arith; alloca_cells = omega arith }; stepless = tt; functions = All-nil IsKeptFunction }
+start_kept = record { outside = refl; inside = refl; small = record { global_cells = omega arith; registers = omega arith; alloca_cells = omega arith }; stepless = tt; functions = All-nil IsCountedFunction; written = start_written; within = start_within }
+
+whole_function : (f : Function) → IsCountedFunction f → IsFunctionWritten f → IsFunctionWithin f → IsKeptFunction f
+whole_function f c written within =
+    record { distinct = c.distinct; names = function_short f written; some = c.some; registers = c.registers; alloca_cells = c.alloca_cells; written = written; within = within }
+
+all_kept : (fs : List Function) → All IsCountedFunction fs → All IsFunctionWritten fs → All IsFunctionWithin fs → All IsKeptFunction fs
+all_kept fs counted written within = λ k d h. whole_function (get_or fs k d) (counted k d h) (written k d h) (within k d h)
 
 abbrev whole : Module → Result Module (ℕ × ℕ)
 whole m = Ok m
@@ -207,8 +223,11 @@ ended_kept m n place.Outside count kept h =
     let same : m ≡ n = cc in
     subst IsKept same (record {
       distinct = ap (λ (ns : List (List ℕ)). is_repeated [] (reserved_outside ∷ ns)) (sym (append-nil (module_names m))) ∙ kept.outside;
-      functions = kept.functions;
+      names = module_short m kept.written.whole.globals kept.written.whole.functions;
+      functions = all_kept m.functions kept.functions kept.written.whole.functions kept.within.whole.functions;
       cells = kept.small.global_cells;
+      globals = kept.written.whole.globals;
+      function_count = kept.within.whole.few;
     })
 ended_kept m n (place.FunctionHead f) count kept h = absurd cc
 ended_kept m n (place.BlockHead f b) count kept h = absurd cc

@@ -5,3 +5,14 @@ pub mod LineByLine
 pub mod Pushed
 pub mod Seen
 pub mod Tracked
+pub mod Fills
+pub mod Unlining
+pub mod Writing
+pub mod Limiting
+pub mod Rerun
+pub mod PrintedLines
+pub mod Again
+pub mod OneAnswer
+pub mod Bridge
+pub mod RoundTrip
+pub mod Naming

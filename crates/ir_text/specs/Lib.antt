@@ -4,6 +4,7 @@ pub mod Defined
 pub mod Draft
 pub mod Faults
 pub mod InstructionText
+pub mod Items
 pub mod Kept
 pub mod Limits
 pub mod Lines
@@ -11,7 +12,9 @@ pub mod Names
 pub mod Opening
 pub mod Printed
 pub mod Reading
+pub mod RoundTrip
 pub mod Scoping
 pub mod Spelling
 pub mod TerminatorText
 pub mod Tracking
+pub mod Unlined

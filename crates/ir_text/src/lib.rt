@@ -9,6 +9,7 @@ mod annotating;
 mod draft;
 mod fault;
 mod instruction_text;
+mod laws;
 mod limits;
 mod lines;
 mod names;
@@ -20,6 +21,7 @@ mod spelling;
 mod terminator_text;
 
 pub use ir_lex::TextFault;
+pub use laws::print_is_read_back;
 pub use printer::print;
 pub use reader::read;
 

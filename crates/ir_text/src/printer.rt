@@ -1,6 +1,7 @@
 //! A module's canonical text: its lines in order, each kind of annotation together, with what was left out written.
 
 ghost use Rattle.std.specs.Prelude.{◌≡◌, ◌++◌, OnOk, IfOk, string_bytes, flat_map};
+ghost use Rattle.ir_text.specs.RoundTrip.{IsReadBackAs};
 ghost use Rattle.ir_text.specs.Printed.{note_line, inequality_line, zone_line, measure_line, budget_line, pending_line, left_line, foot_line, phi_line, step_lines, ending_lines, block_notes_lines, label_line, block_lines, function_notes_lines, define_line, function_lines, global_line, module_text};
 
 use crate::instruction_text::{push_instruction, push_phi};
@@ -262,14 +263,23 @@ fn push_globals(out: &mut String, globals: &[Global]) -> Result<(), AllocError>
     Ok(())
 }
 
-/// The canonical text of a module. Its lines are those of the module's parts, annotations by kind; between braces they are
-/// indented by two spaces, labels excepted.
+/// The lines of a module's parts.
 #[tactic(auto, unfolding(crate::specs::Printed::module_text))]
-pub fn print(alloc: alloc::Global, module: &Module) -> Result<String, OutOfMemory>
+fn spelled(alloc: alloc::Global, module: &Module) -> Result<String, OutOfMemory>
     ensures { IfOk result (λ text. string_bytes text ≡ module_text «module».now) }
 {
     let mut out = String::new(alloc);
     push_globals(&mut out, module.globals.as_slice())?;
     push_functions(&mut out, module.functions.as_slice())?;
     Ok(out)
+}
+
+/// The canonical text of a module. Its lines are those of the module's parts, annotations by kind; between braces they are
+/// indented by two spaces, labels excepted. Reading it gives the module again, lines aside, where the text is short enough to be
+/// read.
+pub fn print(alloc: alloc::Global, module: &Module) -> Result<String, OutOfMemory>
+    ensures text { IfOk result (λ text. string_bytes text ≡ module_text «module».now) }
+    ensures read_back { IfOk result (λ text. IsReadBackAs «module».now (string_bytes text)) }
+{
+    spelled(alloc, module)
 }
