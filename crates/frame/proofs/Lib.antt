@@ -3,3 +3,4 @@ pub mod Effects
 pub mod Changes
 pub mod Edges
 pub mod Makers
+pub mod Allocas

@@ -1,5 +1,5 @@
 -- What a frame of the machine is sure of, and what a step of it needs.
-use Rattle.std.specs.Prelude.{◌≡◌, ◌≢◌, ⊤, ℕ, ℤ, ◌+◌, ◌^◌, ◌<◌, ◌≤◌, List, length, map, replicate, Option, Some, None, slice_get}
+use Rattle.std.specs.Prelude.{◌≡◌, ◌≢◌, ⊤, ℕ, ℤ, ◌+◌, ◌^◌, ◌<◌, ◌≤◌, List, cond, eqb, ◌&&◌, length, map, replicate, Option, Some, None, slice_get}
 use Rattle.std.specs.Option.{option_flatten}
 use Rattle.linear.specs.declared.form.RegisterId.{RegisterId}
 use Rattle.frame.specs.declared.value.Object.{Object}
@@ -68,6 +68,10 @@ cells_in (Some cells) i = option_flatten (slice_get cells i)
 
 abbrev pub alloca_in : Frame → ℕ → ℕ → Option ℤ
 alloca_in f n i = cells_in (slice_get (map (λ v. v.items) f.allocas.items) n) i
+
+-- the cell takes the number, and no other cell changes
+abbrev pub SetsAlloca : Frame → ℕ → ℕ → ℤ → Frame → Type 0
+SetsAlloca f n i z g = (k j : ℕ) → alloca_in g k j ≡ cond (eqb n k && eqb i j) (Some z) (alloca_in f k j)
 
 abbrev pub undefined_cells : AllocaKind → List (Option ℤ)
 undefined_cells a = replicate a.cells None

@@ -179,28 +179,4 @@ impl Frame {
             Argument::Object(name) => Ok(Value::Pointer(self.object(name)?.first())),
         }
     }
-
-    /// What a cell of an alloca of this frame holds; none where there is no such cell.
-    pub fn alloca_cell(&self, alloca: AllocaId, index: u64) -> Option<Option<i64>> {
-        self.allocas
-            .as_slice()
-            .get(alloca.0)?
-            .as_slice()
-            .get(index as usize)
-            .copied()
-    }
-
-    /// Gives a cell of an alloca of this frame a number; false where there is no such cell.
-    pub fn set_alloca_cell(&mut self, alloca: AllocaId, index: u64, number: i64) -> bool {
-        let Some(cells) = self.allocas.as_mut_slice().get_mut(alloca.0) else {
-            return false;
-        };
-        match cells.as_mut_slice().get_mut(index as usize) {
-            Some(cell) => {
-                *cell = Some(number);
-                true
-            }
-            None => false,
-        }
-    }
 }

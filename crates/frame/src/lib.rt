@@ -2,6 +2,7 @@
 //! the paths that name frames.
 #![tactic(auto)]
 
+mod alloca;
 mod arithmetic;
 mod effect;
 mod entering;

@@ -1,0 +1,4 @@
+pub mod Running
+pub mod Stack
+pub mod Unmet
+pub mod Wide

@@ -1,0 +1,3 @@
+pub mod Requirements
+pub mod Running
+pub mod Stack

@@ -3,9 +3,11 @@
 #![tactic(auto)]
 
 mod arguments;
+mod law;
 mod outcome;
 mod run;
 
 pub use arguments::unmet_requirement;
+pub use law::steps_mean;
 pub use outcome::{Finished, RunFault};
 pub use run::serial_run;

@@ -60,12 +60,3 @@ impl From<Trap> for Halt {
         Halt::Trapped
     }
 }
-
-impl From<Halt> for RunFault {
-    fn from(halt: Halt) -> RunFault {
-        match halt {
-            Halt::OutOfMemory => RunFault::OutOfMemory,
-            Halt::Trapped => RunFault::Trapped,
-        }
-    }
-}

@@ -1,3 +1,6 @@
+ghost use Rattle.std.specs.Prelude.{◌≡◌, Err, MatchOption};
+ghost use Rattle.serial_machine.specs.Requirements.{HasBegun, unmet_in};
+
 use crate::arguments::unmet_requirement;
 use crate::outcome::{Finished, Halt, RunFault};
 use frame::{Cell, Effect, Frame, Object, Value, next_effect};
@@ -180,14 +183,19 @@ pub fn serial_run(
     verified: &Verified,
     arguments: &[i64],
     memory: Memory,
-) -> Result<Finished, RunFault> {
+) -> Result<Finished, RunFault>
+    ensures { MatchOption (unmet_in verified.now arguments.now) (HasBegun result) (λ r. result ≡ Err (RunFault.BadArguments r memory)) }
+{
     let program = verified.program();
-    if let Some(requirement) = unmet_requirement(program, arguments) {
-        return Err(RunFault::BadArguments {
+    match unmet_requirement(program, arguments) {
+        Some(requirement) => Err(RunFault::BadArguments {
             requirement,
             memory,
-        });
+        }),
+        None => match run_within(alloc, program, arguments, memory, verified.budget()) {
+            Ok(finished) => Ok(finished),
+            Err(Halt::OutOfMemory) => Err(RunFault::OutOfMemory),
+            Err(Halt::Trapped) => Err(RunFault::Trapped),
+        },
     }
-    let budget = verified.budget();
-    Ok(run_within(alloc, program, arguments, memory, budget)?)
 }
