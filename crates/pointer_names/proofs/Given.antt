@@ -7,8 +7,9 @@ use Rattle.machine_core.specs.Frames.{Value, Word, Truth, Pointer, Region, OnCal
 use Rattle.program.specs.declared.function.Function.{Function}
 use Rattle.program.specs.declared.identifier.GlobalId.{GlobalId}
 use Rattle.program.specs.declared.identifier.ObjectName.TheVariants.{Global, Alloca, Parameter}
-use Rattle.pointer_names.specs.Apart.{NamesGlobal, parameters_at}
-use Rattle.pointer_names.specs.Law.{NamesAreApart, OptionFrom}
+use Rattle.types.specs.Apart.{NamesGlobal, parameters_at}
+use Rattle.types.specs.Definitions.{IsFrom}
+use Rattle.pointer_names.specs.Law.{NamesAreApart}
 
 -- a parameter of the frame holds this cell
 pub record IsGiven (functions : List Function) (f : Frame) (x : ℕ) (c : Cell) : Type 0 where
@@ -23,7 +24,7 @@ pub record KnowsGiven (functions : List Function) (p : Path) (f : Frame) : Type 
   pub foreign : (x : ℕ) (c : Cell) (owner : Path) (n : ℕ) → IsGiven functions f x c → c.object ≡ Local owner n → length owner < length f.home
   pub unnamed : (x : ℕ) (c : Cell) (global : GlobalId) → IsGiven functions f x c → c.object ≡ Shared global.0 → NamesGlobal functions f.function global → ⊥
   pub at_home : length f.home ≤ length p
-  pub awaits : (k : ℕ) (d : Option RegisterId) → f.waits ≡ OnCall k d → OptionFrom (parameters_at functions f.function) d
+  pub awaits : (k : ℕ) (d : Option RegisterId) → f.waits ≡ OnCall k d → IsFrom (parameters_at functions f.function) d
 
 -- the object that a parameter names is that of a cell that it was given
 pub of_parameter : (f : Frame) (x : ℕ) (o : Object) (v : Option Value) → f.registers x ≡ v → and_then (cell_of v) (λ (c : Cell). Some c.object) ≡ Some o → (c : Cell) × (f.registers x ≡ Some (Pointer c)) × (c.object ≡ o)

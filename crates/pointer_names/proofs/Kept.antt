@@ -19,8 +19,8 @@ use Rattle.program.specs.declared.instruction.Phi.{Phi}
 use Rattle.program.specs.declared.instruction.Step.{Step}
 use Rattle.program.specs.declared.instruction.Terminator.{Terminator}
 use Rattle.program.specs.declared.instruction.Terminator.TheVariants as terminator
-use Rattle.pointer_names.specs.Apart.{IsBlockAt, IsInstructionAt, parameters_at}
-use Rattle.pointer_names.specs.Law.{OptionFrom, DefinesFrom, KeepsParameters}
+use Rattle.types.specs.Apart.{IsBlockAt, IsInstructionAt, parameters_at}
+use Rattle.types.specs.Definitions.{IsFrom, DefinesFrom, KeepsParameters}
 
 -- the first n registers are the same
 abbrev pub Agrees : ℕ → Registers → Registers → Type 0
@@ -89,7 +89,7 @@ pub record CallIs (prog : Program) (f : Frame) (d : Option RegisterId) (callee :
   pub at : IsInstructionAt prog.functions f.function f.block f.index (instruction.Call d id arguments)
   pub callee_is : id.0 ≡ callee
   pub values_are : argument_values f arguments ≡ Some values
-  pub result_above : OptionFrom (parameters_at prog.functions f.function) d
+  pub result_above : IsFrom (parameters_at prog.functions f.function) d
 
 -- what follows of an action: the first n registers stay, or which call it is
 abbrev pub Passes : Program → Frame → Action → Type 0

@@ -1,3 +1,4 @@
+pub mod Anew
 pub mod Given
 pub mod Kept
 pub mod Passed

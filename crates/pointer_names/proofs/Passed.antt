@@ -16,7 +16,7 @@ use Rattle.program.specs.declared.identifier.ObjectName.TheVariants.{Global, All
 use Rattle.program.specs.declared.instruction.Argument.{Argument}
 use Rattle.program.specs.declared.instruction.Argument.TheVariants as argument
 use Rattle.program.specs.declared.instruction.Instruction.TheVariants as instruction
-use Rattle.pointer_names.specs.Apart.{IsInstructionAt, in_instruction, Reaches, itself, through, NamesGlobal, IsCallApart, CallsApart}
+use Rattle.types.specs.Apart.{IsInstructionAt, in_instruction, Reaches, itself, through, NamesGlobal, IsCallApart, CallsApart}
 use Rattle.pointer_names.specs.Law.{IsName}
 use Rattle.pointer_names.proofs.Given.{IsGiven, KnowsGiven, of_parameter, names_apart}
 use Rattle.pointer_names.proofs.Kept.{CallIs}

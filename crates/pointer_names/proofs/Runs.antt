@@ -1,5 +1,5 @@
 -- Each frame of each state that is reached knows what it was given.
-use Rattle.std.proofs.Common.{◌≡◌, inl, inr, ℕ, ◌<◌, ◌≤◌, List, [], ◌∷◌, length, Option, Some, None, refl, sym, ap, ◌∙◌, subst, arith, ℤ}
+use Rattle.std.proofs.Common.{◌≡◌, inl, inr, ℕ, ◌<◌, ◌≤◌, List, [], ◌∷◌, length, Option, Some, None, Ok, refl, sym, ap, ◌∙◌, subst, arith, ℤ}
 use Rattle.std.specs.Prelude.{slice_get}
 use Rattle.std.specs.Option.{option_map}
 use Rattle.std.proofs.lemmas.Option.{slice_get-map}
@@ -15,8 +15,12 @@ use Rattle.machine_core.proofs.Starting.{at_start}
 use Rattle.machine_core.proofs.Steps.{Does as Does_step, plain, detach, reattach, sync, call, ret, end, does}
 use Rattle.program.specs.declared.function.Function.{Function}
 use Rattle.program.specs.declared.function.Program.{Program}
-use Rattle.pointer_names.specs.Apart.{NamesGlobal, parameters_at, CallsApart}
-use Rattle.pointer_names.specs.Law.{OptionFrom, KeepsParameters, IsReached, at_start as starts, by_step, PointerNamesAreApart}
+use Rattle.types.specs.Apart.{NamesGlobal, parameters_at, CallsApart}
+use Rattle.types.specs.Definitions.{IsFrom, KeepsParameters}
+use Rattle.pointer_names.specs.Law.{IsReached, at_start as starts, by_step, PointerNamesAreApart, MeantNamesAreApart}
+use Rattle.types.proofs.Programs.{program_apart, program_kept}
+use Rattle.ir_text.proofs.Keeping.{answers_kept}
+use Rattle.pointer_names.proofs.Anew.{read_anew}
 use Rattle.pointer_names.proofs.Given.{IsGiven, KnowsGiven, names_apart}
 use Rattle.pointer_names.proofs.Kept.{Agrees, agrees_set, Passes, CallIs, action_passes}
 use Rattle.pointer_names.proofs.Passed.{called_knows}
@@ -24,14 +28,14 @@ use Rattle.pointer_names.proofs.Passed.{called_knows}
 module _ (functions : List Function) where
   -- a frame of the same function that has the same parameters, at the same place or below
   pub carried : (p q : Path) (f g : Frame) → KnowsGiven functions p f → g.function ≡ f.function → g.home ≡ f.home → Agrees (parameters_at functions f.function) f.registers g.registers →
-      length p ≤ length q → ((k : ℕ) (d : Option RegisterId) → g.waits ≡ OnCall k d → OptionFrom (parameters_at functions f.function) d) → KnowsGiven functions q g
+      length p ≤ length q → ((k : ℕ) (d : Option RegisterId) → g.waits ≡ OnCall k d → IsFrom (parameters_at functions f.function) d) → KnowsGiven functions q g
   carried p q f g known same home agrees below waits = record {
     first = λ x c h. known.first x c (back x c h);
     differ = λ x y c d h k. known.differ x y c d (back x c h) (back y d k);
     foreign = λ x c owner n h e. let l : length owner < length f.home = known.foreign x c owner n (back x c h) e in let s : length g.home ≡ length f.home = ap length home in omega arith;
     unnamed = λ x c global h e named. known.unnamed x c global (back x c h) e (let P : ℕ → Type 0 = λ j. NamesGlobal functions j global in subst P same named);
     at_home = let l : length f.home ≤ length p = known.at_home in let s : length g.home ≡ length f.home = ap length home in omega arith;
-    awaits = λ k d e. let P : ℕ → Type 0 = λ j. OptionFrom (parameters_at functions j) d in subst P (sym same) (waits k d e);
+    awaits = λ k d e. let P : ℕ → Type 0 = λ j. IsFrom (parameters_at functions j) d in subst P (sym same) (waits k d e);
   }
     where
       back : (x : ℕ) (c : Cell) → IsGiven functions g x c → IsGiven functions f x c
@@ -39,7 +43,7 @@ module _ (functions : List Function) where
           let l : x < parameters_at functions f.function = let P : ℕ → Type 0 = λ j. x < parameters_at functions j in subst P same h.within in
           record { within = l; holds = sym (agrees x l) ∙ h.holds }
 
-unwaiting : (w : Wait) → ((k : ℕ) (d : Option RegisterId) → w ≡ OnCall k d → ⊥) → (n : ℕ) (k : ℕ) (d : Option RegisterId) → w ≡ OnCall k d → OptionFrom n d
+unwaiting : (w : Wait) → ((k : ℕ) (d : Option RegisterId) → w ≡ OnCall k d → ⊥) → (n : ℕ) (k : ℕ) (d : Option RegisterId) → w ≡ OnCall k d → IsFrom n d
 unwaiting w never n k d e = absurd (never k d e)
 
 after_never : (t : Option Trap) (k : ℕ) (d : Option RegisterId) → wait_after t ≡ OnCall k d → ⊥
@@ -52,7 +56,7 @@ free_never k d e = cc
 region_never : (r k : ℕ) (d : Option RegisterId) → OnRegion r ≡ OnCall k d → ⊥
 region_never r k d e = cc
 
-result_agrees : (n : ℕ) (r : Registers) (d : Option RegisterId) (v : Option ℤ) → OptionFrom n d → Agrees n r (with_result r d v)
+result_agrees : (n : ℕ) (r : Registers) (d : Option RegisterId) (v : Option ℤ) → IsFrom n d → Agrees n r (with_result r d v)
 result_agrees n r None v h x w = refl
 result_agrees n r (Some d) None h x w = refl
 result_agrees n r (Some d) (Some z) h x w = agrees_set n r r d (Word z) (λ y u. refl) h x w
@@ -91,7 +95,7 @@ module _ (prog : Program) (apart : CallsApart prog.functions) (keeps : KeepsPara
     ]
 
     stays : (g : Frame) → g.function ≡ f.function → g.home ≡ f.home → Agrees (parameters_at prog.functions f.function) f.registers g.registers →
-        ((k : ℕ) (d : Option RegisterId) → g.waits ≡ OnCall k d → OptionFrom (parameters_at prog.functions f.function) d) → Known p g
+        ((k : ℕ) (d : Option RegisterId) → g.waits ≡ OnCall k d → IsFrom (parameters_at prog.functions f.function) d) → Known p g
     stays g same home agrees waits = carried prog.functions p p f g mine same home agrees (omega arith) waits
 
     passes : (a : Action) → action_of prog p f s.memory ≡ a → Passes prog f a
@@ -109,8 +113,8 @@ module _ (prog : Program) (apart : CallsApart prog.functions) (keeps : KeepsPara
     after_detach : (r b n : ℕ) → Known (f.made ∷ p) (detached f r b n)
     after_detach r b n = carried prog.functions p (f.made ∷ p) f (detached f r b n) mine refl refl (λ x w. refl) (omega arith) (unwaiting Free free_never (parameters_at prog.functions f.function))
 
-    awaiting : (d : Option RegisterId) → OptionFrom (parameters_at prog.functions f.function) d → (k : ℕ) (e : Option RegisterId) → OnCall f.made d ≡ OnCall k e → OptionFrom (parameters_at prog.functions f.function) e
-    awaiting d h k e same = let one : d ≡ e = cc in let P : Option RegisterId → Type 0 = λ x. OptionFrom (parameters_at prog.functions f.function) x in subst P one h
+    awaiting : (d : Option RegisterId) → IsFrom (parameters_at prog.functions f.function) d → (k : ℕ) (e : Option RegisterId) → OnCall f.made d ≡ OnCall k e → IsFrom (parameters_at prog.functions f.function) e
+    awaiting d h k e same = let one : d ≡ e = cc in let P : Option RegisterId → Type 0 = λ x. IsFrom (parameters_at prog.functions f.function) x in subst P one h
 
     after_call : (d : Option RegisterId) (callee : ℕ) (values : List Value) → action_of prog p f s.memory ≡ Call d callee values → Known p (waiting f d) × Known (f.made ∷ p) (called p f callee values)
     after_call d callee values at =
@@ -170,4 +174,9 @@ module _ (prog : Program) (apart : CallsApart prog.functions) (keeps : KeepsPara
   reached_known arguments memory s (by_step p before next reached step) = applied_known before p next (reached_known arguments memory before reached) (change_of prog before p) refl step
 
 pub names_are_apart : PointerNamesAreApart
-names_are_apart prog arguments memory apart keeps s reached p f is = names_apart prog.functions p f (reached_known prog apart keeps arguments memory s reached p f is)
+names_are_apart prog apart keeps arguments memory s reached p f is = names_apart prog.functions p f (reached_known prog apart keeps arguments memory s reached p f is)
+
+pub meant_names_are_apart : MeantNamesAreApart
+meant_names_are_apart text whole typed read means =
+    let anew = read_anew whole (answers_kept text whole read) in
+    names_are_apart typed.program (program_apart whole (Ok typed) means) (program_kept whole (Ok typed) means anew)

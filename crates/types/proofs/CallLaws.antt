@@ -1,6 +1,6 @@
 -- What the rules on calls say of the program.
-use Rattle.std.proofs.Common.{◌≡◌, ℕ, zero, suc, ◌+◌, ◌<◌, ◌≤◌, Bool, true, false, not, List, [], ◌∷◌, map, length, get_or, refl, sym, ap, ◌∙◌, subst, arith, true≢false, Result, Ok, Err, IfOk, Option, Some, None, is_some, nat_le, nat_eq}
-use Rattle.std.specs.Prelude.{slice_get, unwrap_or, ◌||◌}
+use Rattle.std.proofs.Common.{◌≡◌, ℕ, zero, suc, ◌<◌, Bool, true, false, not, List, [], ◌∷◌, map, length, get_or, refl, sym, ap, ◌∙◌, subst, arith, true≢false, Result, Ok, Err, IfOk, Option, Some, None, is_some, nat_le, nat_eq}
+use Rattle.std.specs.Prelude.{slice_get}
 use Rattle.std.specs.List.{Contains, list_any}
 use Rattle.std.proofs.lemmas.Bool.{or_parts}
 use Rattle.std.proofs.lemmas.Bool.Decides.{nat_tests}
@@ -28,25 +28,25 @@ use Rattle.types.specs.declared.block.Body.{Body}
 use Rattle.types.specs.declared.call.ResolvedCall.{ResolvedCall}
 use Rattle.types.specs.declared.typed.Typed.{Typed}
 use Rattle.types.specs.declared.fault.TypeFault.{TypeFault}
-use Rattle.types.specs.declared.fault.TypeFault.TheVariants.{Fault, Memory}
+use Rattle.types.specs.declared.fault.TypeFault.TheVariants.{Fault}
 use Rattle.types.specs.declared.instruction.Spot.{Spot}
 use Rattle.types.specs.declared.mention.Mentions.{Mentions}
 use Rattle.types.specs.Address.{Items, object_of}
-use Rattle.types.specs.Apart.{IsCallApart, IsApart, CallsApart}
-use Rattle.types.specs.Call.{Named, are_distinct, is_any_named, is_named_below, passed_call, found_call, called, call_of, refused_call, arguments_of, fitting_arguments, as_function}
-use Rattle.types.specs.Fault.{both_of, and_then, made_of, unless_of}
+use Rattle.types.proofs.TextCalls.{IsCallApart, IsApart, CallsApart}
+use Rattle.types.specs.Call.{Named, are_distinct, is_any_named, is_named_below, passed_call, found_call, called, refused_call, arguments_of, fitting_arguments, as_function}
+use Rattle.types.specs.Fault.{both_of, made_of, unless_of}
 use Rattle.types.specs.Instruction.{instruction_of, step_of, defined_of, alloca_id_of}
 use Rattle.types.specs.Layout.{layout_of}
 use Rattle.types.specs.Function.{function_of, functions_of}
 use Rattle.types.specs.Block.{block_of}
 use Rattle.types.specs.Item.{items_of}
-use Rattle.types.specs.Typed.{typed_from, Judges, main_of}
+use Rattle.types.specs.Typed.{Judges}
 use Rattle.types.specs.Mention.{IsNamed, IsNamedTable, mentions_of}
 use Rattle.types.specs.Scope.{Scope}
 use Rattle.types.specs.Table.{look_up}
-use Rattle.types.proofs.Inversion.{made_ok, then_ok, both_ok, unless_ok, all_ok, err_not_ok, same_ok}
+use Rattle.types.proofs.Inversion.{made_ok, then_ok, both_ok, unless_ok, all_ok, err_not_ok}
 
-turned : (b : Bool) → not b ≡ true → b ≡ false
+pub turned : (b : Bool) → not b ≡ true → b ≡ false
 turned true h = absurd (true≢false (sym h))
 turned false h = refl
 

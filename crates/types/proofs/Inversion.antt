@@ -1,5 +1,5 @@
 -- What a good whole says of its parts.
-use Rattle.std.proofs.Common.{◌≡◌, ℕ, zero, suc, ◌+◌, Bool, true, false, List, [], ◌∷◌, ◌++◌, refl, sym, ap, ◌∙◌, subst, arith, true≢false, Result, Ok, Err, is_ok, Option, Some, None, is_some}
+use Rattle.std.proofs.Common.{◌≡◌, ℕ, zero, suc, ◌+◌, Bool, true, false, List, [], ◌∷◌, ◌++◌, refl, sym, ap, ◌∙◌, arith, true≢false, Result, Ok, Err, is_ok, Some, None, is_some}
 use Rattle.std.specs.Prelude.{slice_get, unwrap_or}
 use Rattle.types.specs.declared.fault.TypeFault.{TypeFault}
 use Rattle.types.specs.Fault.{both_of, and_then, made_of, unless_of, joined_of, all_from, all_of}
@@ -84,3 +84,27 @@ all_ok {A} {B} f xs ys i y e at =
     let same : ys ≡ whole.1 = whole.3 ∙ ap (λ zs. zs ++ whole.1) (sym none) in
     let found = at_place f 0 xs whole.1 i y whole.4 (ap (λ zs. slice_get zs i) (sym same) ∙ at) in
     (found.0, ap (λ k. f k found.0) (omega arith) ∙ found.1)
+
+-- ---- with the element's place
+
+pub same_place : {A B : Type 0} (f : ℕ → A → Result B TypeFault) (n : ℕ) (xs : List A) (ys : List B) (i : ℕ) (y : B) →
+    Each f n xs ys → slice_get ys i ≡ Some y → (x : A) × (slice_get xs i ≡ Some x) × (f (n + i) x ≡ Ok y)
+same_place f n [] [] i y each e = absurd (cc)
+same_place f n [] (z ∷ zs) i y each e = absurd each
+same_place f n (x ∷ xs) [] i y each e = absurd each
+same_place {A} {B} f n (x ∷ xs) (z ∷ zs) zero y each e =
+    let s : z ≡ y = cc in
+    (x, refl, ap (λ k. f k x) (omega arith) ∙ each.0 ∙ ap (λ (v : B). Ok v) s)
+same_place f n (x ∷ xs) (z ∷ zs) (suc i) y each e =
+    let found = same_place f (n + 1) xs zs i y each.1 e in
+    (found.0, found.1, ap (λ k. f k found.0) (omega arith) ∙ found.2)
+
+-- the part at a place is what the element at that place means
+pub all_at : {A B : Type 0} (f : ℕ → A → Result B TypeFault) (xs : List A) (ys : List B) (i : ℕ) (y : B) →
+    all_of f xs ≡ Ok ys → slice_get ys i ≡ Some y → (x : A) × (slice_get xs i ≡ Some x) × (f i x ≡ Ok y)
+all_at {A} {B} f xs ys i y e at =
+    let whole = all_from_ok f 0 (Ok []) xs ys e in
+    let none : [] ≡ whole.0 = same_ok [] whole.0 whole.2 in
+    let same : ys ≡ whole.1 = whole.3 ∙ ap (λ zs. zs ++ whole.1) (sym none) in
+    let found = same_place f 0 xs whole.1 i y whole.4 (ap (λ zs. slice_get zs i) (sym same) ∙ at) in
+    (found.0, found.1, ap (λ k. f k found.0) (omega arith) ∙ found.2)

@@ -1,3 +1,4 @@
+pub mod Definitions
 pub mod Address
 pub mod Apart
 pub mod Block

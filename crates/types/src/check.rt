@@ -1,9 +1,8 @@
-ghost use Rattle.std.specs.Prelude.{◌≡◌, map, length, IfOk};
+ghost use Rattle.std.specs.Prelude.{◌≡◌, map, IfOk};
 ghost use Rattle.std.specs.List.{list_all};
 ghost use Rattle.types.specs.Fault.{Gives};
 ghost use Rattle.types.specs.Apart.{CallsApart};
-ghost use Rattle.types.specs.Item.{items_of as items_of_module};
-ghost use Rattle.types.specs.Mention.{mentions_of};
+ghost use Rattle.types.specs.Definitions.{EachDefinesAnew, KeepsParameters};
 ghost use Rattle.types.specs.Typed as spec;
 
 use crate::call::World;
@@ -115,7 +114,8 @@ fn resolve_program(
 /// The tables of names are hashed with `state`.
 pub fn check_types(alloc: Global, state: RandomState, whole: Module) -> Result<Typed, TypeFault>
     ensures judged { spec.Judges whole result }
-    ensures apart { IfOk result (λ typed. CallsApart (map (mentions_of (items_of_module whole)) whole.functions) (length whole.globals) typed.program.functions) }
+    ensures apart { IfOk result (λ typed. CallsApart typed.program.functions) }
+    ensures kept { EachDefinesAnew whole.functions → IfOk result (λ typed. KeepsParameters typed.program.functions) }
 {
     let items = items_of(alloc, state, &whole)?;
     let mentions = all_mentions(alloc, &items, whole.functions.as_slice())?;

@@ -1,7 +1,7 @@
 use Rattle.std.proofs.Common.{map, ap, ◌∙◌}
 use Rattle.types.specs.Mention.{mentions_of}
-use Rattle.types.proofs.CallLaws.{judged_apart}
 use Rattle.types.proofs.Judging.{judged}
+use Rattle.types.proofs.Programs.{program_apart, program_kept}
 use Rattle.types.proofs.check.check_types.Goals as goal
 
 pub returns-clause-judged : goal.returns-clause-judged
@@ -11,4 +11,7 @@ returns-clause-judged c =
     c.as_slice-2.ensures c.len.ensures c.in_ok-named.ensures c.as_slice-3.ensures c.resolve_program.ensures
 
 pub returns-clause-apart : goal.returns-clause-apart
-returns-clause-apart c = judged_apart c.args.whole c.resolve_program.result (returns-clause-judged c)
+returns-clause-apart c = program_apart c.args.whole c.resolve_program.result (returns-clause-judged c)
+
+pub returns-clause-kept : goal.returns-clause-kept
+returns-clause-kept c = program_kept c.args.whole c.resolve_program.result (returns-clause-judged c)
