@@ -1,3 +1,4 @@
+mod Always
 mod Judged
 mod Lookups
 mod Paths

@@ -1,7 +1,7 @@
-ghost use Rattle.std.specs.Prelude.{◌≡◌, ℕ, IfOk, IfErr};
+ghost use Rattle.std.specs.Prelude.{◌≡◌, ℕ, All, IfOk, IfErr};
 ghost use Rattle.cfg.specs.Edges.{graph_of};
 ghost use Rattle.region_match.specs.ByLabel.{IsNamed};
-ghost use Rattle.definedness.specs.Definedness.{register_table, IsUndefined, IsFunctionBroken, IsDefinednessBroken, IsDefinednessFault};
+ghost use Rattle.definedness.specs.Definedness.{register_table, AreRegistersDefined, IsUndefined, IsFunctionBroken, IsDefinednessBroken, IsDefinednessFault};
 
 use crate::act::BlockActs;
 use crate::fault::DefinedFault;
@@ -64,6 +64,7 @@ fn all_faults(alloc: Global, graph: &Graph) -> Result<Option<Broken>, AllocError
 /// Whether registers are defined wherever they are used (LLVM Language Reference, "Well-Formedness"). Of several faults
 /// that of the lowest line is named.
 pub fn defined(alloc: Global, graph: &Graph, _regions: &Regions) -> Result<(), DefinedFault>
+    ensures always { IfOk result (λ _. All AreRegistersDefined graph.now.typed.program.functions) }
     ensures right { IfOk result (λ _. (b : Broken) → IsDefinednessBroken graph.now.typed.program b → ⊥) }
     ensures fault { IfErr result (IsDefinednessFault graph.now.typed.program) }
 {
