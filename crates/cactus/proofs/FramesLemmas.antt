@@ -1,12 +1,12 @@
 -- What stands in the slots after a change of one.
-use Rattle.std.proofs.Common.{◌≡◌, ◌≢◌, ℕ, suc, ◌<◌, List, length, get_or, set, Option, Some, None, refl, sym, ap, ◌∙◌, arith, slice_index_or, slice_set}
+use Rattle.std.proofs.Common.{◌≡◌, ◌≢◌, ℕ, suc, ◌<◌, length, Option, Some, None, refl, arith}
 use Rattle.std.specs.Prelude.{IsSome, Bool, true, false, ◌==◌, if◌then◌else◌}
 use Rattle.std.proofs.lemmas.Bool.Decides.{nat_tests}
 use Rattle.std.proofs.lemmas.List.{get_or-set_same, get_or-set_other, get_or_past}
 use Rattle.std.specs.Option.{option_map}
 use Rattle.cactus.specs.declared.node.Node.{Node}
 use Rattle.cactus.specs.Frames.{Frames, node_at, node_of_use, of_generation, frame_at, slot_above, Lives}
-use Rattle.cactus.specs.Lending.{with_frame, written}
+use Rattle.cactus.specs.Lending.{with_frame}
 
 module _ {F : Type 0} where
   -- a frame's slot is one of the slots

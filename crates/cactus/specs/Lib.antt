@@ -1,2 +1,3 @@
 pub mod Frames
+pub mod ByPath
 pub mod Lending

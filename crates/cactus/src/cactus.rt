@@ -1,8 +1,9 @@
-ghost use Rattle.std.specs.Prelude.{count_by, is_some, IfSome, IfNone, ◌≡◌, ◌+◌, ◌<◌, ◌^◌, ◌++◌, ◌∷◌, [], Some, None, IsSome, IfOk, OnOk, OnErr, option_copied};
+ghost use Rattle.std.specs.Prelude.{count_by, is_some, option_and_then, IsSomeAnd, IfSome, IfNone, ◌≡◌, ◌+◌, ◌<◌, ◌^◌, ◌++◌, ◌∷◌, [], Some, None, IsSome, IfOk, OnOk, OnErr, option_copied};
 ghost use Rattle.std.specs.Option.{option_copied_mut, option_map};
 ghost use Rattle.std.specs.Borrow.{sem};
 ghost use Rattle.slab.specs.Slab.{entries_from};
 ghost use Rattle.cactus.specs.Frames.{node_at, node_of_use, HasPath, HasNoPath, owner_at, slot_above, frame_at, Lives, IsAdded, AddsChild, IsRemoved};
+ghost use Rattle.cactus.specs.ByPath.{named, IsTree, Binds, GrowsMap, ShrinksMap};
 
 use crate::node::Node;
 use frame::Path;
@@ -48,6 +49,7 @@ impl<F: Drop> Cactus<F> {
     pub fn new(alloc: Global) -> Cactus<F>
         ensures none { result.nodes ≡ [] }
         ensures made { result.made ≡ 0 }
+        ensures tree { IsTree result }
     {
         Cactus {
             alloc,
@@ -109,6 +111,7 @@ impl<F: Drop> Cactus<F> {
     pub fn spot(&self, path: &Path) -> Option<(usize, u64)>
         ensures found { IfSome result (λ spot. HasPath self.now spot.0 spot.1 path.now) }
         ensures absent { IfNone result (HasNoPath self.now path.now) }
+        ensures map { IsTree self.now → option_and_then (λ spot. node_of_use self.now spot.0 spot.1) result ≡ named self.now path.now.numbers }
     {
         for (slot, node) in self.nodes.iter() {
             if node.has_path(path) {
@@ -172,6 +175,7 @@ impl<F: Drop> Cactus<F> {
     pub fn add_root(&mut self, frame: F) -> Result<usize, OutOfMemory>
         requires { self.old.made + 1 < 2 ^ 63 }
         ensures ok { IfOk result (λ slot. IsAdded self.old self.new (record { numbers = [] }) None frame slot) }
+        ensures map { IfOk result (λ slot. IsTree self.old → named self.old [] ≡ None → IsSomeAnd (node_at self.new slot) (λ node. Binds self.old self.new [] (Some node))) }
         ensures err { OnErr result (self.new ≡ self.old) }
     {
         let path = Path {
@@ -186,6 +190,7 @@ impl<F: Drop> Cactus<F> {
         requires lives { Lives self.old parent }
         requires room { self.old.made + 1 < 2 ^ 63 }
         ensures ok { IfOk result (λ slot. AddsChild self.old self.new parent number frame slot) }
+        ensures map { OnOk result (GrowsMap self.old self.new parent number frame) }
         ensures err { OnErr result (self.new ≡ self.old) }
     {
         let path = child_path(self.alloc, &self.nodes[parent].path, number)?;
@@ -198,6 +203,7 @@ impl<F: Drop> Cactus<F> {
         requires lives { Lives self.old caller }
         requires room { self.old.made + 1 < 2 ^ 63 }
         ensures ok { IfOk result (λ slot. AddsChild self.old self.new caller number frame slot) }
+        ensures map { OnOk result (GrowsMap self.old self.new caller number frame) }
         ensures err { OnErr result (self.new ≡ self.old) }
     {
         self.add_child(caller, number, frame)
@@ -208,6 +214,7 @@ impl<F: Drop> Cactus<F> {
         requires { Lives self.old slot }
         ensures value { node_at self.old slot ≡ Some result }
         ensures rest { IsRemoved self.old self.new slot }
+        ensures map { ShrinksMap self.old self.new slot result }
     {
         self.remove(slot)
     }
@@ -217,6 +224,7 @@ impl<F: Drop> Cactus<F> {
         requires { Lives self.old slot }
         ensures value { node_at self.old slot ≡ Some result }
         ensures rest { IsRemoved self.old self.new slot }
+        ensures map { ShrinksMap self.old self.new slot result }
     {
         self.nodes.remove(slot)
     }

@@ -18,7 +18,7 @@ use Rattle.frame.specs.declared.frame.Frame as machine
 use Rattle.frame.specs.declared.effect.Effect.{Effect}
 use Rattle.frame.specs.declared.effect.Trap.{Trap}
 use Rattle.frame.specs.declared.effect.Trap.TheVariants as trap
-use Rattle.frame.specs.Asked.{or_empty, call_arguments, place_of, ItemFits, DoesInstruction, DoesTerminator, DoesNext}
+use Rattle.frame.specs.Asked.{Unless, OperandsFit, or_empty, call_arguments, place_of, ItemFits, DoesInstruction, DoesTerminator, DoesPlace}
 use Rattle.machine_core.specs.Frames.{Frame, Value, Region, Item, Does, Ends, item_of, block_at, and_then}
 use Rattle.linear.specs.declared.form.RegisterId.{RegisterId}
 use Rattle.machine_core.specs.Effect.{Action, Call, calls, item_action, case_for, argument_value, argument_values, traps, within}
@@ -162,13 +162,17 @@ place_endless prog f b e h k = rw (e, k) (item_endless b.steps f.index h)
 pub place_outside : (prog : Program) (f : machine.Frame) → block_at prog f.function.0 f.block.0 ≡ None → place_of prog f ≡ None
 place_outside prog f e = rw e refl
 
-pub does_instruction : (prog : Program) (f : machine.Frame) (i : Instruction) (r : Result Effect Trap) → place_of prog f ≡ Some (Does i) → DoesInstruction prog f i r → DoesNext prog f r
-does_instruction prog f i r e h p m l fits = h p m l e (subst (ItemFits (frame_of p f)) e fits) ∙ ap (item_action prog p (frame_of p f) m) (sym e)
+pub does_instruction : (prog : Program) (f : machine.Frame) (i : Instruction) (r : Result Effect Trap) → place_of prog f ≡ Some (Does i) → DoesInstruction prog f i r → DoesPlace prog f r
+does_instruction prog f i r e h p m l fits = h p m l e (fits_here r fits) ∙ ap (item_action prog p (frame_of p f) m) (sym e)
+  where
+    fits_here : (x : Result Effect Trap) → Unless x (ItemFits (frame_of p f) (place_of prog f)) → Unless x (OperandsFit (frame_of p f) i)
+    fits_here (Ok y) k = tt
+    fits_here (Err t) k = subst (ItemFits (frame_of p f)) e k
 
-pub does_terminator : (prog : Program) (f : machine.Frame) (t : Terminator) (r : Result Effect Trap) → place_of prog f ≡ Some (Ends t) → DoesTerminator prog f t r → DoesNext prog f r
+pub does_terminator : (prog : Program) (f : machine.Frame) (t : Terminator) (r : Result Effect Trap) → place_of prog f ≡ Some (Ends t) → DoesTerminator prog f t r → DoesPlace prog f r
 does_terminator prog f t r e h p m l fits = h p m l ∙ ap (item_action prog p (frame_of p f) m) (sym e)
 
-pub does_nothing : (prog : Program) (f : machine.Frame) → place_of prog f ≡ None → DoesNext prog f (Err trap.Unmatched)
+pub does_nothing : (prog : Program) (f : machine.Frame) → place_of prog f ≡ None → DoesPlace prog f (Err trap.Unmatched)
 does_nothing prog f e p m l fits = ap (item_action prog p (frame_of p f) m) (sym e)
 
 pub chosen_is : (z y : ℤ) (d : ℕ) (cases : List Case) (o : Option Case) → y ≡ z → o ≡ find (λ (c : Case). int_eq y c.number) cases → option_map_or (λ (x : Case). x.target.0) o d ≡ case_for z d cases

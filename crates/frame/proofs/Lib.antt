@@ -1,2 +1,5 @@
 pub mod Words
 pub mod Effects
+pub mod Changes
+pub mod Edges
+pub mod Makers

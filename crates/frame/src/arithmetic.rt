@@ -21,7 +21,7 @@ fn bits(width: Width) -> u64
 }
 
 /// Whether the width has the number.
-fn fits(width: Width, number: i64) -> bool
+pub fn fits(width: Width, number: i64) -> bool
     ensures { IsTrue result ↔ Fits width number }
 {
     match width {
@@ -217,5 +217,16 @@ pub fn convert(conversion: Conversion, number: i64) -> i64
         Conversion::Truncate => wrapped(Width::Bits32, number),
         Conversion::SignExtend => number,
         Conversion::ZeroExtend => signed(Width::Bits64, unsigned(Width::Bits32, number)),
+    }
+}
+
+/// The width of the number that is converted.
+pub fn source_width(conversion: Conversion) -> Width
+    ensures { result ≡ source_width conversion }
+{
+    match conversion {
+        Conversion::Truncate => Width::Bits64,
+        Conversion::SignExtend => Width::Bits32,
+        Conversion::ZeroExtend => Width::Bits32,
     }
 }

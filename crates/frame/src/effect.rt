@@ -1,4 +1,4 @@
-ghost use Rattle.std.specs.Prelude.{◌≡◌, ◌↔◌, Ok, length, find, All, IsSome, IsTrue};
+ghost use Rattle.std.specs.Prelude.{◌≡◌, ◌↔◌, ℕ, IfOk, Ok, length, find, All, IsSome, IsTrue};
 ghost use Rattle.std.specs.Ordering.{int_eq};
 ghost use Rattle.std.specs.Option.{option_copied};
 ghost use Rattle.program.specs.declared.instruction.Instruction.TheVariants as instruction;
@@ -7,12 +7,13 @@ ghost use Rattle.machine_core.specs.Paths.{Path};
 ghost use Rattle.machine_core.specs.Frames as frames;
 ghost use Rattle.machine_core.specs.Effect as effects;
 ghost use Rattle.frame.specs.Reading.{frame_of};
-ghost use Rattle.frame.specs.Asked.{DoesInstruction, DoesTerminator, DoesNext, asked};
+ghost use Rattle.frame.specs.Asked.{DoesInstruction, DoesTerminator, DoesPlace, DoesNext, asked};
+ghost use Rattle.frame.specs.Room.{CanDo, EffectWithin, HasChild, HasNext, HasRegister, HasResult, IsSound};
 ghost use Rattle.frame.specs.Answers.{answer_of};
 ghost use Rattle.program.specs.declared.function.Program.{Program};
 ghost use Rattle.machine_core.specs.Cells.{Memory};
 
-use crate::arithmetic::{binary, compare, convert};
+use crate::arithmetic::{binary, compare, convert, source_width};
 use crate::frame::{Frame, Role, block_at, item_at};
 use crate::value::{Cell, Object, Value};
 use program::{
@@ -122,7 +123,8 @@ fn extent(program: &Program, function: FunctionId, name: ObjectName) -> u64
 
 /// Gives the register the answer of an operation.
 fn number_effect(register: RegisterId, answer: Result<i64, Trap>) -> Result<Effect, Trap>
-    ensures { (prog : Program) (p : Path) (f : frames.Frame) (m : Memory) → asked prog p f m result ≡ effects.Plain (effects.answers f register (answer_of answer)) }
+    ensures does { (prog : Program) (p : Path) (f : frames.Frame) (m : Memory) → asked prog p f m result ≡ effects.Plain (effects.answers f register (answer_of answer)) }
+    ensures within { (depth : ℕ) → IfOk result (λ e. EffectWithin depth e) }
 {
     match answer {
         Ok(number) => Ok(Effect::Define {
@@ -142,10 +144,11 @@ fn binary_effect(
     left: Operand,
     right: Operand,
 ) -> Result<Effect, Trap>
-    ensures { DoesInstruction program.now frame.now (instruction.Binary register operator width left right) result }
+    ensures does { DoesInstruction program.now frame.now (instruction.Binary register operator width left right) result }
+    ensures within { IsSound frame.now → IfOk result (λ e. EffectWithin frame.now.depth e) }
 {
-    let left = frame.number(left)?;
-    let right = frame.number(right)?;
+    let left = frame.number_of(width, left)?;
+    let right = frame.number_of(width, right)?;
     number_effect(register, binary(operator, width, left, right))
 }
 
@@ -158,10 +161,11 @@ fn compare_effect(
     left: Operand,
     right: Operand,
 ) -> Result<Effect, Trap>
-    ensures { DoesInstruction program.now frame.now (instruction.Compare register predicate width left right) result }
+    ensures does { DoesInstruction program.now frame.now (instruction.Compare register predicate width left right) result }
+    ensures within { IsSound frame.now → IfOk result (λ e. EffectWithin frame.now.depth e) }
 {
-    let left = frame.number(left)?;
-    let right = frame.number(right)?;
+    let left = frame.number_of(width, left)?;
+    let right = frame.number_of(width, right)?;
     Ok(Effect::Define {
         register,
         value: Value::Truth(compare(predicate, width, left, right)),
@@ -175,9 +179,10 @@ fn convert_effect(
     conversion: Conversion,
     value: Operand,
 ) -> Result<Effect, Trap>
-    ensures { DoesInstruction program.now frame.now (instruction.Convert register conversion value) result }
+    ensures does { DoesInstruction program.now frame.now (instruction.Convert register conversion value) result }
+    ensures within { IsSound frame.now → IfOk result (λ e. EffectWithin frame.now.depth e) }
 {
-    let number = frame.number(value)?;
+    let number = frame.number_of(source_width(conversion), value)?;
     Ok(Effect::Define {
         register,
         value: Value::Number(convert(conversion, number)),
@@ -192,7 +197,8 @@ fn element_effect(
     object: ObjectName,
     index: Operand,
 ) -> Result<Effect, Trap>
-    ensures { DoesInstruction program.now frame.now (instruction.ElementPointer register object index) result }
+    ensures does { DoesInstruction program.now frame.now (instruction.ElementPointer register object index) result }
+    ensures within { IsSound frame.now → IfOk result (λ e. EffectWithin frame.now.depth e) }
 {
     let extent = extent(program, frame.function, object);
     let object = frame.object(object)?;
@@ -213,7 +219,8 @@ fn load_effect(
     register: RegisterId,
     address: Address,
 ) -> Result<Effect, Trap>
-    ensures { DoesInstruction program.now frame.now (instruction.Load register address) result }
+    ensures does { DoesInstruction program.now frame.now (instruction.Load register address) result }
+    ensures within { IsSound frame.now → IfOk result (λ e. EffectWithin frame.now.depth e) }
 {
     let cell = frame.address(address)?;
     Ok(Effect::Load { register, cell })
@@ -225,7 +232,8 @@ fn store_effect(
     value: Operand,
     address: Address,
 ) -> Result<Effect, Trap>
-    ensures { DoesInstruction program.now frame.now (instruction.Store value address) result }
+    ensures does { DoesInstruction program.now frame.now (instruction.Store value address) result }
+    ensures within { IsSound frame.now → IfOk result (λ e. EffectWithin frame.now.depth e) }
 {
     let cell = frame.address(address)?;
     let number = frame.number(value)?;
@@ -238,7 +246,8 @@ fn store_zeros_effect(
     cells: u64,
     object: ObjectName,
 ) -> Result<Effect, Trap>
-    ensures { DoesInstruction program.now frame.now (instruction.StoreZeros cells object) result }
+    ensures does { DoesInstruction program.now frame.now (instruction.StoreZeros cells object) result }
+    ensures within { IsSound frame.now → IfOk result (λ e. EffectWithin frame.now.depth e) }
 {
     let object = frame.object(object)?;
     Ok(Effect::StoreZeros { object, cells })
@@ -250,7 +259,8 @@ fn add_effect(
     address: Address,
     value: Operand,
 ) -> Result<Effect, Trap>
-    ensures { DoesInstruction program.now frame.now (instruction.AtomicAdd address value) result }
+    ensures does { DoesInstruction program.now frame.now (instruction.AtomicAdd address value) result }
+    ensures within { IsSound frame.now → IfOk result (λ e. EffectWithin frame.now.depth e) }
 {
     let cell = frame.address(address)?;
     let number = frame.number(value)?;
@@ -273,7 +283,8 @@ fn call_effect(
     callee: FunctionId,
     arguments: &[Argument],
 ) -> Result<Effect, Trap>
-    ensures { DoesInstruction program.now frame.now (instruction.Call register callee arguments.now) result }
+    ensures does { DoesInstruction program.now frame.now (instruction.Call register callee arguments.now) result }
+    ensures within { IsSound frame.now → IfOk result (λ e. EffectWithin frame.now.depth e) }
 {
     if have_values(frame, arguments) {
         Ok(Effect::Call { register, callee })
@@ -288,7 +299,8 @@ fn alloca_effect(
     register: RegisterId,
     alloca: AllocaId,
 ) -> Result<Effect, Trap>
-    ensures { DoesInstruction program.now frame.now (instruction.Alloca register alloca) result }
+    ensures does { DoesInstruction program.now frame.now (instruction.Alloca register alloca) result }
+    ensures within { IsSound frame.now → IfOk result (λ e. EffectWithin frame.now.depth e) }
 {
     let object = frame.object(ObjectName::Alloca(alloca))?;
     Ok(Effect::Define {
@@ -298,7 +310,8 @@ fn alloca_effect(
 }
 
 fn region_effect(program: &Program, frame: &Frame, register: RegisterId) -> Result<Effect, Trap>
-    ensures { DoesInstruction program.now frame.now (instruction.StartRegion register) result }
+    ensures does { DoesInstruction program.now frame.now (instruction.StartRegion register) result }
+    ensures within { IsSound frame.now → IfOk result (λ e. EffectWithin frame.now.depth e) }
 {
     Ok(Effect::Define {
         register,
@@ -311,7 +324,8 @@ fn instruction_effect(
     frame: &Frame,
     instruction: &Instruction,
 ) -> Result<Effect, Trap>
-    ensures { DoesInstruction program.now frame.now instruction.now result }
+    ensures does { DoesInstruction program.now frame.now instruction.now result }
+    ensures within { IsSound frame.now → IfOk result (λ e. EffectWithin frame.now.depth e) }
 {
     match instruction {
         Instruction::Binary {
@@ -384,7 +398,8 @@ fn branch_effect(
     when_true: BlockId,
     when_false: BlockId,
 ) -> Result<Effect, Trap>
-    ensures { DoesTerminator program.now frame.now (terminator.Branch condition when_true when_false) result }
+    ensures does { DoesTerminator program.now frame.now (terminator.Branch condition when_true when_false) result }
+    ensures within { IsSound frame.now → IfOk result (λ e. EffectWithin frame.now.depth e) }
 {
     let target = if frame.truth(condition)? {
         when_true
@@ -402,7 +417,8 @@ fn switch_effect(
     default: BlockId,
     cases: &[Case],
 ) -> Result<Effect, Trap>
-    ensures { DoesTerminator program.now frame.now (terminator.Switch width value default cases.now) result }
+    ensures does { DoesTerminator program.now frame.now (terminator.Switch width value default cases.now) result }
+    ensures within { IsSound frame.now → IfOk result (λ e. EffectWithin frame.now.depth e) }
 {
     let number = frame.number(value)?;
     Ok(Effect::Branch {
@@ -411,7 +427,8 @@ fn switch_effect(
 }
 
 fn return_effect(program: &Program, frame: &Frame, value: Option<Operand>) -> Result<Effect, Trap>
-    ensures { DoesTerminator program.now frame.now (terminator.Return value) result }
+    ensures does { DoesTerminator program.now frame.now (terminator.Return value) result }
+    ensures within { IsSound frame.now → IfOk result (λ e. EffectWithin frame.now.depth e) }
 {
     let value = match value {
         Some(operand) => Some(frame.number(operand)?),
@@ -426,7 +443,8 @@ fn return_effect(program: &Program, frame: &Frame, value: Option<Operand>) -> Re
 /// The effect, where the register holds a region that this frame started: a region's frame is the one that holds it, or
 /// is above that.
 fn within(frame: &Frame, region: RegisterId, effect: Effect) -> Result<Effect, Trap>
-    ensures { (prog : Program) (p : Path) (m : Memory) → length p ≡ frame.now.depth → asked prog p (frame_of p frame.now) m result ≡ effects.within p (frame_of p frame.now) region (asked prog p (frame_of p frame.now) m (Ok effect)) }
+    ensures does { (prog : Program) (p : Path) (m : Memory) → length p ≡ frame.now.depth → asked prog p (frame_of p frame.now) m result ≡ effects.within p (frame_of p frame.now) region (asked prog p (frame_of p frame.now) m (Ok effect)) }
+    ensures same { IfOk result (λ e. e ≡ effect) }
 {
     match frame.register(region) {
         Ok(Value::Region { depth }) if depth >= frame.depth => Ok(effect),
@@ -441,7 +459,8 @@ fn reattach_effect(
     region: RegisterId,
     continuation: BlockId,
 ) -> Result<Effect, Trap>
-    ensures { DoesTerminator program.now frame.now (terminator.Reattach region continuation) result }
+    ensures does { DoesTerminator program.now frame.now (terminator.Reattach region continuation) result }
+    ensures within { IsSound frame.now → IfOk result (λ e. EffectWithin frame.now.depth e) }
 {
     match frame.role {
         Role::Child {
@@ -457,7 +476,8 @@ fn terminator_effect(
     frame: &Frame,
     terminator: &Terminator,
 ) -> Result<Effect, Trap>
-    ensures { DoesTerminator program.now frame.now terminator.now result }
+    ensures does { DoesTerminator program.now frame.now terminator.now result }
+    ensures within { IsSound frame.now → IfOk result (λ e. EffectWithin frame.now.depth e) }
 {
     match terminator {
         Terminator::Jump { target } => Ok(Effect::Branch { target: *target }),
@@ -499,9 +519,10 @@ fn terminator_effect(
     }
 }
 
-/// What the frame's next instruction asks for. It changes nothing and takes no memory.
-pub fn next_effect(program: &Program, frame: &Frame) -> Result<Effect, Trap>
-    ensures { DoesNext program.now frame.now result }
+/// What the instruction or terminator at the frame's place asks for.
+fn place_effect(program: &Program, frame: &Frame) -> Result<Effect, Trap>
+    ensures does { DoesPlace program.now frame.now result }
+    ensures within { IsSound frame.now → IfOk result (λ e. EffectWithin frame.now.depth e) }
 {
     let Some(block) = block_at(program, frame.function, frame.block) else {
         return Err(Trap::Unmatched);
@@ -518,5 +539,70 @@ pub fn next_effect(program: &Program, frame: &Frame) -> Result<Effect, Trap>
                 Err(Trap::Unmatched)
             }
         }
+    }
+}
+
+/// Whether the frame has the register, if one is named.
+fn has_result(frame: &Frame, register: Option<RegisterId>) -> bool
+    ensures { IsTrue result ↔ HasResult frame.now register }
+{
+    match register {
+        Some(register) => has_register(frame, register),
+        None => true,
+    }
+}
+
+fn has_register(frame: &Frame, register: RegisterId) -> bool
+    ensures { IsTrue result ↔ HasRegister frame.now register }
+{
+    register.0 < frame.registers.len()
+}
+
+/// Whether the place behind the frame's has a number.
+fn has_next(frame: &Frame) -> bool
+    ensures { IsTrue result ↔ HasNext frame.now }
+{
+    frame.index < usize::MAX
+}
+
+/// Whether a child of the frame has a number and a depth.
+fn has_child(frame: &Frame) -> bool
+    ensures { IsTrue result ↔ HasChild frame.now }
+{
+    frame.made < u64::MAX && frame.depth < usize::MAX
+}
+
+/// Whether the frame has the register and the numbers that the effect needs: each frame of an accepted program has them.
+fn can_do(frame: &Frame, effect: Effect) -> bool
+    ensures { IsTrue result ↔ CanDo frame.now effect }
+{
+    match effect {
+        Effect::Define { register, .. } => has_register(frame, register) && has_next(frame),
+        Effect::Load { register, .. } => has_register(frame, register) && has_next(frame),
+        Effect::Store { .. } => has_next(frame),
+        Effect::StoreZeros { .. } => has_next(frame),
+        Effect::Add { .. } => has_next(frame),
+        Effect::Branch { .. } => true,
+        Effect::Detach { .. } => has_child(frame),
+        Effect::Reattach { .. } => true,
+        Effect::Sync { .. } => true,
+        Effect::Call { register, .. } => {
+            has_result(frame, register) && has_next(frame) && has_child(frame)
+        }
+        Effect::Return { .. } => true,
+    }
+}
+
+/// What the frame's next instruction asks for. It changes nothing and takes no memory.
+pub fn next_effect(program: &Program, frame: &Frame) -> Result<Effect, Trap>
+    ensures does { DoesNext program.now frame.now result }
+    ensures can { IfOk result (λ e. CanDo frame.now e) }
+    ensures within { IsSound frame.now → IfOk result (λ e. EffectWithin frame.now.depth e) }
+{
+    let effect = place_effect(program, frame)?;
+    if can_do(frame, effect) {
+        Ok(effect)
+    } else {
+        Err(Trap::Unmatched)
     }
 }

@@ -1,18 +1,20 @@
-ghost use Rattle.std.specs.Prelude.{◌≡◌, slice_get};
+ghost use Rattle.std.specs.Prelude.{◌≡◌, IfOk, slice_get};
 ghost use Rattle.std.specs.Option.{option_copied, option_map};
 ghost use Rattle.machine_core.specs.Paths.{Path};
 ghost use Rattle.machine_core.specs.Frames as frames;
 ghost use Rattle.machine_core.specs.Effect as effects;
+ghost use Rattle.frame.specs.Answers.{Fits};
+ghost use Rattle.frame.specs.Asked.{FitsIn, Unless};
 ghost use Rattle.frame.specs.Reading.{cell_of, found, frame_of, object_of, read, register_in, registers_of, value_of};
+ghost use Rattle.frame.specs.Room.{IsSound, ObjectWithin, ValueWithin};
 
+use crate::arithmetic::fits;
 use crate::effect::Trap;
 use crate::value::{Cell, Object, Value};
-use lists::OutOfMemory;
 use program::{
-    Address, AllocaId, Argument, Block, BlockId, Function, FunctionId, Instruction, ObjectName,
-    Operand, Phi, Program, RegisterId,
+    Address, AllocaId, Argument, Block, BlockId, FunctionId, ObjectName, Operand, Phi, Program,
+    RegisterId, Width,
 };
-use std::alloc::Global;
 
 /// What a frame waits for.
 #[derive(Clone, Copy, Debug, PartialEq, Eq)]
@@ -59,16 +61,7 @@ pub struct Frame {
     /// The cells of the function's allocas, in a function's own frame; a detached child has none.
     pub allocas: Vec<Vec<Option<i64>>>,
     /// Room for the phi moves of an edge, as many as registers.
-    pub moves: Vec<Option<Value>>,
-}
-
-/// The cells of a function's allocas, undefined.
-fn made_allocas(alloc: Global, function: &Function) -> Result<Vec<Vec<Option<i64>>>, OutOfMemory> {
-    let mut allocas = Vec::new(alloc);
-    for alloca in function.allocas.as_slice() {
-        allocas.push(vec![in alloc; None; alloca.cells as usize]?)?;
-    }
-    Ok(allocas)
+    pub moves: Vec<i64>,
 }
 
 /// The item at the index, where there is one.
@@ -87,7 +80,7 @@ pub fn block_at(program: &Program, function: FunctionId, block: BlockId) -> Opti
 }
 
 /// The phis of a block; none where there is no such block.
-fn phis_at(program: &Program, function: FunctionId, block: BlockId) -> &[Phi]
+pub fn phis_at(program: &Program, function: FunctionId, block: BlockId) -> &[Phi]
     ensures { result.now ≡ frames.phis_at program.now function.0 block.0 }
 {
     match block_at(program, function, block) {
@@ -97,98 +90,10 @@ fn phis_at(program: &Program, function: FunctionId, block: BlockId) -> &[Phi]
 }
 
 impl Frame {
-    /// A frame at the entry of a function, with no register defined. Where the program has no such function, it has no
-    /// registers.
-    fn at_entry(
-        alloc: Global,
-        program: &Program,
-        function: FunctionId,
-        depth: usize,
-    ) -> Result<Frame, OutOfMemory> {
-        let (registers, allocas) = match program.functions.as_slice().get(function.0) {
-            Some(found) => (found.registers.len(), made_allocas(alloc, found)?),
-            None => (0, Vec::new(alloc)),
-        };
-        Ok(Frame {
-            function,
-            block: BlockId(0),
-            index: 0,
-            registers: vec![in alloc; None; registers]?,
-            made: 0,
-            waits: Wait::Nothing,
-            role: Role::Body,
-            depth,
-            home: depth,
-            allocas,
-            moves: vec![in alloc; None; registers]?,
-        })
-    }
-
-    /// The root frame: `main` at its entry, with the arguments in its first registers.
-    pub fn root(alloc: Global, program: &Program, arguments: &[i64]) -> Result<Frame, OutOfMemory> {
-        let mut frame = Frame::at_entry(alloc, program, program.main, 0)?;
-        for (register, argument) in frame.registers.iter_mut().zip(arguments.iter()) {
-            *register = Some(Value::Number(*argument));
-        }
-        Ok(frame)
-    }
-
-    /// The frame of the callee at its entry, with the arguments of the call that is the caller's next instruction.
-    pub fn called(
-        alloc: Global,
-        program: &Program,
-        caller: &Frame,
-        callee: FunctionId,
-    ) -> Result<Frame, OutOfMemory> {
-        let depth = caller.depth.saturating_add(1);
-        let mut frame = Frame::at_entry(alloc, program, callee, depth)?;
-        if let Some(Instruction::Call { arguments, .. }) = caller.next_instruction(program) {
-            for (register, argument) in frame.registers.iter_mut().zip(arguments.as_slice()) {
-                *register = caller.argument(*argument).ok();
-            }
-        }
-        Ok(frame)
-    }
-
-    /// The child that a detach makes: a copy of the parent's registers at the detached block, without allocas of its
-    /// own.
-    pub fn detached(
-        alloc: Global,
-        parent: &Frame,
-        region: RegisterId,
-        body: BlockId,
-        continuation: BlockId,
-    ) -> Result<Frame, OutOfMemory> {
-        Ok(Frame {
-            function: parent.function,
-            block: body,
-            index: 0,
-            registers: parent.registers.as_slice().to_vec(alloc)?,
-            made: 0,
-            waits: Wait::Nothing,
-            role: Role::Child {
-                region,
-                continuation,
-            },
-            depth: parent.depth.saturating_add(1),
-            home: parent.home,
-            allocas: Vec::new(alloc),
-            moves: vec![in alloc; None; parent.registers.len()]?,
-        })
-    }
-
-    /// The next instruction, where it is no terminator.
-    pub fn next_instruction<'a>(&self, program: &'a Program) -> Option<&'a Instruction> {
-        let step = block_at(program, self.function, self.block)?
-            .steps
-            .as_slice()
-            .get(self.index)?;
-        Some(&step.instruction)
-    }
-
     /// What the register holds.
     pub fn register(&self, register: RegisterId) -> Result<Value, Trap>
-        ensures { result ≡ found (register_in self.now.registers.items register.0) }
+        ensures value { result ≡ found (register_in self.now.registers.items register.0) }
+        ensures within { IsSound self.now → IfOk result (λ v. ValueWithin self.now.depth v) }
     {
         match item_at(self.registers.as_slice(), register.0) {
             Some(Some(value)) => Ok(*value),
@@ -208,6 +113,19 @@ impl Frame {
         }
     }
 
+    /// The number, where the width has it: a number of type `i32` is always one of that type in an accepted program.
+    pub fn number_of(&self, width: Width, operand: Operand) -> Result<i64, Trap>
+        ensures value { (p : Path) → Unless result (FitsIn width (frames.word_at (registers_of p self.now.registers.items) operand)) → result ≡ found (frames.word_at (registers_of p self.now.registers.items) operand) }
+        ensures fits { IfOk result (λ z. Fits width z) }
+    {
+        let number = self.number(operand)?;
+        if fits(width, number) {
+            Ok(number)
+        } else {
+            Err(Trap::Undefined)
+        }
+    }
+
     pub fn truth(&self, register: RegisterId) -> Result<bool, Trap>
         ensures { (p : Path) → result ≡ found (frames.truth_of (registers_of p self.now.registers.items register.0)) }
     {
@@ -218,7 +136,8 @@ impl Frame {
     }
 
     fn pointer(&self, register: RegisterId) -> Result<Cell, Trap>
-        ensures { (p : Path) → read (cell_of p) result ≡ found (frames.cell_of (registers_of p self.now.registers.items register.0)) }
+        ensures value { (p : Path) → read (cell_of p) result ≡ found (frames.cell_of (registers_of p self.now.registers.items register.0)) }
+        ensures within { IsSound self.now → IfOk result (λ c. ObjectWithin self.now.depth c.object) }
     {
         match self.register(register)? {
             Value::Pointer(cell) => Ok(cell),
@@ -228,7 +147,8 @@ impl Frame {
 
     /// The object that the function's text means by the name.
     pub fn object(&self, name: ObjectName) -> Result<Object, Trap>
-        ensures { (p : Path) → read (object_of p) result ≡ found (frames.object_at (frame_of p self.now) name) }
+        ensures value { (p : Path) → read (object_of p) result ≡ found (frames.object_at (frame_of p self.now) name) }
+        ensures within { IsSound self.now → IfOk result (λ o. ObjectWithin self.now.depth o) }
     {
         match name {
             ObjectName::Global(global) => Ok(Object::Global(global)),
@@ -241,7 +161,8 @@ impl Frame {
     }
 
     pub fn address(&self, address: Address) -> Result<Cell, Trap>
-        ensures { (p : Path) → read (cell_of p) result ≡ found (frames.cell_at (frame_of p self.now) address) }
+        ensures value { (p : Path) → read (cell_of p) result ≡ found (frames.cell_at (frame_of p self.now) address) }
+        ensures within { IsSound self.now → IfOk result (λ c. ObjectWithin self.now.depth c.object) }
     {
         match address {
             Address::First(name) => Ok(self.object(name)?.first()),
@@ -250,107 +171,13 @@ impl Frame {
     }
 
     pub fn argument(&self, argument: Argument) -> Result<Value, Trap>
-        ensures { (p : Path) → read (value_of p) result ≡ found (effects.argument_value (frame_of p self.now) argument) }
+        ensures value { (p : Path) → read (value_of p) result ≡ found (effects.argument_value (frame_of p self.now) argument) }
+        ensures within { IsSound self.now → IfOk result (λ v. ValueWithin self.now.depth v) }
     {
         match argument {
             Argument::Number(operand) => Ok(Value::Number(self.number(operand)?)),
             Argument::Object(name) => Ok(Value::Pointer(self.object(name)?.first())),
         }
-    }
-
-    /// Goes on behind an instruction that defines no register.
-    pub fn pass(&mut self) {
-        self.index = self.index.saturating_add(1);
-        self.waits = Wait::Nothing;
-    }
-
-    /// Gives the register a value, where there is such a register.
-    fn set_register(&mut self, register: RegisterId, value: Value) {
-        if let Some(place) = self.registers.as_mut_slice().get_mut(register.0) {
-            *place = Some(value);
-        }
-    }
-
-    /// Goes on behind an instruction that defines the register.
-    pub fn define(&mut self, register: RegisterId, value: Value) {
-        self.set_register(register, value);
-        self.pass();
-    }
-
-    /// Goes on at the block, without phi moves: where a detach leads, no block has phis.
-    pub fn continue_at(&mut self, block: BlockId) {
-        self.block = block;
-        self.index = 0;
-        self.waits = Wait::Nothing;
-    }
-
-    /// Counts a new child; the answer is its number.
-    pub fn count_child(&mut self) -> u64 {
-        let child = self.made;
-        self.made = self.made.saturating_add(1);
-        child
-    }
-
-    /// Goes on behind a call, to wait for its return; the answer is the child's number.
-    pub fn wait_for_call(&mut self, register: Option<RegisterId>) -> u64 {
-        let child = self.count_child();
-        self.pass();
-        self.waits = Wait::Call { child, register };
-        child
-    }
-
-    /// Takes the result of the call that the frame waits for.
-    pub fn resume(&mut self, returned: Option<i64>) {
-        if let (
-            Wait::Call {
-                register: Some(register),
-                ..
-            },
-            Some(number),
-        ) = (self.waits, returned)
-        {
-            self.set_register(register, Value::Number(number));
-        }
-        self.waits = Wait::Nothing;
-    }
-
-    /// Reads the values that the phis take where the run comes from the frame's block.
-    fn read_moves(&mut self, phis: &[Phi]) -> Result<(), Trap> {
-        for (i, phi) in phis.iter().enumerate() {
-            let entry = phi
-                .entries
-                .as_slice()
-                .iter()
-                .find(|entry| entry.predecessor == self.block);
-            let number = match entry {
-                Some(entry) => self.number(entry.value)?,
-                None => return Err(Trap::Undefined),
-            };
-            match self.moves.as_mut_slice().get_mut(i) {
-                Some(place) => *place = Some(Value::Number(number)),
-                None => return Err(Trap::Undefined),
-            }
-        }
-        Ok(())
-    }
-
-    /// Gives the phis the values that were read.
-    fn write_moves(&mut self, phis: &[Phi]) {
-        for (phi, value) in phis.iter().zip(self.moves.as_slice()) {
-            if let Some(place) = self.registers.as_mut_slice().get_mut(phi.register.0) {
-                *place = *value;
-            }
-        }
-    }
-
-    /// Goes along the edge to the block: its phis take their values all at once (LLVM Language Reference, "phi"). Where
-    /// a value is missing, no register has changed.
-    pub fn enter(&mut self, program: &Program, target: BlockId) -> Result<(), Trap> {
-        let phis = phis_at(program, self.function, target);
-        self.read_moves(phis)?;
-        self.write_moves(phis);
-        self.continue_at(target);
-        Ok(())
     }
 
     /// What a cell of an alloca of this frame holds; none where there is no such cell.

@@ -4,7 +4,10 @@
 
 mod arithmetic;
 mod effect;
+mod entering;
 mod frame;
+mod going;
+mod making;
 mod path;
 mod value;
 

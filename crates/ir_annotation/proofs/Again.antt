@@ -99,13 +99,13 @@ numeral_by (b ∷ bs) h first =
     or_right (eqb b 48 && eqb (length bs) 0) ((nat_le 49 b && nat_le b 57) && list_all is_ascii_digit bs)
     (both_true (nat_le 49 b && nat_le b 57) (list_all is_ascii_digit bs) (both_true (nat_le 49 b) (nat_le b 57) low high) (digits_listed bs t.1))
 
-numeral_decimal : (n : ℕ) → n < 2 ^ 63 → is_numeral (decimal n) ≡ true
+pub numeral_decimal : (n : ℕ) → n < 2 ^ 63 → is_numeral (decimal n) ≡ true
 numeral_decimal n h = elim (cases_eq n 0) [
   | inl e ↦ ap (λ (k : ℕ). is_numeral (decimal k)) e ∙ ap is_numeral (decimal_digit 0 (omega arith))
   | inr ne ↦ numeral_by (decimal n) (decimal_digits n h) (first_decimal n (omega (arith, ne)) (omega arith))
 ]
 
-small_again : (n : ℕ) → n < 2 ^ 63 → small_value (decimal n) ≡ Some n
+pub small_again : (n : ℕ) → n < 2 ^ 63 → small_value (decimal n) ≡ Some n
 small_again n h =
     let value : digits_value 10 (decimal n) ≡ n = digits_value-decimal own n (omega arith) in
     let small : n < 2 ^ 64 = omega arith in

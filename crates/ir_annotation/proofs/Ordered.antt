@@ -33,7 +33,7 @@ pub record Bound {A B : Type 0} (read : Result A ℕ) (go : A → Result B ℕ) 
   pub read_is : read ≡ Ok value
   pub goes : go value ≡ Ok out
 
-bound : {A B : Type 0} (read : Result A ℕ) (go : A → Result B ℕ) (out : B) → (read >>= go) ≡ Ok out → Bound read go out
+pub bound : {A B : Type 0} (read : Result A ℕ) (go : A → Result B ℕ) (out : B) → (read >>= go) ≡ Ok out → Bound read go out
 bound (Ok x) go out h = record { value = x; read_is = refl; goes = h }
 bound (Err e) go out h = absurd cc
 
@@ -43,7 +43,7 @@ pub record IsNameRead (name : List ℕ) (is_within : Bool) : Type 0 where
   pub spelled : is_name name ≡ true
   pub short : is_within ≡ true → length name ≤ 64
 
-name_read : (name : List ℕ) (l : Limited (List ℕ)) → name_of name ≡ Ok l → IsNameRead l.value l.is_within_limits
+pub name_read : (name : List ℕ) (l : Limited (List ℕ)) → name_of name ≡ Ok l → IsNameRead l.value l.is_within_limits
 unfolding name_of
 name_read name l h =
     elim (is_name name) as (λ v. is_name name ≡ v → cond v (let r : Result (Limited (List ℕ)) ℕ = Ok (record { value = name; is_within_limits = nat_le (length name) 64 }) in r) (Err 103) ≡ Ok l → IsNameRead l.value l.is_within_limits) [
@@ -55,7 +55,7 @@ name_read name l h =
       | false ↦ λ (is : is_name name ≡ false) (e : (let r : Result (Limited (List ℕ)) ℕ = Err 103 in r) ≡ Ok l). absurd cc
     ] refl h
 
-register_read : (word : List ℕ) (l : Limited (List ℕ)) → register_of word ≡ Ok l → IsNameRead l.value l.is_within_limits
+pub register_read : (word : List ℕ) (l : Limited (List ℕ)) → register_of word ≡ Ok l → IsNameRead l.value l.is_within_limits
 register_read [] l h = absurd cc
 register_read (sigil ∷ name) l h =
     elim (eqb sigil 37) as (λ v. cond v (name_of name) (Err 103) ≡ Ok l → IsNameRead l.value l.is_within_limits) [

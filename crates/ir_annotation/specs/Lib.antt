@@ -1,3 +1,4 @@
+pub mod Annotations
 pub mod Bounds
 pub mod Canonical
 pub mod Forms

@@ -9,6 +9,7 @@ mod forms;
 mod keywords;
 pub mod laws;
 mod limits;
+pub mod line_laws;
 mod lines;
 mod meaning;
 mod spelling;

@@ -12,3 +12,7 @@ pub mod NoteAgain
 pub mod Takes
 pub mod ItemTakes
 pub mod LineTakes
+pub mod Parted
+pub mod ReadSpelled
+pub mod Shown
+pub mod ItemsAgain

@@ -11,6 +11,8 @@ use Rattle.ir_item.specs.Spelling.{spaces, text_of, symbols_in, item_atoms}
 use Rattle.ir_lex.specs.Words.{words_text, are_words}
 use Rattle.ir_item.specs.Spelled.{are_spelled}
 use Rattle.ir_item.specs.Fits.{item_fits}
+use Rattle.ir_item.specs.declared.line.Line.{Line}
+use Rattle.ir_item.specs.Printed.{item_on, IsKeptItem, item_text, said}
 
 -- behind any spaces an item's print says the item
 abbrev pub ItemsAreReadBack : Type 0
@@ -25,3 +27,11 @@ WordsAreReadBack = (at k : ℕ) (words : List (List ℕ)) → are_words words �
 abbrev pub SymbolsSpellTheirItem : Type 0
 SymbolsSpellTheirItem = (at : ℕ) (line : List Symbol) (i : Item) → list_all is_within_limits line ≡ true → item_in at line ≡ Some i
     → (line ≡ symbols_in (item_atoms i)) × (item_fits at i ≡ true)
+
+-- The line that prints an item which is kept says the item, on its own line and within the limits.
+abbrev pub KeptItemsAreReadBack : Type 0
+KeptItemsAreReadBack = (at k : ℕ) (i : Item) → IsKeptItem i → line_of at (spaces k ++ item_text i) ≡ Ok (Some (said (item_on at i)))
+
+-- what a line says within the limits is kept
+abbrev pub ReadItemsAreKept : Type 0
+ReadItemsAreKept = (at : ℕ) (line : List ℕ) (l : Line) → line_of at line ≡ Ok (Some l) → l.is_within_limits ≡ true → IsKeptItem l.item

@@ -11,4 +11,5 @@ pub mod Lines
 pub mod Spelling
 pub mod Fits
 pub mod Spelled
+pub mod Printed
 pub mod Laws

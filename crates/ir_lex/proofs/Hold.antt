@@ -123,40 +123,46 @@ token_holds before bs kind n front = record {
   kind = let e : length before + n - length before ≡ n = omega arith in rw (e, drop_at before bs (length before) refl) front.kind_is;
 }
 
-more_hold : (line : List ℕ) (t : Token) (more : Option (List Token)) (ts : List Token) → IsTokenOf line t → ((us : List Token) → more ≡ Some us → AllByRecursion (IsTokenOf line) us) → option_map (λ ts. t ∷ ts) more ≡ Some ts → AllByRecursion (IsTokenOf line) ts
-more_hold line t None ts one others h = absurd cc
-more_hold line t (Some us) ts one others h = let e : t ∷ us ≡ ts = cc in subst (AllByRecursion (IsTokenOf line)) e (one, others us refl)
+-- what each token has that stands at a front
+abbrev pub HoldsAtFronts : (List ℕ → Token → Type 0) → Bool → Type 0
+HoldsAtFronts P in_note = (before : List ℕ) (b : ℕ) (bs : List ℕ) (kind : Kind) (n : ℕ) → front_at in_note (b ∷ bs) ≡ Begins kind n
+    → P (before ++ b ∷ bs) (record { kind = kind; from = length before; to = length before + n })
 
-begun_hold : (line : List ℕ) (i : ℕ) (after : ℕ → Option (List Token)) (front : Front) (ts : List Token)
-    → ((kind : Kind) (n : ℕ) → front ≡ Begins kind n → IsTokenOf line (record { kind = kind; from = i; to = i + n }))
-    → ((skip : ℕ) (us : List Token) → after skip ≡ Some us → AllByRecursion (IsTokenOf line) us) → begun i after front ≡ Some ts → AllByRecursion (IsTokenOf line) ts
-begun_hold line i after Space ts one others h = others 0 ts h
-begun_hold line i after Comment ts one others h = let e : [] ≡ ts = cc in subst (AllByRecursion (IsTokenOf line)) e tt
-begun_hold line i after (Begins kind n) ts one others h = more_hold line (record { kind = kind; from = i; to = i + n }) (after (n - 1)) ts (one kind n refl) (others (n - 1)) h
-begun_hold line i after Wrong ts one others h = absurd cc
+more_hold : (P : Token → Type 0) (t : Token) (more : Option (List Token)) (ts : List Token) → P t → ((us : List Token) → more ≡ Some us → AllByRecursion P us) → option_map (λ ts. t ∷ ts) more ≡ Some ts → AllByRecursion P ts
+more_hold P t None ts one others h = absurd cc
+more_hold P t (Some us) ts one others h = let e : t ∷ us ≡ ts = cc in subst (AllByRecursion P) e (one, others us refl)
+
+begun_hold : (P : Token → Type 0) (i : ℕ) (after : ℕ → Option (List Token)) (front : Front) (ts : List Token) → ((kind : Kind) (n : ℕ) → front ≡ Begins kind n → P (record { kind = kind; from = i; to = i + n }))
+    → ((skip : ℕ) (us : List Token) → after skip ≡ Some us → AllByRecursion P us) → begun i after front ≡ Some ts → AllByRecursion P ts
+begun_hold P i after Space ts one others h = others 0 ts h
+begun_hold P i after Comment ts one others h = let e : [] ≡ ts = cc in subst (AllByRecursion P) e tt
+begun_hold P i after (Begins kind n) ts one others h = more_hold P (record { kind = kind; from = i; to = i + n }) (after (n - 1)) ts (one kind n refl) (others (n - 1)) h
+begun_hold P i after Wrong ts one others h = absurd cc
 
 -- the tokens of the rest of a line
-next_hold : (in_note : Bool) (skip : ℕ) (before : List ℕ) (b : ℕ) (bs : List ℕ) (ts : List Token)
-    → ((skip : ℕ) (before : List ℕ) (ts : List Token) → tokens_from in_note skip (length before) bs ≡ Some ts → AllByRecursion (IsTokenOf (before ++ bs)) ts)
-    → tokens_from in_note skip (length before + 1) bs ≡ Some ts → AllByRecursion (IsTokenOf (before ++ b ∷ bs)) ts
-next_hold in_note skip before b bs ts later h =
+next_hold : (P : List ℕ → Token → Type 0) (in_note : Bool) (skip : ℕ) (before : List ℕ) (b : ℕ) (bs : List ℕ) (ts : List Token)
+    → ((skip : ℕ) (before : List ℕ) (ts : List Token) → tokens_from in_note skip (length before) bs ≡ Some ts → AllByRecursion (P (before ++ bs)) ts) → tokens_from in_note skip (length before + 1) bs ≡ Some ts
+    → AllByRecursion (P (before ++ b ∷ bs)) ts
+next_hold P in_note skip before b bs ts later h =
     let len : length before + 1 ≡ length (before ++ b ∷ []) = omega (arith, length-append before (b ∷ [])) in
     let line : (before ++ b ∷ []) ++ bs ≡ before ++ b ∷ bs = append_assoc before (b ∷ []) bs in
-    subst (λ (l : List ℕ). AllByRecursion (IsTokenOf l) ts) line (later skip (before ++ b ∷ []) ts (ap (λ (k : ℕ). tokens_from in_note skip k bs) (sym len) ∙ h))
+    subst (λ (l : List ℕ). AllByRecursion (P l) ts) line (later skip (before ++ b ∷ []) ts (ap (λ (k : ℕ). tokens_from in_note skip k bs) (sym len) ∙ h))
 
-tokens_hold : (in_note : Bool) (skip : ℕ) (before bs : List ℕ) (ts : List Token) → tokens_from in_note skip (length before) bs ≡ Some ts → AllByRecursion (IsTokenOf (before ++ bs)) ts
+tokens_hold : (P : List ℕ → Token → Type 0) (in_note : Bool) → HoldsAtFronts P in_note → (skip : ℕ) (before bs : List ℕ) (ts : List Token) → tokens_from in_note skip (length before) bs ≡ Some ts → AllByRecursion (P (before ++ bs)) ts
 unfolding tokens_from
-tokens_hold in_note skip before [] ts h = let e : [] ≡ ts = cc in subst (AllByRecursion (IsTokenOf (before ++ []))) e tt
-tokens_hold in_note (suc skip) before (b ∷ bs) ts h = next_hold in_note skip before b bs ts (λ k pre us. tokens_hold in_note k pre bs us) h
-tokens_hold in_note zero before (b ∷ bs) ts h =
-    begun_hold (before ++ b ∷ bs) (length before) (λ k. tokens_from in_note k (length before + 1) bs) (front_at in_note (b ∷ bs)) ts
-    (λ kind n e. token_holds before (b ∷ bs) kind n (front_holds in_note b bs kind n e))
-    (λ k us. next_hold in_note k before b bs us (λ j pre vs. tokens_hold in_note j pre bs vs)) h
+tokens_hold P in_note each skip before [] ts h = let e : [] ≡ ts = cc in subst (AllByRecursion (P (before ++ []))) e tt
+tokens_hold P in_note each (suc skip) before (b ∷ bs) ts h = next_hold P in_note skip before b bs ts (λ k pre us. tokens_hold P in_note each k pre bs us) h
+tokens_hold P in_note each zero before (b ∷ bs) ts h =
+    begun_hold (P (before ++ b ∷ bs)) (length before) (λ k. tokens_from in_note k (length before + 1) bs) (front_at in_note (b ∷ bs)) ts (λ kind n e. each before b bs kind n e)
+    (λ k us. next_hold P in_note k before b bs us (λ j pre vs. tokens_hold P in_note each j pre bs vs)) h
 
-from_place : (in_note : Bool) (i : ℕ) (line : List ℕ) (ts : List Token) → i ≤ length line → tokens_from in_note 0 i (drop i line) ≡ Some ts → AllByRecursion (IsTokenOf line) ts
-from_place in_note i line ts le h =
+pub from_place : (P : List ℕ → Token → Type 0) (in_note : Bool) → HoldsAtFronts P in_note → (i : ℕ) (line : List ℕ) (ts : List Token) → i ≤ length line → tokens_from in_note 0 i (drop i line) ≡ Some ts → AllByRecursion (P line) ts
+from_place P in_note each i line ts le h =
     let len : i ≡ length (take i line) = sym (length-take-le i line le) in
-    subst (λ (l : List ℕ). AllByRecursion (IsTokenOf l) ts) (take-append-drop i line) (tokens_hold in_note 0 (take i line) (drop i line) ts (ap (λ (k : ℕ). tokens_from in_note 0 k (drop i line)) (sym len) ∙ h))
+    subst (λ (l : List ℕ). AllByRecursion (P l) ts) (take-append-drop i line) (tokens_hold P in_note each 0 (take i line) (drop i line) ts (ap (λ (k : ℕ). tokens_from in_note 0 k (drop i line)) (sym len) ∙ h))
+
+fronts_hold : (in_note : Bool) → HoldsAtFronts IsTokenOf in_note
+fronts_hold in_note before b bs kind n e = token_holds before (b ∷ bs) kind n (front_holds in_note b bs kind n e)
 
 note_is_long : (bs : List ℕ) → is_note_mark bs ≡ true → 2 ≤ length bs
 note_is_long bs h = (note_is_front bs h).within
@@ -175,6 +181,6 @@ all_hold line ts h =
           let len : length (take start line) ≡ start = length-take-le start line within in
           let long : start + 2 ≤ length line = omega (arith, front.within, length-drop start line) in
           let one : IsTokenOf line first = subst (λ (l : List ℕ). IsTokenOf l first) (take-append-drop start line) (subst (λ (k : ℕ). IsTokenOf (take start line ++ drop start line) (record { kind = Note; from = k; to = k + 2 })) len held) in
-          more_hold line first others ts one (λ us. from_place true (start + 2) line us long) w.1
-      | inr w ↦ from_place false start line ts within w.1
+          more_hold (IsTokenOf line) first others ts one (λ us. from_place IsTokenOf true (fronts_hold true) (start + 2) line us long) w.1
+      | inr w ↦ from_place IsTokenOf false (fronts_hold false) start line ts within w.1
     ])

@@ -70,7 +70,7 @@ all_small (b ∷ w) h = let t = both (is_printed b) (list_all is_printed w) h in
 pub printed_ascii : (w : List ℕ) → list_all is_printed w ≡ true → IsAscii w
 printed_ascii w h = IsAscii-from_all w (All-from_recursion (λ b. b < 128) w (all_small w h))
 
-digit_printed : (b : ℕ) → is_ascii_digit b ≡ true → is_printed b ≡ true
+pub digit_printed : (b : ℕ) → is_ascii_digit b ≡ true → is_printed b ≡ true
 digit_printed b h = let r = in_range 48 57 b h in printed_between b (omega (arith, r.0)) (omega (arith, r.1)) (not_semicolon b (inl (omega (arith, r.1))))
 
 digits_printed : (bs : List ℕ) → list_all is_ascii_digit bs ≡ true → list_all is_printed bs ≡ true

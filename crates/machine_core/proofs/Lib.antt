@@ -21,4 +21,9 @@ pub mod EverySchedule
 pub mod RankInduction
 pub mod Fuel
 pub mod SerialExists
+pub mod Budgets
 pub mod PairSample
+pub mod PairSerial
+pub mod PairRuns
+pub mod ChildCounts
+pub mod TaskLaws

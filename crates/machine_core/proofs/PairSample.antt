@@ -1,50 +1,48 @@
--- The sample program meets the local conditions, so they are not void.
+-- The sample program meets the conditions on zones and regions, so they are not void.
 use Rattle.std.proofs.Common.{◌≡◌, ◌≢◌, ℕ, suc, List, [], ◌∷◌, Option, Some, None, Bool, true, false, cond, ◌&&◌, eqb, eqb-true, ◌⊎◌, inl, inr, refl, sym, ap, ◌∙◌, subst, is_some, ℤ, ◌+ℤ◌}
 use Rattle.std.proofs.lemmas.Bool.Decides.{eqb_tells}
 use Rattle.machine_core.specs.Paths.{Path}
-use Rattle.machine_core.specs.Cells.{Object, Shared, Local, Cell, same_object, same_cell, Memory, globals_of}
+use Rattle.machine_core.specs.Cells.{Object, Shared, Local, Cell, same_object, same_cell, Memory}
 use Rattle.machine_core.specs.Arithmetic.{Trap, Undefined, Gives, wrapped}
 use Rattle.machine_core.specs.Frames.{Value, Word, Pointer, Region, Registers, Child, Body, Frame, OnCall, word_of}
 use Rattle.machine_core.specs.Effect.{Effect, Action, Plain, Detach, Reattach, Sync, Call, Return, sets, stops, given, answers, loads, stores, returns, returns_value, action_of}
-use Rattle.machine_core.specs.State.{wait_after, went, detached, continued, synced, root_frame}
+use Rattle.machine_core.specs.State.{wait_after, went, detached, continued, synced}
 use Rattle.machine_core.specs.Conditions.{Zone, Covers, Clear, touched, OwnedBelow, StaysInZone, PassesZonesOn, StaysOpen, ClosesRegions}
-use Rattle.machine_core.specs.SerialMeaning.{Gave, Outcome, IsSerialMeaning, meaning}
-use Rattle.machine_core.specs.Pair.{register, pair, cell_of_a, PairOnEverySchedule, PairOnTwoWorkers}
+use Rattle.machine_core.specs.Pair.{register, pair, cell_of_a}
 use Rattle.machine_core.proofs.Feet.{covers_itself}
-use Rattle.machine_core.proofs.EverySchedule.{schedule_theorem}
 use Rattle.linear.specs.declared.form.RegisterId.{RegisterId}
 use Rattle.syntax.specs.declared.operator.Width.TheVariants.{Bits64}
 
 -- ---- zones
 
-data Extent : Type 0 where
+pub data Extent : Type 0 where
   All : Extent
   -- the child's cell
   First : Extent
   Nothing : Extent
 
-abbrev zone : Extent → Zone
+abbrev pub zone : Extent → Zone
 zone All = record { reads = λ x. Unit {0}; adds = λ x. Unit {0}; gives = λ v. Unit {0} }
 zone First = record { reads = λ x. (x ≡ cell_of_a 0) ⊎ OwnedBelow (0 ∷ []) x.object; adds = λ x. (x ≡ cell_of_a 0) ⊎ OwnedBelow (0 ∷ []) x.object; gives = λ v. Unit {0} }
 zone Nothing = record { reads = λ x. ⊥; adds = λ x. ⊥; gives = λ v. Unit {0} }
 
 -- the child may run while the continuation's block does
-abbrev opens : Path → Frame → ℕ → Bool
+abbrev pub opens : Path → Frame → ℕ → Bool
 opens p f r = eqb f.block 2 && eqb r 1
 
-abbrev pending : Path → Frame → ℕ → Extent
+abbrev pub pending : Path → Frame → ℕ → Extent
 pending p f r = cond (eqb f.block 2 && eqb r 1) First Nothing
 
 -- ---- what is known at each place
 
-record At (n : ℤ) (f : Frame) (block index : ℕ) : Type 0 where
-  function : f.function ≡ 0
-  is_block : f.block ≡ block
-  is_index : f.index ≡ index
-  argument : f.registers 0 ≡ Some (Word n)
-  calls_nobody : (k : ℕ) (d : Option RegisterId) → f.waits ≡ OnCall k d → ⊥
+pub record At (n : ℤ) (f : Frame) (block index : ℕ) : Type 0 where
+  pub function : f.function ≡ 0
+  pub is_block : f.block ≡ block
+  pub is_index : f.index ≡ index
+  pub argument : f.registers 0 ≡ Some (Word n)
+  pub calls_nobody : (k : ℕ) (d : Option RegisterId) → f.waits ≡ OnCall k d → ⊥
 
-data Fits (n : ℤ) : Path → Frame → Extent → Type 0 where
+pub data Fits (n : ℤ) : Path → Frame → Extent → Type 0 where
   entry_start : (f : Frame) → At n f 0 0 → f.made ≡ 0 → f.role ≡ Body → Fits n [] f All
   entry_detach : (f : Frame) → At n f 0 1 → f.made ≡ 0 → f.role ≡ Body → f.registers 1 ≡ Some (Region []) → Fits n [] f All
   child_point : (f : Frame) → At n f 1 0 → f.role ≡ Child 1 2 → Fits n (0 ∷ []) f First
@@ -134,7 +132,7 @@ not_calling : (o : Option Trap) (k : ℕ) (d : Option RegisterId) → wait_after
 not_calling None k d e = cc
 not_calling (Some t) k d e = cc
 
-next_at : (n : ℤ) (f : Frame) (b i : ℕ) (e : Effect) → At n f b i → e.block ≡ f.block → e.index ≡ suc f.index → e.registers 0 ≡ f.registers 0 → At n (went f e) b (suc i)
+pub next_at : (n : ℤ) (f : Frame) (b i : ℕ) (e : Effect) → At n f b i → e.block ≡ f.block → e.index ≡ suc f.index → e.registers 0 ≡ f.registers 0 → At n (went f e) b (suc i)
 next_at n f b i e h block index first = record { function = h.function; is_block = block ∙ h.is_block; is_index = index ∙ ap (λ x. suc x) h.is_index; argument = first ∙ h.argument; calls_nobody = λ k d w. not_calling e.trap k d w }
 
 -- a load, an addition and a return, with what the registers and cells hold
@@ -232,7 +230,7 @@ same_effect : (a b : Effect) → Plain a ≡ Plain b → a ≡ b
 same_effect a b e = cc
 
 module _ (n : ℤ) where
-  pair_stays : StaysInZone Extent zone pair (Fits n) pending
+  pub pair_stays : StaysInZone Extent zone pair (Fits n) pending
   pair_stays = record { keeps = λ p f z m e fit go at. from p f z m e at (action_of pair p f m) refl (did n p f z m fit); owns = owns }
     where
       from : (p : Path) (f : Frame) (z : Extent) (m : Memory) (e : Effect) → action_of pair p f m ≡ Plain e → (a : Action) → action_of pair p f m ≡ a → Did n p f z a → Covers (zone z) (touched e) × ((r : ℕ) → Clear (touched e) (zone (pending p f r)))
@@ -288,7 +286,7 @@ module _ (n : ℤ) where
   abbrev Joined : Path → Frame → Extent → ℕ → ℕ → Registers → Type 0
   Joined p f z r b rs = Fits n p (synced f r b rs) z × ((q : ℕ) → q ≢ r → Covers (zone (pending p (synced f r b rs) q)) (zone (pending p f q)))
 
-  pair_passes : PassesZonesOn Extent zone pair (Fits n) pending (λ f z. ⊥)
+  pub pair_passes : PassesZonesOn Extent zone pair (Fits n) pending (λ f z. ⊥)
   pair_passes = record {
     plain_ok = λ p f z m e fit go at fine. plain p f z m e at fine (action_of pair p f m) refl (did n p f z m fit);
     detach_ok = λ p f z m r b k fit go at. detach p f z m r b k at (action_of pair p f m) refl (did n p f z m fit);
@@ -353,7 +351,7 @@ module _ (n : ℤ) where
       call p f z m d g vs at a is (joins block rs next) = let e : Sync 1 3 rs ≡ Call d g vs = sym is ∙ at in absurd (cc)
       call p f z m d g vs at a is (returns_it block v) = let e : Return v ≡ Call d g vs = sym is ∙ at in absurd (cc)
 
-  abbrev Holding : Path → Frame → Type 0
+  abbrev pub Holding : Path → Frame → Type 0
   Holding p f = (z : Extent) × Fits n p f z
 
   at_calls : (p : Path) (f : Frame) (z : Extent) → Fits n p f z → (k : ℕ) (d : Option RegisterId) → f.waits ≡ OnCall k d → ⊥
@@ -381,7 +379,7 @@ module _ (n : ℤ) where
   clash : (b : Bool) (A : Type 0) → b ≡ false → b ≡ true → A
   clash b A e h = absurd (cc)
 
-  pair_closes : ClosesRegions pair Holding opens
+  pub pair_closes : ClosesRegions pair Holding opens
   pair_closes = record {
     plain_holds = λ p f m e hold go at fine. plain p f hold.0 m e at fine (action_of pair p f m) refl (did n p f hold.0 m hold.1);
     detach_holds = λ p f m r b k hold go at. detach p f hold.0 m r b k at (action_of pair p f m) refl (did n p f hold.0 m hold.1);
@@ -454,31 +452,3 @@ module _ (n : ℤ) where
       gives p f z m v r at a is (leaves block) = absurd (cc)
       gives p f z m v r at a is (joins block rs next) = absurd (cc)
       gives p f z m v r at a is (returns_it block u) = closed_off p f 3 r block refl
-
--- ---- the theorem applied
-
-outcome_or : Outcome → Option Outcome → Outcome
-outcome_or o None = o
-outcome_or o (Some u) = u
-
-abbrev pair_outcome : (n : ℤ) (memory : Memory) → Option Outcome
-pair_outcome n memory = meaning pair 14 [] (root_frame pair (n ∷ [])) (globals_of memory)
-
-pub pair_on_every_schedule : PairOnEverySchedule
-unfolding outcome_or
-pair_on_every_schedule n memory =
-    let o : Outcome = outcome_or (record { ending = Gave None; memory = memory; count = 0; depth = 0 }) (pair_outcome n memory) in
-    let meant : IsSerialMeaning pair (n ∷ []) memory o = record { within = 14; meets = refl } in
-    let fit : Fits n [] (root_frame pair (n ∷ [])) All = entry_start (root_frame pair (n ∷ [])) (record { function = refl; is_block = refl; is_index = refl; argument = refl; calls_nobody = λ k d w. absurd (cc) }) refl refl in (
-      o,
-      meant,
-      refl,
-      refl,
-      refl,
-      refl,
-      refl,
-      λ workers some events. schedule_theorem Extent zone pair (Fits n) pending (λ f z. ⊥) (Holding n) opens (pair_stays n) (pair_passes n) (pair_closes n) (n ∷ []) memory All fit (All, fit) o meant workers some events,
-    )
-
-pub pair_on_two_workers : PairOnTwoWorkers
-pair_on_two_workers n memory = record { is_going = refl; done_then = refl; root_then = refl; child_then = refl; idle_then = refl; has_ended_later = refl; done_later = refl; result_later = refl }

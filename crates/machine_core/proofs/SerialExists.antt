@@ -1,5 +1,5 @@
 -- Where no instruction traps and the rank falls, the serial meaning exists, and what is found of the outcome holds.
-use Rattle.std.proofs.Common.{◌≡◌, ℕ, suc, ◌≤◌, max, [], ◌∷◌, List, Option, Some, None, true, refl, sym, subst, arith, ℤ}
+use Rattle.std.proofs.Common.{◌≡◌, ℕ, suc, ◌≤◌, max, [], ◌∷◌, List, Option, Some, None, refl, sym, subst, arith, ℤ}
 use Rattle.machine_core.specs.Paths.{Path}
 use Rattle.machine_core.specs.Cells.{Memory, globals_of}
 use Rattle.machine_core.specs.Arithmetic.{Trap}
@@ -7,7 +7,7 @@ use Rattle.machine_core.specs.Frames.{Value, Registers, Role, Child, Body, Frame
 use Rattle.machine_core.specs.Effect.{Effect, Action, Plain, Detach, Reattach, Sync, Call, Return, action_of}
 use Rattle.machine_core.specs.State.{went, detached, continued, synced, called, waiting, resumed, root_frame}
 use Rattle.machine_core.specs.SerialMeaning.{Ending, Left, Gave, Outcome, Rest, written, cleared, after_effect, meaning, IsSerialMeaning}
-use Rattle.machine_core.specs.SerialConditions.{Says, Finds, And, FindsBoth, one_more, both_outcomes, at_last, KeptSerially, Rank, Below, RunsOn, Nothing, SerialRunExists}
+use Rattle.machine_core.specs.SerialConditions.{Says, Finds, And, FindsBoth, one_more, both_outcomes, at_last, KeptSerially, Rank, Below, RunsOn, Nothing}
 use Rattle.machine_core.proofs.Actions.{return_is_body, reattach_is_child}
 use Rattle.machine_core.proofs.RankInduction.{by_rank}
 use Rattle.machine_core.proofs.Fuel.{more_fuel}
@@ -137,9 +137,6 @@ serial_meaning prog good post rank kept runs arguments given start =
     let means = all_mean prog good post rank kept runs [] (root_frame prog arguments) (globals_of given) start in
     (means.outcome, record { within = means.fuel; meets = means.is }, means.finds)
 
-pub serial_run_exists : SerialRunExists
-serial_run_exists prog good post rank kept runs arguments given start = serial_meaning prog (λ p f m. good p f m ≡ true) (λ p f m o. post p f m o ≡ true) rank kept runs arguments given start
-
 -- two things that are kept, the second with the help of the first
 pub kept_both : (prog : Program) (base good good2 : Says) (post post2 : Finds) → KeptSerially prog base good post → KeptSerially prog (And base good) good2 post2 → KeptSerially prog base (And good good2) (FindsBoth post post2)
 kept_both prog base good good2 post post2 k l = record {
@@ -170,3 +167,13 @@ kept_both prog base good good2 post post2 k l = record {
   reattach_finds = λ p f m r b g at. (k.reattach_finds p f m r b g.0 at, l.reattach_finds p f m r (b, g.0) g.1 at);
   return_finds = λ p f m v b g at. (k.return_finds p f m v b g.0 at, l.return_finds p f m v (b, g.0) g.1 at);
 }
+
+fuel_alone : (prog : Program) (n k : ℕ) (p : Path) (f : Frame) (m : Memory) (o u : Outcome) → meaning prog n p f m ≡ Some o → meaning prog k p f m ≡ Some u → o ≡ u
+fuel_alone prog n k p f m o u e h =
+    let a : meaning prog (max n k) p f m ≡ Some o = more_fuel prog n (max n k) (omega arith) p f m o e in
+    let b : meaning prog (max n k) p f m ≡ Some u = more_fuel prog k (max n k) (omega arith) p f m u h in
+    cc
+
+-- the serial meaning is a function
+pub serial_alone : (prog : Program) (arguments : List ℤ) (given : Memory) (o u : Outcome) → IsSerialMeaning prog arguments given o → IsSerialMeaning prog arguments given u → o ≡ u
+serial_alone prog arguments given o u a b = fuel_alone prog a.within b.within [] (root_frame prog arguments) (globals_of given) o u a.meets b.meets

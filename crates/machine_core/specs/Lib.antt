@@ -9,6 +9,9 @@ pub mod Conditions
 pub mod SerialMeaning
 pub mod Events
 pub mod Replay
+pub mod Counts
+pub mod Tasks
 pub mod SerialConditions
+pub mod Budgets
 pub mod Schedules
 pub mod Pair

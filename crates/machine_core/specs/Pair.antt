@@ -1,12 +1,12 @@
 -- A sample program: a child stores the argument in one cell of @a while its parent stores it in the other; then the parent adds both.
 -- It is `examples/pair.ll`.
-use Rattle.std.specs.Prelude.{◌≡◌, ℕ, ◌≤◌, List, [], ◌∷◌, ◌++◌, Some, None, true, false, ℤ, pos, ◌+ℤ◌, codes}
+use Rattle.std.specs.Prelude.{◌≡◌, ℕ, List, [], ◌∷◌, ◌++◌, Some, None, true, false, ℤ, pos, ◌+ℤ◌, codes}
 use Rattle.machine_core.specs.Cells.{Shared, Cell, Memory}
 use Rattle.machine_core.specs.Arithmetic.{wrapped}
-use Rattle.machine_core.specs.SerialMeaning.{Gave, Outcome, IsSerialMeaning}
+use Rattle.machine_core.specs.SerialMeaning.{Gave}
 use Rattle.machine_core.specs.Events.{Event, Step, Steal, Running, Stalled, status_of, start}
 use Rattle.machine_core.specs.Replay.{replay, has_ended}
-use Rattle.machine_core.specs.Schedules.{KeepsSchedule}
+use Rattle.machine_core.specs.Schedules.{RunsAsSerial}
 use Rattle.syntax.specs.declared.module.ResultType.TheVariants as result_type
 use Rattle.syntax.specs.declared.operator.Width.TheVariants.{Bits64}
 use Rattle.syntax.specs.declared.operator.BinaryOperator.TheVariants as operator
@@ -135,12 +135,12 @@ cell_of_a index = record { object = Shared 0; index = index }
 
 -- ---- what is proved of it
 
--- its serial run gives n + n after 14 instructions, and so does each schedule
+-- whatever its argument n, the schedule theorem holds of it with a budget of 14 and a depth of 2; its serial run uses both whole, leaves n in both cells
+-- and gives n + n
 abbrev pub PairOnEverySchedule : Type 0
 PairOnEverySchedule =
     (n : ℤ) (memory : Memory) →
-    (o : Outcome) × IsSerialMeaning pair (n ∷ []) memory o × (o.ending ≡ Gave (Some (wrapped Bits64 (n +ℤ n)))) × (o.count ≡ 14) × (o.depth ≡ 2) × (o.memory (cell_of_a 0) ≡ Some n) × (o.memory (cell_of_a 1) ≡ Some n) ×
-    ((workers : ℕ) → 1 ≤ workers → (events : List Event) → KeepsSchedule pair workers o (replay pair workers events (start pair (n ∷ []) memory)))
+    (t : RunsAsSerial pair (n ∷ []) memory 14 2) × (t.outcome.ending ≡ Gave (Some (wrapped Bits64 (n +ℤ n)))) × (t.outcome.count ≡ 14) × (t.outcome.depth ≡ 2) × (t.outcome.memory (cell_of_a 0) ≡ Some n) × (t.outcome.memory (cell_of_a 1) ≡ Some n)
 
 -- worker 0 detaches, worker 1 steals the root and stalls at the sync
 abbrev pub stalling : List Event

@@ -1,12 +1,14 @@
 -- The schedule theorem: what every schedule of a checked program keeps, against its serial meaning.
-use Rattle.std.specs.Prelude.{◌≡◌, ◌≢◌, ℕ, ◌*◌, ◌≤◌, ◌<◌, List, [], ◌∷◌, Option, Some, None, Bool, true, false, ◌||◌, ◌⊎◌, ℤ}
+use Rattle.std.specs.Prelude.{◌≡◌, ◌≢◌, ℕ, ◌*◌, ◌≤◌, ◌<◌, List, [], ◌∷◌, Option, Some, None, Bool, true, false, ◌||◌, ◌⊎◌, ℤ, pos, ◌≤ℤ◌}
 use Rattle.machine_core.specs.Paths.{Path}
-use Rattle.machine_core.specs.Cells.{Cell, Memory}
+use Rattle.machine_core.specs.Cells.{Cell, Memory, globals_of}
 use Rattle.machine_core.specs.Frames.{Halted, Frame}
 use Rattle.machine_core.specs.State.{State, Change, apply, childless, change_of, root_frame}
 use Rattle.machine_core.specs.SerialMeaning.{Gave, Outcome, IsSerialMeaning}
 use Rattle.machine_core.specs.Events.{Machine, Event, Step, Steal, event, start}
 use Rattle.machine_core.specs.Replay.{replay, has_ended, CountsFrames}
+use Rattle.machine_core.specs.SerialConditions.{Says, Finds, Rank}
+use Rattle.machine_core.specs.Budgets.{RunsSerially}
 use Rattle.machine_core.specs.Conditions.{Zone, OwnedBelow, StaysInZone, PassesZonesOn, ClosesRegions}
 use Rattle.program.specs.declared.function.Program.{Program}
 
@@ -56,6 +58,16 @@ pub record KeepsSchedule (prog : Program) (workers : ℕ) (o : Outcome) (m : Mac
   pub ends_in_time : m.core.done ≡ o.count → has_ended m ≡ true
   pub undisturbed : (w : ℕ) (p : Path) (others : List Event) → m.hands w ≡ Some p → NoneBy w others → Undisturbed prog m (replay prog workers others m) w p
 
+-- The serial run exists, and is the only one; it is within the budget and the depth; and on any number of workers, whatever the events, enabled or
+-- not, the machine keeps the schedule theorem.
+pub record RunsAsSerial (prog : Program) (arguments : List ℤ) (memory : Memory) (budget depth : ℕ) : Type 0 where
+  pub outcome : Outcome
+  pub serial : IsSerialMeaning prog arguments memory outcome
+  pub only_one : (o : Outcome) → IsSerialMeaning prog arguments memory o → o ≡ outcome
+  pub within_budget : outcome.count ≤ budget
+  pub within_depth : outcome.depth ≤ depth
+  pub every_schedule : (workers : ℕ) → 1 ≤ workers → (events : List Event) → KeepsSchedule prog workers outcome (replay prog workers events (start prog arguments memory))
+
 -- ---- for conditions that are given by tests
 
 -- the cells that pass, and the allocas of the owner's frame and of those below it
@@ -72,12 +84,42 @@ tested z = record {
   gives = λ v. z.gives v ≡ true;
 }
 
+-- what is known of frames, each a test, and the numbers that fall
+pub record Tests : Type 0 where
+  pub fits : Path → Frame → TestedZone → Bool
+  pub pending : Path → Frame → ℕ → TestedZone
+  pub expects : Frame → TestedZone → Bool
+  pub holds : Path → Frame → Bool
+  pub opens : Path → Frame → ℕ → Bool
+  pub good : Path → Frame → Memory → Bool
+  pub finds : Path → Frame → Memory → Outcome → Bool
+  pub rank : Frame → Rank
+  pub may_use : Frame → ℤ
+  pub may_reach : Frame → ℕ
+
+abbrev pub IsGood : Tests → Says
+IsGood t p f m = t.good p f m ≡ true
+
+abbrev pub IsFound : Tests → Finds
+IsFound t p f m o = t.finds p f m o ≡ true
+
+-- all local conditions
+pub record MeetsConditions (prog : Program) (t : Tests) : Type 0 where
+  pub stays : StaysInZone TestedZone tested prog (λ p f z. t.fits p f z ≡ true) t.pending
+  pub passes : PassesZonesOn TestedZone tested prog (λ p f z. t.fits p f z ≡ true) t.pending (λ f z. t.expects f z ≡ true)
+  pub closes : ClosesRegions prog (λ p f. t.holds p f ≡ true) t.opens
+  pub serial : RunsSerially prog (IsGood t) (IsFound t) t.rank t.may_use t.may_reach
+
+-- for these arguments and this memory they hold at the root, within the budget and the depth
+pub record HoldsAtRoot (prog : Program) (t : Tests) (arguments : List ℤ) (memory : Memory) (budget depth : ℕ) : Type 0 where
+  pub zone : TestedZone
+  pub fits : t.fits [] (root_frame prog arguments) zone ≡ true
+  pub holds : t.holds [] (root_frame prog arguments) ≡ true
+  pub good : t.good [] (root_frame prog arguments) (globals_of memory) ≡ true
+  pub may_use : t.may_use (root_frame prog arguments) ≤ℤ pos budget
+  pub may_reach : t.may_reach (root_frame prog arguments) ≤ depth
+
 abbrev pub EverySchedule : Type 0
 EverySchedule =
-    (prog : Program) (fits : Path → Frame → TestedZone → Bool) (pending : Path → Frame → ℕ → TestedZone) (expects : Frame → TestedZone → Bool) (holds : Path → Frame → Bool) (opens : Path → Frame → ℕ → Bool) →
-    StaysInZone TestedZone tested prog (λ p f z. fits p f z ≡ true) pending →
-    PassesZonesOn TestedZone tested prog (λ p f z. fits p f z ≡ true) pending (λ f z. expects f z ≡ true) →
-    ClosesRegions prog (λ p f. holds p f ≡ true) opens →
-    (arguments : List ℤ) (memory : Memory) (zone : TestedZone) → fits [] (root_frame prog arguments) zone ≡ true → holds [] (root_frame prog arguments) ≡ true →
-    (o : Outcome) → IsSerialMeaning prog arguments memory o → (workers : ℕ) → 1 ≤ workers → (events : List Event) →
-    KeepsSchedule prog workers o (replay prog workers events (start prog arguments memory))
+    (prog : Program) (t : Tests) → MeetsConditions prog t → (arguments : List ℤ) (memory : Memory) (budget depth : ℕ) → HoldsAtRoot prog t arguments memory budget depth →
+    RunsAsSerial prog arguments memory budget depth

@@ -1,12 +1,12 @@
 -- Local conditions for the serial run alone, where a child is over before its continuation begins: what is kept, that no instruction traps, and
 -- that a rank falls. With them the serial meaning exists.
-use Rattle.std.specs.Prelude.{◌≡◌, ℕ, suc, ◌+◌, ◌<◌, max, List, [], ◌∷◌, Option, None, Bool, true, ℤ}
+use Rattle.std.specs.Prelude.{◌≡◌, ℕ, suc, ◌+◌, ◌<◌, max, List, ◌∷◌, Option, None, ℤ}
 use Rattle.machine_core.specs.Paths.{Path}
-use Rattle.machine_core.specs.Cells.{Memory, globals_of}
+use Rattle.machine_core.specs.Cells.{Memory}
 use Rattle.machine_core.specs.Frames.{Value, Registers, Frame}
 use Rattle.machine_core.specs.Effect.{Effect, Plain, Detach, Reattach, Sync, Call, Return, action_of}
-use Rattle.machine_core.specs.State.{went, detached, continued, synced, called, waiting, resumed, root_frame}
-use Rattle.machine_core.specs.SerialMeaning.{Ending, Left, Gave, Outcome, written, cleared, IsSerialMeaning}
+use Rattle.machine_core.specs.State.{went, detached, continued, synced, called, waiting, resumed}
+use Rattle.machine_core.specs.SerialMeaning.{Ending, Left, Gave, Outcome, written, cleared}
 use Rattle.linear.specs.declared.form.RegisterId.{RegisterId}
 use Rattle.program.specs.declared.function.Program.{Program}
 
@@ -81,11 +81,3 @@ pub record RunsOn (prog : Program) (good : Says) (rank : Frame → Rank) : Type 
 
 abbrev pub Nothing : Says
 Nothing p f m = Unit {0}
-
--- for conditions that are given by tests: the serial run of the whole program ends without a trap, and what is found of its outcome holds
-abbrev pub SerialRunExists : Type 0
-SerialRunExists =
-    (prog : Program) (good : Path → Frame → Memory → Bool) (post : Path → Frame → Memory → Outcome → Bool) (rank : Frame → Rank) →
-    KeptSerially prog Nothing (λ p f m. good p f m ≡ true) (λ p f m o. post p f m o ≡ true) → RunsOn prog (λ p f m. good p f m ≡ true) rank →
-    (arguments : List ℤ) (memory : Memory) → good [] (root_frame prog arguments) (globals_of memory) ≡ true →
-    (o : Outcome) × IsSerialMeaning prog arguments memory o × (post [] (root_frame prog arguments) (globals_of memory) o ≡ true)

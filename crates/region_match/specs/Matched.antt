@@ -25,6 +25,11 @@ IsFunctionBroken function broken =
 abbrev pub IsRegionBroken : Program → Broken → Type 0
 IsRegionBroken program broken = Any (λ function. IsFunctionBroken function broken) program.functions
 
+-- each block has one task, and 301 to 305 and 307 hold
+pub record AreRegionsRight (program : Program) : Type 0 where
+  pub unmixed : (b : Broken) → IsMixed program b → ⊥
+  pub unbroken : (b : Broken) → IsRegionBroken program b → ⊥
+
 -- what a fault says: a block has two tasks, and none on a lower line; or no block has, and this rule is broken and none before it
 abbrev pub IsRegionFault : Program → RegionFault → Type 0
 IsRegionFault program Memory = Unit {0}

@@ -4,7 +4,7 @@ ghost use Rattle.cfg.specs.Faults.{IsJudged};
 ghost use Rattle.region_match.specs.Mixed.{IsMixed};
 ghost use Rattle.region_match.specs.Tasks.{AreTasks, AreAllTasks};
 ghost use Rattle.region_match.specs.ByLabel.{IsNamed};
-ghost use Rattle.region_match.specs.Matched.{IsBlockBroken, IsFunctionBroken, IsRegionBroken, IsRegionFault};
+ghost use Rattle.region_match.specs.Matched.{AreRegionsRight, IsBlockBroken, IsFunctionBroken, IsRegionBroken, IsRegionFault};
 
 use crate::fault::RegionFault;
 use crate::label::function_tasks;
@@ -102,7 +102,7 @@ fn all_faults(
 /// several faults that of the lowest line is named, and there that of the lowest number.
 pub fn regions(alloc: Global, graph: &Graph) -> Result<Regions, RegionFault>
     ensures tasks { IfOk result (λ regions. AreAllTasks graph.now.functions regions.functions) }
-    ensures right { IfOk result (λ regions. (b : Broken) → IsRegionBroken graph.now.typed.program b → ⊥) }
+    ensures right { IfOk result (λ _. AreRegionsRight graph.now.typed.program) }
     ensures fault { IfErr result (IsRegionFault graph.now.typed.program) }
 {
     let (tables, mixed) = all_tasks(alloc, graph)?;

@@ -1,7 +1,7 @@
 -- What the workers' hands and the frames' runners are after a step.
 use Rattle.std.proofs.Common.{◌≡◌, ◌≢◌, ◌↔◌, ℕ, ◌+◌, ◌<◌, subst, List, length, Option, Some, None, refl, sym, ap, ◌∙◌, arith, slice_set}
 use Rattle.std.specs.Prelude.{option_and_then, OnOk, Result, Ok, Err}
-use Rattle.std.proofs.lemmas.List.{get_or-set_same, get_or-set_other}
+use Rattle.std.proofs.lemmas.List.{get_or-set_same}
 use Rattle.std.specs.Option.{option_map}
 use Rattle.linear.specs.declared.form.RegisterId.{RegisterId}
 use Rattle.frame.specs.declared.frame.Wait.TheVariants.{Region}
@@ -10,7 +10,6 @@ use Rattle.sync_join.specs.declared.count.Parent.{Parent}
 use Rattle.sync_join.specs.declared.count.Parent.TheVariants.{Busy, Ready, Stalled}
 use Rattle.sync_join.specs.declared.count.Outcome.{Outcome}
 use Rattle.sync_join.specs.declared.count.Outcome.TheVariants.{ResumeReady, ResumeStalled, Leave}
-use Rattle.cactus.specs.declared.node.Node.{Node}
 use Rattle.cactus.specs.Frames.{Frames, node_at, frame_at, Lives, AddsChild}
 use Rattle.cactus.specs.Lending.{with_frame}
 use Rattle.cactus.proofs.FramesLemmas.{frame_at-with_frame, node_at-with_frame_other, lives-from_frame}

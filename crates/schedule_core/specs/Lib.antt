@@ -1,3 +1,6 @@
 pub mod Scheduling
 pub mod Tasks
 pub mod Running
+pub mod Seen
+pub mod Viewed
+pub mod Stepping

@@ -59,11 +59,15 @@ pub record IsIdle (hands : List (Option ℕ)) (worker : ℕ) : Type 0 where
   pub is_worker : worker < length hands
   pub no_task : hand_of hands worker ≡ None
 
+-- what the slot's frame waits for
+abbrev pub waits_at : Frames Activation → ℕ → Option Wait
+waits_at frames slot = option_map (λ (a : Activation). a.frame.waits) (frame_at frames slot)
+
 -- the slot's frame waits for its children within the region, no worker runs it, and the worker is idle
 pub record StallsAt (new : Frames Activation) (hands : List (Option ℕ)) (worker slot : ℕ) (region : RegisterId) : Type 0 where
   pub idle : hand_of hands worker ≡ None
   pub unheld : runner_at new slot ≡ None
-  pub waits : option_map (λ (a : Activation). a.frame.waits) (frame_at new slot) ≡ Some (Region region)
+  pub waits : waits_at new slot ≡ Some (Region region)
 
 -- the living children that the slot's frame detached within a region
 abbrev pub living_within : Frames Activation → ℕ → ℕ → ℕ

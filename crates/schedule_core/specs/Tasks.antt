@@ -1,5 +1,5 @@
 -- Tasks: a frame that no call made, with the frames called on top of it.
-use Rattle.std.specs.Prelude.{◌≡◌, ◌≢◌, ◌⊎◌, ℕ, Option, Some, None}
+use Rattle.std.specs.Prelude.{◌≡◌, ◌≢◌, ◌⊎◌, ℕ, Some, None}
 use Rattle.frame.specs.declared.path.Path.{Path}
 use Rattle.frame.specs.declared.frame.Role.TheVariants.{Body}
 use Rattle.cactus.specs.declared.node.Node.{Node}

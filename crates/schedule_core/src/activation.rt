@@ -114,25 +114,25 @@ impl Activation {
         self.runner = Some(worker);
     }
 
-    /// The frame, which is at the target of the sync of `block` already, waits for its children within the region.
-    pub fn stall(&mut self, region: RegisterId, block: BlockId)
-        ensures runner { self.new.runner ≡ None }
-        ensures waits { self.new.frame.waits ≡ Region region }
-        ensures stalled { self.new.stalled_in ≡ Some block }
-        ensures place { self.new.frame ≡ record self.old.frame { waits = Region region } }
+    /// The frame, which is at the target of the sync already, goes on once no child within the region lives.
+    pub fn wait_for_children(&mut self, region: RegisterId)
+        ensures { self.new ≡ record self.old { frame = record self.old.frame { waits = Region region } } }
     {
         self.frame.waits = Wait::Region(region);
+    }
+
+    /// No worker runs the frame until the last of its children within the region of the sync of `block` ends.
+    pub fn stall(&mut self, block: BlockId)
+        ensures { self.new ≡ record self.old { runner = None; stalled_in = Some block } }
+    {
         self.stalled_in = Some(block);
         self.runner = None;
     }
 
     /// The worker goes on with the frame. A sync at which it stalled was counted there, and is not done again.
     pub fn run_by(&mut self, worker: u8)
-        ensures runner { self.new.runner ≡ Some worker }
-        ensures stalled { self.new.stalled_in ≡ None }
-        ensures place { self.new.frame ≡ record self.old.frame { waits = Nothing } }
+        ensures { self.new ≡ record self.old { runner = Some worker; stalled_in = None } }
     {
-        self.frame.waits = Wait::Nothing;
         self.stalled_in = None;
         self.runner = Some(worker);
     }

@@ -4,7 +4,9 @@ ghost use Rattle.cactus.specs.declared.node.Node.{Node};
 ghost use Rattle.cactus.specs.Frames.{node_at};
 ghost use Rattle.schedule_core.specs.declared.activation.Activation.{Activation};
 ghost use Rattle.schedule_core.specs.Running.{result_of};
-ghost use Rattle.schedule_core.specs.Scheduling.{hand_of, BeginsChild, EndsChild, GoesOnWith, StallsAt, living_within};
+ghost use Rattle.schedule_core.specs.Scheduling.{hand_of, BeginsChild, EndsChild, GoesOnWith, StallsAt, living_within, waits_at};
+ghost use Rattle.frame.specs.declared.frame.Wait.TheVariants.{Region};
+ghost use Rattle.linear.specs.declared.form.RegisterId.{RegisterId};
 
 use crate::activation::Activation;
 use crate::halt::Halt;
@@ -168,25 +170,33 @@ impl Machine<'_> {
         let passage = top.count(region)?.at_sync();
         let block = top.frame.block;
         self.enter(slot, target)?;
+        self.wait_for_children(slot, region)?;
         match passage {
             Passage::Pass => Ok(()),
-            Passage::Stall => self.stall(worker, slot, region, block),
+            Passage::Stall => self.stall(worker, slot, block),
         }
     }
 
-    /// The task of the frame waits; the worker is idle.
-    fn stall(
-        &mut self,
-        worker: u8,
-        slot: usize,
-        region: RegisterId,
-        block: BlockId,
-    ) -> Result<(), Trap>
-        requires { worker < vec_len self.old.hands }
-        ensures { OnOk result (StallsAt self.new.cactus self.new.hands.items worker slot region) }
+    /// The frame goes on once no child of it within the region lives.
+    fn wait_for_children(&mut self, slot: usize, region: RegisterId) -> Result<(), Trap>
+        ensures kept { self.new ≡ record self.old { cactus = self.new.cactus } }
+        ensures waits { OnOk result (waits_at self.new.cactus slot ≡ Some (Region region)) }
     {
         match self.cactus.frame_mut(slot) {
-            Some(top) => top.stall(region, block),
+            Some(top) => top.wait_for_children(region),
+            None => return Err(Trap::Unmatched),
+        }
+        Ok(())
+    }
+
+    /// The task of the frame waits; the worker is idle.
+    fn stall(&mut self, worker: u8, slot: usize, block: BlockId) -> Result<(), Trap>
+        requires { worker < vec_len self.old.hands }
+        ensures { (region : RegisterId) → waits_at self.old.cactus slot ≡ Some (Region region)
+            → OnOk result (StallsAt self.new.cactus self.new.hands.items worker slot region) }
+    {
+        match self.cactus.frame_mut(slot) {
+            Some(top) => top.stall(block),
             None => return Err(Trap::Unmatched),
         }
         self.set_hand(worker, None);

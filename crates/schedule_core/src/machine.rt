@@ -1,9 +1,11 @@
-ghost use Rattle.std.specs.Prelude.{◌↔◌, IsSome, is_some, count_by, ◌≡◌, ◌<◌, ℕ, false, true, Some, IsTrue, IsSomeAnd, IfOk, OnOk, OnErr, OnSome, vec_len};
+ghost use Rattle.std.specs.Prelude.{◌↔◌, IsSome, is_some, count_by, ◌≡◌, ◌<◌, ℕ, false, true, Some, IsTrue, IsSomeAnd, IfOk, OnOk, OnErr, OnSome, vec_len, reverse};
 ghost use Rattle.std.specs.Vec.{with_item};
 ghost use Rattle.cactus.specs.Frames.{Lives, frame_at};
 ghost use Rattle.schedule_core.specs.Scheduling.{hand_of, IsIdle, IsReady};
 ghost use Rattle.frame.specs.declared.path.Path.{Path};
 ghost use Rattle.store.specs.declared.memory.Memory.{Memory};
+ghost use Rattle.store.specs.Cells.{cell_named};
+ghost use Rattle.schedule_core.specs.Seen.{Agrees, StealsIf, taken};
 ghost use Rattle.schedule_core.specs.Running.{IsGoing, IsTrapped, result_of, IsStart, IsNumberOfWorkers, StepsWhere, Takes, TakesAt};
 
 use crate::activation::Activation;
@@ -186,6 +188,8 @@ impl<'v> Machine<'v> {
     fn steal(&mut self, worker: u8, path: &Path) -> bool
         ensures no { ¬ IsTrue result → self.new ≡ self.old }
         ensures yes { IsTrue result → Takes self.old self.new worker path.now }
+        ensures exact { Agrees self.old.cactus self.old.hands.items → StealsIf self.old self.new worker (reverse path.now.numbers) result }
+        ensures agrees { Agrees self.old.cactus self.old.hands.items → Agrees self.new.cactus self.new.hands.items }
     {
         match self.top_of(path) {
             Some(top) => self.take(worker, top),
@@ -198,16 +202,14 @@ impl<'v> Machine<'v> {
         ensures no { ¬ IsTrue result → self.new ≡ self.old }
         ensures yes { IsTrue result → TakesAt self.old self.new worker top }
         ensures enabled { IsIdle self.old.hands.items worker → IsSomeAnd (frame_at self.old.cactus top) IsReady → IsTrue result }
+        ensures becomes { IsTrue result → self.new ≡ taken self.old worker top }
     {
         if worker as usize >= self.hands.len() || self.hand(worker).is_some() {
             return false;
         }
-        match self.cactus.node(top) {
-            Some(node) if node.frame.is_ready() => {}
+        match self.cactus.frame_mut(top) {
+            Some(activation) if activation.is_ready() => activation.run_by(worker),
             _ => return false,
-        }
-        if let Some(activation) = self.cactus.frame_mut(top) {
-            activation.run_by(worker);
         }
         self.set_hand(worker, Some(top));
         true
@@ -259,7 +261,9 @@ impl<'v> Machine<'v> {
     }
 
     /// What a cell of a global holds; none where there is no such cell.
-    pub fn get_global(&self, name: &str, index: u64) -> Option<i64> {
+    pub fn get_global(&self, name: &str, index: u64) -> Option<i64>
+        ensures { result ≡ cell_named self.now.memory name.now index }
+    {
         self.memory.get_global(name, index)
     }
 

@@ -1,4 +1,9 @@
-ghost use Rattle.std.specs.Prelude.{IsTrue, IfSome};
+ghost use Rattle.std.specs.Prelude.{◌≡◌, ◌↔◌, IsTrue, IfSome, IfNone};
+ghost use Rattle.std.specs.Option.{option_copied, option_map};
+ghost use Rattle.cactus.specs.Frames.{HasPath, HasNoPath, node_of_use};
+ghost use Rattle.schedule_core.specs.Seen.{Agrees};
+ghost use Rattle.schedule_core.specs.Viewed.{status_by, Shows, IsTask, IsRunBy};
+ghost use Rattle.schedule_core.specs.Seen.{FindsTop, top_within};
 ghost use Rattle.schedule_core.specs.Tasks.{IsLowest, IsTopAbove, IsTaskTop};
 
 use crate::activation::Activation;
@@ -31,7 +36,9 @@ pub struct TaskView<'a> {
 }
 
 /// How the task stands whose top this is.
-fn standing(top: &Activation) -> Status {
+fn standing(top: &Activation) -> Status
+    ensures { result ≡ status_by top.now.runner top.now.frame.waits }
+{
     match (top.runner, top.frame.waits) {
         (Some(worker), _) => Status::Running(worker),
         (None, Wait::Region(region)) => Status::Stalled(region),
@@ -67,23 +74,27 @@ fn line(program: &Program, top: &Activation) -> Option<u32> {
 impl Machine<'_> {
     /// Whether a path is that of a task: the root's, or a detached child's.
     fn is_lowest(node: &Node<Activation>) -> bool
-        ensures { IsTrue result → IsLowest node.now }
+        ensures { IsTrue result ↔ IsLowest node.now }
     {
         node.parent.is_none() || node.frame.frame.role != Role::Body
     }
 
-    /// The slot of the top of the task whose lowest frame is in the slot.
+    /// The slot of the top of the task whose lowest frame is in the slot: no task has more frames than the peak.
     fn top_above(&self, lowest: usize) -> Option<usize>
-        ensures { IfSome result (IsTopAbove self.now.cactus lowest) }
+        ensures is_top { IfSome result (IsTopAbove self.now.cactus lowest) }
+        ensures exact { result ≡ top_within self.now.cactus self.now.peak lowest }
     {
         let mut top = lowest;
-        for _ in 0..self.cactus.live_frames() {
+        for _ in 0..self.peak {
             match self.cactus.node(top)?.frame.callee {
                 Some(callee) => top = callee,
                 None => return Some(top),
             }
         }
-        None
+        match self.cactus.node(top)?.frame.callee {
+            Some(_) => None,
+            None => Some(top),
+        }
     }
 
     /// The slot of the lowest frame of the task whose top is in the slot.
@@ -101,7 +112,8 @@ impl Machine<'_> {
 
     /// The slot of the top of the task of the path.
     pub(crate) fn top_of(&self, path: &Path) -> Option<usize>
-        ensures { IfSome result (IsTaskTop self.now.cactus path.now) }
+        ensures is_top { IfSome result (IsTaskTop self.now.cactus path.now) }
+        ensures exact { FindsTop self.now.cactus self.now.peak path.now result }
     {
         let (lowest, generation) = self.cactus.spot(path)?;
         let node = self.cactus.get(lowest, generation)?;
@@ -113,7 +125,9 @@ impl Machine<'_> {
     }
 
     /// The task with this lowest frame and this top.
-    fn view(&self, lowest: usize, top: usize) -> Option<TaskView<'_>> {
+    fn view(&self, lowest: usize, top: usize) -> Option<TaskView<'_>>
+        ensures { IfSome result (λ view. Shows self.now.cactus lowest top view) }
+    {
         let path = &self.cactus.node(lowest)?.path;
         let node = self.cactus.node(top)?;
         Some(TaskView {
@@ -126,14 +140,18 @@ impl Machine<'_> {
     }
 
     /// The task of the path; none where the path is no task's.
-    pub fn task(&self, path: &Path) -> Option<TaskView<'_>> {
+    pub fn task(&self, path: &Path) -> Option<TaskView<'_>>
+        ensures { Agrees self.now.cactus self.now.hands.items → IfSome result (IsTask self.now path.now) }
+    {
         let top = self.top_of(path)?;
         let (lowest, _generation) = self.cactus.spot(path)?;
         self.view(lowest, top)
     }
 
     /// The task that the worker runs; none where it is idle.
-    pub fn task_of(&self, worker: u8) -> Option<TaskView<'_>> {
+    pub fn task_of(&self, worker: u8) -> Option<TaskView<'_>>
+        ensures { Agrees self.now.cactus self.now.hands.items → IfSome result (IsRunBy self.now worker) }
+    {
         let top = self.hand(worker)?;
         self.view(self.lowest_below(top)?, top)
     }
@@ -163,12 +181,17 @@ impl Machine<'_> {
     }
 
     /// The slot and the generation of the frame of this path; none where no such frame lives.
-    pub fn spot(&self, path: &Path) -> Option<(usize, u64)> {
+    pub fn spot(&self, path: &Path) -> Option<(usize, u64)>
+        ensures found { IfSome result (λ spot. HasPath self.now.cactus spot.0 spot.1 path.now) }
+        ensures absent { IfNone result (HasNoPath self.now.cactus path.now) }
+    {
         self.cactus.spot(path)
     }
 
     /// The path of the frame that lives in this use of a slot.
-    pub fn path_at(&self, slot: usize, generation: u64) -> Option<&Path> {
+    pub fn path_at(&self, slot: usize, generation: u64) -> Option<&Path>
+        ensures { option_copied result ≡ option_map (λ node. node.path) (node_of_use self.now.cactus slot generation) }
+    {
         self.cactus.path_at(slot, generation)
     }
 

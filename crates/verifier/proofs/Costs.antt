@@ -1,5 +1,5 @@
 -- Costs that stop at the greatest.
-use Rattle.std.proofs.Common.{◌≡◌, ◌⊎◌, ℕ, ◌+◌, ◌*◌, ◌<◌, ◌≤◌, zero, suc, min, inl, inr, sym, ◌∙◌, add-one, arith}
+use Rattle.std.proofs.Common.{◌≡◌, ℕ, ◌+◌, ◌*◌, zero, suc, min, inl, inr, ◌∙◌, add-one, arith}
 use Rattle.std.proofs.lemmas.Bool.{cases_lt}
 use Rattle.program.specs.declared.annotation.Budget.{Budget}
 use Rattle.verifier.specs.Budgets.{cost_of}

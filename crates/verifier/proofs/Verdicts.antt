@@ -1,20 +1,27 @@
 -- The answers of the phases put together.
-use Rattle.std.proofs.Common.{◌≡◌, ◌⊎◌, ℕ, List, Ok, Err, inl, inr, refl}
+use Rattle.std.proofs.Common.{◌≡◌, ℕ, List, Result, Ok, Err, IfErr, inl, inr, sym, ap}
+use Rattle.std.specs.Prelude.{IsErrAnd}
 use Rattle.syntax.specs.declared.module.Module.{Module}
-use Rattle.program.specs.declared.function.Program.{Program}
 use Rattle.ir_lex.specs.declared.fault.TextFault.{TextFault}
 use Rattle.ir_lex.specs.declared.fault.TextFault.TheVariants.{Fault as TextFaultAt, Memory as TextMemory}
 use Rattle.ir_text.specs.Reading.{Answers, IsFaultOfText}
 use Rattle.types.specs.declared.typed.Typed.{Typed}
 use Rattle.types.specs.declared.fault.TypeFault.{TypeFault}
 use Rattle.types.specs.declared.fault.TypeFault.TheVariants.{Fault as TypeFaultAt, Memory as TypeMemory}
-use Rattle.types.specs.Typed.{Means, Judges}
+use Rattle.types.specs.Typed.{Judges}
 use Rattle.cfg.specs.declared.refusal.GraphFault.{GraphFault}
 use Rattle.cfg.specs.declared.refusal.GraphFault.TheVariants.{Fault as GraphFaultAt, Memory as GraphMemory}
 use Rattle.cfg.specs.Rules.{IsGraphRight, IsGraphFault}
+use Rattle.cfg.specs.declared.refusal.Broken.{Broken}
+use Rattle.definedness.specs.declared.fault.DefinedFault.{DefinedFault}
+use Rattle.definedness.specs.declared.fault.DefinedFault.TheVariants.{Fault as DefinedFaultAt, Memory as DefinedMemory}
+use Rattle.definedness.specs.Definedness.{IsDefinednessBroken, IsDefinednessFault}
+use Rattle.region_match.specs.declared.fault.RegionFault.{RegionFault}
+use Rattle.region_match.specs.declared.fault.RegionFault.TheVariants.{Fault as RegionFaultAt, Memory as RegionMemory}
+use Rattle.region_match.specs.Matched.{AreRegionsRight, IsRegionFault}
 use Rattle.verifier.specs.declared.refusal.Refused.{Refused}
 use Rattle.verifier.specs.Accepted.{IsProgramOf, IsRefused}
-use Rattle.verifier.specs.Refusals.{by_text, by_types, by_graph}
+use Rattle.verifier.specs.Refusals.{by_text, by_types, by_graph, by_regions, by_definedness}
 
 by_its_text : (text : List ℕ) (fault : TextFault) → IsFaultOfText text fault → IsRefused text (by_text fault)
 by_its_text text (TextFaultAt number line) h = inl h
@@ -31,11 +38,32 @@ pub refused_by_types : (text : List ℕ) (whole : Module) (fault : TypeFault) (r
 refused_by_types text whole fault refused e a h = rw e (by_its_types text whole fault a h)
 
 by_its_graph : (text : List ℕ) (whole : Module) (typed : Typed) (fault : GraphFault) → Answers text (Ok whole) → Judges whole (Ok typed) → IsGraphFault typed.program fault → IsRefused text (by_graph fault)
-by_its_graph text whole typed (GraphFaultAt number line) a j h = inr (whole, a, inr (typed, j, h))
+by_its_graph text whole typed (GraphFaultAt number line) a j h = inr (whole, a, inr (typed, j, inl h))
 by_its_graph text whole typed GraphMemory a j h = tt
 
 pub refused_by_graph : (text : List ℕ) (whole : Module) (typed : Typed) (fault : GraphFault) (refused : Refused) → refused ≡ by_graph fault → Answers text (Ok whole) → Judges whole (Ok typed) → IsGraphFault typed.program fault → IsRefused text refused
 refused_by_graph text whole typed fault refused e a j h = rw e (by_its_graph text whole typed fault a j h)
 
-pub program_of : (text : List ℕ) (whole : Module) (typed kept : Typed) → kept ≡ typed → Answers text (Ok whole) → Judges whole (Ok typed) → IsGraphRight typed.program → IsProgramOf text kept.program
-program_of text whole typed kept same a j right = rw same (whole, a, typed, j, refl, right)
+by_its_regions : (text : List ℕ) (whole : Module) (typed : Typed) (fault : RegionFault) → Answers text (Ok whole) → Judges whole (Ok typed) → IsGraphRight typed.program → IsRegionFault typed.program fault → IsRefused text (by_regions fault)
+by_its_regions text whole typed (RegionFaultAt number line) a j right h = inr (whole, a, inr (typed, j, inr (right, inl h)))
+by_its_regions text whole typed RegionMemory a j right h = tt
+
+pub refused_by_regions : (text : List ℕ) (whole : Module) (typed kept : Typed) (fault : RegionFault) (refused : Refused) → refused ≡ by_regions fault → kept ≡ typed → Answers text (Ok whole) → Judges whole (Ok typed) → IsGraphRight typed.program → IsRegionFault kept.program fault → IsRefused text refused
+refused_by_regions text whole typed kept fault refused e same a j right h =
+    rw e (by_its_regions text whole typed fault a j right (rw same at h))
+
+by_its_definedness : (text : List ℕ) (whole : Module) (typed : Typed) (fault : DefinedFault) → Answers text (Ok whole) → Judges whole (Ok typed) → IsGraphRight typed.program → AreRegionsRight typed.program → IsDefinednessFault typed.program fault → IsRefused text (by_definedness fault)
+by_its_definedness text whole typed (DefinedFaultAt number line) a j right regions h = inr (whole, a, inr (typed, j, inr (right, inr (regions, h))))
+by_its_definedness text whole typed DefinedMemory a j right regions h = tt
+
+pub refused_by_definedness : (text : List ℕ) (whole : Module) (typed kept : Typed) (fault : DefinedFault) (refused : Refused) → refused ≡ by_definedness fault → kept ≡ typed → Answers text (Ok whole) → Judges whole (Ok typed) → IsGraphRight typed.program → AreRegionsRight kept.program → IsDefinednessFault kept.program fault → IsRefused text refused
+refused_by_definedness text whole typed kept fault refused e same a j right regions h =
+    rw e (by_its_definedness text whole typed fault a j right (rw same at regions) (rw same at h))
+
+pub program_of : (text : List ℕ) (whole : Module) (typed kept : Typed) → kept ≡ typed → Answers text (Ok whole) → Judges whole (Ok typed) → IsGraphRight typed.program → AreRegionsRight kept.program → ((b : Broken) → IsDefinednessBroken kept.program b → ⊥) → IsProgramOf text kept.program
+program_of text whole typed kept same a j right regions defined = (whole, a, typed, j, ap (λ (t : Typed). t.program) (sym same), record { graph = rw same right; regions = regions; definedness = defined })
+
+-- what a fault is made to
+pub err_from : {T E : Type 0} (Q : E → Type 0) (r : Result T E) (e : E) → IsErrAnd r (λ y. y ≡ e) → Q e → IfErr r Q
+err_from Q (Ok v) e h q = tt
+err_from Q (Err x) e h q = rw h q

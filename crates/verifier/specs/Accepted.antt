@@ -6,14 +6,32 @@ use Rattle.ir_text.specs.Reading.{Answers}
 use Rattle.types.specs.declared.typed.Typed.{Typed}
 use Rattle.types.specs.declared.fault.TypeFault.TheVariants.{Fault as TypeFaultAt}
 use Rattle.types.specs.Typed.{Means}
+use Rattle.cfg.specs.declared.refusal.Broken.{Broken}
 use Rattle.cfg.specs.declared.refusal.GraphFault.TheVariants.{Fault as GraphFaultAt}
 use Rattle.cfg.specs.Rules.{IsGraphRight, IsGraphFault}
+use Rattle.definedness.specs.declared.fault.DefinedFault.TheVariants.{Fault as DefinedFaultAt}
+use Rattle.definedness.specs.Definedness.{IsDefinednessBroken, IsDefinednessFault}
+use Rattle.region_match.specs.declared.fault.RegionFault.TheVariants.{Fault as RegionFaultAt}
+use Rattle.region_match.specs.Matched.{AreRegionsRight, IsRegionFault}
 use Rattle.verifier.specs.declared.refusal.Refused.{Refused}
 use Rattle.verifier.specs.declared.refusal.Refused.TheVariants.{Fault, Memory}
 
--- the text is read as a module, the module means this program, and its graph is right
+-- the rules behind the types, phase by phase
+pub record IsRight (program : Program) : Type 0 where
+  pub graph : IsGraphRight program
+  pub regions : AreRegionsRight program
+  pub definedness : (b : Broken) → IsDefinednessBroken program b → ⊥
+
+-- the text is read as a module, the module means this program, and the program keeps the rules
 abbrev pub IsProgramOf : List ℕ → Program → Type 0
-IsProgramOf text program = (whole : Module) × Answers text (Ok whole) × (typed : Typed) × Means whole (Ok typed) × (typed.program ≡ program) × IsGraphRight program
+IsProgramOf text program = (whole : Module) × Answers text (Ok whole) × (typed : Typed) × Means whole (Ok typed) × (typed.program ≡ program) × IsRight program
+
+-- the first phase behind the types that a program breaks names this fault
+abbrev pub IsFaulty : Program → ℕ → ℕ → Type 0
+IsFaulty program number line =
+    IsGraphFault program (GraphFaultAt number line)
+    ⊎ (IsGraphRight program
+    × (IsRegionFault program (RegionFaultAt number line) ⊎ (AreRegionsRight program × IsDefinednessFault program (DefinedFaultAt number line))))
 
 -- the first phase with a fault names it
 abbrev pub IsRefused : List ℕ → Refused → Type 0
@@ -21,7 +39,7 @@ IsRefused text Memory = Unit {0}
 IsRefused text (Fault number line) =
     Answers text (Err (number, line))
     ⊎ ((whole : Module) × Answers text (Ok whole)
-    × (Means whole (Err (TypeFaultAt number line)) ⊎ ((typed : Typed) × Means whole (Ok typed) × IsGraphFault typed.program (GraphFaultAt number line))))
+    × (Means whole (Err (TypeFaultAt number line)) ⊎ ((typed : Typed) × Means whole (Ok typed) × IsFaulty typed.program number line)))
 
 -- some text means the program
 pub record IsAccepted (program : Program) : Type 0 where

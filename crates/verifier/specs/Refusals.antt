@@ -1,8 +1,12 @@
 -- What a phase's fault says of the module.
 use Rattle.cfg.specs.declared.refusal.GraphFault.{GraphFault}
 use Rattle.cfg.specs.declared.refusal.GraphFault.TheVariants.{Fault as GraphFaultAt, Memory as GraphMemory}
+use Rattle.definedness.specs.declared.fault.DefinedFault.{DefinedFault}
+use Rattle.definedness.specs.declared.fault.DefinedFault.TheVariants.{Fault as DefinedFaultAt, Memory as DefinedMemory}
 use Rattle.ir_lex.specs.declared.fault.TextFault.{TextFault}
 use Rattle.ir_lex.specs.declared.fault.TextFault.TheVariants.{Fault as TextFaultAt, Memory as TextMemory}
+use Rattle.region_match.specs.declared.fault.RegionFault.{RegionFault}
+use Rattle.region_match.specs.declared.fault.RegionFault.TheVariants.{Fault as RegionFaultAt, Memory as RegionMemory}
 use Rattle.types.specs.declared.fault.TypeFault.{TypeFault}
 use Rattle.types.specs.declared.fault.TypeFault.TheVariants.{Fault as TypeFaultAt, Memory as TypeMemory}
 use Rattle.verifier.specs.declared.refusal.Refused.{Refused}
@@ -19,3 +23,11 @@ by_types TypeMemory = Memory
 abbrev pub by_graph : GraphFault → Refused
 by_graph (GraphFaultAt number line) = Fault number line
 by_graph GraphMemory = Memory
+
+abbrev pub by_regions : RegionFault → Refused
+by_regions (RegionFaultAt number line) = Fault number line
+by_regions RegionMemory = Memory
+
+abbrev pub by_definedness : DefinedFault → Refused
+by_definedness (DefinedFaultAt number line) = Fault number line
+by_definedness DefinedMemory = Memory

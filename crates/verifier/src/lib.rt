@@ -1,9 +1,11 @@
-//! The phases of the verifier in their order: the text is read, names and types are judged, the graph is built. The first
-//! phase with a fault decides.
+//! The phases of the verifier in their order: the text is read, names and types are judged, the graph is built, tasks and
+//! regions are matched, uses are judged by what is defined before them. The first phase with a fault decides.
 #![tactic(auto)]
 
 mod cost;
 mod refusal;
+#[cfg(test)]
+mod tests;
 mod verified;
 
 pub use refusal::Refused;

@@ -1,8 +1,10 @@
 ghost use Rattle.std.specs.Prelude.{◌≡◌};
-ghost use Rattle.verifier.specs.Refusals.{by_text, by_types, by_graph};
+ghost use Rattle.verifier.specs.Refusals.{by_text, by_types, by_graph, by_regions, by_definedness};
 
 use cfg::GraphFault;
+use definedness::DefinedFault;
 use ir_text::TextFault;
+use region_match::RegionFault;
 use thiserror::Error;
 use types::TypeFault;
 
@@ -46,6 +48,28 @@ impl From<GraphFault> for Refused {
         match fault {
             GraphFault::Fault { number, line } => Refused::Fault { number, line },
             GraphFault::Memory => Refused::Memory,
+        }
+    }
+}
+
+impl From<RegionFault> for Refused {
+    ghost from_gives = { λ fault refused. refused ≡ by_regions fault };
+
+    fn from(fault: RegionFault) -> Refused {
+        match fault {
+            RegionFault::Fault { number, line } => Refused::Fault { number, line },
+            RegionFault::Memory => Refused::Memory,
+        }
+    }
+}
+
+impl From<DefinedFault> for Refused {
+    ghost from_gives = { λ fault refused. refused ≡ by_definedness fault };
+
+    fn from(fault: DefinedFault) -> Refused {
+        match fault {
+            DefinedFault::Fault { number, line } => Refused::Fault { number, line },
+            DefinedFault::Memory => Refused::Memory,
         }
     }
 }

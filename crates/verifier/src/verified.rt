@@ -5,8 +5,10 @@ ghost use Rattle.verifier.specs.Budgets.{declared_budget};
 use crate::cost::declared;
 use crate::refusal::Refused;
 use cfg::{Graph, graph};
+use definedness::defined;
 use ir_text::read;
 use program::Program;
+use region_match::regions;
 use std::alloc::Global;
 use std::hash::RandomState;
 use std::marker::Model;
@@ -68,6 +70,8 @@ pub fn verify(alloc: Global, state: RandomState, text: &[u8]) -> Result<Verified
     let module = read(alloc, state, text)?;
     let typed = check_types(alloc, state, module)?;
     let graph = graph(alloc, typed)?;
+    let regions = regions(alloc, &graph)?;
+    defined(alloc, &graph, &regions)?;
     let budget = declared(&graph.typed.program);
     Ok(Verified { graph, budget })
 }

@@ -1,4 +1,4 @@
-use Rattle.machine_core.proofs.PairSample.{pair_on_every_schedule}
+use Rattle.machine_core.proofs.PairRuns.{pair_on_every_schedule}
 use Rattle.machine_core.proofs.pair_on_every_schedule.Goals as goal
 
 pub returns : goal.returns

@@ -1,4 +1,4 @@
-use Rattle.machine_core.proofs.PairSample.{pair_on_two_workers}
+use Rattle.machine_core.proofs.PairRuns.{pair_on_two_workers}
 use Rattle.machine_core.proofs.pair_on_two_workers.Goals as goal
 
 pub returns : goal.returns

@@ -1,4 +1,4 @@
-use Rattle.machine_core.proofs.SerialExists.{serial_run_exists}
+use Rattle.machine_core.proofs.Budgets.{serial_run_exists}
 use Rattle.machine_core.proofs.serial_run_exists.Goals as goal
 
 pub returns : goal.returns

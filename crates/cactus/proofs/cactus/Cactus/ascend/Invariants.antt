@@ -1,4 +1,4 @@
-use Rattle.std.proofs.Common.{◌≡◌, ◌-◌, ◌≤◌}
+use Rattle.std.proofs.Common.{◌≡◌, ◌-◌}
 use Rattle.cactus.specs.Frames.{slot_above}
 use Rattle.cactus.proofs.cactus.Cactus.ascend.Given as goal
 

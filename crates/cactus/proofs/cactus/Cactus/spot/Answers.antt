@@ -1,10 +1,11 @@
-use Rattle.std.proofs.Common.{arith, ◌≡◌, ℕ, List, ◌∷◌, Some, Contains, refl, sym, ap, subst, ◌∙◌, inl, inr}
+use Rattle.std.proofs.Common.{arith, ◌≡◌, ℕ, List, [], ◌∷◌, Some, Contains, refl, sym, ap, subst, ◌∙◌, inl, inr}
 use Rattle.slab.specs.Slab.{entries, get}
 use Rattle.slab.proofs.SlabLemmas.{Contains-entries, Contains-cons, Contains-cons_cases}
 use Rattle.cactus.specs.declared.node.Node.{Node}
 use Rattle.frame.specs.declared.path.Path.{Path}
 use Rattle.cactus.specs.Frames.{Frames, node_at, HasPath}
 use Rattle.cactus.proofs.FramesLemmas.{node_of_use-own}
+use Rattle.cactus.proofs.ByPathLemmas.{named_is, not_named}
 use Rattle.cactus.proofs.cactus.Cactus.spot.Goals as goal
 
 pub loop-slot-init : goal.loop-slot-init
@@ -48,3 +49,16 @@ loop-slot-preserved g c =
             | inr there ↦ there
           ];
     }
+
+pub returns-then-has_path-clause-map : goal.returns-then-has_path-clause-map
+returns-then-has_path-clause-map g c tree =
+    let listed = first_listed (c.in-Some.slot, c.in-Some.node.now) c.next.new.self c.loop-slot.slot-iterator c.in-Some.ensures.steps in
+    let stands : node_at c.args.self.now c.in-Some.slot ≡ Some c.in-Some.node.now = c.loop-slot.invariant.listed c.in-Some.slot c.in-Some.node.now listed in
+    node_of_use-own c.args.self.now c.in-Some.slot c.in-Some.node.now stands ∙ sym (named_is c.args.self.now tree c.in-Some.slot c.in-Some.node.now c.args.path.now.numbers stands (c.has_path.ensures.0 c.if-has_path.true))
+
+none_listed : {X : Type 0} (x : X) (l : List X) → l ≡ [] → Contains l x → ⊥
+none_listed {X = X} x l empty there = let t : Contains [] x = subst (λ (m : List X). Contains m x) empty there in let (k, below, is) = t in absurd (omega arith)
+
+pub returns-clause-map : goal.returns-clause-map
+returns-clause-map g c tree =
+    sym (not_named c.args.self.now c.args.path.now.numbers (λ slot node stands same. none_listed (slot, node) c.loop-slot.slot-iterator c.in-None.ensures.steps.0 (c.loop-slot.invariant.remains slot node stands (ap (λ (n : List ℕ). record { numbers = n }) same))))

@@ -1,4 +1,4 @@
-use Rattle.std.proofs.Common.{rules, ◌≡◌, ◌<◌, length, List, Option, ℕ, Some, None, subst, sym, ap, ◌∙◌, slice_set}
+use Rattle.std.proofs.Common.{rules, ◌≡◌, ◌<◌, length, List, Option, ℕ, Some, subst, sym, ap, ◌∙◌, slice_set}
 use Rattle.cactus.specs.Frames.{Frames, AddsChild}
 use Rattle.cactus.specs.Lending.{with_frame}
 use Rattle.schedule_core.specs.declared.activation.Activation.{Activation}

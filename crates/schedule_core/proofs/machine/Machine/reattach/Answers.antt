@@ -1,13 +1,10 @@
-use Rattle.std.proofs.Common.{◌≡◌, ◌≢◌, ℕ, ◌<◌, ◌-◌, ◌+◌, rules, List, length, Option, Some, None, slice_set, refl, sym, ap, subst, ◌∙◌}
-use Rattle.std.specs.Prelude.{slice_get, OnOk}
+use Rattle.std.proofs.Common.{◌≡◌, ℕ, ◌<◌, ◌-◌, ◌+◌, rules, List, length, Some, None, sym, ap, subst, ◌∙◌}
+use Rattle.std.specs.Prelude.{slice_get}
 use Rattle.std.specs.Option.{option_copied}
-use Rattle.sync_join.specs.declared.count.Outcome.TheVariants.{Leave}
 use Rattle.sync_join.specs.declared.count.Parent.{Parent}
-use Rattle.sync_join.specs.declared.count.Parent.TheVariants.{Ready, Stalled}
-use Rattle.sync_join.specs.declared.count.Outcome.TheVariants.{ResumeReady, ResumeStalled}
-use Rattle.cactus.specs.Frames.{node_at, frame_at}
+use Rattle.cactus.specs.Frames.{node_at}
 use Rattle.schedule_core.specs.declared.machine.Machine.{Machine}
-use Rattle.schedule_core.specs.Scheduling.{standing_of, living_within, hand_of, TakesParent, GoesOnWith}
+use Rattle.schedule_core.specs.Scheduling.{standing_of, living_within, hand_of, TakesParent}
 use Rattle.schedule_core.proofs.Moves.{living_is, taken_goes_on, left_leaves, hand_of-set, both_ok}
 use Rattle.schedule_core.proofs.machine.Machine.reattach.Goals as goal
 

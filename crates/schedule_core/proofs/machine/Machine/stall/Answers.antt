@@ -1,13 +1,20 @@
-use Rattle.std.proofs.Common.{rules, ◌≡◌, ◌<◌, length, Some, subst, sym, ap, ◌∙◌}
+use Rattle.std.proofs.Common.{rules, ◌≡◌, ◌<◌, length, Some, None, subst, sym, ap, ◌∙◌}
 use Rattle.std.specs.Option.{option_copied_mut}
 use Rattle.cactus.specs.Frames.{frame_at}
+use Rattle.std.specs.Option.{option_map}
+use Rattle.frame.specs.declared.frame.Wait.TheVariants.{Region}
+use Rattle.schedule_core.specs.declared.activation.Activation.{Activation}
 use Rattle.schedule_core.specs.declared.machine.Machine.{Machine}
 use Rattle.schedule_core.specs.Scheduling.{StallsAt}
 use Rattle.schedule_core.proofs.Moves.{stalls}
 use Rattle.schedule_core.proofs.machine.Machine.stall.Goals as goal
 
 pub returns : goal.returns
-returns c =
+returns c region waits =
     let stood : frame_at c.args.self.now.cactus c.args.slot ≡ Some c.in-Some.top.now = sym c.frame_mut.ensures.value ∙ ap option_copied_mut c.in-Some.is in
     let within : c.args.worker < length c.args.self.now.hands.items = search rules in
-    subst (λ (m : Machine). StallsAt m.cactus m.hands.items c.args.worker c.args.slot c.args.region) (sym c.set_hand.ensures) (stalls c.args.self.now.cactus c.in-Some.top.now c.stall.new.self c.args.self.now.hands.items c.args.worker c.args.slot c.args.region stood within c.stall.ensures.runner c.stall.ensures.waits)
+    let unheld : c.stall.new.self.runner ≡ None = ap (λ (a : Activation). a.runner) c.stall.ensures in
+    let before : Some c.in-Some.top.now.frame.waits ≡ Some (Region region) = sym (ap (option_map (λ (a : Activation). a.frame.waits)) stood) ∙ waits in
+    let stays : c.in-Some.top.now.frame.waits ≡ Region region = (cc) in
+    let held : c.stall.new.self.frame.waits ≡ Region region = ap (λ (a : Activation). a.frame.waits) c.stall.ensures ∙ stays in
+    subst (λ (m : Machine). StallsAt m.cactus m.hands.items c.args.worker c.args.slot region) (sym c.set_hand.ensures) (stalls c.args.self.now.cactus c.in-Some.top.now c.stall.new.self c.args.self.now.hands.items c.args.worker c.args.slot region stood within unheld held)

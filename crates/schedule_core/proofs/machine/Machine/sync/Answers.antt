@@ -1,4 +1,4 @@
-use Rattle.std.proofs.Common.{◌≡◌, ◌<◌, arith, refl, sym, ◌∙◌}
+use Rattle.std.proofs.Common.{◌≡◌, arith, refl, sym, ◌∙◌}
 use Rattle.std.proofs.lemmas.Result.{on_ok_weaker}
 use Rattle.sync_join.specs.declared.count.Passage.TheVariants.{Pass, Stall}
 use Rattle.schedule_core.specs.Scheduling.{living_within}
@@ -15,4 +15,7 @@ pub returns-in-Stall-clause-passes : goal.returns-in-Stall-clause-passes
 returns-in-Stall-clause-passes c =
     let living : living_within c.args.self.now.cactus c.args.slot c.args.region.0 ≡ c.in_ok-count.field-0.living = living_is c.args.self.now.cactus c.args.slot c.args.region.0 c.in_ok-top.top.now c.in_ok-count.field-0 c.in_ok-top.ensures.value c.in_ok-count.ensures in
     let some : c.in_ok-count.field-0.living ≡ 0 → Stall ≡ Pass = c.in-Stall.ensures.1 in
-    on_ok_weaker c.stall.result (λ stalls none. absurd (let passes : Stall ≡ Pass = some (sym living ∙ none) in cc)) c.stall.ensures
+    on_ok_weaker c.stall.result (λ stalls none. absurd (let passes : Stall ≡ Pass = some (sym living ∙ none) in cc)) (c.stall.ensures c.args.region c.in_ok-wait_for_children.ensures.waits)
+
+pub returns-in-Stall-clause-stalls : goal.returns-in-Stall-clause-stalls
+returns-in-Stall-clause-stalls c = on_ok_weaker c.stall.result (λ stalls some. stalls) (c.stall.ensures c.args.region c.in_ok-wait_for_children.ensures.waits)

@@ -1,0 +1,233 @@
+-- What the rules on cost say of frames: how much of its function's budget a frame may still use, and the inequalities between a frame and those that
+-- it goes on with.
+use Rattle.std.specs.Prelude.{◌≡◌, ◌≢◌, ℕ, zero, suc, ◌+◌, ◌*◌, ◌<◌, ◌≤◌, List, [], ◌∷◌, length, Option, Some, None, cond, eqb, slice_get, All, ℤ, pos, negsuc, ◌+ℤ◌, ◌-ℤ◌, ◌≤ℤ◌, ◌<ℤ◌}
+use Rattle.machine_core.specs.Paths.{Path}
+use Rattle.machine_core.specs.Cells.{Memory}
+use Rattle.machine_core.specs.Frames.{Value, Registers, Frame, Does, Ends, item_at, block_at, phis_at, word_of}
+use Rattle.machine_core.specs.Effect.{Effect, Plain, Detach, Reattach, Sync, Call, Return, action_of}
+use Rattle.machine_core.specs.State.{went, detached, continued, synced, called}
+use Rattle.machine_core.specs.SerialConditions.{Rank}
+use Rattle.linear.specs.Forms.{Combination, constant_form, value}
+use Rattle.linear.specs.declared.form.RegisterId.{RegisterId}
+use Rattle.program.specs.declared.identifier.FunctionId.{FunctionId}
+use Rattle.program.specs.declared.function.Block.{Block}
+use Rattle.program.specs.declared.function.Function.{Function}
+use Rattle.program.specs.declared.function.Program.{Program}
+use Rattle.program.specs.declared.instruction.Argument.{Argument}
+use Rattle.program.specs.declared.instruction.Instruction.{Instruction}
+use Rattle.program.specs.declared.instruction.Instruction.TheVariants as instruction
+use Rattle.program.specs.declared.instruction.Step.{Step}
+use Rattle.program.specs.declared.instruction.Terminator.{Terminator}
+use Rattle.bridge.specs.Moves.{dest_of}
+
+-- ---- registers as forms read them
+
+abbrev pub or_zero : Option ℤ → ℤ
+or_zero None = pos 0
+or_zero (Some z) = z
+
+-- 0 where there is no number
+abbrev pub numbers : Registers → ℕ → ℤ
+numbers r x = or_zero (word_of (r x))
+
+-- ---- what functions and blocks declare
+
+abbrev pub parameters_in : Option Function → ℕ
+parameters_in None = 0
+parameters_in (Some f) = length f.parameters
+
+-- the parameters are the registers below this number
+abbrev pub parameters_of : Program → ℕ → ℕ
+parameters_of prog function = parameters_in (slice_get prog.functions function)
+
+abbrev pub measure_in : Option Function → Combination
+measure_in None = constant_form (pos 0)
+measure_in (Some f) = f.measure.form
+
+abbrev pub bound_in : Option Function → ℕ
+bound_in None = 0
+bound_in (Some f) = f.measure.bound
+
+abbrev pub self_calls_in : Option Function → ℕ
+self_calls_in None = 0
+self_calls_in (Some f) = f.budget.self_calls
+
+abbrev pub instructions_in : Option Function → ℕ
+instructions_in None = 0
+instructions_in (Some f) = f.budget.instructions
+
+abbrev pub measure_of : Program → ℕ → Combination
+measure_of prog function = measure_in (slice_get prog.functions function)
+
+abbrev pub bound_of : Program → ℕ → ℕ
+bound_of prog function = bound_in (slice_get prog.functions function)
+
+-- the budget: self calls, and instructions beside them
+abbrev pub self_calls_of : Program → ℕ → ℕ
+self_calls_of prog function = self_calls_in (slice_get prog.functions function)
+
+abbrev pub instructions_of : Program → ℕ → ℕ
+instructions_of prog function = instructions_in (slice_get prog.functions function)
+
+abbrev pub calls_left_in : Option Block → Combination
+calls_left_in None = constant_form (pos 0)
+calls_left_in (Some b) = b.left.self_calls
+
+abbrev pub instructions_left_in : Option Block → Combination
+instructions_left_in None = constant_form (pos 0)
+instructions_left_in (Some b) = b.left.instructions
+
+-- what is left of them at a block's start
+abbrev pub calls_left : Program → ℕ → ℕ → Combination
+calls_left prog function block = calls_left_in (block_at prog function block)
+
+abbrev pub instructions_left : Program → ℕ → ℕ → Combination
+instructions_left prog function block = instructions_left_in (block_at prog function block)
+
+-- in a frame
+abbrev pub calls_at : Program → Frame → ℤ
+calls_at prog f = value (numbers f.registers) (calls_left prog f.function f.block)
+
+abbrev pub instructions_at : Program → Frame → ℤ
+instructions_at prog f = value (numbers f.registers) (instructions_left prog f.function f.block)
+
+abbrev pub measure_at : Program → Frame → ℤ
+measure_at prog f = value (numbers f.registers) (measure_of prog f.function)
+
+-- ---- what the steps of a block cost
+
+-- what a call costs whose measure is below this number
+abbrev pub cost_below : Program → ℕ → ℕ → ℕ
+cost_below prog function zero = 0
+cost_below prog function (suc m) = instructions_of prog function + self_calls_of prog function * cost_below prog function m
+
+abbrev pub callee_of : Instruction → Option ℕ
+callee_of (instruction.Binary d op w a b) = None
+callee_of (instruction.Compare d by w a b) = None
+callee_of (instruction.Convert d by a) = None
+callee_of (instruction.Alloca d a) = None
+callee_of (instruction.ElementPointer d name i) = None
+callee_of (instruction.Load d address) = None
+callee_of (instruction.Store a address) = None
+callee_of (instruction.StoreZeros cells name) = None
+callee_of (instruction.AtomicAdd address a) = None
+callee_of (instruction.Call d callee arguments) = Some callee.0
+callee_of (instruction.StartRegion d) = None
+
+-- an instruction costs 1, and a call of another function that one's cost too; a self call is counted apart
+abbrev pub instructions_for : Program → ℕ → Option ℕ → ℕ
+instructions_for prog function None = 1
+instructions_for prog function (Some g) = cond (eqb g function) 1 (suc (cost_below prog g (suc (bound_of prog g))))
+
+abbrev pub self_calls_for : ℕ → Option ℕ → ℕ
+self_calls_for function None = 0
+self_calls_for function (Some g) = cond (eqb g function) 1 0
+
+-- by the steps before an index; at the terminator by all
+abbrev pub spent_by : (Option ℕ → ℕ) → List Step → ℕ → ℕ
+spent_by cost [] index = 0
+spent_by cost (s ∷ steps) zero = 0
+spent_by cost (s ∷ steps) (suc index) = cost (callee_of s.instruction) + spent_by cost steps index
+
+abbrev pub spent_in : (Option ℕ → ℕ) → Option Block → ℕ → ℕ
+spent_in cost None index = 0
+spent_in cost (Some b) index = spent_by cost b.steps index
+
+abbrev pub instructions_spent : Program → Frame → ℕ
+instructions_spent prog f = spent_in (instructions_for prog f.function) (block_at prog f.function f.block) f.index
+
+abbrev pub calls_spent : Program → Frame → ℕ
+calls_spent prog f = spent_in (self_calls_for f.function) (block_at prog f.function f.block) f.index
+
+-- ---- the rules
+
+-- what is left in f covers what is left in g, the terminator and what the block's steps spent
+pub record Covers (prog : Program) (f g : Frame) : Type 0 where
+  pub calls : (calls_at prog g +ℤ pos (calls_spent prog f)) ≤ℤ calls_at prog f
+  pub instructions : (instructions_at prog g +ℤ pos (suc (instructions_spent prog f))) ≤ℤ instructions_at prog f
+
+-- at a detach both the child and the continuation
+pub record CoversBoth (prog : Program) (f g h : Frame) : Type 0 where
+  pub calls : ((calls_at prog g +ℤ calls_at prog h) +ℤ pos (calls_spent prog f)) ≤ℤ calls_at prog f
+  pub instructions : ((instructions_at prog g +ℤ instructions_at prog h) +ℤ pos (suc (instructions_spent prog f))) ≤ℤ instructions_at prog f
+
+-- at an end what was spent alone
+pub record CoversSpent (prog : Program) (f : Frame) : Type 0 where
+  pub calls : pos (calls_spent prog f) ≤ℤ calls_at prog f
+  pub instructions : pos (suc (instructions_spent prog f)) ≤ℤ instructions_at prog f
+
+pub record SomeLeft (prog : Program) (f : Frame) : Type 0 where
+  pub calls : pos 0 ≤ℤ calls_at prog f
+  pub instructions : pos 0 ≤ℤ instructions_at prog f
+
+abbrev pub Lacks : Combination → ℕ → Type 0
+Lacks form d = All (λ t. t.register.0 ≢ d) form.terms
+
+-- the frame stands at its function's first instruction
+pub record IsEntry (f : Frame) : Type 0 where
+  pub block : f.block ≡ 0
+  pub index : f.index ≡ 0
+
+-- fits f: the facts of its place hold of the frame's registers
+pub record CostRules (prog : Program) (fits : Frame → Type 0) : Type 0 where
+  -- a step defines no parameter, and no register of what its block declares to be left; a phi defines no parameter
+  pub steady : (function block index : ℕ) (i : Instruction) (d : ℕ) → item_at prog function block index ≡ Some (Does i) → dest_of i ≡ Some d →
+      (parameters_of prog function ≤ d) × Lacks (calls_left prog function block) d × Lacks (instructions_left prog function block) d
+  pub steady_phis : (function block : ℕ) → All (λ phi. parameters_of prog function ≤ phi.register.0) (phis_at prog function block)
+  -- a measure names parameters alone
+  pub over_parameters : (function : ℕ) → All (λ t. t.register.0 < parameters_of prog function) (measure_of prog function).terms
+  -- a function calls itself and those before it
+  pub earlier : (function block index : ℕ) (d : Option RegisterId) (g : FunctionId) (arguments : List Argument) → item_at prog function block index ≡ Some (Does (instruction.Call d g arguments)) → g.0 ≤ function
+  -- at a block's start something is left, and at a detach at both its targets
+  pub some_left : (f : Frame) → fits f → f.index ≡ 0 → SomeLeft prog f
+  pub some_left_on : (p : Path) (f : Frame) (m : Memory) (region body continuation : ℕ) → fits f → action_of prog p f m ≡ Detach region body continuation → SomeLeft prog (detached f region body continuation) × SomeLeft prog (continued f continuation)
+  -- at each terminator it covers
+  pub edge : (p : Path) (f : Frame) (m : Memory) (e : Effect) (t : Terminator) → fits f → item_at prog f.function f.block f.index ≡ Some (Ends t) → action_of prog p f m ≡ Plain e → e.trap ≡ None → Covers prog f (went f e)
+  pub sync : (p : Path) (f : Frame) (m : Memory) (region block : ℕ) (registers : Registers) → fits f → action_of prog p f m ≡ Sync region block registers → Covers prog f (synced f region block registers)
+  pub detach : (p : Path) (f : Frame) (m : Memory) (region body continuation : ℕ) → fits f → action_of prog p f m ≡ Detach region body continuation → CoversBoth prog f (detached f region body continuation) (continued f continuation)
+  pub reattach : (p : Path) (f : Frame) (m : Memory) (region : ℕ) → fits f → action_of prog p f m ≡ Reattach region → CoversSpent prog f
+  pub returns : (p : Path) (f : Frame) (m : Memory) (result : Option ℤ) → fits f → action_of prog p f m ≡ Return result → CoversSpent prog f
+  -- the measure is within its bound, and falls at a self call
+  pub measure : (f : Frame) → fits f → IsEntry f → (pos 0 ≤ℤ measure_at prog f) × (measure_at prog f ≤ℤ pos (bound_of prog f.function))
+  pub falls : (p : Path) (f : Frame) (m : Memory) (d : Option RegisterId) (callee : ℕ) (values : List Value) → fits f → action_of prog p f m ≡ Call d callee values → callee ≡ f.function → measure_at prog (called p f callee values) <ℤ measure_at prog f
+  -- the budget covers what is left at the entry
+  pub budget : (f : Frame) → fits f → IsEntry f → (calls_at prog f ≤ℤ pos (self_calls_of prog f.function)) × (instructions_at prog f ≤ℤ pos (instructions_of prog f.function))
+
+-- ---- what they give
+
+abbrev pub natural : ℤ → ℕ
+natural (pos n) = n
+natural (negsuc n) = 0
+
+-- what one more self call costs at most
+abbrev pub self_cost : Program → Frame → ℕ
+self_cost prog f = cost_below prog f.function (natural (measure_at prog f))
+
+abbrev pub had : Program → Frame → ℕ
+had prog f = natural (calls_at prog f) * self_cost prog f + natural (instructions_at prog f)
+
+abbrev pub used : Program → Frame → ℕ
+used prog f = instructions_spent prog f + calls_spent prog f * self_cost prog f
+
+-- what was left at the block's start, less what its steps have spent
+abbrev pub may_use : Program → Frame → ℤ
+may_use prog f = pos (had prog f) -ℤ pos (used prog f)
+
+-- what is known of each frame of the serial run
+pub record IsCosted (prog : Program) (f : Frame) : Type 0 where
+  pub calls : pos 0 ≤ℤ calls_at prog f
+  pub instructions : pos 0 ≤ℤ instructions_at prog f
+  pub low : pos 0 ≤ℤ measure_at prog f
+  pub high : measure_at prog f ≤ℤ pos (bound_of prog f.function)
+
+abbrev pub steps_after : List Step → ℕ → ℕ
+steps_after [] index = 0
+steps_after (s ∷ steps) zero = suc (length steps)
+steps_after (s ∷ steps) (suc index) = steps_after steps index
+
+abbrev pub steps_left : Option Block → ℕ → ℕ
+steps_left None index = 0
+steps_left (Some b) index = steps_after b.steps index
+
+abbrev pub rank_of : Program → Frame → Rank
+rank_of prog f = record { function = f.function; measure = natural (measure_at prog f); left = natural (instructions_at prog f); steps = steps_left (block_at prog f.function f.block) f.index }

@@ -1,0 +1,6 @@
+pub mod Moves
+pub mod Edges
+pub mod Costs
+pub mod ShownCosts
+pub mod Depths
+pub mod Serially

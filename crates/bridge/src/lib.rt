@@ -1,0 +1,16 @@
+//! From the rules that a verifier checks to the local conditions of the schedule theorem. There is no code to run here.
+//!
+//! - `Moves`: what an instruction that does not trap leaves of its frame, whatever its kind.
+//! - `Costs`: the rules on cost as inequalities at frames; what a frame may still use, and the rank that falls.
+//! - `Edges`: operands put in for phis and parameters. `ShownCosts`: the rules on cost as the facts of a place show them.
+//! - `Depths`: what the table of depths owes; how deep a frame may reach.
+//! - `Serially`: what both give of the serial run.
+#![tactic(auto)]
+
+ghost use Rattle.bridge.specs.Serially.{SerialRunWithinTables};
+
+/// Where the facts of each place show the rules on cost and are true of the registers, the depths are those of a table, and what the
+/// other phases keep rules out traps, the serial run ends within the cost and the depth that the tables say of `main`.
+pub fn serial_run_within_tables()
+    ensures { SerialRunWithinTables }
+{}

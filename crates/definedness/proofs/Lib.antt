@@ -1,0 +1,6 @@
+mod Judged
+mod Lookups
+mod Paths
+mod Places
+mod Tables
+mod Undefined

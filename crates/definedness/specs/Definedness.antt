@@ -1,0 +1,39 @@
+-- The rules on definedness: what is broken in a module, and what a fault says.
+use Rattle.std.specs.Prelude.{ℕ, suc, List, [], ◌∷◌, map, Any}
+use Rattle.program.specs.declared.function.Block.{Block}
+use Rattle.program.specs.declared.function.Function.{Function}
+use Rattle.program.specs.declared.function.Program.{Program}
+use Rattle.cfg.specs.declared.refusal.Broken.{Broken}
+use Rattle.cfg.specs.Edges.{graph_of}
+use Rattle.cfg.specs.Faults.{IsAtOrBefore}
+use Rattle.definedness.specs.declared.act.BlockActs.{BlockActs}
+use Rattle.definedness.specs.declared.fault.DefinedFault.{DefinedFault}
+use Rattle.definedness.specs.declared.fault.DefinedFault.TheVariants.{Fault, Memory}
+use Rattle.definedness.specs.Missing.{IsMissing}
+use Rattle.definedness.specs.Needs.{given_of, IsTableBroken}
+use Rattle.definedness.specs.RegisterActs.{register_acts}
+
+-- what the last blocks of a function do with registers, from the block of this number on
+abbrev pub registers_from : Function → ℕ → List Block → List BlockActs
+registers_from function b [] = []
+registers_from function b (block ∷ rest) = record { acts = register_acts function b block } ∷ registers_from function (suc b) rest
+
+abbrev pub register_table : Function → List BlockActs
+register_table function = registers_from function 0 function.blocks
+
+-- 401: a use of a register, and a path from the entry to it on which no definition of the register stands before it
+abbrev pub IsUndefined : Function → Broken → Type 0
+IsUndefined function broken = IsTableBroken (IsMissing (graph_of function).blocks (map given_of (register_table function))) 401 (register_table function) broken
+
+abbrev pub IsFunctionBroken : Function → Broken → Type 0
+IsFunctionBroken function broken = IsUndefined function broken
+
+abbrev pub IsDefinednessBroken : Program → Broken → Type 0
+IsDefinednessBroken program broken = Any (λ function. IsFunctionBroken function broken) program.functions
+
+-- what a fault says: this rule is broken at this line, and no other is broken on a lower line, or there with a lower number
+abbrev pub IsDefinednessFault : Program → DefinedFault → Type 0
+IsDefinednessFault program Memory = Unit {0}
+IsDefinednessFault program (Fault number line) =
+    let named : Broken = record { line = line; number = number } in
+    IsDefinednessBroken program named × ((b : Broken) → IsDefinednessBroken program b → IsAtOrBefore named b)

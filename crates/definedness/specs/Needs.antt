@@ -1,0 +1,62 @@
+-- Needs that nothing before them meets.
+use Rattle.std.specs.Prelude.{◌≡◌, ℕ, ◌<◌, Bool, false, List, [], take, Option, Some, None, All, Contains, slice_get, slice_index_or}
+use Rattle.std.specs.List.{filter_map}
+use Rattle.cfg.specs.declared.refusal.Broken.{Broken}
+use Rattle.definedness.specs.Acts.{given}
+use Rattle.definedness.specs.declared.act.Act.{Act}
+use Rattle.definedness.specs.declared.act.Act.TheVariants.{Needs, Gives}
+use Rattle.definedness.specs.declared.act.BlockActs.{BlockActs}
+use Rattle.definedness.specs.declared.table.Given.{Given}
+use Rattle.definedness.specs.declared.table.Row.{Row}
+
+-- what acts define, in their order
+abbrev pub gives : List Act → List ℕ
+gives acts = filter_map given acts
+
+-- what the block of this number does; nothing past the last block
+abbrev pub acts_of : Option BlockActs → List Act
+acts_of None = []
+acts_of (Some block) = block.acts
+
+abbrev pub acts_at : List BlockActs → ℕ → List Act
+acts_at table b = acts_of (slice_get table b)
+
+-- an act needs what is not defined before it, and the block lacks it at its start
+abbrev pub IsNeedBroken : (ℕ → Type 0) → ℕ → List ℕ → Act → Broken → Type 0
+IsNeedBroken Lacks rule before (Needs n line) broken = (broken.number ≡ rule) × (broken.line ≡ line) × (Contains before n → ⊥) × Lacks n
+IsNeedBroken Lacks rule before (Gives n) broken = ⊥
+
+abbrev pub IsBlockBroken : (ℕ → Type 0) → ℕ → List Act → Broken → Type 0
+IsBlockBroken Lacks rule acts broken = (k : ℕ) × (act : Act) × (slice_get acts k ≡ Some act) × IsNeedBroken Lacks rule (gives (take k acts)) act broken
+
+-- a need of a block that nothing before it in the block meets, where the block lacks it at its start
+abbrev pub IsTableBroken : (ℕ → ℕ → Type 0) → ℕ → List BlockActs → Broken → Type 0
+IsTableBroken Lacks rule table broken = (b : ℕ) × (block : BlockActs) × (slice_get table b ≡ Some block) × IsBlockBroken (λ n. Lacks n b) rule block.acts broken
+
+-- ---- tables
+
+abbrev pub numbers_of : Option Given → List ℕ
+numbers_of None = []
+numbers_of (Some block) = block.numbers
+
+abbrev pub numbers_at : List Given → ℕ → List ℕ
+numbers_at all b = numbers_of (slice_get all b)
+
+abbrev pub given_of : BlockActs → Given
+given_of block = record { numbers = gives block.acts }
+
+abbrev pub mark_of : Option Row → ℕ → Bool
+mark_of None b = false
+mark_of (Some row) b = slice_index_or row.marks b false
+
+-- a row for each number, with a mark for each block
+abbrev pub mark_at : List Row → ℕ → ℕ → Bool
+mark_at rows n b = mark_of (slice_get rows n) b
+
+abbrev pub IsNeedBelow : ℕ → Act → Type 0
+IsNeedBelow m (Needs n line) = n < m
+IsNeedBelow m (Gives n) = Unit {0}
+
+-- each number that a block needs is below this one
+abbrev pub AreNeedsBelow : ℕ → List BlockActs → Type 0
+AreNeedsBelow m table = All (λ block. All (IsNeedBelow m) block.acts) table

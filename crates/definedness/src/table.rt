@@ -1,0 +1,110 @@
+ghost use Rattle.std.specs.Prelude.{◌≡◌, ◌<◌, ◌≤◌, ◌↔◌, ℕ, true, false, length, map, All, Contains, IsTrue, IfOk, slice_index_or};
+ghost use Rattle.definedness.specs.Needs.{gives, given_of, numbers_at, mark_at, IsNeedBelow, AreNeedsBelow};
+
+use crate::act::{Act, BlockActs};
+use lists::Seq;
+use std::alloc::{AllocError, Global};
+
+/// What a block defines, by its numbers.
+#[derive(Debug, Drop)]
+pub struct Given {
+    pub numbers: Seq<usize>,
+}
+
+/// A mark for each block.
+#[derive(Debug, Drop)]
+pub struct Row {
+    pub marks: Seq<bool>,
+}
+
+/// The mark of a number at a block; none past the table.
+pub fn is_marked(rows: &[Row], number: usize, block: usize) -> bool
+    ensures { result ≡ mark_at rows.now number block }
+{
+    match rows.get(number) {
+        Some(row) => match row.marks.as_slice().get(block) {
+            Some(mark) => *mark,
+            None => false,
+        },
+        None => false,
+    }
+}
+
+/// The numbers that a block defines.
+fn definitions(alloc: Global, acts: &[Act]) -> Result<Vec<usize>, AllocError>
+    ensures { IfOk result (λ numbers. numbers.items ≡ gives acts.now) }
+{
+    acts.iter()
+        .filter_map(|act| act.definition())
+        .collect(alloc)
+}
+
+/// What each block defines.
+pub fn all_given(alloc: Global, table: &[BlockActs]) -> Result<Vec<Given>, AllocError>
+    ensures { IfOk result (λ all. all.items ≡ map given_of table.now) }
+{
+    let mut all: Vec<Given> = Vec::with_capacity(alloc, table.len())?;
+    for block in table {
+        let numbers = definitions(alloc, block.acts.as_slice())?;
+        all.push(Given {
+            numbers: Seq::from_vec(numbers),
+        })?;
+    }
+    Ok(all)
+}
+
+/// Whether a number is among others.
+fn is_among(numbers: &[usize], number: usize) -> bool
+    ensures { IsTrue result ↔ Contains numbers.now number }
+{
+    numbers.contains(&number)
+}
+
+/// Marks the blocks that define a number.
+pub fn giving(alloc: Global, all: &[Given], number: usize) -> Result<Vec<bool>, AllocError>
+    ensures size { IfOk result (λ marks. length marks.items ≡ length all.now) }
+    ensures exact { IfOk result (λ marks. (b : ℕ) → (slice_index_or marks.items b false ≡ true) ↔ Contains (numbers_at all.now b) number) }
+{
+    let mut marks: Vec<bool> = Vec::with_capacity(alloc, all.len())?;
+    for block in all {
+        marks.push(is_among(block.numbers.as_slice(), number))?;
+    }
+    Ok(marks)
+}
+
+/// A number above a least one and above what an act needs; none past the greatest number.
+fn above_act(act: &Act, least: usize) -> Result<usize, AllocError>
+    ensures least { IfOk result (λ r. least ≤ r) }
+    ensures need { IfOk result (λ r. IsNeedBelow r act.now) }
+{
+    match act {
+        Act::Needs { number, .. } => match number.checked_add(1) {
+            Some(next) => Ok(next.max(least)),
+            None => Err(AllocError),
+        },
+        Act::Gives { .. } => Ok(least),
+    }
+}
+
+/// A number above a least one and above what acts need.
+fn above(acts: &[Act], least: usize) -> Result<usize, AllocError>
+    ensures least { IfOk result (λ r. least ≤ r) }
+    ensures needs { IfOk result (λ r. All (IsNeedBelow r) acts.now) }
+{
+    let mut count = least;
+    for act in acts {
+        count = above_act(act, count)?;
+    }
+    Ok(count)
+}
+
+/// A number above all that are needed.
+pub fn count_needed(table: &[BlockActs]) -> Result<usize, AllocError>
+    ensures { IfOk result (λ r. AreNeedsBelow r table.now) }
+{
+    let mut count = 0;
+    for block in table {
+        count = above(block.acts.as_slice(), count)?;
+    }
+    Ok(count)
+}

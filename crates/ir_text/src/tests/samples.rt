@@ -1,0 +1,291 @@
+//! The modules of `examples/`, as texts.
+
+pub static ADD_ONE: &str = "define i64 @main(i64 %n) {
+;! requires %n >= 0
+;! requires %n <= 100
+;! budget 0 2
+entry:
+;! left 0 2
+%r = add nsw i64 %n, 1
+ret i64 %r
+}
+";
+
+pub static ADDING: &str = "@a = global [64 x i64] zeroinitializer
+define i64 @main(i64 %n) {
+;! requires %n >= 0
+;! requires %n <= 64
+;! writes @a 0 64
+;! budget 0 518
+entry:
+;! left 0 8*%n+6
+%s = call token @llvm.syncregion.start()
+br label %head
+head:
+;! keeps %i >= 0
+;! keeps %i <= %n
+;! keeps %n <= 64
+;! pending %s adds @a 0 1
+;! left 0 8*%n-8*%i+4
+%i = phi i64 [ 0, %entry ], [ %k, %next ]
+%c = icmp slt i64 %i, %n
+br i1 %c, label %fork, label %done
+fork:
+;! keeps %i >= 0
+;! keeps %i <= 63
+;! keeps %i+1 <= %n
+;! keeps %n <= 64
+;! pending %s adds @a 0 1
+;! left 0 8*%n-8*%i+2
+detach within %s, label %body, label %next
+body:
+;! keeps %i >= 0
+;! keeps %i <= 63
+;! left 0 3
+;! foot adds @a 0 1
+%p = getelementptr inbounds i64, ptr @a, i64 0
+atomicrmw add ptr %p, i64 %i seq_cst
+reattach within %s, label %next
+next:
+;! keeps %i >= 0
+;! keeps %i+1 <= %n
+;! keeps %n <= 64
+;! pending %s adds @a 0 1
+;! left 0 8*%n-8*%i-2
+%k = add nsw i64 %i, 1
+br label %head
+done:
+;! pending %s adds @a 0 1
+;! left 0 2
+sync within %s, label %out
+out:
+;! left 0 1
+ret i64 %n
+}
+";
+
+pub static ALIAS: &str = "@a = global [4 x i64] zeroinitializer
+define void @put(ptr noalias dereferenceable(8) %p) {
+;! writes %p 0 1
+;! writes @a 0 4
+;! budget 0 3
+entry:
+;! left 0 3
+store i64 1, ptr %p
+store i64 2, ptr @a
+ret void
+}
+define i64 @main() {
+;! writes @a 0 4
+;! budget 0 5
+entry:
+;! left 0 5
+call void @put(ptr @a)
+ret i64 0
+}
+";
+
+pub static DIVIDE: &str = "define i64 @main(i64 %a, i64 %b) {
+;! requires %b >= -1
+;! requires %b <= -1
+;! budget 0 2
+entry:
+;! left 0 2
+%q = sdiv i64 %a, %b
+ret i64 %q
+}
+";
+
+pub static FIB: &str = "define i64 @fib(i64 %n) {
+;! requires %n >= 0
+;! requires %n <= 20
+;! measure %n max 20
+;! budget 2 15
+entry:
+;! left 2 15
+%x = alloca i64
+%s = call token @llvm.syncregion.start()
+%c = icmp slt i64 %n, 2
+br i1 %c, label %small, label %big
+small:
+;! left 0 1
+ret i64 %n
+big:
+;! keeps %n >= 2
+;! keeps %n <= 20
+;! left 2 11
+%m = sub nsw i64 %n, 1
+detach within %s, label %kid, label %rest
+kid:
+;! keeps %m >= 0
+;! keeps %m <= 20
+;! keeps %m+1 <= %n
+;! left 1 3
+;! foot writes %x 0 1
+%r = call i64 @fib(i64 %m)
+store i64 %r, ptr %x
+reattach within %s, label %rest
+rest:
+;! keeps %n >= 2
+;! keeps %n <= 20
+;! pending %s writes %x 0 1
+;! left 1 6
+%l = sub nsw i64 %n, 2
+%y = call i64 @fib(i64 %l)
+sync within %s, label %join
+join:
+;! left 0 3
+%z = load i64, ptr %x
+%t = add i64 %z, %y
+ret i64 %t
+}
+define i64 @main(i64 %n) {
+;! requires %n >= 0
+;! requires %n <= 20
+;! budget 0 31457267
+entry:
+;! left 0 31457267
+%r = call i64 @fib(i64 %n)
+ret i64 %r
+}
+";
+
+pub static LOAD: &str = "@a = global [1 x i64] zeroinitializer
+define i64 @main() {
+;! reads @a 0 1
+;! budget 0 2
+entry:
+;! left 0 2
+%x = load i64, ptr @a
+ret i64 %x
+}
+";
+
+pub static LOOP: &str = "define i64 @main(i64 %n) {
+;! requires %n >= 0
+;! requires %n <= 100
+;! budget 0 11
+entry:
+;! left 0 11
+br label %head
+head:
+;! keeps %i >= 0
+;! keeps %i <= 100
+;! keeps %n <= 100
+;! left 0 10-3*%i
+%i = phi i64 [ 0, %entry ], [ %k, %head ]
+%k = add nsw i64 %i, 1
+%c = icmp slt i64 %k, %n
+br i1 %c, label %head, label %out
+out:
+;! left 0 7-3*%i
+ret i64 %i
+}
+";
+
+pub static PAIR: &str = "@a = global [2 x i64] zeroinitializer
+define i64 @main(i64 %n) {
+;! writes @a 0 2
+;! budget 0 14
+entry:
+;! left 0 14
+%s = call token @llvm.syncregion.start()
+detach within %s, label %d, label %c
+d:
+;! left 0 3
+;! foot writes @a 0 1
+%p = getelementptr inbounds i64, ptr @a, i64 0
+store i64 %n, ptr %p
+reattach within %s, label %c
+c:
+;! pending %s writes @a 0 1
+;! left 0 9
+%q = getelementptr inbounds i64, ptr @a, i64 1
+store i64 %n, ptr %q
+sync within %s, label %j
+j:
+;! left 0 6
+%u = getelementptr inbounds i64, ptr @a, i64 0
+%x = load i64, ptr %u
+%v = getelementptr inbounds i64, ptr @a, i64 1
+%y = load i64, ptr %v
+%t = add i64 %x, %y
+ret i64 %t
+}
+";
+
+pub static PARALLEL_FOR: &str = "@a = global [64 x i64] zeroinitializer
+define i64 @main(i64 %n) {
+;! requires %n >= 0
+;! requires %n <= 64
+;! writes @a 0 64
+;! budget 0 518
+entry:
+;! left 0 8*%n+6
+%s = call token @llvm.syncregion.start()
+br label %head
+head:
+;! keeps %i >= 0
+;! keeps %i <= %n
+;! keeps %n <= 64
+;! pending %s writes @a 0 %i
+;! left 0 8*%n-8*%i+4
+%i = phi i64 [ 0, %entry ], [ %k, %next ]
+%c = icmp slt i64 %i, %n
+br i1 %c, label %fork, label %done
+fork:
+;! keeps %i >= 0
+;! keeps %i <= 63
+;! keeps %i+1 <= %n
+;! keeps %n <= 64
+;! pending %s writes @a 0 %i
+;! left 0 8*%n-8*%i+2
+detach within %s, label %body, label %next
+body:
+;! keeps %i >= 0
+;! keeps %i <= 63
+;! left 0 3
+;! foot writes @a %i %i+1
+%p = getelementptr inbounds i64, ptr @a, i64 %i
+store i64 %i, ptr %p
+reattach within %s, label %next
+next:
+;! keeps %i >= 0
+;! keeps %i+1 <= %n
+;! keeps %n <= 64
+;! pending %s writes @a 0 %i+1
+;! left 0 8*%n-8*%i-2
+%k = add nsw i64 %i, 1
+br label %head
+done:
+;! pending %s writes @a 0 %i
+;! left 0 2
+sync within %s, label %out
+out:
+;! left 0 1
+ret i64 %n
+}
+";
+
+pub static SWITCH: &str = "define i64 @main(i64 %n) {
+;! requires %n >= 0
+;! requires %n <= 100
+;! budget 0 6
+entry:
+;! left 0 6
+%t = trunc i64 %n to i32
+%d = add nsw i32 %t, 2147483547
+%z = sext i32 %d to i64
+switch i64 %n, label %o [ i64 0, label %a i64 1, label %b ]
+a:
+;! left 0 1
+ret i64 %z
+b:
+;! left 0 2
+%w = zext i32 %d to i64
+ret i64 %w
+o:
+;! left 0 1
+ret i64 %n
+}
+";

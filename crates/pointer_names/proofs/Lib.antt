@@ -1,0 +1,4 @@
+pub mod Given
+pub mod Kept
+pub mod Passed
+pub mod Runs
