@@ -21,7 +21,7 @@ fn find_value(entries: &[PhiEntry], from: usize) -> Option<Operand>
 }
 
 /// What the phis of a block take on an edge from a block.
-fn make_moves(alloc: Global, phis: &[Phi], from: usize) -> Result<Seq<Move>, AllocError>
+pub fn make_moves(alloc: Global, phis: &[Phi], from: usize) -> Result<Seq<Move>, AllocError>
     ensures { IfOk result (λ moves. moves ≡ moves_from from phis.now) }
 {
     let mut moves = Vec::new(alloc);

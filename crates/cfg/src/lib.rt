@@ -11,6 +11,7 @@ mod refusal;
 mod structure;
 
 pub use build::graph;
+pub use edges::make_moves;
 pub use program_graph::Graph;
 pub use reach::{no_marks, one_mark, reached};
 pub use refusal::{Broken, GraphFault, lower};

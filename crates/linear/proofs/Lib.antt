@@ -7,3 +7,5 @@ pub mod Placing
 pub mod Respects
 pub mod Signed
 pub mod Values
+pub mod Tested
+pub mod Added

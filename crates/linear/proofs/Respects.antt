@@ -1,5 +1,5 @@
 -- What is shown, and values, depend on coefficients and constants alone.
-use Rattle.std.proofs.Common.{◌≡◌, ◌∙◌, ◌⊎◌, ℕ, zero, suc, ◌<◌, ◌+◌, ℤ, pos, ◌+ℤ◌, ◌*ℤ◌, List, ◌∷◌, length, get_or, map, inl, inr, sym, ap, refl, arith}
+use Rattle.std.proofs.Common.{◌≡◌, ◌∙◌, ℕ, ◌+◌, ℤ, pos, ◌+ℤ◌, ◌*ℤ◌, List, map, inl, inr, sym, ap, refl, arith}
 use Rattle.std.specs.List.{All, Contains}
 use Rattle.std.specs.Int.RustNames.{unsigned_abs}
 use Rattle.std.proofs.lemmas.List.Elements.{All-cons, All-map, All-contains}
@@ -7,7 +7,7 @@ use Rattle.linear.specs.declared.form.Fact.{Fact}
 use Rattle.linear.specs.Forms.{Combination, coefficient_of, constant_form, Same, value_of, value}
 use Rattle.linear.specs.Shown.{IsFactor, sides, IsShown, SameFacts}
 use Rattle.linear.proofs.Making.{same_of}
-use Rattle.linear.proofs.Values.{top, sum_below, sum_below_same, value_is_sum}
+use Rattle.linear.proofs.Values.{top, sum_below_same, value_is_sum}
 
 pub same_value : (v : ℕ → ℤ) (e f : Combination) → Same e f → value v e ≡ value v f
 same_value v e f s =

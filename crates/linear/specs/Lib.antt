@@ -2,3 +2,4 @@ pub mod Forms
 pub mod Made
 pub mod Search
 pub mod Shown
+pub mod Tested

@@ -56,6 +56,11 @@ with_terms constant (Some ts) = Some (record { terms = ts; constant = constant }
 abbrev pub with_term : Combination → RegisterId → ℤ → Option Combination
 with_term f register amount = with_terms f.constant (placed f.terms register amount)
 
+-- a form with a number, unless its constant would pass the bounds
+abbrev pub with_constant : Combination → ℤ → Option Combination
+with_constant f amount =
+    if nat_lt (unsigned_abs (amount +ℤ f.constant)) 1267650600228229401496703205376 then Some (record { terms = f.terms; constant = amount +ℤ f.constant }) else None
+
 -- ---- registers replaced by forms
 
 -- the form that replaces a register; a register that none replaces stays

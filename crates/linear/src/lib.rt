@@ -11,6 +11,7 @@ mod side;
 pub use fault::FormFault;
 pub use form::{Fact, Form, RegisterId, Replacement, Term};
 pub use show::shown;
+pub use side::{Side, side_of};
 
 #[cfg(test)]
 mod tests;

@@ -3,7 +3,7 @@
 ghost use Rattle.std.specs.Prelude.{◌≡◌, ℕ, ◌<◌, ◌≤◌, ◌^◌, ◌+ℤ◌, ◌∷◌, length, unsigned_abs, pos, negsuc, ◌*ℤ◌, OnOk, IfOk, IfSome, IfNone, Err, Some, None};
 ghost use Rattle.std.specs.List.{prefix_len};
 ghost use Rattle.linear.specs.Forms.{IsRising, AreSmall, coefficient_of, Same, constant_form, register_form, plus, scaled, minus, put};
-ghost use Rattle.linear.specs.Made.{IsTermAdded, is_below, coefficient_at, term_form, IsBounded, placed, with_term, replaced_by, first_terms};
+ghost use Rattle.linear.specs.Made.{IsTermAdded, is_below, coefficient_at, term_form, IsBounded, placed, with_term, with_constant, replaced_by, first_terms};
 ghost use Rattle.linear.specs.declared.fault.FormFault.TheVariants.{Bounds};
 
 use crate::fault::FormFault;
@@ -162,6 +162,8 @@ impl Form {
     /// The sum with a number.
     pub fn plus_constant(self, constant: i128) -> Result<Form, FormFault>
         requires { unsigned_abs constant < 2 ^ 125 }
+        ensures exact { IfOk result (λ f. with_constant self constant ≡ Some f) }
+        ensures refused { result ≡ Err Bounds → with_constant self constant ≡ None }
         ensures ok { IfOk result (λ f. Same f (plus (constant_form constant) self)) }
         ensures bounds { result ≡ Err Bounds → 2 ^ 100 ≤ unsigned_abs (constant +ℤ self.constant) }
     {

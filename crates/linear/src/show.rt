@@ -3,6 +3,7 @@
 ghost use Rattle.std.specs.Prelude.{◌≡◌, ◌<◌, ◌≤◌, ◌+◌, ◌^◌, ◌↔◌, ℕ, IsTrue, All, length, slice_index, pos, ◌≤ℤ◌, ◌+ℤ◌, ◌*ℤ◌, unsigned_abs};
 ghost use Rattle.linear.specs.Forms.{AreSmall, IsRising, Holds};
 ghost use Rattle.linear.specs.Shown.{IsSum, IsShown, AllHold};
+ghost use Rattle.linear.specs.Tested.{is_shown};
 ghost use Rattle.linear.specs.Search.{looked_up, Agrees, factors, side_at, IsFoundByB, IsPairFound, IsFoundWith, IsFound};
 ghost use Rattle.std.specs.Prelude.{ℤ};
 
@@ -199,6 +200,7 @@ fn found(facts: &[Fact], form: &Form) -> bool
 /// not below 0, for factors a and b that are 1 or the size of one of its coefficients.
 pub fn shown(facts: &[Fact], form: &Form) -> bool
     ensures exact { IsTrue result ↔ IsShown facts.now form.now }
+    ensures test { result ≡ is_shown facts.now form.now }
     // What is shown by true facts is true.
     ensures sound { IsTrue result → (v : ℕ → ℤ) → AllHold v facts.now → Holds v form.now }
 {

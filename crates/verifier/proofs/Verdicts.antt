@@ -16,12 +16,15 @@ use Rattle.cfg.specs.declared.refusal.Broken.{Broken}
 use Rattle.definedness.specs.declared.fault.DefinedFault.{DefinedFault}
 use Rattle.definedness.specs.declared.fault.DefinedFault.TheVariants.{Fault as DefinedFaultAt, Memory as DefinedMemory}
 use Rattle.definedness.specs.Definedness.{IsDefinednessBroken, IsDefinednessFault}
+use Rattle.ranges.specs.declared.fault.RangeFault.{RangeFault}
+use Rattle.ranges.specs.declared.fault.RangeFault.TheVariants.{Fault as RangeFaultAt, Memory as RangeMemory}
+use Rattle.ranges.specs.Rules.{IsRangeBroken, IsRangeFault}
 use Rattle.region_match.specs.declared.fault.RegionFault.{RegionFault}
 use Rattle.region_match.specs.declared.fault.RegionFault.TheVariants.{Fault as RegionFaultAt, Memory as RegionMemory}
 use Rattle.region_match.specs.Matched.{AreRegionsRight, IsRegionFault}
 use Rattle.verifier.specs.declared.refusal.Refused.{Refused}
-use Rattle.verifier.specs.Accepted.{IsProgramOf, IsRefused}
-use Rattle.verifier.specs.Refusals.{by_text, by_types, by_graph, by_regions, by_definedness}
+use Rattle.verifier.specs.Accepted.{IsDefined, IsProgramOf, IsRefused}
+use Rattle.verifier.specs.Refusals.{by_text, by_types, by_graph, by_regions, by_definedness, by_ranges}
 
 by_its_text : (text : List ℕ) (fault : TextFault) → IsFaultOfText text fault → IsRefused text (by_text fault)
 by_its_text text (TextFaultAt number line) h = inl h
@@ -53,15 +56,23 @@ refused_by_regions text whole typed kept fault refused e same a j right h =
     rw e (by_its_regions text whole typed fault a j right (rw same at h))
 
 by_its_definedness : (text : List ℕ) (whole : Module) (typed : Typed) (fault : DefinedFault) → Answers text (Ok whole) → Judges whole (Ok typed) → IsGraphRight typed.program → AreRegionsRight typed.program → IsDefinednessFault typed.program fault → IsRefused text (by_definedness fault)
-by_its_definedness text whole typed (DefinedFaultAt number line) a j right regions h = inr (whole, a, inr (typed, j, inr (right, inr (regions, h))))
+by_its_definedness text whole typed (DefinedFaultAt number line) a j right regions h = inr (whole, a, inr (typed, j, inr (right, inr (regions, inl h))))
 by_its_definedness text whole typed DefinedMemory a j right regions h = tt
 
 pub refused_by_definedness : (text : List ℕ) (whole : Module) (typed kept : Typed) (fault : DefinedFault) (refused : Refused) → refused ≡ by_definedness fault → kept ≡ typed → Answers text (Ok whole) → Judges whole (Ok typed) → IsGraphRight typed.program → AreRegionsRight kept.program → IsDefinednessFault kept.program fault → IsRefused text refused
 refused_by_definedness text whole typed kept fault refused e same a j right regions h =
     rw e (by_its_definedness text whole typed fault a j right (rw same at regions) (rw same at h))
 
-pub program_of : (text : List ℕ) (whole : Module) (typed kept : Typed) → kept ≡ typed → Answers text (Ok whole) → Judges whole (Ok typed) → IsGraphRight typed.program → AreRegionsRight kept.program → ((b : Broken) → IsDefinednessBroken kept.program b → ⊥) → IsProgramOf text kept.program
-program_of text whole typed kept same a j right regions defined = (whole, a, typed, j, ap (λ (t : Typed). t.program) (sym same), record { graph = rw same right; regions = regions; definedness = defined })
+by_its_ranges : (text : List ℕ) (whole : Module) (typed : Typed) (fault : RangeFault) → Answers text (Ok whole) → Judges whole (Ok typed) → IsGraphRight typed.program → AreRegionsRight typed.program → IsDefined typed.program → IsRangeFault typed.program fault → IsRefused text (by_ranges fault)
+by_its_ranges text whole typed (RangeFaultAt number line) a j right regions defined h = inr (whole, a, inr (typed, j, inr (right, inr (regions, inr (defined, h)))))
+by_its_ranges text whole typed RangeMemory a j right regions defined h = tt
+
+pub refused_by_ranges : (text : List ℕ) (whole : Module) (typed kept : Typed) (fault : RangeFault) (refused : Refused) → refused ≡ by_ranges fault → kept ≡ typed → Answers text (Ok whole) → Judges whole (Ok typed) → IsGraphRight typed.program → AreRegionsRight kept.program → IsDefined kept.program → IsRangeFault kept.program fault → IsRefused text refused
+refused_by_ranges text whole typed kept fault refused e same a j right regions defined h =
+    rw e (by_its_ranges text whole typed fault a j right (rw same at regions) (rw same at defined) (rw same at h))
+
+pub program_of : (text : List ℕ) (whole : Module) (typed kept : Typed) → kept ≡ typed → Answers text (Ok whole) → Judges whole (Ok typed) → IsGraphRight typed.program → AreRegionsRight kept.program → IsDefined kept.program → ((b : Broken) → IsRangeBroken kept.program b → ⊥) → IsProgramOf text kept.program
+program_of text whole typed kept same a j right regions defined ranges = (whole, a, typed, j, ap (λ (t : Typed). t.program) (sym same), record { graph = rw same right; regions = regions; definedness = defined; ranges = ranges })
 
 -- what a fault is made to
 pub err_from : {T E : Type 0} (Q : E → Type 0) (r : Result T E) (e : E) → IsErrAnd r (λ y. y ≡ e) → Q e → IfErr r Q

@@ -13,14 +13,21 @@ use Rattle.definedness.specs.declared.fault.DefinedFault.TheVariants.{Fault as D
 use Rattle.definedness.specs.Definedness.{IsDefinednessBroken, IsDefinednessFault}
 use Rattle.region_match.specs.declared.fault.RegionFault.TheVariants.{Fault as RegionFaultAt}
 use Rattle.region_match.specs.Matched.{AreRegionsRight, IsRegionFault}
+use Rattle.ranges.specs.declared.fault.RangeFault.TheVariants.{Fault as RangeFaultAt}
+use Rattle.ranges.specs.Rules.{IsRangeBroken, IsRangeFault}
 use Rattle.verifier.specs.declared.refusal.Refused.{Refused}
 use Rattle.verifier.specs.declared.refusal.Refused.TheVariants.{Fault, Memory}
+
+-- no rule on uses is broken
+abbrev pub IsDefined : Program → Type 0
+IsDefined program = (b : Broken) → IsDefinednessBroken program b → ⊥
 
 -- the rules behind the types, phase by phase
 pub record IsRight (program : Program) : Type 0 where
   pub graph : IsGraphRight program
   pub regions : AreRegionsRight program
-  pub definedness : (b : Broken) → IsDefinednessBroken program b → ⊥
+  pub definedness : IsDefined program
+  pub ranges : (b : Broken) → IsRangeBroken program b → ⊥
 
 -- the text is read as a module, the module means this program, and the program keeps the rules
 abbrev pub IsProgramOf : List ℕ → Program → Type 0
@@ -31,7 +38,9 @@ abbrev pub IsFaulty : Program → ℕ → ℕ → Type 0
 IsFaulty program number line =
     IsGraphFault program (GraphFaultAt number line)
     ⊎ (IsGraphRight program
-    × (IsRegionFault program (RegionFaultAt number line) ⊎ (AreRegionsRight program × IsDefinednessFault program (DefinedFaultAt number line))))
+    × (IsRegionFault program (RegionFaultAt number line)
+    ⊎ (AreRegionsRight program
+    × (IsDefinednessFault program (DefinedFaultAt number line) ⊎ (IsDefined program × IsRangeFault program (RangeFaultAt number line))))))
 
 -- the first phase with a fault names it
 abbrev pub IsRefused : List ℕ → Refused → Type 0

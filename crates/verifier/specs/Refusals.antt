@@ -5,6 +5,8 @@ use Rattle.definedness.specs.declared.fault.DefinedFault.{DefinedFault}
 use Rattle.definedness.specs.declared.fault.DefinedFault.TheVariants.{Fault as DefinedFaultAt, Memory as DefinedMemory}
 use Rattle.ir_lex.specs.declared.fault.TextFault.{TextFault}
 use Rattle.ir_lex.specs.declared.fault.TextFault.TheVariants.{Fault as TextFaultAt, Memory as TextMemory}
+use Rattle.ranges.specs.declared.fault.RangeFault.{RangeFault}
+use Rattle.ranges.specs.declared.fault.RangeFault.TheVariants.{Fault as RangeFaultAt, Memory as RangeMemory}
 use Rattle.region_match.specs.declared.fault.RegionFault.{RegionFault}
 use Rattle.region_match.specs.declared.fault.RegionFault.TheVariants.{Fault as RegionFaultAt, Memory as RegionMemory}
 use Rattle.types.specs.declared.fault.TypeFault.{TypeFault}
@@ -31,3 +33,7 @@ by_regions RegionMemory = Memory
 abbrev pub by_definedness : DefinedFault → Refused
 by_definedness (DefinedFaultAt number line) = Fault number line
 by_definedness DefinedMemory = Memory
+
+abbrev pub by_ranges : RangeFault → Refused
+by_ranges (RangeFaultAt number line) = Fault number line
+by_ranges RangeMemory = Memory

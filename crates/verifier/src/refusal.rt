@@ -1,9 +1,10 @@
 ghost use Rattle.std.specs.Prelude.{◌≡◌};
-ghost use Rattle.verifier.specs.Refusals.{by_text, by_types, by_graph, by_regions, by_definedness};
+ghost use Rattle.verifier.specs.Refusals.{by_text, by_types, by_graph, by_regions, by_definedness, by_ranges};
 
 use cfg::GraphFault;
 use definedness::DefinedFault;
 use ir_text::TextFault;
+use ranges::RangeFault;
 use region_match::RegionFault;
 use thiserror::Error;
 use types::TypeFault;
@@ -70,6 +71,17 @@ impl From<DefinedFault> for Refused {
         match fault {
             DefinedFault::Fault { number, line } => Refused::Fault { number, line },
             DefinedFault::Memory => Refused::Memory,
+        }
+    }
+}
+
+impl From<RangeFault> for Refused {
+    ghost from_gives = { λ fault refused. refused ≡ by_ranges fault };
+
+    fn from(fault: RangeFault) -> Refused {
+        match fault {
+            RangeFault::Fault { number, line } => Refused::Fault { number, line },
+            RangeFault::Memory => Refused::Memory,
         }
     }
 }

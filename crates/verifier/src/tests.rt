@@ -6,6 +6,7 @@ mod forms;
 mod graph;
 mod names;
 mod pointers;
+mod ranges;
 mod regions;
 mod samples;
 mod types;

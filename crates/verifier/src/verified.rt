@@ -8,6 +8,7 @@ use cfg::{Graph, graph};
 use definedness::defined;
 use ir_text::read;
 use program::Program;
+use ranges::check_ranges;
 use region_match::regions;
 use std::alloc::Global;
 use std::hash::RandomState;
@@ -72,6 +73,7 @@ pub fn verify(alloc: Global, state: RandomState, text: &[u8]) -> Result<Verified
     let graph = graph(alloc, typed)?;
     let regions = regions(alloc, &graph)?;
     defined(alloc, &graph, &regions)?;
+    let _facts = check_ranges(alloc, &graph, &regions)?;
     let budget = declared(&graph.typed.program);
     Ok(Verified { graph, budget })
 }

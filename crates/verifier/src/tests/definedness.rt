@@ -209,7 +209,7 @@ ret i64 %n
 #[test]
 fn annotations_use_registers_where_they_stand(rt: HostRuntime) -> Result<(), Fail> {
     // the block's own phis count
-    refuses_with(&rt, SIDES, 11, "join:\n;! keeps %p >= 0", 0, 0)?;
+    refuses_with(&rt, SIDES, 11, "join:\n;! keeps %p >= %p", 0, 0)?;
     refuses_with(&rt, SIDES, 11, "join:\n;! keeps %l >= 0", 401, 12)?;
     refuses_with(&rt, SIDES, 11, "join:\n;! keeps %l >= %l", 401, 12)?;
     refuses_with(&rt, SIDES, 11, "join:\n;! left 0 %l", 401, 12)?;
@@ -223,7 +223,7 @@ fn annotations_use_registers_where_they_stand(rt: HostRuntime) -> Result<(), Fai
         401,
         6,
     )?;
-    refuses_with(&rt, SIDES, 7, ";! shows %l <= 5\nbr label %join", 0, 0)?;
+    refuses_with(&rt, SIDES, 7, ";! shows %l <= %l\nbr label %join", 0, 0)?;
     refuses_with(&rt, SIDES, 7, ";! shows %r <= 5\nbr label %join", 401, 7)?;
     // the entry's `keeps` too
     refuses_with(&rt, SIDES, 2, "entry:\n;! keeps %l >= 0", 401, 3)?;

@@ -1,0 +1,5 @@
+pub mod Making
+pub mod Sweeps
+pub mod Tabling
+pub mod Walking
+pub mod Blocks

@@ -1,0 +1,16 @@
+use Rattle.std.proofs.Common.{rules, w64, FitsSigned}
+use Rattle.std.specs.Int.{w128}
+use Rattle.std.proofs.lemmas.Int.{to_z-of_z}
+use Rattle.std.proofs.lemmas.List.{append_assoc}
+use Rattle.ranges.proofs.learn.push_quotient.Goals as goal
+
+pub returns : goal.returns
+returns c =
+    let fits : FitsSigned w64 c.args.divisor = search rules in
+    let fits_opposite : FitsSigned w64 c.opposite.result = search rules in
+    let fits_less : FitsSigned w128 c.one_less.result = search rules in
+    let opposite = rw (to_z-of_z w64 c.args.divisor fits) at c.opposite.ensures in
+    let less = rw (to_z-of_z w64 c.args.divisor fits) at c.one_less.ensures in
+    let first = rw (to_z-of_z w64 c.opposite.result fits_opposite, opposite) at c.in_ok-two.ensures in
+    let second = rw (to_z-of_z w128 c.one_less.result fits_less, less, to_z-of_z w64 c.args.divisor fits) at c.in_ok-two-2.ensures in
+    rw (c.in_ok-push-3.ensures.items, c.in_ok-push-2.ensures.items, c.in_ok-push.ensures.items, first, second, c.in_ok-one.ensures) (simp append_assoc)

@@ -1,0 +1,124 @@
+-- Edges with what is known on them, and what they owe their targets.
+use Rattle.std.specs.Prelude.{ℕ, ◌==◌, if◌then◌else◌, ℤ, pos, negsuc, ◌*ℤ◌, Bool, true, false, List, [], ◌∷◌, ◌++◌, map, Option, Some, None, slice_get}
+use Rattle.linear.specs.declared.form.RegisterId.{RegisterId}
+use Rattle.linear.specs.declared.form.Fact.{Fact}
+use Rattle.syntax.specs.declared.operator.Predicate.{Predicate}
+use Rattle.syntax.specs.declared.operator.Predicate.TheVariants.{Equal, NotEqual, UnsignedGreater, UnsignedAtLeast, UnsignedLess, UnsignedAtMost, SignedGreater, SignedAtLeast, SignedLess, SignedAtMost}
+use Rattle.program.specs.declared.annotation.Inequality.{Inequality}
+use Rattle.program.specs.declared.identifier.BlockId.{BlockId}
+use Rattle.program.specs.declared.instruction.Instruction.{Instruction}
+use Rattle.program.specs.declared.instruction.Instruction.TheVariants as instruction
+use Rattle.program.specs.declared.instruction.Operand.{Operand}
+use Rattle.program.specs.declared.instruction.Operand.TheVariants.{Number, Register}
+use Rattle.program.specs.declared.instruction.Phi.{Phi}
+use Rattle.program.specs.declared.instruction.Step.{Step}
+use Rattle.program.specs.declared.instruction.Terminator.{Terminator}
+use Rattle.program.specs.declared.instruction.Terminator.TheVariants as terminator
+use Rattle.program.specs.declared.function.Block.{Block}
+use Rattle.cfg.specs.declared.structure.Way.{Way}
+use Rattle.cfg.specs.declared.structure.Way.TheVariants.{Branch, Detached, Continued, Synced}
+use Rattle.cfg.specs.Edges.{moves_from}
+use Rattle.ranges.specs.declared.sum.Sum.{Sum}
+use Rattle.ranges.specs.declared.sum.Obligation.{Obligation}
+use Rattle.ranges.specs.declared.edge.Comparison.{Comparison}
+use Rattle.ranges.specs.declared.edge.EdgeSums.{EdgeSums}
+use Rattle.ranges.specs.declared.table.EdgeFacts.{EdgeFacts}
+use Rattle.ranges.specs.Sums.{one, two, facts_of}
+use Rattle.ranges.specs.Owed.{inequalities_owed}
+
+-- ---- the compare that a branch takes
+
+abbrev pub compare_of : RegisterId → Instruction → Option Comparison
+compare_of r (instruction.Binary d operator width x y) = None
+compare_of r (instruction.Compare d predicate width x y) = if d.0 == r.0 then Some (record { predicate = predicate; left = x; right = y }) else None
+compare_of r (instruction.Convert d conversion x) = None
+compare_of r (instruction.Alloca d alloca) = None
+compare_of r (instruction.ElementPointer d object index) = None
+compare_of r (instruction.Load d address) = None
+compare_of r (instruction.Store x address) = None
+compare_of r (instruction.StoreZeros cells object) = None
+compare_of r (instruction.AtomicAdd address x) = None
+compare_of r (instruction.Call d callee arguments) = None
+compare_of r (instruction.StartRegion d) = None
+
+abbrev pub or_else : Option Comparison → Option Comparison → Option Comparison
+or_else None other = other
+or_else (Some c) other = Some c
+
+-- the first compare among the steps that defines the register
+abbrev pub compared : RegisterId → List Step → Option Comparison
+compared r [] = None
+compared r (s ∷ steps) = or_else (compare_of r s.instruction) (compared r steps)
+
+-- ---- what a branch makes known
+
+-- x >= y
+abbrev pub at_least : Operand → Operand → Sum
+at_least x y = two (pos 0) (pos 1) x (negsuc 0) y
+
+-- x > y
+abbrev pub above : Operand → Operand → Sum
+above x y = two (negsuc 0) (pos 1) x (negsuc 0) y
+
+-- a signed compare or its opposite, and equality where it holds; the others say nothing
+abbrev pub compare_sums : Predicate → Bool → Operand → Operand → List Sum
+compare_sums Equal true x y = at_least x y ∷ (at_least y x ∷ [])
+compare_sums Equal false x y = []
+compare_sums NotEqual holds x y = []
+compare_sums UnsignedGreater holds x y = []
+compare_sums UnsignedAtLeast holds x y = []
+compare_sums UnsignedLess holds x y = []
+compare_sums UnsignedAtMost holds x y = []
+compare_sums SignedGreater true x y = above x y ∷ []
+compare_sums SignedGreater false x y = at_least y x ∷ []
+compare_sums SignedAtLeast true x y = at_least x y ∷ []
+compare_sums SignedAtLeast false x y = above y x ∷ []
+compare_sums SignedLess true x y = above y x ∷ []
+compare_sums SignedLess false x y = at_least x y ∷ []
+compare_sums SignedAtMost true x y = at_least y x ∷ []
+compare_sums SignedAtMost false x y = above x y ∷ []
+
+abbrev pub branch_sums : Option Comparison → Bool → List Sum
+branch_sums None holds = []
+branch_sums (Some c) holds = compare_sums c.predicate holds c.left c.right
+
+-- the register equals the case's number
+abbrev pub case_sums : Operand → ℤ → List Sum
+case_sums (Number z) number = []
+case_sums (Register r) number = one (negsuc 0 *ℤ number) (pos 1) (Register r) ∷ (one number (negsuc 0) (Register r) ∷ [])
+
+abbrev pub edge_to : BlockId → Way → List Sum → EdgeSums
+edge_to to way sums = record { to = to; way = way; sums = sums }
+
+-- the edges of a terminator in its order, each with what its being taken makes known; a reattach has none
+abbrev pub edges_out : List Step → Terminator → List EdgeSums
+edges_out steps (terminator.Jump target) = edge_to target Branch [] ∷ []
+edges_out steps (terminator.Branch condition when_true when_false) =
+    edge_to when_true Branch (branch_sums (compared condition steps) true) ∷ (edge_to when_false Branch (branch_sums (compared condition steps) false) ∷ [])
+edges_out steps (terminator.Switch width value default cases) = edge_to default Branch [] ∷ map (λ c. edge_to c.target Branch (case_sums value c.number)) cases
+edges_out steps (terminator.Return value) = []
+edges_out steps (terminator.Detach region body continuation) = edge_to body Detached [] ∷ (edge_to continuation Continued [] ∷ [])
+edges_out steps (terminator.Reattach region continuation) = []
+edges_out steps (terminator.Sync region target) = edge_to target (Synced region) [] ∷ []
+
+-- ---- at the target
+
+abbrev pub phis_of : Option Block → List Phi
+phis_of None = []
+phis_of (Some block) = block.phis
+
+abbrev pub keeps_of : Option Block → List Inequality
+keeps_of None = []
+keeps_of (Some block) = block.keeps
+
+-- an edge from a block where this is known at its end: what its target's phis take, and what is known on it
+abbrev pub edge_facts : List Block → ℕ → List Fact → EdgeSums → EdgeFacts
+edge_facts blocks from known e =
+    record { to = e.to; way = e.way; moves = moves_from from (phis_of (slice_get blocks e.to.0)); facts = known ++ facts_of e.sums }
+
+abbrev pub all_edge_facts : List Block → ℕ → List Fact → List EdgeSums → List EdgeFacts
+all_edge_facts blocks from known edges = map (edge_facts blocks from known) edges
+
+-- 505: the `keeps` of the target, with what its phis take put in
+abbrev pub edge_owed : List Block → EdgeFacts → List Obligation
+edge_owed blocks e = inequalities_owed 505 e.moves (keeps_of (slice_get blocks e.to.0))

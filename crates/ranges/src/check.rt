@@ -1,0 +1,77 @@
+ghost use Rattle.std.specs.Prelude.{◌≡◌, IfOk, IfErr, Any};
+ghost use Rattle.cfg.specs.declared.refusal.Broken.{Broken};
+ghost use Rattle.region_match.specs.ByLabel.{IsNamed};
+ghost use Rattle.ranges.specs.Places.{IsFunctionTable, AreFacts};
+ghost use Rattle.ranges.specs.Rules.{IsFunctionBroken, IsRangeBroken, IsRangeFault};
+
+use crate::fault::RangeFault;
+use crate::table::{BlockFacts, Facts, FunctionFacts};
+use crate::walk::block_facts;
+use cfg::{Broken, Graph, lower};
+use lists::{OutOfMemory, Seq};
+use program::{Function, Program};
+use region_match::Regions;
+use std::alloc::Global;
+
+/// What is known in a function, and what is broken there.
+fn function_facts(
+    alloc: Global,
+    program: &Program,
+    function: &Function,
+) -> Result<(FunctionFacts, Option<Broken>), OutOfMemory>
+    ensures table { IfOk result (λ r. IsFunctionTable program.now.functions function.now r.0) }
+    ensures named { IfOk result (λ r. IsNamed (IsFunctionBroken program.now function.now) r.1) }
+{
+    let mut tables: Vec<BlockFacts> = Vec::new(alloc);
+    let mut named: Option<Broken> = None;
+    let blocks = function.blocks.as_slice();
+    for (index, block) in blocks.iter().enumerate() {
+        let (table, broken) = block_facts(alloc, program, function, index, block)?;
+        named = lower(named, broken);
+        tables.push(table)?;
+    }
+    Ok((
+        FunctionFacts {
+            blocks: Seq::from_vec(tables),
+        },
+        named,
+    ))
+}
+
+/// What is known in a program, and what is broken there.
+fn program_facts(alloc: Global, program: &Program) -> Result<(Facts, Option<Broken>), OutOfMemory>
+    ensures facts { IfOk result (λ r. AreFacts program.now r.0) }
+    ensures named { IfOk result (λ r. IsNamed (IsRangeBroken program.now) r.1) }
+{
+    let mut tables: Vec<FunctionFacts> = Vec::new(alloc);
+    let mut named: Option<Broken> = None;
+    let functions = program.functions.as_slice();
+    for function in functions {
+        let (table, broken) = function_facts(alloc, program, function)?;
+        named = lower(named, broken);
+        tables.push(table)?;
+    }
+    Ok((
+        Facts {
+            functions: Seq::from_vec(tables),
+        },
+        named,
+    ))
+}
+
+/// What is known at each place of a program whose regions are matched, where it shows all that the program owes. Of several faults that of
+/// the lowest line is named, and there that of the lowest number.
+pub fn check_ranges(alloc: Global, graph: &Graph, _regions: &Regions) -> Result<Facts, RangeFault>
+    ensures facts { IfOk result (λ facts. AreFacts graph.now.typed.program facts) }
+    ensures right { IfOk result (λ facts. (b : Broken) → IsRangeBroken graph.now.typed.program b → ⊥) }
+    ensures fault { IfErr result (IsRangeFault graph.now.typed.program) }
+{
+    let (facts, named) = program_facts(alloc, &graph.typed.program)?;
+    match named {
+        Some(broken) => Err(RangeFault::Fault {
+            number: broken.number,
+            line: broken.line,
+        }),
+        None => Ok(facts),
+    }
+}

@@ -1,0 +1,324 @@
+ghost use Rattle.std.specs.Prelude.{◌≡◌, ◌++◌, ◌∷◌, [], true, false, negsuc, ◌*ℤ◌, map, IfOk, OnOk};
+ghost use Rattle.syntax.specs.declared.operator.Predicate.TheVariants.{Equal};
+ghost use Rattle.cfg.specs.declared.structure.Way.TheVariants.{Branch};
+ghost use Rattle.program.specs.declared.instruction.Case.{Case};
+ghost use Rattle.ranges.specs.Sums.{facts_of};
+ghost use Rattle.ranges.specs.Edges.{compare_of, compared, at_least, above, compare_sums, branch_sums, case_sums, edge_to, edges_out, phis_of, keeps_of, edge_facts, all_edge_facts};
+
+use crate::know::push_facts;
+use crate::sum::Sum;
+use crate::table::EdgeFacts;
+use cfg::{Way, make_moves};
+use linear::Fact;
+use lists::{OutOfMemory, Seq};
+use program::{
+    Block, BlockId, Case, Instruction, Operand, Predicate, RegisterId, Step, Terminator,
+};
+use std::alloc::Global;
+
+/// What an `icmp` compares.
+#[derive(Clone, Copy, Debug, PartialEq, Eq)]
+pub struct Comparison {
+    pub predicate: Predicate,
+    pub left: Operand,
+    pub right: Operand,
+}
+
+/// An edge with the sums that are at least 0 where it is taken.
+#[derive(Debug, Drop)]
+pub struct EdgeSums {
+    pub to: BlockId,
+    pub way: Way,
+    pub sums: Seq<Sum>,
+}
+
+fn compare_of(register: RegisterId, instruction: &Instruction) -> Option<Comparison>
+    ensures { result ≡ compare_of register instruction.now }
+{
+    match instruction {
+        Instruction::Compare {
+            register: defined,
+            predicate,
+            left,
+            right,
+            ..
+        } => {
+            if defined.0 == register.0 {
+                Some(Comparison {
+                    predicate: *predicate,
+                    left: *left,
+                    right: *right,
+                })
+            } else {
+                None
+            }
+        }
+        Instruction::Binary { .. }
+        | Instruction::Convert { .. }
+        | Instruction::Alloca { .. }
+        | Instruction::ElementPointer { .. }
+        | Instruction::Load { .. }
+        | Instruction::Store { .. }
+        | Instruction::StoreZeros { .. }
+        | Instruction::AtomicAdd { .. }
+        | Instruction::Call { .. }
+        | Instruction::StartRegion { .. } => None,
+    }
+}
+
+/// The first compare among the steps that defines the register.
+fn compared(register: RegisterId, steps: &[Step]) -> Option<Comparison>
+    ensures { result ≡ compared register steps.now }
+{
+    for step in steps {
+        if let Some(comparison) = compare_of(register, &step.instruction) {
+            return Some(comparison);
+        }
+    }
+    None
+}
+
+/// x >= y
+fn at_least(alloc: Global, x: Operand, y: Operand) -> Result<Seq<Sum>, OutOfMemory>
+    ensures { IfOk result (λ sums. sums ≡ at_least x y ∷ []) }
+{
+    let mut sums = Seq::new(alloc);
+    sums.push(Sum::two(alloc, 0, 1, x, -1, y)?)?;
+    Ok(sums)
+}
+
+/// x > y
+fn above(alloc: Global, x: Operand, y: Operand) -> Result<Seq<Sum>, OutOfMemory>
+    ensures { IfOk result (λ sums. sums ≡ above x y ∷ []) }
+{
+    let mut sums = Seq::new(alloc);
+    sums.push(Sum::two(alloc, -1, 1, x, -1, y)?)?;
+    Ok(sums)
+}
+
+/// x = y
+fn equal(alloc: Global, x: Operand, y: Operand) -> Result<Seq<Sum>, OutOfMemory>
+    ensures { IfOk result (λ sums. sums ≡ compare_sums Equal true x y) }
+{
+    let mut sums = at_least(alloc, x, y)?;
+    sums.push(Sum::two(alloc, 0, 1, y, -1, x)?)?;
+    Ok(sums)
+}
+
+/// What a compare says where it holds, and where it does not.
+fn compare_sums(
+    alloc: Global,
+    predicate: Predicate,
+    holds: bool,
+    x: Operand,
+    y: Operand,
+) -> Result<Seq<Sum>, OutOfMemory>
+    ensures { IfOk result (λ sums. sums ≡ compare_sums predicate holds x y) }
+{
+    match (predicate, holds) {
+        (Predicate::Equal, true) => equal(alloc, x, y),
+        (Predicate::SignedGreater, true) => above(alloc, x, y),
+        (Predicate::SignedGreater, false) => at_least(alloc, y, x),
+        (Predicate::SignedAtLeast, true) => at_least(alloc, x, y),
+        (Predicate::SignedAtLeast, false) => above(alloc, y, x),
+        (Predicate::SignedLess, true) => above(alloc, y, x),
+        (Predicate::SignedLess, false) => at_least(alloc, x, y),
+        (Predicate::SignedAtMost, true) => at_least(alloc, y, x),
+        (Predicate::SignedAtMost, false) => above(alloc, x, y),
+        (Predicate::Equal, false)
+        | (Predicate::NotEqual, _)
+        | (Predicate::UnsignedGreater, _)
+        | (Predicate::UnsignedAtLeast, _)
+        | (Predicate::UnsignedLess, _)
+        | (Predicate::UnsignedAtMost, _) => Ok(Seq::new(alloc)),
+    }
+}
+
+/// What a branch on a compare of the block says on one of its edges.
+fn branch_sums(
+    alloc: Global,
+    comparison: Option<Comparison>,
+    holds: bool,
+) -> Result<Seq<Sum>, OutOfMemory>
+    ensures { IfOk result (λ sums. sums ≡ branch_sums comparison holds) }
+{
+    match comparison {
+        Some(c) => compare_sums(alloc, c.predicate, holds, c.left, c.right),
+        None => Ok(Seq::new(alloc)),
+    }
+}
+
+fn opposite_number(number: i64) -> i128
+    ensures { result ≡ negsuc 0 *ℤ number }
+{
+    -1 * i128::from(number)
+}
+
+/// The register of a switch equals the case's number.
+fn case_sums(alloc: Global, value: Operand, number: i64) -> Result<Seq<Sum>, OutOfMemory>
+    ensures { IfOk result (λ sums. sums ≡ case_sums value number) }
+{
+    let mut sums = Seq::new(alloc);
+    if let Operand::Register(_) = value {
+        sums.push(Sum::one(alloc, opposite_number(number), 1, value)?)?;
+        sums.push(Sum::one(alloc, i128::from(number), -1, value)?)?;
+    }
+    Ok(sums)
+}
+
+/// Adds the edges of the cases of a switch.
+fn push_cases(
+    alloc: Global,
+    edges: &mut Vec<EdgeSums>,
+    value: Operand,
+    cases: &[Case],
+) -> Result<(), OutOfMemory>
+    ensures { OnOk result (edges.new.items ≡ edges.old.items ++ map (λ (c : Case). edge_to c.target Branch (case_sums value c.number)) cases.now) }
+{
+    for case in cases {
+        edges.push(EdgeSums {
+            to: case.target,
+            way: Way::Branch,
+            sums: case_sums(alloc, value, case.number)?,
+        })?;
+    }
+    Ok(())
+}
+
+/// The two edges of a branch.
+fn push_branch(
+    alloc: Global,
+    edges: &mut Vec<EdgeSums>,
+    comparison: Option<Comparison>,
+    when_true: BlockId,
+    when_false: BlockId,
+) -> Result<(), OutOfMemory>
+    ensures { OnOk result (edges.new.items ≡ edges.old.items ++ (edge_to when_true Branch (branch_sums comparison true) ∷ (edge_to when_false Branch (branch_sums comparison false) ∷ []))) }
+{
+    edges.push(EdgeSums {
+        to: when_true,
+        way: Way::Branch,
+        sums: branch_sums(alloc, comparison, true)?,
+    })?;
+    edges.push(EdgeSums {
+        to: when_false,
+        way: Way::Branch,
+        sums: branch_sums(alloc, comparison, false)?,
+    })?;
+    Ok(())
+}
+
+/// Adds an edge whose being taken says nothing.
+fn push_plain(
+    alloc: Global,
+    edges: &mut Vec<EdgeSums>,
+    to: BlockId,
+    way: Way,
+) -> Result<(), OutOfMemory>
+    ensures { OnOk result (edges.new.items ≡ edges.old.items ++ edge_to to way [] ∷ []) }
+{
+    edges.push(EdgeSums {
+        to,
+        way,
+        sums: Seq::new(alloc),
+    })?;
+    Ok(())
+}
+
+/// The edges of a terminator in its order, each with what its being taken makes known.
+pub fn edges_out(
+    alloc: Global,
+    steps: &[Step],
+    terminator: &Terminator,
+) -> Result<Vec<EdgeSums>, OutOfMemory>
+    ensures { IfOk result (λ edges. edges.items ≡ edges_out steps.now terminator.now) }
+{
+    let mut edges = Vec::new(alloc);
+    match terminator {
+        Terminator::Jump { target } => push_plain(alloc, &mut edges, *target, Way::Branch)?,
+        Terminator::Branch {
+            condition,
+            when_true,
+            when_false,
+        } => {
+            let comparison = compared(*condition, steps);
+            push_branch(alloc, &mut edges, comparison, *when_true, *when_false)?;
+        }
+        Terminator::Switch {
+            value,
+            default,
+            cases,
+            ..
+        } => {
+            push_plain(alloc, &mut edges, *default, Way::Branch)?;
+            push_cases(alloc, &mut edges, *value, cases.as_slice())?;
+        }
+        Terminator::Detach {
+            body,
+            continuation,
+            ..
+        } => {
+            push_plain(alloc, &mut edges, *body, Way::Detached)?;
+            push_plain(alloc, &mut edges, *continuation, Way::Continued)?;
+        }
+        Terminator::Sync { region, target } => {
+            push_plain(alloc, &mut edges, *target, Way::Synced(*region))?;
+        }
+        Terminator::Return { .. } | Terminator::Reattach { .. } => {}
+    }
+    Ok(edges)
+}
+
+/// The same facts again.
+fn copy_facts(alloc: Global, facts: &[Fact]) -> Result<Vec<Fact>, OutOfMemory>
+    ensures { IfOk result (λ copy. copy.items ≡ facts.now) }
+{
+    let mut copy: Vec<Fact> = Vec::with_capacity(alloc, facts.len())?;
+    for fact in facts {
+        copy.push(Fact {
+            form: fact.form.copy(alloc)?,
+        })?;
+    }
+    Ok(copy)
+}
+
+/// An edge from a block where this is known at its end: what its target's phis take, and what is known on it.
+fn edge_facts(
+    alloc: Global,
+    blocks: &[Block],
+    from: usize,
+    known: &[Fact],
+    edge: &EdgeSums,
+) -> Result<EdgeFacts, OutOfMemory>
+    ensures { IfOk result (λ e. e ≡ edge_facts blocks.now from known.now edge.now) }
+{
+    let mut facts = copy_facts(alloc, known)?;
+    push_facts(alloc, &mut facts, edge.sums.as_slice())?;
+    let moves = match blocks.get(edge.to.0) {
+        Some(target) => make_moves(alloc, target.phis.as_slice(), from)?,
+        None => Seq::new(alloc),
+    };
+    Ok(EdgeFacts {
+        to: edge.to,
+        way: edge.way,
+        moves,
+        facts: Seq::from_vec(facts),
+    })
+}
+
+/// The same of each edge.
+pub fn all_edge_facts(
+    alloc: Global,
+    blocks: &[Block],
+    from: usize,
+    known: &[Fact],
+    edges: &[EdgeSums],
+) -> Result<Vec<EdgeFacts>, OutOfMemory>
+    ensures { IfOk result (λ list. list.items ≡ all_edge_facts blocks.now from known.now edges.now) }
+{
+    let mut list = Vec::new(alloc);
+    for edge in edges {
+        list.push(edge_facts(alloc, blocks, from, known, edge)?)?;
+    }
+    Ok(list)
+}

@@ -1,0 +1,136 @@
+ghost use Rattle.std.specs.Prelude.{◌≡◌, ◌∷◌, [], false, Any, IfOk, OnOk, slice_get};
+ghost use Rattle.region_match.specs.ByLabel.{IsNamed};
+ghost use Rattle.ranges.specs.Sums.{shows, is_met};
+ghost use Rattle.ranges.specs.Inequalities.{difference_of};
+ghost use Rattle.ranges.specs.Places.{with_shows, stated};
+ghost use Rattle.ranges.specs.Rules.{AreUnmet, AreUnshown, AreEdgesBroken};
+ghost use Rattle.ranges.specs.Edges.{edge_owed, keeps_of};
+ghost use Rattle.cfg.specs.declared.refusal.Broken.{Broken};
+
+use crate::inequality::difference_of;
+use crate::know::{is_met, push_fact, shows};
+use crate::owe::inequalities_owed;
+use crate::sum::Obligation;
+use crate::table::EdgeFacts;
+use cfg::{Broken, lower};
+use linear::Fact;
+use lists::OutOfMemory;
+use program::{Block, BlockId, Inequality};
+use std::alloc::Global;
+
+/// An obligation that the facts do not meet.
+fn obligation_fault(
+    alloc: Global,
+    known: &[Fact],
+    line: u32,
+    obligation: &Obligation,
+) -> Result<Option<Broken>, OutOfMemory>
+    ensures { IfOk result (IsNamed (λ (b : Broken). (b.number ≡ obligation.now.number) × (b.line ≡ line) × (is_met known.now obligation.now ≡ false))) }
+{
+    let broken = if is_met(alloc, known, obligation)? {
+        None
+    } else {
+        Some(Broken {
+            line,
+            number: obligation.number,
+        })
+    };
+    Ok(broken)
+}
+
+/// What the facts do not meet.
+pub fn unmet_fault(
+    alloc: Global,
+    known: &[Fact],
+    line: u32,
+    obligations: &[Obligation],
+) -> Result<Option<Broken>, OutOfMemory>
+    ensures { IfOk result (IsNamed (AreUnmet known.now line obligations.now)) }
+{
+    let mut named: Option<Broken> = None;
+    for obligation in obligations {
+        let broken = obligation_fault(alloc, known, line, obligation)?;
+        named = lower(named, broken);
+    }
+    Ok(named)
+}
+
+/// Adds what a `shows` line says, and names it where it is not shown.
+fn push_shown(
+    alloc: Global,
+    facts: &mut Vec<Fact>,
+    inequality: &Inequality,
+) -> Result<Option<Broken>, OutOfMemory>
+    ensures known { OnOk result (facts.new.items ≡ with_shows facts.old.items (inequality.now ∷ [])) }
+    ensures named { IfOk result (IsNamed (λ (b : Broken). (b.number ≡ 508) × (b.line ≡ inequality.now.line) × (shows facts.old.items (difference_of [] inequality.now) ≡ false))) }
+{
+    let sum = difference_of(alloc, &[], inequality)?;
+    let broken = if shows(alloc, facts.as_slice(), &sum)? {
+        None
+    } else {
+        Some(Broken {
+            line: inequality.line,
+            number: 508,
+        })
+    };
+    push_fact(alloc, facts, &sum)?;
+    Ok(broken)
+}
+
+/// Adds what `shows` lines say, and names what is not shown.
+pub fn push_shows(
+    alloc: Global,
+    facts: &mut Vec<Fact>,
+    lines: &[Inequality],
+) -> Result<Option<Broken>, OutOfMemory>
+    ensures known { OnOk result (facts.new.items ≡ with_shows facts.old.items lines.now) }
+    ensures named { IfOk result (IsNamed (AreUnshown facts.old.items lines.now)) }
+{
+    let mut named: Option<Broken> = None;
+    for inequality in lines {
+        let broken = push_shown(alloc, facts, inequality)?;
+        named = lower(named, broken);
+    }
+    Ok(named)
+}
+
+/// The `keeps` of a block.
+fn keeps_of(blocks: &[Block], block: BlockId) -> &[Inequality]
+    ensures { result.now ≡ keeps_of (slice_get blocks.now block.0) }
+{
+    match blocks.get(block.0) {
+        Some(block) => block.keeps.as_slice(),
+        None => &[],
+    }
+}
+
+/// The `keeps` of an edge's target that are not shown on it.
+fn edge_fault(
+    alloc: Global,
+    blocks: &[Block],
+    line: u32,
+    edge: &EdgeFacts,
+) -> Result<Option<Broken>, OutOfMemory>
+    ensures { IfOk result (IsNamed (AreUnmet edge.now.facts line (edge_owed blocks.now edge.now))) }
+{
+    let keeps = keeps_of(blocks, edge.to);
+    let owed = inequalities_owed(alloc, 505, edge.moves.as_slice(), keeps)?;
+    unmet_fault(alloc, edge.facts.as_slice(), line, &owed)
+}
+
+/// What is not shown on one of the edges.
+pub fn edges_fault(
+    alloc: Global,
+    blocks: &[Block],
+    line: u32,
+    edges: &[EdgeFacts],
+) -> Result<Option<Broken>, OutOfMemory>
+    ensures { IfOk result (IsNamed (λ (b : Broken). Any (λ e. AreUnmet e.facts line (edge_owed blocks.now e) b) edges.now)) }
+{
+    let mut named: Option<Broken> = None;
+    for edge in edges {
+        let broken = edge_fault(alloc, blocks, line, edge)?;
+        named = lower(named, broken);
+    }
+    Ok(named)
+}

@@ -1,0 +1,50 @@
+ghost use Rattle.std.specs.Prelude.{◌≡◌, ◌++◌, ◌∷◌, [], IfOk, OnOk};
+ghost use Rattle.ranges.specs.Sums.{facts_of, shows, is_met};
+
+use crate::sum::{Obligation, Sum, form_of};
+use linear::{Fact, shown};
+use lists::OutOfMemory;
+use std::alloc::Global;
+
+/// Adds that a sum is at least 0; one past the bounds of a form says nothing.
+pub fn push_fact(alloc: Global, facts: &mut Vec<Fact>, sum: &Sum) -> Result<(), OutOfMemory>
+    ensures { OnOk result (facts.new.items ≡ facts.old.items ++ facts_of (sum.now ∷ [])) }
+{
+    if let Some(form) = form_of(alloc, sum)? {
+        facts.push(Fact { form })?;
+    }
+    Ok(())
+}
+
+/// Adds that each sum is at least 0.
+pub fn push_facts(alloc: Global, facts: &mut Vec<Fact>, sums: &[Sum]) -> Result<(), OutOfMemory>
+    ensures { OnOk result (facts.new.items ≡ facts.old.items ++ facts_of sums.now) }
+{
+    for sum in sums {
+        push_fact(alloc, facts, sum)?;
+    }
+    Ok(())
+}
+
+/// Whether the facts show that a sum is at least 0.
+pub fn shows(alloc: Global, facts: &[Fact], sum: &Sum) -> Result<bool, OutOfMemory>
+    ensures { IfOk result (λ b. b ≡ shows facts.now sum.now) }
+{
+    match form_of(alloc, sum)? {
+        Some(form) => Ok(shown(facts, &form)),
+        None => Ok(false),
+    }
+}
+
+/// Whether the facts show that one of the choices is at least 0.
+pub fn is_met(alloc: Global, facts: &[Fact], obligation: &Obligation) -> Result<bool, OutOfMemory>
+    ensures { IfOk result (λ b. b ≡ is_met facts.now obligation.now) }
+{
+    let choices = obligation.choices.as_slice();
+    for sum in choices {
+        if shows(alloc, facts, sum)? {
+            return Ok(true);
+        }
+    }
+    Ok(false)
+}

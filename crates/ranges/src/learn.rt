@@ -1,0 +1,341 @@
+ghost use Rattle.std.specs.Prelude.{◌≡◌, ◌++◌, [], pos, ◌≤ℤ◌, ◌-ℤ◌, true, IfOk, OnOk, IfSome, slice_get};
+ghost use Rattle.syntax.specs.declared.operator.BinaryOperator.TheVariants.{AddNoWrap, SubtractNoWrap};
+ghost use Rattle.ranges.specs.Learned.{is_scale, scale_number, scale_of, is_multiple, is_product, is_between, is_quotient, is_divisor, quotient_by, remainder_by, masked_by, binary_sums, is_32_bits, conversion_sums, call_sums, learned};
+
+use crate::inequality::{call_moves, differences_of};
+use crate::know::shows;
+use crate::sum::{Part, Sum, opposite};
+use linear::{Fact, RegisterId};
+use lists::OutOfMemory;
+use program::{Argument, BinaryOperator, Conversion, Function, FunctionId, Instruction, Operand};
+use std::alloc::Global;
+
+/// A number within a million.
+fn scale_number(operand: Operand) -> Option<i64>
+    ensures { result ≡ scale_number operand }
+{
+    match operand {
+        Operand::Number(number) => {
+            if -1_000_000 <= number && number <= 1_000_000 {
+                Some(number)
+            } else {
+                None
+            }
+        }
+        Operand::Register(_) => None,
+    }
+}
+
+/// A product as a number within a million times an operand.
+pub fn scale_of(left: Operand, right: Operand) -> Option<Part>
+    ensures value { result ≡ scale_of left right }
+    ensures scale { IfSome result (λ p. is_scale p.factor ≡ true) }
+{
+    match (scale_number(right), scale_number(left)) {
+        (Some(factor), _) => Some(Part {
+            factor,
+            operand: left,
+        }),
+        (None, Some(factor)) => Some(Part {
+            factor,
+            operand: right,
+        }),
+        (None, None) => None,
+    }
+}
+
+/// d = factor * x
+fn push_multiple(
+    alloc: Global,
+    sums: &mut Vec<Sum>,
+    d: Operand,
+    factor: i64,
+    x: Operand,
+) -> Result<(), OutOfMemory>
+    requires { is_scale factor ≡ true }
+    ensures { OnOk result (sums.new.items ≡ sums.old.items ++ is_multiple d factor x) }
+{
+    sums.push(Sum::two(alloc, 0, 1, d, opposite(factor), x)?)?;
+    sums.push(Sum::two(alloc, 0, -1, d, factor, x)?)?;
+    Ok(())
+}
+
+/// d from least to greatest
+fn push_between(
+    alloc: Global,
+    sums: &mut Vec<Sum>,
+    least: i64,
+    greatest: i64,
+    d: Operand,
+) -> Result<(), OutOfMemory>
+    ensures { OnOk result (sums.new.items ≡ sums.old.items ++ is_between least greatest d) }
+{
+    sums.push(Sum::one(alloc, -1 * i128::from(least), 1, d)?)?;
+    sums.push(Sum::one(alloc, i128::from(greatest), -1, d)?)?;
+    Ok(())
+}
+
+/// d = x + y
+fn sum_sums(alloc: Global, d: Operand, x: Operand, y: Operand) -> Result<Vec<Sum>, OutOfMemory>
+    ensures { IfOk result (λ sums. sums.items ≡ binary_sums [] AddNoWrap d x y) }
+{
+    let mut sums = Vec::new(alloc);
+    sums.push(Sum::three(alloc, 1, d, -1, x, -1, y)?)?;
+    sums.push(Sum::three(alloc, -1, d, 1, x, 1, y)?)?;
+    Ok(sums)
+}
+
+/// d = x - y
+fn difference_sums(
+    alloc: Global,
+    d: Operand,
+    x: Operand,
+    y: Operand,
+) -> Result<Vec<Sum>, OutOfMemory>
+    ensures { IfOk result (λ sums. sums.items ≡ binary_sums [] SubtractNoWrap d x y) }
+{
+    let mut sums = Vec::new(alloc);
+    sums.push(Sum::three(alloc, 1, d, -1, x, 1, y)?)?;
+    sums.push(Sum::three(alloc, -1, d, 1, x, -1, y)?)?;
+    Ok(sums)
+}
+
+/// d = x * y, where one of them is a number within a million
+fn product_sums(alloc: Global, d: Operand, x: Operand, y: Operand) -> Result<Vec<Sum>, OutOfMemory>
+    ensures { IfOk result (λ sums. sums.items ≡ is_product d (scale_of x y)) }
+{
+    let mut sums = Vec::new(alloc);
+    if let Some(part) = scale_of(x, y) {
+        push_multiple(alloc, &mut sums, d, part.factor, part.operand)?;
+    }
+    Ok(sums)
+}
+
+/// Whether a number may divide an operand: it lies from 1 to a million, and the operand is shown to be at least 0.
+fn is_divisor(alloc: Global, known: &[Fact], x: Operand, divisor: i64) -> Result<bool, OutOfMemory>
+    ensures value { IfOk result (λ b. b ≡ is_divisor known.now x divisor) }
+    ensures positive { IfOk result (λ b. b ≡ true → pos 1 ≤ℤ divisor) }
+    ensures scale { IfOk result (λ b. b ≡ true → is_scale divisor ≡ true) }
+{
+    if 1 <= divisor && divisor <= 1_000_000 {
+        shows(alloc, known, &Sum::one(alloc, 0, 1, x)?)
+    } else {
+        Ok(false)
+    }
+}
+
+fn one_less(divisor: i64) -> i128
+    ensures { result ≡ divisor -ℤ pos 1 }
+{
+    i128::from(divisor) - 1
+}
+
+/// divisor * d <= x, x <= divisor * d + divisor - 1, d >= 0
+fn push_quotient(
+    alloc: Global,
+    sums: &mut Vec<Sum>,
+    d: Operand,
+    x: Operand,
+    divisor: i64,
+) -> Result<(), OutOfMemory>
+    requires scale { is_scale divisor ≡ true }
+    requires positive { pos 1 ≤ℤ divisor }
+    ensures { OnOk result (sums.new.items ≡ sums.old.items ++ is_quotient d x divisor) }
+{
+    sums.push(Sum::two(alloc, 0, 1, x, opposite(divisor), d)?)?;
+    sums.push(Sum::two(alloc, one_less(divisor), divisor, d, -1, x)?)?;
+    sums.push(Sum::one(alloc, 0, 1, d)?)?;
+    Ok(())
+}
+
+/// d = x / divisor, rounded down
+fn quotient_sums(
+    alloc: Global,
+    known: &[Fact],
+    d: Operand,
+    x: Operand,
+    y: Operand,
+) -> Result<Vec<Sum>, OutOfMemory>
+    ensures { IfOk result (λ sums. sums.items ≡ quotient_by known.now d x y) }
+{
+    let mut sums = Vec::new(alloc);
+    if let Operand::Number(divisor) = y {
+        if is_divisor(alloc, known, x, divisor)? {
+            push_quotient(alloc, &mut sums, d, x, divisor)?;
+        }
+    }
+    Ok(sums)
+}
+
+/// d = x % divisor
+fn remainder_sums(
+    alloc: Global,
+    known: &[Fact],
+    d: Operand,
+    x: Operand,
+    y: Operand,
+) -> Result<Vec<Sum>, OutOfMemory>
+    ensures { IfOk result (λ sums. sums.items ≡ remainder_by known.now d x y) }
+{
+    let mut sums = Vec::new(alloc);
+    if let Operand::Number(divisor) = y {
+        if is_divisor(alloc, known, x, divisor)? {
+            push_between(alloc, &mut sums, 0, divisor - 1, d)?;
+        }
+    }
+    Ok(sums)
+}
+
+/// d = x & mask
+fn masked_sums(alloc: Global, d: Operand, y: Operand) -> Result<Vec<Sum>, OutOfMemory>
+    ensures { IfOk result (λ sums. sums.items ≡ masked_by d y) }
+{
+    let mut sums = Vec::new(alloc);
+    if let Operand::Number(mask) = y {
+        if 0 <= mask {
+            push_between(alloc, &mut sums, 0, mask, d)?;
+        }
+    }
+    Ok(sums)
+}
+
+fn binary_sums(
+    alloc: Global,
+    known: &[Fact],
+    operator: BinaryOperator,
+    d: Operand,
+    x: Operand,
+    y: Operand,
+) -> Result<Vec<Sum>, OutOfMemory>
+    ensures { IfOk result (λ sums. sums.items ≡ binary_sums known.now operator d x y) }
+{
+    match operator {
+        BinaryOperator::AddNoWrap => sum_sums(alloc, d, x, y),
+        BinaryOperator::SubtractNoWrap => difference_sums(alloc, d, x, y),
+        BinaryOperator::MultiplyNoWrap => product_sums(alloc, d, x, y),
+        BinaryOperator::SignedDivide => quotient_sums(alloc, known, d, x, y),
+        BinaryOperator::SignedRemainder => remainder_sums(alloc, known, d, x, y),
+        BinaryOperator::And => masked_sums(alloc, d, y),
+        BinaryOperator::Add
+        | BinaryOperator::Subtract
+        | BinaryOperator::Multiply
+        | BinaryOperator::UnsignedDivide
+        | BinaryOperator::UnsignedRemainder
+        | BinaryOperator::ShiftLeft
+        | BinaryOperator::LogicalShiftRight
+        | BinaryOperator::ArithmeticShiftRight
+        | BinaryOperator::Or
+        | BinaryOperator::ExclusiveOr => Ok(Vec::new(alloc)),
+    }
+}
+
+/// Whether x is shown to fit 32 bits.
+fn is_32_bits(alloc: Global, known: &[Fact], x: Operand) -> Result<bool, OutOfMemory>
+    ensures { IfOk result (λ b. b ≡ is_32_bits known.now x) }
+{
+    if shows(alloc, known, &Sum::one(alloc, 2_147_483_648, 1, x)?)? {
+        shows(alloc, known, &Sum::one(alloc, 2_147_483_647, -1, x)?)
+    } else {
+        Ok(false)
+    }
+}
+
+fn conversion_sums(
+    alloc: Global,
+    known: &[Fact],
+    conversion: Conversion,
+    d: Operand,
+    x: Operand,
+) -> Result<Vec<Sum>, OutOfMemory>
+    ensures { IfOk result (λ sums. sums.items ≡ conversion_sums known.now conversion d x) }
+{
+    let mut sums = Vec::new(alloc);
+    let is_kept = match conversion {
+        Conversion::SignExtend => {
+            push_between(alloc, &mut sums, -2_147_483_648, 2_147_483_647, d)?;
+            true
+        }
+        Conversion::Truncate => {
+            push_between(alloc, &mut sums, -2_147_483_648, 2_147_483_647, d)?;
+            is_32_bits(alloc, known, x)?
+        }
+        Conversion::ZeroExtend => {
+            push_between(alloc, &mut sums, 0, 4_294_967_295, d)?;
+            shows(alloc, known, &Sum::one(alloc, 0, 1, x)?)?
+        }
+    };
+    if is_kept {
+        push_multiple(alloc, &mut sums, d, 1, x)?;
+    }
+    Ok(sums)
+}
+
+/// The callee's `ensures`, with the arguments and the result's register put in.
+fn call_sums(
+    alloc: Global,
+    functions: &[Function],
+    callee: FunctionId,
+    arguments: &[Argument],
+    register: Option<RegisterId>,
+) -> Result<Vec<Sum>, OutOfMemory>
+    ensures { IfOk result (λ sums. sums.items ≡ call_sums (slice_get functions.now callee.0) arguments.now register) }
+{
+    match functions.get(callee.0) {
+        Some(callee) => {
+            let moves = call_moves(alloc, callee, arguments, register)?;
+            differences_of(alloc, &moves, callee.guarantees.as_slice())
+        }
+        None => Ok(Vec::new(alloc)),
+    }
+}
+
+/// What an instruction makes known, where `known` is known before it.
+pub fn learned(
+    alloc: Global,
+    functions: &[Function],
+    known: &[Fact],
+    instruction: &Instruction,
+) -> Result<Vec<Sum>, OutOfMemory>
+    ensures { IfOk result (λ sums. sums.items ≡ learned functions.now known.now instruction.now) }
+{
+    match instruction {
+        Instruction::Binary {
+            register,
+            operator,
+            left,
+            right,
+            ..
+        } => binary_sums(
+            alloc,
+            known,
+            *operator,
+            Operand::Register(*register),
+            *left,
+            *right,
+        ),
+        Instruction::Convert {
+            register,
+            conversion,
+            value,
+        } => conversion_sums(
+            alloc,
+            known,
+            *conversion,
+            Operand::Register(*register),
+            *value,
+        ),
+        Instruction::Call {
+            register,
+            callee,
+            arguments,
+        } => call_sums(alloc, functions, *callee, arguments.as_slice(), *register),
+        Instruction::Compare { .. }
+        | Instruction::Alloca { .. }
+        | Instruction::ElementPointer { .. }
+        | Instruction::Load { .. }
+        | Instruction::Store { .. }
+        | Instruction::StoreZeros { .. }
+        | Instruction::AtomicAdd { .. }
+        | Instruction::StartRegion { .. } => Ok(Vec::new(alloc)),
+    }
+}

@@ -1,0 +1,34 @@
+//! What is known of the registers at each place of a program, and that it shows what the program owes: the facts of the verifier.
+//!
+//! | Number | What is shown |
+//! |---|---|
+//! | 501 | an index of `getelementptr` lies in its object |
+//! | 502 | a divisor is not 0, and no division is of the least value by -1 |
+//! | 503 | an `nsw` operation does not overflow |
+//! | 504 | an amount of a shift is below the width |
+//! | 505 | a block's `keeps`, on each edge to it |
+//! | 506 | a callee's `requires`, at a call |
+//! | 507 | a function's `ensures`, at each `ret` |
+//! | 508 | `shows`, where it stands |
+#![tactic(auto)]
+
+mod check;
+mod edge;
+mod fault;
+mod inequality;
+mod judge;
+mod know;
+mod learn;
+mod owe;
+mod sum;
+mod table;
+mod walk;
+
+pub use check::check_ranges;
+pub use edge::{Comparison, EdgeSums, edges_out};
+pub use fault::RangeFault;
+pub use inequality::{argument_moves, call_moves, difference_of, result_moves};
+pub use know::{is_met, push_facts, shows};
+pub use owe::inequalities_owed;
+pub use sum::{Obligation, Part, Sum, form_of};
+pub use table::{BlockFacts, EdgeFacts, Facts, FunctionFacts};

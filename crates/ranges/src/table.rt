@@ -1,0 +1,51 @@
+ghost use Rattle.std.specs.Prelude.{◌≡◌, take, slice_index_or};
+
+use cfg::{Move, Way};
+use linear::Fact;
+use lists::Seq;
+use program::BlockId;
+
+/// An edge with what is known on it, and what its target's phis take.
+#[derive(Debug, Drop)]
+pub struct EdgeFacts {
+    pub to: BlockId,
+    pub way: Way,
+    pub moves: Seq<Move>,
+    pub facts: Seq<Fact>,
+}
+
+/// What is known at the end of a block, how many of these facts are known at each of its steps (the first ones), and its edges in the
+/// order of its terminator.
+#[derive(Debug, Drop)]
+pub struct BlockFacts {
+    pub facts: Seq<Fact>,
+    pub counts: Seq<usize>,
+    pub edges: Seq<EdgeFacts>,
+}
+
+impl BlockFacts {
+    /// What is known at a step, behind the `shows` lines before it.
+    pub fn at_step(&self, step: usize) -> &[Fact]
+        ensures { result.now ≡ take (slice_index_or self.now.counts step 0) self.now.facts }
+    {
+        let facts = self.facts.as_slice();
+        let count = self.counts.as_slice().get(step).copied().unwrap_or(0);
+        if count < facts.len() {
+            &facts[..count]
+        } else {
+            facts
+        }
+    }
+}
+
+/// What is known in each block of a function.
+#[derive(Debug, Drop)]
+pub struct FunctionFacts {
+    pub blocks: Seq<BlockFacts>,
+}
+
+/// What is known at each place of a program.
+#[derive(Debug, Drop)]
+pub struct Facts {
+    pub functions: Seq<FunctionFacts>,
+}

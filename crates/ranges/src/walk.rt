@@ -1,0 +1,147 @@
+ghost use Rattle.std.specs.Prelude.{◌≡◌, ◌++◌, ◌∷◌, [], ℕ, length, take, slice_get, slice_index_or, Some, IfOk, OnOk};
+ghost use Rattle.program.specs.declared.instruction.Step.{Step};
+ghost use Rattle.cfg.specs.declared.refusal.Broken.{Broken};
+ghost use Rattle.region_match.specs.ByLabel.{IsNamed};
+ghost use Rattle.ranges.specs.Places.{start_facts, with_shows, after_step, facts_before, facts_at_step, facts_at_end, edges_known, ending_shows, IsBlockTable};
+ghost use Rattle.ranges.specs.Walks.{IsWalked, edges_behind, IsEndUnmetAt};
+ghost use Rattle.ranges.specs.Rules.{IsStepBroken, AreStepsBroken, IsEndBroken, IsBlockBroken};
+
+use crate::edge::{all_edge_facts, edges_out};
+use crate::inequality::differences_of;
+use crate::judge::{edges_fault, push_shows, unmet_fault};
+use crate::know::push_facts;
+use crate::learn::learned;
+use crate::owe::{owed, owed_at_end};
+use crate::table::{BlockFacts, EdgeFacts};
+use cfg::{Broken, lower};
+use linear::Fact;
+use lists::{OutOfMemory, Seq};
+use program::{Block, Ending, Function, Program, Step};
+use std::alloc::Global;
+
+/// The facts at a block's start.
+fn start_facts(
+    alloc: Global,
+    function: &Function,
+    index: usize,
+    block: &Block,
+) -> Result<Vec<Fact>, OutOfMemory>
+    ensures { IfOk result (λ facts. facts.items ≡ start_facts function.now index block.now) }
+{
+    let inequalities = if index == 0 {
+        function.requirements.as_slice()
+    } else {
+        block.keeps.as_slice()
+    };
+    let sums = differences_of(alloc, &[], inequalities)?;
+    let mut facts = Vec::new(alloc);
+    push_facts(alloc, &mut facts, &sums)?;
+    Ok(facts)
+}
+
+/// Goes over a step: judges it, counts the facts that are known at it, and adds what it makes known.
+fn walk_step(
+    alloc: Global,
+    program: &Program,
+    function: &Function,
+    facts: &mut Vec<Fact>,
+    counts: &mut Vec<usize>,
+    step: &Step,
+) -> Result<Option<Broken>, OutOfMemory>
+    ensures known { OnOk result (facts.new.items ≡ after_step program.now.functions facts.old.items step.now) }
+    ensures count { OnOk result (counts.new.items ≡ counts.old.items ++ length (with_shows facts.old.items step.now.shows) ∷ []) }
+    ensures named { IfOk result (IsNamed (IsStepBroken program.now function.now facts.old.items step.now)) }
+{
+    let unshown = push_shows(alloc, facts, step.shows.as_slice())?;
+    counts.push(facts.len())?;
+    let owed = owed(alloc, program, function, &step.instruction)?;
+    let unmet = unmet_fault(alloc, facts.as_slice(), step.line, &owed)?;
+    let functions = program.functions.as_slice();
+    let learned = learned(alloc, functions, facts.as_slice(), &step.instruction)?;
+    push_facts(alloc, facts, &learned)?;
+    Ok(lower(unshown, unmet))
+}
+
+/// Goes over the steps of a block, and answers how many facts are known at each.
+fn walk_steps(
+    alloc: Global,
+    program: &Program,
+    function: &Function,
+    facts: &mut Vec<Fact>,
+    steps: &[Step],
+) -> Result<(Vec<usize>, Option<Broken>), OutOfMemory>
+    ensures walked { IfOk result (λ r. IsWalked program.now.functions facts.old.items steps.now r.0.items facts.new.items) }
+    ensures named { IfOk result (λ r. IsNamed (λ (b : Broken). (i : ℕ) × (step : Step) × (slice_get steps.now i ≡ Some step) × IsStepBroken program.now function.now (facts_before program.now.functions facts.old.items steps.now i) step b) r.1) }
+{
+    let mut counts: Vec<usize> = Vec::new(alloc);
+    let mut named: Option<Broken> = None;
+    for step in steps {
+        let broken = walk_step(alloc, program, function, facts, &mut counts, step)?;
+        named = lower(named, broken);
+    }
+    Ok((counts, named))
+}
+
+/// Goes over a block's terminator: judges it, and answers its edges.
+fn walk_ending(
+    alloc: Global,
+    function: &Function,
+    index: usize,
+    block: &Block,
+    ending: &Ending,
+    facts: &mut Vec<Fact>,
+) -> Result<(Vec<EdgeFacts>, Option<Broken>), OutOfMemory>
+    ensures known { OnOk result (facts.new.items ≡ with_shows facts.old.items ending.now.shows) }
+    ensures edges { IfOk result (λ r. r.0.items ≡ edges_behind function.now index block.now facts.new.items (Some ending.now)) }
+    ensures named { IfOk result (λ r. IsNamed (IsEndUnmetAt function.now facts.old.items r.0.items (Some ending.now)) r.1) }
+{
+    let unshown = push_shows(alloc, facts, ending.shows.as_slice())?;
+    let owed = owed_at_end(alloc, function, &ending.terminator)?;
+    let unmet = unmet_fault(alloc, facts.as_slice(), ending.line, &owed)?;
+    let sums = edges_out(alloc, block.steps.as_slice(), &ending.terminator)?;
+    let blocks = function.blocks.as_slice();
+    let edges = all_edge_facts(alloc, blocks, index, facts.as_slice(), &sums)?;
+    let unkept = edges_fault(alloc, blocks, ending.line, &edges)?;
+    Ok((edges, lower(unshown, lower(unmet, unkept))))
+}
+
+/// Goes over the end of a block: judges it, and answers its edges.
+fn walk_end(
+    alloc: Global,
+    function: &Function,
+    index: usize,
+    block: &Block,
+    facts: &mut Vec<Fact>,
+) -> Result<(Vec<EdgeFacts>, Option<Broken>), OutOfMemory>
+    ensures known { OnOk result (facts.new.items ≡ with_shows facts.old.items (ending_shows block.now.ending)) }
+    ensures edges { IfOk result (λ r. r.0.items ≡ edges_behind function.now index block.now facts.new.items block.now.ending) }
+    ensures named { IfOk result (λ r. IsNamed (IsEndUnmetAt function.now facts.old.items r.0.items block.now.ending) r.1) }
+{
+    match &block.ending {
+        Some(ending) => walk_ending(alloc, function, index, block, ending, facts),
+        None => Ok((Vec::new(alloc), None)),
+    }
+}
+
+/// What is known in a block, and what is broken there.
+pub fn block_facts(
+    alloc: Global,
+    program: &Program,
+    function: &Function,
+    index: usize,
+    block: &Block,
+) -> Result<(BlockFacts, Option<Broken>), OutOfMemory>
+    ensures table { IfOk result (λ r. IsBlockTable program.now.functions function.now index block.now r.0) }
+    ensures named { IfOk result (λ r. IsNamed (IsBlockBroken program.now function.now index block.now) r.1) }
+{
+    let mut facts = start_facts(alloc, function, index, block)?;
+    let steps = block.steps.as_slice();
+    let (counts, at_steps) = walk_steps(alloc, program, function, &mut facts, steps)?;
+    let (edges, at_end) = walk_end(alloc, function, index, block, &mut facts)?;
+    let table = BlockFacts {
+        facts: Seq::from_vec(facts),
+        counts: Seq::from_vec(counts),
+        edges: Seq::from_vec(edges),
+    };
+    Ok((table, lower(at_steps, at_end)))
+}
