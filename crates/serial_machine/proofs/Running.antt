@@ -39,22 +39,22 @@ local_at f [] d n i h =
     let z : d ≡ 0 = omega arith in
     rw z refl
 local_at f (g ∷ rest) d n i h = elim (eqb_tells d (length (g ∷ rest))) [
-    | inl s ↦ let k = path_long (g ∷ rest) in let own : above (path_on (g ∷ rest)) d ≡ path_on (g ∷ rest) = above_self (path_on (g ∷ rest)) d (s.1 ∙ sym k) in rw (s.0, own, same_path_itself (path_on (g ∷ rest))) refl
-    | inr s ↦
-        let k = path_long rest in
-        let less : d ≤ length rest = let ne = s.1 in omega (arith, h, ne) in
-        let up : above (path_on (g ∷ rest)) d ≡ above (path_on rest) d = above_child (g.made - 1) (path_on rest) d (omega (arith, k, less)) in
-        let long = above_long (path_on rest) d (omega (arith, k, less)) in
-        let other : same_path (path_on (g ∷ rest)) (above (path_on rest) d) ≡ false = same_path_apart (path_on (g ∷ rest)) (above (path_on rest) d) (λ e. let m : suc (length (path_on rest)) ≡ length (above (path_on rest) d) = ap length e in omega (arith, m, long, k, less)) in
-        rw (s.0, up, other) (local_at g rest d n i less)
-  ]
+  | inl s ↦ let k = path_long (g ∷ rest) in let own : above (path_on (g ∷ rest)) d ≡ path_on (g ∷ rest) = above_self (path_on (g ∷ rest)) d (s.1 ∙ sym k) in rw (s.0, own, same_path_itself (path_on (g ∷ rest))) refl
+  | inr s ↦
+      let k = path_long rest in
+      let less : d ≤ length rest = let ne = s.1 in omega (arith, h, ne) in
+      let up : above (path_on (g ∷ rest)) d ≡ above (path_on rest) d = above_child (g.made - 1) (path_on rest) d (omega (arith, k, less)) in
+      let long = above_long (path_on rest) d (omega (arith, k, less)) in
+      let other : same_path (path_on (g ∷ rest)) (above (path_on rest) d) ≡ false = same_path_apart (path_on (g ∷ rest)) (above (path_on rest) d) (λ e. let m : suc (length (path_on rest)) ≡ length (above (path_on rest) d) = ap length e in omega (arith, m, long, k, less)) in
+      rw (s.0, up, other) (local_at g rest d n i less)
+]
 
 object_pushed : (f : Frame) (below : List Frame) (globals : List NamedCells) → IsUndefined f → (o : Object) (i : ℕ) → object_cell (f ∷ below) globals o i ≡ object_cell below globals o i
 object_pushed f below globals none (Shared g) i = refl
 object_pushed f below globals none (Local owner n) i = elim (same_path_tells (path_on below) owner) [
-    | inl s ↦ rw (s.0) (none n i ∙ sym (local_far below owner n i (let k = path_long below in let e : length (path_on below) ≡ length owner = ap length s.1 in omega (arith, k, e))))
-    | inr s ↦ rw (s.0) refl
-  ]
+  | inl s ↦ rw (s.0) (none n i ∙ sym (local_far below owner n i (let k = path_long below in let e : length (path_on below) ≡ length owner = ap length s.1 in omega (arith, k, e))))
+  | inr s ↦ rw (s.0) refl
+]
 
 -- a frame without defined cells changes no cell, where it comes or goes
 pub memory_pushed : (f : Frame) (below : List Frame) (globals : List NamedCells) → IsUndefined f → memory_of (f ∷ below) globals ≡ memory_of below globals
@@ -63,9 +63,9 @@ memory_pushed f below globals none = λ i c. object_pushed f below globals none 
 object_popped : (f : Frame) (below : List Frame) (globals : List NamedCells) (o : Object) (i : ℕ) → override (clears (path_on below) (record { object = o; index = i })) (object_cell (f ∷ below) globals o i) ≡ object_cell below globals o i
 object_popped f below globals (Shared g) i = refl
 object_popped f below globals (Local owner n) i = elim (same_path_tells (path_on below) owner) [
-    | inl s ↦ rw (s.0) (sym (local_far below owner n i (let k = path_long below in let e : length (path_on below) ≡ length owner = ap length s.1 in omega (arith, k, e))))
-    | inr s ↦ rw (s.0) refl
-  ]
+  | inl s ↦ rw (s.0) (sym (local_far below owner n i (let k = path_long below in let e : length (path_on below) ≡ length owner = ap length s.1 in omega (arith, k, e))))
+  | inr s ↦ rw (s.0) refl
+]
 
 -- the cells of a frame that returns are gone
 pub memory_popped : (f : Frame) (below : List Frame) (globals : List NamedCells) → cleared (path_on below) (memory_of (f ∷ below) globals) ≡ memory_of below globals
