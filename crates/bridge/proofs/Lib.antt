@@ -4,3 +4,4 @@ pub mod Costs
 pub mod ShownCosts
 pub mod Depths
 pub mod Serially
+pub mod PairCosts

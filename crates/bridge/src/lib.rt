@@ -4,13 +4,20 @@
 //! - `Costs`: the rules on cost as inequalities at frames; what a frame may still use, and the rank that falls.
 //! - `Edges`: operands put in for phis and parameters. `ShownCosts`: the rules on cost as the facts of a place show them.
 //! - `Depths`: what the table of depths owes; how deep a frame may reach.
-//! - `Serially`: what both give of the serial run.
+//! - `Serially`: what both give of the serial run. `PairCosts`: a sample.
 #![tactic(auto)]
 
+ghost use Rattle.bridge.specs.PairCosts.{PairWithinTables};
 ghost use Rattle.bridge.specs.Serially.{SerialRunWithinTables};
 
 /// Where the facts of each place show the rules on cost and are true of the registers, the depths are those of a table, and what the
 /// other phases keep rules out traps, the serial run ends within the cost and the depth that the tables say of `main`.
 pub fn serial_run_within_tables()
     ensures { SerialRunWithinTables }
+{}
+
+/// The sample program `pair` meets these rules by its own annotations, with no fact at any place: its serial run is within 14
+/// instructions and 2 frames.
+pub fn pair_within_tables()
+    ensures { PairWithinTables }
 {}
