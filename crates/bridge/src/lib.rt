@@ -8,12 +8,18 @@
 #![tactic(auto)]
 
 ghost use Rattle.bridge.specs.PairCosts.{PairWithinTables};
-ghost use Rattle.bridge.specs.Serially.{SerialRunWithinTables};
+ghost use Rattle.bridge.specs.Serially.{SchedulesWithinTables, SerialRunWithinTables};
 
 /// Where the facts of each place show the rules on cost and are true of the registers, the depths are those of a table, and what the
 /// other phases keep rules out traps, the serial run ends within the cost and the depth that the tables say of `main`.
 pub fn serial_run_within_tables()
     ensures { SerialRunWithinTables }
+{}
+
+/// The schedule theorem with the tables' cost and depth of `main` for its budget and depth, where the conditions on zones and regions
+/// hold too.
+pub fn schedules_within_tables()
+    ensures { SchedulesWithinTables }
 {}
 
 /// The sample program `pair` meets these rules by its own annotations, with no fact at any place: its serial run is within 14
