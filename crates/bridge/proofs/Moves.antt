@@ -288,6 +288,63 @@ item_ends prog p f m None = tt
 item_ends prog p f m (Some (Does i)) = instruction_stays prog p f m i
 item_ends prog p f m (Some (Ends t)) = terminator_ends prog p f t
 
+-- ---- what a return gives
+
+-- nothing, or the operand's number
+abbrev pub GivenBack : Terminator → Option ℤ → Type 0
+GivenBack (terminator.Jump target) v = ⊥
+GivenBack (terminator.Branch test x y) v = ⊥
+GivenBack (terminator.Switch w a default cases) v = ⊥
+GivenBack (terminator.Return None) v = v ≡ None
+GivenBack (terminator.Return (Some a)) v = is_some v ≡ true
+GivenBack (terminator.Detach region body continuation) v = ⊥
+GivenBack (terminator.Reattach region continuation) v = ⊥
+GivenBack (terminator.Sync region target) v = ⊥
+
+abbrev GivesBy : Terminator → Action → Type 0
+GivesBy t (Plain e) = Unit {0}
+GivesBy t (Detach r b k) = Unit {0}
+GivesBy t (Reattach r) = Unit {0}
+GivesBy t (Sync r b rs) = Unit {0}
+GivesBy t (Call d g vs) = Unit {0}
+GivesBy t (Return v) = GivenBack t v
+
+module _ (f : Frame) (t : Terminator) where
+  chosen_gives : (a other : Action) → GivesBy t a → GivesBy t other → (b : Bool) → GivesBy t (cond b a other)
+  chosen_gives a other h k true = h
+  chosen_gives a other h k false = k
+
+  owned_gives : (p : Path) (a : Action) → GivesBy t a → (o : Option Path) → GivesBy t (if_own p f a o)
+  owned_gives p a h None = tt
+  owned_gives p a h (Some owner) = chosen_gives a (traps Unmatched f) h tt (same_path owner p)
+
+  sync_gives : (region target : ℕ) (o : Option Registers) → GivesBy t (syncs f region target o)
+  sync_gives region target None = tt
+  sync_gives region target (Some r) = tt
+
+  return_gives : (v : Option ℤ) → GivenBack t v → (role : Role) → GivesBy t (returns f role v)
+  return_gives v h (Child r c) = tt
+  return_gives v h Body = h
+
+  value_gives : ((z : ℤ) → GivenBack t (Some z)) → (o : Option ℤ) → GivesBy t (returns_value f o)
+  value_gives h None = tt
+  value_gives h (Some z) = return_gives (Some z) (h z) f.role
+
+  reattach_gives : (region continuation : ℕ) (role : Role) → GivesBy t (reattaches f region continuation role)
+  reattach_gives region continuation Body = tt
+  reattach_gives region continuation (Child r c) = chosen_gives (Reattach region) (traps Unmatched f) tt tt (eqb r region && eqb c continuation)
+
+terminator_gives : (prog : Program) (p : Path) (f : Frame) (t : Terminator) → GivesBy t (terminator_action prog p f t)
+terminator_gives prog p f (terminator.Jump target) = tt
+terminator_gives prog p f (terminator.Branch test x y) = tt
+terminator_gives prog p f (terminator.Switch w a default cases) = tt
+terminator_gives prog p f (terminator.Return None) = return_gives f (terminator.Return None) None refl f.role
+terminator_gives prog p f (terminator.Return (Some a)) = value_gives f (terminator.Return (Some a)) (λ z. refl) (word_at f.registers a)
+terminator_gives prog p f (terminator.Detach region body continuation) = owned_gives f (terminator.Detach region body continuation) p (Detach region.0 body.0 continuation.0) tt (region_of (f.registers region.0))
+terminator_gives prog p f (terminator.Reattach region continuation) = reattach_gives f (terminator.Reattach region continuation) region.0 continuation.0 f.role
+terminator_gives prog p f (terminator.Sync region target) =
+    owned_gives f (terminator.Sync region target) p (syncs f region.0 target.0 (registers_along prog f target.0)) (sync_gives f (terminator.Sync region target) region.0 target.0 (registers_along prog f target.0)) (region_of (f.registers region.0))
+
 -- ---- what stands at a place
 
 abbrev OfItem : Program → Frame → Option Item → Action → Type 0
@@ -399,3 +456,9 @@ module _ (prog : Program) (p : Path) (f : Frame) (m : Memory) where
       from None is h = absurd (no_item a ending h)
       from (Some (Does i)) is h = absurd (no_step a i ending h)
       from (Some (Ends t)) is h = (t, is, by_action a t ending h)
+
+  pub returns_here : (v : Option ℤ) → action_of prog p f m ≡ Return v → (t : Terminator) × (item_at prog f.function f.block f.index ≡ Some (Ends t)) × GivenBack t v
+  returns_here v at =
+      let (t, is, ends) = ends_here (Return v) tt at in
+      let same : terminator_action prog p f t ≡ Return v = sym (ap (λ o. item_action prog p f m o) is) ∙ at in
+      (t, is, subst (λ a. GivesBy t a) same (terminator_gives prog p f t))
