@@ -331,11 +331,11 @@ module _ (prog : Program) (fits : Frame → Type 0) (rules : CostRules prog fits
 
   plain_costed : (f : Frame) (e : Effect) → IsCosted prog f → fits (went f e) → Moves prog f e → IsCosted prog (went f e)
   plain_costed f e good fit_h (is_next i at on) = after_costed f (went f e) i (went_after f e i at on) good
-  plain_costed f e good fit_h (is_along t at on) = started f (went f e) good (entered f e on) fit_h on.index
+  plain_costed f e good fit_h (is_along t at to on) = started f (went f e) good (entered f e on) fit_h on.index
 
   plain_pays : (p : Path) (f : Frame) (m : Memory) (e : Effect) → fits f → IsCosted prog f → fits (went f e) → action_of prog p f m ≡ Plain e → e.trap ≡ None → Moves prog f e → Pays (may_use prog f) (may_use prog (went f e))
   plain_pays p f m e fit_f good fit_h at fine (is_next i here on) = step_pays f (went f e) i (went_after f e i here on)
-  plain_pays p f m e fit_f good fit_h at fine (is_along t here on) =
+  plain_pays p f m e fit_f good fit_h at fine (is_along t here to on) =
       edge_pays f (went f e) (entered f e on) on.index (started f (went f e) good (entered f e on) fit_h on.index) (rules.edge p f m e t fit_f here at fine)
 
   edge_below : (f h : Frame) → Kin f h → SomeLeft prog h → Covers prog f h → Below (rank_of prog h) (rank_of prog f)
@@ -345,7 +345,7 @@ module _ (prog : Program) (fits : Frame → Type 0) (rules : CostRules prog fits
 
   plain_below : (p : Path) (f : Frame) (m : Memory) (e : Effect) → fits f → IsCosted prog f → fits (went f e) → action_of prog p f m ≡ Plain e → e.trap ≡ None → Moves prog f e → Below (rank_of prog (went f e)) (rank_of prog f)
   plain_below p f m e fit_f good fit_h at fine (is_next i here on) = step_below f (went f e) i (went_after f e i here on)
-  plain_below p f m e fit_f good fit_h at fine (is_along t here on) = edge_below f (went f e) (entered f e on) (rules.some_left (went f e) fit_h on.index) (rules.edge p f m e t fit_f here at fine)
+  plain_below p f m e fit_f good fit_h at fine (is_along t here to on) = edge_below f (went f e) (entered f e on) (rules.some_left (went f e) fit_h on.index) (rules.edge p f m e t fit_f here at fine)
 
   sync_kin : (p : Path) (f : Frame) (m : Memory) (r b : ℕ) (rs : Registers) → action_of prog p f m ≡ Sync r b rs → Kin f (synced f r b rs)
   sync_kin p f m r b rs at = entered_kin f (synced f r b rs) b refl (syncs_along prog p f m r b rs at)
@@ -484,7 +484,7 @@ module _ (prog : Program) (fits : Frame → Type 0) (rules : CostRules prog fits
 
   pub plain_measure : (f : Frame) (e : Effect) → Moves prog f e → measure_at prog (went f e) ≡ measure_at prog f
   plain_measure f e (is_next i at on) = after_measure f (went f e) i (went_after f e i at on)
-  plain_measure f e (is_along t at on) = kin_measure f (went f e) (entered f e on)
+  plain_measure f e (is_along t at to on) = kin_measure f (went f e) (entered f e on)
 
   pub sync_measure : (p : Path) (f : Frame) (m : Memory) (r b : ℕ) (rs : Registers) → action_of prog p f m ≡ Sync r b rs → measure_at prog (synced f r b rs) ≡ measure_at prog f
   sync_measure p f m r b rs at = kin_measure f (synced f r b rs) (sync_kin p f m r b rs at)

@@ -14,7 +14,7 @@ use Rattle.program.specs.declared.function.Program.{Program}
 use Rattle.bridge.specs.Moves.{Moves, is_next, is_along, Calls}
 use Rattle.bridge.specs.Costs.{bound_of, natural, measure_at, IsEntry, CostRules}
 use Rattle.bridge.specs.Depths.{Levels, DepthTable, may_reach}
-use Rattle.bridge.proofs.Moves.{moves, calls_here, item_there}
+use Rattle.bridge.proofs.Moves.{moves, sync_here, calls_here, forks_here, item_there}
 use Rattle.bridge.proofs.Costs.{plain_measure, sync_measure, resumed_measure, entry_bound, lower}
 
 block_there : (o : Option Block) (index : ℕ) (x : Item) → and_then o (λ (b : Block). item_of b.steps b.ending index) ≡ Some x → (b : Block) × (o ≡ Some b)
@@ -54,7 +54,7 @@ module _ (prog : Program) (fits : Frame → Type 0) (rules : CostRules prog fits
 
   plain_reach : (p : Path) (f : Frame) (m : Memory) (e : Effect) → action_of prog p f m ≡ Plain e → e.trap ≡ None → Moves prog f e → may_reach prog level depth (went f e) ≤ may_reach prog level depth f
   plain_reach p f m e at fine (is_next i here on) = same_reach f (went f e) refl (ap (λ b. level f.function b) on.block) (plain_measure prog fits rules base fit f e (is_next i here on))
-  plain_reach p f m e at fine (is_along t here on) = same_reach f (went f e) refl (levels.edge p f m e t here at fine) (plain_measure prog fits rules base fit f e (is_along t here on))
+  plain_reach p f m e at fine (is_along t here to on) = same_reach f (went f e) refl (levels.along f.function f.block f.index e.block t here to) (plain_measure prog fits rules base fit f e (is_along t here to on))
 
   -- the table counts the block of an instruction that is no plain one
   counted : (p : Path) (f : Frame) (m : Memory) (a : Action) → action_of prog p f m ≡ a → ((e : Effect) → a ≡ Plain e → ⊥) → level f.function f.block + 1 ≤ depth f.function (natural (measure_at prog f))
@@ -91,11 +91,16 @@ module _ (prog : Program) (fits : Frame → Type 0) (rules : CostRules prog fits
   pub depths_stay : StaysInDepth prog base (may_reach prog level depth)
   depths_stay = record {
     plain_reach = λ p f m e b at fine nb. plain_reach p f m e at fine (moves prog p f m e at fine);
-    sync_reach = λ p f m r t rs b at nb. same_reach f (synced f r t rs) refl (levels.sync p f m r t rs at) (sync_measure prog fits rules base fit p f m r t rs at);
+    sync_reach = λ p f m r t rs b at nb.
+        let (u, is, to) = sync_here prog p f m r t rs at in
+        same_reach f (synced f r t rs) refl (levels.sync f.function f.block f.index r t u is to) (sync_measure prog fits rules base fit p f m r t rs at);
     child_reach = λ p f m r body next b at nb.
-        let up = levels.body p f m r body next at in
+        let c = forks_here prog p f m r body next at in
+        let up : level f.function body ≡ suc (level f.function f.block) = subst (λ n. level f.function n ≡ suc (level f.function f.block)) c.body_is (levels.body f.function f.block f.index c.region c.body c.continuation c.is) in
         rw up (one_less (depth f.function (natural (measure_at prog f))) (level f.function f.block) (counted p f m (Detach r body next) at (λ e h. cc)));
-    continued_reach = λ p f m n r body next b at nb. same_reach f (continued f next) refl (levels.continuation p f m r body next at) refl;
+    continued_reach = λ p f m n r body next b at nb.
+        let c = forks_here prog p f m r body next at in
+        same_reach f (continued f next) refl (subst (λ k. level f.function k ≡ level f.function f.block) c.continuation_is (levels.continuation f.function f.block f.index c.region c.body c.continuation c.is)) refl;
     callee_reach = λ p f m d g vs b at nb.
         let few = call_counted p f m d g vs (fit p f m b) at (fit (f.made ∷ p) _ _ nb) (calls_here prog p f m d g vs at) in
         let less : depth g (natural (measure_at prog (called p f g vs))) < depth f.function (natural (measure_at prog f)) - level f.function f.block =

@@ -1,5 +1,8 @@
 -- What instructions that do not trap leave of their frames.
-use Rattle.std.proofs.Common.{◌≡◌, ◌≢◌, ℕ, List, Option, Some, None, Bool, true, false, cond, ◌&&◌, eqb, eq-eqb, inl, inr, refl, sym, ap, ◌∙◌, subst, is_some, ℤ}
+use Rattle.std.proofs.Common.{◌≡◌, ◌≢◌, ℕ, List, Option, Some, None, Bool, true, false, cond, ◌&&◌, eqb, eq-eqb, inl, inr, refl, sym, ap, ◌∙◌, subst, is_some, ℤ, ◌⊎◌, [], ◌∷◌}
+use Rattle.std.specs.List.{Contains}
+use Rattle.std.specs.Ordering.{int_eq}
+use Rattle.std.proofs.lemmas.List.Elements.{Contains-append_left, Contains-append_right, Contains-push}
 use Rattle.std.proofs.lemmas.Bool.Decides.{eqb_tells}
 use Rattle.machine_core.specs.Paths.{Path, same_path}
 use Rattle.machine_core.specs.Cells.{Object, Cell, Memory}
@@ -11,11 +14,12 @@ use Rattle.program.specs.declared.identifier.BlockId.{BlockId}
 use Rattle.program.specs.declared.identifier.FunctionId.{FunctionId}
 use Rattle.program.specs.declared.function.Program.{Program}
 use Rattle.program.specs.declared.instruction.Argument.{Argument}
+use Rattle.program.specs.declared.instruction.Case.{Case}
 use Rattle.program.specs.declared.instruction.Instruction.{Instruction}
 use Rattle.program.specs.declared.instruction.Instruction.TheVariants as instruction
 use Rattle.program.specs.declared.instruction.Terminator.{Terminator}
 use Rattle.program.specs.declared.instruction.Terminator.TheVariants as terminator
-use Rattle.bridge.specs.Moves.{dest_of, GoesOn, Enters, Moves, is_next, is_along, Calls, Forks, EndsFrame}
+use Rattle.bridge.specs.Moves.{dest_of, GoesOn, Enters, Moves, is_next, is_along, Calls, Forks, EndsFrame, JumpsTo, SyncsTo}
 
 -- ---- instructions
 
@@ -104,58 +108,83 @@ by_instruction prog p f m (instruction.StartRegion d) = λ fine. sets_goes f d _
 
 -- ---- terminators
 
-abbrev OfTerminator : Program → Frame → Action → Type 0
-OfTerminator prog f (Plain e) = e.trap ≡ None → Enters prog f e
-OfTerminator prog f (Sync r b rs) = registers_along prog f b ≡ Some rs
-OfTerminator prog f (Call d callee values) = ⊥
-OfTerminator prog f (Detach r b k) = Unit {0}
-OfTerminator prog f (Reattach r) = Unit {0}
-OfTerminator prog f (Return v) = Unit {0}
+record Jumped (prog : Program) (f : Frame) (t : Terminator) (e : Effect) : Type 0 where
+  to : JumpsTo t e.block
+  on : Enters prog f e
 
-module _ (prog : Program) (f : Frame) where
-  trapped : (t : Trap) → OfTerminator prog f (traps t f)
-  trapped t = λ fine. no_trap t fine
+record Synced (prog : Program) (f : Frame) (t : Terminator) (r b : ℕ) (rs : Registers) : Type 0 where
+  to : SyncsTo t r b
+  along : registers_along prog f b ≡ Some rs
 
-  jumps_enter : (target : ℕ) → (jumps prog f target).trap ≡ None → Enters prog f (jumps prog f target)
-  jumps_enter target fine = from (registers_along prog f target) refl fine
+abbrev OfTerminator : Program → Frame → Terminator → Action → Type 0
+OfTerminator prog f t (Plain e) = e.trap ≡ None → Jumped prog f t e
+OfTerminator prog f t (Sync r b rs) = Synced prog f t r b rs
+OfTerminator prog f t (Call d callee values) = ⊥
+OfTerminator prog f t (Detach r b k) = Unit {0}
+OfTerminator prog f t (Reattach r) = Unit {0}
+OfTerminator prog f t (Return v) = Unit {0}
+
+module _ (prog : Program) (f : Frame) (t : Terminator) where
+  trapped : (x : Trap) → OfTerminator prog f t (traps x f)
+  trapped x = λ fine. no_trap x fine
+
+  jumps_enter : (target : ℕ) → JumpsTo t target → (jumps prog f target).trap ≡ None → Jumped prog f t (jumps prog f target)
+  jumps_enter target to fine = from (registers_along prog f target) refl fine
     where
-      from : (o : Option Registers) → registers_along prog f target ≡ o → (given f o (enters f target)).trap ≡ None → Enters prog f (given f o (enters f target))
+      from : (o : Option Registers) → registers_along prog f target ≡ o → (given f o (enters f target)).trap ≡ None → Jumped prog f t (given f o (enters f target))
       from None is fine = no_trap Undefined fine
-      from (Some r) is fine = record { index = refl; along = is }
+      from (Some r) is fine = record { to = to; on = record { index = refl; along = is } }
 
-  chosen : (a other : Action) → OfTerminator prog f a → OfTerminator prog f other → (b : Bool) → OfTerminator prog f (cond b a other)
+  chosen : (a other : Action) → OfTerminator prog f t a → OfTerminator prog f t other → (b : Bool) → OfTerminator prog f t (cond b a other)
   chosen a other h k true = h
   chosen a other h k false = k
 
-  owned : (p : Path) (a : Action) → OfTerminator prog f a → (o : Option Path) → OfTerminator prog f (if_own p f a o)
+  owned : (p : Path) (a : Action) → OfTerminator prog f t a → (o : Option Path) → OfTerminator prog f t (if_own p f a o)
   owned p a h None = trapped Undefined
   owned p a h (Some owner) = chosen a (traps Unmatched f) h (trapped Unmatched) (same_path owner p)
 
-  by_sync : (region target : ℕ) (o : Option Registers) → registers_along prog f target ≡ o → OfTerminator prog f (syncs f region target o)
-  by_sync region target None is = trapped Undefined
-  by_sync region target (Some r) is = is
+  by_sync : (region target : ℕ) → SyncsTo t region target → (o : Option Registers) → registers_along prog f target ≡ o → OfTerminator prog f t (syncs f region target o)
+  by_sync region target to None is = trapped Undefined
+  by_sync region target to (Some r) is = record { to = to; along = is }
 
-  by_return : (role : Role) (v : Option ℤ) → OfTerminator prog f (returns f role v)
+  by_return : (role : Role) (v : Option ℤ) → OfTerminator prog f t (returns f role v)
   by_return (Child r c) v = trapped Unmatched
   by_return Body v = tt
 
-  by_value : (o : Option ℤ) → OfTerminator prog f (returns_value f o)
+  by_value : (o : Option ℤ) → OfTerminator prog f t (returns_value f o)
   by_value None = trapped Undefined
   by_value (Some z) = by_return f.role (Some z)
 
-  by_reattach : (region continuation : ℕ) (role : Role) → OfTerminator prog f (reattaches f region continuation role)
+  by_reattach : (region continuation : ℕ) (role : Role) → OfTerminator prog f t (reattaches f region continuation role)
   by_reattach region continuation Body = trapped Unmatched
   by_reattach region continuation (Child r c) = chosen (Reattach region) (traps Unmatched f) tt (trapped Unmatched) (eqb r region && eqb c continuation)
 
-  by_terminator : (p : Path) (t : Terminator) → OfTerminator prog f (terminator_action prog p f t)
-  by_terminator p (terminator.Jump target) = λ fine. jumps_enter target.0 fine
-  by_terminator p (terminator.Branch test x y) = λ fine. given_case (λ e. Enters prog f e) f (truth_of (f.registers test.0)) _ (λ b is fine2. jumps_enter (cond b x.0 y.0) fine2) fine
-  by_terminator p (terminator.Switch w a default cases) = λ fine. given_case (λ e. Enters prog f e) f (word_at f.registers a) _ (λ z is fine2. jumps_enter (case_for z default.0 cases) fine2) fine
-  by_terminator p (terminator.Return None) = by_return f.role None
-  by_terminator p (terminator.Return (Some a)) = by_value (word_at f.registers a)
-  by_terminator p (terminator.Detach region body continuation) = owned p _ tt (region_of (f.registers region.0))
-  by_terminator p (terminator.Reattach region continuation) = by_reattach region.0 continuation.0 f.role
-  by_terminator p (terminator.Sync region target) = owned p _ (by_sync region.0 target.0 (registers_along prog f target.0) refl) (region_of (f.registers region.0))
+branch_to : (test : RegisterId) (x y : BlockId) (b : Bool) → JumpsTo (terminator.Branch test x y) (cond b x.0 y.0)
+branch_to test x y true = inl refl
+branch_to test x y false = inr refl
+
+-- the case that is taken is one of the cases, or the default
+case_to : (z : ℤ) (default : BlockId) (cases : List Case) → (default.0 ≡ case_for z default.0 cases) ⊎ ((c : Case) × Contains cases c × (c.target.0 ≡ case_for z default.0 cases))
+case_to z default [] = inl refl
+case_to z default (c ∷ cases) = from (int_eq z c.number) (case_to z default cases)
+  where
+    from : (b : Bool) → (default.0 ≡ case_for z default.0 cases) ⊎ ((d : Case) × Contains cases d × (d.target.0 ≡ case_for z default.0 cases)) →
+        (default.0 ≡ cond b c.target.0 (case_for z default.0 cases)) ⊎ ((d : Case) × Contains (c ∷ cases) d × (d.target.0 ≡ cond b c.target.0 (case_for z default.0 cases)))
+    from true h = inr (c, Contains-append_left (c ∷ []) cases c (Contains-push [] c), refl)
+    from false h = elim h [ inl e ↦ inl e | inr e ↦ inr (e.0, Contains-append_right (c ∷ []) cases e.0 e.1, e.2) ]
+
+by_terminator : (prog : Program) (f : Frame) (p : Path) (t : Terminator) → OfTerminator prog f t (terminator_action prog p f t)
+by_terminator prog f p (terminator.Jump target) = λ fine. jumps_enter prog f (terminator.Jump target) target.0 refl fine
+by_terminator prog f p (terminator.Branch test x y) = λ fine.
+    given_case (λ e. Jumped prog f (terminator.Branch test x y) e) f (truth_of (f.registers test.0)) _ (λ b is fine2. jumps_enter prog f (terminator.Branch test x y) (cond b x.0 y.0) (branch_to test x y b) fine2) fine
+by_terminator prog f p (terminator.Switch w a default cases) = λ fine.
+    given_case (λ e. Jumped prog f (terminator.Switch w a default cases) e) f (word_at f.registers a) _ (λ z is fine2. jumps_enter prog f (terminator.Switch w a default cases) (case_for z default.0 cases) (case_to z default cases) fine2) fine
+by_terminator prog f p (terminator.Return None) = by_return prog f (terminator.Return None) f.role None
+by_terminator prog f p (terminator.Return (Some a)) = by_value prog f (terminator.Return (Some a)) (word_at f.registers a)
+by_terminator prog f p (terminator.Detach region body continuation) = owned prog f (terminator.Detach region body continuation) p _ tt (region_of (f.registers region.0))
+by_terminator prog f p (terminator.Reattach region continuation) = by_reattach prog f (terminator.Reattach region continuation) region.0 continuation.0 f.role
+by_terminator prog f p (terminator.Sync region target) =
+    owned prog f (terminator.Sync region target) p _ (by_sync prog f (terminator.Sync region target) region.0 target.0 (refl, refl) (registers_along prog f target.0) refl) (region_of (f.registers region.0))
 
 -- ---- which terminators leave or fork a frame
 
@@ -259,12 +288,69 @@ item_ends prog p f m None = tt
 item_ends prog p f m (Some (Does i)) = instruction_stays prog p f m i
 item_ends prog p f m (Some (Ends t)) = terminator_ends prog p f t
 
+-- ---- what a return gives
+
+-- nothing, or the operand's number
+abbrev pub GivenBack : Terminator → Option ℤ → Type 0
+GivenBack (terminator.Jump target) v = ⊥
+GivenBack (terminator.Branch test x y) v = ⊥
+GivenBack (terminator.Switch w a default cases) v = ⊥
+GivenBack (terminator.Return None) v = v ≡ None
+GivenBack (terminator.Return (Some a)) v = is_some v ≡ true
+GivenBack (terminator.Detach region body continuation) v = ⊥
+GivenBack (terminator.Reattach region continuation) v = ⊥
+GivenBack (terminator.Sync region target) v = ⊥
+
+abbrev GivesBy : Terminator → Action → Type 0
+GivesBy t (Plain e) = Unit {0}
+GivesBy t (Detach r b k) = Unit {0}
+GivesBy t (Reattach r) = Unit {0}
+GivesBy t (Sync r b rs) = Unit {0}
+GivesBy t (Call d g vs) = Unit {0}
+GivesBy t (Return v) = GivenBack t v
+
+module _ (f : Frame) (t : Terminator) where
+  chosen_gives : (a other : Action) → GivesBy t a → GivesBy t other → (b : Bool) → GivesBy t (cond b a other)
+  chosen_gives a other h k true = h
+  chosen_gives a other h k false = k
+
+  owned_gives : (p : Path) (a : Action) → GivesBy t a → (o : Option Path) → GivesBy t (if_own p f a o)
+  owned_gives p a h None = tt
+  owned_gives p a h (Some owner) = chosen_gives a (traps Unmatched f) h tt (same_path owner p)
+
+  sync_gives : (region target : ℕ) (o : Option Registers) → GivesBy t (syncs f region target o)
+  sync_gives region target None = tt
+  sync_gives region target (Some r) = tt
+
+  return_gives : (v : Option ℤ) → GivenBack t v → (role : Role) → GivesBy t (returns f role v)
+  return_gives v h (Child r c) = tt
+  return_gives v h Body = h
+
+  value_gives : ((z : ℤ) → GivenBack t (Some z)) → (o : Option ℤ) → GivesBy t (returns_value f o)
+  value_gives h None = tt
+  value_gives h (Some z) = return_gives (Some z) (h z) f.role
+
+  reattach_gives : (region continuation : ℕ) (role : Role) → GivesBy t (reattaches f region continuation role)
+  reattach_gives region continuation Body = tt
+  reattach_gives region continuation (Child r c) = chosen_gives (Reattach region) (traps Unmatched f) tt tt (eqb r region && eqb c continuation)
+
+terminator_gives : (prog : Program) (p : Path) (f : Frame) (t : Terminator) → GivesBy t (terminator_action prog p f t)
+terminator_gives prog p f (terminator.Jump target) = tt
+terminator_gives prog p f (terminator.Branch test x y) = tt
+terminator_gives prog p f (terminator.Switch w a default cases) = tt
+terminator_gives prog p f (terminator.Return None) = return_gives f (terminator.Return None) None refl f.role
+terminator_gives prog p f (terminator.Return (Some a)) = value_gives f (terminator.Return (Some a)) (λ z. refl) (word_at f.registers a)
+terminator_gives prog p f (terminator.Detach region body continuation) = owned_gives f (terminator.Detach region body continuation) p (Detach region.0 body.0 continuation.0) tt (region_of (f.registers region.0))
+terminator_gives prog p f (terminator.Reattach region continuation) = reattach_gives f (terminator.Reattach region continuation) region.0 continuation.0 f.role
+terminator_gives prog p f (terminator.Sync region target) =
+    owned_gives f (terminator.Sync region target) p (syncs f region.0 target.0 (registers_along prog f target.0)) (sync_gives f (terminator.Sync region target) region.0 target.0 (registers_along prog f target.0)) (region_of (f.registers region.0))
+
 -- ---- what stands at a place
 
 abbrev OfItem : Program → Frame → Option Item → Action → Type 0
 OfItem prog f None a = (e : Effect) → a ≡ Plain e → e.trap ≡ None → ⊥
 OfItem prog f (Some (Does i)) a = OfInstruction f i a
-OfItem prog f (Some (Ends t)) a = OfTerminator prog f a
+OfItem prog f (Some (Ends t)) a = OfTerminator prog f t a
 
 by_item : (prog : Program) (p : Path) (f : Frame) (m : Memory) (o : Option Item) → OfItem prog f o (item_action prog p f m o)
 by_item prog p f m None = λ e is fine. let h : (stops Unmatched f).trap ≡ e.trap = effect_trap is in no_trap Unmatched (h ∙ fine)
@@ -288,7 +374,7 @@ module _ (prog : Program) (p : Path) (f : Frame) (m : Memory) where
       from : (o : Option Item) → item_at prog f.function f.block f.index ≡ o → OfItem prog f o (Plain e) → Moves prog f e
       from None is h = absurd (h e refl fine)
       from (Some (Does i)) is h = is_next i is (h fine)
-      from (Some (Ends t)) is h = is_along t is (h fine)
+      from (Some (Ends t)) is h = is_along t is (h fine).to (h fine).on
 
   -- a sync goes along an edge too
   pub syncs_along : (r b : ℕ) (rs : Registers) → action_of prog p f m ≡ Sync r b rs → registers_along prog f b ≡ Some rs
@@ -300,15 +386,15 @@ module _ (prog : Program) (p : Path) (f : Frame) (m : Memory) where
           missing : item_at prog f.function f.block f.index ≡ None → ⊥
           missing is = let a : Plain (stops Unmatched f) ≡ Sync r b rs = sym (ap (λ o. item_action prog p f m o) is) ∙ at in cc
       from (Some (Does i)) is h = absurd h
-      from (Some (Ends t)) is h = h
+      from (Some (Ends t)) is h = h.along
 
-  pub sync_here : (r b : ℕ) (rs : Registers) → action_of prog p f m ≡ Sync r b rs → (t : Terminator) × (item_at prog f.function f.block f.index ≡ Some (Ends t))
+  pub sync_here : (r b : ℕ) (rs : Registers) → action_of prog p f m ≡ Sync r b rs → (t : Terminator) × (item_at prog f.function f.block f.index ≡ Some (Ends t)) × SyncsTo t r b
   sync_here r b rs at = from (item_at prog f.function f.block f.index) refl (here (Sync r b rs) at)
     where
-      from : (o : Option Item) → item_at prog f.function f.block f.index ≡ o → OfItem prog f o (Sync r b rs) → (t : Terminator) × (item_at prog f.function f.block f.index ≡ Some (Ends t))
+      from : (o : Option Item) → item_at prog f.function f.block f.index ≡ o → OfItem prog f o (Sync r b rs) → (t : Terminator) × (item_at prog f.function f.block f.index ≡ Some (Ends t)) × SyncsTo t r b
       from None is h = absurd (let a : Plain (stops Unmatched f) ≡ Sync r b rs = sym (ap (λ o. item_action prog p f m o) is) ∙ at in cc)
       from (Some (Does i)) is h = absurd h
-      from (Some (Ends t)) is h = (t, is)
+      from (Some (Ends t)) is h = (t, is, h.to)
 
   -- the call that stands there
   pub calls_here : (d : Option RegisterId) (callee : ℕ) (values : List Value) → action_of prog p f m ≡ Call d callee values → Calls prog f d callee values
@@ -370,3 +456,9 @@ module _ (prog : Program) (p : Path) (f : Frame) (m : Memory) where
       from None is h = absurd (no_item a ending h)
       from (Some (Does i)) is h = absurd (no_step a i ending h)
       from (Some (Ends t)) is h = (t, is, by_action a t ending h)
+
+  pub returns_here : (v : Option ℤ) → action_of prog p f m ≡ Return v → (t : Terminator) × (item_at prog f.function f.block f.index ≡ Some (Ends t)) × GivenBack t v
+  returns_here v at =
+      let (t, is, ends) = ends_here (Return v) tt at in
+      let same : terminator_action prog p f t ≡ Return v = sym (ap (λ o. item_action prog p f m o) is) ∙ at in
+      (t, is, subst (λ a. GivesBy t a) same (terminator_gives prog p f t))

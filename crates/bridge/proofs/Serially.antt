@@ -1,5 +1,5 @@
 -- What the rules on cost and depth give of the serial run.
-use Rattle.std.proofs.Common.{◌≡◌, ℕ, suc, ◌≤◌, List, [], true, refl, arith, le_trans, ℤ, pos, ◌≤ℤ◌}
+use Rattle.std.proofs.Common.{◌≡◌, ℕ, suc, ◌≤◌, List, [], true, refl, arith, le_trans, ℤ, pos, ◌≤ℤ◌, Bool}
 use Rattle.std.proofs.lemmas.Int.{ints}
 use Rattle.machine_core.specs.Paths.{Path}
 use Rattle.machine_core.specs.Cells.{Memory, globals_of}
@@ -8,12 +8,15 @@ use Rattle.machine_core.specs.State.{root_frame}
 use Rattle.machine_core.specs.SerialConditions.{Says, Finds, And, FindsBoth, Nothing}
 use Rattle.machine_core.specs.Budgets.{RunsSerially}
 use Rattle.machine_core.proofs.SerialExists.{kept_both}
+use Rattle.machine_core.specs.Conditions.{Zone, StaysInZone, PassesZonesOn, ClosesRegions}
+use Rattle.machine_core.specs.Schedules.{TestedZone, tested, RunsAsSerial}
 use Rattle.machine_core.proofs.Budgets.{serially}
+use Rattle.machine_core.proofs.EverySchedule.{schedule_theorem}
 use Rattle.linear.specs.declared.form.Fact.{Fact}
 use Rattle.program.specs.declared.function.Program.{Program}
 use Rattle.bridge.specs.Costs.{bound_of, cost_below, IsEntry, rank_of, may_use}
 use Rattle.bridge.specs.Depths.{may_reach}
-use Rattle.bridge.specs.Serially.{IsCheckedSerially, IsShownSerially, RunsWithinTables, SerialRunWithinTables}
+use Rattle.bridge.specs.Serially.{IsCheckedSerially, IsShownSerially, RunsWithinTables, SerialRunWithinTables, SchedulesWithinTables}
 use Rattle.bridge.proofs.Costs.{Costed, NoFinds, costed_kept, costs_spend, costs_run, entry_costed, entry_budget}
 use Rattle.bridge.specs.ShownCosts.{Out}
 use Rattle.bridge.proofs.ShownCosts.{costs_shown}
@@ -35,6 +38,20 @@ module _ (prog : Program) (base : Says) (post : Finds) (fits : Frame → Type 0)
     budget = costs_spend prog fits checked.costs base checked.fit;
     depth = depths_stay prog fits checked.costs Known fit_known level depth checked.levels checked.depths;
   }
+
+  -- the schedule theorem with the tables' budget and depth
+  pub schedules_within {ℓ} : (Z : Type ℓ) (zone : Z → Zone) (inside : Path → Frame → Z → Type 0) (pending : Path → Frame → ℕ → Z) (expects : Frame → Z → Type 0) (holds : Path → Frame → Type 0) (opens : Path → Frame → ℕ → Bool) →
+      StaysInZone Z zone prog inside pending → PassesZonesOn Z zone prog inside pending expects → ClosesRegions prog holds opens →
+      (arguments : List ℤ) (memory : Memory) (z : Z) → inside [] (root_frame prog arguments) z → holds [] (root_frame prog arguments) → base [] (root_frame prog arguments) (globals_of memory) →
+      RunsAsSerial prog arguments memory (cost_below prog prog.main.0 (suc (bound_of prog prog.main.0))) (depth prog.main.0 (bound_of prog prog.main.0))
+  schedules_within Z zone inside pending expects holds opens stays passes closes arguments memory z fit hold start =
+      let entry : IsEntry (root_frame prog arguments) = record { block = refl; index = refl } in
+      let at_root : fits (root_frame prog arguments) = checked.fit [] (root_frame prog arguments) (globals_of memory) start in
+      (schedule_theorem Z zone prog inside pending expects holds opens Known (FindsBoth post (NoFinds prog fits checked.costs base checked.fit)) (rank_of prog) (may_use prog) (may_reach prog level depth) stays passes closes runs_serially
+      arguments memory (cost_below prog prog.main.0 (suc (bound_of prog prog.main.0))) (depth prog.main.0 (bound_of prog prog.main.0)) z fit hold
+      (start, entry_costed prog fits checked.costs base checked.fit (root_frame prog arguments) at_root entry)
+      (entry_budget prog fits checked.costs base checked.fit (root_frame prog arguments) at_root entry)
+      (entry_reach prog fits checked.costs base checked.fit level depth checked.levels checked.depths (root_frame prog arguments) at_root entry)).0
 
   pub within_tables : (arguments : List ℤ) (memory : Memory) → base [] (root_frame prog arguments) (globals_of memory) → RunsWithinTables prog depth arguments memory
   within_tables arguments memory start =
@@ -60,3 +77,9 @@ pub serial_run_within_tables : SerialRunWithinTables
 serial_run_within_tables prog base post fits known outs level depth c arguments memory start =
     within_tables prog (λ p f m. base p f m ≡ true) (λ p f m o. post p f m o ≡ true) (λ f. fits f ≡ true) level depth
     (by_shown prog (λ p f m. base p f m ≡ true) (λ p f m o. post p f m o ≡ true) (λ f. fits f ≡ true) known outs level depth c) arguments memory start
+
+pub schedules_within_tables : SchedulesWithinTables
+schedules_within_tables prog inside pending expects holds opens base post fits known outs level depth stays passes closes c arguments memory z fit hold start =
+    schedules_within prog (λ p f m. base p f m ≡ true) (λ p f m o. post p f m o ≡ true) (λ f. fits f ≡ true) level depth
+    (by_shown prog (λ p f m. base p f m ≡ true) (λ p f m o. post p f m o ≡ true) (λ f. fits f ≡ true) known outs level depth c)
+    TestedZone tested (λ p f y. inside p f y ≡ true) pending (λ f y. expects f y ≡ true) (λ p f. holds p f ≡ true) opens stays passes closes arguments memory z fit hold start

@@ -66,7 +66,7 @@ module _ (prog : Program) (fits : Frame → Type 0) (known : ℕ → ℕ → ℕ
 
   enters : (f : Frame) (e : Effect) (t : Terminator) → item_at prog f.function f.block f.index ≡ Some (Ends t) → Moves prog f e → registers_along prog f e.block ≡ Some e.registers
   enters f e t at (is_next i here on) = absurd (let same : Some (Ends t) ≡ Some (Does i) = sym at ∙ here in cc)
-  enters f e t at (is_along u here on) = on.along
+  enters f e t at (is_along u here to on) = on.along
 
   edge_covers : (p : Path) (f : Frame) (m : Memory) (e : Effect) (t : Terminator) → fits f → item_at prog f.function f.block f.index ≡ Some (Ends t) → action_of prog p f m ≡ Plain e → e.trap ≡ None → Covers prog f (went f e)
   edge_covers p f m e t fit at act fine =
@@ -77,7 +77,7 @@ module _ (prog : Program) (fits : Frame → Type 0) (known : ℕ → ℕ → ℕ
   sync_covers : (p : Path) (f : Frame) (m : Memory) (r b : ℕ) (rs : Registers) → fits f → action_of prog p f m ≡ Sync r b rs → Covers prog f (synced f r b rs)
   sync_covers p f m r b rs fit act =
       let (o, is, same, all) = hold.sync p f m r b rs fit act in
-      let (t, at) = sync_here prog p f m r b rs act in
+      let (t, at, to) = sync_here prog p f m r b rs act in
       let pays = to_target f t rs o b at is same all (syncs_along prog p f m r b rs act) in
       record { calls = pays.calls; instructions = pays.instructions }
 

@@ -1,25 +1,25 @@
 -- What the table of depths owes: how many frames a call stands on one another at most, from its own on.
-use Rattle.std.specs.Prelude.{◌≡◌, ◌≢◌, ℕ, suc, ◌+◌, ◌-◌, ◌≤◌, List, Option, Some, None}
-use Rattle.machine_core.specs.Paths.{Path}
-use Rattle.machine_core.specs.Cells.{Memory}
-use Rattle.machine_core.specs.Frames.{Registers, Frame, Does, Ends, item_at, block_at}
-use Rattle.machine_core.specs.Effect.{Effect, Plain, Detach, Sync, action_of}
+use Rattle.std.specs.Prelude.{◌≡◌, ◌≢◌, ℕ, suc, ◌+◌, ◌-◌, ◌≤◌, List, Option, Some}
+use Rattle.machine_core.specs.Frames.{Frame, Does, Ends, item_at, block_at}
 use Rattle.linear.specs.declared.form.RegisterId.{RegisterId}
+use Rattle.program.specs.declared.identifier.BlockId.{BlockId}
 use Rattle.program.specs.declared.identifier.FunctionId.{FunctionId}
 use Rattle.program.specs.declared.function.Block.{Block}
 use Rattle.program.specs.declared.function.Program.{Program}
 use Rattle.program.specs.declared.instruction.Argument.{Argument}
 use Rattle.program.specs.declared.instruction.Instruction.TheVariants as instruction
 use Rattle.program.specs.declared.instruction.Terminator.{Terminator}
+use Rattle.program.specs.declared.instruction.Terminator.TheVariants as terminator
+use Rattle.bridge.specs.Moves.{JumpsTo, SyncsTo}
 use Rattle.bridge.specs.Costs.{bound_of, natural, measure_at}
 
 -- level function block: within how many detaches the block stands
 pub record Levels (prog : Program) (level : ℕ → ℕ → ℕ) : Type 0 where
   pub entry : (function : ℕ) → level function 0 ≡ 0
-  pub edge : (p : Path) (f : Frame) (m : Memory) (e : Effect) (t : Terminator) → item_at prog f.function f.block f.index ≡ Some (Ends t) → action_of prog p f m ≡ Plain e → e.trap ≡ None → level f.function e.block ≡ level f.function f.block
-  pub sync : (p : Path) (f : Frame) (m : Memory) (region block : ℕ) (registers : Registers) → action_of prog p f m ≡ Sync region block registers → level f.function block ≡ level f.function f.block
-  pub body : (p : Path) (f : Frame) (m : Memory) (region body continuation : ℕ) → action_of prog p f m ≡ Detach region body continuation → level f.function body ≡ suc (level f.function f.block)
-  pub continuation : (p : Path) (f : Frame) (m : Memory) (region body continuation : ℕ) → action_of prog p f m ≡ Detach region body continuation → level f.function continuation ≡ level f.function f.block
+  pub along : (function block index target : ℕ) (t : Terminator) → item_at prog function block index ≡ Some (Ends t) → JumpsTo t target → level function target ≡ level function block
+  pub sync : (function block index region target : ℕ) (t : Terminator) → item_at prog function block index ≡ Some (Ends t) → SyncsTo t region target → level function target ≡ level function block
+  pub body : (function block index : ℕ) (region : RegisterId) (body continuation : BlockId) → item_at prog function block index ≡ Some (Ends (terminator.Detach region body continuation)) → level function body.0 ≡ suc (level function block)
+  pub continuation : (function block index : ℕ) (region : RegisterId) (body continuation : BlockId) → item_at prog function block index ≡ Some (Ends (terminator.Detach region body continuation)) → level function continuation.0 ≡ level function block
 
 -- depth function m: the depth of a call whose measure is m
 pub record DepthTable (prog : Program) (level depth : ℕ → ℕ → ℕ) : Type 0 where

@@ -1,6 +1,8 @@
 pub mod Moves
 pub mod Edges
 pub mod Costs
+pub mod Registers
 pub mod ShownCosts
 pub mod Depths
 pub mod Serially
+pub mod PairCosts

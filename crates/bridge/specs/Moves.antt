@@ -1,5 +1,5 @@
 -- What an instruction that does not trap leaves of its frame.
-use Rattle.std.specs.Prelude.{◌≡◌, ◌≢◌, ℕ, suc, List, Option, Some, None, true, is_some}
+use Rattle.std.specs.Prelude.{◌≡◌, ◌≢◌, ℕ, suc, List, Option, Some, None, true, is_some, ◌⊎◌, Contains}
 use Rattle.machine_core.specs.Frames.{Value, Frame, Does, Ends, item_at}
 use Rattle.machine_core.specs.Effect.{Effect, registers_along, argument_values}
 use Rattle.linear.specs.declared.form.RegisterId.{RegisterId}
@@ -7,6 +7,7 @@ use Rattle.program.specs.declared.identifier.BlockId.{BlockId}
 use Rattle.program.specs.declared.identifier.FunctionId.{FunctionId}
 use Rattle.program.specs.declared.function.Program.{Program}
 use Rattle.program.specs.declared.instruction.Argument.{Argument}
+use Rattle.program.specs.declared.instruction.Case.{Case}
 use Rattle.program.specs.declared.instruction.Instruction.{Instruction}
 use Rattle.program.specs.declared.instruction.Instruction.TheVariants as instruction
 use Rattle.program.specs.declared.instruction.Terminator.{Terminator}
@@ -42,10 +43,30 @@ pub record Enters (prog : Program) (f : Frame) (e : Effect) : Type 0 where
   pub index : e.index ≡ 0
   pub along : registers_along prog f e.block ≡ Some e.registers
 
+-- the targets of a jump, branch or switch
+abbrev pub JumpsTo : Terminator → ℕ → Type 0
+JumpsTo (terminator.Jump target) b = target.0 ≡ b
+JumpsTo (terminator.Branch test x y) b = (x.0 ≡ b) ⊎ (y.0 ≡ b)
+JumpsTo (terminator.Switch w a default cases) b = (default.0 ≡ b) ⊎ ((c : Case) × Contains cases c × (c.target.0 ≡ b))
+JumpsTo (terminator.Return value) b = ⊥
+JumpsTo (terminator.Detach region body continuation) b = ⊥
+JumpsTo (terminator.Reattach region continuation) b = ⊥
+JumpsTo (terminator.Sync region target) b = ⊥
+
+-- and of a sync of a region
+abbrev pub SyncsTo : Terminator → ℕ → ℕ → Type 0
+SyncsTo (terminator.Jump target) r b = ⊥
+SyncsTo (terminator.Branch test x y) r b = ⊥
+SyncsTo (terminator.Switch w a default cases) r b = ⊥
+SyncsTo (terminator.Return value) r b = ⊥
+SyncsTo (terminator.Detach region body continuation) r b = ⊥
+SyncsTo (terminator.Reattach region continuation) r b = ⊥
+SyncsTo (terminator.Sync region target) r b = (region.0 ≡ r) × (target.0 ≡ b)
+
 -- what stands at the frame's place, and what it leaves of the frame
 pub data Moves (prog : Program) (f : Frame) (e : Effect) : Type 0 where
   is_next : (i : Instruction) → item_at prog f.function f.block f.index ≡ Some (Does i) → GoesOn f (dest_of i) e → Moves prog f e
-  is_along : (t : Terminator) → item_at prog f.function f.block f.index ≡ Some (Ends t) → Enters prog f e → Moves prog f e
+  is_along : (t : Terminator) → item_at prog f.function f.block f.index ≡ Some (Ends t) → JumpsTo t e.block → Enters prog f e → Moves prog f e
 
 -- the call at the frame's place
 pub record Calls (prog : Program) (f : Frame) (d : Option RegisterId) (callee : ℕ) (values : List Value) : Type 0 where

@@ -7,6 +7,8 @@ use Rattle.machine_core.specs.Effect.{Effect, Plain, action_of}
 use Rattle.machine_core.specs.State.{root_frame}
 use Rattle.machine_core.specs.SerialMeaning.{Outcome, IsSerialMeaning}
 use Rattle.machine_core.specs.SerialConditions.{Says, Finds, Nothing, KeptSerially}
+use Rattle.machine_core.specs.Conditions.{StaysInZone, PassesZonesOn, ClosesRegions}
+use Rattle.machine_core.specs.Schedules.{TestedZone, tested, RunsAsSerial}
 use Rattle.linear.specs.declared.form.Fact.{Fact}
 use Rattle.program.specs.declared.function.Program.{Program}
 use Rattle.bridge.specs.Costs.{bound_of, cost_below, CostRules}
@@ -45,3 +47,15 @@ SerialRunWithinTables =
     (prog : Program) (base : Path → Frame → Memory → Bool) (post : Path → Frame → Memory → Outcome → Bool) (fits : Frame → Bool) (known : ℕ → ℕ → ℕ → List Fact) (outs : ℕ → ℕ → List Out) (level depth : ℕ → ℕ → ℕ) →
     IsShownSerially prog (λ p f m. base p f m ≡ true) (λ p f m o. post p f m o ≡ true) (λ f. fits f ≡ true) known outs level depth →
     (arguments : List ℤ) (memory : Memory) → base [] (root_frame prog arguments) (globals_of memory) ≡ true → RunsWithinTables prog depth arguments memory
+
+-- The schedule theorem with the budget and the depth of the tables: on each schedule of main's call, where the conditions on zones and regions hold too.
+abbrev pub SchedulesWithinTables : Type 0
+SchedulesWithinTables =
+    (prog : Program) (inside : Path → Frame → TestedZone → Bool) (pending : Path → Frame → ℕ → TestedZone) (expects : Frame → TestedZone → Bool) (holds : Path → Frame → Bool) (opens : Path → Frame → ℕ → Bool)
+    (base : Path → Frame → Memory → Bool) (post : Path → Frame → Memory → Outcome → Bool) (fits : Frame → Bool) (known : ℕ → ℕ → ℕ → List Fact) (outs : ℕ → ℕ → List Out) (level depth : ℕ → ℕ → ℕ) →
+    StaysInZone TestedZone tested prog (λ p f z. inside p f z ≡ true) pending →
+    PassesZonesOn TestedZone tested prog (λ p f z. inside p f z ≡ true) pending (λ f z. expects f z ≡ true) →
+    ClosesRegions prog (λ p f. holds p f ≡ true) opens →
+    IsShownSerially prog (λ p f m. base p f m ≡ true) (λ p f m o. post p f m o ≡ true) (λ f. fits f ≡ true) known outs level depth →
+    (arguments : List ℤ) (memory : Memory) (zone : TestedZone) → inside [] (root_frame prog arguments) zone ≡ true → holds [] (root_frame prog arguments) ≡ true → base [] (root_frame prog arguments) (globals_of memory) ≡ true →
+    RunsAsSerial prog arguments memory (cost_below prog prog.main.0 (suc (bound_of prog prog.main.0))) (depth prog.main.0 (bound_of prog prog.main.0))
