@@ -1,17 +1,16 @@
 -- Cells of a stack of frames.
-use Rattle.std.proofs.Common.{◌≡◌, ◌≢◌, ℕ, zero, suc, ◌+◌, ◌-◌, ◌<◌, ◌≤◌, List, [], ◌∷◌, ◌++◌, length, refl, ap, sym, ◌∙◌, subst, arith, Bool, true, false, cond, ℤ, Option, Some, None, ◌⊎◌, inl, inr, drop, length-drop}
-use Rattle.std.specs.Prelude.{eqb, slice_get}
+use Rattle.std.proofs.Common.{◌≡◌, ℕ, suc, ◌-◌, ◌<◌, ◌≤◌, List, [], ◌∷◌, length, refl, ap, sym, ◌∙◌, arith, false, None, inl, inr, length-drop}
 use Rattle.std.proofs.lemmas.Bool.Decides.{eqb_tells}
 use Rattle.machine_core.specs.Paths.{Path, same_path}
-use Rattle.machine_core.specs.Cells.{Memory, Object, Shared, Local, Cell}
+use Rattle.machine_core.specs.Cells.{Object, Shared, Local}
 use Rattle.machine_core.specs.SerialMeaning.{cleared}
 use Rattle.machine_core.specs.State.{override, clears}
 use Rattle.machine_core.proofs.Actions.{same_path_itself}
-use Rattle.machine_core.proofs.Places.{same_path_apart, same_path_is, same_path_tells}
-use Rattle.store.specs.Cells.{NamedCells, cell_at}
+use Rattle.machine_core.proofs.Places.{same_path_apart, same_path_tells}
+use Rattle.store.specs.Cells.{NamedCells}
 use Rattle.frame.specs.declared.frame.Frame.{Frame}
 use Rattle.frame.specs.Reading.{above}
-use Rattle.frame.specs.Room.{IsUndefined, alloca_in}
+use Rattle.frame.specs.Room.{IsUndefined}
 use Rattle.frame.proofs.Makers.{above_child, above_self}
 use Rattle.serial_machine.specs.Running.{path_on, local_in, object_cell, memory_of, frame_at, held_at}
 
@@ -39,22 +38,22 @@ local_at f [] d n i h =
     let z : d ≡ 0 = omega arith in
     rw z refl
 local_at f (g ∷ rest) d n i h = elim (eqb_tells d (length (g ∷ rest))) [
-    | inl s ↦ let k = path_long (g ∷ rest) in let own : above (path_on (g ∷ rest)) d ≡ path_on (g ∷ rest) = above_self (path_on (g ∷ rest)) d (s.1 ∙ sym k) in rw (s.0, own, same_path_itself (path_on (g ∷ rest))) refl
-    | inr s ↦
-        let k = path_long rest in
-        let less : d ≤ length rest = let ne = s.1 in omega (arith, h, ne) in
-        let up : above (path_on (g ∷ rest)) d ≡ above (path_on rest) d = above_child (g.made - 1) (path_on rest) d (omega (arith, k, less)) in
-        let long = above_long (path_on rest) d (omega (arith, k, less)) in
-        let other : same_path (path_on (g ∷ rest)) (above (path_on rest) d) ≡ false = same_path_apart (path_on (g ∷ rest)) (above (path_on rest) d) (λ e. let m : suc (length (path_on rest)) ≡ length (above (path_on rest) d) = ap length e in omega (arith, m, long, k, less)) in
-        rw (s.0, up, other) (local_at g rest d n i less)
-  ]
+  | inl s ↦ let k = path_long (g ∷ rest) in let own : above (path_on (g ∷ rest)) d ≡ path_on (g ∷ rest) = above_self (path_on (g ∷ rest)) d (s.1 ∙ sym k) in rw (s.0, own, same_path_itself (path_on (g ∷ rest))) refl
+  | inr s ↦
+      let k = path_long rest in
+      let less : d ≤ length rest = let ne = s.1 in omega (arith, h, ne) in
+      let up : above (path_on (g ∷ rest)) d ≡ above (path_on rest) d = above_child (g.made - 1) (path_on rest) d (omega (arith, k, less)) in
+      let long = above_long (path_on rest) d (omega (arith, k, less)) in
+      let other : same_path (path_on (g ∷ rest)) (above (path_on rest) d) ≡ false = same_path_apart (path_on (g ∷ rest)) (above (path_on rest) d) (λ e. let m : suc (length (path_on rest)) ≡ length (above (path_on rest) d) = ap length e in omega (arith, m, long, k, less)) in
+      rw (s.0, up, other) (local_at g rest d n i less)
+]
 
 object_pushed : (f : Frame) (below : List Frame) (globals : List NamedCells) → IsUndefined f → (o : Object) (i : ℕ) → object_cell (f ∷ below) globals o i ≡ object_cell below globals o i
 object_pushed f below globals none (Shared g) i = refl
 object_pushed f below globals none (Local owner n) i = elim (same_path_tells (path_on below) owner) [
-    | inl s ↦ rw (s.0) (none n i ∙ sym (local_far below owner n i (let k = path_long below in let e : length (path_on below) ≡ length owner = ap length s.1 in omega (arith, k, e))))
-    | inr s ↦ rw (s.0) refl
-  ]
+  | inl s ↦ rw (s.0) (none n i ∙ sym (local_far below owner n i (let k = path_long below in let e : length (path_on below) ≡ length owner = ap length s.1 in omega (arith, k, e))))
+  | inr s ↦ rw (s.0) refl
+]
 
 -- a frame without defined cells changes no cell, where it comes or goes
 pub memory_pushed : (f : Frame) (below : List Frame) (globals : List NamedCells) → IsUndefined f → memory_of (f ∷ below) globals ≡ memory_of below globals
@@ -63,9 +62,9 @@ memory_pushed f below globals none = λ i c. object_pushed f below globals none 
 object_popped : (f : Frame) (below : List Frame) (globals : List NamedCells) (o : Object) (i : ℕ) → override (clears (path_on below) (record { object = o; index = i })) (object_cell (f ∷ below) globals o i) ≡ object_cell below globals o i
 object_popped f below globals (Shared g) i = refl
 object_popped f below globals (Local owner n) i = elim (same_path_tells (path_on below) owner) [
-    | inl s ↦ rw (s.0) (sym (local_far below owner n i (let k = path_long below in let e : length (path_on below) ≡ length owner = ap length s.1 in omega (arith, k, e))))
-    | inr s ↦ rw (s.0) refl
-  ]
+  | inl s ↦ rw (s.0) (sym (local_far below owner n i (let k = path_long below in let e : length (path_on below) ≡ length owner = ap length s.1 in omega (arith, k, e))))
+  | inr s ↦ rw (s.0) refl
+]
 
 -- the cells of a frame that returns are gone
 pub memory_popped : (f : Frame) (below : List Frame) (globals : List NamedCells) → cleared (path_on below) (memory_of (f ∷ below) globals) ≡ memory_of below globals
