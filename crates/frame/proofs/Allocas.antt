@@ -1,5 +1,5 @@
 -- A write to one cell of an alloca.
-use Rattle.std.proofs.Common.{◌≡◌, ◌≢◌, ℕ, zero, suc, ◌<◌, List, [], ◌∷◌, length, refl, ap, sym, ◌∙◌, arith, Bool, true, false, cond, ℤ, Option, Some, None, ◌⊎◌, inl, inr, Vec, Global}
+use Rattle.std.proofs.Common.{◌≡◌, ◌≢◌, ℕ, zero, suc, ◌<◌, List, [], ◌∷◌, length, refl, ap, sym, ◌∙◌, arith, Bool, true, false, cond, ℤ, Option, Some, ◌⊎◌, inl, inr, Vec, Global}
 use Rattle.std.specs.Prelude.{eqb, ◌&&◌, slice_get, slice_set, map}
 use Rattle.std.specs.Option.{option_flatten}
 use Rattle.std.specs.Bool.{OnTrue}

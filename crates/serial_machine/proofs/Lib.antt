@@ -1,4 +1,5 @@
 pub mod Running
 pub mod Stack
+pub mod Steps
 pub mod Unmet
 pub mod Wide

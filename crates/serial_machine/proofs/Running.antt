@@ -1,17 +1,16 @@
 -- Cells of a stack of frames.
-use Rattle.std.proofs.Common.{◌≡◌, ◌≢◌, ℕ, zero, suc, ◌+◌, ◌-◌, ◌<◌, ◌≤◌, List, [], ◌∷◌, ◌++◌, length, refl, ap, sym, ◌∙◌, subst, arith, Bool, true, false, cond, ℤ, Option, Some, None, ◌⊎◌, inl, inr, drop, length-drop}
-use Rattle.std.specs.Prelude.{eqb, slice_get}
+use Rattle.std.proofs.Common.{◌≡◌, ℕ, suc, ◌-◌, ◌<◌, ◌≤◌, List, [], ◌∷◌, length, refl, ap, sym, ◌∙◌, arith, false, None, inl, inr, length-drop}
 use Rattle.std.proofs.lemmas.Bool.Decides.{eqb_tells}
 use Rattle.machine_core.specs.Paths.{Path, same_path}
-use Rattle.machine_core.specs.Cells.{Memory, Object, Shared, Local, Cell}
+use Rattle.machine_core.specs.Cells.{Object, Shared, Local}
 use Rattle.machine_core.specs.SerialMeaning.{cleared}
 use Rattle.machine_core.specs.State.{override, clears}
 use Rattle.machine_core.proofs.Actions.{same_path_itself}
-use Rattle.machine_core.proofs.Places.{same_path_apart, same_path_is, same_path_tells}
-use Rattle.store.specs.Cells.{NamedCells, cell_at}
+use Rattle.machine_core.proofs.Places.{same_path_apart, same_path_tells}
+use Rattle.store.specs.Cells.{NamedCells}
 use Rattle.frame.specs.declared.frame.Frame.{Frame}
 use Rattle.frame.specs.Reading.{above}
-use Rattle.frame.specs.Room.{IsUndefined, alloca_in}
+use Rattle.frame.specs.Room.{IsUndefined}
 use Rattle.frame.proofs.Makers.{above_child, above_self}
 use Rattle.serial_machine.specs.Running.{path_on, local_in, object_cell, memory_of, frame_at, held_at}
 

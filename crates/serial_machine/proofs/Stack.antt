@@ -1,11 +1,10 @@
 -- The steps of a serial run, backwards: from the rest of the run after a step to the rest before it.
-use Rattle.std.proofs.Common.{◌≡◌, ℕ, zero, suc, ◌+◌, ◌≤◌, ◌<◌, max, List, [], ◌∷◌, length, Option, Some, None, refl, ap, sym, ◌∙◌, subst, arith, ℤ}
+use Rattle.std.proofs.Common.{◌≡◌, ℕ, suc, ◌+◌, ◌≤◌, max, List, [], ◌∷◌, length, Option, Some, None, refl, ap, sym, ◌∙◌, subst, arith, ℤ}
 use Rattle.machine_core.specs.Paths.{Path}
 use Rattle.machine_core.specs.Cells.{Memory}
-use Rattle.machine_core.specs.Arithmetic.{Trap}
 use Rattle.machine_core.specs.Frames.{Value, Registers, Wait, Free, OnRegion, OnCall, Halted, Frame}
-use Rattle.machine_core.specs.Effect.{Effect, Action, Plain, Detach, Reattach, Sync, Call, Return, action_of}
-use Rattle.machine_core.specs.State.{went, detached, continued, synced, called, waiting, resumed, root_frame}
+use Rattle.machine_core.specs.Effect.{Effect, Plain, Detach, Reattach, Sync, Call, Return, action_of}
+use Rattle.machine_core.specs.State.{went, detached, continued, synced, called, waiting, resumed}
 use Rattle.machine_core.specs.SerialMeaning.{Ending, Left, Gave, Outcome, written, cleared, counted, after_effect, by_action, meaning}
 use Rattle.machine_core.proofs.Fuel.{more_fuel}
 use Rattle.linear.specs.declared.form.RegisterId.{RegisterId}

@@ -1,6 +1,6 @@
 -- The first requirement that is not met.
-use Rattle.std.proofs.Common.{◌≡◌, ℕ, suc, ◌+◌, ◌<◌, ◌≤◌, List, [], ◌∷◌, length, refl, ap, sym, ◌∙◌, arith, Bool, true, false, cond, ℤ, Option, Some, None, eq-eqb}
-use Rattle.std.specs.Prelude.{eqb, not, nat_lt, position}
+use Rattle.std.proofs.Common.{◌≡◌, ℕ, suc, ◌+◌, ◌<◌, List, length, refl, ap, sym, ◌∙◌, arith, Bool, true, false, cond, ℤ, Option, Some, None, eq-eqb}
+use Rattle.std.specs.Prelude.{not, nat_lt, position}
 use Rattle.std.specs.List.{position_or_len}
 use Rattle.std.proofs.lemmas.Bool.Decides.{nat_tests}
 use Rattle.std.specs.Option.{option_map}

@@ -1,5 +1,5 @@
 -- Numbers of 128 bits.
-use Rattle.std.proofs.Common.{◌≡◌, ◌≢◌, ℕ, ◌<◌, ◌^◌, refl, ap, arith, Bool, true, false, cond, ℤ, pos, negsuc, Option, Some, None, sym, ◌∙◌}
+use Rattle.std.proofs.Common.{◌≡◌, ℕ, ◌<◌, ◌^◌, ap, arith, true, false, cond, ℤ, pos, negsuc, Option, Some, None, sym, ◌∙◌}
 use Rattle.std.specs.Prelude.{SomeIff, FitsSigned, nat_lt}
 use Rattle.std.specs.Int.{w128}
 use Rattle.std.proofs.lemmas.Bool.Decides.{nat_tests}

@@ -1,5 +1,5 @@
 -- Whether arguments are those that a program takes.
-use Rattle.std.specs.Prelude.{◌≡◌, ⊤, ℕ, suc, ◌^◌, List, [], ◌∷◌, length, position, Option, Some, None, Result, Ok, Err, Bool, false, cond, not, eqb, nat_lt, ℤ, pos, negsuc, ◌+ℤ◌, ◌*ℤ◌, int_le, slice_get}
+use Rattle.std.specs.Prelude.{⊤, ℕ, suc, ◌^◌, List, [], ◌∷◌, length, position, Option, Some, None, Result, Ok, Err, Bool, false, cond, not, eqb, nat_lt, ℤ, pos, negsuc, ◌+ℤ◌, ◌*ℤ◌, int_le, slice_get}
 use Rattle.std.specs.Option.{option_map}
 use Rattle.machine_core.specs.Frames.{and_then}
 use Rattle.linear.specs.Forms.{Combination}
@@ -7,7 +7,6 @@ use Rattle.linear.specs.declared.form.Term.{Term}
 use Rattle.program.specs.declared.annotation.Inequality.{Inequality}
 use Rattle.program.specs.declared.function.Function.{Function}
 use Rattle.program.specs.declared.function.Program.{Program}
-use Rattle.store.specs.Cells.{NamedCells}
 use Rattle.serial_machine.specs.declared.outcome.Finished.{Finished}
 use Rattle.serial_machine.specs.declared.outcome.RunFault.{RunFault}
 use Rattle.serial_machine.specs.declared.outcome.RunFault.TheVariants.{BadArguments, BadWorkers, OutOfMemory, Trapped}

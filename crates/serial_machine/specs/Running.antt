@@ -1,12 +1,12 @@
 -- How the frames and cells of a serial run read in the definitions of running. Frames are listed from the top down.
 use Rattle.std.specs.Prelude.{◌≡◌, ⊤, ℕ, ◌-◌, List, [], ◌∷◌, length, cond, eqb, Option, Some, None, ℤ}
 use Rattle.machine_core.specs.Paths.{Path, same_path}
-use Rattle.machine_core.specs.Cells.{Object, Shared, Local, Cell, Memory}
+use Rattle.machine_core.specs.Cells.{Object, Shared, Local, Memory}
 use Rattle.store.specs.Cells.{NamedCells, cell_at}
 use Rattle.frame.specs.declared.frame.Frame.{Frame}
 use Rattle.frame.specs.Reading.{frame_of}
 use Rattle.frame.specs.Room.{IsSound, alloca_in}
-use Rattle.serial_machine.specs.Stack.{Placed}
+use Rattle.serial_machine.specs.Stack.{Placed, Run}
 
 -- the path of a frame that stands on these: each is the newest child of the one below it
 abbrev pub path_on : List Frame → Path
@@ -42,3 +42,7 @@ held_at (Some f) n i = alloca_in f n i
 abbrev pub AreSound : List Frame → Type 0
 AreSound [] = ⊤
 AreSound (f ∷ below) = (f.depth ≡ length below) × IsSound f × AreSound below
+
+-- a run with this frame on top
+abbrev pub run_of : Frame → List Frame → List NamedCells → Run
+run_of f below globals = record { path = path_on below; frame = frame_of (path_on below) f; below = seen below; memory = memory_of (f ∷ below) globals }

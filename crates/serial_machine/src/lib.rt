@@ -6,6 +6,8 @@ mod arguments;
 mod law;
 mod outcome;
 mod run;
+#[cfg(test)]
+mod tests;
 
 pub use arguments::unmet_requirement;
 pub use law::steps_mean;
