@@ -1,12 +1,10 @@
 -- What holds of every state that a schedule leads to where no step has trapped.
-use Rattle.std.proofs.Common.{◌≡◌, ℕ, ◌<◌, ◌≤◌, List, [], ◌∷◌, ◌++◌, Option, Some, None, refl, sym, ap, ◌∙◌, subst, arith, ℤ}
+use Rattle.std.proofs.Common.{◌≡◌, ℕ, ◌≤◌, List, [], ◌∷◌, ◌++◌, Option, Some, None, refl, sym, ap, ◌∙◌, subst}
 use Rattle.machine_core.specs.Paths.{Path}
-use Rattle.machine_core.specs.Cells.{Memory}
 use Rattle.machine_core.specs.Arithmetic.{Trap}
 use Rattle.machine_core.specs.Frames.{Frame}
-use Rattle.machine_core.specs.Effect.{action_of}
-use Rattle.machine_core.specs.State.{Change, apply, change_of}
-use Rattle.machine_core.specs.Events.{Machine, Event, Step, Steal, event, sound_event, unless_trapped, by_hand, by_frame, by_change, next_hand, start}
+use Rattle.machine_core.specs.State.{Change, change_of}
+use Rattle.machine_core.specs.Events.{Machine, Event, Step, Steal, event, sound_event, unless_trapped, by_hand, by_frame, by_change, start}
 use Rattle.machine_core.specs.Replay.{replay, or_unchanged}
 use Rattle.machine_core.proofs.Steps.{does}
 use Rattle.machine_core.proofs.Workers.{Manned}

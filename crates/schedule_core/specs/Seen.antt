@@ -1,6 +1,6 @@
 -- How a machine reads in the definitions of running, and how its parts agree with each other.
-use Rattle.std.specs.Prelude.{◌≡◌, ◌↔◌, ℕ, zero, suc, ◌∷◌, ◌++◌, [], List, length, map, reverse, Option, Some, None, Bool, cond, option_and_then, slice_get, ℤ}
-use Rattle.std.specs.Option.{option_map, option_flatten}
+use Rattle.std.specs.Prelude.{◌≡◌, ◌↔◌, ℕ, zero, suc, ◌∷◌, ◌++◌, [], List, length, reverse, Option, Some, None, Bool, cond, option_and_then, ℤ}
+use Rattle.std.specs.Option.{option_map}
 use Rattle.machine_core.specs.Paths.{Path}
 use Rattle.machine_core.specs.Cells.{Object, Shared, Local, Memory}
 use Rattle.machine_core.specs.Frames.{Frame}
@@ -10,6 +10,7 @@ use Rattle.store.specs.Cells.{NamedCells, cell_at}
 use Rattle.frame.specs.declared.frame.Wait.{Wait}
 use Rattle.frame.specs.declared.frame.Wait.TheVariants as wait
 use Rattle.frame.specs.Reading.{frame_of}
+use Rattle.frame.specs.Room.{alloca_in}
 use Rattle.cactus.specs.declared.node.Node.{Node}
 use Rattle.frame.specs.declared.path.Path.{Path as Name}
 use Rattle.std.specs.Vec.{with_item}
@@ -37,14 +38,10 @@ seen_at p (Some node) = Some (frame_of p node.frame.frame)
 abbrev pub frames_of : Frames Activation → Path → Option Frame
 frames_of frames p = seen_at p (named frames (reverse p))
 
-abbrev pub cell_among : Option (List (Option ℤ)) → ℕ → Option ℤ
-cell_among None i = None
-cell_among (Some cells) i = option_flatten (slice_get cells i)
-
 -- what the cell of an alloca of a frame holds
 abbrev pub alloca_cell : Option (Node Activation) → ℕ → ℕ → Option ℤ
 alloca_cell None n i = None
-alloca_cell (Some node) n i = cell_among (slice_get (map (λ v. v.items) node.frame.frame.allocas.items) n) i
+alloca_cell (Some node) n i = alloca_in node.frame.frame n i
 
 abbrev pub held_in : Frames Activation → List NamedCells → Object → ℕ → Option ℤ
 held_in frames globals (Shared g) i = cell_at globals g i

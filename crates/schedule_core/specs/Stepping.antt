@@ -1,16 +1,23 @@
 -- What a step of a frame does to a machine, as the definitions say it.
-use Rattle.std.specs.Prelude.{◌≡◌, ℕ, ◌+◌, List, length, Option, Some, None, ℤ}
+use Rattle.std.specs.Prelude.{◌≡◌, ℕ, ◌+◌, List, length, Option, Some, None, Ok, cond, nat_lt, ◌&&◌, IsSome, ℤ, pos}
 use Rattle.machine_core.specs.Paths.{Path}
-use Rattle.machine_core.specs.Cells.{Cell, Memory, same_cell}
+use Rattle.machine_core.specs.Cells.{Cell, Object, Memory, same_cell, same_object}
 use Rattle.machine_core.specs.Frames.{Frame}
-use Rattle.machine_core.specs.Effect.{Effect, Plain, action_of}
+use Rattle.machine_core.specs.Effect.{Effect, Plain, action_of, registers_along}
 use Rattle.machine_core.specs.State.{override, added, only, went}
 use Rattle.machine_core.specs.Events as running
 use Rattle.machine_core.specs.Replay.{replay}
 use Rattle.program.specs.declared.function.Program.{Program}
-use Rattle.frame.specs.Reading.{frame_of}
+use Rattle.frame.specs.Reading.{frame_of, cell_of}
+use Rattle.frame.specs.Room.{CanDo, HasNext, SetsAlloca}
+use Rattle.frame.specs.declared.frame.Frame.{Frame as FrameOf}
+use Rattle.cactus.specs.Lending.{with_frame}
+use Rattle.frame.specs.Asked.{asked}
+use Rattle.frame.specs.declared.effect.Effect.{Effect as Asked}
+use Rattle.frame.specs.declared.value.Cell.{Cell as CellName}
 use Rattle.cactus.specs.declared.node.Node.{Node}
-use Rattle.cactus.specs.Frames.{node_at}
+use Rattle.cactus.specs.Frames.{Frames, node_at, frame_at}
+use Rattle.cactus.specs.ByPath.{IsTree}
 use Rattle.schedule_core.specs.declared.activation.Activation.{Activation}
 use Rattle.schedule_core.specs.declared.machine.Machine.{Machine}
 use Rattle.schedule_core.specs.Running.{IsGoing}
@@ -31,10 +38,56 @@ pub record PlainDone (old new : Machine) (node : Node Activation) (e : Effect) :
   pub sound : e.trap ≡ None
   pub becomes : seen new ≡ effected (seen old) (place_of node) (frame_in node) e
   pub agrees : Agrees new.cactus new.hands.items
+  pub workers : length new.hands.items ≡ length old.hands.items
 
 -- of the slot's frame, which waits for no call
 abbrev pub DoesPlain : Machine → Machine → ℕ → (Path → Frame → Effect) → Type 0
 DoesPlain old new slot effect = (node : Node Activation) → node_at old.cactus slot ≡ Some node → Agrees old.cactus old.hands.items → node.frame.callee ≡ None → PlainDone old new node (effect (place_of node) (frame_in node))
+
+-- the slot's frame has room for the effect
+abbrev pub CanDoAt : Frames Activation → ℕ → Asked → Type 0
+CanDoAt frames slot effect = (a : Activation) → frame_at frames slot ≡ Some a → CanDo a.frame effect
+
+abbrev pub HasNextAt : Frames Activation → ℕ → Type 0
+HasNextAt frames slot = (a : Activation) → frame_at frames slot ≡ Some a → HasNext a.frame
+
+-- the cell that the slot's frame names holds this
+abbrev pub HoldsAt : Machine → ℕ → CellName → Option ℤ → Type 0
+HoldsAt m slot cell held = (node : Node Activation) → node_at m.cactus slot ≡ Some node → IsTree m.cactus → (seen m).core.memory (cell_of (place_of node) cell) ≡ held
+
+-- cells are written, and nothing else is seen to change
+pub record Written (old new : Machine) (writes : Cell → Option (Option ℤ)) : Type 0 where
+  pub becomes : seen new ≡ record (seen old) { core = record (seen old).core { memory = λ x. override (writes x) ((seen old).core.memory x) } }
+  pub agrees : Agrees new.cactus new.hands.items
+  pub workers : length new.hands.items ≡ length old.hands.items
+  pub stays : (slot : ℕ) (node : Node Activation) → node_at old.cactus slot ≡ Some node → (later : Node Activation) × (node_at new.cactus slot ≡ Some later) × (later.path ≡ node.path) × (later.frame ≡ record node.frame { frame = record node.frame.frame { allocas = later.frame.frame.allocas } })
+
+-- the cell of an alloca of the owner's frame takes the number
+pub record WritesAlloca (old new : Machine) (owner n i : ℕ) (z : ℤ) : Type 0 where
+  pub before : Activation
+  pub stood : frame_at old.cactus owner ≡ Some before
+  pub frame : FrameOf
+  pub only : frame ≡ record before.frame { allocas = frame.allocas }
+  pub set : SetsAlloca before.frame n i z frame
+  pub new_is : new ≡ record old { cactus = with_frame old.cactus owner (record before { frame = frame }) }
+
+abbrev pub one_cell : Cell → ℤ → Cell → Option (Option ℤ)
+one_cell c z x = cond (same_cell c x) (Some (Some z)) None
+
+-- the cells of the object below n become 0
+abbrev pub zeros_below : Object → ℕ → Cell → Option (Option ℤ)
+zeros_below o n x = cond (same_object o x.object && nat_lt x.index n) (Some (Some (pos 0))) None
+
+abbrev pub StoresAt : Machine → Machine → ℕ → CellName → ℤ → Type 0
+StoresAt old new slot cell z = (node : Node Activation) → node_at old.cactus slot ≡ Some node → Agrees old.cactus old.hands.items → Written old new (one_cell (cell_of (place_of node) cell) z)
+
+-- the slot's frame has the registers of the edge to the target
+abbrev pub HasEdge : Program → Machine → ℕ → ℕ → Type 0
+HasEdge prog m slot target = (node : Node Activation) → node_at m.cactus slot ≡ Some node → Agrees m.cactus m.hands.items → node.frame.callee ≡ None → IsSome (registers_along prog (frame_in node) target)
+
+-- what is asked of the slot's frame is done, where that is a plain step
+abbrev pub Performs : Program → Machine → Machine → ℕ → Asked → Type 0
+Performs prog old new slot effect = (node : Node Activation) (e : Effect) → node_at old.cactus slot ≡ Some node → Agrees old.cactus old.hands.items → node.frame.callee ≡ None → asked prog (place_of node) (frame_in node) (seen old).core.memory (Ok effect) ≡ Plain e → PlainDone old new node e
 
 -- where the definitions have a plain step of the slot's frame, it is done
 abbrev pub DoesAsked : Program → Machine → Machine → ℕ → Type 0

@@ -5,6 +5,8 @@ ghost use Rattle.cactus.specs.Frames.{node_at};
 ghost use Rattle.schedule_core.specs.declared.activation.Activation.{Activation};
 ghost use Rattle.schedule_core.specs.Running.{result_of};
 ghost use Rattle.schedule_core.specs.Scheduling.{hand_of, BeginsChild, EndsChild, GoesOnWith, StallsAt, living_within, waits_at};
+ghost use Rattle.machine_core.specs.Effect.{jumps};
+ghost use Rattle.schedule_core.specs.Stepping.{DoesPlain, HasEdge, Performs};
 ghost use Rattle.frame.specs.declared.frame.Wait.TheVariants.{Region};
 ghost use Rattle.linear.specs.declared.form.RegisterId.{RegisterId};
 
@@ -23,9 +25,9 @@ impl Machine<'_> {
     pub(crate) fn control(&mut self, worker: u8, top: usize, effect: Effect) -> Result<(), Halt>
         requires { worker < vec_len self.old.hands }
         ensures refused { result ≡ Err Halt.OutOfMemory → self.new ≡ self.old }
+        ensures plain { OnOk result (Performs self.old.verified.now self.old self.new top effect) }
     {
         match effect {
-            Effect::Branch { target } => Ok(self.enter(top, target)?),
             Effect::Detach {
                 region,
                 body,
@@ -40,8 +42,9 @@ impl Machine<'_> {
     }
 
     /// The frame goes along the edge to the block.
-    fn enter(&mut self, slot: usize, target: BlockId) -> Result<(), Trap>
-        ensures { self.new ≡ record self.old { cactus = self.new.cactus } }
+    pub(crate) fn enter(&mut self, slot: usize, target: BlockId) -> Result<(), Trap>
+        ensures kept { self.new ≡ record self.old { cactus = self.new.cactus } }
+        ensures jumps { OnOk result (DoesPlain self.old self.new slot (λ p f. jumps self.old.verified.now f target.0)) }
     {
         let program = self.program();
         match self.cactus.frame_mut(slot) {
@@ -165,6 +168,7 @@ impl Machine<'_> {
             → self.new ≡ record self.old { cactus = self.new.cactus }) }
         ensures stalls { OnOk result (0 < living_within self.old.cactus slot region.0
             → StallsAt self.new.cactus self.new.hands.items worker slot region) }
+        ensures edge { OnOk result (HasEdge self.old.verified.now self.old slot target.0) }
     {
         let top = self.activation(slot)?;
         let passage = top.count(region)?.at_sync();

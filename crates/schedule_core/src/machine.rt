@@ -5,6 +5,7 @@ ghost use Rattle.schedule_core.specs.Scheduling.{hand_of, IsIdle, IsReady};
 ghost use Rattle.frame.specs.declared.path.Path.{Path};
 ghost use Rattle.store.specs.declared.memory.Memory.{Memory};
 ghost use Rattle.store.specs.Cells.{cell_named};
+ghost use Rattle.schedule_core.specs.Stepping.{StepsPlainly};
 ghost use Rattle.schedule_core.specs.Seen.{Agrees, StealsIf, taken};
 ghost use Rattle.schedule_core.specs.Running.{IsGoing, IsTrapped, result_of, IsStart, IsNumberOfWorkers, StepsWhere, Takes, TakesAt};
 
@@ -105,7 +106,9 @@ impl<'v> Machine<'v> {
         })
     }
 
-    pub(crate) fn program(&self) -> &'v Program {
+    pub(crate) fn program(&self) -> &'v Program
+        ensures { result.now ≡ self.now.verified.now }
+    {
         self.verified.program()
     }
 
@@ -150,6 +153,9 @@ impl<'v> Machine<'v> {
         ensures not_enabled { result ≡ Ok false → self.new ≡ self.old }
         ensures over { ¬ IsGoing self.old → result ≡ Ok false }
         ensures step { (worker : ℕ) → event.now ≡ Event.Step worker → IfOk result (StepsWhere self.old self.new worker) }
+        ensures plain_step { (worker : ℕ) → event.now ≡ Event.Step worker → result ≡ Ok true → StepsPlainly self.old.verified.now self.old self.new worker }
+        ensures steal { (worker : ℕ) (path : Path) → event.now ≡ Event.Steal worker path → IsGoing self.old → Agrees self.old.cactus self.old.hands.items
+            → IfOk result (StealsIf self.old self.new worker (reverse path.numbers)) }
     {
         if self.phase != Phase::Going {
             return Ok(false);
@@ -166,6 +172,7 @@ impl<'v> Machine<'v> {
         ensures refused { OnErr result (self.new ≡ self.old) }
         ensures not_enabled { result ≡ Ok false → self.new ≡ self.old }
         ensures enabled { IfOk result (StepsWhere self.old self.new worker) }
+        ensures plain { result ≡ Ok true → StepsPlainly self.old.verified.now self.old self.new worker }
     {
         let Some(top) = self.hand(worker) else {
             return Ok(false);
@@ -176,12 +183,22 @@ impl<'v> Machine<'v> {
         }
         let executed = self.instructions + 1;
         match self.execute(worker, top) {
-            Ok(()) => {}
-            Err(Halt::OutOfMemory) => return Err(OutOfMemory),
-            Err(Halt::Trapped(_)) => self.phase = Phase::Trapped,
+            Ok(()) => Ok(self.has_executed(executed)),
+            Err(Halt::OutOfMemory) => Err(OutOfMemory),
+            Err(Halt::Trapped(_)) => {
+                self.phase = Phase::Trapped;
+                Ok(self.has_executed(executed))
+            }
         }
+    }
+
+    /// So many instructions are executed now; the answer is that one more was.
+    fn has_executed(&mut self, executed: u64) -> bool
+        ensures counted { self.new ≡ record self.old { instructions = executed } }
+        ensures yes { result ≡ true }
+    {
         self.instructions = executed;
-        Ok(true)
+        true
     }
 
     /// The worker takes the task of the path, if the worker is idle and no worker runs the task and it may go on.

@@ -3,6 +3,8 @@ use Rattle.std.proofs.lemmas.Result.{on_ok_weaker}
 use Rattle.sync_join.specs.declared.count.Passage.TheVariants.{Pass, Stall}
 use Rattle.schedule_core.specs.Scheduling.{living_within}
 use Rattle.schedule_core.proofs.Moves.{living_is}
+use Rattle.schedule_core.specs.Stepping.{frame_in}
+use Rattle.schedule_core.proofs.Performed.{edge_of}
 use Rattle.schedule_core.proofs.machine.Machine.sync.Goals as goal
 
 pub returns-in-Pass-clause-stalls : goal.returns-in-Pass-clause-stalls
@@ -19,3 +21,9 @@ returns-in-Stall-clause-passes c =
 
 pub returns-in-Stall-clause-stalls : goal.returns-in-Stall-clause-stalls
 returns-in-Stall-clause-stalls c = on_ok_weaker c.stall.result (λ stalls some. stalls) (c.stall.ensures c.args.region c.in_ok-wait_for_children.ensures.waits)
+
+pub returns-in-Stall-clause-edge : goal.returns-in-Stall-clause-edge
+returns-in-Stall-clause-edge c = on_ok_weaker c.stall.result (λ stalls node stands agrees none. edge_of c.args.self.now.verified.now (frame_in node) c.args.target.0 (c.in_ok-enter.ensures.jumps node stands agrees none).sound) (c.stall.ensures c.args.region c.in_ok-wait_for_children.ensures.waits)
+
+pub returns-in-Pass-clause-edge : goal.returns-in-Pass-clause-edge
+returns-in-Pass-clause-edge c = λ node stands agrees none. edge_of c.args.self.now.verified.now (frame_in node) c.args.target.0 (c.in_ok-enter.ensures.jumps node stands agrees none).sound
