@@ -3,3 +3,4 @@ pub mod Sweeps
 pub mod Tabling
 pub mod Walking
 pub mod Blocks
+pub mod Truth

@@ -6,3 +6,4 @@ pub mod Edges
 pub mod Places
 pub mod Rules
 pub mod Walks
+pub mod Truth

@@ -18,6 +18,7 @@ mod fault;
 mod inequality;
 mod judge;
 mod know;
+pub mod laws;
 mod learn;
 mod owe;
 mod sum;
