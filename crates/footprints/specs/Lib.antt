@@ -1,0 +1,4 @@
+pub mod Zones
+pub mod Cells
+pub mod Footprints
+pub mod Rules

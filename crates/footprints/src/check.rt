@@ -1,0 +1,249 @@
+ghost use Rattle.std.specs.Prelude.{◌≡◌, ℕ, Some, IfOk, IfErr, OnOk, slice_get};
+ghost use Rattle.cfg.specs.declared.refusal.Broken.{Broken};
+ghost use Rattle.region_match.specs.ByLabel.{IsNamed};
+ghost use Rattle.region_match.specs.Rules.{ending_at};
+ghost use Rattle.region_match.specs.Tasks.{task_at};
+ghost use Rattle.ranges.specs.Places.{IsBlockTable, IsFunctionTable, AreFacts};
+ghost use Rattle.footprints.specs.Footprints.{place_of};
+ghost use Rattle.footprints.specs.Rules.{foot_at_end, covering_of, is_own_block, place_in, known_at, tasks_of, IsStepBroken, AreStepsBroken, IsEndBroken, IsBlockBrokenBy, IsBlockBroken, IsFunctionBroken, IsZoneBroken, IsZoneFault};
+
+use crate::fault::ZoneFault;
+use crate::judge::{edges_fault, step_fault, use_fault};
+use crate::place::Place;
+use crate::touch::{child_foot, end_use};
+use cfg::{Broken, Graph, lower};
+use linear::Fact;
+use lists::OutOfMemory;
+use program::{Block, BlockId, Ending, Function, Program, Step, Zone};
+use ranges::{BlockFacts, EdgeFacts, Facts, FunctionFacts};
+use region_match::{Regions, Task};
+use std::alloc::Global;
+
+/// The task of a block.
+fn task_at(tasks: &[Task], index: usize) -> Task
+    ensures { result ≡ task_at tasks.now index }
+{
+    match tasks.get(index) {
+        Some(task) => *task,
+        None => Task::Unreached,
+    }
+}
+
+/// The tasks of a function.
+fn tasks_of(regions: &Regions, index: usize) -> &[Task]
+    ensures { result.now ≡ tasks_of (slice_get regions.now.functions index) }
+{
+    match regions.functions.as_slice().get(index) {
+        Some(table) => table.tasks.as_slice(),
+        None => &[],
+    }
+}
+
+/// The foot of the child of the detach at the end of a block.
+fn foot_behind(blocks: &[Block], detach: BlockId) -> &[Zone]
+    ensures { result.now ≡ foot_at_end blocks.now (ending_at blocks.now detach.0) }
+{
+    match blocks.get(detach.0) {
+        Some(block) => match &block.ending {
+            Some(ending) => child_foot(blocks, &ending.terminator),
+            None => &[],
+        },
+        None => &[],
+    }
+}
+
+/// The zones that must cover what a block of this task touches: the function's own, or the foot of the child.
+fn covering_of(function: &Function, task: Task) -> &[Zone]
+    ensures { result.now ≡ covering_of function.now task }
+{
+    match task {
+        Task::Unreached | Task::Body => function.zones.as_slice(),
+        Task::Child(detach) => foot_behind(function.blocks.as_slice(), detach),
+    }
+}
+
+/// Whether a block of this task is one of the function's own.
+fn is_own_block(task: Task) -> bool
+    ensures { result ≡ is_own_block task }
+{
+    match task {
+        Task::Unreached | Task::Body => true,
+        Task::Child(_) => false,
+    }
+}
+
+/// A place of a block.
+fn place_in<'a>(
+    function: &'a Function,
+    task: Task,
+    block: &'a Block,
+    facts: &'a [Fact],
+) -> Place<'a>
+    ensures { place_of result.facts.now result.covering.now result.own result.pending.now ≡ place_in function.now task block.now facts.now }
+{
+    Place {
+        facts,
+        covering: covering_of(function, task),
+        own: is_own_block(task),
+        pending: block.pending.as_slice(),
+    }
+}
+
+/// What is broken at a step of a block.
+fn step_in_block(
+    alloc: Global,
+    functions: &[Function],
+    function: &Function,
+    task: Task,
+    block: &Block,
+    facts: &[Fact],
+    step: &Step,
+) -> Result<Option<Broken>, OutOfMemory>
+    ensures { IfOk result (IsNamed (IsStepBroken functions.now function.now task block.now facts.now step.now)) }
+{
+    let place = place_in(function, task, block, facts);
+    let steps = block.steps.as_slice();
+    step_fault(alloc, &place, functions, steps, step)
+}
+
+/// What is broken at the steps of a block.
+fn steps_fault(
+    alloc: Global,
+    functions: &[Function],
+    function: &Function,
+    task: Task,
+    block: &Block,
+    table: &BlockFacts,
+) -> Result<Option<Broken>, OutOfMemory>
+    ensures { IfOk result (IsNamed (AreStepsBroken functions.now function.now task block.now (known_at table.now))) }
+{
+    let mut named: Option<Broken> = None;
+    let steps = block.steps.as_slice();
+    for (index, step) in steps.iter().enumerate() {
+        let facts = table.at_step(index);
+        let broken = step_in_block(alloc, functions, function, task, block, facts, step)?;
+        named = lower(named, broken);
+    }
+    Ok(named)
+}
+
+/// What is broken at a terminator and on its edges.
+fn ending_fault(
+    alloc: Global,
+    function: &Function,
+    task: Task,
+    block: &Block,
+    facts: &[Fact],
+    edges: &[EdgeFacts],
+    ending: &Ending,
+) -> Result<Option<Broken>, OutOfMemory>
+    ensures { IfOk result (IsNamed (IsEndBroken function.now task block.now facts.now edges.now (Some ending.now))) }
+{
+    let place = place_in(function, task, block, facts);
+    let blocks = function.blocks.as_slice();
+    let used = end_use(alloc, &place, blocks, &ending.terminator)?;
+    let at_end = use_fault(ending.line, used);
+    let on_edges = edges_fault(alloc, blocks, block, ending, edges)?;
+    Ok(lower(at_end, on_edges))
+}
+
+/// What is broken at the end of a block.
+fn end_fault(
+    alloc: Global,
+    function: &Function,
+    task: Task,
+    block: &Block,
+    facts: &[Fact],
+    edges: &[EdgeFacts],
+) -> Result<Option<Broken>, OutOfMemory>
+    ensures { IfOk result (IsNamed (IsEndBroken function.now task block.now facts.now edges.now block.now.ending)) }
+{
+    match &block.ending {
+        Some(ending) => ending_fault(alloc, function, task, block, facts, edges, ending),
+        None => Ok(None),
+    }
+}
+
+/// What is broken in a block, with what its table says is known there.
+fn block_fault(
+    alloc: Global,
+    functions: &[Function],
+    function: &Function,
+    task: Task,
+    block: &Block,
+    table: &BlockFacts,
+) -> Result<Option<Broken>, OutOfMemory>
+    ensures { IfOk result (IsNamed (IsBlockBrokenBy functions.now function.now task block.now (known_at table.now) table.now.facts table.now.edges)) }
+{
+    let at_steps = steps_fault(alloc, functions, function, task, block, table)?;
+    let facts = table.facts.as_slice();
+    let edges = table.edges.as_slice();
+    let at_end = end_fault(alloc, function, task, block, facts, edges)?;
+    Ok(lower(at_steps, at_end))
+}
+
+/// What is broken in a function.
+fn function_fault(
+    alloc: Global,
+    functions: &[Function],
+    function: &Function,
+    tasks: &[Task],
+    facts: &FunctionFacts,
+) -> Result<Option<Broken>, OutOfMemory>
+    requires { IsFunctionTable functions.now function.now facts.now }
+    ensures { IfOk result (IsNamed (IsFunctionBroken functions.now function.now tasks.now)) }
+{
+    let mut named: Option<Broken> = None;
+    let tables = facts.blocks.as_slice();
+    let blocks = function.blocks.as_slice();
+    for (index, block) in blocks.iter().enumerate() {
+        let table = &tables[index];
+        let task = task_at(tasks, index);
+        let broken = block_fault(alloc, functions, function, task, block, table)?;
+        named = lower(named, broken);
+    }
+    Ok(named)
+}
+
+/// What is broken in a program.
+fn program_fault(
+    alloc: Global,
+    program: &Program,
+    regions: &Regions,
+    facts: &Facts,
+) -> Result<Option<Broken>, OutOfMemory>
+    requires { AreFacts program.now facts.now }
+    ensures { IfOk result (IsNamed (IsZoneBroken program.now regions.now)) }
+{
+    let mut named: Option<Broken> = None;
+    let tables = facts.functions.as_slice();
+    let functions = program.functions.as_slice();
+    for (index, function) in functions.iter().enumerate() {
+        let table = &tables[index];
+        let tasks = tasks_of(regions, index);
+        let broken = function_fault(alloc, functions, function, tasks, table)?;
+        named = lower(named, broken);
+    }
+    Ok(named)
+}
+
+/// Whether the zones of a program whose regions are matched keep parallel parts clear of each other, by what is known at its places. Of
+/// several faults that of the lowest line is named, and there that of the lowest number.
+pub fn check_zones(
+    alloc: Global,
+    graph: &Graph,
+    regions: &Regions,
+    facts: &Facts,
+) -> Result<(), ZoneFault>
+    requires { AreFacts graph.now.typed.program facts.now }
+    ensures right { OnOk result ((b : Broken) → IsZoneBroken graph.now.typed.program regions.now b → ⊥) }
+    ensures fault { IfErr result (IsZoneFault graph.now.typed.program regions.now) }
+{
+    match program_fault(alloc, &graph.typed.program, regions, facts)? {
+        Some(broken) => Err(ZoneFault::Fault {
+            number: broken.number,
+            line: broken.line,
+        }),
+        None => Ok(()),
+    }
+}

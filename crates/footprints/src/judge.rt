@@ -1,0 +1,82 @@
+ghost use Rattle.std.specs.Prelude.{◌≡◌, ℕ, List, Any, Some, IfOk, false, slice_get, slice_index_or, take};
+ghost use Rattle.program.specs.declared.instruction.Step.{Step};
+ghost use Rattle.cfg.specs.declared.refusal.Broken.{Broken};
+ghost use Rattle.region_match.specs.ByLabel.{IsNamed};
+ghost use Rattle.footprints.specs.Footprints.{place_of, step_use, end_use, passes_on};
+ghost use Rattle.footprints.specs.Rules.{IsUseBroken, IsEdgeBroken};
+
+use crate::pass::passes_on;
+use crate::place::Place;
+use crate::touch::{Use, end_use, step_use};
+use cfg::{Broken, lower};
+use lists::OutOfMemory;
+use program::{Block, Ending, Function, Step};
+use ranges::EdgeFacts;
+use std::alloc::Global;
+
+/// The rule of this number at this line, unless it holds.
+fn fault_unless(holds: bool, line: u32, number: u16) -> Option<Broken>
+    ensures { IsNamed (λ (b : Broken). (b.number ≡ number) × (b.line ≡ line) × (holds ≡ false)) result }
+{
+    if holds {
+        None
+    } else {
+        Some(Broken { line, number })
+    }
+}
+
+/// What is broken by what a step or a terminator touches.
+pub fn use_fault(line: u32, used: Use) -> Option<Broken>
+    ensures { IsNamed (IsUseBroken line used) result }
+{
+    let uncovered = fault_unless(used.covered, line, used.number);
+    let unclear = fault_unless(used.clear, line, 602);
+    lower(uncovered, unclear)
+}
+
+/// What is broken at a step.
+pub fn step_fault(
+    alloc: Global,
+    place: &Place<'_>,
+    functions: &[Function],
+    steps: &[Step],
+    step: &Step,
+) -> Result<Option<Broken>, OutOfMemory>
+    ensures { IfOk result (IsNamed (IsUseBroken step.now.line (step_use (place_of place.now.facts.now place.now.covering.now place.now.own place.now.pending.now) functions.now steps.now step.now.line step.now.instruction))) }
+{
+    let used = step_use(alloc, place, functions, steps, step.line, &step.instruction)?;
+    Ok(use_fault(step.line, used))
+}
+
+/// What is not passed on along an edge.
+fn edge_fault(
+    alloc: Global,
+    blocks: &[Block],
+    block: &Block,
+    ending: &Ending,
+    edge: &EdgeFacts,
+) -> Result<Option<Broken>, OutOfMemory>
+    ensures { IfOk result (IsNamed (IsEdgeBroken blocks.now block.now ending.now edge.now)) }
+{
+    let pending = block.pending.as_slice();
+    let passed = passes_on(alloc, blocks, pending, &ending.terminator, edge)?;
+    Ok(fault_unless(passed, ending.line, 603))
+}
+
+/// What is not passed on along one of the edges.
+pub fn edges_fault(
+    alloc: Global,
+    blocks: &[Block],
+    block: &Block,
+    ending: &Ending,
+    edges: &[EdgeFacts],
+) -> Result<Option<Broken>, OutOfMemory>
+    ensures { IfOk result (IsNamed (λ (b : Broken). Any (λ e. IsEdgeBroken blocks.now block.now ending.now e b) edges.now)) }
+{
+    let mut named: Option<Broken> = None;
+    for edge in edges {
+        let broken = edge_fault(alloc, blocks, block, ending, edge)?;
+        named = lower(named, broken);
+    }
+    Ok(named)
+}

@@ -1,0 +1,33 @@
+//! Zones of cells, and the rules by which parallel parts keep clear of each other.
+//!
+//! A zone is an object, a mode and a range of cells, whose ends are forms over registers. What the facts at a place show of zones is decided
+//! exactly, and so are the rules on what a block touches, what of it may still run beside it, and what it hands on:
+//!
+//! | Number | Rule |
+//! |---|---|
+//! | 601 | a zone covers each load, store and add: one of the function's own, and in a child one of its `foot` |
+//! | 602 | what is touched conflicts with nothing that is `pending` in its block |
+//! | 603 | what is pending, and the foot of a new child, is pending at the target of each edge, with what its phis take put in |
+//! | 604 | a zone covers each zone of a callee, with the arguments put in, and each zone of a new child's `foot` |
+#![tactic(auto)]
+
+mod access;
+mod check;
+mod fault;
+mod judge;
+pub mod laws;
+mod pass;
+mod place;
+mod touch;
+mod zone;
+
+pub use access::{Cell, address_cell, cells_zone};
+pub use check::check_zones;
+pub use fault::ZoneFault;
+pub use pass::passes_on;
+pub use place::{Place, is_allowed, is_clear};
+pub use touch::{Use, end_use, step_use};
+pub use zone::{
+    PlacedZone, conflict, covers, is_apart, is_covered, is_empty, mode_covers, modes_agree,
+    same_object,
+};

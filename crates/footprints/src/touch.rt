@@ -1,0 +1,332 @@
+ghost use Rattle.std.specs.Prelude.{◌≡◌, Some, IfOk, slice_get};
+ghost use Rattle.std.specs.List.{list_all};
+ghost use Rattle.program.specs.declared.annotation.Zone.{Zone as ZoneKind};
+ghost use Rattle.footprints.specs.Zones.{as_written};
+ghost use Rattle.ranges.specs.Inequalities.{argument_moves};
+ghost use Rattle.footprints.specs.Footprints.{place_of, is_allowed, is_clear, cell_use, access_use, put_object, put_in, is_put_allowed, is_put_clear, no_use, callee_use, call_use, foot_use, step_use, child_foot, end_use};
+
+use crate::access::{Cell, address_cell, cells_zone};
+use crate::place::{Place, as_written, is_allowed, is_clear};
+use crate::zone::PlacedZone;
+use cfg::Move;
+use lists::OutOfMemory;
+use program::{
+    Argument, Block, Function, FunctionId, Instruction, Mode, ObjectName, Operand, Step,
+    Terminator, Zone,
+};
+use ranges::argument_moves;
+use std::alloc::Global;
+
+/// Whether what a step or a terminator touches is covered, by the rule of this number, and clear of what is pending.
+#[derive(Clone, Copy, Debug, PartialEq, Eq)]
+pub struct Use {
+    pub number: u16,
+    pub covered: bool,
+    pub clear: bool,
+}
+
+/// Of what touches nothing.
+fn no_use() -> Use
+    ensures { result ≡ no_use }
+{
+    Use {
+        number: 604,
+        covered: true,
+        clear: true,
+    }
+}
+
+/// 601: of an access of these cells.
+fn access_use(alloc: Global, place: &Place<'_>, zone: &Zone) -> Result<Use, OutOfMemory>
+    ensures { IfOk result (λ u. u ≡ access_use (place_of place.now.facts.now place.now.covering.now place.now.own place.now.pending.now) (Some zone.now)) }
+{
+    let y = as_written(zone);
+    Ok(Use {
+        number: 601,
+        covered: is_allowed(alloc, place, &y)?,
+        clear: is_clear(alloc, place, &y)?,
+    })
+}
+
+/// 601: of an access of this cell; one through a pointer of another block is not covered.
+fn cell_use(
+    alloc: Global,
+    place: &Place<'_>,
+    line: u32,
+    mode: Mode,
+    cell: Option<Cell>,
+) -> Result<Use, OutOfMemory>
+    ensures { IfOk result (λ u. u ≡ cell_use (place_of place.now.facts.now place.now.covering.now place.now.own place.now.pending.now) line mode cell) }
+{
+    match cell {
+        Some(cell) => {
+            let zone = cells_zone(alloc, line, mode, cell, 1)?;
+            access_use(alloc, place, &zone)
+        }
+        None => Ok(Use {
+            number: 601,
+            covered: false,
+            clear: true,
+        }),
+    }
+}
+
+/// The caller's object behind a callee's name.
+fn put_object(arguments: &[Argument], object: ObjectName) -> Option<ObjectName>
+    ensures { result ≡ put_object arguments.now object }
+{
+    match object {
+        ObjectName::Global(global) => Some(ObjectName::Global(global)),
+        ObjectName::Alloca(_) => None,
+        ObjectName::Parameter(register) => match arguments.get(register.0) {
+            Some(Argument::Object(object)) => Some(*object),
+            Some(Argument::Number(_)) | None => None,
+        },
+    }
+}
+
+/// Whether a callee's zone, with the arguments put in, needs no cover, or has one.
+fn is_put_allowed(
+    alloc: Global,
+    place: &Place<'_>,
+    moves: &[Move],
+    arguments: &[Argument],
+    zone: &Zone,
+) -> Result<bool, OutOfMemory>
+    requires { moves.now ≡ argument_moves 0 arguments.now }
+    ensures { IfOk result (λ b. b ≡ is_put_allowed (place_of place.now.facts.now place.now.covering.now place.now.own place.now.pending.now) (put_in arguments.now zone.now)) }
+{
+    match put_object(arguments, zone.object) {
+        None => Ok(false),
+        Some(object) => {
+            let y = PlacedZone {
+                object,
+                moves,
+                zone,
+            };
+            is_allowed(alloc, place, &y)
+        }
+    }
+}
+
+/// Whether nothing that is pending conflicts with a callee's zone, with the arguments put in.
+fn is_put_clear(
+    alloc: Global,
+    place: &Place<'_>,
+    moves: &[Move],
+    arguments: &[Argument],
+    zone: &Zone,
+) -> Result<bool, OutOfMemory>
+    requires { moves.now ≡ argument_moves 0 arguments.now }
+    ensures { IfOk result (λ b. b ≡ is_put_clear (place_of place.now.facts.now place.now.covering.now place.now.own place.now.pending.now) (put_in arguments.now zone.now)) }
+{
+    match put_object(arguments, zone.object) {
+        None => Ok(true),
+        Some(object) => {
+            let y = PlacedZone {
+                object,
+                moves,
+                zone,
+            };
+            is_clear(alloc, place, &y)
+        }
+    }
+}
+
+/// The same of each zone of a callee: it needs no cover, or has one.
+fn are_put_allowed(
+    alloc: Global,
+    place: &Place<'_>,
+    moves: &[Move],
+    arguments: &[Argument],
+    zones: &[Zone],
+) -> Result<bool, OutOfMemory>
+    requires { moves.now ≡ argument_moves 0 arguments.now }
+    ensures { IfOk result (λ b. b ≡ list_all (λ (z : ZoneKind). is_put_allowed (place_of place.now.facts.now place.now.covering.now place.now.own place.now.pending.now) (put_in arguments.now z)) zones.now) }
+{
+    for zone in zones {
+        if !is_put_allowed(alloc, place, moves, arguments, zone)? {
+            return Ok(false);
+        }
+    }
+    Ok(true)
+}
+
+/// The same of each zone of a callee: nothing that is pending conflicts with it.
+fn are_put_clear(
+    alloc: Global,
+    place: &Place<'_>,
+    moves: &[Move],
+    arguments: &[Argument],
+    zones: &[Zone],
+) -> Result<bool, OutOfMemory>
+    requires { moves.now ≡ argument_moves 0 arguments.now }
+    ensures { IfOk result (λ b. b ≡ list_all (λ (z : ZoneKind). is_put_clear (place_of place.now.facts.now place.now.covering.now place.now.own place.now.pending.now) (put_in arguments.now z)) zones.now) }
+{
+    for zone in zones {
+        if !is_put_clear(alloc, place, moves, arguments, zone)? {
+            return Ok(false);
+        }
+    }
+    Ok(true)
+}
+
+/// Whether each zone needs no cover, or has one.
+fn are_allowed(alloc: Global, place: &Place<'_>, zones: &[Zone]) -> Result<bool, OutOfMemory>
+    ensures { IfOk result (λ b. b ≡ list_all (λ (z : ZoneKind). is_allowed (place_of place.now.facts.now place.now.covering.now place.now.own place.now.pending.now) (as_written z)) zones.now) }
+{
+    for zone in zones {
+        if !is_allowed(alloc, place, &as_written(zone))? {
+            return Ok(false);
+        }
+    }
+    Ok(true)
+}
+
+/// Whether nothing that is pending conflicts with one of the zones.
+fn are_clear(alloc: Global, place: &Place<'_>, zones: &[Zone]) -> Result<bool, OutOfMemory>
+    ensures { IfOk result (λ b. b ≡ list_all (λ (z : ZoneKind). is_clear (place_of place.now.facts.now place.now.covering.now place.now.own place.now.pending.now) (as_written z)) zones.now) }
+{
+    for zone in zones {
+        if !is_clear(alloc, place, &as_written(zone))? {
+            return Ok(false);
+        }
+    }
+    Ok(true)
+}
+
+/// 604: of a call of this function, its zones.
+fn callee_use(
+    alloc: Global,
+    place: &Place<'_>,
+    callee: &Function,
+    arguments: &[Argument],
+) -> Result<Use, OutOfMemory>
+    ensures { IfOk result (λ u. u ≡ callee_use (place_of place.now.facts.now place.now.covering.now place.now.own place.now.pending.now) callee.now arguments.now) }
+{
+    let moves = argument_moves(alloc, arguments)?;
+    let zones = callee.zones.as_slice();
+    Ok(Use {
+        number: 604,
+        covered: are_put_allowed(alloc, place, &moves, arguments, zones)?,
+        clear: are_put_clear(alloc, place, &moves, arguments, zones)?,
+    })
+}
+
+/// 604: of a call, the callee's zones.
+fn call_use(
+    alloc: Global,
+    place: &Place<'_>,
+    functions: &[Function],
+    callee: FunctionId,
+    arguments: &[Argument],
+) -> Result<Use, OutOfMemory>
+    ensures { IfOk result (λ u. u ≡ call_use (place_of place.now.facts.now place.now.covering.now place.now.own place.now.pending.now) (slice_get functions.now callee.0) arguments.now) }
+{
+    match functions.get(callee.0) {
+        Some(callee) => callee_use(alloc, place, callee, arguments),
+        None => Ok(no_use()),
+    }
+}
+
+/// 604: of a new child, its foot.
+fn foot_use(alloc: Global, place: &Place<'_>, foot: &[Zone]) -> Result<Use, OutOfMemory>
+    ensures { IfOk result (λ u. u ≡ foot_use (place_of place.now.facts.now place.now.covering.now place.now.own place.now.pending.now) foot.now) }
+{
+    Ok(Use {
+        number: 604,
+        covered: are_allowed(alloc, place, foot)?,
+        clear: are_clear(alloc, place, foot)?,
+    })
+}
+
+/// What an instruction touches.
+pub fn step_use(
+    alloc: Global,
+    place: &Place<'_>,
+    functions: &[Function],
+    steps: &[Step],
+    line: u32,
+    instruction: &Instruction,
+) -> Result<Use, OutOfMemory>
+    ensures { IfOk result (λ u. u ≡ step_use (place_of place.now.facts.now place.now.covering.now place.now.own place.now.pending.now) functions.now steps.now line instruction.now) }
+{
+    match instruction {
+        Instruction::Load { address, .. } => {
+            cell_use(
+                alloc,
+                place,
+                line,
+                Mode::Reads,
+                address_cell(steps, *address),
+            )
+        }
+        Instruction::Store { address, .. } => {
+            cell_use(
+                alloc,
+                place,
+                line,
+                Mode::Writes,
+                address_cell(steps, *address),
+            )
+        }
+        Instruction::AtomicAdd { address, .. } => {
+            cell_use(
+                alloc,
+                place,
+                line,
+                Mode::Adds,
+                address_cell(steps, *address),
+            )
+        }
+        Instruction::StoreZeros { cells, object } => {
+            let first = Cell {
+                object: *object,
+                index: Operand::Number(0),
+            };
+            let zone = cells_zone(alloc, line, Mode::Writes, first, *cells)?;
+            access_use(alloc, place, &zone)
+        }
+        Instruction::Call {
+            callee,
+            arguments,
+            ..
+        } => call_use(alloc, place, functions, *callee, arguments.as_slice()),
+        Instruction::Binary { .. }
+        | Instruction::Compare { .. }
+        | Instruction::Convert { .. }
+        | Instruction::Alloca { .. }
+        | Instruction::ElementPointer { .. }
+        | Instruction::StartRegion { .. } => Ok(no_use()),
+    }
+}
+
+/// The foot of the child of a detach.
+pub fn child_foot<'a>(blocks: &'a [Block], terminator: &Terminator) -> &'a [Zone]
+    ensures { result.now ≡ child_foot blocks.now terminator.now }
+{
+    match terminator {
+        Terminator::Detach { body, .. } => match blocks.get(body.0) {
+            Some(block) => block.foot.as_slice(),
+            None => &[],
+        },
+        Terminator::Jump { .. }
+        | Terminator::Branch { .. }
+        | Terminator::Switch { .. }
+        | Terminator::Return { .. }
+        | Terminator::Reattach { .. }
+        | Terminator::Sync { .. } => &[],
+    }
+}
+
+/// What a terminator touches: the foot of a new child.
+pub fn end_use(
+    alloc: Global,
+    place: &Place<'_>,
+    blocks: &[Block],
+    terminator: &Terminator,
+) -> Result<Use, OutOfMemory>
+    ensures { IfOk result (λ u. u ≡ end_use (place_of place.now.facts.now place.now.covering.now place.now.own place.now.pending.now) blocks.now terminator.now) }
+{
+    foot_use(alloc, place, child_foot(blocks, terminator))
+}
