@@ -57,9 +57,12 @@ abbrev pub pointed : RegisterId → List Step → Option Cell
 pointed r [] = None
 pointed r (s ∷ steps) = or_else (pointer_of r s.instruction) (pointed r steps)
 
+abbrev pub first_cell : ObjectName → Cell
+first_cell object = record { object = object; index = Number (pos 0) }
+
 -- the first cell of an object, or what a `getelementptr` of the block points to
 abbrev pub address_cell : List Step → Address → Option Cell
-address_cell steps (First object) = Some (record { object = object; index = Number (pos 0) })
+address_cell steps (First object) = Some (first_cell object)
 address_cell steps (Element r) = pointed r steps
 
 -- ---- the zone of an access
@@ -171,7 +174,7 @@ step_use p functions steps line (instruction.Alloca d alloca) = no_use
 step_use p functions steps line (instruction.ElementPointer d object index) = no_use
 step_use p functions steps line (instruction.Load d address) = cell_use p line Reads (address_cell steps address)
 step_use p functions steps line (instruction.Store x address) = cell_use p line Writes (address_cell steps address)
-step_use p functions steps line (instruction.StoreZeros cells object) = access_use p (Some (cells_zone line Writes (record { object = object; index = Number (pos 0) }) cells))
+step_use p functions steps line (instruction.StoreZeros cells object) = access_use p (Some (cells_zone line Writes (first_cell object) cells))
 step_use p functions steps line (instruction.AtomicAdd address x) = cell_use p line Adds (address_cell steps address)
 step_use p functions steps line (instruction.Call d callee arguments) = call_use p (slice_get functions callee.0) arguments
 step_use p functions steps line (instruction.StartRegion d) = no_use

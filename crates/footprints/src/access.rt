@@ -1,5 +1,5 @@
 ghost use Rattle.std.specs.Prelude.{◌≡◌, ◌+ℤ◌, pos, IfOk};
-ghost use Rattle.footprints.specs.Footprints.{pointer_of, pointed, address_cell, operand_terms, operand_constant, form_at, cells_zone};
+ghost use Rattle.footprints.specs.Footprints.{pointer_of, pointed, first_cell, address_cell, operand_terms, operand_constant, form_at, cells_zone};
 
 use linear::{Form, RegisterId, Term};
 use lists::{OutOfMemory, Seq};
@@ -56,15 +56,22 @@ fn pointed(register: RegisterId, steps: &[Step]) -> Option<Cell>
     None
 }
 
+/// The first cell of an object.
+pub fn first_cell(object: ObjectName) -> Cell
+    ensures { result ≡ first_cell object }
+{
+    Cell {
+        object,
+        index: Operand::Number(0),
+    }
+}
+
 /// The first cell of an object, or what a `getelementptr` of the block points to.
 pub fn address_cell(steps: &[Step], address: Address) -> Option<Cell>
     ensures { result ≡ address_cell steps.now address }
 {
     match address {
-        Address::First(object) => Some(Cell {
-            object,
-            index: Operand::Number(0),
-        }),
+        Address::First(object) => Some(first_cell(object)),
         Address::Element(register) => pointed(register, steps),
     }
 }

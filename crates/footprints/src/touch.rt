@@ -1,17 +1,18 @@
 ghost use Rattle.std.specs.Prelude.{◌≡◌, Some, IfOk, slice_get};
 ghost use Rattle.std.specs.List.{list_all};
+ghost use Rattle.syntax.specs.declared.operator.Mode.TheVariants.{Writes};
 ghost use Rattle.program.specs.declared.annotation.Zone.{Zone as ZoneKind};
 ghost use Rattle.footprints.specs.Zones.{as_written};
 ghost use Rattle.ranges.specs.Inequalities.{argument_moves};
-ghost use Rattle.footprints.specs.Footprints.{place_of, is_allowed, is_clear, cell_use, access_use, put_object, put_in, is_put_allowed, is_put_clear, no_use, callee_use, call_use, foot_use, step_use, child_foot, end_use};
+ghost use Rattle.footprints.specs.Footprints.{place_of, address_cell, first_cell, cells_zone, is_allowed, is_clear, cell_use, access_use, put_object, put_in, is_put_allowed, is_put_clear, no_use, callee_use, call_use, foot_use, step_use, child_foot, end_use};
 
-use crate::access::{Cell, address_cell, cells_zone};
+use crate::access::{Cell, address_cell, cells_zone, first_cell};
 use crate::place::{Place, as_written, is_allowed, is_clear};
 use crate::zone::PlacedZone;
 use cfg::Move;
 use lists::OutOfMemory;
 use program::{
-    Argument, Block, Function, FunctionId, Instruction, Mode, ObjectName, Operand, Step,
+    Address, Argument, Block, Function, FunctionId, Instruction, Mode, ObjectName, Step,
     Terminator, Zone,
 };
 use ranges::argument_moves;
@@ -69,6 +70,35 @@ fn cell_use(
             clear: true,
         }),
     }
+}
+
+/// 601: of an access through an address of a block of these steps.
+fn address_use(
+    alloc: Global,
+    place: &Place<'_>,
+    steps: &[Step],
+    line: u32,
+    mode: Mode,
+    address: Address,
+) -> Result<Use, OutOfMemory>
+    ensures { IfOk result (λ u. u ≡ cell_use (place_of place.now.facts.now place.now.covering.now place.now.own place.now.pending.now) line mode (address_cell steps.now address)) }
+{
+    let cell = address_cell(steps, address);
+    cell_use(alloc, place, line, mode, cell)
+}
+
+/// 601: of a store of an array of so many cells.
+fn array_use(
+    alloc: Global,
+    place: &Place<'_>,
+    line: u32,
+    object: ObjectName,
+    cells: u64,
+) -> Result<Use, OutOfMemory>
+    ensures { IfOk result (λ u. u ≡ access_use (place_of place.now.facts.now place.now.covering.now place.now.own place.now.pending.now) (Some (cells_zone line Writes (first_cell object) cells))) }
+{
+    let zone = cells_zone(alloc, line, Mode::Writes, first_cell(object), cells)?;
+    access_use(alloc, place, &zone)
 }
 
 /// The caller's object behind a callee's name.
@@ -253,39 +283,16 @@ pub fn step_use(
 {
     match instruction {
         Instruction::Load { address, .. } => {
-            cell_use(
-                alloc,
-                place,
-                line,
-                Mode::Reads,
-                address_cell(steps, *address),
-            )
+            address_use(alloc, place, steps, line, Mode::Reads, *address)
         }
         Instruction::Store { address, .. } => {
-            cell_use(
-                alloc,
-                place,
-                line,
-                Mode::Writes,
-                address_cell(steps, *address),
-            )
+            address_use(alloc, place, steps, line, Mode::Writes, *address)
         }
         Instruction::AtomicAdd { address, .. } => {
-            cell_use(
-                alloc,
-                place,
-                line,
-                Mode::Adds,
-                address_cell(steps, *address),
-            )
+            address_use(alloc, place, steps, line, Mode::Adds, *address)
         }
         Instruction::StoreZeros { cells, object } => {
-            let first = Cell {
-                object: *object,
-                index: Operand::Number(0),
-            };
-            let zone = cells_zone(alloc, line, Mode::Writes, first, *cells)?;
-            access_use(alloc, place, &zone)
+            array_use(alloc, place, line, *object, *cells)
         }
         Instruction::Call {
             callee,
