@@ -1,5 +1,5 @@
 -- Reading line by line, up to the first line with a fault.
-use Rattle.std.specs.Prelude.{◌≡◌, ◌<◌, ◌≤◌, ℕ, ◌+◌, ◌-◌, Bool, true, false, ◌&&◌, ◌||◌, is_some, List, [], ◌∷◌, length, Option, Some, None, Result, Ok, Err, IsUtf8, if◌then◌else◌}
+use Rattle.std.specs.Prelude.{◌≡◌, ◌<◌, ◌≤◌, ℕ, ◌+◌, ◌-◌, Bool, true, ◌&&◌, ◌||◌, is_some, List, [], ◌∷◌, length, Option, Some, None, Result, Ok, Err, IsUtf8, if◌then◌else◌}
 use Rattle.ir_lex.specs.declared.fault.TextFault.{TextFault}
 use Rattle.ir_lex.specs.declared.fault.TextFault.TheVariants as faults
 use Rattle.ir_item.specs.declared.item.Item.{Item}
