@@ -1,5 +1,6 @@
 //! Modules as texts, and the fault that each names. Expected faults are worked by hand from the rules in `docs/RULES.md`.
 
+mod allocas;
 mod calls;
 mod definedness;
 mod forms;
