@@ -2,15 +2,15 @@
 
 mod allocas;
 mod calls;
-mod definedness;
+mod facts;
 mod forms;
 mod graph;
 mod names;
 mod pointers;
-mod ranges;
 mod regions;
 mod samples;
-mod types;
+mod type_rules;
+mod undefined_registers;
 
 use crate::refusal::Refused;
 use crate::verified::verify;
