@@ -5,6 +5,7 @@ use frame::Path;
 use lists::Seq;
 use schedule_core::Event;
 use std::alloc::{AllocError, Global};
+use std::process::Abort;
 use std::test::Fail;
 
 /// The number of events and their text again, or the fault.
@@ -21,10 +22,10 @@ fn shown(alloc: Global, text: &[u8]) -> Result<String, AllocError> {
 }
 
 /// Checks that each text is answered so.
-fn check(alloc: Global, wanted: &[(&[u8], &str)]) -> Result<(), Fail> {
+fn check(rt: &(impl Abort + AllocGlobal), wanted: &[(&[u8], &str)]) -> Result<(), Fail> {
     for (text, answer) in wanted {
-        let found = shown(alloc, text)?;
-        assert_eq!(found.as_str(), *answer);
+        let found = shown(rt.alloc(), text)?;
+        assert_eq!(rt; found.as_str(), *answer);
     }
     Ok(())
 }
@@ -41,7 +42,7 @@ fn each_list_has_one_spelling(rt: HostRuntime) -> Result<(), Fail> {
         (b"step 0 1\nstep 0 1\n", "901 line 2"),
         (b"step 0 2\nstep 1 1", "901 line 2"),
     ];
-    check(rt.alloc(), &wanted)
+    check(&rt, &wanted)
 }
 
 #[test]
@@ -66,7 +67,7 @@ fn other_lines_are_bad(rt: HostRuntime) -> Result<(), Fail> {
         (b"steal 64 root\n", "901 line 1"),
         (b"steal 0 roots\n", "901 line 1"),
     ];
-    check(rt.alloc(), &wanted)
+    check(&rt, &wanted)
 }
 
 #[test]
@@ -80,7 +81,7 @@ fn too_many_events_are_named_by_their_line(rt: HostRuntime) -> Result<(), Fail> 
         (b"step 0 1048575\nstep 1 1\nsteal 2 root\n", "902 line 3"),
         (b"step 0 1048576\nstep 0 1\n", "901 line 2"),
     ];
-    check(rt.alloc(), &wanted)
+    check(&rt, &wanted)
 }
 
 #[test]
@@ -95,6 +96,6 @@ fn events_are_printed_in_runs(rt: HostRuntime) -> Result<(), Fail> {
     events.push(Event::Steal(1, path))?;
     events.push(Event::Step(1))?;
     let text = print_schedule(alloc, events.as_slice())?;
-    assert_eq!(text.as_str(), "step 0 2\nsteal 1 root.0.12\nstep 1 1\n");
+    assert_eq!(rt; text.as_str(), "step 0 2\nsteal 1 root.0.12\nstep 1 1\n");
     Ok(())
 }

@@ -1,7 +1,13 @@
 mod Always
+mod Forking
 mod Judged
+mod Labelled
+mod Listing
 mod Lookups
+mod NeverSure
 mod Paths
 mod Places
+mod Relaxing
 mod Tables
+mod TakingOut
 mod Undefined

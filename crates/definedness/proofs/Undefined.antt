@@ -1,7 +1,7 @@
 -- The table of a function, and what is named of it.
 use Rattle.std.proofs.Common.{◌≡◌, ◌↔◌, ℕ, ◌+◌, ◌<◌, true, List, [], ◌∷◌, ◌++◌, suc, length, get_or, take, map, Option, Some, refl, sym, ap, subst, ◌∙◌, arith}
 use Rattle.std.specs.Prelude.{slice_get}
-use Rattle.std.proofs.lemmas.List.{take_more}
+use Rattle.std.proofs.lemmas.List.{take_more, length-map}
 use Rattle.std.proofs.lemmas.Option.{slice_get_within, slice_get-get_or}
 use Rattle.program.specs.declared.function.Block.{Block}
 use Rattle.program.specs.declared.function.Function.{Function}
@@ -16,10 +16,12 @@ use Rattle.definedness.specs.declared.act.Act.TheVariants.{Needs, Gives}
 use Rattle.definedness.specs.declared.act.BlockActs.{BlockActs}
 use Rattle.definedness.specs.declared.table.Given.{Given}
 use Rattle.definedness.specs.declared.table.Row.{Row}
-use Rattle.definedness.specs.Definedness.{registers_from, register_table, IsUndefined}
+use Rattle.definedness.specs.Definedness.{registers_from, register_table, alloca_table, IsUndefined, IsUnsure}
 use Rattle.definedness.specs.Missing.{IsMissing}
 use Rattle.definedness.specs.Needs.{gives, given_of, mark_at, IsNeedBelow, AreNeedsBelow, IsNeedBroken, IsTableBroken}
+use Rattle.definedness.specs.AllocaActs.{alloca_acts}
 use Rattle.definedness.specs.RegisterActs.{register_acts}
+use Rattle.definedness.specs.Sure.{IsNeverSure}
 use Rattle.definedness.proofs.Places.{same_item}
 
 pub registers_length : (function : Function) (b : ℕ) (blocks : List Block) → length (registers_from function b blocks) ≡ length blocks
@@ -80,6 +82,21 @@ undefined_named function blocks table t1 t2 t5 all a3 rows r4 count r graph made
     table_named (IsMissing (graph_of function).blocks (map given_of T)) rows count (length blocks) 401 T
     (λ n b l w. subst (λ bs. (mark_at rows n b ≡ true) ↔ IsMissing bs (map given_of T) n b) graph (subst (λ a. (mark_at rows n b ≡ true) ↔ IsMissing blocks a n b) g3 (exact n b l w)))
     (table_size function blocks graph)
+    (subst (λ t. AreNeedsBelow count t) f2 below)
+    r
+    (subst (λ t. P rows t) f5 (subst (λ rs. P rs t5) e4 j))
+
+pub unsure_named : (function : Function) (blocks : List BlockEdges) (bodies : List Block) (table t1 t2 t5 : List BlockActs) (all a3 : List Given) (rows r4 : List Row) (count : ℕ) (r : Option Broken) → blocks ≡ (graph_of function).blocks → bodies ≡ function.blocks → table ≡ alloca_table function → t1 ≡ table → t2 ≡ table → t5 ≡ table → all ≡ map given_of t1 → a3 ≡ all → r4 ≡ rows → AreNeedsBelow count t2 → ((n b : ℕ) → n < count → b < length blocks → (mark_at rows n b ≡ true) ↔ IsNeverSure bodies blocks a3 n b) → IsNamed (IsTableBroken (λ n b. mark_at r4 n b ≡ true) 402 t5) r → IsNamed (IsUnsure function) r
+unsure_named function blocks bodies table t1 t2 t5 all a3 rows r4 count r graph read made e1 e2 e5 defs e3 e4 below exact j =
+    let T = alloca_table function in
+    let f1 : t1 ≡ T = e1 ∙ made in
+    let f2 : t2 ≡ T = e2 ∙ made in
+    let f5 : t5 ≡ T = e5 ∙ made in
+    let g3 : a3 ≡ map given_of T = e3 ∙ defs ∙ ap (map given_of) f1 in
+    let P : List Row → List BlockActs → Type 0 = λ rs t. IsNamed (IsTableBroken (λ n b. mark_at rs n b ≡ true) 402 t) r in
+    table_named (IsNeverSure function.blocks (graph_of function).blocks (map given_of T)) rows count (length blocks) 402 T
+    (λ n b l w. subst (λ bs. (mark_at rows n b ≡ true) ↔ IsNeverSure function.blocks bs (map given_of T) n b) graph (subst (λ a. (mark_at rows n b ≡ true) ↔ IsNeverSure function.blocks blocks a n b) g3 (subst (λ bs. (mark_at rows n b ≡ true) ↔ IsNeverSure bs blocks a3 n b) read (exact n b l w))))
+    (length-map function.blocks (λ (block : Block). let acts : BlockActs = record { acts = alloca_acts function.allocas block } in acts) ∙ sym (ap length graph ∙ length-edges_from function.blocks 0 function.blocks))
     (subst (λ t. AreNeedsBelow count t) f2 below)
     r
     (subst (λ t. P rows t) f5 (subst (λ rs. P rs t5) e4 j))

@@ -1,5 +1,5 @@
 -- The rules on definedness: what is broken in a module, and what a fault says.
-use Rattle.std.specs.Prelude.{◌≡◌, ℕ, suc, List, [], ◌∷◌, ◌++◌, map, take, Some, Any, Contains, slice_get}
+use Rattle.std.specs.Prelude.{◌≡◌, ◌⊎◌, ℕ, suc, List, [], ◌∷◌, ◌++◌, map, take, Some, Any, Contains, slice_get}
 use Rattle.program.specs.declared.function.Block.{Block}
 use Rattle.program.specs.declared.function.Function.{Function}
 use Rattle.program.specs.declared.function.Program.{Program}
@@ -13,7 +13,9 @@ use Rattle.definedness.specs.declared.fault.DefinedFault.{DefinedFault}
 use Rattle.definedness.specs.declared.fault.DefinedFault.TheVariants.{Fault, Memory}
 use Rattle.definedness.specs.Missing.{defined_along, IsMissing}
 use Rattle.definedness.specs.Needs.{gives, given_of, IsTableBroken}
+use Rattle.definedness.specs.AllocaActs.{alloca_acts}
 use Rattle.definedness.specs.RegisterActs.{register_acts}
+use Rattle.definedness.specs.Sure.{IsNeverSure}
 
 -- what the last blocks of a function do with registers, from the block of this number on
 abbrev pub registers_from : Function → ℕ → List Block → List BlockActs
@@ -34,8 +36,16 @@ AreRegistersDefined function =
     → slice_get (register_table function) b ≡ Some block → slice_get block.acts k ≡ Some (Needs n line) → IsPath (graph_of function).blocks 0 legs b
     → Contains (defined_along (map given_of (register_table function)) legs ++ gives (take k block.acts)) n
 
+abbrev pub alloca_table : Function → List BlockActs
+alloca_table function = map (λ block. record { acts = alloca_acts function.allocas block }) function.blocks
+
+-- 402: a load or the passing of an alloca that nothing before it in its block stores, where no labelling has the alloca for sure when
+-- the block begins
+abbrev pub IsUnsure : Function → Broken → Type 0
+IsUnsure function broken = IsTableBroken (IsNeverSure function.blocks (graph_of function).blocks (map given_of (alloca_table function))) 402 (alloca_table function) broken
+
 abbrev pub IsFunctionBroken : Function → Broken → Type 0
-IsFunctionBroken function broken = IsUndefined function broken
+IsFunctionBroken function broken = IsUndefined function broken ⊎ IsUnsure function broken
 
 abbrev pub IsDefinednessBroken : Program → Broken → Type 0
 IsDefinednessBroken program broken = Any (λ function. IsFunctionBroken function broken) program.functions

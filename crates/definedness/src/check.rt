@@ -1,18 +1,25 @@
-ghost use Rattle.std.specs.Prelude.{◌≡◌, ℕ, All, IfOk, IfErr};
+ghost use Rattle.std.specs.Prelude.{◌≡◌, ◌<◌, ◌↔◌, ℕ, true, length, All, IfOk, IfErr};
 ghost use Rattle.cfg.specs.Edges.{graph_of};
 ghost use Rattle.region_match.specs.ByLabel.{IsNamed};
-ghost use Rattle.definedness.specs.Definedness.{register_table, AreRegistersDefined, IsUndefined, IsFunctionBroken, IsDefinednessBroken, IsDefinednessFault};
+ghost use Rattle.region_match.specs.Tasks.{AreTasks, AreAllTasks};
+ghost use Rattle.definedness.specs.Needs.{mark_at};
+ghost use Rattle.definedness.specs.Sure.{IsNeverSure};
+ghost use Rattle.definedness.specs.Definedness.{register_table, alloca_table, AreRegistersDefined, IsUndefined, IsUnsure, IsFunctionBroken, IsDefinednessBroken, IsDefinednessFault};
 
 use crate::act::BlockActs;
+use crate::allocas::block_allocas;
 use crate::fault::DefinedFault;
+use crate::fork::all_forks;
 use crate::judge::table_fault;
+use crate::labels::synced_regions;
 use crate::missing::missing_rows;
 use crate::registers::block_registers;
-use crate::table::{all_given, count_needed};
+use crate::table::{Given, Row, all_given, count_needed};
+use crate::unsure::unsure_rows;
 use cfg::{BlockEdges, Broken, Graph, lower};
 use lists::Seq;
-use program::Function;
-use region_match::Regions;
+use program::{Block, Function};
+use region_match::{Regions, Task};
 use std::alloc::{AllocError, Global};
 
 /// What the blocks of a function do with registers.
@@ -46,29 +53,106 @@ fn register_fault(
     Ok(table_fault(alloc, &rows, 401, &table)?)
 }
 
+/// What the blocks of a function do with allocas.
+fn all_allocas(alloc: Global, function: &Function) -> Result<Vec<BlockActs>, AllocError>
+    ensures { IfOk result (λ table. table.items ≡ alloca_table function.now) }
+{
+    let allocas = function.allocas.as_slice();
+    let mut table: Vec<BlockActs> = Vec::new(alloc);
+    for block in function.blocks.as_slice() {
+        let acts = block_allocas(alloc, allocas, block)?;
+        table.push(BlockActs {
+            acts: Seq::from_vec(acts),
+        })?;
+    }
+    Ok(table)
+}
+
+/// The rows of the allocas of a function.
+fn alloca_rows(
+    alloc: Global,
+    bodies: &[Block],
+    blocks: &[BlockEdges],
+    tasks: &[Task],
+    all: &[Given],
+    count: usize,
+) -> Result<Vec<Row>, AllocError>
+    requires tasks { AreTasks blocks.now tasks.now }
+    requires size { length blocks.now ≡ length bodies.now }
+    ensures { IfOk result (λ rows. (n b : ℕ) → n < count → b < length blocks.now → (mark_at rows.items n b ≡ true) ↔ IsNeverSure bodies.now blocks.now all.now n b) }
+{
+    let regions = synced_regions(alloc, blocks)?;
+    let forks = all_forks(alloc, bodies, blocks, tasks)?;
+    Ok(unsure_rows(alloc, bodies, blocks, &forks, &regions, all, count)?)
+}
+
+/// 402: what is named of the allocas of a function.
+fn alloca_fault(
+    alloc: Global,
+    function: &Function,
+    blocks: &[BlockEdges],
+    tasks: &[Task],
+) -> Result<Option<Broken>, AllocError>
+    requires blocks { blocks.now ≡ (graph_of function.now).blocks }
+    requires tasks { AreTasks blocks.now tasks.now }
+    ensures { IfOk result (IsNamed (IsUnsure function.now)) }
+{
+    let table = all_allocas(alloc, function)?;
+    let all = all_given(alloc, &table)?;
+    let count = count_needed(&table)?;
+    let rows = alloca_rows(
+        alloc,
+        function.blocks.as_slice(),
+        blocks,
+        tasks,
+        &all,
+        count,
+    )?;
+    Ok(table_fault(alloc, &rows, 402, &table)?)
+}
+
+/// What is named of a function.
+fn function_fault(
+    alloc: Global,
+    function: &Function,
+    blocks: &[BlockEdges],
+    tasks: &[Task],
+) -> Result<Option<Broken>, AllocError>
+    requires blocks { blocks.now ≡ (graph_of function.now).blocks }
+    requires tasks { AreTasks blocks.now tasks.now }
+    ensures { IfOk result (IsNamed (IsFunctionBroken function.now)) }
+{
+    let of_registers = register_fault(alloc, function, blocks)?;
+    let of_allocas = alloca_fault(alloc, function, blocks, tasks)?;
+    Ok(lower(of_registers, of_allocas))
+}
+
 /// What is named of all functions.
-fn all_faults(alloc: Global, graph: &Graph) -> Result<Option<Broken>, AllocError>
+fn all_faults(alloc: Global, graph: &Graph, regions: &Regions) -> Result<Option<Broken>, AllocError>
+    requires { AreAllTasks graph.now.functions regions.now.functions }
     ensures { IfOk result (IsNamed (IsDefinednessBroken graph.now.typed.program)) }
 {
     let graphs = graph.functions.as_slice();
     let functions = graph.typed.program.functions.as_slice();
+    let tables = regions.functions.as_slice();
     let mut named: Option<Broken> = None;
     for (index, function) in functions.iter().enumerate() {
         let blocks = graphs[index].blocks.as_slice();
-        let broken = register_fault(alloc, function, blocks)?;
+        let broken = function_fault(alloc, function, blocks, tables[index].tasks.as_slice())?;
         named = lower(named, broken);
     }
     Ok(named)
 }
 
-/// Whether registers are defined wherever they are used (LLVM Language Reference, "Well-Formedness"). Of several faults
-/// that of the lowest line is named.
-pub fn defined(alloc: Global, graph: &Graph, _regions: &Regions) -> Result<(), DefinedFault>
+/// Whether registers are defined wherever they are used (LLVM Language Reference, "Well-Formedness"), and allocas have values
+/// wherever they are read. Of several faults that of the lowest line is named, and there that of the lowest number.
+pub fn defined(alloc: Global, graph: &Graph, regions: &Regions) -> Result<(), DefinedFault>
+    requires { AreAllTasks graph.now.functions regions.now.functions }
     ensures always { IfOk result (λ _. All AreRegistersDefined graph.now.typed.program.functions) }
     ensures right { IfOk result (λ _. (b : Broken) → IsDefinednessBroken graph.now.typed.program b → ⊥) }
     ensures fault { IfErr result (IsDefinednessFault graph.now.typed.program) }
 {
-    match all_faults(alloc, graph)? {
+    match all_faults(alloc, graph, regions)? {
         Some(broken) => Err(DefinedFault::Fault {
             number: broken.number,
             line: broken.line,

@@ -1,14 +1,19 @@
-//! Whether registers are defined and allocas have values wherever a program uses them.
+//! Whether registers are defined (401), and allocas have values (402), wherever a program uses them.
 #![tactic(auto)]
 
 mod act;
 mod allocas;
 mod check;
 mod fault;
+mod fork;
 mod judge;
+mod labels;
 mod missing;
 mod registers;
+mod sets;
+mod sweep;
 mod table;
+mod unsure;
 
 pub use check::defined;
 pub use fault::DefinedFault;

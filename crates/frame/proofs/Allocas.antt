@@ -1,10 +1,10 @@
 -- A write to one cell of an alloca.
-use Rattle.std.proofs.Common.{◌≡◌, ◌≢◌, ℕ, zero, suc, ◌<◌, List, [], ◌∷◌, length, refl, ap, sym, ◌∙◌, arith, Bool, true, false, cond, ℤ, Option, Some, ◌⊎◌, inl, inr, Vec, Global}
-use Rattle.std.specs.Prelude.{eqb, ◌&&◌, slice_get, slice_set, map}
+use Rattle.std.proofs.Common.{◌≡◌, ◌≢◌, ℕ, zero, suc, ◌<◌, List, [], ◌∷◌, length, refl, ap, sym, ◌∙◌, arith, Bool, true, false, cond, ℤ, Option, Some, None, ◌⊎◌, inl, inr, Vec, Global, ◌≤◌, subst}
+use Rattle.std.specs.Prelude.{IsTrue, eqb, ◌&&◌, slice_get, slice_set, map}
 use Rattle.std.specs.Option.{option_flatten}
 use Rattle.std.specs.Bool.{OnTrue}
 use Rattle.std.proofs.lemmas.Bool.Decides.{eqb_tells}
-use Rattle.frame.specs.Room.{cells_in}
+use Rattle.frame.specs.Room.{IsCellIn, cells_in}
 use Rattle.frame.proofs.Changes.{get_set, get_other}
 
 -- by points, over lists of lists
@@ -36,10 +36,27 @@ map_long : {X Y : Type 0} (f : X → Y) (xs : List X) → length (map f xs) ≡ 
 map_long f [] = refl
 map_long f (x ∷ xs) = ap suc (map_long f xs)
 
-pub allocas_set : (items : List (Vec (Option ℤ) Global)) (n i : ℕ) (z w : ℤ) (old new : Vec (Option ℤ) Global) (b : Bool) → n < length items → slice_get items n ≡ Some old → OnTrue b (i < length old.items) → OnTrue b (new.items ≡ slice_set old.items i (Some w)) → w ≡ z →
+pub allocas_set : (items : List (Vec (Option ℤ) Global)) (n i : ℕ) (z w : ℤ) (old new : Vec (Option ℤ) Global) (b : Bool) → n < length items → slice_get items n ≡ Some old → (IsTrue b → i < length old.items) → OnTrue b (new.items ≡ slice_set old.items i (Some w)) → w ≡ z →
     OnTrue b ((k j : ℕ) → cells_in (slice_get (map (λ (v : Vec (Option ℤ) Global). v.items) (slice_set items n new)) k) j ≡ cond (eqb n k && eqb i j) (Some z) (cells_in (slice_get (map (λ (v : Vec (Option ℤ) Global). v.items) items) k) j))
 allocas_set items n i z w old new false within at there set same = tt
 allocas_set items n i z w old new true within at there set same =
     let cells = λ (v : Vec (Option ℤ) Global). v.items in
-    set_at (map cells items) (map cells (slice_set items n new)) n i z old.items (map_get cells items n old at) there (let l = map_long cells items in omega (arith, within, l))
+    set_at (map cells items) (map cells (slice_set items n new)) n i z old.items (map_get cells items n old at) (there refl) (let l = map_long cells items in omega (arith, within, l))
     (map_set cells items n new ∙ ap (λ ys. slice_set (map cells items) n ys) (set ∙ ap (λ y. slice_set old.items i (Some y)) same))
+
+-- whether a cell is there
+pub there_to : (items : List (Vec (Option ℤ) Global)) (n i : ℕ) (old : Vec (Option ℤ) Global) → slice_get items n ≡ Some old → i < length old.items → IsCellIn (slice_get (map (λ (v : Vec (Option ℤ) Global). v.items) items) n) i
+there_to items n i old at h = subst (λ o. IsCellIn o i) (sym (map_get (λ (v : Vec (Option ℤ) Global). v.items) items n old at)) h
+
+pub there_from : (items : List (Vec (Option ℤ) Global)) (n i : ℕ) (old : Vec (Option ℤ) Global) → slice_get items n ≡ Some old → IsCellIn (slice_get (map (λ (v : Vec (Option ℤ) Global). v.items) items) n) i → i < length old.items
+there_from items n i old at h = subst (λ o. IsCellIn o i) (map_get (λ (v : Vec (Option ℤ) Global). v.items) items n old at) h
+
+get_past : {X : Type 0} (xs : List X) (n : ℕ) → length xs ≤ n → slice_get xs n ≡ None
+get_past [] n h = refl
+get_past (x ∷ xs) zero h = absurd (omega arith)
+get_past (x ∷ xs) (suc n) h = get_past xs n (omega arith)
+
+pub not_there : (items : List (Vec (Option ℤ) Global)) (n i : ℕ) → length items ≤ n → IsCellIn (slice_get (map (λ (v : Vec (Option ℤ) Global). v.items) items) n) i → ⊥
+not_there items n i h there =
+    let l = map_long (λ (v : Vec (Option ℤ) Global). v.items) items in
+    subst (λ o. IsCellIn o i) (get_past (map (λ (v : Vec (Option ℤ) Global). v.items) items) n (omega (arith, l, h))) there

@@ -69,6 +69,14 @@ cells_in (Some cells) i = option_flatten (slice_get cells i)
 abbrev pub alloca_in : Frame → ℕ → ℕ → Option ℤ
 alloca_in f n i = cells_in (slice_get (map (λ v. v.items) f.allocas.items) n) i
 
+abbrev pub IsCellIn : Option (List (Option ℤ)) → ℕ → Type 0
+IsCellIn None i = ⊥
+IsCellIn (Some cells) i = i < length cells
+
+-- the frame has the cell of its alloca
+abbrev pub HasCell : Frame → ℕ → ℕ → Type 0
+HasCell f n i = IsCellIn (slice_get (map (λ v. v.items) f.allocas.items) n) i
+
 -- the cell takes the number, and no other cell changes
 abbrev pub SetsAlloca : Frame → ℕ → ℕ → ℤ → Frame → Type 0
 SetsAlloca f n i z g = (k j : ℕ) → alloca_in g k j ≡ cond (eqb n k && eqb i j) (Some z) (alloca_in f k j)

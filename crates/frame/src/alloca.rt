@@ -1,7 +1,7 @@
 ghost use Rattle.std.specs.Prelude.{◌≡◌, ◌↔◌, ◌<◌, ◌&&◌, ℕ, Some, IsTrue, cond, eqb, length, slice_set};
 ghost use Rattle.std.specs.Bool.{OnFalse, OnTrue};
 ghost use Rattle.std.specs.Option.{option_flatten};
-ghost use Rattle.frame.specs.Room.{IsSound, SetsAlloca, alloca_in};
+ghost use Rattle.frame.specs.Room.{HasCell, IsSound, SetsAlloca, alloca_in};
 
 use crate::frame::Frame;
 use program::AllocaId;
@@ -9,7 +9,7 @@ use program::AllocaId;
 /// Gives a cell a number; false, and nothing is changed, where there is no such cell.
 fn set_cell(cells: &mut Vec<Option<i64>>, index: usize, number: i64) -> bool
     ensures not_there { OnFalse result (cells.new ≡ cells.old) }
-    ensures there { OnTrue result (index < length cells.old.items) }
+    ensures there { IsTrue result ↔ (index < length cells.old.items) }
     ensures set { OnTrue result (cells.new.items ≡ slice_set cells.old.items index (Some number)) }
 {
     if index < cells.len() {
@@ -35,6 +35,7 @@ impl Frame {
 
     /// Gives a cell of an alloca of this frame a number; false where there is no such cell.
     pub fn set_alloca_cell(&mut self, alloca: AllocaId, index: u64, number: i64) -> bool
+        ensures there { IsTrue result ↔ HasCell self.old alloca.0 index }
         ensures set { OnTrue result (SetsAlloca self.old alloca.0 index number self.new) }
         ensures only { self.new ≡ record self.old { allocas = self.new.allocas } }
         ensures length { length self.new.allocas.items ≡ length self.old.allocas.items }

@@ -1,3 +1,5 @@
+ghost use Rattle.std.specs.Prelude.{◌≡◌, ◌↔◌, ◌++◌, ◌∷◌, [], IfOk, IsTrue};
+
 use lists::{OutOfMemory, Seq};
 use std::alloc::Global;
 use std::cmp::Ordering;
@@ -12,14 +14,18 @@ pub struct Path {
 
 impl Path {
     /// The path of the root frame.
-    pub fn root(alloc: Global) -> Path {
+    pub fn root(alloc: Global) -> Path
+        ensures { result.numbers ≡ [] }
+    {
         Path {
             numbers: Seq::new(alloc),
         }
     }
 
     /// The path of the frame's child of this number.
-    pub fn child(&self, alloc: Global, number: u64) -> Result<Path, OutOfMemory> {
+    pub fn child(&self, alloc: Global, number: u64) -> Result<Path, OutOfMemory>
+        ensures { IfOk result (λ p. p.numbers ≡ self.now.numbers ++ (number ∷ [])) }
+    {
         let mut numbers = Vec::with_capacity(alloc, self.numbers.len().saturating_add(1))?;
         for each in self.numbers.as_slice() {
             numbers.push(*each)?;
@@ -31,13 +37,22 @@ impl Path {
     }
 
     /// The same path again.
-    pub fn copy(&self, alloc: Global) -> Result<Path, OutOfMemory> {
+    pub fn copy(&self, alloc: Global) -> Result<Path, OutOfMemory>
+        ensures { IfOk result (λ p. p.numbers ≡ self.now.numbers) }
+    {
+        let mut numbers = Vec::with_capacity(alloc, self.numbers.len())?;
+        for each in self.numbers.as_slice() {
+            numbers.push(*each)?;
+        }
         Ok(Path {
-            numbers: Seq::from_vec(self.numbers.as_slice().to_vec(alloc)?),
+            numbers: Seq::from_vec(numbers),
         })
     }
 
-    pub fn is_same(&self, other: &Path) -> bool {
+    /// Whether both name one frame.
+    pub fn is_same(&self, other: &Path) -> bool
+        ensures { IsTrue result ↔ (self.now.numbers ≡ other.now.numbers) }
+    {
         self.numbers.as_slice() == other.numbers.as_slice()
     }
 

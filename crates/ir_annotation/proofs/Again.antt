@@ -1,33 +1,24 @@
 -- A form that is spelled is read back.
-use Rattle.std.proofs.Common.{◌≡◌, ℕ, zero, suc, ◌+◌, ◌^◌, ◌<◌, ◌≤◌, ◌⊎◌, inl, inr, Bool, true, false, cond, eqb, ltb, leb, List, [], ◌∷◌, ◌++◌, length, get_or, take, drop, map, Option, Some, None, Result, Ok, Err, refl, sym, subst, ap, ◌∙◌, arith, append_assoc, append-nil, length-append}
-use Rattle.std.proofs.Math.Seq.{take-append_seam, drop-append_seam}
-use Rattle.std.specs.Prelude.{ℤ, pos, negsuc, neg_ℤ, ◌+ℤ◌, unsigned_abs, int_lt, int_le, All, not, ◌&&◌, ◌||◌, nat_le, codes, flat_map, slice_get, slice_set, slice_index_or, insert}
-use Rattle.std.specs.Ordering.{int_eq}
-use Rattle.std.specs.Char.{is_ascii_digit, is_ascii_alphabetic}
-use Rattle.std.specs.List.{prefix_len, list_all, filter_map, cons_option}
+use Rattle.std.proofs.Common.{◌≡◌, ℕ, suc, ◌^◌, ◌<◌, ◌≤◌, inl, inr, Bool, true, false, cond, eqb, ltb, List, [], ◌∷◌, ◌++◌, length, get_or, Option, Some, None, Result, Ok, Err, refl, sym, subst, ap, ◌∙◌, arith, append_assoc, append-nil, length-append}
+use Rattle.std.specs.Prelude.{ℤ, pos, negsuc, unsigned_abs, int_lt, All, ◌&&◌, ◌||◌, nat_le, codes, flat_map}
+use Rattle.std.specs.Char.{is_ascii_digit}
+use Rattle.std.specs.List.{list_all}
 use Rattle.std.specs.Str.{all_ascii_digits}
 use Rattle.std.specs.Str.Parse.{digits_value}
 use Rattle.std.specs.Fmt.{decimal, signed_decimal}
-use Rattle.std.proofs.lemmas.Int.{ints}
 use Rattle.std.proofs.lemmas.Bool.{eqb-true, ltb-true, lt-ltb, le-leb, cases_eq}
 use Rattle.std.proofs.lemmas.Bool.Decides.{nat_tests}
 use Rattle.std.proofs.lemmas.Fmt.{decimal_digit, digits_decimal, digits_value-decimal, first_decimal, decimal_nonempty}
-use Rattle.std.proofs.lemmas.List.{take_all, drop_all}
 use Rattle.std.proofs.lemmas.List.Elements.{All-head, All-tail}
 use Rattle.std.proofs.lemmas.List.Folds.{list_all-append}
-use Rattle.std.proofs.lemmas.Option.{slice_get_past}
 use Rattle.syntax.specs.declared.annotation.Term.{Term}
-use Rattle.syntax.specs.declared.annotation.Form.{Form}
 use Rattle.ir_annotation.specs.declared.limits.Limited.{Limited}
-use Rattle.ir_annotation.specs.declared.sums.SumTerm.{SumTerm}
-use Rattle.ir_annotation.specs.declared.sums.SignedTerm.{SignedTerm}
 use Rattle.ir_annotation.specs.Bounds.{is_no_sign}
-use Rattle.ir_annotation.specs.Canonical.{is_earlier, AreRising, IsTerm, IsCanonical}
-use Rattle.ir_annotation.specs.Limits.{within, past_limit, up_to, fits_form, narrowed}
-use Rattle.ir_annotation.specs.Reading.{◌>>=◌}
-use Rattle.ir_annotation.specs.Words.{begins_name, continues_name, is_name, is_numeral, small_value, number_of, name_of, register_of}
-use Rattle.ir_annotation.specs.Forms.{SignedText, Cut, as_signed, onto_cut, cut_of, signed_texts, signed, term_behind, is_no_star, term_by_number, term_of, Total, is_before, has_name, is_at, with_more, added, plus, all_added, nothing, kept, is_narrow, form_from, form_of}
-use Rattle.ir_annotation.specs.Spelling.{sign_text, factor_text, term_text, constant_text, terms_text, form_text}
+use Rattle.ir_annotation.specs.Canonical.{IsTerm}
+use Rattle.ir_annotation.specs.Limits.{within, past_limit, up_to}
+use Rattle.ir_annotation.specs.Words.{begins_name, continues_name, is_name, is_numeral, small_value, number_of, name_of}
+use Rattle.ir_annotation.specs.Forms.{SignedText, Cut, as_signed, cut_of, signed_texts, signed, is_no_star}
+use Rattle.ir_annotation.specs.Spelling.{sign_text, factor_text, term_text, constant_text, terms_text}
 use Rattle.ir_annotation.proofs.Digits.{both, own}
 use Rattle.ir_annotation.proofs.Adding.{plain_here}
 

@@ -1,18 +1,16 @@
 -- The terms of a spelled form, read and added up, are the form's.
-use Rattle.std.proofs.Common.{◌≡◌, ℕ, zero, suc, ◌+◌, ◌^◌, ◌<◌, ◌≤◌, ◌⊎◌, inl, inr, Bool, true, false, cond, eqb, leb, List, [], ◌∷◌, ◌++◌, length, take, drop, map, Option, Some, None, Result, Ok, Err, refl, sym, subst, ap, ◌∙◌, arith, append_assoc, append-nil}
+use Rattle.std.proofs.Common.{◌≡◌, ℕ, suc, ◌+◌, ◌^◌, ◌<◌, Bool, true, false, cond, eqb, leb, List, [], ◌∷◌, ◌++◌, length, take, drop, map, Option, Some, None, Result, Ok, refl, sym, subst, ap, ◌∙◌, arith, append_assoc, append-nil}
 use Rattle.std.proofs.Math.Seq.{take-append_seam, drop-append_seam}
-use Rattle.std.specs.Prelude.{ℤ, pos, negsuc, ◌+ℤ◌, unsigned_abs, All, ◌&&◌, codes, slice_get, slice_set, slice_index_or, insert}
-use Rattle.std.specs.Ordering.{int_eq}
+use Rattle.std.specs.Prelude.{ℤ, pos, negsuc, ◌+ℤ◌, unsigned_abs, All, ◌&&◌, codes, slice_set, slice_index_or, insert}
 use Rattle.std.specs.Char.{is_ascii_digit}
 use Rattle.std.specs.List.{prefix_len, list_all, filter_map, cons_option}
 use Rattle.std.specs.Str.{all_ascii_digits}
-use Rattle.std.specs.Fmt.{decimal, signed_decimal}
+use Rattle.std.specs.Fmt.{decimal}
 use Rattle.std.proofs.lemmas.Int.{ints}
 use Rattle.std.proofs.lemmas.Bool.{eqb-true, le-leb}
-use Rattle.std.proofs.lemmas.Bool.Decides.{nat_tests}
 use Rattle.std.proofs.lemmas.Fmt.{decimal_nonempty}
 use Rattle.std.proofs.lemmas.List.{take_all, drop_all}
-use Rattle.std.proofs.lemmas.List.Elements.{All-head, All-tail, All-weaker}
+use Rattle.std.proofs.lemmas.List.Elements.{All-head, All-tail}
 use Rattle.std.proofs.lemmas.List.Folds.{list_all-append}
 use Rattle.std.proofs.lemmas.Option.{slice_get_past}
 use Rattle.syntax.specs.declared.annotation.Term.{Term}
@@ -23,7 +21,7 @@ use Rattle.ir_annotation.specs.declared.sums.SignedTerm.{SignedTerm}
 use Rattle.ir_annotation.specs.Canonical.{is_earlier, AreRising, IsTerm, IsCanonical}
 use Rattle.ir_annotation.specs.Limits.{within, past_limit, fits_form, narrowed}
 use Rattle.ir_annotation.specs.Reading.{◌>>=◌}
-use Rattle.ir_annotation.specs.Words.{number_of, name_of, register_of}
+use Rattle.ir_annotation.specs.Words.{number_of, name_of}
 use Rattle.ir_annotation.specs.Forms.{SignedText, signed_texts, signed, term_behind, is_no_star, term_by_number, term_of, Total, is_before, has_name, is_at, with_more, added, plus, all_added, nothing, kept, is_narrow, form_from, form_of}
 use Rattle.ir_annotation.specs.Spelling.{terms_text, form_text}
 use Rattle.ir_annotation.proofs.Digits.{both}

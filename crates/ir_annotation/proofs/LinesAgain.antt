@@ -1,10 +1,8 @@
 -- Annotations that are printed are read back.
-use Rattle.std.proofs.Common.{◌≡◌, ℕ, ◌^◌, ◌<◌, ◌≤◌, Bool, true, false, cond, List, [], ◌∷◌, ◌++◌, Option, Some, None, Result, Ok, Err, refl, sym, ap, ◌∙◌, arith}
-use Rattle.std.specs.Prelude.{codes, nat_le, ◌&&◌}
-use Rattle.std.specs.Str.{bytes_eq}
+use Rattle.std.proofs.Common.{◌≡◌, ℕ, ◌^◌, ◌<◌, ◌≤◌, Bool, cond, List, [], ◌∷◌, ◌++◌, Option, Result, Ok, Err, refl, ap, ◌∙◌, arith}
+use Rattle.std.specs.Prelude.{codes}
 use Rattle.std.specs.Fmt.{decimal}
 use Rattle.std.proofs.lemmas.Bool.{le-leb}
-use Rattle.syntax.specs.declared.annotation.Form.{Form}
 use Rattle.syntax.specs.declared.annotation.Relation.{Relation}
 use Rattle.syntax.specs.declared.annotation.Relation.TheVariants.{AtMost, AtLeast}
 use Rattle.syntax.specs.declared.annotation.Inequality.{Inequality}
@@ -20,11 +18,9 @@ use Rattle.syntax.specs.declared.operator.Mode.TheVariants.{Reads, Writes, Adds}
 use Rattle.ir_annotation.specs.declared.limits.Limited.{Limited}
 use Rattle.ir_annotation.specs.declared.meaning.Annotation.{Annotation}
 use Rattle.ir_annotation.specs.declared.meaning.Annotation.TheVariants as annotation
-use Rattle.ir_annotation.specs.declared.meaning.AnnotationLine.{AnnotationLine}
 use Rattle.ir_annotation.specs.Limits.{within, past_limit, up_to}
-use Rattle.ir_annotation.specs.Reading.{◌>>=◌, made}
-use Rattle.ir_annotation.specs.Words.{is_numeral, small_value, number_of, name_of, register_of, object_of, relation_of, mode_of}
-use Rattle.ir_annotation.specs.Forms.{form_of}
+use Rattle.ir_annotation.specs.Reading.{made}
+use Rattle.ir_annotation.specs.Words.{small_value, number_of, name_of, register_of, object_of, relation_of, mode_of}
 use Rattle.ir_annotation.specs.Spelling.{form_text, relation_text, mode_text, object_text}
 use Rattle.ir_annotation.specs.Lines.{inequality_of, zone_of, measure_of, budget_of, left_of, moded_zone_of, pending_of, as_line, annotation_behind, annotation_of}
 use Rattle.ir_annotation.specs.Annotations.{read_as, IsShortName, address_name, IsInequality, IsZone, IsPending, IsMeasure, IsBudget, IsLeft, IsKeptAnnotation, inequality_words, zone_words, moded_zone_words, annotation_words, inequality_on, zone_on, pending_on, measure_on, budget_on, left_on, annotation_on}

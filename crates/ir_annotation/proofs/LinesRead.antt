@@ -1,5 +1,5 @@
 -- Annotations that are read are as a module's text keeps them.
-use Rattle.std.proofs.Common.{◌≡◌, ℕ, ◌≤◌, Bool, true, false, cond, eqb, List, [], ◌∷◌, Option, Some, None, Result, Ok, Err, refl, sym, subst, ap, ◌∙◌, arith}
+use Rattle.std.proofs.Common.{◌≡◌, ℕ, ◌≤◌, Bool, true, false, cond, eqb, List, [], ◌∷◌, Option, Some, None, Result, Ok, Err, refl, subst}
 use Rattle.std.specs.Prelude.{codes, nat_le, ◌&&◌}
 use Rattle.std.specs.Str.{bytes_eq}
 use Rattle.std.proofs.lemmas.Bool.{leb-true}
@@ -29,7 +29,7 @@ use Rattle.ir_annotation.specs.Forms.{form_of}
 use Rattle.ir_annotation.specs.Lines.{inequality_of, zone_of, measure_of, budget_of, left_of, moded_zone_of, pending_of, as_line, annotation_behind, behind_keyword, annotation_of}
 use Rattle.ir_annotation.specs.Annotations.{IsShortName, address_name, IsInequality, IsZone, IsPending, IsMeasure, IsBudget, IsLeft, IsKeptAnnotation}
 use Rattle.ir_annotation.proofs.Digits.{both}
-use Rattle.ir_annotation.proofs.Ordered.{Bound, bound, IsNameRead, name_read, register_read, read_canonical}
+use Rattle.ir_annotation.proofs.Ordered.{bound, IsNameRead, name_read, register_read, read_canonical}
 
 -- what was read has this, where it is within its limits
 abbrev HasWithin : {A : Type 0} → (A → Type 0) → Limited A → Type 0

@@ -1,10 +1,8 @@
 -- The line that prints an item says the item.
-use Rattle.std.proofs.Common.{◌≡◌, ℕ, Bool, true, List, ◌∷◌, ◌++◌, Option, Some, Result, Ok, refl, sym, subst, ap, ◌∙◌, eqb, eq-eqb}
-use Rattle.std.specs.Prelude.{◌&&◌, nat_lt}
+use Rattle.std.proofs.Common.{◌≡◌, ℕ, Bool, true, List, ◌++◌, Option, Some, Result, Ok, refl, sym, ap, ◌∙◌, eq-eqb}
+use Rattle.std.specs.Prelude.{nat_lt}
 use Rattle.std.specs.List.{list_all}
-use Rattle.ir_lex.specs.Words.{words_text}
-use Rattle.ir_annotation.specs.declared.meaning.Annotation.{Annotation}
-use Rattle.ir_annotation.specs.Annotations.{IsKeptAnnotation, annotation_words}
+use Rattle.ir_annotation.specs.Annotations.{annotation_words}
 use Rattle.ir_annotation.proofs.LinesAgain.{annotation_again}
 use Rattle.ir_item.specs.declared.item.Item.{Item}
 use Rattle.ir_item.specs.declared.item.Item.TheVariants as item

@@ -1,16 +1,12 @@
 -- The names that an item which is kept defines are names within their limit.
-use Rattle.std.proofs.Common.{◌≡◌, ℕ, ◌≤◌, Bool, true, false, List, [], ◌∷◌, ◌++◌, length, map, Option, Some, None, refl, sym, subst, ap, ◌∙◌, arith}
+use Rattle.std.proofs.Common.{◌≡◌, ℕ, Bool, true, List, [], ◌∷◌, ◌++◌, length, map, Option, Some, None, refl, sym, subst, ap, ◌∙◌}
 use Rattle.std.specs.Prelude.{◌&&◌, ◌*◌, nat_le, flat_map, codes, pos}
 use Rattle.std.specs.List.{list_all, All}
 use Rattle.std.proofs.lemmas.Bool.{leb-true}
 use Rattle.std.proofs.lemmas.List.Elements.{All-nil, All-cons}
 use Rattle.std.proofs.lemmas.List.Folds.{list_all-append}
-use Rattle.syntax.specs.declared.module.Global.{Global}
 use Rattle.syntax.specs.declared.module.Parameter.{Parameter}
 use Rattle.syntax.specs.declared.module.Parameter.TheVariants as parameter
-use Rattle.syntax.specs.declared.instruction.Instruction.{Instruction}
-use Rattle.syntax.specs.declared.instruction.Instruction.TheVariants as instruction
-use Rattle.syntax.specs.declared.instruction.Phi.{Phi}
 use Rattle.ir_lex.specs.Spelling.{is_name}
 use Rattle.ir_lex.proofs.Printed.{both}
 use Rattle.ir_annotation.specs.Annotations.{IsShortName}
@@ -20,9 +16,8 @@ use Rattle.ir_item.specs.declared.item.Item.TheVariants as item
 use Rattle.ir_item.specs.declared.symbol.Numeral.TheVariants.{Small}
 use Rattle.ir_item.specs.declared.symbol.Symbol.{Symbol}
 use Rattle.ir_item.specs.declared.symbol.Symbol.TheVariants as symbols
-use Rattle.ir_item.specs.Grammar.{define_shape}
 use Rattle.ir_item.specs.Symbols.{is_within_limits}
-use Rattle.ir_item.specs.Spelling.{Atom, Token, Blank, symbols_in, parameter_atoms, other_atoms, parted, item_atoms, instruction_atoms, result_word}
+use Rattle.ir_item.specs.Spelling.{Atom, Token, Blank, symbols_in, parameter_atoms, other_atoms, parted, item_atoms, result_word}
 use Rattle.ir_item.specs.Spelled.{is_spelled, is_parted_from, are_spelled}
 use Rattle.ir_item.specs.Printed.{IsSpelledItem, IsKeptItem}
 use Rattle.ir_item.proofs.Again.{symbols_appended}

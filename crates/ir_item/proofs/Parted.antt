@@ -1,6 +1,6 @@
 -- Between the symbols of a print stands what parts them.
-use Rattle.std.proofs.Common.{◌≡◌, ℕ, Bool, true, false, cond, List, [], ◌∷◌, ◌++◌, refl, sym, ap, ◌∙◌, append_assoc}
-use Rattle.std.specs.Prelude.{◌&&◌, flat_map, Option, Some, None}
+use Rattle.std.proofs.Common.{◌≡◌, Bool, true, false, List, [], ◌∷◌, ◌++◌, refl, sym, ap, ◌∙◌, append_assoc}
+use Rattle.std.specs.Prelude.{◌&&◌, flat_map, Some, None}
 use Rattle.std.specs.List.{list_all}
 use Rattle.syntax.specs.declared.instruction.AllocaSize.TheVariants.{One, Array}
 use Rattle.syntax.specs.declared.instruction.Instruction.{Instruction}
@@ -9,10 +9,7 @@ use Rattle.syntax.specs.declared.instruction.Operand.{Operand}
 use Rattle.syntax.specs.declared.instruction.Operand.TheVariants as operands
 use Rattle.syntax.specs.declared.instruction.Address.{Address}
 use Rattle.syntax.specs.declared.instruction.Address.TheVariants as addresses
-use Rattle.syntax.specs.declared.instruction.Argument.{Argument}
 use Rattle.syntax.specs.declared.instruction.Argument.TheVariants as argument
-use Rattle.syntax.specs.declared.instruction.PhiEntry.{PhiEntry}
-use Rattle.syntax.specs.declared.module.Parameter.{Parameter}
 use Rattle.syntax.specs.declared.module.Parameter.TheVariants as parameter
 use Rattle.syntax.specs.declared.operator.BinaryOperator.{BinaryOperator}
 use Rattle.syntax.specs.declared.operator.BinaryOperator.TheVariants.{Add, Subtract, Multiply, AddNoWrap, SubtractNoWrap, MultiplyNoWrap, SignedDivide, UnsignedDivide, SignedRemainder, UnsignedRemainder, ShiftLeft, LogicalShiftRight, ArithmeticShiftRight, And, Or, ExclusiveOr}
@@ -25,9 +22,8 @@ use Rattle.ir_item.specs.declared.item.Item.{Item}
 use Rattle.ir_item.specs.declared.item.Item.TheVariants as item
 use Rattle.ir_item.specs.declared.symbol.Symbol.{Symbol}
 use Rattle.ir_item.specs.declared.symbol.Symbol.TheVariants as symbols
-use Rattle.ir_item.specs.declared.switch.SpelledCase.{SpelledCase}
 use Rattle.ir_item.specs.Grammar.{binary_shape, compare_shape, truncate_shape, extend_shape, alloca_shape, alloca_array_shape, element_pointer_shape, load_shape, start_region_shape, call_shape, phi_shape, store_shape, store_zeros_shape, atomic_shape, call_void_shape, jump_shape, branch_shape, switch_shape, return_void_shape, return_shape, detach_shape, region_shape, global_shape, define_shape}
-use Rattle.ir_item.specs.Shape.{Gap, register, function, label, operand, pointer, array, width, result_type, predicate, parameters, arguments, cases, entries, Piece, word, mark, named, gap, space, Held, Gaps}
+use Rattle.ir_item.specs.Shape.{Gap, register, function, label, operand, pointer, array, width, result_type, predicate, parameters, arguments, cases, entries, Piece, word, mark, named, gap, space, Gaps}
 use Rattle.ir_item.specs.Spelling.{Atom, Token, Blank, symbols_in, operand_symbol, address_symbol, operator_atoms, parameter_atoms, argument_atoms, entry_atoms, other_atoms, parted, cases_atoms, gap_atoms, atoms_of, spelled_cases, instruction_atoms, terminator_atoms, item_atoms}
 use Rattle.ir_item.specs.Spelled.{is_spelled, parts, is_parted_from, are_spelled}
 

@@ -1,29 +1,25 @@
 -- Items that are read are as a module's text keeps them.
-use Rattle.std.proofs.Common.{◌≡◌, ℕ, zero, suc, ◌≤◌, ◌⊎◌, inl, inr, Bool, true, false, cond, eqb, eq-eqb, List, [], ◌∷◌, ◌++◌, length, drop, map, All, Option, Some, None, Result, Ok, Err, refl, sym, subst, ap, ◌∙◌, arith}
-use Rattle.std.specs.Prelude.{◌&&◌, ◌||◌, ℤ, nat_lt, slice_index}
+use Rattle.std.proofs.Common.{◌≡◌, ℕ, Bool, true, false, cond, eqb, List, [], ◌∷◌, length, map, All, Option, Some, None, Result, Ok, Err, refl, sym, subst, ap, ◌∙◌, arith}
+use Rattle.std.specs.Prelude.{◌||◌, ℤ, nat_lt, slice_index}
 use Rattle.std.specs.List.{list_all, AllByRecursion}
 use Rattle.std.specs.Str.Parse.{signed_digits_value}
 use Rattle.std.proofs.lemmas.List.Elements.{All-head, All-tail}
-use Rattle.syntax.specs.declared.module.Global.{Global}
-use Rattle.syntax.specs.declared.instruction.Phi.{Phi}
 use Rattle.ir_lex.specs.declared.token.Kind.{Kind}
 use Rattle.ir_lex.specs.declared.token.Kind.TheVariants as kinds
 use Rattle.ir_lex.specs.declared.token.Token.{Token}
-use Rattle.ir_lex.specs.Spelling.{is_name, is_number, is_marked_name, is_mark}
+use Rattle.ir_lex.specs.Spelling.{is_name, is_marked_name, is_mark}
 use Rattle.ir_lex.specs.Tokens.{tokens_of}
 use Rattle.ir_lex.specs.Lexemes.{HasKind, IsTokenOf, text_at}
 use Rattle.ir_lex.proofs.Printed.{both}
 use Rattle.ir_lex.proofs.Hold.{all_hold}
 use Rattle.ir_lex.proofs.PlainWords.{IsNameIfWord, IsPlainToken, ArePlain, plain_words}
 use Rattle.ir_annotation.specs.declared.meaning.AnnotationLine.{AnnotationLine}
-use Rattle.ir_annotation.specs.Annotations.{IsKeptAnnotation}
 use Rattle.ir_annotation.specs.Lines.{annotation_of}
 use Rattle.ir_annotation.proofs.LinesRead.{annotation_read}
 use Rattle.ir_item.specs.declared.item.Item.{Item}
 use Rattle.ir_item.specs.declared.item.Item.TheVariants as item
 use Rattle.ir_item.specs.declared.line.Line.{Line}
 use Rattle.ir_item.specs.declared.symbol.Numeral.{Numeral}
-use Rattle.ir_item.specs.declared.symbol.Numeral.TheVariants.{Small, Large}
 use Rattle.ir_item.specs.declared.symbol.Symbol.{Symbol}
 use Rattle.ir_item.specs.declared.symbol.Symbol.TheVariants as symbols
 use Rattle.ir_item.specs.Symbols.{fits_i64, number_of, small_or_large, numeral_of, named, symbol_of, symbol_at, is_within_limits}
@@ -31,7 +27,7 @@ use Rattle.ir_item.specs.Fits.{is_some_list, item_fits}
 use Rattle.ir_item.specs.Grammar.{item_in}
 use Rattle.ir_item.specs.Lines.{annotation_line, item_line, tokens_line, meaning_of, meaning_if_any, line_of}
 use Rattle.ir_item.specs.Spelling.{symbols_in, item_atoms}
-use Rattle.ir_item.specs.Spelled.{is_spelled, are_spelled}
+use Rattle.ir_item.specs.Spelled.{is_spelled}
 use Rattle.ir_item.specs.Printed.{item_on, IsSpelledItem, IsKeptItem}
 use Rattle.ir_item.proofs.Parted.{is_no_note, no_notes, spelled_if_parted, item_parted}
 use Rattle.ir_item.proofs.LineTakes.{item_takes}

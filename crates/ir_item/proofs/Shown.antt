@@ -1,12 +1,11 @@
 -- The bytes of lines that are printed.
-use Rattle.std.proofs.Common.{◌≡◌, ℕ, zero, suc, ◌+◌, ◌^◌, ◌<◌, ◌≤◌, ◌⊎◌, inl, inr, Bool, true, false, cond, eqb, leb, List, [], ◌∷◌, ◌++◌, length, length-append, refl, sym, subst, ap, ◌∙◌, arith}
-use Rattle.std.specs.Prelude.{◌&&◌, ◌||◌, not, nat_le, ℤ, pos, negsuc, unsigned_abs, codes, flat_map, All, IsAscii, IsUtf8}
+use Rattle.std.proofs.Common.{◌≡◌, ℕ, zero, suc, ◌^◌, ◌<◌, inl, inr, Bool, true, false, cond, eqb, leb, List, [], ◌∷◌, ◌++◌, length, length-append, refl, sym, ap, ◌∙◌, arith}
+use Rattle.std.specs.Prelude.{◌&&◌, ◌||◌, not, nat_le, ℤ, pos, negsuc, unsigned_abs, codes, flat_map, All, IsUtf8}
 use Rattle.std.specs.List.{list_all, AllByRecursion}
 use Rattle.std.specs.Char.{is_ascii_digit}
 use Rattle.std.specs.Str.{all_ascii_digits}
 use Rattle.std.specs.Fmt.{decimal, signed_decimal}
 use Rattle.std.proofs.lemmas.Bool.{leb-true, eqb-true, le-leb}
-use Rattle.std.proofs.lemmas.Bool.Decides.{nat_tests}
 use Rattle.std.proofs.lemmas.Fmt.{decimal_nonempty}
 use Rattle.std.proofs.lemmas.Str.{IsUtf8-from_ascii}
 use Rattle.std.proofs.lemmas.Str.Ascii.{IsAscii-from_all}
@@ -22,7 +21,7 @@ use Rattle.syntax.specs.declared.instruction.Address.{Address}
 use Rattle.syntax.specs.declared.instruction.Address.TheVariants as address
 use Rattle.syntax.specs.declared.operator.Mode.{Mode}
 use Rattle.syntax.specs.declared.operator.Mode.TheVariants.{Reads, Writes, Adds}
-use Rattle.ir_lex.specs.Spelling.{is_name, is_mark, is_printed, is_number}
+use Rattle.ir_lex.specs.Spelling.{is_name, is_mark, is_printed}
 use Rattle.ir_lex.specs.Words.{words_text, are_words}
 use Rattle.ir_lex.proofs.Printed.{both}
 use Rattle.ir_lex.proofs.Plain.{one_of, name_printed, number_printed, digit_printed}
@@ -31,7 +30,7 @@ use Rattle.ir_annotation.specs.declared.meaning.Annotation.TheVariants as annota
 use Rattle.ir_annotation.specs.Words as words
 use Rattle.ir_annotation.specs.Canonical.{IsTerm, IsCanonical}
 use Rattle.ir_annotation.specs.Spelling.{sign_text, factor_text, term_text, constant_text, terms_text, form_text, relation_text, mode_text, object_text}
-use Rattle.ir_annotation.specs.Annotations.{IsShortName, address_name, IsInequality, IsZone, IsPending, IsMeasure, IsBudget, IsLeft, IsKeptAnnotation, inequality_words, zone_words, moded_zone_words, annotation_words}
+use Rattle.ir_annotation.specs.Annotations.{IsShortName, address_name, IsInequality, IsZone, IsKeptAnnotation, inequality_words, zone_words, moded_zone_words, annotation_words}
 use Rattle.ir_annotation.proofs.Again.{decimal_digits}
 use Rattle.ir_item.specs.declared.item.Item.{Item}
 use Rattle.ir_item.specs.declared.item.Item.TheVariants as item
@@ -40,7 +39,7 @@ use Rattle.ir_item.specs.declared.symbol.Symbol.{Symbol}
 use Rattle.ir_item.specs.declared.symbol.Symbol.TheVariants as symbols
 use Rattle.ir_item.specs.Spelling.{Atom, Token, Blank, symbol_text, text_of, item_atoms, spaces}
 use Rattle.ir_item.specs.Spelled.{is_spelled, is_parted_from, are_spelled}
-use Rattle.ir_item.specs.Printed.{IsSpelledItem, IsKeptItem, item_text}
+use Rattle.ir_item.specs.Printed.{IsKeptItem, item_text}
 use Rattle.ir_item.proofs.Digits.{number_of_printed}
 
 -- ---- words of annotations

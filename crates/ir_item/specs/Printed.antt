@@ -1,5 +1,5 @@
 -- Items as a module's text keeps them, and the lines that print them.
-use Rattle.std.specs.Prelude.{◌≡◌, ℕ, true, List, ◌∷◌, ◌++◌}
+use Rattle.std.specs.Prelude.{◌≡◌, ℕ, true, List, ◌∷◌}
 use Rattle.std.specs.List.{list_all}
 use Rattle.ir_lex.specs.Words.{words_text}
 use Rattle.ir_annotation.specs.Annotations.{IsKeptAnnotation, annotation_words, annotation_on}

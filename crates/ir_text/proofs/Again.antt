@@ -1,14 +1,12 @@
 -- Printed items are read again.
-use Rattle.std.proofs.Common.{◌≡◌, ℕ, ◌+◌, ◌-◌, ◌≤◌, Bool, true, false, cond, List, [], ◌∷◌, ◌++◌, length, length-append, map, Option, Some, None, Result, Ok, Err, refl, sym, subst, ap, ◌∙◌, arith}
-use Rattle.std.specs.Prelude.{◌&&◌, option_map, IsUtf8, if◌then◌else◌}
+use Rattle.std.proofs.Common.{◌≡◌, ℕ, ◌+◌, ◌-◌, ◌≤◌, true, false, List, [], ◌∷◌, length, length-append, map, Option, Some, None, Ok, refl, sym, subst, ap, ◌∙◌, arith}
+use Rattle.std.specs.Prelude.{option_map}
 use Rattle.std.specs.List.{flat_map}
 use Rattle.ir_annotation.specs.declared.meaning.Annotation.{Annotation}
 use Rattle.ir_annotation.specs.declared.meaning.Annotation.TheVariants as annotation
 use Rattle.ir_annotation.specs.Annotations.{annotation_on}
 use Rattle.ir_item.specs.declared.item.Item.{Item}
 use Rattle.ir_item.specs.declared.item.Item.TheVariants as item
-use Rattle.ir_item.specs.declared.line.Line.{Line}
-use Rattle.ir_item.specs.Lines.{line_of}
 use Rattle.ir_item.specs.Printed.{item_on, IsKeptItem, said}
 use Rattle.ir_item.proofs.ItemsAgain.{kept_again}
 use Rattle.ir_item.proofs.Shown.{shown_utf8}
@@ -17,7 +15,7 @@ use Rattle.ir_text.specs.Draft.{placed}
 use Rattle.ir_text.specs.Counting.{is_within_limits}
 use Rattle.ir_text.specs.Items.{indentation, item_content, item_line}
 use Rattle.ir_text.specs.Lines.{content}
-use Rattle.ir_text.specs.Reading.{defines_again, judged_if_placed, with_item, with_said, Steps, Said, Reads, Done, Next}
+use Rattle.ir_text.specs.Reading.{defines_again, judged_if_placed, with_item, Steps, Said, Reads, Done, Next}
 use Rattle.ir_text.proofs.Unlining.{unlined_draft, placed_unlined, within-unlined, again-on, again-unlined}
 use Rattle.ir_text.proofs.Rerun.{IsPassed, Passes}
 use Rattle.ir_text.proofs.PrintedLines.{content_is, content_shown, AreKept}

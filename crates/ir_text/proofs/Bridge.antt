@@ -1,20 +1,17 @@
 -- The canonical text of a module is that of its items, line by line.
-use Rattle.std.proofs.Common.{◌≡◌, ℕ, ◌*◌, Bool, true, false, List, [], ◌∷◌, ◌++◌, map, Option, Some, None, refl, sym, ap, ◌∙◌, arith, append_assoc, append-nil}
-use Rattle.std.specs.Prelude.{codes, pos}
+use Rattle.std.proofs.Common.{◌≡◌, ℕ, ◌*◌, List, [], ◌∷◌, ◌++◌, map, Option, Some, None, refl, sym, ap, ◌∙◌, arith, append_assoc, append-nil}
+use Rattle.std.specs.Prelude.{codes}
 use Rattle.std.specs.List.{flat_map}
 use Rattle.std.specs.Fmt.{decimal, signed_decimal}
 use Rattle.std.proofs.lemmas.Grind.{flat_map-append}
-use Rattle.ir_annotation.specs.declared.meaning.Annotation.{Annotation}
 use Rattle.ir_annotation.specs.declared.meaning.Annotation.TheVariants as annotation
 use Rattle.ir_annotation.specs.Annotations.{annotation_words}
 use Rattle.ir_annotation.specs.Spelling.{form_text, relation_text, mode_text, object_text, inequality_text, zone_text, measure_text, budget_text, pending_text, left_text, foot_text}
 use Rattle.ir_lex.specs.Words.{words_text}
 use Rattle.ir_item.specs.declared.item.Item.{Item}
 use Rattle.ir_item.specs.declared.item.Item.TheVariants as item
-use Rattle.ir_item.specs.declared.symbol.Numeral.TheVariants.{Small}
 use Rattle.ir_item.specs.declared.symbol.Symbol.TheVariants as symbols
-use Rattle.ir_item.specs.Spelling.{Atom, Token, Blank, symbol_text, text_of, operand_symbol, address_symbol, width_word, result_word, predicate_word, operator_atoms, parameter_atoms, argument_atoms, entry_atoms, other_atoms, parted, cases_atoms, spelled_cases, instruction_atoms, phi_atoms, terminator_atoms, item_atoms, spaces}
-use Rattle.ir_item.specs.Printed.{item_text}
+use Rattle.ir_item.specs.Spelling.{Atom, Token, Blank, symbol_text, text_of, operand_symbol, address_symbol, width_word, result_word, predicate_word, operator_atoms, parameter_atoms, argument_atoms, entry_atoms, other_atoms, parted, cases_atoms, spelled_cases, instruction_atoms, phi_atoms, terminator_atoms}
 use Rattle.ir_item.proofs.Texts.{text_appended, parted_text}
 use Rattle.syntax.specs.declared.annotation.Inequality.{Inequality}
 use Rattle.syntax.specs.declared.annotation.Zone.{Zone}

@@ -1,18 +1,16 @@
 -- The items of a module that is kept, put one behind another on line 0, are the module again, lines aside.
-use Rattle.std.proofs.Common.{◌≡◌, ℕ, ◌+◌, ◌<◌, ◌≤◌, Bool, true, false, cond, List, [], ◌∷◌, ◌++◌, length, map, Option, Some, None, refl, sym, subst, ap, ◌∙◌, arith, append_assoc, append-nil}
+use Rattle.std.proofs.Common.{◌≡◌, ℕ, ◌<◌, Bool, true, false, List, [], ◌∷◌, ◌++◌, length, map, Option, Some, None, refl, sym, subst, ap, ◌∙◌, arith, append_assoc, append-nil}
 use Rattle.std.specs.Prelude.{option_map}
 use Rattle.std.specs.List.{All, flat_map}
-use Rattle.std.proofs.lemmas.List.Elements.{All-head, All-tail, All-nil}
-use Rattle.ir_annotation.specs.declared.meaning.Annotation.{Annotation}
+use Rattle.std.proofs.lemmas.List.Elements.{All-head, All-tail}
 use Rattle.ir_annotation.specs.declared.meaning.Annotation.TheVariants as annotation
-use Rattle.ir_annotation.specs.Annotations.{inequality_on, zone_on, pending_on, measure_on, budget_on, left_on}
+use Rattle.ir_annotation.specs.Annotations.{inequality_on, zone_on, pending_on, measure_on, left_on}
 use Rattle.ir_item.specs.declared.item.Item.{Item}
 use Rattle.ir_item.specs.declared.item.Item.TheVariants as item
 use Rattle.ir_item.specs.Printed.{item_on}
 use Rattle.syntax.specs.declared.annotation.Inequality.{Inequality}
 use Rattle.syntax.specs.declared.annotation.Zone.{Zone}
 use Rattle.syntax.specs.declared.annotation.Pending.{Pending}
-use Rattle.syntax.specs.declared.annotation.Measure.{Measure}
 use Rattle.syntax.specs.declared.annotation.FunctionNotes.{FunctionNotes}
 use Rattle.syntax.specs.declared.annotation.BlockNotes.{BlockNotes}
 use Rattle.syntax.specs.declared.operator.Mode.{Mode}
@@ -24,13 +22,11 @@ use Rattle.syntax.specs.declared.module.Global.{Global}
 use Rattle.syntax.specs.declared.module.Block.{Block}
 use Rattle.syntax.specs.declared.module.Function.{Function}
 use Rattle.syntax.specs.declared.module.Module.{Module}
-use Rattle.ir_text.specs.declared.annotating.FunctionHead.{FunctionHead}
 use Rattle.ir_text.specs.declared.annotating.BlockHead.{BlockHead}
 use Rattle.ir_text.specs.declared.draft.Draft.{Draft}
-use Rattle.ir_text.specs.declared.draft.Place.{Place}
 use Rattle.ir_text.specs.declared.draft.Place.TheVariants as place
-use Rattle.ir_text.specs.Opening.{zero_form, no_function_notes, new_function, no_block_notes, new_block, with_global, with_function, with_block, with_phi, with_step, with_ending}
-use Rattle.ir_text.specs.Annotating.{with_zone_of, annotated_function}
+use Rattle.ir_text.specs.Opening.{no_function_notes, new_function, no_block_notes, new_block, with_function, with_block}
+use Rattle.ir_text.specs.Annotating.{with_zone_of}
 use Rattle.ir_text.specs.Draft.{drafted, new_place, placed}
 use Rattle.ir_text.specs.Items.{note_items, function_note_items, block_note_items, step_items, ending_items, body_items, block_items, function_items, module_items}
 use Rattle.ir_text.specs.Unlined.{unlined_inequalities, unlined_zones, unlined_function_notes, unlined_block_notes, unlined_phi, unlined_step, unlined_ending, unlined_block, unlined_function, unlined_global, unlined}

@@ -1,9 +1,9 @@
 -- What an item that is put behind what was read does to the names that stand and to what is counted.
-use Rattle.std.proofs.Common.{◌≡◌, ℕ, ◌+◌, Bool, true, false, cond, List, [], ◌∷◌, ◌++◌, length, map, refl, sym, subst, ap, ◌∙◌, arith, append_assoc, length-append}
+use Rattle.std.proofs.Common.{◌≡◌, ℕ, ◌+◌, Bool, true, false, List, [], ◌∷◌, ◌++◌, length, map, refl, sym, subst, ap, ◌∙◌, arith, append_assoc, length-append}
 use Rattle.std.specs.Prelude.{Option, Some, None, ◌==◌, if◌then◌else◌}
 use Rattle.std.specs.List.{flat_map, sum_by}
 use Rattle.std.proofs.lemmas.Bool.{eqb-true}
-use Rattle.std.proofs.lemmas.List.{append-nil, nil_from_length, map_push, map-append}
+use Rattle.std.proofs.lemmas.List.{append-nil, nil_from_length, map_push}
 use Rattle.std.proofs.lemmas.List.Concat.{flat_map-cons}
 use Rattle.std.proofs.lemmas.List.Sums.{sum_by-append}
 use Rattle.std.proofs.lemmas.Grind.{flat_map-append}
@@ -20,7 +20,6 @@ use Rattle.syntax.specs.declared.module.Parameter.{Parameter}
 use Rattle.syntax.specs.declared.instruction.Instruction.{Instruction}
 use Rattle.syntax.specs.declared.instruction.Phi.{Phi}
 use Rattle.syntax.specs.declared.instruction.Step.{Step}
-use Rattle.syntax.specs.declared.terminator.Terminator.{Terminator}
 use Rattle.syntax.specs.declared.module.Global.{Global}
 use Rattle.syntax.specs.declared.module.Block.{Block}
 use Rattle.syntax.specs.declared.module.Function.{Function}
@@ -31,13 +30,13 @@ use Rattle.ir_text.specs.declared.draft.Draft.{Draft}
 use Rattle.ir_text.specs.declared.draft.Place.{Place}
 use Rattle.ir_text.specs.declared.draft.Place.TheVariants as place
 use Rattle.ir_text.specs.Opening.{new_block, new_function, with_global, with_function, with_block, with_phi, with_step, with_ending}
-use Rattle.ir_text.specs.Annotating.{annotated_function, annotated_block, with_requirement, with_guarantee, with_zone, with_measure, with_budget, with_keeps, with_pending, with_left, with_foot, with_zone_of}
-use Rattle.ir_text.specs.Draft.{drafted, new_place, placed, placed_in, placed_outside, placed_at_function, placed_in_function_head, placed_at_block, annotated_in_block_head, placed_in_block_head, placed_in_phis, annotated_in_body, placed_behind, placed_in_body, placed_in_ended}
+use Rattle.ir_text.specs.Annotating.{with_requirement, with_guarantee, with_measure, with_budget, with_keeps, with_pending, with_left, with_foot, with_zone_of}
+use Rattle.ir_text.specs.Draft.{drafted, new_place, placed, placed_in, placed_outside, placed_at_function, placed_in_function_head, placed_at_block, annotated_in_block_head, placed_in_block_head, placed_in_phis, placed_in_body, placed_in_ended}
 use Rattle.ir_text.specs.Tracking.{IsStepless}
-use Rattle.ir_text.specs.Defined.{parameter_name, defined_register, option_list, step_registers, phi_register, block_registers, block_names, function_names, global_name, function_name, module_names, reserved_outside, reserved_inside, open_function, names_beside, names_outside, names_in, names_inside, defined_outside, defined_inside, inside_before}
+use Rattle.ir_text.specs.Defined.{parameter_name, defined_register, option_list, step_registers, phi_register, block_registers, block_names, function_names, global_name, function_name, module_names, reserved_outside, reserved_inside, open_function, names_beside, names_in, defined_outside, defined_inside, inside_before}
 use Rattle.ir_text.specs.Limits.{global_cells, instruction_cells, step_cells, block_cells, function_cells, block_register_count, register_count}
 use Rattle.ir_text.specs.declared.limits.Counts.{Counts}
-use Rattle.ir_text.specs.Counting.{registers_in, cells_in, counts_in, counts_of, counts_with, with_instruction}
+use Rattle.ir_text.specs.Counting.{counts_in, counts_with}
 
 -- behind the item stands what it adds to a module and its open function
 pub record Adds (m : Module) (f : Option Function) (i : Item) (n : Module) (g : Option Function) : Type 0 where

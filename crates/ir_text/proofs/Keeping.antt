@@ -1,10 +1,9 @@
 -- What is read keeps names defined once and stays within limits.
-use Rattle.std.proofs.Common.{◌≡◌, ℕ, ◌+◌, ◌<◌, ◌≤◌, Bool, true, false, cond, List, [], ◌∷◌, ◌++◌, length, get_or, refl, sym, subst, ap, ◌∙◌, arith, append_assoc, length-append}
-use Rattle.std.specs.Prelude.{◌==◌, ◌&&◌, ◌||◌, Result, Ok, Err, Option, Some, None, IfOk, if◌then◌else◌}
+use Rattle.std.proofs.Common.{◌≡◌, ℕ, ◌+◌, ◌<◌, ◌≤◌, Bool, true, false, List, [], ◌∷◌, ◌++◌, length, get_or, refl, sym, subst, ap, ◌∙◌, arith, append_assoc, length-append}
+use Rattle.std.specs.Prelude.{◌==◌, ◌&&◌, ◌||◌, Result, Ok, Err, Option, Some, None, if◌then◌else◌}
 use Rattle.std.specs.List.{All}
 use Rattle.std.proofs.lemmas.List.{append-nil}
 use Rattle.std.proofs.lemmas.List.Elements.{All-push, All-nil}
-use Rattle.ir_lex.specs.declared.fault.TextFault.{TextFault}
 use Rattle.ir_annotation.specs.declared.meaning.Annotation.{Annotation}
 use Rattle.ir_annotation.specs.declared.meaning.Annotation.TheVariants as annotation
 use Rattle.ir_item.specs.declared.item.Item.{Item}
@@ -19,7 +18,7 @@ use Rattle.ir_text.specs.declared.annotating.BlockHead.{BlockHead}
 use Rattle.ir_text.specs.declared.draft.Draft.{Draft}
 use Rattle.ir_text.specs.declared.draft.Place.{Place}
 use Rattle.ir_text.specs.declared.draft.Place.TheVariants as place
-use Rattle.ir_text.specs.Opening.{with_block, with_function}
+use Rattle.ir_text.specs.Opening.{with_block}
 use Rattle.ir_text.specs.Annotating.{annotated_function, annotated_block}
 use Rattle.ir_text.specs.Draft.{placed, placed_in, placed_outside, placed_at_function, placed_in_function_head, placed_at_block, annotated_in_block_head, placed_in_block_head, placed_in_phis, placed_in_body, placed_in_ended}
 use Rattle.ir_text.specs.Names.{is_known, is_repeated}
@@ -28,7 +27,7 @@ use Rattle.ir_text.specs.Limits.{register_count, function_cells, is_place_within
 use Rattle.ir_text.specs.Counting.{IsSmall, counts_in, counts_of, are_counts_within, is_within_limits}
 use Rattle.ir_text.specs.Tracking.{IsStepless}
 use Rattle.ir_text.specs.Lines.{lines_of}
-use Rattle.ir_text.specs.Reading.{start, defines_again, judged, judged_if_placed, with_item, with_said, Steps, Said, Faulty, Reads, Done, Next, Stop, Overlong, ended, Answers, Read, Unread}
+use Rattle.ir_text.specs.Reading.{start, defines_again, judged_if_placed, with_item, with_said, Steps, Said, Reads, Done, Next, Stop, Overlong, ended, Answers, Read}
 use Rattle.ir_text.specs.Kept.{IsFunctionWritten, IsFunctionWithin, IsKeptFunction, IsKept}
 use Rattle.ir_text.proofs.Follows.{Follows, placed_follows}
 use Rattle.ir_item.specs.Lines.{line_of}

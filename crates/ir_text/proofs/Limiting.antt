@@ -1,5 +1,5 @@
 -- Limits hold forwards, as each item is judged, and backwards, since lists only grow.
-use Rattle.std.proofs.Common.{◌≡◌, ℕ, ◌+◌, ◌<◌, ◌≤◌, Bool, true, false, eqb, List, [], ◌∷◌, ◌++◌, length, get_or, length-append, Option, Some, None, refl, sym, subst, ap, ◌∙◌, arith}
+use Rattle.std.proofs.Common.{◌≡◌, ℕ, ◌<◌, ◌≤◌, Bool, true, false, List, [], ◌∷◌, ◌++◌, length, length-append, Option, Some, None, refl, subst, arith}
 use Rattle.std.specs.Prelude.{◌==◌, ◌&&◌, nat_le, nat_lt, if◌then◌else◌}
 use Rattle.std.specs.List.{All}
 use Rattle.std.proofs.lemmas.Bool.{leb-true, ltb-true, le-leb, lt-ltb, eqb-true}
@@ -11,19 +11,11 @@ use Rattle.ir_item.specs.declared.item.Item.{Item}
 use Rattle.ir_item.specs.declared.item.Item.TheVariants as item
 use Rattle.syntax.specs.declared.annotation.Inequality.{Inequality}
 use Rattle.syntax.specs.declared.annotation.Zone.{Zone}
-use Rattle.syntax.specs.declared.annotation.Pending.{Pending}
-use Rattle.syntax.specs.declared.annotation.Left.{Left}
-use Rattle.syntax.specs.declared.annotation.Measure.{Measure}
-use Rattle.syntax.specs.declared.annotation.Budget.{Budget}
 use Rattle.syntax.specs.declared.annotation.FunctionNotes.{FunctionNotes}
 use Rattle.syntax.specs.declared.annotation.BlockNotes.{BlockNotes}
 use Rattle.syntax.specs.declared.operator.Mode.{Mode}
 use Rattle.syntax.specs.declared.operator.Mode.TheVariants as mode
-use Rattle.syntax.specs.declared.instruction.Instruction.{Instruction}
-use Rattle.syntax.specs.declared.instruction.Phi.{Phi}
 use Rattle.syntax.specs.declared.instruction.Step.{Step}
-use Rattle.syntax.specs.declared.terminator.Terminator.{Terminator}
-use Rattle.syntax.specs.declared.module.Global.{Global}
 use Rattle.syntax.specs.declared.module.Block.{Block}
 use Rattle.syntax.specs.declared.module.Function.{Function}
 use Rattle.syntax.specs.declared.module.Module.{Module}
@@ -32,9 +24,9 @@ use Rattle.ir_text.specs.declared.annotating.BlockHead.{BlockHead}
 use Rattle.ir_text.specs.declared.draft.Draft.{Draft}
 use Rattle.ir_text.specs.declared.draft.Place.{Place}
 use Rattle.ir_text.specs.declared.draft.Place.TheVariants as place
-use Rattle.ir_text.specs.Opening.{zero_form, no_function_notes, new_function, no_block_notes, new_block, with_global, with_function, with_block, with_phi, with_step, with_ending}
-use Rattle.ir_text.specs.Annotating.{with_function_notes, with_block_notes, with_zone_of, with_zone, annotated_function, annotated_block}
-use Rattle.ir_text.specs.Draft.{drafted, new_place, placed, placed_in, placed_outside, placed_at_function, placed_in_function_head, placed_at_block, annotated_in_block_head, placed_in_block_head, placed_in_phis, annotated_in_body, placed_behind, placed_in_body, placed_in_ended}
+use Rattle.ir_text.specs.Opening.{new_function, new_block, with_global, with_block, with_phi, with_step, with_ending}
+use Rattle.ir_text.specs.Annotating.{with_function_notes, with_block_notes, with_zone_of, annotated_function}
+use Rattle.ir_text.specs.Draft.{drafted, placed, placed_in, placed_outside, placed_at_function, placed_in_function_head, placed_at_block, annotated_in_block_head, placed_in_block_head, placed_in_phis, placed_in_body, placed_in_ended}
 use Rattle.ir_text.specs.Defined.{reserved_inside, function_names, open_function}
 use Rattle.ir_text.specs.Limits.{register_count, function_cells, are_function_notes_within, are_block_notes_within, is_function_head_within, is_block_head_within, is_place_within}
 use Rattle.ir_text.specs.Names.{is_repeated}

@@ -1,10 +1,10 @@
 -- Reading a text line by line.
-use Rattle.std.proofs.Common.{◌≡◌, ℕ, zero, suc, ◌+◌, ◌-◌, ◌<◌, ◌≤◌, Bool, true, false, cond, List, [], ◌∷◌, length, refl, sym, subst, ap, ◌∙◌, arith}
-use Rattle.std.specs.Prelude.{Result, Ok, Err, Option, Some, None, IfOk, IfErr, IsUtf8, is_some, if◌then◌else◌}
+use Rattle.std.proofs.Common.{◌≡◌, ℕ, ◌+◌, ◌-◌, ◌<◌, ◌≤◌, List, [], ◌∷◌, length, refl, sym, subst, arith}
+use Rattle.std.specs.Prelude.{Result, Ok, Err, Some, IfErr, IsUtf8}
 use Rattle.ir_lex.specs.declared.fault.TextFault.{TextFault}
 use Rattle.ir_lex.specs.declared.fault.TextFault.TheVariants as faults
 use Rattle.ir_item.specs.declared.line.Line.{Line}
-use Rattle.ir_item.specs.Lines.{line_of, IsLineFault, IsFaultOf}
+use Rattle.ir_item.specs.Lines.{line_of, IsFaultOf}
 use Rattle.syntax.specs.declared.module.Module.{Module}
 use Rattle.ir_text.specs.declared.fault.ItemFault.{ItemFault}
 use Rattle.ir_text.specs.declared.fault.ItemFault.TheVariants as item_faults
@@ -13,8 +13,7 @@ use Rattle.ir_text.specs.declared.draft.Place.{Place}
 use Rattle.ir_text.specs.declared.draft.Place.TheVariants as place
 use Rattle.ir_text.specs.Lines.{lines_of, content}
 use Rattle.ir_text.specs.Faults.{IsOnLineOf}
-use Rattle.ir_text.specs.Draft.{placed}
-use Rattle.ir_text.specs.Reading.{start, with_item, with_said, Steps, Said, Faulty, may_stand, OverlongFault, Unsaid, Too-late, Reads, Done, Next, Stop, Overlong, ended, Answers, Read, Unread, IsFaultOfText, FailsItem, FailsAt, at_line, FaultSteps, FaultOverlong, FaultTooLate, FaultEnded}
+use Rattle.ir_text.specs.Reading.{start, with_item, Steps, Said, Faulty, Unsaid, Too-late, Reads, Done, Next, Stop, Overlong, ended, Answers, Read, Unread, IsFaultOfText, FailsItem, FailsAt, at_line, FaultSteps, or_too_late, FaultOverlong, FaultTooLate, FaultEnded}
 
 pub at_its_line : (e : ItemFault) (at : ℕ) (out : Result Draft ℕ) → FailsItem e out → FailsAt at out (at_line e at)
 at_its_line item_faults.Memory at out h = tt
@@ -28,7 +27,7 @@ pub item_fault : (e : TextFault) (d : Draft) (at : ℕ) (line : List ℕ) (l : L
 item_fault faults.Memory d at line l utf8 said h = tt
 item_fault (faults.Fault number found_at) d at line l utf8 said h = (h.0, Said (Some l) (Err number) utf8 said h.1)
 
-pub overlong_line : (e : TextFault) (d : Draft) (at : ℕ) (line : List ℕ) → IsFaultOf at line e → FaultOverlong d at line e
+pub overlong_line : (e : TextFault) (d : Draft) (at : ℕ) (line : List ℕ) → IsFaultOf at line e → FaultOverlong d at line (or_too_late e)
 overlong_line faults.Memory d at line h = tt
 overlong_line (faults.Fault number found_at) d at line h = (h.0, Unsaid number h.1)
 

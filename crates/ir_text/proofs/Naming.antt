@@ -1,5 +1,5 @@
 -- The names of a module whose parts are spelled within their limits are names of at most 64 bytes.
-use Rattle.std.proofs.Common.{◌≡◌, ℕ, List, [], ◌∷◌, ◌++◌, map, Option, Some, None, refl, sym, subst, ap, ◌∙◌}
+use Rattle.std.proofs.Common.{ℕ, List, [], ◌∷◌, map, Some, None, refl}
 use Rattle.std.specs.List.{All, flat_map}
 use Rattle.std.proofs.lemmas.List.Elements.{All-nil, All-cons, All-append, All-head, All-tail}
 use Rattle.ir_annotation.specs.Annotations.{IsShortName}
@@ -10,9 +10,6 @@ use Rattle.syntax.specs.declared.instruction.AllocaSize.TheVariants.{One, Array}
 use Rattle.syntax.specs.declared.operator.Conversion.TheVariants.{Truncate, SignExtend, ZeroExtend}
 use Rattle.syntax.specs.declared.instruction.Instruction.{Instruction}
 use Rattle.syntax.specs.declared.instruction.Instruction.TheVariants as instruction
-use Rattle.syntax.specs.declared.instruction.Phi.{Phi}
-use Rattle.syntax.specs.declared.instruction.Step.{Step}
-use Rattle.syntax.specs.declared.module.Global.{Global}
 use Rattle.syntax.specs.declared.module.Block.{Block}
 use Rattle.syntax.specs.declared.module.Function.{Function}
 use Rattle.syntax.specs.declared.module.Module.{Module}

@@ -1,5 +1,5 @@
 -- A text is read in one way.
-use Rattle.std.proofs.Common.{◌≡◌, ℕ, ◌+◌, ◌-◌, ◌<◌, ◌≤◌, Bool, true, false, List, [], ◌∷◌, length, Option, Some, None, Result, Ok, Err, refl, sym, subst, ap, ◌∙◌, arith}
+use Rattle.std.proofs.Common.{◌≡◌, ℕ, ◌+◌, ◌-◌, ◌<◌, ◌≤◌, List, [], ◌∷◌, length, Option, Result, Ok, Err, refl, sym, subst, min, ap, ◌∙◌, arith}
 use Rattle.std.specs.Prelude.{IsUtf8, if◌then◌else◌}
 use Rattle.ir_item.specs.declared.line.Line.{Line}
 use Rattle.ir_item.specs.Lines.{line_of, IsLineFault, NotUtf8, NotSaid}
@@ -27,7 +27,7 @@ one_step d at line _ _ (Faulty m h) (Said t b v says k) = absurd (no_fault at li
 one_step d at line _ _ (Faulty m h) (Faulty n k) = ap (λ (x : ℕ). let r : Result Draft ℕ = Err x in r) (line_fault at line m n h k)
 
 one_overlong : (d : Draft) (at : ℕ) (line : List ℕ) (m n : ℕ) → OverlongFault d at line m → OverlongFault d at line n → m ≡ n
-one_overlong d at line _ _ (Unsaid m h) (Unsaid n k) = line_fault at line m n h k
+one_overlong d at line _ _ (Unsaid m h) (Unsaid n k) = ap (λ (x : ℕ). min x 104) (line_fault at line m n h k)
 one_overlong d at line _ _ (Unsaid m h) (Too-late t n v says k) = absurd (no_fault at line t m v says h)
 one_overlong d at line _ _ (Too-late s m utf8 means h) (Unsaid n k) = absurd (no_fault at line s n utf8 means k)
 one_overlong d at line _ _ (Too-late s m utf8 means h) (Too-late t n v says k) =

@@ -1,27 +1,22 @@
 -- Items that make a module which is kept are each judged good on the way.
-use Rattle.std.proofs.Common.{◌≡◌, ℕ, ◌+◌, ◌≤◌, Bool, true, false, List, [], ◌∷◌, ◌++◌, length, Option, Some, None, refl, sym, subst, ap, ◌∙◌, arith}
-use Rattle.std.specs.Prelude.{◌&&◌, ◌||◌}
-use Rattle.std.specs.List.{All}
+use Rattle.std.proofs.Common.{◌≡◌, ℕ, ◌≤◌, true, false, List, [], ◌∷◌, ◌++◌, Option, Some, None, refl, sym, subst, ap, ◌∙◌, arith}
 use Rattle.std.proofs.lemmas.Bool.{le-leb}
 use Rattle.ir_item.specs.declared.item.Item.{Item}
 use Rattle.ir_item.specs.declared.item.Item.TheVariants as item
 use Rattle.ir_item.specs.Printed.{item_on}
-use Rattle.syntax.specs.declared.instruction.Instruction.{Instruction}
 use Rattle.syntax.specs.declared.module.Function.{Function}
 use Rattle.syntax.specs.declared.module.Module.{Module}
 use Rattle.ir_text.specs.declared.draft.Draft.{Draft}
-use Rattle.ir_text.specs.declared.draft.Place.{Place}
 use Rattle.ir_text.specs.declared.limits.Counts.{Counts}
 use Rattle.ir_text.specs.Draft.{placed}
 use Rattle.ir_text.specs.Names.{is_repeated}
 use Rattle.ir_text.specs.Defined.{open_function, names_outside, names_in, names_inside, defined_outside, defined_inside, inside_before}
-use Rattle.ir_text.specs.Limits.{is_place_within}
 use Rattle.ir_text.specs.Counting.{counts_in, counts_of, counts_with, are_counts_within, IsSmall, is_within_limits}
 use Rattle.ir_text.specs.Tracking.{IsStepless}
 use Rattle.ir_text.specs.Reading.{defines_again}
 use Rattle.ir_text.proofs.Follows.{Follows, placed_follows}
 use Rattle.ir_text.proofs.Keeping.{repeats-append, neither}
-use Rattle.ir_text.proofs.Limiting.{IsOpenFunction, IsOpenKept, AtItsEnds, IsDraftFew, placed_before, place_passes}
+use Rattle.ir_text.proofs.Limiting.{IsOpenKept, AtItsEnds, IsDraftFew, placed_before, place_passes}
 use Rattle.ir_text.proofs.Fills.{Puts, Fills}
 
 pub record IsGoodDraft (d : Draft) : Type 0 where

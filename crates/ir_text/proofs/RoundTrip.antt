@@ -1,5 +1,5 @@
 -- What a module that is kept prints is read again as the module, lines aside.
-use Rattle.std.proofs.Common.{◌≡◌, ℕ, ◌+◌, ◌<◌, ◌≤◌, Bool, true, false, List, [], ◌∷◌, ◌++◌, length, map, Option, Some, None, Result, Ok, Err, refl, sym, subst, ap, ◌∙◌, arith, append-nil}
+use Rattle.std.proofs.Common.{◌≡◌, ℕ, ◌≤◌, List, [], ◌∷◌, ◌++◌, length, map, Option, Some, None, Result, Ok, Err, refl, sym, subst, ap, ◌∙◌, arith, append-nil}
 use Rattle.std.specs.Prelude.{IfOk}
 use Rattle.std.specs.List.{All, flat_map}
 use Rattle.std.proofs.lemmas.List.{length-map}
@@ -25,7 +25,7 @@ use Rattle.ir_text.specs.declared.draft.Place.{Place}
 use Rattle.ir_text.specs.declared.draft.Place.TheVariants as place
 use Rattle.ir_text.specs.Draft.{drafted}
 use Rattle.ir_text.specs.Names.{is_repeated}
-use Rattle.ir_text.specs.Defined.{reserved_outside, reserved_inside, function_names, module_names}
+use Rattle.ir_text.specs.Defined.{reserved_outside, reserved_inside, module_names}
 use Rattle.ir_text.specs.Counting.{IsSmall, counts_of}
 use Rattle.ir_text.specs.Items.{note_items, function_note_items, block_note_items, step_items, ending_items, body_items, block_items, function_items, module_items, item_line}
 use Rattle.ir_text.specs.Kept.{IsZoneOf, AreFunctionNotesWritten, AreBlockNotesWritten, IsPhiWritten, IsStepWritten, IsEndingWrittenIfAny, IsBlockWritten, IsFunctionWritten, IsGlobalWritten, AreStepShowsFew, AreEndingShowsFew, IsBlockWithin, IsFunctionWithin, IsKeptFunction, IsKept}
@@ -36,12 +36,12 @@ use Rattle.ir_text.specs.RoundTrip.{IsAgain, IsReadBackAs}
 use Rattle.ir_text.specs.Unlined.{unlined_step, unlined_block, unlined_function, unlined}
 use Rattle.ir_text.proofs.Again.{reads_again}
 use Rattle.ir_text.proofs.Bridge.{module_same}
-use Rattle.ir_text.proofs.Fills.{Fills, IsWhole, module_fills}
-use Rattle.ir_text.proofs.Limiting.{IsOpenFunction, IsWholeWithin, IsWholeFew, IsDraftFew}
+use Rattle.ir_text.proofs.Fills.{IsWhole, module_fills}
+use Rattle.ir_text.proofs.Limiting.{IsOpenFunction}
 use Rattle.ir_text.proofs.OneAnswer.{one_answer}
 use Rattle.ir_text.proofs.PrintedLines.{AreKept, printed_lines}
 use Rattle.ir_text.proofs.Rerun.{IsGoodDraft, Passes, all_pass}
-use Rattle.ir_text.proofs.Unlining.{unlined_place, unlined_draft, function_names-unlined, module_names-unlined, register_count-unlined, function_cells-unlined, global_cells-unlined}
+use Rattle.ir_text.proofs.Unlining.{unlined_place, function_names-unlined, module_names-unlined, register_count-unlined, function_cells-unlined, global_cells-unlined}
 
 -- ---- each item of the module is kept
 

@@ -1,5 +1,5 @@
 -- An item is judged by the names that stand and by what is counted.
-use Rattle.std.proofs.Common.{◌≡◌, ℕ, Bool, true, false, cond, leb, not, List, [], ◌∷◌, ◌++◌, refl, sym, subst, ap, ◌∙◌, arith}
+use Rattle.std.proofs.Common.{◌≡◌, ℕ, Bool, true, false, leb, not, List, [], ◌∷◌, ◌++◌, refl, sym, subst, ap, ◌∙◌, arith}
 use Rattle.std.specs.Prelude.{◌&&◌, ◌||◌, Result, Ok, Err, Option, Some, None, IfOk, IfErr, IsTrue, if◌then◌else◌}
 use Rattle.std.proofs.lemmas.Bool.{leb-true}
 use Rattle.ir_item.specs.declared.item.Item.{Item}
@@ -11,7 +11,7 @@ use Rattle.ir_text.specs.declared.fault.ItemFault.{ItemFault}
 use Rattle.ir_text.specs.declared.fault.ItemFault.TheVariants as faults
 use Rattle.ir_text.specs.declared.reader.Reader.{Reader}
 use Rattle.ir_text.specs.Names.{is_repeated}
-use Rattle.ir_text.specs.Defined.{module_names, names_outside, names_inside, inside_before, defined_outside, defined_inside, reserved_outside}
+use Rattle.ir_text.specs.Defined.{module_names, names_outside, inside_before, defined_outside, defined_inside, reserved_outside}
 use Rattle.ir_text.specs.Counting.{IsSmall, counts_of, counts_with, are_counts_within, is_within_limits}
 use Rattle.ir_text.specs.Limits.{is_place_within}
 use Rattle.ir_text.specs.Scoping.{repeats, scope_with}

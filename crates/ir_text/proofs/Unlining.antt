@@ -1,12 +1,12 @@
 -- Where an item may stand, the names and the limits do not depend on lines.
-use Rattle.std.proofs.Common.{◌≡◌, ℕ, ◌+◌, Bool, true, false, cond, eqb, List, [], ◌∷◌, ◌++◌, length, map, Option, Some, None, refl, sym, subst, ap, ◌∙◌, arith, append_assoc}
-use Rattle.std.specs.Prelude.{option_map, ◌&&◌, ◌||◌, ◌==◌, if◌then◌else◌, nat_le, nat_lt}
+use Rattle.std.proofs.Common.{◌≡◌, ℕ, ◌+◌, Bool, true, false, List, [], ◌∷◌, ◌++◌, length, map, Option, Some, None, refl, sym, ap, ◌∙◌, arith}
+use Rattle.std.specs.Prelude.{option_map, ◌&&◌, ◌||◌, ◌==◌, if◌then◌else◌}
 use Rattle.std.specs.List.{flat_map, sum_by}
 use Rattle.std.proofs.lemmas.List.{length-map, map_push}
 use Rattle.std.proofs.lemmas.List.Sums.{sum_by-cons}
 use Rattle.ir_annotation.specs.declared.meaning.Annotation.{Annotation}
 use Rattle.ir_annotation.specs.declared.meaning.Annotation.TheVariants as annotation
-use Rattle.ir_annotation.specs.Annotations.{inequality_on, zone_on, pending_on, measure_on, budget_on, left_on, annotation_on}
+use Rattle.ir_annotation.specs.Annotations.{inequality_on, zone_on, pending_on, annotation_on}
 use Rattle.ir_item.specs.declared.item.Item.{Item}
 use Rattle.ir_item.specs.declared.item.Item.TheVariants as item
 use Rattle.ir_item.specs.Printed.{item_on}
@@ -30,15 +30,15 @@ use Rattle.ir_text.specs.declared.draft.Draft.{Draft}
 use Rattle.ir_text.specs.declared.draft.Place.{Place}
 use Rattle.ir_text.specs.declared.draft.Place.TheVariants as place
 use Rattle.ir_text.specs.declared.limits.Counts.{Counts}
-use Rattle.ir_text.specs.Opening.{new_block, new_function, with_global, with_function, with_block, with_phi, with_step, with_ending}
-use Rattle.ir_text.specs.Annotating.{with_function_notes, with_block_notes, with_zone_of, with_zone, annotated_function, annotated_block}
-use Rattle.ir_text.specs.Draft.{drafted, new_place, placed, placed_in, placed_outside, placed_at_function, placed_in_function_head, placed_at_block, annotated_in_block_head, placed_in_block_head, placed_in_phis, annotated_in_body, placed_behind, placed_in_body, placed_in_ended}
+use Rattle.ir_text.specs.Opening.{with_global, with_function, with_block, with_phi, with_step}
+use Rattle.ir_text.specs.Annotating.{with_function_notes, with_block_notes, with_zone_of, annotated_function}
+use Rattle.ir_text.specs.Draft.{drafted, new_place, placed, placed_in, placed_outside, placed_at_function, placed_in_function_head, placed_at_block, annotated_in_block_head, placed_in_block_head, placed_in_phis, annotated_in_body, placed_in_body, placed_in_ended}
 use Rattle.ir_text.specs.Names.{is_repeated}
 use Rattle.ir_text.specs.Defined.{parameter_name, step_registers, phi_register, block_registers, block_names, function_names, global_name, function_name, module_names, reserved_outside, reserved_inside, option_list, open_function, names_beside, names_outside, names_in, names_inside, defined_outside, defined_inside, inside_before}
-use Rattle.ir_text.specs.Limits.{global_cells, step_cells, block_cells, function_cells, block_register_count, register_count, are_function_notes_within, are_block_notes_within, is_function_head_within, is_block_head_within, is_place_within}
-use Rattle.ir_text.specs.Counting.{registers_in, cells_in, counts_in, counts_of, are_counts_within, is_within_limits}
+use Rattle.ir_text.specs.Limits.{global_cells, step_cells, block_cells, function_cells, block_register_count, register_count, is_place_within}
+use Rattle.ir_text.specs.Counting.{registers_in, cells_in, counts_of, are_counts_within, is_within_limits}
 use Rattle.ir_text.specs.Reading.{defines_again}
-use Rattle.ir_text.specs.Unlined.{unlined_inequalities, unlined_zones, unlined_function_notes, unlined_block_notes, unlined_phi, unlined_step, unlined_ending, unlined_block, unlined_function, unlined_global, unlined}
+use Rattle.ir_text.specs.Unlined.{unlined_inequalities, unlined_zones, unlined_function_notes, unlined_block_notes, unlined_phi, unlined_step, unlined_block, unlined_function, unlined_global, unlined}
 
 abbrev pub unlined_function_head : FunctionHead → FunctionHead
 unlined_function_head h = record h { function = unlined_function h.function }

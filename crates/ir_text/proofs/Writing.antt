@@ -1,10 +1,10 @@
 -- What is put behind what was read is spelled within its limits, as each item is.
-use Rattle.std.proofs.Common.{◌≡◌, ℕ, ◌^◌, ◌<◌, ◌≤◌, Bool, true, false, List, [], ◌∷◌, ◌++◌, length, Option, Some, None, refl, sym, subst, ap, ◌∙◌, arith}
-use Rattle.std.specs.Prelude.{pos, ◌==◌, if◌then◌else◌}
+use Rattle.std.proofs.Common.{◌≡◌, ℕ, Bool, true, false, List, [], ◌∷◌, ◌++◌, length, Option, Some, None, refl, subst, arith}
+use Rattle.std.specs.Prelude.{◌==◌, if◌then◌else◌}
 use Rattle.std.specs.List.{All}
 use Rattle.std.proofs.lemmas.List.Elements.{All-nil, All-push}
 use Rattle.ir_annotation.specs.Canonical.{IsTerm, IsCanonical}
-use Rattle.ir_annotation.specs.Annotations.{IsInequality, IsZone, IsPending, IsMeasure, IsBudget, IsLeft}
+use Rattle.ir_annotation.specs.Annotations.{IsInequality, IsZone, IsPending}
 use Rattle.ir_item.specs.Printed.{IsKeptItem}
 use Rattle.ir_annotation.specs.declared.meaning.Annotation.{Annotation}
 use Rattle.ir_annotation.specs.declared.meaning.Annotation.TheVariants as annotation
@@ -12,19 +12,11 @@ use Rattle.ir_item.specs.declared.item.Item.{Item}
 use Rattle.ir_item.specs.declared.item.Item.TheVariants as item
 use Rattle.syntax.specs.declared.annotation.Inequality.{Inequality}
 use Rattle.syntax.specs.declared.annotation.Zone.{Zone}
-use Rattle.syntax.specs.declared.annotation.Pending.{Pending}
-use Rattle.syntax.specs.declared.annotation.Left.{Left}
-use Rattle.syntax.specs.declared.annotation.Measure.{Measure}
-use Rattle.syntax.specs.declared.annotation.Budget.{Budget}
 use Rattle.syntax.specs.declared.annotation.FunctionNotes.{FunctionNotes}
 use Rattle.syntax.specs.declared.annotation.BlockNotes.{BlockNotes}
 use Rattle.syntax.specs.declared.operator.Mode.{Mode}
 use Rattle.syntax.specs.declared.operator.Mode.TheVariants as mode
-use Rattle.syntax.specs.declared.instruction.Instruction.{Instruction}
-use Rattle.syntax.specs.declared.instruction.Phi.{Phi}
 use Rattle.syntax.specs.declared.instruction.Step.{Step}
-use Rattle.syntax.specs.declared.terminator.Terminator.{Terminator}
-use Rattle.syntax.specs.declared.module.Global.{Global}
 use Rattle.syntax.specs.declared.module.Block.{Block}
 use Rattle.syntax.specs.declared.module.Function.{Function}
 use Rattle.syntax.specs.declared.module.Module.{Module}
@@ -33,11 +25,11 @@ use Rattle.ir_text.specs.declared.annotating.BlockHead.{BlockHead}
 use Rattle.ir_text.specs.declared.draft.Draft.{Draft}
 use Rattle.ir_text.specs.declared.draft.Place.{Place}
 use Rattle.ir_text.specs.declared.draft.Place.TheVariants as place
-use Rattle.ir_text.specs.Opening.{zero_form, no_function_notes, new_function, no_block_notes, new_block, with_global, with_function, with_block, with_phi, with_step, with_ending}
-use Rattle.ir_text.specs.Annotating.{with_function_notes, with_block_notes, with_zone_of, with_zone, annotated_function, annotated_block}
-use Rattle.ir_text.specs.Draft.{drafted, new_place, placed, placed_in, placed_outside, placed_at_function, placed_in_function_head, placed_at_block, annotated_in_block_head, placed_in_block_head, placed_in_phis, annotated_in_body, placed_behind, placed_in_body, placed_in_ended}
+use Rattle.ir_text.specs.Opening.{zero_form, no_function_notes, new_function, new_block, with_global, with_block, with_phi, with_step, with_ending}
+use Rattle.ir_text.specs.Annotating.{with_function_notes, with_block_notes, with_zone_of, annotated_function}
+use Rattle.ir_text.specs.Draft.{drafted, placed, placed_in, placed_outside, placed_at_function, placed_in_function_head, placed_at_block, annotated_in_block_head, placed_in_block_head, placed_in_phis, placed_in_body, placed_in_ended}
 use Rattle.ir_text.specs.Reading.{start}
-use Rattle.ir_text.specs.Kept.{IsZoneOf, AreFunctionNotesWritten, AreBlockNotesWritten, IsPhiWritten, IsStepWritten, IsEndingWritten, IsEndingWrittenIfAny, IsBlockWritten, IsFunctionWritten, IsGlobalWritten}
+use Rattle.ir_text.specs.Kept.{IsZoneOf, AreFunctionNotesWritten, AreBlockNotesWritten, IsPhiWritten, IsStepWritten, IsBlockWritten, IsFunctionWritten, IsGlobalWritten}
 
 pub record IsWholeWritten (m : Module) : Type 0 where
   pub globals : All IsGlobalWritten m.globals

@@ -1,5 +1,5 @@
 -- The limits of a module, each at the item that may pass it.
-use Rattle.std.specs.Prelude.{ℕ, ◌+◌, Bool, true, false, ◌&&◌, List, [], ◌∷◌, ◌++◌, length, sum_by, nat_le, nat_lt, Option, Some, None}
+use Rattle.std.specs.Prelude.{ℕ, ◌+◌, Bool, true, ◌&&◌, length, sum_by, nat_le, nat_lt}
 use Rattle.syntax.specs.declared.annotation.FunctionNotes.{FunctionNotes}
 use Rattle.syntax.specs.declared.annotation.BlockNotes.{BlockNotes}
 use Rattle.syntax.specs.declared.instruction.AllocaSize.{AllocaSize}
@@ -13,7 +13,7 @@ use Rattle.syntax.specs.declared.module.Function.{Function}
 use Rattle.syntax.specs.declared.module.Module.{Module}
 use Rattle.ir_text.specs.declared.draft.Place.{Place}
 use Rattle.ir_text.specs.declared.draft.Place.TheVariants as place
-use Rattle.ir_text.specs.Defined.{option_list, defined_register, block_registers, step_registers}
+use Rattle.ir_text.specs.Defined.{block_registers}
 
 abbrev pub global_cells : Module → ℕ
 global_cells m = sum_by (λ (g : Global). g.cells) m.globals

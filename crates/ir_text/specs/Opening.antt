@@ -1,18 +1,12 @@
 -- Functions and blocks as their first lines open them, and what is put into them.
-use Rattle.std.specs.Prelude.{ℕ, ℤ, pos, List, [], ◌∷◌, ◌++◌, Option, Some, None}
+use Rattle.std.specs.Prelude.{ℕ, pos, List, [], ◌∷◌, ◌++◌, Some, None}
 use Rattle.syntax.specs.declared.annotation.Form.{Form}
 use Rattle.syntax.specs.declared.annotation.Inequality.{Inequality}
-use Rattle.syntax.specs.declared.annotation.Zone.{Zone}
 use Rattle.syntax.specs.declared.annotation.FunctionNotes.{FunctionNotes}
 use Rattle.syntax.specs.declared.annotation.BlockNotes.{BlockNotes}
-use Rattle.syntax.specs.declared.annotation.Measure.{Measure}
-use Rattle.syntax.specs.declared.annotation.Budget.{Budget}
-use Rattle.syntax.specs.declared.annotation.Left.{Left}
 use Rattle.syntax.specs.declared.instruction.Phi.{Phi}
-use Rattle.syntax.specs.declared.instruction.Step.{Step}
 use Rattle.syntax.specs.declared.instruction.Instruction.{Instruction}
 use Rattle.syntax.specs.declared.terminator.Terminator.{Terminator}
-use Rattle.syntax.specs.declared.terminator.Ending.{Ending}
 use Rattle.syntax.specs.declared.module.Global.{Global}
 use Rattle.syntax.specs.declared.module.ResultType.{ResultType}
 use Rattle.syntax.specs.declared.module.Parameter.{Parameter}

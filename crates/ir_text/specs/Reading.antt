@@ -1,5 +1,5 @@
 -- Reading line by line, up to the first line with a fault.
-use Rattle.std.specs.Prelude.{◌≡◌, ◌<◌, ◌≤◌, ℕ, ◌+◌, ◌-◌, Bool, true, false, ◌&&◌, ◌||◌, is_some, List, [], ◌∷◌, length, Option, Some, None, Result, Ok, Err, IsUtf8, if◌then◌else◌}
+use Rattle.std.specs.Prelude.{◌≡◌, ◌<◌, ◌≤◌, ℕ, ◌+◌, ◌-◌, Bool, true, ◌&&◌, ◌||◌, is_some, List, [], ◌∷◌, length, Option, Some, None, Result, Ok, Err, IsUtf8, if◌then◌else◌, min}
 use Rattle.ir_lex.specs.declared.fault.TextFault.{TextFault}
 use Rattle.ir_lex.specs.declared.fault.TextFault.TheVariants as faults
 use Rattle.ir_item.specs.declared.item.Item.{Item}
@@ -50,9 +50,9 @@ abbrev pub may_stand : Draft → ℕ → Option Line → Bool
 may_stand d at None = true
 may_stand d at (Some line) = is_some (placed d at line.item)
 
--- the fault of a line with which the text grows too long: its own, or 103 where its item may not stand there, else 104
+-- the fault of a line with which the text grows too long: its own, or 103 where its item may not stand there, but 104 at most
 pub data OverlongFault (d : Draft) (at : ℕ) (line : List ℕ) : ℕ → Type 0 where
-  Unsaid : (number : ℕ) → IsLineFault at line number → OverlongFault d at line number
+  Unsaid : (number : ℕ) → IsLineFault at line number → OverlongFault d at line (min number 104)
   Too-late : (said : Option Line) (number : ℕ) → IsUtf8 line → line_of at line ≡ Ok said → number ≡ (if may_stand d at said then 104 else 103) → OverlongFault d at line number
 
 -- The lines, of which the first has this number, come behind what was read. There is room for so many bytes more. They give all of
@@ -106,6 +106,11 @@ FailsAt at out (faults.Fault number line) = (line ≡ at) × (out ≡ Err number
 abbrev pub FaultSteps : Draft → ℕ → List ℕ → TextFault → Type 0
 FaultSteps d at line faults.Memory = Unit {0}
 FaultSteps d at line (faults.Fault number found_at) = (found_at ≡ at) × Steps d at line (Err number)
+
+-- the lower of a line's own fault and 104
+abbrev pub or_too_late : TextFault → TextFault
+or_too_late faults.Memory = faults.Memory
+or_too_late (faults.Fault number at) = faults.Fault (min number 104) at
 
 abbrev pub FaultOverlong : Draft → ℕ → List ℕ → TextFault → Type 0
 FaultOverlong d at line faults.Memory = Unit {0}

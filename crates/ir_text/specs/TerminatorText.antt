@@ -1,5 +1,5 @@
 -- How terminators are spelled.
-use Rattle.std.specs.Prelude.{ℕ, List, [], ◌∷◌, ◌++◌, codes, flat_map, Option, Some, None}
+use Rattle.std.specs.Prelude.{ℕ, List, ◌++◌, codes, flat_map, Option, Some, None}
 use Rattle.std.specs.Fmt.{signed_decimal}
 use Rattle.syntax.specs.declared.operator.Width.{Width}
 use Rattle.syntax.specs.declared.instruction.Operand.{Operand}

@@ -1,5 +1,5 @@
 -- A module, lines aside: each part is on line 0.
-use Rattle.std.specs.Prelude.{ℕ, List, map, Option, option_map}
+use Rattle.std.specs.Prelude.{List, map, option_map}
 use Rattle.ir_annotation.specs.Annotations.{inequality_on, zone_on, pending_on, measure_on, budget_on, left_on}
 use Rattle.syntax.specs.declared.annotation.Inequality.{Inequality}
 use Rattle.syntax.specs.declared.annotation.Zone.{Zone}

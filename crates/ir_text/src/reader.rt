@@ -8,7 +8,7 @@ ghost use Rattle.ir_text.specs.Kept.{IsKept};
 ghost use Rattle.ir_text.specs.Lines.{lines_of};
 ghost use Rattle.ir_text.specs.Counting.{counts_of};
 ghost use Rattle.ir_text.specs.Tracking.{IsTracked, OrMemory, judged_reader, judged_place};
-ghost use Rattle.ir_text.specs.Reading.{start, with_item, FailsItem, FailsAt, Steps, FaultSteps, FaultOverlong, FaultTooLate, at_line, ended, FaultEnded, Answers, IsFaultOfText};
+ghost use Rattle.ir_text.specs.Reading.{start, with_item, FailsItem, FailsAt, Steps, FaultSteps, FaultOverlong, FaultTooLate, or_too_late, at_line, ended, FaultEnded, Answers, IsFaultOfText};
 
 use crate::draft::{Draft, Place};
 use crate::fault::ItemFault;
@@ -37,6 +37,19 @@ fn at_line(fault: ItemFault, line: u32) -> TextFault
     match fault {
         ItemFault::Fault(number) => TextFault::Fault { number, line },
         ItemFault::Memory => TextFault::Memory,
+    }
+}
+
+/// The lower of a line's own fault and 104, which the line has since the text grows too long with it.
+fn or_too_late(fault: TextFault) -> TextFault
+    ensures { result ≡ or_too_late fault }
+{
+    match fault {
+        TextFault::Fault { number, line } => TextFault::Fault {
+            number: number.min(104),
+            line,
+        },
+        TextFault::Memory => TextFault::Memory,
     }
 }
 
@@ -193,7 +206,7 @@ impl Reader {
             }
             Err(fault) => {
                 drop(self);
-                fault
+                or_too_late(fault)
             }
         }
     }

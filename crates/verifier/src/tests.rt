@@ -1,15 +1,16 @@
 //! Modules as texts, and the fault that each names. Expected faults are worked by hand from the rules in `docs/RULES.md`.
 
+mod allocas;
 mod calls;
-mod definedness;
+mod facts;
 mod forms;
 mod graph;
 mod names;
 mod pointers;
-mod ranges;
 mod regions;
 mod samples;
-mod types;
+mod type_rules;
+mod undefined_registers;
 
 use crate::refusal::Refused;
 use crate::verified::verify;

@@ -269,7 +269,7 @@ fn bytes(rt: HostRuntime) -> Result<(), Fail> {
         ("\n007\n", 104),
         ("007", 102),
         ("}", 103),
-        (";! hopes", 107),
+        (";! hopes", 104),
         (
             "@a = global [9223372036854775808 x i64] zeroinitializer",
             104,

@@ -1,8 +1,27 @@
+use Rattle.std.proofs.Common.{◌≡◌, ◌<◌, length, ap, arith}
 use Rattle.program.specs.declared.function.Function.{Function}
 use Rattle.cfg.specs.declared.refusal.Broken.{Broken}
+use Rattle.region_match.proofs.AllTables.{graphs_length, all_length, all_at}
 use Rattle.region_match.proofs.Lists.{named_next, named_all}
 use Rattle.definedness.specs.Definedness.{IsFunctionBroken}
 use Rattle.definedness.proofs.check.all_faults.Goals as goal
+
+pub bounds-tables-index : goal.bounds-tables-index
+bounds-tables-index c =
+    let program = c.args.graph.now.typed.program in
+    let size : length c.args.graph.now.functions ≡ length program.functions = graphs_length program.functions c.args.graph.now.functions c.args.graph.now.edges in
+    let same : length c.as_slice-functions.result.now ≡ length program.functions = ap length c.as_slice-functions.ensures in
+    let tables : length c.args.regions.now.functions ≡ length c.args.graph.now.functions = all_length c.args.graph.now.functions c.args.regions.now.functions c.requires in
+    let read : length c.as_slice-tables.result.now ≡ length c.args.regions.now.functions = ap length c.as_slice-tables.ensures in
+    omega (arith, c.loop-index-test.true, size, same, tables, read)
+
+pub function_fault-requires-clause-tasks : goal.function_fault-requires-clause-tasks
+function_fault-requires-clause-tasks c =
+    let program = c.args.graph.now.typed.program in
+    let size : length c.args.graph.now.functions ≡ length program.functions = graphs_length program.functions c.args.graph.now.functions c.args.graph.now.edges in
+    let same : length c.as_slice-functions.result.now ≡ length program.functions = ap length c.as_slice-functions.ensures in
+    let within : c.loop-index.index < length c.args.graph.now.functions = omega (arith, c.loop-index-test.true, size, same) in
+    rw (c.as_slice-blocks.ensures, c.as_slice.ensures, c.as_slice-graphs.ensures, c.as_slice-tables.ensures) (all_at c.args.graph.now.functions c.args.regions.now.functions c.loop-index.index c.index-graphs-index.result c.index-tables-index.result c.requires within)
 
 pub loop-index-preserved : goal.loop-index-preserved
 loop-index-preserved c = named_next (λ (f : Function) (b : Broken). IsFunctionBroken f b) c.as_slice-functions.result.now _ c.index-functions-index.result _ _ _ c.loop-index-test.true c.index-functions-index.is c.loop-index.invariant c.in_ok-broken.ensures c.lower-named.ensures

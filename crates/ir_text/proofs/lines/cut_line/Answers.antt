@@ -1,6 +1,5 @@
-use Rattle.std.proofs.Common.{◌≡◌, ◌+◌, ◌≤◌, length, ap, ◌∙◌, arith}
+use Rattle.std.proofs.Common.{arith}
 use Rattle.std.proofs.lemmas.List.{length-take, length-drop, take_rest}
-use Rattle.ir_text.specs.Lines.{lines_of, is_inner}
 use Rattle.ir_text.proofs.FirstLine.{cut}
 use Rattle.ir_text.proofs.lines.cut_line.Goals as goal
 

@@ -1,11 +1,11 @@
-use Rattle.std.proofs.Common.{◌≡◌, ◌+◌, ◌-◌, ◌<◌, ◌≤◌, ℕ, List, [], length, refl, sym, ap, ◌∙◌, subst, arith}
-use Rattle.std.specs.Prelude.{Result, Ok, Err}
+use Rattle.std.proofs.Common.{◌≡◌, ◌+◌, ◌-◌, ◌<◌, ◌≤◌, ℕ, List, [], length, sym, ap, ◌∙◌, subst, arith}
+use Rattle.std.specs.Prelude.{Ok}
 use Rattle.std.proofs.lemmas.Bool.{eqb-true}
 use Rattle.std.proofs.lemmas.List.{nil_from_length}
 use Rattle.std.proofs.lemmas.Result.{err_from_is_err_and, IfOk-weaker, IfErr-weaker}
 use Rattle.ir_text.specs.declared.draft.Draft.{Draft}
 use Rattle.ir_text.specs.Lines.{lines_of}
-use Rattle.ir_text.specs.Reading.{start, Reads, Done, Steps, FaultSteps, FaultOverlong, Read}
+use Rattle.ir_text.specs.Reading.{start, Reads, Done, Steps, Read}
 use Rattle.ir_text.proofs.Keeping.{answers_kept}
 use Rattle.ir_text.proofs.LineByLine.{stopped, too_long, goes_on, unfinished, on_a_line, if_on_a_line}
 use Rattle.ir_text.proofs.reader.read.Goals as goal

@@ -1,5 +1,5 @@
 use Rattle.std.proofs.Common.{◌++◌, append_assoc}
-use Rattle.std.specs.Prelude.{string_bytes, codes}
+use Rattle.std.specs.Prelude.{string_bytes}
 use Rattle.ir_text.specs.Spelling.{pointer_parameter_text}
 use Rattle.ir_text.proofs.Pushed.{pushed}
 use Rattle.ir_text.proofs.spelling.push_pointer_parameter.Goals as goal

@@ -1,4 +1,4 @@
-use Rattle.std.proofs.Common.{◌≡◌, ◌∙◌, append_assoc}
+use Rattle.std.proofs.Common.{◌∙◌, append_assoc}
 use Rattle.std.proofs.lemmas.Result.{on_ok_weaker}
 use Rattle.ir_text.specs.TerminatorText.{reattach_text}
 use Rattle.ir_text.proofs.terminator_text.push_reattach.Goals as goal

@@ -1,5 +1,5 @@
-use Rattle.std.proofs.Common.{◌≡◌, ℕ, List, [], ◌∷◌, not, sym, ap, ◌∙◌}
-use Rattle.ir_text.specs.Names.{is_known, is_repeated}
+use Rattle.std.proofs.Common.{ℕ, List, not, sym, ap, ◌∙◌}
+use Rattle.ir_text.specs.Names.{is_known}
 use Rattle.ir_text.proofs.Seen.{seen, repeats_one}
 use Rattle.ir_text.proofs.names.Names.define.Goals as goal
 

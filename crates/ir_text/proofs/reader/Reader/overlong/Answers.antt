@@ -15,4 +15,4 @@ returns-in-Ok-None c =
     rw c.at_line.ensures (refl, Too-late None 104 said.0 said.1 refl)
 
 pub returns-in-Err : goal.returns-in-Err
-returns-in-Err c = overlong_line c.in-Err.fault c.args.self.draft c.args.number c.args.line.now c.in-Err.ensures.fault
+returns-in-Err c = rw c.or_too_late.ensures (overlong_line c.in-Err.fault c.args.self.draft c.args.number c.args.line.now c.in-Err.ensures.fault)

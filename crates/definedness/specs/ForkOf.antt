@@ -1,0 +1,11 @@
+-- What a block detaches, as the tables have it.
+use Rattle.std.specs.Prelude.{◌≡◌, ◌↔◌, ℕ, List, Some, Contains}
+use Rattle.linear.specs.declared.form.RegisterId.{RegisterId}
+use Rattle.program.specs.declared.function.Block.{Block}
+use Rattle.cfg.specs.declared.structure.BlockEdges.{BlockEdges}
+use Rattle.definedness.specs.declared.fork.Fork.{Fork}
+use Rattle.definedness.specs.Sure.{IsFork, IsEndOf}
+
+pub record IsForkOf (bodies : List Block) (blocks : List BlockEdges) (b : ℕ) (fork : Fork) : Type 0 where
+  pub region : (region : RegisterId) → (fork.region ≡ Some region) ↔ IsFork bodies b region
+  pub ends : (end : ℕ) → Contains fork.ends end ↔ IsEndOf bodies blocks b end
