@@ -1,6 +1,6 @@
 -- The rules on cost. `left K S` says of a block how many self calls and how many other instructions the call may still do from the block's start on.
-use Rattle.std.specs.Prelude.{◌≡◌, ◌⊎◌, ℕ, ℤ, pos, negsuc, ◌+ℤ◌, ◌-ℤ◌, false, ◌<◌, ◌≤◌, List, [], ◌++◌, Option, Some, None, Any, slice_get}
-use Rattle.linear.specs.Forms.{Combination}
+use Rattle.std.specs.Prelude.{◌≡◌, ◌⊎◌, ℕ, pos, negsuc, ◌-ℤ◌, Bool, false, ◌<◌, ◌≤◌, List, [], ◌++◌, Option, Some, None, Any, slice_get}
+use Rattle.linear.specs.Forms.{Combination, constant_form}
 use Rattle.linear.specs.declared.form.Fact.{Fact}
 use Rattle.linear.specs.declared.form.RegisterId.{RegisterId}
 use Rattle.program.specs.declared.annotation.Budget.{Budget}
@@ -25,112 +25,111 @@ use Rattle.cost_table.specs.Cost.{cost, calls_done, instructions_done}
 
 -- ---- sums
 
-abbrev pub number : ℤ → Sum
-number z = record { constant = z; parts = [] }
-
--- and a form, with the moves' operands put in
-abbrev pub and_form : Sum → List Move → Combination → Sum
-and_form s moves f = record { constant = s.constant +ℤ f.constant; parts = s.parts ++ parts_of moves (pos 1) f.terms }
+-- what is left of a form once so much is done
+abbrev pub left_behind : Combination → ℕ → Sum
+left_behind left done = record { constant = left.constant -ℤ pos done; parts = parts_of [] (pos 1) left.terms }
 
 -- less a form, with the moves' operands put in
 abbrev pub less_form : Sum → List Move → Combination → Sum
 less_form s moves f = record { constant = s.constant -ℤ f.constant; parts = s.parts ++ parts_of moves (negsuc 0) f.terms }
 
--- what is left of a form once so much is done
-abbrev pub left_behind : Combination → ℕ → Sum
-left_behind left done = and_form (number (pos 0 -ℤ pos done)) [] left
+-- a form with the moves' operands put in
+abbrev pub put_in : List Move → Combination → Sum
+put_in moves f = record { constant = f.constant; parts = parts_of moves (pos 1) f.terms }
 
-abbrev pub IsNotShown : List Fact → Sum → Type 0
-IsNotShown known s = shows known s ≡ false
+-- a number less a form
+abbrev pub number_less : ℕ → Combination → Sum
+number_less n f = record { constant = pos n -ℤ f.constant; parts = parts_of [] (negsuc 0) f.terms }
+
+-- of self calls and instructions one inequality each: where one is not shown, the rule of this number is broken at this line
+abbrev pub IsPairBroken : ℕ → ℕ → Bool → Bool → Broken → Type 0
+IsPairBroken number line calls instructions broken = (broken.number ≡ number) × (broken.line ≡ line) × ((calls ≡ false) ⊎ (instructions ≡ false))
 
 -- ---- 701: at a block what is left is at least 0
 
-abbrev pub IsOverdrawn : Program → Function → ℕ → Block → Broken → Type 0
-IsOverdrawn program function b block broken =
-    (broken.number ≡ 701) × (broken.line ≡ block.left.line)
-    × (IsNotShown (start_facts function b block) (left_behind block.left.self_calls 0) ⊎ IsNotShown (start_facts function b block) (left_behind block.left.instructions 0))
+abbrev pub IsOverdrawn : Function → ℕ → Block → Broken → Type 0
+IsOverdrawn function b block broken =
+    IsPairBroken 701 block.left.line (shows (start_facts function b block) (left_behind block.left.self_calls 0)) (shows (start_facts function b block) (left_behind block.left.instructions 0)) broken
 
 -- ---- 702: what is left of a block covers what it does and what is left where it goes on
 
 abbrev pub left_calls : Option Block → Combination
-left_calls None = record { terms = []; constant = pos 0 }
+left_calls None = constant_form (pos 0)
 left_calls (Some block) = block.left.self_calls
 
 abbrev pub left_instructions : Option Block → Combination
-left_instructions None = record { terms = []; constant = pos 0 }
+left_instructions None = constant_form (pos 0)
 left_instructions (Some block) = block.left.instructions
 
 -- along an edge, with the phis of its target replaced
-abbrev pub IsEdgeUncovered : List Function → Function → ℕ → Block → EdgeFacts → Type 0
-IsEdgeUncovered functions function f block e =
-    IsNotShown e.facts (less_form (left_behind block.left.self_calls (calls_done f block)) e.moves (left_calls (slice_get function.blocks e.to.0)))
-    ⊎ IsNotShown e.facts (less_form (left_behind block.left.instructions (instructions_done functions f block)) e.moves (left_instructions (slice_get function.blocks e.to.0)))
+abbrev pub IsEdgeUncovered : List Function → Function → ℕ → Block → ℕ → EdgeFacts → Broken → Type 0
+IsEdgeUncovered functions function f block line e broken =
+    IsPairBroken 702 line
+    (shows e.facts (less_form (left_behind block.left.self_calls (calls_done f block)) e.moves (left_calls (slice_get function.blocks e.to.0))))
+    (shows e.facts (less_form (left_behind block.left.instructions (instructions_done functions f block)) e.moves (left_instructions (slice_get function.blocks e.to.0)))) broken
 
 -- at a detach both targets together
-abbrev pub IsForkUncovered : List Function → Function → ℕ → Block → List Fact → ℕ → ℕ → Type 0
-IsForkUncovered functions function f block known body continuation =
-    IsNotShown known (less_form (less_form (left_behind block.left.self_calls (calls_done f block)) [] (left_calls (slice_get function.blocks body))) [] (left_calls (slice_get function.blocks continuation)))
-    ⊎ IsNotShown known (less_form (less_form (left_behind block.left.instructions (instructions_done functions f block)) [] (left_instructions (slice_get function.blocks body))) []
-    (left_instructions (slice_get function.blocks continuation)))
+abbrev pub IsForkUncovered : List Function → Function → ℕ → Block → ℕ → List Fact → ℕ → ℕ → Broken → Type 0
+IsForkUncovered functions function f block line known body continuation broken =
+    IsPairBroken 702 line
+    (shows known (less_form (less_form (left_behind block.left.self_calls (calls_done f block)) [] (left_calls (slice_get function.blocks body))) [] (left_calls (slice_get function.blocks continuation))))
+    (shows known
+    (less_form (less_form (left_behind block.left.instructions (instructions_done functions f block)) [] (left_instructions (slice_get function.blocks body))) [] (left_instructions (slice_get function.blocks continuation))))
+    broken
 
 -- at a `ret` or `reattach` what the block does alone
-abbrev pub IsEndUncovered : List Function → ℕ → Block → List Fact → Type 0
-IsEndUncovered functions f block known =
-    IsNotShown known (left_behind block.left.self_calls (calls_done f block)) ⊎ IsNotShown known (left_behind block.left.instructions (instructions_done functions f block))
+abbrev pub IsEndUncovered : List Function → ℕ → Block → ℕ → List Fact → Broken → Type 0
+IsEndUncovered functions f block line known broken =
+    IsPairBroken 702 line (shows known (left_behind block.left.self_calls (calls_done f block))) (shows known (left_behind block.left.instructions (instructions_done functions f block))) broken
 
-abbrev pub IsUncoveredAt : List Function → Function → ℕ → Block → List Fact → List EdgeFacts → Terminator → Type 0
-IsUncoveredAt functions function f block known edges (terminator.Jump target) = Any (IsEdgeUncovered functions function f block) edges
-IsUncoveredAt functions function f block known edges (terminator.Branch condition when_true when_false) = Any (IsEdgeUncovered functions function f block) edges
-IsUncoveredAt functions function f block known edges (terminator.Switch width value default cases) = Any (IsEdgeUncovered functions function f block) edges
-IsUncoveredAt functions function f block known edges (terminator.Return value) = IsEndUncovered functions f block known
-IsUncoveredAt functions function f block known edges (terminator.Detach region body continuation) = IsForkUncovered functions function f block known body.0 continuation.0
-IsUncoveredAt functions function f block known edges (terminator.Reattach region continuation) = IsEndUncovered functions f block known
-IsUncoveredAt functions function f block known edges (terminator.Sync region target) = Any (IsEdgeUncovered functions function f block) edges
+abbrev pub IsUncoveredAt : List Function → Function → ℕ → Block → ℕ → List Fact → List EdgeFacts → Terminator → Broken → Type 0
+IsUncoveredAt functions function f block line known edges (terminator.Jump target) broken = Any (λ e. IsEdgeUncovered functions function f block line e broken) edges
+IsUncoveredAt functions function f block line known edges (terminator.Branch condition when_true when_false) broken = Any (λ e. IsEdgeUncovered functions function f block line e broken) edges
+IsUncoveredAt functions function f block line known edges (terminator.Switch width value default cases) broken = Any (λ e. IsEdgeUncovered functions function f block line e broken) edges
+IsUncoveredAt functions function f block line known edges (terminator.Return value) broken = IsEndUncovered functions f block line known broken
+IsUncoveredAt functions function f block line known edges (terminator.Detach region body continuation) broken = IsForkUncovered functions function f block line known body.0 continuation.0 broken
+IsUncoveredAt functions function f block line known edges (terminator.Reattach region continuation) broken = IsEndUncovered functions f block line known broken
+IsUncoveredAt functions function f block line known edges (terminator.Sync region target) broken = Any (λ e. IsEdgeUncovered functions function f block line e broken) edges
 
 abbrev pub IsEndingUncovered : List Function → Function → ℕ → ℕ → Block → Option Ending → Broken → Type 0
 IsEndingUncovered functions function f b block None broken = ⊥
 IsEndingUncovered functions function f b block (Some ending) broken =
-    (broken.number ≡ 702) × (broken.line ≡ ending.line)
-    × IsUncoveredAt functions function f block (facts_at_end functions function b block) (edges_known functions function b block (Some ending)) ending.terminator
+    IsUncoveredAt functions function f block ending.line (facts_at_end functions function b block) (edges_known functions function b block (Some ending)) ending.terminator broken
 
 -- ---- 703: the measure is within its bound, and falls at a self call
 
 abbrev pub IsUnbounded : Function → Block → Broken → Type 0
 IsUnbounded function entry broken =
-    (broken.number ≡ 703) × (broken.line ≡ function.measure.line)
-    × (IsNotShown (start_facts function 0 entry) (left_behind function.measure.form 0) ⊎ IsNotShown (start_facts function 0 entry) (less_form (number (pos function.measure.bound)) [] function.measure.form))
+    IsPairBroken 703 function.measure.line (shows (start_facts function 0 entry) (left_behind function.measure.form 0)) (shows (start_facts function 0 entry) (number_less function.measure.bound function.measure.form)) broken
 
 -- the arguments' measure is at least 0 and less than the call's own
-abbrev pub IsNotFalling : Function → List Fact → List Argument → Type 0
-IsNotFalling function known arguments =
-    IsNotShown known (and_form (number (pos 0)) (argument_moves 0 arguments) function.measure.form)
-    ⊎ IsNotShown known (less_form (left_behind function.measure.form 1) (argument_moves 0 arguments) function.measure.form)
+abbrev pub IsNotFalling : Function → ℕ → List Fact → List Argument → Broken → Type 0
+IsNotFalling function line known arguments broken =
+    IsPairBroken 703 line (shows known (put_in (argument_moves 0 arguments) function.measure.form)) (shows known (less_form (left_behind function.measure.form 1) (argument_moves 0 arguments) function.measure.form)) broken
 
-abbrev pub IsCallNotFalling : Function → ℕ → List Fact → Instruction → Type 0
-IsCallNotFalling function f known (instruction.Binary d operator width x y) = ⊥
-IsCallNotFalling function f known (instruction.Compare d predicate width x y) = ⊥
-IsCallNotFalling function f known (instruction.Convert d conversion x) = ⊥
-IsCallNotFalling function f known (instruction.Alloca d alloca) = ⊥
-IsCallNotFalling function f known (instruction.ElementPointer d object index) = ⊥
-IsCallNotFalling function f known (instruction.Load d address) = ⊥
-IsCallNotFalling function f known (instruction.Store x address) = ⊥
-IsCallNotFalling function f known (instruction.StoreZeros cells object) = ⊥
-IsCallNotFalling function f known (instruction.AtomicAdd address x) = ⊥
-IsCallNotFalling function f known (instruction.Call d callee arguments) = (callee.0 ≡ f) × IsNotFalling function known arguments
-IsCallNotFalling function f known (instruction.StartRegion d) = ⊥
+abbrev pub IsCallNotFalling : Function → ℕ → ℕ → List Fact → Instruction → Broken → Type 0
+IsCallNotFalling function f line known (instruction.Binary d operator width x y) broken = ⊥
+IsCallNotFalling function f line known (instruction.Compare d predicate width x y) broken = ⊥
+IsCallNotFalling function f line known (instruction.Convert d conversion x) broken = ⊥
+IsCallNotFalling function f line known (instruction.Alloca d alloca) broken = ⊥
+IsCallNotFalling function f line known (instruction.ElementPointer d object index) broken = ⊥
+IsCallNotFalling function f line known (instruction.Load d address) broken = ⊥
+IsCallNotFalling function f line known (instruction.Store x address) broken = ⊥
+IsCallNotFalling function f line known (instruction.StoreZeros cells object) broken = ⊥
+IsCallNotFalling function f line known (instruction.AtomicAdd address x) broken = ⊥
+IsCallNotFalling function f line known (instruction.Call d callee arguments) broken = (callee.0 ≡ f) × IsNotFalling function line known arguments broken
+IsCallNotFalling function f line known (instruction.StartRegion d) broken = ⊥
 
-abbrev pub IsStepNotFalling : List Function → Function → ℕ → ℕ → Block → Broken → Type 0
-IsStepNotFalling functions function f b block broken =
-    (i : ℕ) × (step : Step) × (slice_get block.steps i ≡ Some step) × (broken.number ≡ 703) × (broken.line ≡ step.line)
-    × IsCallNotFalling function f (facts_at_step functions function b block i) step.instruction
+-- at one of a block's steps
+abbrev pub AreStepsNotFalling : List Function → Function → ℕ → ℕ → Block → Broken → Type 0
+AreStepsNotFalling functions function f b block broken =
+    (i : ℕ) × (step : Step) × (slice_get block.steps i ≡ Some step) × IsCallNotFalling function f step.line (facts_at_step functions function b block i) step.instruction broken
 
 -- ---- 704: the budget covers what is left at the entry
 
 abbrev pub IsOverBudget : Function → Block → Broken → Type 0
 IsOverBudget function entry broken =
-    (broken.number ≡ 704) × (broken.line ≡ function.budget.line)
-    × (IsNotShown (start_facts function 0 entry) (less_form (number (pos function.budget.self_calls)) [] entry.left.self_calls)
-    ⊎ IsNotShown (start_facts function 0 entry) (less_form (number (pos function.budget.instructions)) [] entry.left.instructions))
+    IsPairBroken 704 function.budget.line (shows (start_facts function 0 entry) (number_less function.budget.self_calls entry.left.self_calls)) (shows (start_facts function 0 entry) (number_less function.budget.instructions entry.left.instructions)) broken
 
 -- ---- 705: no entry of the table is over a million million
 
@@ -145,8 +144,8 @@ IsEntryBroken function (Some entry) broken = IsUnbounded function entry broken �
 
 abbrev pub IsBlockBroken : Program → Function → ℕ → ℕ → Block → Broken → Type 0
 IsBlockBroken program function f b block broken =
-    IsOverdrawn program function b block broken
-    ⊎ (IsEndingUncovered program.functions function f b block block.ending broken ⊎ IsStepNotFalling program.functions function f b block broken)
+    IsOverdrawn function b block broken
+    ⊎ (IsEndingUncovered program.functions function f b block block.ending broken ⊎ AreStepsNotFalling program.functions function f b block broken)
 
 abbrev pub IsFunctionBroken : Program → ℕ → Function → Broken → Type 0
 IsFunctionBroken program f function broken =

@@ -12,3 +12,6 @@ mod table;
 
 pub use entry::Entry;
 pub use table::{Table, make_table};
+
+#[cfg(test)]
+mod tests;
