@@ -1,0 +1,5 @@
+pub mod Capped
+pub mod Levels
+pub mod Greatest
+pub mod Deeper
+pub mod Rows

@@ -1,0 +1,4 @@
+pub mod Cost
+pub mod Depth
+pub mod Rules
+pub mod Tables

@@ -1,0 +1,157 @@
+-- The rules on cost. `left K S` says of a block how many self calls and how many other instructions the call may still do from the block's start on.
+use Rattle.std.specs.Prelude.{◌≡◌, ◌⊎◌, ℕ, pos, negsuc, ◌-ℤ◌, Bool, false, ◌<◌, ◌≤◌, List, [], ◌++◌, Option, Some, None, Any, slice_get}
+use Rattle.linear.specs.Forms.{Combination, constant_form}
+use Rattle.linear.specs.declared.form.Fact.{Fact}
+use Rattle.linear.specs.declared.form.RegisterId.{RegisterId}
+use Rattle.program.specs.declared.annotation.Budget.{Budget}
+use Rattle.program.specs.declared.function.Block.{Block}
+use Rattle.program.specs.declared.function.Function.{Function}
+use Rattle.program.specs.declared.function.Program.{Program}
+use Rattle.program.specs.declared.instruction.Argument.{Argument}
+use Rattle.program.specs.declared.instruction.Ending.{Ending}
+use Rattle.program.specs.declared.instruction.Instruction.{Instruction}
+use Rattle.program.specs.declared.instruction.Instruction.TheVariants as instruction
+use Rattle.program.specs.declared.instruction.Step.{Step}
+use Rattle.program.specs.declared.instruction.Terminator.{Terminator}
+use Rattle.program.specs.declared.instruction.Terminator.TheVariants as terminator
+use Rattle.cfg.specs.declared.refusal.Broken.{Broken}
+use Rattle.cfg.specs.declared.structure.Move.{Move}
+use Rattle.ranges.specs.declared.sum.Sum.{Sum}
+use Rattle.ranges.specs.declared.table.EdgeFacts.{EdgeFacts}
+use Rattle.ranges.specs.Sums.{shows}
+use Rattle.ranges.specs.Inequalities.{parts_of, argument_moves}
+use Rattle.ranges.specs.Places.{start_facts, facts_at_step, facts_at_end, edges_known}
+use Rattle.cost_table.specs.Cost.{cost, calls_done, instructions_done}
+
+-- ---- sums
+
+-- what is left of a form once so much is done
+abbrev pub left_behind : Combination → ℕ → Sum
+left_behind left done = record { constant = left.constant -ℤ pos done; parts = parts_of [] (pos 1) left.terms }
+
+-- less a form, with the moves' operands put in
+abbrev pub less_form : Sum → List Move → Combination → Sum
+less_form s moves f = record { constant = s.constant -ℤ f.constant; parts = s.parts ++ parts_of moves (negsuc 0) f.terms }
+
+-- a form with the moves' operands put in
+abbrev pub put_in : List Move → Combination → Sum
+put_in moves f = record { constant = f.constant; parts = parts_of moves (pos 1) f.terms }
+
+-- a number less a form
+abbrev pub number_less : ℕ → Combination → Sum
+number_less n f = record { constant = pos n -ℤ f.constant; parts = parts_of [] (negsuc 0) f.terms }
+
+-- of self calls and instructions one inequality each: where one is not shown, the rule of this number is broken at this line
+abbrev pub IsPairBroken : ℕ → ℕ → Bool → Bool → Broken → Type 0
+IsPairBroken number line calls instructions broken = (broken.number ≡ number) × (broken.line ≡ line) × ((calls ≡ false) ⊎ (instructions ≡ false))
+
+-- ---- 701: at a block what is left is at least 0
+
+abbrev pub IsOverdrawn : Function → ℕ → Block → Broken → Type 0
+IsOverdrawn function b block broken =
+    IsPairBroken 701 block.left.line (shows (start_facts function b block) (left_behind block.left.self_calls 0)) (shows (start_facts function b block) (left_behind block.left.instructions 0)) broken
+
+-- ---- 702: what is left of a block covers what it does and what is left where it goes on
+
+abbrev pub left_calls : Option Block → Combination
+left_calls None = constant_form (pos 0)
+left_calls (Some block) = block.left.self_calls
+
+abbrev pub left_instructions : Option Block → Combination
+left_instructions None = constant_form (pos 0)
+left_instructions (Some block) = block.left.instructions
+
+-- along an edge, with the phis of its target replaced
+abbrev pub IsEdgeUncovered : List Function → Function → ℕ → Block → ℕ → EdgeFacts → Broken → Type 0
+IsEdgeUncovered functions function f block line e broken =
+    IsPairBroken 702 line
+    (shows e.facts (less_form (left_behind block.left.self_calls (calls_done f block)) e.moves (left_calls (slice_get function.blocks e.to.0))))
+    (shows e.facts (less_form (left_behind block.left.instructions (instructions_done functions f block)) e.moves (left_instructions (slice_get function.blocks e.to.0)))) broken
+
+-- at a detach both targets together
+abbrev pub IsForkUncovered : List Function → Function → ℕ → Block → ℕ → List Fact → ℕ → ℕ → Broken → Type 0
+IsForkUncovered functions function f block line known body continuation broken =
+    IsPairBroken 702 line
+    (shows known (less_form (less_form (left_behind block.left.self_calls (calls_done f block)) [] (left_calls (slice_get function.blocks body))) [] (left_calls (slice_get function.blocks continuation))))
+    (shows known
+    (less_form (less_form (left_behind block.left.instructions (instructions_done functions f block)) [] (left_instructions (slice_get function.blocks body))) [] (left_instructions (slice_get function.blocks continuation))))
+    broken
+
+-- at a `ret` or `reattach` what the block does alone
+abbrev pub IsEndUncovered : List Function → ℕ → Block → ℕ → List Fact → Broken → Type 0
+IsEndUncovered functions f block line known broken =
+    IsPairBroken 702 line (shows known (left_behind block.left.self_calls (calls_done f block))) (shows known (left_behind block.left.instructions (instructions_done functions f block))) broken
+
+abbrev pub IsUncoveredAt : List Function → Function → ℕ → Block → ℕ → List Fact → List EdgeFacts → Terminator → Broken → Type 0
+IsUncoveredAt functions function f block line known edges (terminator.Jump target) broken = Any (λ e. IsEdgeUncovered functions function f block line e broken) edges
+IsUncoveredAt functions function f block line known edges (terminator.Branch condition when_true when_false) broken = Any (λ e. IsEdgeUncovered functions function f block line e broken) edges
+IsUncoveredAt functions function f block line known edges (terminator.Switch width value default cases) broken = Any (λ e. IsEdgeUncovered functions function f block line e broken) edges
+IsUncoveredAt functions function f block line known edges (terminator.Return value) broken = IsEndUncovered functions f block line known broken
+IsUncoveredAt functions function f block line known edges (terminator.Detach region body continuation) broken = IsForkUncovered functions function f block line known body.0 continuation.0 broken
+IsUncoveredAt functions function f block line known edges (terminator.Reattach region continuation) broken = IsEndUncovered functions f block line known broken
+IsUncoveredAt functions function f block line known edges (terminator.Sync region target) broken = Any (λ e. IsEdgeUncovered functions function f block line e broken) edges
+
+abbrev pub IsEndingUncovered : List Function → Function → ℕ → ℕ → Block → Option Ending → Broken → Type 0
+IsEndingUncovered functions function f b block None broken = ⊥
+IsEndingUncovered functions function f b block (Some ending) broken =
+    IsUncoveredAt functions function f block ending.line (facts_at_end functions function b block) (edges_known functions function b block (Some ending)) ending.terminator broken
+
+-- ---- 703: the measure is within its bound, and falls at a self call
+
+abbrev pub IsUnbounded : Function → Block → Broken → Type 0
+IsUnbounded function entry broken =
+    IsPairBroken 703 function.measure.line (shows (start_facts function 0 entry) (left_behind function.measure.form 0)) (shows (start_facts function 0 entry) (number_less function.measure.bound function.measure.form)) broken
+
+-- the arguments' measure is at least 0 and less than the call's own
+abbrev pub IsNotFalling : Function → ℕ → List Fact → List Argument → Broken → Type 0
+IsNotFalling function line known arguments broken =
+    IsPairBroken 703 line (shows known (put_in (argument_moves 0 arguments) function.measure.form)) (shows known (less_form (left_behind function.measure.form 1) (argument_moves 0 arguments) function.measure.form)) broken
+
+abbrev pub IsCallNotFalling : Function → ℕ → ℕ → List Fact → Instruction → Broken → Type 0
+IsCallNotFalling function f line known (instruction.Binary d operator width x y) broken = ⊥
+IsCallNotFalling function f line known (instruction.Compare d predicate width x y) broken = ⊥
+IsCallNotFalling function f line known (instruction.Convert d conversion x) broken = ⊥
+IsCallNotFalling function f line known (instruction.Alloca d alloca) broken = ⊥
+IsCallNotFalling function f line known (instruction.ElementPointer d object index) broken = ⊥
+IsCallNotFalling function f line known (instruction.Load d address) broken = ⊥
+IsCallNotFalling function f line known (instruction.Store x address) broken = ⊥
+IsCallNotFalling function f line known (instruction.StoreZeros cells object) broken = ⊥
+IsCallNotFalling function f line known (instruction.AtomicAdd address x) broken = ⊥
+IsCallNotFalling function f line known (instruction.Call d callee arguments) broken = (callee.0 ≡ f) × IsNotFalling function line known arguments broken
+IsCallNotFalling function f line known (instruction.StartRegion d) broken = ⊥
+
+-- at one of a block's steps
+abbrev pub AreStepsNotFalling : List Function → Function → ℕ → ℕ → Block → Broken → Type 0
+AreStepsNotFalling functions function f b block broken =
+    (i : ℕ) × (step : Step) × (slice_get block.steps i ≡ Some step) × IsCallNotFalling function f step.line (facts_at_step functions function b block i) step.instruction broken
+
+-- ---- 704: the budget covers what is left at the entry
+
+abbrev pub IsOverBudget : Function → Block → Broken → Type 0
+IsOverBudget function entry broken =
+    IsPairBroken 704 function.budget.line (shows (start_facts function 0 entry) (number_less function.budget.self_calls entry.left.self_calls)) (shows (start_facts function 0 entry) (number_less function.budget.instructions entry.left.instructions)) broken
+
+-- ---- 705: no entry of the table is over a million million
+
+abbrev pub IsTooCostly : Function → Broken → Type 0
+IsTooCostly function broken = (broken.number ≡ 705) × (broken.line ≡ function.line) × (m : ℕ) × (m ≤ function.measure.bound) × (1000000000000 < cost function m)
+
+-- ---- all of them
+
+abbrev pub IsEntryBroken : Function → Option Block → Broken → Type 0
+IsEntryBroken function None broken = ⊥
+IsEntryBroken function (Some entry) broken = IsUnbounded function entry broken ⊎ IsOverBudget function entry broken
+
+abbrev pub IsBlockBroken : Program → Function → ℕ → ℕ → Block → Broken → Type 0
+IsBlockBroken program function f b block broken =
+    IsOverdrawn function b block broken
+    ⊎ (IsEndingUncovered program.functions function f b block block.ending broken ⊎ AreStepsNotFalling program.functions function f b block broken)
+
+abbrev pub IsFunctionBroken : Program → ℕ → Function → Broken → Type 0
+IsFunctionBroken program f function broken =
+    ((b : ℕ) × (block : Block) × (slice_get function.blocks b ≡ Some block) × IsBlockBroken program function f b block broken)
+    ⊎ (IsEntryBroken function (slice_get function.blocks 0) broken ⊎ IsTooCostly function broken)
+
+-- 701 to 705
+abbrev pub IsCostBroken : Program → Broken → Type 0
+IsCostBroken program broken = (f : ℕ) × (function : Function) × (slice_get program.functions f ≡ Some function) × IsFunctionBroken program f function broken
