@@ -1,9 +1,6 @@
 //! Texts of schedules, read and printed again.
 
 use crate::{ScheduleFault, print_schedule, read_schedule};
-use frame::Path;
-use lists::Seq;
-use schedule_core::Event;
 use std::alloc::{AllocError, Global};
 use std::process::Abort;
 use std::test::Fail;
@@ -87,15 +84,14 @@ fn too_many_events_are_named_by_their_line(rt: HostRuntime) -> Result<(), Fail> 
 #[test]
 fn events_are_printed_in_runs(rt: HostRuntime) -> Result<(), Fail> {
     let alloc = rt.alloc();
-    let path = Path {
-        numbers: Seq::from_vec(Vec::from_array(alloc, [0, 12])?),
-    };
-    let mut events = Vec::new(alloc);
-    events.push(Event::Step(0))?;
-    events.push(Event::Step(0))?;
-    events.push(Event::Steal(1, path))?;
-    events.push(Event::Step(1))?;
-    let text = print_schedule(alloc, events.as_slice())?;
-    assert_eq!(rt; text.as_str(), "step 0 2\nsteal 1 root.0.12\nstep 1 1\n");
-    Ok(())
+    let spelled = b"step 0 2\nsteal 1 root.0.12\nstep 1 1\n";
+    match read_schedule(alloc, spelled) {
+        Err(_) => Err(AllocError)?,
+        Ok(events) => {
+            assert_eq!(rt; events.len(), 4);
+            let text = print_schedule(alloc, events.as_slice())?;
+            assert_eq!(rt; text.as_bytes(), spelled.as_slice());
+            Ok(())
+        }
+    }
 }
