@@ -4,6 +4,7 @@ use frame::Path;
 use program::RegisterId;
 use std::alloc::Global;
 use std::hash::RandomState;
+use std::process::Abort;
 use std::test::Fail;
 use store::Memory;
 use verifier::{Verified, verify};
@@ -86,7 +87,7 @@ fn started<'v>(
 }
 
 /// Does so many steps of the worker, each of them enabled.
-fn does_steps(rt: &HostRuntime, machine: &mut Machine, worker: u8, count: u64) -> Result<(), Fail> {
+fn does_steps(rt: &impl Abort, machine: &mut Machine, worker: u8, count: u64) -> Result<(), Fail> {
     for _ in 0..count {
         assert!(rt; machine.apply(&Event::Step(worker))?);
     }
