@@ -1,11 +1,9 @@
 -- What each path to a place defines has a value in each frame there.
-use Rattle.std.proofs.Common.{◌≡◌, ◌≢◌, ℕ, zero, suc, ◌+◌, ◌<◌, ◌≤◌, ◌⊎◌, inl, inr, List, [], ◌∷◌, ◌++◌, length, take, drop, map, Option, Some, None, Bool, true, false, eqb, refl, sym, ap, subst, ◌∙◌, arith, slice_get, append-nil}
-use Rattle.std.specs.List.{Contains, flat_map, filter_map}
+use Rattle.std.proofs.Common.{◌≡◌, ℕ, zero, suc, ◌+◌, inl, inr, List, [], ◌∷◌, ◌++◌, length, take, map, Option, Some, None, Bool, true, false, eqb, refl, sym, ap, subst, ◌∙◌, arith, slice_get, append-nil}
+use Rattle.std.specs.List.{Contains, flat_map}
 use Rattle.std.specs.Option.{option_map}
-use Rattle.std.proofs.lemmas.Bool.Decides.{eqb_tells}
-use Rattle.std.proofs.lemmas.List.Elements.{Contains-append_left, Contains-append_right, Contains-append_cases, filter_map-append}
+use Rattle.std.proofs.lemmas.List.Elements.{Contains-append_cases, filter_map-append}
 use Rattle.std.proofs.lemmas.Option.{slice_get-map}
-use Rattle.machine_core.specs.Frames.{Does, Ends, item_at, phis_at}
 use Rattle.linear.specs.declared.form.RegisterId.{RegisterId}
 use Rattle.linear.specs.declared.form.Term.{Term}
 use Rattle.linear.specs.Forms.{Combination}
@@ -15,8 +13,6 @@ use Rattle.program.specs.declared.annotation.Zone.{Zone}
 use Rattle.program.specs.declared.function.Alloca.{Alloca as AllocaOf}
 use Rattle.program.specs.declared.function.Block.{Block}
 use Rattle.program.specs.declared.function.Function.{Function}
-use Rattle.program.specs.declared.function.Program.{Program}
-use Rattle.program.specs.declared.identifier.BlockId.{BlockId}
 use Rattle.program.specs.declared.identifier.ObjectName.{ObjectName}
 use Rattle.program.specs.declared.identifier.ObjectName.TheVariants as object
 use Rattle.program.specs.declared.instruction.Address.{Address}
@@ -28,28 +24,23 @@ use Rattle.program.specs.declared.instruction.Instruction.{Instruction}
 use Rattle.program.specs.declared.instruction.Instruction.TheVariants as instruction
 use Rattle.program.specs.declared.instruction.Operand.{Operand}
 use Rattle.program.specs.declared.instruction.Operand.TheVariants.{Number, Register}
-use Rattle.program.specs.declared.instruction.Phi.{Phi}
 use Rattle.program.specs.declared.instruction.PhiEntry.{PhiEntry}
 use Rattle.program.specs.declared.instruction.Step.{Step}
 use Rattle.program.specs.declared.instruction.Terminator.{Terminator}
 use Rattle.program.specs.declared.instruction.Terminator.TheVariants as terminator
-use Rattle.cfg.specs.declared.structure.BlockEdges.{BlockEdges}
-use Rattle.cfg.specs.declared.structure.Way.{Way}
-use Rattle.cfg.specs.declared.structure.Way.TheVariants as way
 use Rattle.cfg.specs.Edges.{graph_of}
-use Rattle.cfg.specs.Paths.{edges_of, Leg, IsPath}
+use Rattle.cfg.specs.Paths.{Leg, IsPath}
 use Rattle.definedness.specs.declared.act.Act.{Act}
-use Rattle.definedness.specs.declared.act.Act.TheVariants.{Needs, Gives}
+use Rattle.definedness.specs.declared.act.Act.TheVariants.{Needs}
 use Rattle.definedness.specs.declared.act.BlockActs.{BlockActs}
 use Rattle.definedness.specs.Acts.{given}
 use Rattle.definedness.specs.Missing.{defined_along}
 use Rattle.definedness.specs.Needs.{gives, given_of, numbers_of, numbers_at}
-use Rattle.definedness.specs.RegisterActs.{register_needs, operand_needs, form_needs, inequality_needs, alloca_needs, object_needs, zone_needs, pending_needs, left_needs, address_needs, argument_needs, instruction_needs, definition_of, definition_gives, step_acts, result_needs, terminator_needs, ending_needs, entry_needs, phi_needs, value_needs, phi_gives, note_needs, start_gives, gives_below, body_acts, register_acts}
+use Rattle.definedness.specs.RegisterActs.{register_needs, operand_needs, form_needs, inequality_needs, alloca_needs, object_needs, zone_needs, pending_needs, left_needs, address_needs, argument_needs, instruction_needs, definition_of, definition_gives, step_acts, result_needs, terminator_needs, ending_needs, entry_needs, phi_needs, value_needs, phi_gives, note_needs, start_gives, body_acts, register_acts}
 use Rattle.definedness.specs.Definedness.{registers_from, register_table, AreRegistersDefined}
 use Rattle.bridge.specs.Moves.{number_of, dest_of}
-use Rattle.definedness_laws.specs.Leads.{IsBlock}
 use Rattle.definedness_laws.specs.Defined.{listed, steps_define, defined_before}
-use Rattle.definedness_laws.proofs.Lists.{none_within, first_within, later_within, within_cases, at_within, within_at}
+use Rattle.definedness_laws.proofs.Lists.{none_within, within_cases}
 
 -- ---- acts that define nothing
 
@@ -329,6 +320,6 @@ module _ (function : Function) (b : ℕ) (block : Block) where
       let h = found_right (body_acts function.allocas block) (flat_map (value_needs b) function.blocks) [] a (found_quiet_act (flat_map (value_needs b) function.blocks) a (flat_quiet (value_needs b) function.blocks (values_quiet b)) c) in
       let k = found_right (starting function b) (body_acts function.allocas block ++ flat_map (value_needs b) function.blocks) _ a h in
       let whole : gives (starting function b) ++ (gives (body_acts function.allocas block) ++ []) ≡ defined_before function b block (length block.steps) =
-          (let e : gives (register_acts function b block) ≡ gives (starting function b) ++ (gives (body_acts function.allocas block) ++ []) = gives_append (starting function b) (body_acts function.allocas block ++ flat_map (value_needs b) function.blocks) ∙ ap (λ xs. gives (starting function b) ++ xs) (gives_append (body_acts function.allocas block) (flat_map (value_needs b) function.blocks) ∙ ap (λ xs. gives (body_acts function.allocas block) ++ xs) (flat_quiet (value_needs b) function.blocks (values_quiet b)))
-          in sym e ∙ block_given function b block) in
+      (let e : gives (register_acts function b block) ≡ gives (starting function b) ++ (gives (body_acts function.allocas block) ++ []) = gives_append (starting function b) (body_acts function.allocas block ++ flat_map (value_needs b) function.blocks) ∙ ap (λ xs. gives (starting function b) ++ xs) (gives_append (body_acts function.allocas block) (flat_map (value_needs b) function.blocks) ∙ ap (λ xs. gives (body_acts function.allocas block) ++ xs) (flat_quiet (value_needs b) function.blocks (values_quiet b)))
+      in sym e ∙ block_given function b block) in
       subst (λ xs. Found (register_acts function b block) xs a) whole k

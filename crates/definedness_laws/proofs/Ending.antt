@@ -3,8 +3,8 @@ use Rattle.std.proofs.Common.{◌≡◌, ℕ, Option, Some, None, Bool, true, fa
 use Rattle.machine_core.specs.Paths.{Path, same_path}
 use Rattle.machine_core.specs.Cells.{Memory}
 use Rattle.machine_core.specs.Arithmetic.{Unmatched}
-use Rattle.machine_core.specs.Frames.{Role, Child, Body, Registers, Frame, Does, Ends, item_at, word_at, region_of}
-use Rattle.machine_core.specs.Effect.{Effect, Action, Plain, Detach, Reattach, Sync, Call, Return, registers_along, traps, if_own, syncs, reattaches, returns, returns_value, terminator_action, item_action, action_of}
+use Rattle.machine_core.specs.Frames.{Role, Child, Body, Registers, Frame, Ends, item_at, word_at, region_of}
+use Rattle.machine_core.specs.Effect.{Action, Plain, Detach, Reattach, Sync, Call, Return, registers_along, traps, if_own, syncs, reattaches, returns, returns_value, terminator_action, item_action, action_of}
 use Rattle.linear.specs.declared.form.RegisterId.{RegisterId}
 use Rattle.program.specs.declared.identifier.BlockId.{BlockId}
 use Rattle.program.specs.declared.function.Program.{Program}

@@ -1,9 +1,8 @@
 -- What stands at a place, and the edges behind it.
-use Rattle.std.proofs.Common.{◌≡◌, ℕ, zero, suc, ◌+◌, ◌<◌, ◌⊎◌, inl, inr, List, [], ◌∷◌, ◌++◌, length, Option, Some, None, is_some, true, refl, sym, ap, subst, ◌∙◌, arith, slice_get}
+use Rattle.std.proofs.Common.{◌≡◌, ℕ, zero, suc, ◌+◌, inl, inr, List, [], ◌∷◌, ◌++◌, length, Option, Some, None, is_some, true, refl, sym, ap, ◌∙◌, arith, slice_get}
 use Rattle.std.specs.List.{Contains, flat_map}
-use Rattle.std.proofs.lemmas.List.Elements.{Contains-append_left, Contains-append_right, Contains-append_cases}
+use Rattle.std.proofs.lemmas.List.Elements.{Contains-append_left, Contains-append_right}
 use Rattle.machine_core.specs.Frames.{and_then, Item, Does, Ends, item_of, block_at, item_at}
-use Rattle.linear.specs.declared.form.RegisterId.{RegisterId}
 use Rattle.program.specs.declared.identifier.BlockId.{BlockId}
 use Rattle.program.specs.declared.function.Block.{Block}
 use Rattle.program.specs.declared.function.Function.{Function}
@@ -14,15 +13,13 @@ use Rattle.program.specs.declared.instruction.Instruction.{Instruction}
 use Rattle.program.specs.declared.instruction.Step.{Step}
 use Rattle.program.specs.declared.instruction.Terminator.{Terminator}
 use Rattle.program.specs.declared.instruction.Terminator.TheVariants as terminator
-use Rattle.cfg.specs.declared.structure.BlockEdges.{BlockEdges}
 use Rattle.cfg.specs.declared.structure.Edge.{Edge}
 use Rattle.cfg.specs.declared.structure.Way.{Way}
 use Rattle.cfg.specs.declared.structure.Way.TheVariants as way
 use Rattle.cfg.specs.Edges.{moves_from, edge_to, edges_along, edges_at_end, edges_from, graph_of}
 use Rattle.cfg.specs.Paths.{edges_of}
-use Rattle.bridge.specs.Moves.{JumpsTo, SyncsTo}
 use Rattle.definedness_laws.specs.Leads.{LeadsTo, IsBlock}
-use Rattle.definedness_laws.proofs.Lists.{none_within, first_within, within_cases, flat_within, within_flat}
+use Rattle.definedness_laws.proofs.Lists.{first_within, flat_within}
 
 -- ---- blocks
 

@@ -1,25 +1,22 @@
 -- Along the serial run each frame has the values that the rule on allocas speaks of.
-use Rattle.std.proofs.Common.{◌≡◌, ◌≢◌, ℕ, zero, suc, ◌+◌, ◌<◌, ◌≤◌, ◌⊎◌, inl, inr, List, [], ◌∷◌, length, map, Option, Some, None, true, is_some, refl, sym, ap, subst, ◌∙◌, arith, slice_get, ℤ}
-use Rattle.std.specs.List.{Contains}
+use Rattle.std.proofs.Common.{◌≡◌, ℕ, suc, ◌<◌, ◌≤◌, List, ◌∷◌, length, Option, Some, None, true, is_some, refl, sym, ap, subst, ◌∙◌, arith, slice_get, ℤ}
 use Rattle.machine_core.specs.Paths.{Path}
-use Rattle.machine_core.specs.Cells.{Object, Shared, Local, Cell, Memory}
+use Rattle.machine_core.specs.Cells.{Local, Cell, Memory}
 use Rattle.machine_core.specs.Frames.{Value, Registers, Frame, Does, Ends, item_at, cells_of, cell_of}
-use Rattle.machine_core.specs.Effect.{Effect, Plain, Sync, Call, Reattach, Return, Detach, argument_values, action_of}
-use Rattle.machine_core.specs.State.{went, detached, continued, synced, called, waiting, resumed}
-use Rattle.machine_core.specs.SerialMeaning.{Left, Gave, Outcome, written, cleared}
+use Rattle.machine_core.specs.Effect.{Sync, Call, Reattach, Detach, argument_values, action_of}
+use Rattle.machine_core.specs.State.{detached, continued, synced, called, waiting, resumed}
+use Rattle.machine_core.specs.SerialMeaning.{Left, Gave, Outcome}
 use Rattle.machine_core.specs.SerialConditions.{Says, one_more, both_outcomes, at_last, KeptSerially}
 use Rattle.linear.specs.declared.form.RegisterId.{RegisterId}
 use Rattle.program.specs.declared.identifier.BlockId.{BlockId}
 use Rattle.program.specs.declared.identifier.FunctionId.{FunctionId}
 use Rattle.program.specs.declared.instruction.Argument.{Argument}
 use Rattle.program.specs.declared.instruction.Argument.TheVariants as argument
-use Rattle.program.specs.declared.identifier.ObjectName.{ObjectName}
 use Rattle.program.specs.declared.identifier.ObjectName.TheVariants as object
 use Rattle.program.specs.declared.function.Block.{Block}
 use Rattle.program.specs.declared.function.Function.{Function}
 use Rattle.program.specs.declared.function.Program.{Program}
 use Rattle.program.specs.declared.instruction.Instruction.TheVariants as instruction
-use Rattle.program.specs.declared.instruction.Operand.{Operand}
 use Rattle.program.specs.declared.instruction.Terminator.{Terminator}
 use Rattle.program.specs.declared.instruction.Terminator.TheVariants as terminator
 use Rattle.cfg.specs.declared.refusal.Broken.{Broken}
@@ -28,22 +25,20 @@ use Rattle.cfg.specs.declared.structure.Way.TheVariants as way
 use Rattle.cfg.specs.Edges.{graph_of}
 use Rattle.region_match.specs.Rules.{ending_at}
 use Rattle.region_match.specs.Tasks.{HasTask}
-use Rattle.definedness.specs.Definedness.{alloca_table, IsDefinednessBroken}
-use Rattle.definedness.specs.Needs.{given_of}
+use Rattle.definedness.specs.Definedness.{IsDefinednessBroken}
 use Rattle.definedness.specs.AllocaActs.{step_cells}
-use Rattle.definedness.specs.Sure.{Labels, IsReattach, IsStored, IsHeld}
-use Rattle.bridge.specs.Moves.{EndsFrame}
+use Rattle.definedness.specs.Sure.{Labels, IsReattach}
 use Rattle.bridge.specs.Costs.{parameters_of}
-use Rattle.bridge.proofs.Moves.{moves, sync_here, syncs_along, calls_here, forks_here, ends_here}
+use Rattle.bridge.proofs.Moves.{moves, sync_here, syncs_along, calls_here, forks_here}
 use Rattle.definedness_laws.specs.Leads.{LeadsTo, IsBlock}
 use Rattle.definedness_laws.specs.Names.{IsNamed}
 use Rattle.definedness_laws.specs.Placed.{IsPlaced}
-use Rattle.definedness_laws.specs.Values.{NamesObjects, Full, Shallow, IsLabelled, IsHeldAt, IsSureAtEnd, LiesIn, HasValues, KeepsValues, ValuesAreKept}
+use Rattle.definedness_laws.specs.Values.{NamesObjects, Full, Shallow, IsLabelled, IsHeldAt, HasValues, KeepsValues, ValuesAreKept}
 use Rattle.definedness_laws.proofs.Items.{stands, same_some, end_there}
-use Rattle.definedness_laws.proofs.Placed.{ends_block, ending_is, arrives}
+use Rattle.definedness_laws.proofs.Placed.{ending_is, arrives}
 use Rattle.definedness_laws.proofs.Stored.{BroughtByChild, held_at_end, held_at_entry}
 use Rattle.definedness_laws.proofs.Written.{clear_keeps, shallower, none_given, arguments_quiet}
-use Rattle.definedness_laws.proofs.Values.{result_other, passed_at, passed_object, along_stays, moved_values, no_elements, sets_along, no_child, next_values, sets_kept, finds_along, goes_same, goes_along, plain_next, plain_finds}
+use Rattle.definedness_laws.proofs.Values.{result_other, passed_at, passed_object, along_stays, moved_values, no_elements, sets_along, no_child, next_values, finds_along, goes_same, goes_along, plain_next, plain_finds}
 use Rattle.definedness_laws.proofs.Needed.{passed_full}
 use Rattle.definedness_laws.proofs.Ending.{reattach_here}
 

@@ -1,11 +1,11 @@
 -- What an instruction reads or passes of an alloca has values, where the rule on allocas holds.
-use Rattle.std.proofs.Common.{◌≡◌, ◌≢◌, ℕ, zero, suc, ◌+◌, ◌<◌, ◌≤◌, ◌⊎◌, inl, inr, List, [], ◌∷◌, ◌++◌, length, take, map, Option, Some, None, Bool, true, false, eqb, eq-eqb, is_some, refl, sym, ap, subst, ◌∙◌, arith, slice_get}
-use Rattle.std.specs.List.{Contains, flat_map}
+use Rattle.std.proofs.Common.{◌≡◌, ◌≢◌, ℕ, zero, suc, ◌<◌, ◌≤◌, inl, inr, List, [], ◌∷◌, length, take, Option, Some, None, true, eq-eqb, is_some, refl, sym, ap, subst, ◌∙◌, arith, slice_get}
+use Rattle.std.specs.List.{Contains}
 use Rattle.std.proofs.lemmas.Bool.{cases_Bool, true≢false}
 use Rattle.std.proofs.lemmas.Bool.Decides.{eqb_tells}
 use Rattle.machine_core.specs.Paths.{Path}
 use Rattle.machine_core.specs.Cells.{Object, Shared, Local, Cell, Memory}
-use Rattle.machine_core.specs.Frames.{Value, Frame, Does, item_at, cells_of, cell_of, object_at, first_cell, cell_at, and_then}
+use Rattle.machine_core.specs.Frames.{Frame, Does, item_at, cells_of, cell_of, object_at, first_cell, and_then}
 use Rattle.linear.specs.declared.form.RegisterId.{RegisterId}
 use Rattle.program.specs.declared.identifier.FunctionId.{FunctionId}
 use Rattle.program.specs.declared.identifier.ObjectName.{ObjectName}
@@ -22,25 +22,21 @@ use Rattle.program.specs.declared.instruction.Instruction.TheVariants as instruc
 use Rattle.program.specs.declared.instruction.Operand.{Operand}
 use Rattle.program.specs.declared.instruction.Step.{Step}
 use Rattle.cfg.specs.declared.refusal.Broken.{Broken}
-use Rattle.definedness.specs.declared.act.Act.{Act}
-use Rattle.definedness.specs.declared.act.Act.TheVariants.{Needs, Gives}
+use Rattle.definedness.specs.declared.act.Act.TheVariants.{Needs}
 use Rattle.definedness.specs.Needs.{gives}
-use Rattle.definedness.specs.AllocaActs.{element_in, or_else, element_object, object_read, address_read, argument_read, instruction_cells, step_cells, alloca_acts}
+use Rattle.definedness.specs.AllocaActs.{element_in, element_object, object_read, address_read, argument_read, step_cells, alloca_acts}
 use Rattle.definedness.specs.Definedness.{IsFunctionBroken, IsDefinednessBroken}
-use Rattle.definedness.specs.Sure.{Labels}
-use Rattle.types.specs.Apart.{InstructionNames}
 use Rattle.bridge.specs.Moves.{dest_of}
 use Rattle.bridge.specs.Costs.{parameters_of}
 use Rattle.definedness_laws.specs.Leads.{IsBlock}
-use Rattle.definedness_laws.specs.Names.{StepDefines, DefinesOnce, IsNamed}
-use Rattle.definedness_laws.specs.Values.{Reads, IsElement, NamesObjects, Full, Shallow, stored_before, LiesIn, HasValues, ReadsValues, ReadsHaveValues}
+use Rattle.definedness_laws.specs.Names.{StepDefines, IsNamed}
+use Rattle.definedness_laws.specs.Values.{Reads, NamesObjects, Full, Shallow, stored_before, HasValues, ReadsValues, ReadsHaveValues}
 use Rattle.definedness_laws.proofs.Lists.{at_within, first_within, flat_within}
-use Rattle.definedness_laws.proofs.Items.{Stands, stands, same_some, step_there}
+use Rattle.definedness_laws.proofs.Items.{stands, same_some, step_there}
 use Rattle.definedness_laws.proofs.Roles.{any_function}
 use Rattle.definedness_laws.proofs.Defined.{Quiet, Found, found_quiet_act, take_split}
 use Rattle.definedness_laws.proofs.Written.{address_quiet, arguments_quiet}
 use Rattle.definedness_laws.proofs.Stored.{found_cells, alloca_row, row_at, nothing_held, nothing_labelled}
-use Rattle.definedness_laws.proofs.Values.{defines_here}
 
 -- the first step that defines the register gives the element
 found_element : (steps : List Step) (j : ℕ) (s : Step) (r : RegisterId) (name : ObjectName) (index : Operand) → slice_get steps j ≡ Some s → s.instruction ≡ instruction.ElementPointer r name index →
@@ -95,12 +91,22 @@ module _ (prog : Program) (named : IsNamed prog) (objects : NamesObjects prog) (
         let taken : gives (take (length inside.first) (alloca_acts function.allocas block)) ≡ stored_before function.allocas block.steps block.steps f.index = ap gives (ap (λ xs. take (length inside.first) xs) inside.parts ∙ split.1) ∙ inside.given_first in
         let empty : Full (cells_of prog f.function (object.Alloca (record { 0 = a }))) (Local f.home a) m → ⊥ = λ full. true≢false (sym (full i less) ∙ h) in
         absurd (right broken (any_function {P = λ (x : Function). IsFunctionBroken x broken} prog.functions f.function function is.at_function
-        (inr (f.block, alloca_row function block, row_at function f.block block is.at_block, (length inside.first, Needs a line, there, (
-            refl,
-            refl,
-            λ c. empty (good.sets function block a nothing_held None is (nothing_labelled function a) (inr (inr (subst (λ xs. Contains xs a) taken c)))),
-            λ l sets sure. empty (good.sets function block a l None is sets (inl sure)),
-        ))))))
+        (inr (
+          f.block,
+          alloca_row function block,
+          row_at function f.block block is.at_block,
+          (
+            length inside.first,
+            Needs a line,
+            there,
+            (
+              refl,
+              refl,
+              λ c. empty (good.sets function block a nothing_held None is (nothing_labelled function a) (inr (inr (subst (λ xs. Contains xs a) taken c)))),
+              λ l sets sure. empty (good.sets function block a l None is sets (inl sure)),
+            ),
+          ),
+        ))))
   ]
 
   -- the object that a name stands for, where its alloca is needed
@@ -180,7 +186,7 @@ module _ (prog : Program) (named : IsNamed prog) (objects : NamesObjects prog) (
       let there : slice_get k.block.steps e.before ≡ Some step.0 = subst (λ (x : Block). slice_get x.steps e.before ≡ Some step.0) two step.1 in
       let mine : StepDefines k.function f.block e.before r.0 = record { block = k.block; step = step.0; at_block = k.is.at_block; at_step = there; defines = ap dest_of step.2 } in
       let found : element_object k.block.steps r ≡ Some e.name = found_element k.block.steps e.before step.0 r e.name e.index there step.2
-          (λ n x h d. ((named.once f.function k.function k.is.at_function).steps f.block f.block n e.before r.0 (record { block = k.block; step = x; at_block = k.is.at_block; at_step = h; defines = d }) mine).1) in
+      (λ n x h d. ((named.once f.function k.function k.is.at_function).steps f.block f.block n e.before r.0 (record { block = k.block; step = x; at_block = k.is.at_block; at_step = h; defines = d }) mine).1) in
       let full = object_full e.name c.object lies.object (λ q h. objects.own f.function f.block e.before gep q e.is h) (λ a h. needs_read what (address.Element r) k reads a (rw found (read_within e.name k.step.line a h))) in
       full.0 c.index lies.within
 

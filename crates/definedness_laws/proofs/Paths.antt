@@ -1,7 +1,6 @@
 -- Edges of blocks that are there, and paths that visit a block for the first time.
-use Rattle.std.proofs.Common.{◌≡◌, ◌≢◌, ℕ, zero, suc, ◌+◌, ◌<◌, ◌⊎◌, inl, inr, List, [], ◌∷◌, length, Option, Some, None, refl, sym, ap, subst, ◌∙◌, arith, slice_get}
+use Rattle.std.proofs.Common.{◌≡◌, ℕ, zero, suc, ◌⊎◌, inl, inr, List, [], ◌∷◌, None, refl, subst, ◌∙◌, slice_get}
 use Rattle.std.specs.List.{Contains}
-use Rattle.std.proofs.lemmas.Bool.{cases_eq}
 use Rattle.program.specs.declared.function.Block.{Block}
 use Rattle.program.specs.declared.function.Function.{Function}
 use Rattle.program.specs.declared.function.Program.{Program}
@@ -10,9 +9,8 @@ use Rattle.cfg.specs.declared.refusal.Broken.{Broken}
 use Rattle.cfg.specs.declared.structure.Edge.{Edge}
 use Rattle.cfg.specs.declared.structure.Way.{Way}
 use Rattle.cfg.specs.declared.structure.Way.TheVariants as way
-use Rattle.cfg.specs.declared.structure.BlockEdges.{BlockEdges}
 use Rattle.cfg.specs.Edges.{edges_from, graph_of}
-use Rattle.cfg.specs.Paths.{edges_of, Leg, IsPath}
+use Rattle.cfg.specs.Paths.{edges_of}
 use Rattle.region_match.specs.Rules.{IsEntered}
 use Rattle.region_match.specs.Matched.{IsFunctionBroken, AreRegionsRight}
 use Rattle.definedness_laws.specs.Leads.{IsBlock}

@@ -1,9 +1,8 @@
 -- Along the serial run each frame stands in a block whose task suits its role.
-use Rattle.std.proofs.Common.{◌≡◌, ◌≢◌, ℕ, ◌⊎◌, inl, inr, List, [], ◌∷◌, Option, Some, None, true, false, is_some, refl, sym, ap, subst, ◌∙◌, slice_get}
+use Rattle.std.proofs.Common.{◌≡◌, ℕ, List, [], ◌∷◌, Option, Some, None, true, false, is_some, refl, ap, subst, ◌∙◌, slice_get}
 use Rattle.machine_core.specs.Paths.{Path}
-use Rattle.machine_core.specs.Cells.{Memory}
-use Rattle.machine_core.specs.Frames.{Registers, Role, Child, Body, Frame, Does, Ends, block_at, item_at}
-use Rattle.machine_core.specs.Effect.{Effect, Plain, Sync, Detach, Call, action_of}
+use Rattle.machine_core.specs.Frames.{Registers, Body, Frame, Ends, block_at, item_at}
+use Rattle.machine_core.specs.Effect.{Effect}
 use Rattle.machine_core.specs.State.{went, detached, continued, synced, called}
 use Rattle.machine_core.specs.SerialConditions.{Says, Nothing, KeptSerially}
 use Rattle.linear.specs.declared.form.RegisterId.{RegisterId}
@@ -17,14 +16,14 @@ use Rattle.program.specs.declared.instruction.Terminator.TheVariants as terminat
 use Rattle.cfg.specs.declared.structure.Way.{Way}
 use Rattle.cfg.specs.declared.structure.Way.TheVariants as way
 use Rattle.cfg.specs.Edges.{graph_of}
-use Rattle.region_match.specs.Rules.{ending_at, IsDetach}
+use Rattle.region_match.specs.Rules.{ending_at}
 use Rattle.region_match.specs.Tasks.{task_along, task_on, HasTask}
 use Rattle.bridge.specs.Moves.{Moves, is_next, is_along, SyncsTo}
 use Rattle.bridge.proofs.Moves.{moves, sync_here, calls_here, forks_here}
 use Rattle.definedness_laws.specs.Leads.{LeadsTo, IsBlock}
 use Rattle.definedness_laws.specs.Names.{IsNamed}
 use Rattle.definedness_laws.specs.Placed.{Suits, IsPlaced, Placed, NoFinds, TasksKept}
-use Rattle.definedness_laws.proofs.Items.{Stands, stands, same_some, is_block, end_there, Along, edge_behind}
+use Rattle.definedness_laws.proofs.Items.{stands, same_some, is_block, end_there, edge_behind}
 
 -- the terminator at a place is that of its block
 pub record EndsBlock (prog : Program) (f b : ℕ) (t : Terminator) : Type 0 where
@@ -66,9 +65,9 @@ module _ (prog : Program) (named : IsNamed prog) where
         from = e.is;
         is = there.1;
         along = λ task h. (
-            record { from = b; edge = edge.edge } ∷ h.0,
-            (edge.within, edge.target, h.1),
-            ap (λ x. task_along x b (task_on h.0)) edge.way_is ∙ ap (λ ds. task_along w b ds) h.2,
+          record { from = b; edge = edge.edge } ∷ h.0,
+          (edge.within, edge.target, h.1),
+          ap (λ x. task_along x b (task_on h.0)) edge.way_is ∙ ap (λ ds. task_along w b ds) h.2,
         );
       }
 

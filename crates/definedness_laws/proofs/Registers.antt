@@ -1,46 +1,41 @@
 -- What is defined on each path to a place is defined as the law on registers asks.
-use Rattle.std.proofs.Common.{◌≡◌, ◌≢◌, ℕ, zero, suc, ◌+◌, ◌<◌, ◌≤◌, ◌⊎◌, inl, inr, List, [], ◌∷◌, ◌++◌, length, map, Option, Some, None, true, false, eqb, refl, sym, ap, subst, ◌∙◌, arith, slice_get, append-nil}
+use Rattle.std.proofs.Common.{◌≡◌, ◌≢◌, ℕ, zero, suc, ◌<◌, ◌⊎◌, inl, inr, List, [], ◌∷◌, ◌++◌, length, map, Option, Some, None, true, false, eqb, refl, sym, ap, subst, ◌∙◌, arith, slice_get}
 use Rattle.std.specs.List.{Contains, flat_map}
 use Rattle.std.proofs.lemmas.Bool.Decides.{eqb_tells}
 use Rattle.std.proofs.lemmas.List.Elements.{Contains-append_left, Contains-append_right, Contains-append_cases}
 use Rattle.machine_core.specs.Frames.{Does, Ends, item_at, phis_at}
-use Rattle.machine_core.specs.SerialConditions.{Says, Nothing, KeptSerially}
-use Rattle.linear.specs.declared.form.RegisterId.{RegisterId}
-use Rattle.program.specs.declared.identifier.BlockId.{BlockId}
+use Rattle.machine_core.specs.SerialConditions.{Nothing}
 use Rattle.program.specs.declared.function.Block.{Block}
 use Rattle.program.specs.declared.function.Function.{Function}
 use Rattle.program.specs.declared.function.Program.{Program}
-use Rattle.program.specs.declared.instruction.Ending.{Ending}
 use Rattle.program.specs.declared.instruction.Instruction.{Instruction}
 use Rattle.program.specs.declared.instruction.Phi.{Phi}
 use Rattle.program.specs.declared.instruction.Step.{Step}
 use Rattle.program.specs.declared.instruction.Terminator.{Terminator}
 use Rattle.program.specs.declared.instruction.Terminator.TheVariants as terminator
-use Rattle.cfg.specs.declared.refusal.Broken.{Broken}
 use Rattle.cfg.specs.declared.structure.BlockEdges.{BlockEdges}
 use Rattle.cfg.specs.declared.structure.Edge.{Edge}
 use Rattle.cfg.specs.declared.structure.Way.{Way}
 use Rattle.cfg.specs.declared.structure.Way.TheVariants as way
 use Rattle.cfg.specs.Edges.{graph_of}
 use Rattle.cfg.specs.Paths.{edges_of, Leg, IsPath}
-use Rattle.region_match.specs.Matched.{IsFunctionBroken, AreRegionsRight}
-use Rattle.definedness.specs.declared.act.Act.{Act}
+use Rattle.region_match.specs.Matched.{AreRegionsRight}
 use Rattle.definedness.specs.declared.act.Act.TheVariants.{Needs, Gives}
 use Rattle.definedness.specs.Missing.{defined_along}
 use Rattle.definedness.specs.Needs.{gives, given_of, numbers_at}
 use Rattle.definedness.specs.RegisterActs.{phi_gives, start_gives, gives_below, inequality_needs, instruction_needs}
 use Rattle.definedness.specs.Definedness.{register_table}
-use Rattle.bridge.specs.Moves.{dest_of, JumpsTo, SyncsTo}
+use Rattle.bridge.specs.Moves.{dest_of}
 use Rattle.bridge.specs.Costs.{parameters_of}
-use Rattle.bridge.specs.Registers.{HasPhi, DefinesRegisters, Registered, GivesNumber}
+use Rattle.bridge.specs.Registers.{HasPhi, DefinesRegisters}
 use Rattle.bridge.proofs.Registers.{registers_kept}
 use Rattle.definedness_laws.specs.Leads.{LeadsTo, IsBlock}
 use Rattle.definedness_laws.specs.Names.{IsNamed}
-use Rattle.definedness_laws.specs.Defined.{listed, steps_define, defined_before, IsAlways, AreUsesDefined, DefinedAreKept, UsesAreDefined}
-use Rattle.definedness_laws.proofs.Lists.{none_within, first_within, within_cases, at_within}
-use Rattle.definedness_laws.proofs.Items.{Stands, stands, same_some, block_is, is_block, step_there, end_there, Along, edge_behind, block_edges}
+use Rattle.definedness_laws.specs.Defined.{listed, steps_define, defined_before, IsAlways, DefinedAreKept, UsesAreDefined}
+use Rattle.definedness_laws.proofs.Lists.{none_within, first_within, within_cases}
+use Rattle.definedness_laws.proofs.Items.{stands, same_some, block_is, step_there, end_there, Along, edge_behind}
 use Rattle.definedness_laws.proofs.Paths.{no_edges, phi_refused}
-use Rattle.definedness_laws.proofs.Defined.{gives_append, left_given, need_defined, step_found, end_found}
+use Rattle.definedness_laws.proofs.Defined.{gives_append, left_given, need_defined, step_found}
 
 -- ---- numbers in order
 

@@ -1,5 +1,5 @@
 -- Where the rules on regions hold, a reattach stands in a child of its region, and a return in a body's own task.
-use Rattle.std.proofs.Common.{◌≡◌, ℕ, ◌<◌, ◌⊎◌, inl, inr, List, [], ◌∷◌, length, Option, Some, None, refl, sym, ap, subst, ◌∙◌, slice_get, get_or}
+use Rattle.std.proofs.Common.{◌≡◌, ℕ, ◌<◌, inl, inr, List, [], ◌∷◌, length, Option, Some, refl, sym, ap, subst, ◌∙◌, slice_get, get_or}
 use Rattle.std.proofs.lemmas.Bool.Decides.{eqb_tells}
 use Rattle.std.proofs.lemmas.Option.{slice_get_within, get_or_from_slice_get}
 use Rattle.machine_core.specs.Frames.{Role, Child, Body, Frame, Ends, item_at}
@@ -16,11 +16,11 @@ use Rattle.cfg.specs.declared.refusal.Broken.{Broken}
 use Rattle.cfg.specs.Edges.{graph_of}
 use Rattle.region_match.specs.Rules.{ending_at, IsDetach, IsEndingWrong}
 use Rattle.region_match.specs.Tasks.{HasTask}
-use Rattle.region_match.specs.Matched.{IsRegionBroken, IsFunctionBroken, AreRegionsRight}
+use Rattle.region_match.specs.Matched.{IsFunctionBroken, AreRegionsRight}
 use Rattle.definedness_laws.specs.Leads.{IsBlock}
-use Rattle.definedness_laws.specs.Placed.{Suits, IsPlaced, RolesFit, RolesFitTasks}
+use Rattle.definedness_laws.specs.Placed.{Suits, IsPlaced, RolesFitTasks}
 use Rattle.definedness_laws.proofs.Items.{same_some}
-use Rattle.definedness_laws.proofs.Placed.{EndsBlock, ends_block}
+use Rattle.definedness_laws.proofs.Placed.{ends_block}
 
 -- a function of the program
 pub any_function : {P : Function → Type 0} (functions : List Function) (f : ℕ) (function : Function) → slice_get functions f ≡ Some function → P function → (k : ℕ) × (d : Function) × (k < length functions) × (get_or functions k d ≡ d) × P d

@@ -1,8 +1,7 @@
 -- A register is defined at one place, and what names it is behind that place on each path: so no step writes what its place names.
-use Rattle.std.proofs.Common.{◌≡◌, ◌≢◌, ℕ, zero, suc, ◌+◌, ◌<◌, ◌≤◌, ◌⊎◌, inl, inr, List, [], ◌∷◌, ◌++◌, length, map, Option, Some, None, refl, sym, ap, subst, ◌∙◌, arith, slice_get}
-use Rattle.std.specs.List.{All, Contains, flat_map}
+use Rattle.std.proofs.Common.{◌≡◌, ℕ, suc, ◌≤◌, inl, inr, List, [], ◌∷◌, ◌++◌, length, map, Option, Some, None, refl, subst, ◌∙◌, arith, slice_get}
+use Rattle.std.specs.List.{Contains, flat_map}
 use Rattle.std.proofs.lemmas.List.Elements.{All-contains, Contains-append_left, Contains-append_right, Contains-append_cases}
-use Rattle.linear.specs.declared.form.RegisterId.{RegisterId}
 use Rattle.program.specs.declared.identifier.BlockId.{BlockId}
 use Rattle.program.specs.declared.function.Block.{Block}
 use Rattle.program.specs.declared.function.Function.{Function}
@@ -10,13 +9,11 @@ use Rattle.program.specs.declared.function.Program.{Program}
 use Rattle.program.specs.declared.instruction.Phi.{Phi}
 use Rattle.program.specs.declared.instruction.Step.{Step}
 use Rattle.program.specs.declared.instruction.Terminator.TheVariants as terminator
-use Rattle.cfg.specs.declared.structure.Edge.{Edge}
 use Rattle.cfg.specs.declared.structure.Way.TheVariants as way
 use Rattle.cfg.specs.Edges.{graph_of}
 use Rattle.cfg.specs.Paths.{edges_of, Leg, IsPath, IsOnPath}
 use Rattle.cfg.specs.Rules.{IsFunctionRight, IsGraphRight}
-use Rattle.region_match.specs.Rules.{ending_at}
-use Rattle.region_match.specs.Tasks.{task_on, HasTask}
+use Rattle.region_match.specs.Tasks.{task_on}
 use Rattle.region_match.specs.Matched.{AreRegionsRight}
 use Rattle.definedness.specs.declared.act.Act.{Act}
 use Rattle.definedness.specs.declared.act.Act.TheVariants.{Needs}
@@ -26,12 +23,12 @@ use Rattle.definedness.specs.RegisterActs.{inequality_needs, pending_needs, left
 use Rattle.definedness.specs.Definedness.{register_table}
 use Rattle.bridge.specs.Moves.{dest_of}
 use Rattle.bridge.specs.Registers.{HasPhi}
-use Rattle.definedness_laws.specs.Leads.{LeadsTo, IsBlock}
+use Rattle.definedness_laws.specs.Leads.{IsBlock}
 use Rattle.definedness_laws.specs.Names.{StepDefines, PhiDefines, DefinesOnce, IsNamed}
-use Rattle.definedness_laws.specs.Defined.{steps_define, defined_before, AreUsesDefined}
-use Rattle.definedness_laws.specs.Stable.{Names, IsOffFoot, IsSteady, IsSteadyPhi, IsStable, StableByRules}
+use Rattle.definedness_laws.specs.Defined.{defined_before, AreUsesDefined}
+use Rattle.definedness_laws.specs.Stable.{IsOffFoot, IsSteady, IsSteadyPhi, StableByRules}
 use Rattle.definedness_laws.proofs.Lists.{none_within, at_within}
-use Rattle.definedness_laws.proofs.Items.{same_some, Along, leads_along, block_edges}
+use Rattle.definedness_laws.proofs.Items.{Along, leads_along, block_edges}
 use Rattle.definedness_laws.proofs.Paths.{no_edges, phi_refused}
 use Rattle.definedness_laws.proofs.Defined.{Found, left_given, need_defined, note_found, step_found}
 use Rattle.definedness_laws.proofs.Registers.{Defining, is_parameter, is_phi, is_step, defining, defining_step}
@@ -108,8 +105,8 @@ module _ (prog : Program) (named : IsNamed prog) (graph : IsGraphRight prog) (ri
     off_foot no_phi detach outer region body continuation child task ends at names =
         let v = visit body.0 child at in
         let found = note_found function body.0 child (Needs d names.0) (Contains-append_right (flat_map inequality_needs child.keeps) (flat_map (pending_needs function.allocas) child.pending ++ (left_needs child.left ++ flat_map (zone_needs function.allocas) child.foot)) (Needs d names.0)
-            (Contains-append_right (flat_map (pending_needs function.allocas) child.pending) (left_needs child.left ++ flat_map (zone_needs function.allocas) child.foot) (Needs d names.0)
-            (Contains-append_right (left_needs child.left) (flat_map (zone_needs function.allocas) child.foot) (Needs d names.0) names.1))) in
+        (Contains-append_right (flat_map (pending_needs function.allocas) child.pending) (left_needs child.left ++ flat_map (zone_needs function.allocas) child.foot) (Needs d names.0)
+        (Contains-append_right (left_needs child.left) (flat_map (zone_needs function.allocas) child.foot) (Needs d names.0) names.1))) in
         elim (Contains-append_cases (defined_along (map given_of (register_table function)) v.0) (defined_before function body.0 child 0) d (need body.0 child at (defined_before function body.0 child 0) d names.0 found v.0 v.1)) [
           | inl h ↦
               let left = leaves_block v.0 body.0 v.1 h in

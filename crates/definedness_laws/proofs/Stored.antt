@@ -1,6 +1,6 @@
 -- Labellings of allocas, from place to place.
-use Rattle.std.proofs.Common.{◌≡◌, ℕ, zero, suc, ◌+◌, ◌<◌, ◌⊎◌, inl, inr, List, [], ◌∷◌, ◌++◌, length, map, Option, Some, None, true, false, refl, sym, ap, subst, ◌∙◌, arith, slice_get}
-use Rattle.std.specs.List.{All, Contains, flat_map}
+use Rattle.std.proofs.Common.{◌≡◌, ℕ, zero, suc, ◌⊎◌, inl, inr, List, [], ◌∷◌, length, map, Option, Some, None, true, false, refl, sym, ap, subst, ◌∙◌, slice_get}
+use Rattle.std.specs.List.{Contains, flat_map}
 use Rattle.std.specs.Option.{option_map}
 use Rattle.std.proofs.lemmas.Bool.{true≢false}
 use Rattle.std.proofs.lemmas.List.Elements.{All-contains, Contains-append_left, Contains-append_right, Contains-append_cases}
@@ -9,8 +9,6 @@ use Rattle.linear.specs.declared.form.RegisterId.{RegisterId}
 use Rattle.program.specs.declared.function.Alloca.{Alloca as AllocaOf}
 use Rattle.program.specs.declared.function.Block.{Block}
 use Rattle.program.specs.declared.function.Function.{Function}
-use Rattle.program.specs.declared.function.Program.{Program}
-use Rattle.program.specs.declared.instruction.Ending.{Ending}
 use Rattle.program.specs.declared.instruction.Step.{Step}
 use Rattle.cfg.specs.declared.structure.Edge.{Edge}
 use Rattle.cfg.specs.declared.structure.Way.{Way}
@@ -22,11 +20,10 @@ use Rattle.definedness.specs.declared.act.BlockActs.{BlockActs}
 use Rattle.definedness.specs.Needs.{gives, given_of, numbers_of, numbers_at}
 use Rattle.definedness.specs.AllocaActs.{step_cells, alloca_acts}
 use Rattle.definedness.specs.Definedness.{alloca_table}
-use Rattle.definedness.specs.Sure.{Labels, IsHeld, IsAdded, IsStored, IsFork, IsEndOf, AreSets}
-use Rattle.definedness_laws.specs.Leads.{LeadsTo, IsBlock}
+use Rattle.definedness.specs.Sure.{Labels, IsHeld, IsAdded, IsStored, IsFork, IsEndOf}
 use Rattle.definedness_laws.specs.Values.{stored_before, IsLabelled, IsHeldAt}
 use Rattle.definedness_laws.proofs.Lists.{none_within}
-use Rattle.definedness_laws.proofs.Items.{Along, edge_behind}
+use Rattle.definedness_laws.proofs.Items.{Along}
 use Rattle.definedness_laws.proofs.Defined.{gives_append, Found, found_left, found_right}
 
 -- ---- what the first steps store

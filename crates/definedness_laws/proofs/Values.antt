@@ -1,21 +1,18 @@
 -- Along the serial run cells that are sure, or due, have values.
-use Rattle.std.proofs.Common.{◌≡◌, ◌≢◌, ℕ, zero, suc, ◌+◌, ◌<◌, ◌≤◌, ◌⊎◌, inl, inr, List, [], ◌∷◌, length, map, Option, Some, None, Bool, true, false, cond, eqb, eq-eqb, eqb-true, ◌&&◌, is_some, refl, sym, ap, subst, ◌∙◌, arith, slice_get, ℤ, pos, negsuc}
+use Rattle.std.proofs.Common.{◌≡◌, ◌≢◌, ℕ, zero, suc, ◌<◌, ◌≤◌, inl, inr, List, [], ◌∷◌, length, Option, Some, None, Bool, true, false, cond, eq-eqb, ◌&&◌, is_some, refl, sym, ap, subst, ◌∙◌, arith, slice_get, ℤ, pos, negsuc}
 use Rattle.std.specs.Prelude.{int_le, int_lt, unsigned_abs}
 use Rattle.std.specs.List.{Contains}
 use Rattle.std.proofs.lemmas.Bool.{and_parts, ltb-true}
 use Rattle.std.proofs.lemmas.Bool.Decides.{eqb_tells}
 use Rattle.machine_core.specs.Paths.{Path}
 use Rattle.machine_core.specs.Cells.{Object, Shared, Local, Cell, Memory}
-use Rattle.machine_core.specs.Arithmetic.{Trap, Undefined, BadIndex}
-use Rattle.machine_core.specs.Frames.{Value, Word, Pointer, Registers, Frame, Does, Ends, item_at, phis_at, global_cells, cells_of, cell_of, word_at, object_at, first_cell, set_register, and_then}
-use Rattle.machine_core.specs.Effect.{Effect, Plain, Sync, Call, Reattach, Return, Detach, stops, sets, given, points, phi_value, with_phis, argument_value, argument_values, instruction_action, item_action, action_of}
-use Rattle.machine_core.specs.State.{went, detached, continued, synced, called, waiting, resumed, with_result}
-use Rattle.machine_core.specs.SerialMeaning.{Left, Gave, Outcome, written, cleared}
-use Rattle.machine_core.specs.SerialConditions.{Says, one_more, both_outcomes, at_last, KeptSerially}
+use Rattle.machine_core.specs.Arithmetic.{Undefined, BadIndex}
+use Rattle.machine_core.specs.Frames.{Value, Word, Pointer, Registers, Frame, Does, Ends, item_at, phis_at, cells_of, cell_of, word_at, object_at, first_cell, set_register, and_then}
+use Rattle.machine_core.specs.Effect.{Effect, Plain, stops, sets, given, points, phi_value, with_phis, argument_value, argument_values, instruction_action, item_action, action_of}
+use Rattle.machine_core.specs.State.{went, with_result}
+use Rattle.machine_core.specs.SerialMeaning.{Outcome, written}
+use Rattle.machine_core.specs.SerialConditions.{one_more}
 use Rattle.linear.specs.declared.form.RegisterId.{RegisterId}
-use Rattle.program.specs.declared.identifier.AllocaId.{AllocaId}
-use Rattle.program.specs.declared.identifier.BlockId.{BlockId}
-use Rattle.program.specs.declared.identifier.FunctionId.{FunctionId}
 use Rattle.program.specs.declared.identifier.ObjectName.{ObjectName}
 use Rattle.program.specs.declared.identifier.ObjectName.TheVariants as object
 use Rattle.program.specs.declared.function.Block.{Block}
@@ -23,38 +20,28 @@ use Rattle.program.specs.declared.function.Function.{Function}
 use Rattle.program.specs.declared.function.Program.{Program}
 use Rattle.program.specs.declared.instruction.Argument.{Argument}
 use Rattle.program.specs.declared.instruction.Argument.TheVariants as argument
-use Rattle.program.specs.declared.instruction.Ending.{Ending}
 use Rattle.program.specs.declared.instruction.Instruction.{Instruction}
 use Rattle.program.specs.declared.instruction.Instruction.TheVariants as instruction
 use Rattle.program.specs.declared.instruction.Operand.{Operand}
 use Rattle.program.specs.declared.instruction.Phi.{Phi}
 use Rattle.program.specs.declared.instruction.Step.{Step}
 use Rattle.program.specs.declared.instruction.Terminator.{Terminator}
-use Rattle.program.specs.declared.instruction.Terminator.TheVariants as terminator
-use Rattle.cfg.specs.declared.refusal.Broken.{Broken}
 use Rattle.cfg.specs.declared.structure.Way.{Way}
 use Rattle.cfg.specs.declared.structure.Way.TheVariants as way
 use Rattle.cfg.specs.Edges.{graph_of}
-use Rattle.cfg.specs.Paths.{edges_of}
-use Rattle.region_match.specs.Rules.{ending_at}
 use Rattle.region_match.specs.Tasks.{task_along, HasTask}
-use Rattle.definedness.specs.declared.act.Act.TheVariants.{Needs, Gives}
-use Rattle.definedness.specs.Needs.{gives, given_of}
+use Rattle.definedness.specs.Needs.{gives}
 use Rattle.definedness.specs.AllocaActs.{instruction_cells, step_cells}
-use Rattle.definedness.specs.Definedness.{alloca_table, IsDefinednessBroken}
-use Rattle.definedness.specs.Sure.{Labels, IsReattach}
-use Rattle.bridge.specs.Moves.{number_of, dest_of, GoesOn, Moves, is_next, is_along, SyncsTo, EndsFrame}
+use Rattle.definedness.specs.Sure.{Labels}
+use Rattle.bridge.specs.Moves.{number_of, dest_of, Moves, is_next, is_along}
 use Rattle.bridge.specs.Costs.{parameters_of}
-use Rattle.bridge.proofs.Moves.{moves, sync_here, syncs_along, calls_here, forks_here, ends_here}
 use Rattle.definedness_laws.specs.Leads.{LeadsTo, IsBlock}
-use Rattle.definedness_laws.specs.Names.{StepDefines, PhiDefines, DefinesOnce, IsNamed}
-use Rattle.definedness_laws.specs.Placed.{IsPlaced}
-use Rattle.definedness_laws.specs.Values.{NamesObjects, Full, Shallow, stored_before, IsLabelled, IsHeldAt, IsSureAtEnd, LiesIn, HasValues, KeepsValues}
-use Rattle.definedness_laws.proofs.Lists.{at_within}
-use Rattle.definedness_laws.proofs.Items.{Stands, stands, same_some, is_block, block_is, step_there, end_there, Along, edge_behind}
-use Rattle.definedness_laws.proofs.Placed.{EndsBlock, ends_block, ending_is, Arrives, arrives}
-use Rattle.definedness_laws.proofs.Stored.{stored_step, HeldAtEnd, BroughtByChild, held_at_end, held_before, held_at_entry}
-use Rattle.definedness_laws.proofs.Written.{clear_keeps, shallower, plain_keeps, step_stores, none_given}
+use Rattle.definedness_laws.specs.Names.{StepDefines, IsNamed}
+use Rattle.definedness_laws.specs.Values.{NamesObjects, Full, Shallow, IsLabelled, IsHeldAt, LiesIn, HasValues, KeepsValues}
+use Rattle.definedness_laws.proofs.Items.{stands, same_some, block_is, step_there, end_there, edge_behind}
+use Rattle.definedness_laws.proofs.Placed.{arrives}
+use Rattle.definedness_laws.proofs.Stored.{stored_step, BroughtByChild, held_before}
+use Rattle.definedness_laws.proofs.Written.{shallower, plain_keeps, step_stores}
 
 -- ---- registers that stay
 
@@ -194,8 +181,7 @@ module _ (prog : Program) (named : IsNamed prog) (objects : NamesObjects prog) w
       home = let l : length f.home ≤ length p = good.home in rw home (omega arith);
       given = λ k c less at.
           let within : k < parameters_of prog f.function = subst (λ n. k < parameters_of prog n) fn less in
-          let old = good.given k c within (ap cell_of (sym (same k within)) ∙ at) in
-          (
+          let old = good.given k c within (ap cell_of (sym (same k within)) ∙ at) in (
             shallower (suc (length p)) (suc (length q)) c.object (omega arith) old.0,
             subst (λ n. Full (cells_of prog n (object.Parameter (record { 0 = k }))) c.object u) (sym fn) (full_kept _ c.object m u (λ x e g. keep x (subst (λ o. Shallow (suc (length p)) o) (sym e) old.0) g) old.1),
           );

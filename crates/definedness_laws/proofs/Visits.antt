@@ -1,5 +1,5 @@
 -- Paths that come to a block for the first time, and what they pass on the way into a child.
-use Rattle.std.proofs.Common.{◌≡◌, ◌≢◌, ℕ, zero, suc, ◌⊎◌, inl, inr, List, [], ◌∷◌, ◌++◌, length, Option, Some, None, refl, sym, ap, subst, ◌∙◌, slice_get}
+use Rattle.std.proofs.Common.{◌≡◌, ◌≢◌, ℕ, ◌⊎◌, inl, inr, List, [], ◌∷◌, ◌++◌, Option, Some, None, refl, sym, ap, subst, ◌∙◌, slice_get}
 use Rattle.std.specs.List.{Contains}
 use Rattle.std.specs.Option.{option_map, option_to_list}
 use Rattle.std.proofs.lemmas.Bool.{cases_eq}
@@ -21,7 +21,7 @@ use Rattle.cfg.specs.Edges.{moves_from, edge_to, edges_along, graph_of}
 use Rattle.cfg.specs.Paths.{edges_of, Leg, IsPath}
 use Rattle.region_match.specs.Mixed.{IsMixedIn}
 use Rattle.region_match.specs.Rules.{terminator_of, ending_of, ending_at}
-use Rattle.region_match.specs.Tasks.{task_along, task_on, HasTask}
+use Rattle.region_match.specs.Tasks.{task_along, task_on}
 use Rattle.region_match.specs.Matched.{AreRegionsRight}
 use Rattle.definedness_laws.specs.Leads.{IsBlock}
 use Rattle.definedness_laws.proofs.Lists.{none_within, within_cases}

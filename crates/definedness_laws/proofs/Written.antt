@@ -1,5 +1,5 @@
 -- What instructions write: no cell loses its value, and what a step stores of an alloca has values then.
-use Rattle.std.proofs.Common.{◌≡◌, ◌≢◌, ℕ, zero, suc, ◌+◌, ◌<◌, ◌≤◌, ◌⊎◌, inl, inr, List, [], ◌∷◌, ◌++◌, length, Option, Some, None, Bool, true, false, cond, eqb, eq-eqb, eqb-true, ◌&&◌, is_some, refl, sym, ap, subst, ◌∙◌, arith, slice_get, ℤ, pos}
+use Rattle.std.proofs.Common.{◌≡◌, ◌≢◌, ℕ, suc, ◌≤◌, inl, inr, List, [], ◌∷◌, length, Option, Some, None, Bool, true, false, cond, eqb, eq-eqb, eqb-true, ◌&&◌, is_some, refl, ap, subst, ◌∙◌, arith, slice_get, ℤ, pos}
 use Rattle.std.specs.Prelude.{nat_lt, int_le, int_lt, unsigned_abs}
 use Rattle.std.specs.List.{Contains, flat_map}
 use Rattle.std.proofs.lemmas.Bool.{and_from, and_parts, lt-ltb}
@@ -7,8 +7,8 @@ use Rattle.machine_core.specs.Paths.{Path, same_path}
 use Rattle.machine_core.specs.Cells.{Object, Shared, Local, Cell, Memory, same_object, same_cell, owns}
 use Rattle.machine_core.specs.Arithmetic.{Trap, Undefined, BadIndex, Unmatched, Answer, Gives as GivesNumber, Traps, binary, compares, converts}
 use Rattle.machine_core.specs.Frames.{Value, Word, Truth, Pointer, Region, Role, Child, Body, Registers, Frame, Item, Does, Ends, item_at, alloca_cells, cells_of, word_at, truth_of, region_of, object_at, first_cell, cell_at}
-use Rattle.machine_core.specs.Effect.{Effect, Action, Plain, Detach, Reattach, Sync, Call, Return, stops, goes_on, sets, answers, given, points, loads, stores, stores_zeros, adds_to, enters, jumps, case_for, registers_along, traps, if_own, syncs, reattaches, argument_values, calls, returns, returns_value, instruction_action, terminator_action, item_action, action_of}
-use Rattle.machine_core.specs.State.{override, added, clears, sum_in}
+use Rattle.machine_core.specs.Effect.{Effect, Action, Plain, Detach, Reattach, Sync, Call, Return, stops, sets, answers, given, points, loads, stores, stores_zeros, adds_to, enters, jumps, case_for, registers_along, traps, if_own, syncs, reattaches, argument_values, calls, returns, returns_value, instruction_action, terminator_action, item_action, action_of}
+use Rattle.machine_core.specs.State.{override, added, sum_in}
 use Rattle.machine_core.specs.SerialMeaning.{written, cleared}
 use Rattle.linear.specs.declared.form.RegisterId.{RegisterId}
 use Rattle.program.specs.declared.identifier.AllocaId.{AllocaId}
@@ -28,9 +28,9 @@ use Rattle.program.specs.declared.instruction.Step.{Step}
 use Rattle.program.specs.declared.instruction.Terminator.{Terminator}
 use Rattle.program.specs.declared.instruction.Terminator.TheVariants as terminator
 use Rattle.definedness.specs.declared.act.Act.{Act}
-use Rattle.definedness.specs.declared.act.Act.TheVariants.{Needs, Gives}
+use Rattle.definedness.specs.declared.act.Act.TheVariants.{Gives}
 use Rattle.definedness.specs.Needs.{gives}
-use Rattle.definedness.specs.AllocaActs.{object_read, element_read, address_read, argument_read, object_set, single_set, first_set, address_set, element_object, instruction_cells, step_cells}
+use Rattle.definedness.specs.AllocaActs.{object_read, element_read, address_read, argument_read, object_set, single_set, first_set, address_set, element_object, instruction_cells}
 use Rattle.definedness_laws.specs.Values.{Full, Shallow}
 use Rattle.definedness_laws.proofs.Lists.{none_within, within_cases}
 use Rattle.definedness_laws.proofs.Defined.{Quiet, flat_quiet}

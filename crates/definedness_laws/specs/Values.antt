@@ -1,6 +1,6 @@
 -- Cells that have values along the serial run: those of globals, of the objects that parameters point to, and of allocas that a labelling by
 -- what is sure and what is due holds.
-use Rattle.std.specs.Prelude.{◌≡◌, ℕ, zero, suc, ◌<◌, ◌≤◌, List, [], ◌∷◌, ◌++◌, length, map, Option, Some, None, Bool, true, is_some, ◌⊎◌, Contains, slice_get}
+use Rattle.std.specs.Prelude.{◌≡◌, ℕ, zero, suc, ◌<◌, ◌≤◌, List, [], ◌∷◌, ◌++◌, length, map, Option, Some, None, true, is_some, ◌⊎◌, Contains, slice_get}
 use Rattle.machine_core.specs.Paths.{Path}
 use Rattle.machine_core.specs.Cells.{Object, Shared, Local, Cell, Memory}
 use Rattle.machine_core.specs.Frames.{Frame, Does, item_at, global_cells, cells_of, cell_of, object_at, cell_at}
