@@ -177,6 +177,6 @@ pub names_are_apart : PointerNamesAreApart
 names_are_apart prog apart keeps arguments memory s reached p f is = names_apart prog.functions p f (reached_known prog apart keeps arguments memory s reached p f is)
 
 pub meant_names_are_apart : MeantNamesAreApart
-meant_names_are_apart text whole typed read means =
+meant_names_are_apart text whole prog read means =
     let anew = read_anew whole (answers_kept text whole read) in
-    names_are_apart typed.program (program_apart whole (Ok typed) means) (program_kept whole (Ok typed) means anew)
+    names_are_apart prog (program_apart whole prog means) (program_kept whole prog means anew)

@@ -1,5 +1,5 @@
 -- What the rules on calls say of the program.
-use Rattle.std.proofs.Common.{◌≡◌, ℕ, zero, suc, ◌<◌, Bool, true, false, not, List, [], ◌∷◌, map, length, get_or, refl, sym, ap, ◌∙◌, subst, arith, true≢false, Result, Ok, Err, IfOk, Option, Some, None, is_some, nat_le, nat_eq}
+use Rattle.std.proofs.Common.{◌≡◌, ℕ, zero, suc, ◌<◌, Bool, true, false, not, List, [], ◌∷◌, map, length, get_or, refl, sym, ap, ◌∙◌, subst, arith, true≢false, Result, Ok, Err, Option, Some, None, is_some, nat_le, nat_eq}
 use Rattle.std.specs.Prelude.{slice_get}
 use Rattle.std.specs.List.{Contains, list_any}
 use Rattle.std.proofs.lemmas.Bool.{or_parts}
@@ -26,7 +26,7 @@ use Rattle.syntax.specs.declared.module.Module.{Module}
 use Rattle.types.specs.declared.address.WholeObject.{WholeObject}
 use Rattle.types.specs.declared.block.Body.{Body}
 use Rattle.types.specs.declared.call.ResolvedCall.{ResolvedCall}
-use Rattle.types.specs.declared.typed.Typed.{Typed}
+use Rattle.program.specs.declared.function.Program.{Program}
 use Rattle.types.specs.declared.fault.TypeFault.{TypeFault}
 use Rattle.types.specs.declared.fault.TypeFault.TheVariants.{Fault}
 use Rattle.types.specs.declared.instruction.Spot.{Spot}
@@ -40,7 +40,7 @@ use Rattle.types.specs.Layout.{layout_of}
 use Rattle.types.specs.Function.{function_of, functions_of}
 use Rattle.types.specs.Block.{block_of}
 use Rattle.types.specs.Item.{items_of}
-use Rattle.types.specs.Typed.{Judges}
+use Rattle.types.specs.Meaning.{Means}
 use Rattle.types.specs.Mention.{IsNamed, IsNamedTable, mentions_of}
 use Rattle.types.specs.Scope.{Scope}
 use Rattle.types.specs.Table.{look_up}
@@ -157,12 +157,11 @@ module _ (mentions : List Mentions) (globals : ℕ) (named : Named) (table : IsN
       subst P last.2 (instruction_apart items functions counted scope spot three.0.instruction last.0.1 (both_ok _ _ last.0 last.1).1)
 
 -- the calls of a good module
-pub judged_apart : (whole : Module) (answer : Result Typed TypeFault) → Judges whole answer →
-    IfOk answer (λ typed. CallsApart (map (mentions_of (items_of whole)) whole.functions) (length whole.globals) typed.program.functions)
-judged_apart whole (Err fault) j = tt
-judged_apart whole (Ok typed) j =
+pub meant_apart : (whole : Module) (program : Program) → Means whole (Ok program) →
+    CallsApart (map (mentions_of (items_of whole)) whole.functions) (length whole.globals) program.functions
+meant_apart whole program m =
     let mentions : List Mentions = map (mentions_of (items_of whole)) whole.functions in
-    let made = made_ok _ _ typed j.2 in
+    let made = made_ok _ _ program m.2 in
     let functions = (both_ok _ _ made.0 made.1).1 in
-    let P : Typed → Type 0 = λ t. CallsApart mentions (length whole.globals) t.program.functions in
-    subst P made.2 (functions_apart mentions (length whole.globals) j.0 j.1 (items_of whole) whole.functions (sym (length-map whole.functions (mentions_of (items_of whole)))) made.0.1 functions)
+    let P : Program → Type 0 = λ t. CallsApart mentions (length whole.globals) t.functions in
+    subst P made.2 (functions_apart mentions (length whole.globals) m.0 m.1 (items_of whole) whole.functions (sym (length-map whole.functions (mentions_of (items_of whole)))) made.0.1 functions)

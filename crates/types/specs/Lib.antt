@@ -9,6 +9,7 @@ pub mod Function
 pub mod Instruction
 pub mod Item
 pub mod Layout
+pub mod Meaning
 pub mod Mention
 pub mod Note
 pub mod Operand
