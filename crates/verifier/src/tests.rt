@@ -5,12 +5,14 @@ mod calls;
 mod facts;
 mod forms;
 mod graph;
+mod kernels;
 mod names;
 mod pointers;
 mod regions;
 mod samples;
 mod type_rules;
 mod undefined_registers;
+mod zones;
 
 use crate::refusal::Refused;
 use crate::verified::verify;
