@@ -91,7 +91,10 @@ fn print_table<W: Write>(
 ) -> io::Result<()> {
     let table = verified.table();
     for measure in 0..u64::MAX {
-        match (table.cost(function, measure), table.depth(function, measure)) {
+        match (
+            table.cost(function, measure),
+            table.depth(function, measure),
+        ) {
             (Some(cost), Some(depth)) => {
                 writeln!(output, "@{name} {measure} cost {cost} depth {depth}")?;
             }

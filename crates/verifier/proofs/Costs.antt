@@ -1,12 +1,12 @@
 -- The table's entries of `main`.
-use Rattle.std.proofs.Common.{◌≡◌, refl, ◌∙◌, ℕ, ◌<◌, ◌≤◌, ◌-◌, ◌^◌, min, Bool, true, List, Option, Some, None, inr, ap, ⊎_elim, arith}
+use Rattle.std.proofs.Common.{◌≡◌, refl, ◌∙◌, ℕ, ◌≤◌, Bool, true, Option, Some, None, inr, ap, ⊎_elim, arith}
 use Rattle.std.specs.Prelude.{slice_get, nat_le, if◌then◌else◌}
 use Rattle.std.proofs.lemmas.Bool.{cases_lt}
 use Rattle.program.specs.declared.function.Function.{Function}
 use Rattle.program.specs.declared.function.Program.{Program}
 use Rattle.cfg.specs.declared.refusal.Broken.{Broken}
 use Rattle.region_match.specs.declared.tables.Regions.{Regions}
-use Rattle.cost_table.specs.Cost.{cost, whole_cost}
+use Rattle.cost_table.specs.Cost.{whole_cost}
 use Rattle.cost_table.specs.Depth.{depth}
 use Rattle.cost_table.specs.Tables.{as_u64, cost_in, cost_at, depth_in, depth_at}
 use Rattle.cost_table.specs.Rules.{IsCostBroken}

@@ -49,7 +49,8 @@ fn prints_a_table(rt: HostRuntime) -> Result<(), Fail> {
         0,
         "accepted\nbudget 31457267\ndepth 43\n@main 0 cost 31457267 depth 43\n",
     )?;
-    let flat = "define i64 @main(i64 %n) {\n;! measure 0 max 2\n;! budget 1 2\nentry:\n;! left 0 2\n%r = add i64 %n, 1\nret i64 %r\n}\n";
+    let flat =
+        "define i64 @main(i64 %n) {\n;! measure 0 max 2\n;! budget 1 2\nentry:\n;! left 0 2\n%r = add i64 %n, 1\nret i64 %r\n}\n";
     tells(
         &rt,
         "tapirvm verify m.ll --table @main",

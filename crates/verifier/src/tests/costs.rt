@@ -9,10 +9,7 @@ use std::hash::RandomState;
 use std::random::RandomSource;
 use std::test::Fail;
 
-fn verified(
-    rt: &(impl AllocGlobal + RandomSource),
-    text: &str,
-) -> Result<Option<Verified>, Fail> {
+fn verified(rt: &(impl AllocGlobal + RandomSource), text: &str) -> Result<Option<Verified>, Fail> {
     let state = RandomState::new(rt)?;
     match verify(rt.alloc(), state, text.as_bytes()) {
         Ok(verified) => Ok(Some(verified)),
