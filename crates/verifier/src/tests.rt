@@ -5,6 +5,7 @@ mod calls;
 mod facts;
 mod forms;
 mod graph;
+mod limits;
 mod names;
 mod pointers;
 mod regions;
