@@ -23,28 +23,28 @@ use Rattle.syntax.specs.declared.module.Function.{Function as FunctionText}
 use Rattle.linear.specs.declared.form.RegisterId.{RegisterId}
 use Rattle.program.specs.declared.identifier.AllocaId.{AllocaId}
 use Rattle.syntax.specs.declared.module.Module.{Module}
-use Rattle.types.specs.declared.address.WholeObject.{WholeObject}
+use Rattle.scopes.specs.declared.address.WholeObject.{WholeObject}
 use Rattle.types.specs.declared.block.Body.{Body}
 use Rattle.types.specs.declared.call.ResolvedCall.{ResolvedCall}
 use Rattle.program.specs.declared.function.Program.{Program}
-use Rattle.types.specs.declared.fault.TypeFault.{TypeFault}
-use Rattle.types.specs.declared.fault.TypeFault.TheVariants.{Fault}
+use Rattle.scopes.specs.declared.fault.TypeFault.{TypeFault}
+use Rattle.scopes.specs.declared.fault.TypeFault.TheVariants.{Fault}
 use Rattle.types.specs.declared.instruction.Spot.{Spot}
-use Rattle.types.specs.declared.mention.Mentions.{Mentions}
-use Rattle.types.specs.Address.{Items, object_of}
+use Rattle.scopes.specs.declared.mention.Mentions.{Mentions}
+use Rattle.scopes.specs.Address.{Items, object_of}
 use Rattle.types.proofs.TextCalls.{IsCallApart, IsApart, CallsApart}
 use Rattle.types.specs.Call.{Named, are_distinct, is_any_named, is_named_below, passed_call, found_call, called, refused_call, arguments_of, fitting_arguments, as_function}
-use Rattle.types.specs.Fault.{both_of, made_of, unless_of}
+use Rattle.scopes.specs.Fault.{both_of, made_of, unless_of}
 use Rattle.types.specs.Instruction.{instruction_of, step_of, defined_of, alloca_id_of}
-use Rattle.types.specs.Layout.{layout_of}
+use Rattle.scopes.specs.Layout.{layout_of}
 use Rattle.types.specs.Function.{function_of, functions_of}
 use Rattle.types.specs.Block.{block_of}
-use Rattle.types.specs.Item.{items_of}
+use Rattle.scopes.specs.Item.{items_of}
 use Rattle.types.specs.Meaning.{Means}
-use Rattle.types.specs.Mention.{IsNamed, IsNamedTable, mentions_of}
-use Rattle.types.specs.Scope.{Scope}
-use Rattle.types.specs.Table.{look_up}
-use Rattle.types.proofs.Inversion.{made_ok, then_ok, both_ok, unless_ok, all_ok, err_not_ok}
+use Rattle.scopes.specs.Mention.{IsNamed, IsNamedTable, mentions_of}
+use Rattle.scopes.specs.Scope.{Scope}
+use Rattle.scopes.specs.Table.{look_up}
+use Rattle.scopes.proofs.Inversion.{made_ok, then_ok, both_ok, unless_ok, all_ok, err_not_ok}
 
 pub turned : (b : Bool) → not b ≡ true → b ≡ false
 turned true h = absurd (true≢false (sym h))

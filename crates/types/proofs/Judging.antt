@@ -2,15 +2,15 @@
 use Rattle.std.proofs.Common.{◌≡◌, ℕ, List, map, length, ap, ◌∙◌, subst, Result, Ok, Err}
 use Rattle.program.specs.declared.function.Program.{Program}
 use Rattle.syntax.specs.declared.module.Module.{Module}
-use Rattle.types.specs.declared.fault.TypeFault.{TypeFault}
-use Rattle.types.specs.declared.fault.TypeFault.TheVariants.{Fault, Memory}
-use Rattle.types.specs.declared.mention.Mentions.{Mentions}
-use Rattle.types.specs.Address.{Items}
+use Rattle.scopes.specs.declared.fault.TypeFault.{TypeFault}
+use Rattle.scopes.specs.declared.fault.TypeFault.TheVariants.{Fault, Memory}
+use Rattle.scopes.specs.declared.mention.Mentions.{Mentions}
+use Rattle.scopes.specs.Address.{Items}
 use Rattle.types.specs.Call.{Named}
-use Rattle.types.specs.Fault.{Gives}
-use Rattle.types.specs.Item.{items_of}
+use Rattle.scopes.specs.Fault.{Gives}
+use Rattle.scopes.specs.Item.{items_of}
 use Rattle.types.specs.Meaning.{program_from, IsNamedIn, Means}
-use Rattle.types.specs.Mention.{mentions_of, IsNamedTable}
+use Rattle.scopes.specs.Mention.{mentions_of, IsNamedTable}
 
 -- the program is what the module means, unless memory was refused
 abbrev pub Resolves : Module → Result Program TypeFault → Type 0

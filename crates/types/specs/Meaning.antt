@@ -12,17 +12,17 @@ use Rattle.syntax.specs.declared.module.Parameter.{Parameter as ParameterText}
 use Rattle.syntax.specs.declared.module.Parameter.TheVariants as parameter
 use Rattle.syntax.specs.declared.module.ResultType.{ResultType}
 use Rattle.syntax.specs.declared.module.ResultType.TheVariants.{Number, Void}
-use Rattle.types.specs.declared.fault.TypeFault.{TypeFault}
-use Rattle.types.specs.declared.fault.TypeFault.TheVariants.{Fault}
-use Rattle.types.specs.declared.item.Item.{Item}
-use Rattle.types.specs.declared.item.Item.TheVariants as item
-use Rattle.types.specs.Address.{Items}
+use Rattle.scopes.specs.declared.fault.TypeFault.{TypeFault}
+use Rattle.scopes.specs.declared.fault.TypeFault.TheVariants.{Fault}
+use Rattle.scopes.specs.declared.item.Item.{Item}
+use Rattle.scopes.specs.declared.item.Item.TheVariants as item
+use Rattle.scopes.specs.Address.{Items}
 use Rattle.types.specs.Call.{Named}
-use Rattle.types.specs.Fault.{both_of, made_of, unless_of}
+use Rattle.scopes.specs.Fault.{both_of, made_of, unless_of}
 use Rattle.types.specs.Function.{functions_of}
-use Rattle.types.specs.Item.{items_of}
-use Rattle.types.specs.Mention.{mentions_of, IsNamedTable}
-use Rattle.types.specs.Table.{look_up}
+use Rattle.scopes.specs.Item.{items_of}
+use Rattle.scopes.specs.Mention.{mentions_of, IsNamedTable}
+use Rattle.scopes.specs.Table.{look_up}
 
 abbrev pub is_number : ParameterText → Bool
 is_number (parameter.Number name) = true

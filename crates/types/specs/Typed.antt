@@ -1,8 +1,8 @@
 -- The answer of the phase.
 use Rattle.std.specs.Prelude.{Result, Ok, Err}
 use Rattle.syntax.specs.declared.module.Module.{Module}
-use Rattle.types.specs.declared.fault.TypeFault.{TypeFault}
-use Rattle.types.specs.declared.fault.TypeFault.TheVariants.{Fault, Memory}
+use Rattle.scopes.specs.declared.fault.TypeFault.{TypeFault}
+use Rattle.scopes.specs.declared.fault.TypeFault.TheVariants.{Fault, Memory}
 use Rattle.types.specs.declared.typed.Typed.{Typed}
 use Rattle.types.specs.Meaning.{Means as MeansProgram}
 

@@ -1,20 +1,20 @@
 ghost use Rattle.std.specs.Prelude.{◌≡◌, map, IfOk};
 ghost use Rattle.std.specs.List.{list_all};
-ghost use Rattle.types.specs.Fault.{Gives};
+ghost use Rattle.scopes.specs.Fault.{Gives};
 ghost use Rattle.types.specs.Apart.{CallsApart};
 ghost use Rattle.types.specs.Definitions.{EachDefinesAnew, KeepsParameters};
 ghost use Rattle.types.specs.Meaning as spec;
 ghost use Rattle.types.specs.Typed.{Judges};
 
 use crate::call::World;
-use crate::fault::{TypeFault, both, type_mismatch, unknown_name, unless};
 use crate::function::resolve_functions;
-use crate::item::{Item, Items, items_of};
-use crate::mention::all_mentions;
-use crate::reach::{NamedGlobals, named_globals};
 use crate::typed::Typed;
 use lists::Seq;
 use program::{FunctionId, Global as GlobalArray, Program};
+use scopes::{
+    Item, Items, NamedGlobals, TypeFault, all_mentions, both, items_of, named_globals,
+    type_mismatch, unknown_name, unless,
+};
 use std::alloc::{AllocError, Global};
 use std::hash::RandomState;
 use syntax::{Function, Module, Parameter, ResultType};

@@ -4,7 +4,7 @@ use Rattle.syntax.specs.declared.module.Module.{Module}
 use Rattle.program.specs.declared.function.Program.{Program}
 use Rattle.ir_text.specs.Reading.{Answers}
 use Rattle.types.specs.declared.typed.Typed.{Typed}
-use Rattle.types.specs.declared.fault.TypeFault.TheVariants.{Fault as TypeFaultAt}
+use Rattle.scopes.specs.declared.fault.TypeFault.TheVariants.{Fault as TypeFaultAt}
 use Rattle.types.specs.Typed.{Means}
 use Rattle.cfg.specs.Edges.{graphs_of}
 use Rattle.cfg.specs.declared.refusal.Broken.{Broken}

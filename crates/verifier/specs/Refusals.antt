@@ -13,8 +13,8 @@ use Rattle.ranges.specs.declared.fault.RangeFault.{RangeFault}
 use Rattle.ranges.specs.declared.fault.RangeFault.TheVariants.{Fault as RangeFaultAt, Memory as RangeMemory}
 use Rattle.region_match.specs.declared.fault.RegionFault.{RegionFault}
 use Rattle.region_match.specs.declared.fault.RegionFault.TheVariants.{Fault as RegionFaultAt, Memory as RegionMemory}
-use Rattle.types.specs.declared.fault.TypeFault.{TypeFault}
-use Rattle.types.specs.declared.fault.TypeFault.TheVariants.{Fault as TypeFaultAt, Memory as TypeMemory}
+use Rattle.scopes.specs.declared.fault.TypeFault.{TypeFault}
+use Rattle.scopes.specs.declared.fault.TypeFault.TheVariants.{Fault as TypeFaultAt, Memory as TypeMemory}
 use Rattle.verifier.specs.declared.refusal.Refused.{Refused}
 use Rattle.verifier.specs.declared.refusal.Refused.TheVariants.{Fault, Memory}
 

@@ -7,6 +7,7 @@ mod facts;
 mod forms;
 mod graph;
 mod kernels;
+mod limits;
 mod names;
 mod pointers;
 mod regions;

@@ -1,5 +1,5 @@
 use Rattle.std.proofs.Common.{map, Ok, ap, ◌∙◌}
-use Rattle.types.specs.Mention.{mentions_of}
+use Rattle.scopes.specs.Mention.{mentions_of}
 use Rattle.types.proofs.Judging.{resolved}
 use Rattle.types.proofs.Programs.{program_apart, program_kept}
 use Rattle.types.proofs.check.check_types.Goals as goal

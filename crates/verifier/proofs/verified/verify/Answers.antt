@@ -19,7 +19,7 @@ pub returns-clause-accepted : goal.returns-clause-accepted
 returns-clause-accepted c = program_of _ _ _ _ c.in_ok-graph.ensures.same c.in_ok-module.ensures.exact c.in_ok-typed.ensures.judged c.in_ok-graph.ensures.right c.in_ok-regions.ensures.right c.in_ok-defined.ensures.right c.in_ok-facts.ensures.right (c.in_ok-regions.regions, by_tasks c.in_ok-graph.graph.typed.program c.in_ok-graph.graph.functions c.in_ok-regions.regions c.in_ok-graph.graph.edges c.in_ok-regions.ensures.tasks, c.in_ok-check_zones.ensures.right) c.in_ok-table.ensures.right
 
 pub returns-in_err-graph-clause-refused : goal.returns-in_err-graph-clause-refused
-returns-in_err-graph-clause-refused c = err_from _ _ _ c.from_residual-in_err-graph.ensures.1 (refused_by_graph _ _ _ _ _ refl c.in_ok-module.ensures.exact c.in_ok-typed.ensures.judged c.in_err-graph.ensures.fault)
+returns-in_err-graph-clause-refused c = err_from _ _ _ c.from_residual-in_err-graph.ensures.1 (refused_by_graph _ _ c.in_ok-typed.typed _ _ refl c.in_ok-module.ensures.exact c.in_ok-typed.ensures.judged c.in_err-graph.ensures.fault)
 
 pub returns-in_err-regions-clause-refused : goal.returns-in_err-regions-clause-refused
 returns-in_err-regions-clause-refused c = err_from _ _ _ c.from_residual-in_err-regions.ensures.1 (refused_by_regions _ _ _ _ _ _ refl c.in_ok-graph.ensures.same c.in_ok-module.ensures.exact c.in_ok-typed.ensures.judged c.in_ok-graph.ensures.right c.in_err-regions.ensures.fault)
