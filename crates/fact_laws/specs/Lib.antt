@@ -1,0 +1,4 @@
+pub mod Known
+pub mod Owing
+pub mod Kept
+pub mod Traps

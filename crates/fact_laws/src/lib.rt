@@ -1,0 +1,24 @@
+//! What the facts of the verifier owe the machine: facts that hold in a frame are kept along the serial run, and where they hold no
+//! instruction traps for an index, a divisor, an overflow or a shift. There is no code to run here.
+//!
+//! - `Known`: what is known at a place, and that it holds in a frame there.
+//! - `Owing`: what other phases owe for it: types and the graph, definedness, and numbers of their widths.
+//! - `Kept`: the law that facts are kept.
+//! - `Traps`: the law that nothing traps where they hold.
+#![tactic(auto)]
+
+ghost use Rattle.fact_laws.specs.Kept.{FactsKept};
+ghost use Rattle.fact_laws.specs.Traps.{NoTraps};
+
+/// Where no rule on numbers is broken, facts that hold in a frame hold in each frame that an instruction makes of it; and of what a
+/// function returns its `ensures` are true.
+pub fn facts_kept()
+    ensures { FactsKept }
+{}
+
+/// Where no rule on numbers is broken and the facts of a frame's place hold, its instruction does not trap, if all that it reads is there
+/// and the frame's region and role are those that it names: an index lies in its object, a divisor is not 0, no division is of the least
+/// value by -1, no sum, difference or product under `nsw` passes its width, and no shift is by the width or more.
+pub fn no_traps()
+    ensures { NoTraps }
+{}
