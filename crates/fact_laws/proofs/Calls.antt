@@ -1,21 +1,16 @@
 -- Into a call its callee's `requires` hold, and out of it the `ensures`.
-use Rattle.std.proofs.Common.{◌≡◌, ◌≢◌, ◌∙◌, ℕ, zero, suc, ◌+◌, ◌<◌, ◌≤◌, ℤ, pos, ◌≤ℤ◌, Bool, true, false, cond, eqb, eq-eqb, List, [], ◌∷◌, ◌++◌, length, Option, Some, None, ◌⊎◌, inl, inr, refl, sym, ap, subst, arith, slice_get, is_some, get_or}
+use Rattle.std.proofs.Common.{◌≡◌, ◌∙◌, ℕ, zero, suc, ◌+◌, ◌<◌, ◌≤◌, ℤ, pos, true, false, eq-eqb, List, [], ◌∷◌, ◌++◌, length, Option, Some, None, inl, inr, refl, sym, ap, subst, arith, slice_get, is_some, get_or}
 use Rattle.std.specs.List.{All}
 use Rattle.std.proofs.lemmas.Bool.{ne_eqb}
-use Rattle.std.proofs.lemmas.Bool.Decides.{eqb_tells}
-use Rattle.std.proofs.lemmas.List.Elements.{All-nil, All-cons, All-head, All-tail, All-map}
-use Rattle.machine_core.specs.Paths.{Path}
-use Rattle.machine_core.specs.Frames.{Value, Word, Registers, Frame, Does, item_at, set_register}
+use Rattle.std.proofs.lemmas.List.Elements.{All-nil, All-head, All-tail, All-map}
+use Rattle.machine_core.specs.Frames.{Value, Word, Registers, Frame, set_register}
 use Rattle.machine_core.specs.Effect.{argument_values}
-use Rattle.machine_core.specs.State.{called, with_result}
+use Rattle.machine_core.specs.State.{with_result}
 use Rattle.linear.specs.Forms.{register_form, value, Holds}
 use Rattle.linear.specs.Shown.{AllHold}
 use Rattle.linear.specs.declared.form.Fact.{Fact}
 use Rattle.linear.specs.declared.form.RegisterId.{RegisterId}
-use Rattle.linear.specs.declared.form.Term.{Term}
 use Rattle.linear.proofs.Values.{value_register, value_put, value_constant}
-use Rattle.program.specs.declared.annotation.Inequality.{Inequality}
-use Rattle.program.specs.declared.identifier.FunctionId.{FunctionId}
 use Rattle.program.specs.declared.function.Block.{Block}
 use Rattle.program.specs.declared.function.Function.{Function}
 use Rattle.program.specs.declared.function.Program.{Program}
@@ -27,21 +22,21 @@ use Rattle.program.specs.declared.instruction.Operand.TheVariants.{Number, Regis
 use Rattle.cfg.specs.declared.structure.Move.{Move}
 use Rattle.ranges.specs.Sums.{is_met}
 use Rattle.ranges.specs.Truth.{operand_value, IsTrueAt}
-use Rattle.ranges.specs.Inequalities.{operand_for, difference_of, differences_of, argument_operand, argument_moves, result_of, result_moves, register_operand, call_moves}
-use Rattle.ranges.specs.Learned.{learned, call_sums}
+use Rattle.ranges.specs.Inequalities.{operand_for, difference_of, argument_operand, argument_moves, result_moves, register_operand, call_moves}
+use Rattle.ranges.specs.Learned.{call_sums}
 use Rattle.ranges.specs.Owed.{owed, call_owed, inequalities_owed}
 use Rattle.bridge.specs.Costs.{or_zero, numbers, parameters_in, parameters_of}
 use Rattle.bridge.specs.Edges.{operand_form, argument_form, argument_forms}
-use Rattle.bridge.specs.Moves.{number_of, dest_of, Calls}
+use Rattle.bridge.specs.Moves.{number_of, Calls}
 use Rattle.bridge.specs.Registers.{returns_number}
 use Rattle.bridge.proofs.Edges.{called_value}
 use Rattle.fact_laws.specs.Known.{known_at, known_in, known_in_block, IsMet, KnownHold}
-use Rattle.fact_laws.specs.Owing.{IsOver, IsGiven, IsTyped, IsOther, IsOtherArgument, Avoids, IsStable}
-use Rattle.fact_laws.specs.Kept.{AreRangesRight, with_returned, AreEnsured, IsEnsured}
+use Rattle.fact_laws.specs.Owing.{IsGiven, IsTyped, IsOtherArgument, IsStable}
+use Rattle.fact_laws.specs.Kept.{AreRangesRight, with_returned, AreEnsured}
 use Rattle.fact_laws.proofs.Sums.{met_from_moved, moved_from_met, stated_true}
 use Rattle.fact_laws.proofs.Learning.{none_true}
 use Rattle.fact_laws.proofs.Effects.{IsLearned, set_value}
-use Rattle.fact_laws.proofs.Places.{BlockOf, StepAt, step_at, before, arrives, step_met, owed_true}
+use Rattle.fact_laws.proofs.Places.{BlockOf, StepAt, step_at, arrives, step_met, owed_true}
 use Rattle.fact_laws.proofs.Steps.{Others, operand_stays}
 
 -- ---- arguments put in

@@ -1,6 +1,6 @@
 -- Along an edge the `keeps` of its target hold, with what its phis took.
-use Rattle.std.proofs.Common.{◌≡◌, ◌≢◌, ◌∙◌, ℕ, zero, suc, ◌+◌, ◌<◌, ◌≤◌, ℤ, pos, negsuc, ◌+ℤ◌, ◌*ℤ◌, ◌≤ℤ◌, ◌<ℤ◌, Bool, true, false, cond, eqb, eq-eqb, List, [], ◌∷◌, ◌++◌, length, map, Option, Some, None, ◌⊎◌, inl, inr, refl, sym, ap, subst, arith, slice_get}
-use Rattle.std.specs.Prelude.{int_le, int_lt, not}
+use Rattle.std.proofs.Common.{◌≡◌, ◌≢◌, ◌∙◌, ℕ, zero, suc, ℤ, pos, negsuc, ◌+ℤ◌, ◌*ℤ◌, ◌≤ℤ◌, Bool, true, false, cond, eqb, List, [], ◌∷◌, ◌++◌, length, map, Option, Some, None, ◌⊎◌, inl, inr, refl, sym, ap, subst, arith, slice_get}
+use Rattle.std.specs.Prelude.{int_le, int_lt}
 use Rattle.std.specs.List.{All, Contains, cons_option}
 use Rattle.std.specs.Option.{option_map}
 use Rattle.std.specs.Ordering.{int_eq}
@@ -8,12 +8,11 @@ use Rattle.std.proofs.lemmas.Bool.{ne_eqb}
 use Rattle.std.proofs.lemmas.Option.{slice_get_within}
 use Rattle.std.proofs.lemmas.Bool.Decides.{eqb_tells, Decides-int_eq}
 use Rattle.std.proofs.lemmas.Int.{ints}
-use Rattle.std.proofs.lemmas.List.Elements.{All-nil, All-cons, All-head, All-tail, All-append, All-contains, All-weaker}
+use Rattle.std.proofs.lemmas.List.Elements.{All-nil, All-head, All-tail, All-append, All-weaker}
 use Rattle.machine_core.specs.Paths.{Path}
-use Rattle.machine_core.specs.Cells.{Memory}
-use Rattle.machine_core.specs.Arithmetic.{Trap, Undefined, compares}
-use Rattle.machine_core.specs.Frames.{Value, Word, Truth, Registers, Frame, Does, Ends, item_of, item_at, phis_at, block_phis, and_then, word_of, truth_of, word_at, set_register}
-use Rattle.machine_core.specs.Effect.{Effect, Plain, given, enters, jumps, case_for, registers_along, entry_for, phi_value, with_phis, terminator_action, action_of, item_action}
+use Rattle.machine_core.specs.Arithmetic.{compares}
+use Rattle.machine_core.specs.Frames.{Word, Truth, Registers, Frame, Does, item_of, item_at, phis_at, block_phis, and_then, truth_of, word_at, set_register}
+use Rattle.machine_core.specs.Effect.{Effect, Plain, given, enters, jumps, case_for, registers_along, entry_for, with_phis, terminator_action}
 use Rattle.linear.specs.Forms.{Holds}
 use Rattle.linear.specs.Shown.{AllHold}
 use Rattle.linear.specs.declared.form.Fact.{Fact}
@@ -21,7 +20,6 @@ use Rattle.linear.specs.declared.form.RegisterId.{RegisterId}
 use Rattle.syntax.specs.declared.operator.Predicate.{Predicate}
 use Rattle.syntax.specs.declared.operator.Predicate.TheVariants.{Equal, NotEqual, UnsignedGreater, UnsignedAtLeast, UnsignedLess, UnsignedAtMost, SignedGreater, SignedAtLeast, SignedLess, SignedAtMost}
 use Rattle.syntax.specs.declared.operator.Width.{Width}
-use Rattle.program.specs.declared.annotation.Inequality.{Inequality}
 use Rattle.program.specs.declared.identifier.BlockId.{BlockId}
 use Rattle.program.specs.declared.function.Block.{Block}
 use Rattle.program.specs.declared.function.Function.{Function}
@@ -42,20 +40,18 @@ use Rattle.cfg.specs.declared.structure.Way.TheVariants.{Branch, Detached, Conti
 use Rattle.cfg.specs.Edges.{value_from, moves_from}
 use Rattle.ranges.specs.declared.edge.Comparison.{Comparison}
 use Rattle.ranges.specs.declared.edge.EdgeSums.{EdgeSums}
-use Rattle.ranges.specs.declared.sum.Sum.{Sum}
-use Rattle.ranges.specs.Sums.{one, two, facts_of}
+use Rattle.ranges.specs.Sums.{one, facts_of}
 use Rattle.ranges.specs.Truth.{operand_value, IsTrueAt}
 use Rattle.ranges.specs.Inequalities.{operand_for, difference_of}
-use Rattle.ranges.specs.Edges.{compare_of, or_else, compared, at_least, above, compare_sums, branch_sums, case_sums, edge_to, edges_out, phis_of, keeps_of, edge_facts}
-use Rattle.ranges.specs.Places.{start_facts}
+use Rattle.ranges.specs.Edges.{compare_of, or_else, compared, at_least, above, compare_sums, branch_sums, case_sums, edge_to, edges_out, phis_of, keeps_of}
 use Rattle.ranges.proofs.Truth.{facts_true}
-use Rattle.bridge.specs.Costs.{or_zero, numbers}
+use Rattle.bridge.specs.Costs.{numbers}
 use Rattle.bridge.specs.Moves.{JumpsTo, SyncsTo}
 use Rattle.fact_laws.specs.Known.{known_at, known_in, known_in_block, IsMet, HoldsTest, KnownHold}
 use Rattle.fact_laws.specs.Owing.{AreApart}
 use Rattle.fact_laws.specs.Kept.{AreRangesRight}
-use Rattle.fact_laws.proofs.Sums.{word_value, met_from_moved, stated_true, Moved}
-use Rattle.fact_laws.proofs.Learning.{none_true, one_true, two_true, ordered}
+use Rattle.fact_laws.proofs.Sums.{word_value, met_from_moved, stated_true}
+use Rattle.fact_laws.proofs.Learning.{none_true, one_true, two_true}
 use Rattle.fact_laws.proofs.Effects.{given_case}
 use Rattle.fact_laws.proofs.Places.{Contains_map, BlockOf, EndAt, before, arrives, edge_met, owed_true}
 

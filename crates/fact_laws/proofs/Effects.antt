@@ -1,9 +1,9 @@
 -- What the instructions of a block that do not trap make known is true behind them.
-use Rattle.std.proofs.Common.{◌≡◌, ◌≢◌, ◌∙◌, ℕ, ℤ, pos, ◌≤ℤ◌, Bool, true, false, cond, eqb, eq-eqb, List, [], ◌∷◌, Option, Some, None, refl, sym, ap, subst}
+use Rattle.std.proofs.Common.{◌≡◌, ◌≢◌, ◌∙◌, ℕ, ℤ, true, eq-eqb, List, Option, Some, None, refl, sym, ap, subst}
 use Rattle.std.specs.List.{All}
 use Rattle.std.proofs.lemmas.Bool.{ne_eqb}
 use Rattle.machine_core.specs.Paths.{Path}
-use Rattle.machine_core.specs.Cells.{Object, Cell, Memory}
+use Rattle.machine_core.specs.Cells.{Memory}
 use Rattle.machine_core.specs.Arithmetic.{Trap, Undefined, Answer, Gives, Traps, fits, binary, compares, converts}
 use Rattle.machine_core.specs.Frames.{Value, Word, Truth, Registers, Frame, word_at, set_register}
 use Rattle.machine_core.specs.Effect.{Effect, Action, Plain, Detach, Reattach, Sync, Call, Return, sets, answers, given, argument_values, calls, instruction_action}
@@ -24,11 +24,11 @@ use Rattle.program.specs.declared.instruction.Instruction.TheVariants as instruc
 use Rattle.program.specs.declared.instruction.Operand.{Operand}
 use Rattle.program.specs.declared.instruction.Operand.TheVariants.{Number, Register}
 use Rattle.ranges.specs.Truth.{operand_value, IsTrueAt}
-use Rattle.ranges.specs.Learned.{learned, conversion_sums}
-use Rattle.bridge.specs.Costs.{or_zero, numbers}
+use Rattle.ranges.specs.Learned.{learned}
+use Rattle.bridge.specs.Costs.{numbers}
 use Rattle.bridge.specs.Moves.{dest_of}
 use Rattle.fact_laws.specs.Known.{HoldsTest}
-use Rattle.fact_laws.specs.Owing.{IsOther, Avoids, FitsAt, FitsConversion, FitsWidths}
+use Rattle.fact_laws.specs.Owing.{IsOther, Avoids, FitsConversion, FitsWidths}
 use Rattle.fact_laws.proofs.Sums.{word_value}
 use Rattle.fact_laws.proofs.Learning.{none_true, binary_true, extended_true, truncated_true, zeros_true}
 

@@ -1,5 +1,5 @@
 -- The law that facts are kept.
-use Rattle.std.proofs.Common.{◌≡◌, ◌≢◌, ◌∙◌, ℕ, zero, suc, ◌+◌, ◌<◌, ◌≤◌, ℤ, pos, ◌≤ℤ◌, Bool, true, false, cond, eqb, List, [], ◌∷◌, length, Option, Some, None, ◌⊎◌, inl, inr, refl, sym, ap, subst, arith, slice_get, is_some, get_or}
+use Rattle.std.proofs.Common.{◌≡◌, ◌≢◌, ◌∙◌, ℕ, ◌<◌, ◌≤◌, ℤ, ◌≤ℤ◌, true, false, List, [], ◌∷◌, length, Option, Some, None, inl, inr, refl, sym, ap, subst, arith, slice_get, is_some, get_or}
 use Rattle.std.specs.List.{All}
 use Rattle.std.proofs.lemmas.Bool.{ne_eqb, eq-eqb}
 use Rattle.std.proofs.lemmas.Bool.Decides.{eqb_tells}
@@ -8,7 +8,7 @@ use Rattle.machine_core.specs.Paths.{Path}
 use Rattle.machine_core.specs.Cells.{Memory}
 use Rattle.machine_core.specs.Frames.{Value, Word, Registers, Frame, Item, Does, Ends, Role, Child, Body, item_at, phis_at, and_then, word_of, word_at, set_register}
 use Rattle.machine_core.specs.Arithmetic.{Undefined, Unmatched}
-use Rattle.machine_core.specs.Effect.{stops, returns, returns_value, Effect, Plain, Detach, Sync, Call, Return, registers_along, phi_value, with_phis, instruction_action, terminator_action, item_action, action_of}
+use Rattle.machine_core.specs.Effect.{stops, returns, returns_value, Effect, Plain, Sync, Return, registers_along, phi_value, with_phis, terminator_action, item_action, action_of}
 use Rattle.machine_core.specs.State.{went, detached, continued, synced, called, with_result}
 use Rattle.machine_core.specs.SerialMeaning.{Left, Gave}
 use Rattle.machine_core.specs.SerialConditions.{Says, KeptSerially}
@@ -18,7 +18,6 @@ use Rattle.linear.specs.declared.form.Fact.{Fact}
 use Rattle.linear.specs.declared.form.RegisterId.{RegisterId}
 use Rattle.linear.proofs.Values.{value_same}
 use Rattle.program.specs.declared.annotation.Inequality.{Inequality}
-use Rattle.program.specs.declared.identifier.BlockId.{BlockId}
 use Rattle.program.specs.declared.function.Function.{Function}
 use Rattle.program.specs.declared.function.Program.{Program}
 use Rattle.program.specs.declared.instruction.Instruction.{Instruction}
@@ -27,27 +26,27 @@ use Rattle.program.specs.declared.instruction.Operand.{Operand}
 use Rattle.program.specs.declared.instruction.Phi.{Phi}
 use Rattle.program.specs.declared.instruction.Terminator.{Terminator}
 use Rattle.program.specs.declared.instruction.Terminator.TheVariants as terminator
-use Rattle.ranges.specs.Truth.{operand_value, IsTrueAt}
-use Rattle.ranges.specs.Inequalities.{operand_for, difference_of, result_moves}
+use Rattle.ranges.specs.Truth.{operand_value}
+use Rattle.ranges.specs.Inequalities.{operand_for, result_moves}
 use Rattle.ranges.specs.Edges.{edges_out}
 use Rattle.ranges.specs.Owed.{owed_at_end, inequalities_owed}
 use Rattle.ranges.specs.Sums.{is_met}
 use Rattle.bridge.specs.Costs.{or_zero, numbers, parameters_in, parameters_of}
-use Rattle.bridge.specs.Moves.{number_of, dest_of, GoesOn, Enters, Moves, is_next, is_along, Calls, Forks, JumpsTo, SyncsTo}
+use Rattle.bridge.specs.Moves.{dest_of, Moves, is_next, is_along, Calls, Forks}
 use Rattle.bridge.specs.Registers.{returns_number}
 use Rattle.bridge.proofs.Moves.{moves, sync_here, syncs_along, calls_here, forks_here, returns_here, GivenBack}
-use Rattle.fact_laws.specs.Known.{known_at, IsMet, HoldsTest, KnownHold}
-use Rattle.fact_laws.specs.Owing.{IsOver, IsGiven, IsTyped, IsStable, HasWidths}
+use Rattle.fact_laws.specs.Known.{known_at, IsMet, KnownHold}
+use Rattle.fact_laws.specs.Owing.{IsGiven, IsTyped, IsStable, HasWidths}
 use Rattle.fact_laws.specs.Kept.{AreRangesRight, with_returned, AreEnsured, IsEnsured, Knows, Ensures, FactsKept}
 use Rattle.fact_laws.proofs.Sums.{word_value, met_from_moved}
 use Rattle.fact_laws.proofs.Effects.{learned_here}
-use Rattle.fact_laws.proofs.Places.{BlockOf, EndAt, end_at, end_met, owed_true}
+use Rattle.fact_laws.proofs.Places.{EndAt, end_at, end_met, owed_true}
 use Rattle.fact_laws.proofs.Steps.{HoldsBehind, holds_behind}
 use Rattle.fact_laws.proofs.Edges.{IsTaken, taken, sync_taken, body_taken, continuation_taken, tests_here, lands_along, lands_forked}
 use Rattle.fact_laws.proofs.Calls.{enters_callee, learned_from_call, call_others}
 
 -- at a block's start no compare of it is done
-at_start : (prog : Program) (g : Frame) → g.index ≡ 0 → AllHold (numbers g.registers) (known_at prog g.function g.block 0) → KnownHold prog g
+pub at_start : (prog : Program) (g : Frame) → g.index ≡ 0 → AllHold (numbers g.registers) (known_at prog g.function g.block 0) → KnownHold prog g
 at_start prog g start all = record {
   facts = subst (λ n. AllHold (numbers g.registers) (known_at prog g.function g.block n)) (sym start) all;
   tests = λ k i l there. absurd (omega (arith, l, start));
@@ -111,7 +110,7 @@ module _ (prog : Program) (right : AreRangesRight prog) (typed : IsTyped prog) (
 
   -- ---- plain instructions
 
-  same_action : (p : Path) (f : Frame) (m : Memory) (x : Item) (e : Effect) → action_of prog p f m ≡ Plain e → item_at prog f.function f.block f.index ≡ Some x → item_action prog p f m (Some x) ≡ Plain e
+  pub same_action : (p : Path) (f : Frame) (m : Memory) (x : Item) (e : Effect) → action_of prog p f m ≡ Plain e → item_at prog f.function f.block f.index ≡ Some x → item_action prog p f m (Some x) ≡ Plain e
   same_action p f m x e act at = sym (ap (item_action prog p f m) at) ∙ act
 
   plain_next : (p : Path) (f : Frame) (m : Memory) (e : Effect) → KnownHold prog f → HasWidths prog f → action_of prog p f m ≡ Plain e → e.trap ≡ None → Moves prog f e → KnownHold prog (went f e)
@@ -144,7 +143,7 @@ module _ (prog : Program) (right : AreRangesRight prog) (typed : IsTyped prog) (
       let way : IsTaken place.of.block.steps t (numbers f.registers) block = sync_taken prog f place.of.block.steps (tests_here prog right f t place good) t region block to in
       at_start prog (synced f region block s) refl (lands_along prog right f t place good block s (not_entry f t place (numbers f.registers) block at way) way (stable.apart f.function block) (syncs_along prog p f m region block s act))
 
-  child_facts : (f : Frame) (r b k : ℕ) → KnownHold prog f → Forks prog f r b k → AllHold (numbers f.registers) (known_at prog f.function b 0)
+  pub child_facts : (f : Frame) (r b k : ℕ) → KnownHold prog f → Forks prog f r b k → AllHold (numbers f.registers) (known_at prog f.function b 0)
   child_facts f r b k good c =
       let t : Terminator = terminator.Detach c.region c.body c.continuation in
       let place : EndAt prog f.function f.block f.index t = end_at prog f.function f.block f.index t c.is in
@@ -152,7 +151,7 @@ module _ (prog : Program) (right : AreRangesRight prog) (typed : IsTyped prog) (
       subst (λ n. AllHold (numbers f.registers) (known_at prog f.function n 0)) c.body_is
       (lands_forked prog right f t place good c.body.0 (not_entry f t place (numbers f.registers) c.body.0 c.is way) way (typed.forks f.function f.block f.index c.region c.body c.continuation c.is).0)
 
-  continued_facts : (f : Frame) (r b k : ℕ) → KnownHold prog f → Forks prog f r b k → AllHold (numbers f.registers) (known_at prog f.function k 0)
+  pub continued_facts : (f : Frame) (r b k : ℕ) → KnownHold prog f → Forks prog f r b k → AllHold (numbers f.registers) (known_at prog f.function k 0)
   continued_facts f r b k good c =
       let t : Terminator = terminator.Detach c.region c.body c.continuation in
       let place : EndAt prog f.function f.block f.index t = end_at prog f.function f.block f.index t c.is in

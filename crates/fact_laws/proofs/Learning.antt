@@ -1,12 +1,12 @@
 -- What arithmetic makes known is true.
-use Rattle.std.proofs.Common.{◌≡◌, ◌≢◌, ◌∙◌, ℕ, zero, suc, ◌+◌, ◌-◌, ◌*◌, ◌/◌, ◌%◌, ◌^◌, ◌<◌, ◌≤◌, ℤ, pos, negsuc, ◌+ℤ◌, ◌-ℤ◌, ◌*ℤ◌, ◌≤ℤ◌, Bool, true, false, cond, T, List, [], ◌∷◌, ◌++◌, Option, Some, None, refl, sym, ap, subst, arith, FitsSigned, ◌&&◌}
+use Rattle.std.proofs.Common.{◌≡◌, ◌∙◌, ℕ, ◌+◌, ◌*◌, ◌/◌, ◌%◌, ◌<◌, ℤ, pos, negsuc, ◌+ℤ◌, ◌-ℤ◌, ◌*ℤ◌, ◌≤ℤ◌, Bool, true, false, cond, T, List, [], ◌∷◌, Option, Some, None, refl, sym, ap, subst, arith, FitsSigned, ◌&&◌}
 use Rattle.std.specs.Prelude.{int_le, int_div, int_rem, if◌then◌else◌}
-use Rattle.std.specs.Int.{w32, cast_unsigned, cast_signed, int_wrap, int_bit_and}
+use Rattle.std.specs.Int.{w32, cast_unsigned, int_wrap, int_bit_and}
 use Rattle.std.specs.Int.RustNames.{bit_and}
 use Rattle.std.specs.List.{All}
 use Rattle.std.proofs.Math.IntN.{*ℤ_comm}
 use Rattle.std.proofs.Math.Nat.{div-add-mod, mod-lt}
-use Rattle.std.proofs.lemmas.Bool.{and_parts, false≢true}
+use Rattle.std.proofs.lemmas.Bool.{and_parts}
 use Rattle.std.proofs.lemmas.Int.{ints, SFits-int_wrap, int_wrap_fits, to_z_pos}
 use Rattle.std.proofs.lemmas.Nat.{and_le_r}
 use Rattle.std.proofs.lemmas.List.Elements.{All-nil, All-cons, All-append}
@@ -15,9 +15,8 @@ use Rattle.syntax.specs.declared.operator.Width.{Width}
 use Rattle.syntax.specs.declared.operator.Width.TheVariants.{Bits64, Bits32}
 use Rattle.syntax.specs.declared.operator.BinaryOperator.{BinaryOperator}
 use Rattle.syntax.specs.declared.operator.BinaryOperator.TheVariants.{Add, Subtract, Multiply, AddNoWrap, SubtractNoWrap, MultiplyNoWrap, SignedDivide, UnsignedDivide, SignedRemainder, UnsignedRemainder, ShiftLeft, LogicalShiftRight, ArithmeticShiftRight, And, Or, ExclusiveOr}
-use Rattle.syntax.specs.declared.operator.Conversion.{Conversion}
 use Rattle.syntax.specs.declared.operator.Conversion.TheVariants.{Truncate, SignExtend, ZeroExtend}
-use Rattle.machine_core.specs.Arithmetic.{Answer, Gives, Traps, Undefined, BadDivisor, word, least, greatest, fits, divides_signed, if_divisor, without_wrap, binary, converts}
+use Rattle.machine_core.specs.Arithmetic.{Gives, Traps, Undefined, BadDivisor, word, least, greatest, fits, divides_signed, binary}
 use Rattle.linear.specs.declared.form.Fact.{Fact}
 use Rattle.linear.specs.Shown.{AllHold}
 use Rattle.linear.proofs.Values.{associates}

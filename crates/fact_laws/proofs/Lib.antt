@@ -7,3 +7,4 @@ pub mod Edges
 pub mod Calls
 pub mod Kept
 pub mod Traps
+pub mod Handed

@@ -1,11 +1,11 @@
 -- What stands at a place, and what the rules say of it.
-use Rattle.std.proofs.Common.{◌≡◌, ◌≢◌, ◌∙◌, ℕ, zero, suc, ◌+◌, ◌<◌, ◌≤◌, ℤ, pos, negsuc, ◌≤ℤ◌, Bool, true, false, List, [], ◌∷◌, ◌++◌, length, take, get_or, Option, Some, None, ◌⊎◌, inl, inr, refl, sym, ap, subst, arith, slice_get, add-one, map}
+use Rattle.std.proofs.Common.{◌≡◌, ◌∙◌, ℕ, zero, suc, ◌<◌, ◌≤◌, ℤ, Bool, true, false, List, [], ◌∷◌, ◌++◌, length, take, get_or, Option, Some, None, ◌⊎◌, inl, inr, refl, sym, ap, subst, arith, slice_get, add-one, map}
 use Rattle.std.specs.List.{All, Any, Contains}
 use Rattle.std.proofs.lemmas.Bool.{cases_eq}
 use Rattle.std.proofs.lemmas.List.{take_all, get_or-map, length-map}
 use Rattle.std.proofs.lemmas.List.Elements.{All-nil, All-cons, All-head, All-tail, All-append, All-more, Contains-get_or}
 use Rattle.std.proofs.lemmas.Option.{slice_get_cases, slice_get_within, get_or_from_slice_get}
-use Rattle.machine_core.specs.Frames.{Item, Does, Ends, item_of, item_at, block_at, and_then}
+use Rattle.machine_core.specs.Frames.{Item, Does, Ends, item_of, item_at, and_then}
 use Rattle.linear.specs.Forms.{Holds}
 use Rattle.linear.specs.Shown.{AllHold}
 use Rattle.linear.specs.declared.form.Fact.{Fact}
@@ -20,7 +20,6 @@ use Rattle.program.specs.declared.instruction.Terminator.{Terminator}
 use Rattle.cfg.specs.declared.structure.Move.{Move}
 use Rattle.cfg.specs.declared.refusal.Broken.{Broken}
 use Rattle.ranges.specs.declared.edge.EdgeSums.{EdgeSums}
-use Rattle.ranges.specs.declared.sum.Sum.{Sum}
 use Rattle.ranges.specs.declared.sum.Obligation.{Obligation}
 use Rattle.ranges.specs.declared.table.EdgeFacts.{EdgeFacts}
 use Rattle.ranges.specs.Sums.{shows, is_met, facts_of}
@@ -125,6 +124,9 @@ shows_nowhere [] (Some ending) (suc index) l = refl
 shows_nowhere (s ∷ steps) ending zero l = absurd (omega arith)
 shows_nowhere (s ∷ steps) ending (suc index) l = shows_nowhere steps ending index (omega (arith, l))
 
+pub known_end : (prog : Program) (fn b : ℕ) (o : BlockOf prog fn b) → known_at prog fn b (length o.block.steps) ≡ facts_at_end prog.functions o.function b o.block
+known_end prog fn b o = known_is prog fn b o (length o.block.steps) ∙ ap (λ ls. with_shows (before prog fn b o (length o.block.steps)) ls) (shows_at_end o.block.steps o.block.ending)
+
 pub next_is : (functions : List Function) (known : List Fact) (steps : List Step) (index : ℕ) (step : Step) → slice_get steps index ≡ Some step →
     facts_before functions known steps (suc index) ≡ after_step functions (facts_before functions known steps index) step
 next_is functions known [] index step h = cc
@@ -194,9 +196,6 @@ module _ (prog : Program) (right : AreRangesRight prog) (fn b : ℕ) (o : BlockO
   at_end v None is all = nothing_more v (before prog fn b o (length o.block.steps)) all
   at_end v (Some ending) is all = lines_hold v (before prog fn b o (length o.block.steps)) ending.shows (λ x h. end_right ending is x (inl h)) all
 
-  pub known_end : known_at prog fn b (length o.block.steps) ≡ facts_at_end prog.functions o.function b o.block
-  known_end = known_is prog fn b o (length o.block.steps) ∙ ap (λ ls. with_shows (before prog fn b o (length o.block.steps)) ls) (shows_at_end o.block.steps o.block.ending)
-
   -- the facts before a place hold, and so do those at it
   pub arrives : (v : ℕ → ℤ) (index : ℕ) → AllHold v (before prog fn b o index) → AllHold v (known_at prog fn b index)
   arrives v index all = subst (AllHold v) (sym (known_is prog fn b o index)) (from (slice_get_cases o.block.steps index).1)
@@ -223,7 +222,7 @@ module _ (prog : Program) (right : AreRangesRight prog) (fn b : ℕ) (o : BlockO
 
   pub end_met : (ending : Ending) → o.block.ending ≡ Some ending → All (λ y. is_met (known_at prog fn b (length o.block.steps)) y ≡ true) (owed_at_end o.function ending.terminator)
   end_met ending is =
-      subst (λ ks. All (λ y. is_met ks y ≡ true) (owed_at_end o.function ending.terminator)) (sym known_end)
+      subst (λ ks. All (λ y. is_met ks y ≡ true) (owed_at_end o.function ending.terminator)) (sym (known_end prog fn b o))
       (met (facts_at_end prog.functions o.function b o.block) ending.line (owed_at_end o.function ending.terminator) (λ x h. end_right ending is x (inr (inl h))))
 
   pub edge_met : (ending : Ending) → o.block.ending ≡ Some ending → (e : EdgeSums) → Contains (edges_out o.block.steps ending.terminator) e →
@@ -232,7 +231,7 @@ module _ (prog : Program) (right : AreRangesRight prog) (fn b : ℕ) (o : BlockO
       let known : List Fact = facts_at_end prog.functions o.function b o.block in
       let there : EdgeFacts = edge_facts o.function.blocks b known e in
       let in_map : Contains (map (edge_facts o.function.blocks b known) (edges_out o.block.steps ending.terminator)) there = Contains_map (edge_facts o.function.blocks b known) (edges_out o.block.steps ending.terminator) e c in
-      subst (λ ks. All (λ y. is_met (ks ++ facts_of e.sums) y ≡ true) (edge_owed o.function.blocks (edge_facts o.function.blocks b ks e))) (sym known_end)
+      subst (λ ks. All (λ y. is_met (ks ++ facts_of e.sums) y ≡ true) (edge_owed o.function.blocks (edge_facts o.function.blocks b ks e))) (sym (known_end prog fn b o))
       (met (known ++ facts_of e.sums) ending.line (edge_owed o.function.blocks there)
       (λ x h. end_right ending is x (inr (inr (Any_of (λ (d : EdgeFacts). AreUnmet d.facts ending.line (edge_owed o.function.blocks d) x) (map (edge_facts o.function.blocks b known) (edges_out o.block.steps ending.terminator)) there in_map h)))))
 

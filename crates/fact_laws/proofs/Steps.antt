@@ -1,25 +1,21 @@
 -- Behind an instruction of a block the facts of its place hold on, and what it makes known with them.
-use Rattle.std.proofs.Common.{◌≡◌, ◌≢◌, ◌∙◌, ℕ, zero, suc, ◌<◌, ℤ, pos, ◌≤ℤ◌, List, [], ◌∷◌, ◌++◌, Option, Some, None, ◌⊎◌, inl, inr, refl, sym, ap, subst, arith}
+use Rattle.std.proofs.Common.{◌≡◌, ◌≢◌, ◌∙◌, ℕ, suc, ◌<◌, pos, ◌≤ℤ◌, List, ◌++◌, Option, Some, inl, inr, refl, sym, ap, subst, arith}
 use Rattle.std.specs.List.{All}
 use Rattle.std.proofs.lemmas.Bool.{cases_eq}
-use Rattle.std.proofs.lemmas.List.Elements.{All-append, All-weaker}
+use Rattle.std.proofs.lemmas.List.Elements.{All-append}
 use Rattle.machine_core.specs.Arithmetic.{compares}
 use Rattle.machine_core.specs.Frames.{Truth, Registers, Frame, Does, item_at, word_of}
 use Rattle.linear.specs.Forms.{Combination, Holds, value}
 use Rattle.linear.specs.Shown.{AllHold}
 use Rattle.linear.specs.declared.form.Fact.{Fact}
-use Rattle.linear.specs.declared.form.RegisterId.{RegisterId}
-use Rattle.linear.specs.declared.form.Term.{Term}
 use Rattle.linear.proofs.Values.{value_same}
-use Rattle.syntax.specs.declared.operator.Predicate.{Predicate}
-use Rattle.syntax.specs.declared.operator.Width.{Width}
 use Rattle.program.specs.declared.function.Program.{Program}
 use Rattle.program.specs.declared.instruction.Instruction.{Instruction}
 use Rattle.program.specs.declared.instruction.Instruction.TheVariants as instruction
 use Rattle.program.specs.declared.instruction.Operand.{Operand}
 use Rattle.program.specs.declared.instruction.Operand.TheVariants.{Number, Register}
 use Rattle.ranges.specs.Sums.{facts_of}
-use Rattle.ranges.specs.Truth.{operand_value, IsTrueAt}
+use Rattle.ranges.specs.Truth.{operand_value}
 use Rattle.ranges.specs.Learned.{learned}
 use Rattle.ranges.specs.Places.{with_shows}
 use Rattle.ranges.proofs.Truth.{facts_true}
@@ -29,7 +25,7 @@ use Rattle.fact_laws.specs.Known.{known_at, HoldsTest, KnownHold}
 use Rattle.fact_laws.specs.Owing.{IsOther, IsUntouched, IsSteady, IsStable}
 use Rattle.fact_laws.specs.Kept.{AreRangesRight}
 use Rattle.fact_laws.proofs.Effects.{IsLearned}
-use Rattle.fact_laws.proofs.Places.{StepAt, step_at, before, known_is, known_step, next_is, arrives}
+use Rattle.fact_laws.proofs.Places.{StepAt, step_at, before, known_step, next_is, arrives}
 
 -- registers that differ in this one alone
 abbrev pub Others : Option ℕ → Registers → Registers → Type 0

@@ -1,14 +1,12 @@
 -- What sums and inequalities say of values.
-use Rattle.std.proofs.Common.{◌≡◌, ◌≢◌, ◌∙◌, ℕ, ℤ, pos, negsuc, ◌+ℤ◌, ◌-ℤ◌, ◌*ℤ◌, ◌≤ℤ◌, List, [], ◌∷◌, ◌++◌, Some, map, refl, sym, ap, subst, arith}
+use Rattle.std.proofs.Common.{◌≡◌, ◌∙◌, ℕ, ℤ, pos, negsuc, ◌+ℤ◌, ◌-ℤ◌, ◌*ℤ◌, ◌≤ℤ◌, List, [], ◌∷◌, ◌++◌, Some, refl, sym, ap, subst, arith}
 use Rattle.std.specs.List.{All}
 use Rattle.std.proofs.lemmas.Int.{ints}
 use Rattle.std.proofs.lemmas.List.Elements.{All-head, All-tail, All-map, All-weaker}
 use Rattle.std.proofs.Math.IntN.{*ℤ-zero}
 use Rattle.machine_core.specs.Frames.{Registers, word_at}
-use Rattle.linear.specs.declared.form.Fact.{Fact}
-use Rattle.linear.specs.declared.form.RegisterId.{RegisterId}
 use Rattle.linear.specs.declared.form.Term.{Term}
-use Rattle.linear.specs.Forms.{value_of, value}
+use Rattle.linear.specs.Forms.{value_of}
 use Rattle.linear.specs.Shown.{AllHold}
 use Rattle.linear.proofs.Values.{distributes, associates}
 use Rattle.program.specs.declared.annotation.Inequality.{Inequality}
@@ -16,8 +14,7 @@ use Rattle.program.specs.declared.instruction.Operand.{Operand}
 use Rattle.program.specs.declared.instruction.Operand.TheVariants.{Number, Register}
 use Rattle.cfg.specs.declared.structure.Move.{Move}
 use Rattle.ranges.specs.declared.sum.Part.{Part}
-use Rattle.ranges.specs.declared.sum.Sum.{Sum}
-use Rattle.ranges.specs.Inequalities.{operand_for, part_of, parts_of, difference_of, differences_of}
+use Rattle.ranges.specs.Inequalities.{operand_for, parts_of, difference_of, differences_of}
 use Rattle.ranges.specs.Truth.{operand_value, parts_value, sum_value, IsTrueAt}
 use Rattle.ranges.specs.Places.{stated}
 use Rattle.ranges.proofs.Truth.{facts_true}

@@ -1,6 +1,6 @@
 -- Where facts hold, no instruction traps for an index, a divisor, an overflow or a shift.
-use Rattle.std.proofs.Common.{◌≡◌, ◌≢◌, ◌∙◌, ℕ, zero, suc, ◌+◌, ◌-◌, ◌<◌, ◌≤◌, ◌^◌, ℤ, pos, negsuc, ◌+ℤ◌, ◌-ℤ◌, ◌*ℤ◌, ◌≤ℤ◌, ◌<ℤ◌, Bool, true, false, cond, T, eqb, eq-eqb, ◌&&◌, List, [], ◌∷◌, Option, Some, None, ◌⊎◌, inl, inr, refl, sym, ap, subst, arith, slice_get, is_some}
-use Rattle.std.specs.Prelude.{int_le, int_lt, not, nat_lt}
+use Rattle.std.proofs.Common.{◌≡◌, ◌∙◌, ℕ, zero, suc, ℤ, pos, negsuc, ◌+ℤ◌, ◌-ℤ◌, ◌*ℤ◌, ◌≤ℤ◌, ◌<ℤ◌, Bool, true, false, cond, T, eqb, eq-eqb, ◌&&◌, List, [], ◌∷◌, Option, Some, None, ◌⊎◌, inl, inr, refl, sym, ap, subst, arith, slice_get}
+use Rattle.std.specs.Prelude.{int_le, int_lt, not}
 use Rattle.std.specs.List.{All, Any}
 use Rattle.std.specs.Ordering.{int_eq}
 use Rattle.std.proofs.lemmas.Bool.{and_from}
@@ -8,21 +8,19 @@ use Rattle.std.proofs.lemmas.Bool.Decides.{Decides-int_eq, Decides-ltb}
 use Rattle.std.proofs.lemmas.Int.{ints}
 use Rattle.std.proofs.lemmas.List.Elements.{All-head, All-tail, All-weaker}
 use Rattle.machine_core.specs.Paths.{Path, same_path}
-use Rattle.machine_core.specs.Cells.{Object, Cell, Memory}
-use Rattle.machine_core.specs.Arithmetic.{Trap, Undefined, BadIndex, BadDivisor, Unmatched, Answer, Gives, Traps, least, greatest, fits, divides_signed, divides_unsigned, is_amount, if_divisor, if_amount, binary}
-use Rattle.machine_core.specs.Frames.{Value, Word, Pointer, Registers, Frame, Role, Child, Body, Item, Does, Ends, item_at, cells_in, cells_of, word_at, truth_of, region_of, object_at, cell_at}
+use Rattle.machine_core.specs.Cells.{Cell, Memory}
+use Rattle.machine_core.specs.Arithmetic.{Trap, Undefined, BadIndex, BadDivisor, Unmatched, Answer, Gives, Traps, least, greatest, fits, divides_signed, divides_unsigned, is_amount, binary}
+use Rattle.machine_core.specs.Frames.{Value, Registers, Frame, Role, Child, Body, Does, Ends, cells_in, cells_of, word_at, truth_of, region_of, object_at, cell_at}
 use Rattle.machine_core.specs.Frames.{global_cells as declared_global, alloca_cells as declared_alloca, parameter_cells as declared_parameter}
-use Rattle.machine_core.specs.Effect.{Effect, Action, Plain, Detach, Reattach, Sync, Call, Return, stops, sets, answers, given, points, loads, stores, stores_zeros, adds_to, enters, jumps, case_for, registers_along, traps, if_own, syncs, reattaches, argument_values, calls, returns, returns_value, instruction_action, terminator_action, item_action, action_of}
+use Rattle.machine_core.specs.Effect.{Effect, Action, Plain, Detach, Reattach, Sync, Call, Return, stops, sets, answers, given, points, loads, stores, stores_zeros, adds_to, enters, jumps, case_for, registers_along, traps, if_own, syncs, reattaches, argument_values, calls, returns, returns_value, instruction_action, terminator_action, item_action}
 use Rattle.machine_core.proofs.Actions.{same_path_itself}
 use Rattle.linear.specs.declared.form.Fact.{Fact}
 use Rattle.linear.specs.declared.form.RegisterId.{RegisterId}
-use Rattle.linear.specs.Shown.{AllHold}
 use Rattle.linear.proofs.Values.{associates}
 use Rattle.syntax.specs.declared.operator.Width.{Width}
 use Rattle.syntax.specs.declared.operator.Width.TheVariants.{Bits64, Bits32}
 use Rattle.syntax.specs.declared.operator.BinaryOperator.{BinaryOperator}
 use Rattle.syntax.specs.declared.operator.BinaryOperator.TheVariants.{Add, Subtract, Multiply, AddNoWrap, SubtractNoWrap, MultiplyNoWrap, SignedDivide, UnsignedDivide, SignedRemainder, UnsignedRemainder, ShiftLeft, LogicalShiftRight, ArithmeticShiftRight, And, Or, ExclusiveOr}
-use Rattle.program.specs.declared.identifier.FunctionId.{FunctionId}
 use Rattle.program.specs.declared.identifier.ObjectName.{ObjectName}
 use Rattle.program.specs.declared.identifier.ObjectName.TheVariants.{Global, Alloca, Parameter}
 use Rattle.program.specs.declared.function.Alloca.{Alloca as AllocaKind}
@@ -31,7 +29,6 @@ use Rattle.program.specs.declared.function.Global.{Global as GlobalKind}
 use Rattle.program.specs.declared.function.Parameter.{Parameter as ParameterKind}
 use Rattle.program.specs.declared.function.Parameter.TheVariants as parameter
 use Rattle.program.specs.declared.function.Program.{Program}
-use Rattle.program.specs.declared.instruction.Argument.{Argument}
 use Rattle.program.specs.declared.instruction.Instruction.{Instruction}
 use Rattle.program.specs.declared.instruction.Instruction.TheVariants as instruction
 use Rattle.program.specs.declared.instruction.Operand.{Operand}
@@ -47,11 +44,10 @@ use Rattle.ranges.specs.Owed.{must, half, last_bit, is_not_zero, is_not_least_by
 use Rattle.ranges.specs.Owed.{greatest as greatest_owed, is_amount as amount_owed, cells_of as cells_owed, global_cells, alloca_cells, parameter_cells}
 use Rattle.ranges.proofs.Truth.{met_true}
 use Rattle.bridge.specs.Costs.{numbers}
-use Rattle.fact_laws.specs.Known.{known_at, KnownHold}
-use Rattle.fact_laws.specs.Kept.{AreRangesRight}
-use Rattle.fact_laws.specs.Traps.{IsThere, IsFull, FindsAll, MayEnd, MayDo, IsReady, NoTraps}
+use Rattle.fact_laws.specs.Known.{known_at}
+use Rattle.fact_laws.specs.Traps.{IsThere, FindsAll, MayEnd, NoTraps}
 use Rattle.fact_laws.proofs.Sums.{word_value}
-use Rattle.fact_laws.proofs.Learning.{natural, at_least_zero, scaled_is}
+use Rattle.fact_laws.proofs.Learning.{at_least_zero, scaled_is}
 use Rattle.fact_laws.proofs.Places.{StepAt, step_at, step_met}
 
 -- ---- choices

@@ -1,5 +1,5 @@
 -- The law: facts that hold are kept along the serial run, and what a function's `ensures` say holds of what it returns.
-use Rattle.std.specs.Prelude.{◌≡◌, ℕ, List, Option, Some, None, Bool, true, is_some, All, slice_get, length, ℤ, if◌then◌else◌, ◌==◌}
+use Rattle.std.specs.Prelude.{◌≡◌, ℕ, Option, Some, None, Bool, true, is_some, All, slice_get, length, ℤ, if◌then◌else◌, ◌==◌}
 use Rattle.machine_core.specs.Paths.{Path}
 use Rattle.machine_core.specs.Cells.{Memory}
 use Rattle.machine_core.specs.Frames.{Registers, Frame}

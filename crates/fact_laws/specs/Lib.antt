@@ -2,3 +2,4 @@ pub mod Known
 pub mod Owing
 pub mod Kept
 pub mod Traps
+pub mod Handed

@@ -1,5 +1,5 @@
 -- What the phases on names, types, the graph, regions and definedness owe the law on facts.
-use Rattle.std.specs.Prelude.{◌≡◌, ◌≢◌, ℕ, ◌+◌, ◌<◌, ◌≤◌, List, [], ◌∷◌, length, Option, Some, None, Bool, true, false, ◌⊎◌, is_some, All, slice_get, ℤ}
+use Rattle.std.specs.Prelude.{◌≡◌, ◌≢◌, ℕ, ◌<◌, ◌≤◌, List, [], ◌∷◌, length, Option, Some, None, true, false, ◌⊎◌, is_some, All, slice_get, ℤ}
 use Rattle.machine_core.specs.Arithmetic.{fits}
 use Rattle.machine_core.specs.Frames.{Registers, Frame, Does, Ends, item_at, phis_at, word_at}
 use Rattle.linear.specs.declared.form.RegisterId.{RegisterId}

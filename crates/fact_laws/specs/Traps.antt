@@ -1,8 +1,8 @@
 -- The law: where facts hold, no instruction traps for an index, a divisor, an overflow or a shift.
-use Rattle.std.specs.Prelude.{◌≡◌, ℕ, List, Option, Some, None, Bool, true, is_some, cond, ℤ}
+use Rattle.std.specs.Prelude.{◌≡◌, Option, Some, None, Bool, true, is_some, cond, ℤ}
 use Rattle.machine_core.specs.Paths.{Path}
 use Rattle.machine_core.specs.Cells.{Cell, Memory}
-use Rattle.machine_core.specs.Frames.{Frame, Role, Child, Body, Item, Does, Ends, item_at, word_at, truth_of, region_of, object_at, cell_at}
+use Rattle.machine_core.specs.Frames.{Frame, Child, Body, Item, Does, Ends, item_at, word_at, truth_of, region_of, object_at, cell_at}
 use Rattle.machine_core.specs.Effect.{Effect, Plain, registers_along, case_for, argument_values, action_of}
 use Rattle.program.specs.declared.instruction.Instruction.{Instruction}
 use Rattle.program.specs.declared.instruction.Instruction.TheVariants as instruction

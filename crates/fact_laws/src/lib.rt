@@ -5,8 +5,10 @@
 //! - `Owing`: what other phases owe for it: types and the graph, definedness, and numbers of their widths.
 //! - `Kept`: the law that facts are kept.
 //! - `Traps`: the law that nothing traps where they hold.
+//! - `Handed`: the facts as the rules on cost look for them, from the start on.
 #![tactic(auto)]
 
+ghost use Rattle.fact_laws.specs.Handed.{FactsAtStart, FactsHandedOn, FactsTabled};
 ghost use Rattle.fact_laws.specs.Kept.{FactsKept};
 ghost use Rattle.fact_laws.specs.Traps.{NoTraps};
 
@@ -21,4 +23,20 @@ pub fn facts_kept()
 /// value by -1, no sum, difference or product under `nsw` passes its width, and no shift is by the width or more.
 pub fn no_traps()
     ensures { NoTraps }
+{}
+
+/// The facts of places and edges hold where the rules on cost look for them: at a frame's place, on the edge that it takes, and at both targets of
+/// a detach.
+pub fn facts_handed_on()
+    ensures { FactsHandedOn }
+{}
+
+/// Where the arguments meet what `main` requires, the facts hold in the first frame.
+pub fn facts_at_start()
+    ensures { FactsAtStart }
+{}
+
+/// The facts of a place are those of the table that `check_ranges` answers.
+pub fn facts_tabled()
+    ensures { FactsTabled }
 {}
