@@ -148,8 +148,7 @@ module _ (d : ℕ) where
   differences_lack : (moves : List Move) (qs : List Inequality) → All (IsOver (λ r. OperandLacks (operand_for moves (record { 0 = r })))) qs → SumsLack (differences_of moves qs)
   differences_lack moves [] all = tt
   differences_lack moves (q ∷ qs) all =
-      let h = All-head (IsOver (λ r. OperandLacks (operand_for moves (record { 0 = r })))) q qs all in
-      (
+      let h = All-head (IsOver (λ r. OperandLacks (operand_for moves (record { 0 = r })))) q qs all in (
         both_lack (parts_of moves (pos 1) q.high.terms) (parts_of moves (negsuc 0) q.low.terms) (put_lacks moves (pos 1) q.high.terms h.high) (put_lacks moves (negsuc 0) q.low.terms h.low),
         differences_lack moves qs (All-tail (IsOver (λ r. OperandLacks (operand_for moves (record { 0 = r })))) q qs all),
       )

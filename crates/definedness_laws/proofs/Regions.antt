@@ -51,10 +51,10 @@ around_length outer (d ∷ ds) (inl e) = let n : length outer ≡ suc (length ds
 around_length outer (d ∷ ds) (inr h) = let n = around_length outer ds h in omega (arith, n)
 
 -- the step that starts a region
-started_there : (steps : List Step) (r : RegisterId) → Starts r steps → (i : ℕ) × (s : Step) × (slice_get steps i ≡ Some s) × (s.instruction ≡ instruction.StartRegion r)
+pub started_there : (steps : List Step) (r : RegisterId) → Starts r steps → (i : ℕ) × (s : Step) × (slice_get steps i ≡ Some s) × (s.instruction ≡ instruction.StartRegion r)
 started_there steps r h = (h.0, h.1, slice_get-get_or steps h.0 h.1 h.2 ∙ ap (λ x. Some x) h.3, h.4)
 
-start_defines : (function : Function) (b : ℕ) (block : Block) (r : RegisterId) → slice_get function.blocks b ≡ Some block → (h : Starts r block.steps) → StepDefines function b (started_there block.steps r h).0 r.0
+pub start_defines : (function : Function) (b : ℕ) (block : Block) (r : RegisterId) → slice_get function.blocks b ≡ Some block → (h : Starts r block.steps) → StepDefines function b (started_there block.steps r h).0 r.0
 start_defines function b block r at h =
     let s = started_there block.steps r h in
     record { block = block; step = s.1; at_block = at; at_step = s.2; defines = ap dest_of s.3 }
@@ -72,7 +72,7 @@ values_length f (a ∷ more) vs e = by_first (argument_value f a) e (λ us k. va
     by_first None k rest = absurd (cc)
     by_first (Some v) k rest = by_rest v (argument_values f more) refl k rest
 
-value_within : (vs : List Value) (r : ℕ) → is_some (slice_get vs r) ≡ true → r < length vs
+pub value_within : (vs : List Value) (r : ℕ) → is_some (slice_get vs r) ≡ true → r < length vs
 value_within vs r h = by (slice_get vs r) refl h
   where
     by : (o : Option Value) → slice_get vs r ≡ o → is_some o ≡ true → r < length vs
@@ -159,7 +159,7 @@ module _ (prog : Program) (named : IsNamed prog) (right : AreRegionsRight prog) 
       let two : placed.function ≡ function = same_some (slice_get prog.functions f.function) placed.function function placed.is.at_function at in
       let mine : HasTask (graph_of function).blocks f.block placed.task = subst (λ (y : Function). HasTask (graph_of y).blocks f.block placed.task) two placed.has_task in
       let ahead : HasTask (graph_of function).blocks to placed.task = subst (λ ds. HasTask (graph_of function).blocks to ds) (same placed.task)
-          (subst (λ (y : Function). HasTask (graph_of y).blocks to (task_along w f.block placed.task)) one (there.along placed.task (subst (λ (y : Function). HasTask (graph_of y).blocks f.block placed.task) (sym one) mine))) in
+      (subst (λ (y : Function). HasTask (graph_of y).blocks to (task_along w f.block placed.task)) one (there.along placed.task (subst (λ (y : Function). HasTask (graph_of y).blocks f.block placed.task) (sym one) mine))) in
       let target : IsBlock prog f.function to function there.target = subst (λ (y : Function). IsBlock prog f.function to y there.target) one there.is in
       subst (λ ds. HasTask (graph_of function).blocks f.block ds) (same_task f.function to function there.target target placed.task task ahead here) mine
 
