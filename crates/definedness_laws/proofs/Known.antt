@@ -1,5 +1,5 @@
 -- What is known at a place names no register that the place's step defines.
-use Rattle.std.proofs.Common.{◌≡◌, ◌≢◌, ℕ, zero, suc, ◌+◌, ◌<◌, ◌≤◌, ◌⊎◌, inl, inr, List, [], ◌∷◌, ◌++◌, length, map, Option, Some, None, Bool, true, false, cond, eqb, is_some, refl, sym, ap, subst, ◌∙◌, arith, slice_get, ℤ, pos, negsuc, ◌+ℤ◌, ◌*ℤ◌, ◌-ℤ◌}
+use Rattle.std.proofs.Common.{◌≡◌, ◌≢◌, ℕ, zero, suc, ◌+◌, ◌<◌, ◌≤◌, ◌⊎◌, inl, inr, List, [], ◌∷◌, ◌++◌, length, Option, Some, None, Bool, true, false, cond, is_some, refl, sym, ap, subst, ◌∙◌, arith, slice_get, ℤ, pos, negsuc, ◌+ℤ◌, ◌*ℤ◌, ◌-ℤ◌}
 use Rattle.std.specs.Prelude.{nat_lt, unsigned_abs, int_le, slice_set, insert}
 use Rattle.std.specs.List.{All, Contains, flat_map, prefix_len}
 use Rattle.std.specs.Option.{option_map, option_to_list}
@@ -29,14 +29,13 @@ use Rattle.program.specs.declared.instruction.Operand.{Operand}
 use Rattle.program.specs.declared.instruction.Operand.TheVariants.{Number, Register}
 use Rattle.program.specs.declared.instruction.Step.{Step}
 use Rattle.cfg.specs.declared.structure.Move.{Move}
-use Rattle.definedness.specs.declared.act.Act.{Act}
 use Rattle.definedness.specs.declared.act.Act.TheVariants.{Needs}
-use Rattle.definedness.specs.RegisterActs.{register_needs, operand_needs, form_needs, inequality_needs, object_needs, argument_needs, instruction_needs}
+use Rattle.definedness.specs.RegisterActs.{register_needs, operand_needs, form_needs, inequality_needs, argument_needs, instruction_needs}
 use Rattle.ranges.specs.declared.sum.Part.{Part}
 use Rattle.ranges.specs.declared.sum.Sum.{Sum}
-use Rattle.ranges.specs.Sums.{one, two, three, with_operand, with_parts, start_of, form_of, fact_of, facts_of, shows}
-use Rattle.ranges.specs.Inequalities.{operand_for, part_of, parts_of, difference_of, differences_of, argument_operand, argument_moves, result_of, result_moves, register_operand, call_moves}
-use Rattle.ranges.specs.Learned.{is_scale, scale_number, scale_left, scale_right, scale_of, is_multiple, is_product, is_between, is_quotient, is_divisor, quotient_by, remainder_by, masked_by, binary_sums, is_32_bits, conversion_sums, call_sums, learned}
+use Rattle.ranges.specs.Sums.{one, with_operand, with_parts, start_of, form_of, fact_of, facts_of, shows}
+use Rattle.ranges.specs.Inequalities.{operand_for, parts_of, differences_of, argument_operand, argument_moves, result_moves, register_operand, call_moves}
+use Rattle.ranges.specs.Learned.{scale_number, scale_left, scale_right, scale_of, is_multiple, is_product, is_between, is_quotient, is_divisor, binary_sums, is_32_bits, conversion_sums, call_sums, learned}
 use Rattle.ranges.specs.Places.{stated, start_facts, with_shows, after_step, facts_before, step_shows, facts_at_step}
 use Rattle.bridge.specs.Moves.{dest_of}
 use Rattle.bridge.specs.Costs.{Lacks}
@@ -44,8 +43,7 @@ use Rattle.definedness_laws.specs.Leads.{IsBlock}
 use Rattle.definedness_laws.specs.Names.{StepDefines}
 use Rattle.definedness_laws.specs.Stable.{Names, IsSteady, IsStable}
 use Rattle.definedness_laws.specs.Known.{IsOver, IsPut, NamesParameters, KnownIsStable}
-use Rattle.definedness_laws.proofs.Lists.{none_within, first_within, at_within, flat_within}
-use Rattle.definedness_laws.proofs.Items.{same_some}
+use Rattle.definedness_laws.proofs.Lists.{none_within, first_within, flat_within}
 
 module _ (d : ℕ) where
   abbrev pub OperandLacks : Operand → Type 0

@@ -1,5 +1,5 @@
 -- Along the serial run each frame stands in a block whose task suits its role.
-use Rattle.std.proofs.Common.{◌≡◌, ℕ, zero, suc, ◌+◌, ◌<◌, ◌≤◌, ◌⊎◌, inl, inr, List, [], ◌∷◌, length, Option, Some, None, true, false, is_some, refl, ap, subst, ◌∙◌, arith, slice_get}
+use Rattle.std.proofs.Common.{◌≡◌, ℕ, zero, suc, ◌<◌, ◌≤◌, List, [], ◌∷◌, length, Option, Some, None, true, false, is_some, refl, ap, subst, ◌∙◌, arith, slice_get}
 use Rattle.std.specs.Prelude.{IsSome}
 use Rattle.std.proofs.lemmas.List.Elements.{All-contains}
 use Rattle.std.proofs.lemmas.Option.{slice_get_within}
@@ -22,7 +22,7 @@ use Rattle.program.specs.declared.instruction.Terminator.TheVariants as terminat
 use Rattle.cfg.specs.declared.structure.Way.{Way}
 use Rattle.cfg.specs.declared.structure.Way.TheVariants as way
 use Rattle.cfg.specs.Edges.{graph_of}
-use Rattle.cfg.specs.Rules.{IsFunctionRight, IsGraphRight}
+use Rattle.cfg.specs.Rules.{IsFunctionRight}
 use Rattle.region_match.specs.Rules.{ending_at}
 use Rattle.region_match.specs.Tasks.{task_along, task_on, HasTask}
 use Rattle.bridge.specs.Moves.{Moves, is_next, is_along, SyncsTo}

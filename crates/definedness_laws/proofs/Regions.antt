@@ -1,15 +1,12 @@
 -- Along the serial run the regions of a frame's task are its own.
-use Rattle.std.proofs.Common.{◌≡◌, ◌≢◌, ℕ, zero, suc, ◌+◌, ◌<◌, ◌≤◌, ◌⊎◌, inl, inr, List, [], ◌∷◌, length, Option, Some, None, Bool, true, false, eqb, eq-eqb, is_some, refl, sym, ap, subst, ◌∙◌, arith, slice_get, get_or, ℤ}
-use Rattle.std.specs.List.{Contains}
+use Rattle.std.proofs.Common.{◌≡◌, ◌≢◌, ℕ, suc, ◌<◌, ◌≤◌, inl, inr, List, [], ◌∷◌, length, Option, Some, None, true, eq-eqb, is_some, refl, sym, ap, subst, ◌∙◌, arith, slice_get, ℤ}
 use Rattle.std.proofs.lemmas.Option.{slice_get-get_or, slice_get_within}
 use Rattle.machine_core.specs.Paths.{Path}
 use Rattle.machine_core.specs.Cells.{Memory}
 use Rattle.machine_core.specs.Frames.{Value, Region, Registers, Frame, Does, Ends, item_at, phis_at, set_register, and_then}
 use Rattle.machine_core.specs.Effect.{Effect, Plain, Sync, Call, Detach, sets, with_phis, argument_value, argument_values, instruction_action, item_action, action_of}
 use Rattle.machine_core.specs.State.{went, detached, continued, synced, called, waiting, resumed}
-use Rattle.machine_core.specs.SerialConditions.{KeptSerially}
 use Rattle.linear.specs.declared.form.RegisterId.{RegisterId}
-use Rattle.program.specs.declared.identifier.BlockId.{BlockId}
 use Rattle.program.specs.declared.function.Block.{Block}
 use Rattle.program.specs.declared.function.Function.{Function}
 use Rattle.program.specs.declared.function.Program.{Program}
@@ -26,13 +23,13 @@ use Rattle.cfg.specs.Edges.{graph_of}
 use Rattle.region_match.specs.Rules.{Starts, IsStarted, IsEndingWrong}
 use Rattle.region_match.specs.Tasks.{task_along, HasTask}
 use Rattle.region_match.specs.Matched.{AreRegionsRight}
-use Rattle.bridge.specs.Moves.{number_of, dest_of, GoesOn, Moves, is_next, is_along}
+use Rattle.bridge.specs.Moves.{dest_of, Moves, is_next, is_along}
 use Rattle.bridge.specs.Costs.{parameters_of}
 use Rattle.bridge.proofs.Moves.{moves, sync_here, syncs_along, calls_here, forks_here}
-use Rattle.definedness_laws.specs.Leads.{LeadsTo, IsBlock}
-use Rattle.definedness_laws.specs.Names.{StepDefines, PhiDefines, DefinesOnce, IsNamed}
+use Rattle.definedness_laws.specs.Leads.{IsBlock}
+use Rattle.definedness_laws.specs.Names.{StepDefines, IsNamed}
 use Rattle.definedness_laws.specs.Placed.{IsPlaced}
-use Rattle.definedness_laws.specs.Regions.{IsAround, OwnsRegions, Owns, RegionsAreKept, UsesOwnRegions, RegionsAreOwn}
+use Rattle.definedness_laws.specs.Regions.{IsAround, OwnsRegions, RegionsAreKept, RegionsAreOwn}
 use Rattle.definedness_laws.proofs.Items.{stands, same_some, block_is, step_there}
 use Rattle.definedness_laws.proofs.Placed.{Arrives, arrives}
 use Rattle.definedness_laws.proofs.Roles.{at_end}

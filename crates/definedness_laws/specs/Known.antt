@@ -1,8 +1,7 @@
 -- What is known at a place names no register that the place's step defines.
-use Rattle.std.specs.Prelude.{◌≡◌, ◌≢◌, ℕ, ◌<◌, List, [], length, Option, Some, true, is_some, ◌⊎◌, All, slice_get}
+use Rattle.std.specs.Prelude.{◌≡◌, ℕ, ◌<◌, List, length, Option, Some, true, is_some, ◌⊎◌, All, slice_get}
 use Rattle.machine_core.specs.Frames.{Does, item_at}
 use Rattle.linear.specs.declared.form.RegisterId.{RegisterId}
-use Rattle.linear.specs.declared.form.Term.{Term}
 use Rattle.linear.specs.declared.form.Fact.{Fact}
 use Rattle.program.specs.declared.annotation.Inequality.{Inequality}
 use Rattle.program.specs.declared.identifier.FunctionId.{FunctionId}

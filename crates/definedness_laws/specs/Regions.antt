@@ -1,5 +1,5 @@
 -- The region that a frame's detach or sync names was started by the frame itself.
-use Rattle.std.specs.Prelude.{◌≡◌, ◌≢◌, ℕ, List, [], ◌∷◌, Option, Some, true, is_some, ◌⊎◌, slice_get}
+use Rattle.std.specs.Prelude.{◌≡◌, ℕ, List, [], ◌∷◌, Some, true, is_some, ◌⊎◌, slice_get}
 use Rattle.machine_core.specs.Paths.{Path}
 use Rattle.machine_core.specs.Cells.{Memory}
 use Rattle.machine_core.specs.Frames.{Region, Frame, Ends, item_at}
