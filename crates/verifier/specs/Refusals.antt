@@ -3,6 +3,8 @@ use Rattle.cfg.specs.declared.refusal.GraphFault.{GraphFault}
 use Rattle.cfg.specs.declared.refusal.GraphFault.TheVariants.{Fault as GraphFaultAt, Memory as GraphMemory}
 use Rattle.definedness.specs.declared.fault.DefinedFault.{DefinedFault}
 use Rattle.definedness.specs.declared.fault.DefinedFault.TheVariants.{Fault as DefinedFaultAt, Memory as DefinedMemory}
+use Rattle.footprints.specs.declared.fault.ZoneFault.{ZoneFault}
+use Rattle.footprints.specs.declared.fault.ZoneFault.TheVariants.{Fault as ZoneFaultAt, Memory as ZoneMemory}
 use Rattle.ir_lex.specs.declared.fault.TextFault.{TextFault}
 use Rattle.ir_lex.specs.declared.fault.TextFault.TheVariants.{Fault as TextFaultAt, Memory as TextMemory}
 use Rattle.ranges.specs.declared.fault.RangeFault.{RangeFault}
@@ -37,3 +39,7 @@ by_definedness DefinedMemory = Memory
 abbrev pub by_ranges : RangeFault → Refused
 by_ranges (RangeFaultAt number line) = Fault number line
 by_ranges RangeMemory = Memory
+
+abbrev pub by_zones : ZoneFault → Refused
+by_zones (ZoneFaultAt number line) = Fault number line
+by_zones ZoneMemory = Memory

@@ -1,8 +1,9 @@
 ghost use Rattle.std.specs.Prelude.{◌≡◌};
-ghost use Rattle.verifier.specs.Refusals.{by_text, by_types, by_graph, by_regions, by_definedness, by_ranges};
+ghost use Rattle.verifier.specs.Refusals.{by_text, by_types, by_graph, by_regions, by_definedness, by_ranges, by_zones};
 
 use cfg::GraphFault;
 use definedness::DefinedFault;
+use footprints::ZoneFault;
 use ir_text::TextFault;
 use ranges::RangeFault;
 use region_match::RegionFault;
@@ -82,6 +83,17 @@ impl From<RangeFault> for Refused {
         match fault {
             RangeFault::Fault { number, line } => Refused::Fault { number, line },
             RangeFault::Memory => Refused::Memory,
+        }
+    }
+}
+
+impl From<ZoneFault> for Refused {
+    ghost from_gives = { λ fault refused. refused ≡ by_zones fault };
+
+    fn from(fault: ZoneFault) -> Refused {
+        match fault {
+            ZoneFault::Fault { number, line } => Refused::Fault { number, line },
+            ZoneFault::Memory => Refused::Memory,
         }
     }
 }

@@ -5,6 +5,7 @@ mod calls;
 mod facts;
 mod forms;
 mod graph;
+mod kernels;
 mod limits;
 mod names;
 mod pointers;
@@ -12,6 +13,7 @@ mod regions;
 mod samples;
 mod type_rules;
 mod undefined_registers;
+mod zones;
 
 use crate::refusal::Refused;
 use crate::verified::verify;

@@ -6,6 +6,7 @@ use crate::cost::declared;
 use crate::refusal::Refused;
 use cfg::{Graph, graph};
 use definedness::defined;
+use footprints::check_zones;
 use ir_text::read;
 use program::Program;
 use ranges::check_ranges;
@@ -73,7 +74,8 @@ pub fn verify(alloc: Global, state: RandomState, text: &[u8]) -> Result<Verified
     let graph = graph(alloc, typed)?;
     let regions = regions(alloc, &graph)?;
     defined(alloc, &graph, &regions)?;
-    let _facts = check_ranges(alloc, &graph, &regions)?;
+    let facts = check_ranges(alloc, &graph, &regions)?;
+    check_zones(alloc, &graph, &regions, &facts)?;
     let budget = declared(&graph.typed.program);
     Ok(Verified { graph, budget })
 }
