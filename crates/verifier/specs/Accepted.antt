@@ -10,6 +10,8 @@ use Rattle.cfg.specs.Edges.{graphs_of}
 use Rattle.cfg.specs.declared.refusal.Broken.{Broken}
 use Rattle.cfg.specs.declared.refusal.GraphFault.TheVariants.{Fault as GraphFaultAt}
 use Rattle.cfg.specs.Rules.{IsGraphRight, IsGraphFault}
+use Rattle.cost_table.specs.declared.fault.CostFault.TheVariants.{Fault as CostFaultAt}
+use Rattle.cost_table.specs.Rules.{IsCostBroken, IsCostFault}
 use Rattle.definedness.specs.declared.fault.DefinedFault.TheVariants.{Fault as DefinedFaultAt}
 use Rattle.definedness.specs.Definedness.{IsDefinednessBroken, IsDefinednessFault}
 use Rattle.footprints.specs.declared.fault.ZoneFault.{ZoneFault}
@@ -44,6 +46,10 @@ AreZonesRight program = (regions : Regions) × AreTasksOf program regions × ((b
 abbrev pub IsZoneFaultOf : Program → ZoneFault → Type 0
 IsZoneFaultOf program fault = (regions : Regions) × AreTasksOf program regions × IsZoneFault program regions fault
 
+-- no rule on cost is broken
+abbrev pub AreCostsRight : Program → Type 0
+AreCostsRight program = (b : Broken) → IsCostBroken program b → ⊥
+
 -- the rules behind the types, phase by phase
 pub record IsRight (program : Program) : Type 0 where
   pub graph : IsGraphRight program
@@ -51,6 +57,7 @@ pub record IsRight (program : Program) : Type 0 where
   pub definedness : IsDefined program
   pub ranges : AreRangesRight program
   pub zones : AreZonesRight program
+  pub costs : AreCostsRight program
 
 -- the text is read as a module, the module means this program, and the program keeps the rules
 abbrev pub IsProgramOf : List ℕ → Program → Type 0
@@ -65,7 +72,9 @@ IsFaulty program number line =
     ⊎ (AreRegionsRight program
     × (IsDefinednessFault program (DefinedFaultAt number line)
     ⊎ (IsDefined program
-    × (IsRangeFault program (RangeFaultAt number line) ⊎ (AreRangesRight program × IsZoneFaultOf program (ZoneFaultAt number line))))))))
+    × (IsRangeFault program (RangeFaultAt number line)
+    ⊎ (AreRangesRight program
+    × (IsZoneFaultOf program (ZoneFaultAt number line) ⊎ (AreZonesRight program × IsCostFault program (CostFaultAt number line))))))))))
 
 -- the first phase with a fault names it
 abbrev pub IsRefused : List ℕ → Refused → Type 0

@@ -1,6 +1,8 @@
 -- What a phase's fault says of the module.
 use Rattle.cfg.specs.declared.refusal.GraphFault.{GraphFault}
 use Rattle.cfg.specs.declared.refusal.GraphFault.TheVariants.{Fault as GraphFaultAt, Memory as GraphMemory}
+use Rattle.cost_table.specs.declared.fault.CostFault.{CostFault}
+use Rattle.cost_table.specs.declared.fault.CostFault.TheVariants.{Fault as CostFaultAt, Memory as CostMemory}
 use Rattle.definedness.specs.declared.fault.DefinedFault.{DefinedFault}
 use Rattle.definedness.specs.declared.fault.DefinedFault.TheVariants.{Fault as DefinedFaultAt, Memory as DefinedMemory}
 use Rattle.footprints.specs.declared.fault.ZoneFault.{ZoneFault}
@@ -43,3 +45,7 @@ by_ranges RangeMemory = Memory
 abbrev pub by_zones : ZoneFault → Refused
 by_zones (ZoneFaultAt number line) = Fault number line
 by_zones ZoneMemory = Memory
+
+abbrev pub by_cost : CostFault → Refused
+by_cost (CostFaultAt number line) = Fault number line
+by_cost CostMemory = Memory

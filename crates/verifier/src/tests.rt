@@ -2,6 +2,7 @@
 
 mod allocas;
 mod calls;
+mod costs;
 mod facts;
 mod forms;
 mod graph;
