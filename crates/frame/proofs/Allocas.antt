@@ -60,3 +60,12 @@ pub not_there : (items : List (Vec (Option ℤ) Global)) (n i : ℕ) → length 
 not_there items n i h there =
     let l = map_long (λ (v : Vec (Option ℤ) Global). v.items) items in
     subst (λ o. IsCellIn o i) (get_past (map (λ (v : Vec (Option ℤ) Global). v.items) items) n (omega (arith, l, h))) there
+
+-- cells stay where they were, where an alloca's list is written and keeps its length
+pub still_there : (items : List (Vec (Option ℤ) Global)) (n : ℕ) (old new : Vec (Option ℤ) Global) → slice_get items n ≡ Some old → length new.items ≡ length old.items → (k i : ℕ) →
+    IsCellIn (slice_get (map (λ (v : Vec (Option ℤ) Global). v.items) items) k) i → IsCellIn (slice_get (map (λ (v : Vec (Option ℤ) Global). v.items) (slice_set items n new)) k) i
+still_there [] n old new at long k i h = h
+still_there (x ∷ xs) zero old new at long zero i h = let s : x ≡ old = cc in let l : length x.items ≡ length old.items = ap (λ (v : Vec (Option ℤ) Global). length v.items) s in omega (arith, h, l, long)
+still_there (x ∷ xs) zero old new at long (suc k) i h = h
+still_there (x ∷ xs) (suc n) old new at long zero i h = h
+still_there (x ∷ xs) (suc n) old new at long (suc k) i h = still_there xs n old new at long k i h

@@ -11,6 +11,7 @@ fn set_cell(cells: &mut Vec<Option<i64>>, index: usize, number: i64) -> bool
     ensures not_there { OnFalse result (cells.new ≡ cells.old) }
     ensures there { IsTrue result ↔ (index < length cells.old.items) }
     ensures set { OnTrue result (cells.new.items ≡ slice_set cells.old.items index (Some number)) }
+    ensures length { length cells.new.items ≡ length cells.old.items }
 {
     if index < cells.len() {
         cells[index] = Some(number);
@@ -39,6 +40,7 @@ impl Frame {
         ensures set { OnTrue result (SetsAlloca self.old alloca.0 index number self.new) }
         ensures only { self.new ≡ record self.old { allocas = self.new.allocas } }
         ensures length { length self.new.allocas.items ≡ length self.old.allocas.items }
+        ensures cells { (n i : ℕ) → HasCell self.old n i → HasCell self.new n i }
         ensures unchanged { OnFalse result ((n i : ℕ) → alloca_in self.new n i ≡ alloca_in self.old n i) }
         ensures sound { IsSound self.old → IsSound self.new }
     {

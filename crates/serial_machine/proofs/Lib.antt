@@ -1,5 +1,10 @@
+pub mod Calls
+pub mod Cells
+pub mod Depths
+pub mod Performed
 pub mod Running
-pub mod Stack
+pub mod Serially
 pub mod Steps
 pub mod Unmet
+pub mod Walks
 pub mod Wide

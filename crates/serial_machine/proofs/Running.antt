@@ -29,7 +29,7 @@ local_far (f ∷ below) owner n i h =
     let other : same_path (path_on below) owner ≡ false = longer (path_on below) owner (omega (arith, k, h)) in
     rw other (local_far below owner n i (omega arith))
 
-above_long : (p : Path) (d : ℕ) → d ≤ length p → length (above p d) ≡ d
+pub above_long : (p : Path) (d : ℕ) → d ≤ length p → length (above p d) ≡ d
 above_long p d h = let e = length-drop (length p - d) p in omega (arith, e, h)
 
 -- the cells that the top frame names by a depth are those of the frame there

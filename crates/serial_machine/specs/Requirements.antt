@@ -1,5 +1,5 @@
 -- Whether arguments are those that a program takes.
-use Rattle.std.specs.Prelude.{⊤, ℕ, suc, ◌^◌, List, [], ◌∷◌, length, position, Option, Some, None, Result, Ok, Err, Bool, false, cond, not, eqb, nat_lt, ℤ, pos, negsuc, ◌+ℤ◌, ◌*ℤ◌, int_le, slice_get}
+use Rattle.std.specs.Prelude.{ℕ, suc, ◌^◌, List, [], ◌∷◌, length, position, Option, Some, None, Bool, false, cond, not, eqb, nat_lt, ℤ, pos, negsuc, ◌+ℤ◌, ◌*ℤ◌, int_le, slice_get}
 use Rattle.std.specs.Option.{option_map}
 use Rattle.machine_core.specs.Frames.{and_then}
 use Rattle.linear.specs.Forms.{Combination}
@@ -7,9 +7,6 @@ use Rattle.linear.specs.declared.form.Term.{Term}
 use Rattle.program.specs.declared.annotation.Inequality.{Inequality}
 use Rattle.program.specs.declared.function.Function.{Function}
 use Rattle.program.specs.declared.function.Program.{Program}
-use Rattle.serial_machine.specs.declared.outcome.Finished.{Finished}
-use Rattle.serial_machine.specs.declared.outcome.RunFault.{RunFault}
-use Rattle.serial_machine.specs.declared.outcome.RunFault.TheVariants.{BadArguments, BadWorkers, OutOfMemory, Trapped}
 
 abbrev pub size : ℤ → ℕ
 size (pos n) = n
@@ -45,11 +42,3 @@ unmet_of arguments (Some main) = cond (eqb (length main.parameters) (length argu
 -- 0 for a wrong number of arguments of main, else its first requirement that they do not meet, counted from 1
 abbrev pub unmet_in : Program → List ℤ → Option ℕ
 unmet_in prog arguments = unmet_of arguments (slice_get prog.functions prog.main.0)
-
--- an end that does not blame the arguments
-abbrev pub HasBegun : Result Finished RunFault → Type 0
-HasBegun (Ok done) = ⊤
-HasBegun (Err (BadArguments r m)) = ⊥
-HasBegun (Err (BadWorkers m)) = ⊥
-HasBegun (Err OutOfMemory) = ⊤
-HasBegun (Err Trapped) = ⊤

@@ -1,11 +1,14 @@
 -- How the frames and cells of a serial run read in the definitions of running. Frames are listed from the top down.
 use Rattle.std.specs.Prelude.{◌≡◌, ⊤, ℕ, ◌-◌, List, [], ◌∷◌, length, cond, eqb, Option, Some, None, ℤ}
+use Rattle.linear.specs.declared.form.RegisterId.{RegisterId}
+use Rattle.frame.specs.declared.frame.Wait.{Wait}
+use Rattle.frame.specs.declared.frame.Wait.TheVariants as wait
 use Rattle.machine_core.specs.Paths.{Path, same_path}
 use Rattle.machine_core.specs.Cells.{Object, Shared, Local, Memory}
 use Rattle.store.specs.Cells.{NamedCells, cell_at}
 use Rattle.frame.specs.declared.frame.Frame.{Frame}
 use Rattle.frame.specs.Reading.{frame_of}
-use Rattle.frame.specs.Room.{IsSound, alloca_in}
+use Rattle.frame.specs.Room.{HasResult, IsSound, alloca_in}
 use Rattle.serial_machine.specs.Stack.{Placed, Run}
 
 -- the path of a frame that stands on these: each is the newest child of the one below it
@@ -38,10 +41,21 @@ abbrev pub held_at : Option Frame → ℕ → ℕ → Option ℤ
 held_at None n i = None
 held_at (Some f) n i = alloca_in f n i
 
--- each frame knows its depth
+-- a frame that waits for a call has the register of its result
+abbrev pub AwaitsResult : Frame → Wait → Type 0
+AwaitsResult f wait.Nothing = ⊤
+AwaitsResult f (wait.Region region) = ⊤
+AwaitsResult f (wait.Call child register) = HasResult f register
+
+-- the frame stands on so many others
+pub record StandsOn (f : Frame) (below : ℕ) : Type 0 where
+  pub depth : f.depth ≡ below
+  pub sound : IsSound f
+  pub awaits : AwaitsResult f f.waits
+
 abbrev pub AreSound : List Frame → Type 0
 AreSound [] = ⊤
-AreSound (f ∷ below) = (f.depth ≡ length below) × IsSound f × AreSound below
+AreSound (f ∷ below) = StandsOn f (length below) × AreSound below
 
 -- a run with this frame on top
 abbrev pub run_of : Frame → List Frame → List NamedCells → Run

@@ -6,6 +6,8 @@ mod arguments;
 mod law;
 mod outcome;
 mod run;
+mod stack;
+mod stepping;
 #[cfg(test)]
 mod tests;
 

@@ -1,6 +1,7 @@
-use frame::Trap;
+ghost use Rattle.std.specs.Prelude.{◌≡◌};
+ghost use Rattle.serial_machine.specs.declared.outcome.Halt.TheVariants.{OutOfMemory as Refused};
+
 use lists::OutOfMemory;
-use std::alloc::{AllocError, AllocFailed};
 use store::Memory;
 
 /// What a run that has ended comes to.
@@ -38,25 +39,9 @@ pub enum Halt {
 }
 
 impl From<OutOfMemory> for Halt {
+    ghost from_gives = { λ error halt. halt ≡ Refused };
+
     fn from(_error: OutOfMemory) -> Halt {
         Halt::OutOfMemory
-    }
-}
-
-impl From<AllocError> for Halt {
-    fn from(_error: AllocError) -> Halt {
-        Halt::OutOfMemory
-    }
-}
-
-impl<T: Drop> From<AllocFailed<T>> for Halt {
-    fn from(_error: AllocFailed<T>) -> Halt {
-        Halt::OutOfMemory
-    }
-}
-
-impl From<Trap> for Halt {
-    fn from(_trap: Trap) -> Halt {
-        Halt::Trapped
     }
 }

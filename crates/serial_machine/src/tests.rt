@@ -50,6 +50,86 @@ ret i64 %n
 }
 ";
 
+/// The text of `examples/fib.ll`.
+const FIB: &str = "\
+define i64 @fib(i64 %n) {
+;! requires %n >= 0
+;! requires %n <= 20
+;! measure %n max 20
+;! budget 2 15
+entry:
+;! left 2 15
+%x = alloca i64
+%s = call token @llvm.syncregion.start()
+%c = icmp slt i64 %n, 2
+br i1 %c, label %small, label %big
+small:
+;! left 0 1
+ret i64 %n
+big:
+;! keeps %n >= 2
+;! keeps %n <= 20
+;! left 2 11
+%m = sub nsw i64 %n, 1
+detach within %s, label %kid, label %rest
+kid:
+;! keeps %m >= 0
+;! keeps %m <= 20
+;! keeps %m+1 <= %n
+;! left 1 3
+;! foot writes %x 0 1
+%r = call i64 @fib(i64 %m)
+store i64 %r, ptr %x
+reattach within %s, label %rest
+rest:
+;! keeps %n >= 2
+;! keeps %n <= 20
+;! pending %s writes %x 0 1
+;! left 1 6
+%l = sub nsw i64 %n, 2
+%y = call i64 @fib(i64 %l)
+sync within %s, label %join
+join:
+;! left 0 3
+%z = load i64, ptr %x
+%t = add i64 %z, %y
+ret i64 %t
+}
+define i64 @main(i64 %n) {
+;! requires %n >= 0
+;! requires %n <= 20
+;! budget 0 31457267
+entry:
+;! left 0 31457267
+%r = call i64 @fib(i64 %n)
+ret i64 %r
+}
+";
+
+/// The text of `examples/loop.ll`, which may use more than its budget.
+const LOOP: &str = "\
+define i64 @main(i64 %n) {
+;! requires %n >= 0
+;! requires %n <= 100
+;! budget 0 11
+entry:
+;! left 0 11
+br label %head
+head:
+;! keeps %i >= 0
+;! keeps %i <= 100
+;! keeps %n <= 100
+;! left 0 10-3*%i
+%i = phi i64 [ 0, %entry ], [ %k, %head ]
+%k = add nsw i64 %i, 1
+%c = icmp slt i64 %k, %n
+br i1 %c, label %head, label %out
+out:
+;! left 0 7-3*%i
+ret i64 %i
+}
+";
+
 fn verified(rt: &HostRuntime, text: &str) -> Result<Verified, Fail> {
     match verify(rt.alloc(), RandomState::new(rt)?, text.as_bytes()) {
         Ok(verified) => Ok(verified),
@@ -91,6 +171,41 @@ fn runs_a_detached_child_before_its_continuation(rt: HostRuntime) -> Result<(), 
     assert_eq!(rt; finished.peak, 2);
     assert_eq!(rt; finished.memory.get_global("a", 0), Some(7));
     assert_eq!(rt; finished.memory.get_global("a", 1), Some(7));
+    Ok(())
+}
+
+/// The result, the instructions and the peak of a run with one argument.
+fn run(rt: &HostRuntime, text: &str, argument: i64) -> Result<(i64, u64, u64), Fail> {
+    let alloc = rt.alloc();
+    let verified = verified(rt, text)?;
+    let memory = Memory::zeroed(alloc, &verified)?;
+    let finished = serial_run(alloc, &verified, [argument].as_slice(), memory);
+    let finished = finished.ok().ok_or("stopped")?;
+    Ok((finished.result, finished.instructions, finished.peak))
+}
+
+#[test]
+fn adds_modulo_two_to_the_64th(rt: HostRuntime) -> Result<(), Fail> {
+    assert_eq!(rt; run(&rt, PAIR, i64::MAX)?, (-2, 14, 2));
+    Ok(())
+}
+
+#[test]
+fn runs_calls_within_detached_children(rt: HostRuntime) -> Result<(), Fail> {
+    assert_eq!(rt; run(&rt, FIB, 0)?.0, 0);
+    assert_eq!(rt; run(&rt, FIB, 1)?.0, 1);
+    assert_eq!(rt; run(&rt, FIB, 5)?, (5, 147, 10));
+    assert_eq!(rt; run(&rt, FIB, 10)?, (55, 1767, 20));
+    Ok(())
+}
+
+#[test]
+fn stops_where_the_budget_is_used_up(rt: HostRuntime) -> Result<(), Fail> {
+    let alloc = rt.alloc();
+    let verified = verified(&rt, LOOP)?;
+    let memory = Memory::zeroed(alloc, &verified)?;
+    let stopped = serial_run(alloc, &verified, [100].as_slice(), memory);
+    assert!(rt; matches!(&stopped, Err(RunFault::Trapped)));
     Ok(())
 }
 

@@ -1,0 +1,47 @@
+-- What a serial run answers, by the serial meaning.
+use Rattle.std.specs.Prelude.{◌≡◌, ◌⊎◌, ⊤, ℕ, List, [], ◌∷◌, Some, ℤ, Result, Ok, Err}
+use Rattle.machine_core.specs.Cells.{Memory}
+use Rattle.machine_core.specs.SerialMeaning.{Gave, IsSerialMeaning}
+use Rattle.program.specs.declared.function.Program.{Program}
+use Rattle.store.specs.Cells.{NamedCells}
+use Rattle.frame.specs.declared.frame.Frame.{Frame}
+use Rattle.serial_machine.specs.Running.{memory_of, run_of, AreSound}
+use Rattle.serial_machine.specs.Stack.{Walk, starting, IsStuck}
+use Rattle.serial_machine.specs.Stepping.{HasRoomAt, names_of}
+use Rattle.serial_machine.specs.declared.outcome.Finished.{Finished}
+use Rattle.serial_machine.specs.declared.outcome.Halt.{Halt}
+use Rattle.serial_machine.specs.declared.outcome.Halt.TheVariants as halt
+use Rattle.serial_machine.specs.declared.outcome.RunFault.{RunFault}
+use Rattle.serial_machine.specs.declared.outcome.RunFault.TheVariants.{BadArguments, BadWorkers, OutOfMemory, Trapped}
+
+-- the cells of the globals alone
+abbrev pub cells_of : List NamedCells → Memory
+cells_of globals = memory_of [] globals
+
+-- the serial meaning, in full: its result, memory, count of instructions and depth
+pub record IsMeant (prog : Program) (arguments : List ℤ) (memory : List NamedCells) (done : Finished) : Type 0 where
+  pub meant : IsSerialMeaning prog arguments (cells_of memory) (record { ending = Gave (Some done.result); memory = cells_of done.memory; count = done.instructions; depth = done.peak })
+  pub names : names_of done.memory ≡ names_of memory
+
+-- The run gets this far and not on: it has done the whole budget, or its next step traps, where the machine has room for it.
+pub record StopsAt (prog : Program) (arguments : List ℤ) (memory : List NamedCells) (budget done peak : ℕ) (f : Frame) (below : List Frame) (globals : List NamedCells) : Type 0 where
+  pub reached : Walk prog (starting prog arguments (cells_of memory)) done peak (run_of f below globals)
+  pub sound : AreSound (f ∷ below)
+  pub stops : (done ≡ budget) ⊎ (HasRoomAt prog f below globals → IsStuck prog (run_of f below globals))
+
+abbrev pub Stops : Program → List ℤ → List NamedCells → ℕ → Type 0
+Stops prog arguments memory budget = (done : ℕ) × (peak : ℕ) × (f : Frame) × (below : List Frame) × (globals : List NamedCells) × StopsAt prog arguments memory budget done peak f below globals
+
+-- what a run of arguments that the program takes comes to
+abbrev pub RunsTo : Program → List ℤ → List NamedCells → ℕ → Result Finished Halt → Type 0
+RunsTo prog arguments memory budget (Ok done) = IsMeant prog arguments memory done
+RunsTo prog arguments memory budget (Err halt.OutOfMemory) = ⊤
+RunsTo prog arguments memory budget (Err halt.Trapped) = Stops prog arguments memory budget
+
+-- and by its numbers: 803 and 804, never 801 or 802
+abbrev pub Answers : Program → List ℤ → List NamedCells → ℕ → Result Finished RunFault → Type 0
+Answers prog arguments memory budget (Ok done) = IsMeant prog arguments memory done
+Answers prog arguments memory budget (Err (BadArguments r m)) = ⊥
+Answers prog arguments memory budget (Err (BadWorkers m)) = ⊥
+Answers prog arguments memory budget (Err OutOfMemory) = ⊤
+Answers prog arguments memory budget (Err Trapped) = Stops prog arguments memory budget
