@@ -197,6 +197,7 @@ module _ (prog : Program) (old : Machine) (w slot : ℕ) (node : Node Activation
         agrees = grown.agrees_grown old.cactus mid old.hands.items turn.machine.agrees slot node turn.stands child a child_slot node.frame.frame.made made.adds made.grows fresh w within turn.hand
             made.runs made.no_callee child_free child_fits child_depth (ap (λ (x : Activation). x.runner) made.waits.is) (ap (λ (x : FrameOf). x.depth) made.waits.only) a_fits callee_stands counts;
         workers = length-set old.hands.items w (Some child_slot);
+        program = refl;
         over = over_still old new turn.going refl;
       }
 
@@ -388,6 +389,7 @@ module _ (prog : Program) (old : Machine) (w slot : ℕ) (node : Node Activation
                 (subst (λ x. CalleeStands back.cactus (record below.above { frame = a }) x a.callee) (sym a_free) (ap (λ (x : Activation). x.callee) resumes.is))
                 counts_r;
             workers = length-set old.hands.items w (Some up);
+            program = refl;
             over = over_still old back turn.going refl;
           }
 
@@ -459,6 +461,7 @@ module _ (prog : Program) (old : Machine) (w slot : ℕ) (node : Node Activation
           counts = refl;
           agrees = shrunk.agrees_idle old.cactus mid old.hands.items turn.machine.agrees slot node turn.stands removed shrinks leaf w r_within turn.hand nobody counts_e;
           workers = length-set old.hands.items w None;
+          program = refl;
           over = λ y is. gone;
         }
 

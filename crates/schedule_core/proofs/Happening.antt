@@ -1,5 +1,5 @@
 -- Events of a machine are the definitions' events.
-use Rattle.std.proofs.Common.{◌≡◌, ◌≢◌, ℕ, ◌+◌, ◌<◌, ◌≤◌, List, [], ◌∷◌, length, Option, Some, None, Bool, true, false, cond, ◌⊎◌, inl, inr, refl, sym, ap, ◌∙◌, subst, arith, ltb, is_none, ◌&&◌, ℤ}
+use Rattle.std.proofs.Common.{◌≡◌, ◌≢◌, ℕ, ◌+◌, ◌<◌, ◌≤◌, List, [], ◌∷◌, ◌++◌, length, Option, Some, None, Bool, true, false, cond, ◌⊎◌, inl, inr, refl, sym, ap, ◌∙◌, subst, arith, ltb, is_none, ◌&&◌, map, ℤ}
 use Rattle.std.specs.Prelude.{IsTrue}
 use Rattle.std.proofs.lemmas.Bool.{ltb-true}
 use Rattle.machine_core.specs.Paths.{Path}
@@ -8,6 +8,9 @@ use Rattle.machine_core.specs.Effect.{Effect, Plain}
 use Rattle.machine_core.specs.State.{State}
 use Rattle.machine_core.specs.Tree.{Tree}
 use Rattle.machine_core.specs.Events as running
+use Rattle.machine_core.specs.Replay.{or_unchanged, replay}
+use Rattle.store.specs.Cells.{NamedCells}
+use Rattle.schedule_core.specs.declared.event.Event.{Event}
 use Rattle.program.specs.declared.function.Program.{Program}
 use Rattle.cactus.specs.declared.node.Node.{Node}
 use Rattle.schedule_core.specs.declared.activation.Activation.{Activation}
@@ -16,12 +19,12 @@ use Rattle.schedule_core.specs.declared.machine.Phase.{Phase}
 use Rattle.schedule_core.specs.declared.machine.Phase.TheVariants.{Going, Ended, Trapped}
 use Rattle.schedule_core.specs.Running.{IsGoing, IsTrapped, result_of}
 use Rattle.schedule_core.specs.Scheduling.{hand_of}
-use Rattle.schedule_core.specs.Seen.{place_of, seen, Agrees, StealsIf}
-use Rattle.schedule_core.specs.Stepping.{effected, counted, frame_in, PlainDone, DoesPlain, IsMachine, IsStep, IsTurn, IsEvent, IsReached, DoesEvent, StepsAt, next_action}
+use Rattle.schedule_core.specs.Seen.{place_of, seen, event_of, Agrees, StealsIf}
+use Rattle.schedule_core.specs.Stepping.{effected, counted, frame_in, PlainDone, DoesPlain, IsMachine, IsStep, IsTurn, IsEvent, IsReached, DoesEvent, StepsAt, AreEvents, DoesAll, StartsAs, Replays, next_action}
 use Rattle.schedule_core.proofs.Views.{node_tells, frame_seen, hand_below}
 use Rattle.schedule_core.proofs.PlainSteps.{plain_event}
 use Rattle.schedule_core.proofs.Steals.{unless}
-use Rattle.schedule_core.proofs.Reached.{reached_manned, reached_next}
+use Rattle.schedule_core.proofs.Reached.{reached_manned, reached_next, replay_more}
 use Rattle.schedule_core.proofs.Acting as acting
 
 -- ---- a plain step
@@ -37,6 +40,7 @@ plain_step prog old new w slot node turn e action done =
       counts = ap (λ (m : running.Machine). m.core.done) done.becomes;
       agrees = done.agrees;
       workers = done.workers;
+      program = done.program;
       over = λ z is. absurd (ended_result new.phase z is (ap (λ (m : running.Machine). m.core.result) done.becomes ∙ ap result_of turn.going));
     }
 
@@ -60,6 +64,8 @@ module _ (prog : Program) (old mid : Machine) (w : ℕ) (m : IsMachine prog old)
   step_done sound =
       record {
         exact = happens;
+        workers = step.workers;
+        program = step.program;
         machine = record {
           sound = sound;
           over = step.over;
@@ -80,16 +86,18 @@ trapped_quiet prog old new e done trapped m sound = absurd (sound trapped)
 
 -- a worker without a task does nothing
 pub idle_step : (prog : Program) (old : Machine) (w : ℕ) → hand_of old.hands.items w ≡ None → DoesEvent prog old old (running.Step w) false
-idle_step prog old w none m sound = record { exact = rw none refl; machine = m }
+idle_step prog old w none m sound = record { exact = rw none refl; workers = refl; program = refl; machine = m }
 
 -- ---- steals
 
 module _ (prog : Program) (old new : Machine) (w : ℕ) (t : Path) (going : IsGoing old) (kept : new ≡ record old { cactus = new.cactus; hands = new.hands }) (workers : length new.hands.items ≡ length old.hands.items) (agrees : Agrees old.cactus old.hands.items → Agrees new.cactus new.hands.items) where
   pub steal_done : (did : Bool) → (¬ IsTrue did → new ≡ old) → (Agrees old.cactus old.hands.items → StealsIf old new w t did) → DoesEvent prog old new (running.Steal w t) did
-  steal_done false same steals m sound = record { exact = steals m.agrees prog; machine = subst (λ (x : Machine). IsMachine prog x) (sym (same (λ e. cc))) m }
+  steal_done false same steals m sound = record { exact = steals m.agrees prog; workers = workers; program = ap (λ (x : Machine). x.verified) kept; machine = subst (λ (x : Machine). IsMachine prog x) (sym (same (λ e. cc))) m }
   steal_done true same steals m sound =
       record {
         exact = steals m.agrees prog;
+        workers = workers;
+        program = ap (λ (x : Machine). x.verified) kept;
         machine = record {
           sound = sound;
           over = λ z is. absurd (let e : Going ≡ Ended z = sym going ∙ (sym (ap (λ (x : Machine). x.phase) kept) ∙ is) in cc);
@@ -142,5 +150,36 @@ module _ (prog : Program) (old : Machine) (over : ¬ IsGoing old) where
 
   -- no event is enabled any more
   pub over_quiet : (e : running.Event) → DoesEvent prog old old e false
-  over_quiet (running.Step w) m sound = record { exact = rw (hand_none m w (hand_of old.hands.items w) refl) refl; machine = m }
-  over_quiet (running.Steal w t) m sound = record { exact = steal_none m w t; machine = m }
+  over_quiet (running.Step w) m sound = record { exact = rw (hand_none m w (hand_of old.hands.items w) refl) refl; workers = refl; program = refl; machine = m }
+  over_quiet (running.Steal w t) m sound = record { exact = steal_none m w t; workers = refl; program = refl; machine = m }
+
+-- ---- one event after another
+
+-- an event more
+pub one_more : (prog : Program) (old mid new : Machine) (events : List running.Event) (e : running.Event) (done : Bool) → DoesAll prog old mid events → DoesEvent mid.verified.now mid new e done → (IsTrapped mid → IsTrapped new) → (¬ IsTrue done → new ≡ mid) → prog ≡ old.verified.now → DoesAll prog old new (events ++ e ∷ [])
+one_more prog old mid new events e done all event stays same is m sound =
+    let a = all m (λ trapped. sound (stays trapped)) in
+    let prog_is : mid.verified.now ≡ prog = ap (λ v. v.now) a.program ∙ sym is in
+    let d : IsEvent prog mid new e done = subst (λ (q : Program). DoesEvent q mid new e done) prog_is event a.machine sound in
+    record {
+      replayed = replay_more prog (length old.hands.items) events e (seen old) ∙ (ap (λ x. or_unchanged (running.event prog (length old.hands.items) e x) x) a.replayed ∙ (ap (λ n. or_unchanged (running.event prog n e (seen mid)) (seen mid)) (sym a.workers) ∙ (ap (λ o. or_unchanged o (seen mid)) d.exact ∙ by done same)));
+      machine = d.machine;
+      workers = d.workers ∙ a.workers;
+      program = d.program ∙ a.program;
+    }
+  where
+    by : (b : Bool) → (¬ IsTrue b → new ≡ mid) → or_unchanged (cond b (Some (seen new)) None) (seen mid) ≡ seen new
+    by true is = refl
+    by false is = sym (ap seen (is (λ e. cc)))
+
+pub none_yet : (prog : Program) (old : Machine) → DoesAll prog old old []
+none_yet prog old m sound = record { replayed = refl; machine = m; workers = refl; program = refl }
+
+-- from a start
+pub replays_from : (prog : Program) (arguments : List ℤ) (globals : List NamedCells) (workers : ℕ) (events : List Event) (first m : Machine) → StartsAs prog arguments globals first → length first.hands.items ≡ workers → DoesAll first.verified.now first m (map event_of events) → ¬ IsTrapped m → Replays prog arguments globals workers events m
+replays_from prog arguments globals workers events first m s many does sound =
+    let all : AreEvents prog first m (map event_of events) = subst (λ (q : Program). DoesAll q first m (map event_of events)) s.program does s.machine sound in
+    record {
+      reads = sym all.replayed ∙ (ap (λ n. replay prog n (map event_of events) (seen first)) many ∙ ap (replay prog workers (map event_of events)) s.reads);
+      machine = all.machine;
+    }

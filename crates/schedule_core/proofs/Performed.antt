@@ -69,7 +69,7 @@ jump_gone f g p target (Some r) entered = record { is = entered; fine = refl; qu
 
 -- a load of what the cell holds
 pub load_done : (old new : Machine) (node : Node Activation) (register : RegisterId) (c : Cell) (z : ℤ) (o : Option ℤ) → o ≡ Some z → PlainDone old new node (sets (frame_in node) register (Word z)) → PlainDone old new node (loads (frame_in node) register c o)
-load_done old new node register c z o is d = subst (λ x. PlainDone old new node (loads (frame_in node) register c x)) (sym is) (record { sound = refl; becomes = d.becomes; agrees = d.agrees; workers = d.workers })
+load_done old new node register c z o is d = subst (λ x. PlainDone old new node (loads (frame_in node) register c x)) (sym is) (record { sound = refl; becomes = d.becomes; agrees = d.agrees; workers = d.workers; program = d.program })
 
 -- ---- cells
 
@@ -139,6 +139,7 @@ shared_stored m after slot cell g z is sets node stands agrees =
       };
       agrees = agrees;
       workers = refl;
+      program = refl;
       stays = λ s n there. (n, there, refl, refl);
     }
 
@@ -221,6 +222,7 @@ module _ (m : Machine) (agrees : Agrees m.cactus m.hands.items) (owner : ℕ) (o
         };
         agrees = agrees_written m.cactus m.hands.items agrees owner o stands new_act (ap (λ (x : FrameOf). x.depth) kept) refl calls fit (record { made = ap (λ (x : FrameOf). x.made) kept; role = ap (λ (x : FrameOf). x.role) kept }) (λ region. refl);
         workers = refl;
+        program = refl;
         stays = node_stays;
       }
     where
@@ -273,12 +275,13 @@ module _ (old mid new : Machine) (slot : ℕ) (node : Node Activation) (stands :
         becomes = d.becomes ∙ (ap (λ p. effected (seen mid) p (frame_in k) (goes_on (frame_in k))) place ∙ (ap (λ f. effected (seen mid) (place_of node) f (goes_on f)) in_frame ∙ ap (λ s. effected s (place_of node) (frame_in node) (goes_on (frame_in node))) w.becomes));
         agrees = d.agrees;
         workers = d.workers ∙ w.workers;
+        program = d.program ∙ w.program;
       }
 
 -- the sum that is stored is the number added
 pub added_done : (old new : Machine) (node : Node Activation) (c : Cell) (z held : ℤ) → (seen old).core.memory c ≡ Some held → PlainDone old new node (stores (frame_in node) c (cell_sum held z)) → PlainDone old new node (adds_to (frame_in node) c z ((seen old).core.memory c))
 added_done old new node c z held is d =
-    subst (λ o. PlainDone old new node (adds_to (frame_in node) c z o)) (sym is) (record { sound = refl; becomes = d.becomes ∙ same; agrees = d.agrees; workers = d.workers })
+    subst (λ o. PlainDone old new node (adds_to (frame_in node) c z o)) (sym is) (record { sound = refl; becomes = d.becomes ∙ same; agrees = d.agrees; workers = d.workers; program = d.program })
   where
     cell : (x : Cell) (b : Bool) → same_cell c x ≡ b → override (cond b (Some (Some (cell_sum held z))) None) ((seen old).core.memory x) ≡ added (cond b (Some z) None) ((seen old).core.memory x)
     cell x false e = refl
@@ -316,6 +319,7 @@ written_none m o agrees =
       };
       agrees = agrees;
       workers = refl;
+      program = refl;
       stays = λ s n there. (n, there, refl, refl);
     }
   where
@@ -333,6 +337,7 @@ written_more old mid new slot node o i stands w stores_at =
       becomes = v.becomes ∙ (ap (λ (s : running.Machine). record s { core = record s.core { memory = λ x. override (one_cell (record { object = object_of (place_of node) o; index = i }) (pos 0) x) (s.core.memory x) } }) w.becomes ∙ joined);
       agrees = v.agrees;
       workers = v.workers ∙ w.workers;
+      program = v.program ∙ w.program;
       stays = λ s n here. let (a, at, path_a, frame_a) = w.stays s n here in let (b, at_b, path_b, frame_b) = v.stays s a at in
           (b, at_b, path_b ∙ path_a, frame_b ∙ ap (λ (x : Activation). record x { frame = record x.frame { allocas = b.frame.frame.allocas } }) frame_a);
     }

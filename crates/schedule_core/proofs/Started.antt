@@ -42,7 +42,7 @@ none_in (suc n) (suc v) = none_in n v
 module _ (prog : Program) (arguments : List ℤ) (m : Machine) (root workers : ℕ) (empty : Frames Activation) (a : Activation) (f : FrameOf) (bare : empty.nodes ≡ []) (tree : IsTree empty) (added : IsAdded empty m.cactus (record { numbers = [] }) None a root)
     (grows : IsTree empty → named empty [] ≡ None → IsSomeAnd (node_at m.cactus root) (λ node. Binds empty m.cactus [] (Some node)))
     (frame_is : a.frame ≡ f) (begins : frame_of [] f ≡ root_frame prog arguments) (sound : IsSound f) (depth : f.depth ≡ 0) (undefined : IsUndefined f) (runs : a.runner ≡ Some 0) (no_callee : a.callee ≡ None) (no_children : (region : ℕ) → counted_in a region ≡ 0)
-    (some : 0 < workers) (hands_are : m.hands.items ≡ slice_set (replicate workers None) 0 (Some root)) (going : IsGoing m) (nothing_done : m.instructions ≡ 0) (one : m.peak ≡ 1) where
+    (some : 0 < workers) (hands_are : m.hands.items ≡ slice_set (replicate workers None) 0 (Some root)) (going : IsGoing m) (nothing_done : m.instructions ≡ 0) (one : m.peak ≡ 1) (program_is : m.verified.now ≡ prog) where
   abbrev root_node : Node Activation
   root_node = record { generation = empty.made; path = record { numbers = [] }; parent = None; frame = a }
 
@@ -152,6 +152,7 @@ module _ (prog : Program) (arguments : List ℤ) (m : Machine) (root workers : �
   starts_as =
       record {
         reads = seen_begin;
+        program = program_is;
         machine = record {
           sound = λ trapped. (let e : Going ≡ Trapped = sym going ∙ trapped in cc);
           over = λ z is. absurd (let e : Going ≡ Ended z = sym going ∙ is in cc);

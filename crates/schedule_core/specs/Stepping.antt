@@ -1,5 +1,5 @@
 -- What a step of a frame does to a machine, as the definitions say it.
-use Rattle.std.specs.Prelude.{◌≡◌, ℕ, ◌+◌, List, [], length, Option, Some, None, Ok, Bool, cond, nat_lt, ◌&&◌, IsSome, ℤ, pos}
+use Rattle.std.specs.Prelude.{◌≡◌, ℕ, ◌+◌, List, [], length, Option, Some, None, Ok, Bool, cond, nat_lt, ◌&&◌, IsSome, ℤ, pos, map}
 use Rattle.machine_core.specs.Paths.{Path}
 use Rattle.machine_core.specs.Cells.{Cell, Object, Memory, same_cell, same_object}
 use Rattle.machine_core.specs.Frames.{Frame}
@@ -24,7 +24,8 @@ use Rattle.schedule_core.specs.declared.machine.Machine.{Machine}
 use Rattle.schedule_core.specs.declared.machine.Phase.TheVariants.{Ended}
 use Rattle.schedule_core.specs.Running.{IsGoing, IsTrapped}
 use Rattle.schedule_core.specs.Scheduling.{hand_of, counted_in}
-use Rattle.schedule_core.specs.Seen.{place_of, seen, given, Agrees}
+use Rattle.schedule_core.specs.Seen.{place_of, seen, given, event_of, Agrees}
+use Rattle.schedule_core.specs.declared.event.Event.{Event}
 
 -- a state after a plain step of the frame f at p, but for the count of instructions
 abbrev pub effected : running.Machine → Path → Frame → Effect → running.Machine
@@ -42,6 +43,7 @@ pub record PlainDone (old new : Machine) (node : Node Activation) (e : Effect) :
   pub becomes : seen new ≡ effected (seen old) (place_of node) (frame_in node) e
   pub agrees : Agrees new.cactus new.hands.items
   pub workers : length new.hands.items ≡ length old.hands.items
+  pub program : new.verified ≡ old.verified
 
 -- of the slot's frame, which waits for no call
 abbrev pub DoesPlain : Machine → Machine → ℕ → (Path → Frame → Effect) → Type 0
@@ -68,6 +70,7 @@ pub record Written (old new : Machine) (writes : Cell → Option (Option ℤ)) :
   pub becomes : seen new ≡ record (seen old) { core = record (seen old).core { memory = λ x. override (writes x) ((seen old).core.memory x) } }
   pub agrees : Agrees new.cactus new.hands.items
   pub workers : length new.hands.items ≡ length old.hands.items
+  pub program : new.verified ≡ old.verified
   pub stays : (slot : ℕ) (node : Node Activation) → node_at old.cactus slot ≡ Some node → (later : Node Activation) × (node_at new.cactus slot ≡ Some later) × (later.path ≡ node.path) × (later.frame ≡ record node.frame { frame = record node.frame.frame { allocas = later.frame.frame.allocas } })
 
 -- the cell of an alloca of the owner's frame takes the number
@@ -121,6 +124,7 @@ pub record IsStep (prog : Program) (old new : Machine) (worker : ℕ) : Type 0 w
   pub counts : new.instructions ≡ old.instructions
   pub agrees : Agrees new.cactus new.hands.items
   pub workers : length new.hands.items ≡ length old.hands.items
+  pub program : new.verified ≡ old.verified
   pub over : IsOver new
 
 -- the slot has this node, and it is the top of the task that the worker runs, of a machine that goes on
@@ -152,12 +156,30 @@ StepsAt prog old new worker slot = (node : Node Activation) → IsTurn prog old 
 -- nothing is said.
 pub record IsEvent (prog : Program) (old new : Machine) (event : running.Event) (done : Bool) : Type 0 where
   pub exact : running.event prog (length old.hands.items) event (seen old) ≡ cond done (Some (seen new)) None
+  pub workers : length new.hands.items ≡ length old.hands.items
+  pub program : new.verified ≡ old.verified
   pub machine : IsMachine prog new
 
 abbrev pub DoesEvent : Program → Machine → Machine → running.Event → Bool → Type 0
 DoesEvent prog old new event done = IsMachine prog old → ¬ IsTrapped new → IsEvent prog old new event done
 
+-- the events, one after another, are those of the definitions' replay
+pub record AreEvents (prog : Program) (old new : Machine) (events : List running.Event) : Type 0 where
+  pub replayed : replay prog (length old.hands.items) events (seen old) ≡ seen new
+  pub workers : length new.hands.items ≡ length old.hands.items
+  pub program : new.verified ≡ old.verified
+  pub machine : IsMachine prog new
+
+abbrev pub DoesAll : Program → Machine → Machine → List running.Event → Type 0
+DoesAll prog old new events = IsMachine prog old → ¬ IsTrapped new → AreEvents prog old new events
+
 -- the machine is the definitions' start, with these arguments and globals
 pub record StartsAs (prog : Program) (arguments : List ℤ) (globals : List NamedCells) (m : Machine) : Type 0 where
   pub reads : seen m ≡ running.start prog arguments (given globals)
+  pub program : m.verified.now ≡ prog
+  pub machine : IsMachine prog m
+
+-- the machine is the definitions' replay of the events
+pub record Replays (prog : Program) (arguments : List ℤ) (globals : List NamedCells) (workers : ℕ) (events : List Event) (m : Machine) : Type 0 where
+  pub reads : seen m ≡ replay prog workers (map event_of events) (running.start prog arguments (given globals))
   pub machine : IsMachine prog m

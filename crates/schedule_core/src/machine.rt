@@ -1,4 +1,4 @@
-ghost use Rattle.std.specs.Prelude.{◌↔◌, IsSome, is_some, count_by, ◌≡◌, ◌<◌, ℕ, false, true, Some, IsTrue, IsSomeAnd, IfOk, OnOk, OnErr, OnSome, length, reverse, vec_len};
+ghost use Rattle.std.specs.Prelude.{◌↔◌, IsSome, is_some, count_by, ◌≡◌, ◌<◌, ℕ, false, true, Some, IsTrue, IsSomeAnd, IfOk, OnOk, OnErr, OnSome, length, map, reverse, vec_len};
 ghost use Rattle.std.specs.Vec.{with_item};
 ghost use Rattle.cactus.specs.Frames.{Lives, frame_at};
 ghost use Rattle.schedule_core.specs.Scheduling.{hand_of, IsIdle, IsReady};
@@ -6,7 +6,7 @@ ghost use Rattle.frame.specs.declared.path.Path.{Path};
 ghost use Rattle.store.specs.declared.memory.Memory.{Memory};
 ghost use Rattle.store.specs.Cells.{cell_named};
 ghost use Rattle.machine_core.specs.Events.{Step};
-ghost use Rattle.schedule_core.specs.Stepping.{DoesEvent, StartsAs};
+ghost use Rattle.schedule_core.specs.Stepping.{DoesAll, DoesEvent, StartsAs};
 ghost use Rattle.schedule_core.specs.Seen.{Agrees, StealsIf, event_of, taken};
 ghost use Rattle.schedule_core.specs.Running.{IsGoing, IsTrapped, result_of, IsStart, IsNumberOfWorkers, StepsWhere, Takes, TakesAt};
 
@@ -166,6 +166,16 @@ impl<'v> Machine<'v> {
             Event::Step(worker) => self.step(*worker),
             Event::Steal(worker, path) => Ok(self.steal(*worker, path)),
         }
+    }
+
+    /// The events, one after another; one that is not enabled changes nothing.
+    pub(crate) fn apply_all(&mut self, events: &[Event]) -> Result<(), OutOfMemory>
+        ensures { OnOk result (DoesAll self.old.verified.now self.old self.new (map event_of events.now)) }
+    {
+        for event in events {
+            let _enabled = self.apply(event)?;
+        }
+        Ok(())
     }
 
     /// The worker executes the next instruction of its task, if it has one.
