@@ -148,6 +148,7 @@ module _ (prog : Program) (old : Machine) (w slot : ℕ) (node : Node Activation
                 agrees_grown old.cactus mid old.hands.items agrees slot node turn.stands child a child_slot number adds grows fresh w (within prog old w slot node turn.machine turn.stands turn.hand) turn.hand runs child_callee child_waits
                 (free_fit child.frame (child_sound was_sound) child_waits) child_depth free depth (free_fit a.frame (sound was_sound) waits) calls counts;
             workers = length-set old.hands.items w (Some child_slot);
+            program = refl;
             over = λ z e. absurd (let f : Going ≡ Ended z = sym turn.going ∙ e in cc);
           }
 

@@ -41,7 +41,7 @@ use Rattle.cactus.proofs.FramesLemmas.{node_at-with_frame, node_at-with_frame_ot
 use Rattle.schedule_core.specs.declared.activation.Activation.{Activation}
 use Rattle.schedule_core.specs.declared.machine.Machine.{Machine}
 use Rattle.schedule_core.specs.Seen.{place_of, seen, frames_of, memory_of, hands_of, held_in, alloca_cell, CalleeStands, IsFit, Agrees}
-use Rattle.schedule_core.specs.Stepping.{effected, frame_in, PlainDone, DoesPlain, HasNextAt, HoldsAt, Written, WritesAlloca, one_cell, zeros_below, StoresAt, IsDoable, CanDoAt, PerformsPlain, DoesAsked, StepsPlainly, IsReached, counted}
+use Rattle.schedule_core.specs.Stepping.{effected, frame_in, PlainDone, DoesPlain, HasNextAt, HoldsAt, Written, WritesAlloca, one_cell, zeros_below, StoresAt, IsDoable, CanDoAt, Performs, StepsAt}
 use Rattle.schedule_core.proofs.Counting.{StaysInTree}
 use Rattle.schedule_core.proofs.Views.{named_written, named_at_place, hands_stay, node_tells, hand_seen, hand_below, frame_seen}
 use Rattle.schedule_core.proofs.PlainSteps.{plain_event, Quiet, went_done, agrees_written, above_place, shared_written}
@@ -69,7 +69,7 @@ jump_gone f g p target (Some r) entered = record { is = entered; fine = refl; qu
 
 -- a load of what the cell holds
 pub load_done : (old new : Machine) (node : Node Activation) (register : RegisterId) (c : Cell) (z : ℤ) (o : Option ℤ) → o ≡ Some z → PlainDone old new node (sets (frame_in node) register (Word z)) → PlainDone old new node (loads (frame_in node) register c o)
-load_done old new node register c z o is d = subst (λ x. PlainDone old new node (loads (frame_in node) register c x)) (sym is) (record { sound = refl; becomes = d.becomes; agrees = d.agrees; workers = d.workers })
+load_done old new node register c z o is d = subst (λ x. PlainDone old new node (loads (frame_in node) register c x)) (sym is) (record { sound = refl; becomes = d.becomes; agrees = d.agrees; workers = d.workers; program = d.program })
 
 -- ---- cells
 
@@ -139,6 +139,7 @@ shared_stored m after slot cell g z is sets node stands agrees =
       };
       agrees = agrees;
       workers = refl;
+      program = refl;
       stays = λ s n there. (n, there, refl, refl);
     }
 
@@ -221,6 +222,7 @@ module _ (m : Machine) (agrees : Agrees m.cactus m.hands.items) (owner : ℕ) (o
         };
         agrees = agrees_written m.cactus m.hands.items agrees owner o stands new_act (ap (λ (x : FrameOf). x.depth) kept) refl calls fit (record { made = ap (λ (x : FrameOf). x.made) kept; role = ap (λ (x : FrameOf). x.role) kept }) (λ region. refl);
         workers = refl;
+        program = refl;
         stays = node_stays;
       }
     where
@@ -273,12 +275,13 @@ module _ (old mid new : Machine) (slot : ℕ) (node : Node Activation) (stands :
         becomes = d.becomes ∙ (ap (λ p. effected (seen mid) p (frame_in k) (goes_on (frame_in k))) place ∙ (ap (λ f. effected (seen mid) (place_of node) f (goes_on f)) in_frame ∙ ap (λ s. effected s (place_of node) (frame_in node) (goes_on (frame_in node))) w.becomes));
         agrees = d.agrees;
         workers = d.workers ∙ w.workers;
+        program = d.program ∙ w.program;
       }
 
 -- the sum that is stored is the number added
 pub added_done : (old new : Machine) (node : Node Activation) (c : Cell) (z held : ℤ) → (seen old).core.memory c ≡ Some held → PlainDone old new node (stores (frame_in node) c (cell_sum held z)) → PlainDone old new node (adds_to (frame_in node) c z ((seen old).core.memory c))
 added_done old new node c z held is d =
-    subst (λ o. PlainDone old new node (adds_to (frame_in node) c z o)) (sym is) (record { sound = refl; becomes = d.becomes ∙ same; agrees = d.agrees; workers = d.workers })
+    subst (λ o. PlainDone old new node (adds_to (frame_in node) c z o)) (sym is) (record { sound = refl; becomes = d.becomes ∙ same; agrees = d.agrees; workers = d.workers; program = d.program })
   where
     cell : (x : Cell) (b : Bool) → same_cell c x ≡ b → override (cond b (Some (Some (cell_sum held z))) None) ((seen old).core.memory x) ≡ added (cond b (Some z) None) ((seen old).core.memory x)
     cell x false e = refl
@@ -316,6 +319,7 @@ written_none m o agrees =
       };
       agrees = agrees;
       workers = refl;
+      program = refl;
       stays = λ s n there. (n, there, refl, refl);
     }
   where
@@ -333,6 +337,7 @@ written_more old mid new slot node o i stands w stores_at =
       becomes = v.becomes ∙ (ap (λ (s : running.Machine). record s { core = record s.core { memory = λ x. override (one_cell (record { object = object_of (place_of node) o; index = i }) (pos 0) x) (s.core.memory x) } }) w.becomes ∙ joined);
       agrees = v.agrees;
       workers = v.workers ∙ w.workers;
+      program = v.program ∙ w.program;
       stays = λ s n here. let (a, at, path_a, frame_a) = w.stays s n here in let (b, at_b, path_b, frame_b) = v.stays s a at in
           (b, at_b, path_b ∙ path_a, frame_b ∙ ap (λ (x : Activation). record x { frame = record x.frame { allocas = b.frame.frame.allocas } }) frame_a);
     }
@@ -375,21 +380,16 @@ edge_of prog f target fine = from (registers_along prog f target) refl fine
     from None is e = absurd (cc)
     from (Some r) is e = rw is refl
 
--- a sync along such an edge is no plain step
-pub sync_no_plain : (f : Frame) (region target : ℕ) (o : Option Registers) (e : Effect) → IsSome o → syncs f region target o ≡ Plain e → ⊥
-sync_no_plain f region target None e some is = absurd (cc)
-sync_no_plain f region target (Some r) e some is = let g : Sync region target r ≡ Plain e = is in cc
-
 -- ---- the next instruction
 
-pub executes : (m new : Machine) (top : ℕ) (act : Activation) (prog : Program) (effect : Asked) → frame_at m.cactus top ≡ Some act → IsDoable act.frame effect →
+pub executes : (m new : Machine) (worker top : ℕ) (act : Activation) (prog : Program) (effect : Asked) → frame_at m.cactus top ≡ Some act → IsDoable act.frame effect →
     ((p : Path) (memory : Memory) → length p ≡ act.frame.depth → asked prog p (frame_of p act.frame) memory (Ok effect) ≡ action_of prog p (frame_of p act.frame) memory) →
-    (CanDoAt m.cactus top effect → PerformsPlain prog m new top effect) → DoesAsked prog m new top
-executes m new top act prog effect stood can does performs node e stands agrees none action =
-    let same : node.frame ≡ act = same_frame m.cactus top node act stands stood in
-    let depth : length (place_of node) ≡ act.frame.depth = length-reverse node.path.numbers ∙ (sym (agrees.depths top node stands) ∙ ap (λ (a : Activation). a.frame.depth) same) in
+    (CanDoAt m.cactus top effect → Performs prog m new worker top effect) → StepsAt prog m new worker top
+executes m new worker top act prog effect stood can does performs node turn =
+    let same : node.frame ≡ act = same_frame m.cactus top node act turn.stands stood in
+    let depth : length (place_of node) ≡ act.frame.depth = length-reverse node.path.numbers ∙ (sym (turn.machine.agrees.depths top node turn.stands) ∙ ap (λ (a : Activation). a.frame.depth) same) in
     let is : asked prog (place_of node) (frame_in node) (seen m).core.memory (Ok effect) ≡ action_of prog (place_of node) (frame_in node) (seen m).core.memory = subst (λ (a : Activation). asked prog (place_of node) (frame_of (place_of node) a.frame) (seen m).core.memory (Ok effect) ≡ action_of prog (place_of node) (frame_of (place_of node) a.frame) (seen m).core.memory) (sym same) (does (place_of node) (seen m).core.memory depth) in
-    performs (λ a at. subst (λ (b : Activation). IsDoable b.frame effect) (let q : Some act ≡ Some a = sym stood ∙ at in let r : act ≡ a = cc in r) can) node e stands agrees none (is ∙ action)
+    performs (λ a at. subst (λ (b : Activation). IsDoable b.frame effect) (let q : Some act ≡ Some a = sym stood ∙ at in let r : act ≡ a = cc in r) can) node turn is
 
 pub performed : (old new : Machine) (node : Node Activation) (x e : Effect) → Plain x ≡ Plain e → PlainDone old new node x → PlainDone old new node e
 performed old new node x e is done = subst (λ y. PlainDone old new node y) (let same : x ≡ e = cc in same) done
@@ -397,59 +397,3 @@ performed old new node x e is done = subst (λ y. PlainDone old new node y) (let
 pub all_ok : {T E P : Type 0} (r : Result T E) → P → OnOk r P
 all_ok (Ok v) p = p
 all_ok (Err e) p = tt
-
--- ---- control is no plain step
-
-pub detach_no_plain : (region body next : ℕ) (e : Effect) → Detach region body next ≡ Plain e → ⊥
-detach_no_plain region body next e is = cc
-
-pub reattach_no_plain : (region : ℕ) (e : Effect) → Reattach region ≡ Plain e → ⊥
-reattach_no_plain region e is = cc
-
-pub call_no_plain : (d : Option RegisterId) (callee : ℕ) (values : List Value) (e : Effect) → Call d callee values ≡ Plain e → ⊥
-call_no_plain d callee values e is = cc
-
-pub return_no_plain : (result : Option ℤ) (e : Effect) → Return result ≡ Plain e → ⊥
-return_no_plain result e is = cc
-
--- ---- the worker's step
-
-module _ (prog : Program) (old mid : Machine) (w top : ℕ) (has : hand_of old.hands.items w ≡ Some top) (does : DoesAsked prog old mid top) where
-  abbrev after_step : Machine
-  after_step = record mid { instructions = old.instructions + 1 }
-
-  -- a step that the definitions have as a plain one is the event
-  pub steps_plainly : StepsPlainly prog old after_step w
-  steps_plainly p f e m hand is action going =
-      let (node, stands) = node_tells old.cactus top (m.agrees.held w top has) in
-      let place : place_of node ≡ p = (let q : Some (place_of node) ≡ Some p = sym (hand_seen old.cactus old.hands.items w top node has stands) ∙ hand in cc) in
-      let there : (seen old).core.frames (place_of node) ≡ Some (frame_in node) = frame_seen old.cactus m.agrees.tree top node stands in
-      let frame : frame_in node ≡ f = (let q : Some (frame_in node) ≡ Some f = sym there ∙ (ap (seen old).core.frames place ∙ is) in cc) in
-      let within : w < length old.hands.items = hand_below old.hands.items w top has in
-      let some : 1 ≤ length old.hands.items = omega arith in
-      let man : Manned (length old.hands.items) (seen old).core (seen old).hands = reached_manned prog (length old.hands.items) (seen old) some m.reached refl in
-      let goer : Goes (seen old).core p = man.goers w p hand in
-      let same : goer.frame ≡ f = (let q : Some goer.frame ≡ Some f = sym goer.is ∙ is in cc) in
-      let go : may_go (seen old).core p f.made f.waits ≡ true = subst (λ (x : Frame). may_go (seen old).core p x.made x.waits ≡ true) same goer.may in
-      let none : node.frame.callee ≡ None = no_callee node node.frame.frame.waits node.frame.callee refl (m.agrees.callees top node stands) (subst (λ (x : Frame). may_go (seen old).core p x.made x.waits ≡ true) (sym frame) go) in
-      let asked_here : action_of prog (place_of node) (frame_in node) (seen old).core.memory ≡ Plain e = ap (λ q. action_of prog q (frame_in node) (seen old).core.memory) place ∙ (ap (λ (x : Frame). action_of prog p x (seen old).core.memory) frame ∙ action) in
-      let d : PlainDone old mid node e = does node e stands m.agrees none asked_here in
-      let becomes : seen mid ≡ effected (seen old) p f e = d.becomes ∙ (ap (λ q. effected (seen old) q (frame_in node) e) place ∙ ap (λ (x : Frame). effected (seen old) p x e) frame) in
-      let after : seen after_step ≡ counted (effected (seen old) p f e) = ap (λ (s : running.Machine). record s { core = record s.core { done = old.instructions + 1 } }) becomes in
-      let happens : running.event prog (length old.hands.items) (running.Step w) (seen old) ≡ Some (seen after_step) = plain_event prog (length old.hands.items) (seen old) w p f e refl hand is go action d.sound ∙ ap Some (sym after) in (
-        happens,
-        record {
-          going = going;
-          agrees = d.agrees;
-          reached = subst (λ n. IsReached prog n (seen after_step)) (sym d.workers) (reached_next prog (length old.hands.items) (seen old) (seen after_step) (running.Step w) m.reached happens);
-        },
-      )
-    where
-      no_callee : (node : Node Activation) (x : Waits) (c : Option ℕ) → node.frame.frame.waits ≡ x → CalleeStands old.cactus node x c → may_go (seen old).core p (frame_in node).made (frame_in node).waits ≡ true → c ≡ None
-      no_callee node waits.Nothing c is stands go = stands
-      no_callee node (waits.Region r) c is stands go = stands
-      no_callee node (waits.Call child d) c is stands go = absurd (let h = rw is at go in cc)
-
--- of a machine that has trapped nothing is said
-pub trapped_quiet : (prog : Program) (old new : Machine) (w : ℕ) → new.phase ≡ Trapped → StepsPlainly prog old new w
-trapped_quiet prog old new w trapped p f e m hand is action going = absurd (let same : Trapped ≡ Going = sym trapped ∙ going in cc)

@@ -211,6 +211,7 @@ module _ (m : Machine) (agrees : Agrees m.cactus m.hands.items) (slot : ℕ) (no
         becomes = seen_written m agrees slot node stands (record node.frame { frame = g }) (went (frame_in node) e) is allocas ∙ quiet_effected (seen m) (place_of node) (frame_in node) e quiet;
         agrees = agrees_written m.cactus m.hands.items agrees slot node stands (record node.frame { frame = g }) depth refl calls fit keeps (λ region. refl);
         workers = refl;
+        program = refl;
       }
     where
       free : g.waits ≡ wait.Nothing

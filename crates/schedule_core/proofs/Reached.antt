@@ -60,7 +60,7 @@ module _ (prog : Program) (workers : ℕ) where
       subst (λ (x : Machine). Manned workers x.core x.hands) r.after
       (after_replay r.events (start prog r.arguments r.memory) (start_manned prog r.arguments r.memory workers some) (ap (λ (x : Machine). x.trapped) r.after ∙ fine))
 
-  replay_more : (events : List Event) (e : Event) (m : Machine) → replay prog workers (events ++ e ∷ []) m ≡ or_unchanged (event prog workers e (replay prog workers events m)) (replay prog workers events m)
+  pub replay_more : (events : List Event) (e : Event) (m : Machine) → replay prog workers (events ++ e ∷ []) m ≡ or_unchanged (event prog workers e (replay prog workers events m)) (replay prog workers events m)
   replay_more [] e m = refl
   replay_more (d ∷ events) e m = replay_more events e (or_unchanged (event prog workers d m) m)
 

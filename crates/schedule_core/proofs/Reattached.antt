@@ -282,6 +282,7 @@ module _ (prog : Program) (old : Machine) (w slot : ℕ) (node : Node Activation
                 (subst (λ o. CalleeStands after (above_then old.cactus mid old.hands.items agrees slot node turn.stands removed shrinks leaf w lt turn.hand up above up_stands number below a) above.frame.frame.waits o) (sym callee) (calls_stay above.frame.frame.waits refl above.frame.callee (agrees.callees up above up_stands))))
                 counts_stand;
             workers = length-set old.hands.items w next;
+            program = refl;
             over = λ z e. absurd (let f : Going ≡ Ended z = sym turn.going ∙ e in cc);
           }
         where

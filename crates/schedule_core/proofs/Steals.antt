@@ -31,7 +31,7 @@ use Rattle.schedule_core.specs.Seen.{place_of, seen, frames_of, hands_of, Callee
 use Rattle.schedule_core.proofs.Counting.{counts_stand}
 use Rattle.schedule_core.proofs.Views.{node_tells, frame_seen, hand_found, hand_seen, nobody_holds, somebody_holds, TopIs, top_is, ended_at, frames_stay, memory_stays, hand_set}
 
-unless : {A : Type 0} (b : Bool) (o : Option A) → o ≡ None → cond b o None ≡ None
+pub unless : {A : Type 0} (b : Bool) (o : Option A) → o ≡ None → cond b o None ≡ None
 unless true o e = e
 unless false o e = refl
 
@@ -71,7 +71,7 @@ is_child_of : (r : RoleOf) → ((r ≡ role.Body) × (running.is_child (role_of 
 is_child_of role.Body = inl (refl, refl)
 is_child_of (role.Child region continuation) = inr ((λ e. cc), refl)
 
-no_child_empty : (l : List ℕ) (k : ℕ) → l ++ k ∷ [] ≢ []
+pub no_child_empty : (l : List ℕ) (k : ℕ) → l ++ k ∷ [] ≢ []
 no_child_empty [] k e = cc
 no_child_empty (x ∷ l) k e = cc
 

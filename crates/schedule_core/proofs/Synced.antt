@@ -195,6 +195,7 @@ module _ (prog : Program) (old : Machine) (w slot : ℕ) (region : RegisterId) (
         counts = refl;
         agrees = agrees_written old.cactus old.hands.items turn.machine.agrees slot node turn.stands passing (ap (λ (f : FrameOf). f.depth) kept) refl callee fit stays (λ q. refl);
         workers = refl;
+        program = refl;
         over = λ z e. absurd (not_ended passed refl z e);
       }
     where
@@ -235,6 +236,7 @@ module _ (prog : Program) (old : Machine) (w slot : ℕ) (region : RegisterId) (
           counts = refl;
           agrees = agrees_idle old.cactus old.hands.items turn.machine.agrees slot node turn.stands stalling w lt turn.hand refl (ap (λ (f : FrameOf). f.depth) kept) callee fit stays (λ q. refl);
           workers = length-set old.hands.items w None;
+          program = refl;
           over = λ z e. absurd (not_ended stalled refl z e);
         }
       where

@@ -1,7 +1,13 @@
 -- What an event does to a machine.
-use Rattle.std.specs.Prelude.{◌≡◌, ◌↔◌, ℕ, ◌+◌, ◌<◌, ◌≤◌, ℤ, Bool, IsTrue, Option, None, Some, IsSome, IsSomeAnd, [], vec_len}
+use Rattle.std.specs.Prelude.{◌≡◌, ◌↔◌, ℕ, ◌+◌, ◌^◌, ◌<◌, ◌≤◌, ℤ, Bool, IsTrue, Option, None, Some, IsSome, IsSomeAnd, [], vec_len}
 use Rattle.std.specs.Option.{option_map}
+use Rattle.linear.specs.declared.form.RegisterId.{RegisterId}
+use Rattle.machine_core.specs.Paths.{Path as RunningPath}
+use Rattle.machine_core.specs.State.{waiting, resumed}
 use Rattle.frame.specs.declared.path.Path.{Path}
+use Rattle.frame.specs.declared.frame.Wait.TheVariants as wait
+use Rattle.frame.specs.Reading.{frame_of}
+use Rattle.frame.specs.Room.{HasNext, HasResult, IsSound}
 use Rattle.cactus.specs.declared.node.Node.{Node}
 use Rattle.cactus.specs.Frames.{node_at, frame_at}
 use Rattle.schedule_core.specs.Scheduling.{hand_of, IsIdle, IsReady, GoesOnWith}
@@ -38,6 +44,20 @@ pub record TakesAt (old new : Machine) (worker top : ℕ) : Type 0 where
 -- the worker takes the ready task of the path
 abbrev pub Takes : Machine → Machine → ℕ → Path → Type 0
 Takes old new worker path = (top : ℕ) × IsTaskTop old.cactus path top × TakesAt old new worker top
+
+-- the frame waits for the call, whose callee is in the slot
+pub record WaitsForCall (old new : Activation) (register : Option RegisterId) (callee : ℕ) : Type 0 where
+  pub is : new ≡ record old { frame = new.frame; callee = Some callee; runner = None }
+  pub frame : (p : RunningPath) → HasNext old.frame → old.frame.made + 1 < 2 ^ 64 → frame_of p new.frame ≡ waiting (frame_of p old.frame) register
+  pub only : new.frame ≡ record old.frame { index = new.frame.index; made = new.frame.made; waits = wait.Call old.frame.made register }
+  pub sound : IsSound old.frame → IsSound new.frame
+
+-- the frame takes the value of its call, and the worker goes on with it
+pub record ResumesWith (old new : Activation) (worker : ℕ) (value : Option ℤ) : Type 0 where
+  pub is : new ≡ record old { frame = new.frame; callee = None; runner = Some worker }
+  pub frame : (p : RunningPath) (child : ℕ) (register : Option RegisterId) → old.frame.waits ≡ wait.Call child register → HasResult old.frame register → frame_of p new.frame ≡ resumed (frame_of p old.frame) register value
+  pub only : new.frame ≡ record old.frame { registers = new.frame.registers; waits = wait.Nothing }
+  pub sound : IsSound old.frame → IsSound new.frame
 
 -- worker 0 runs the root, the others are idle, and nothing is done
 pub record IsStart (m : Machine) (workers : ℕ) : Type 0 where

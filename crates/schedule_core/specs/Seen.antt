@@ -57,6 +57,14 @@ memory_of frames globals x = held_in frames globals x.object x.index
 abbrev pub hands_of : Frames Activation → List (Option ℕ) → ℕ → Option Path
 hands_of frames hands worker = option_and_then (λ slot. option_map place_of (node_at frames slot)) (hand_of hands worker)
 
+abbrev pub given_in : List NamedCells → Object → ℕ → Option ℤ
+given_in globals (Shared g) i = cell_at globals g i
+given_in globals (Local owner n) i = None
+
+-- the memory of a run that begins with these globals
+abbrev pub given : List NamedCells → Memory
+given globals x = given_in globals x.object x.index
+
 -- a machine that has not trapped, as a state of the definitions
 abbrev pub seen : Machine → running.Machine
 seen m =

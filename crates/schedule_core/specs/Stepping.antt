@@ -1,13 +1,14 @@
 -- What a step of a frame does to a machine, as the definitions say it.
-use Rattle.std.specs.Prelude.{◌≡◌, ℕ, ◌+◌, List, [], length, Option, Some, None, Ok, cond, nat_lt, ◌&&◌, IsSome, ℤ, pos}
+use Rattle.std.specs.Prelude.{◌≡◌, ℕ, ◌+◌, List, [], length, Option, Some, None, Ok, Bool, cond, nat_lt, ◌&&◌, IsSome, ℤ, pos, map}
 use Rattle.machine_core.specs.Paths.{Path}
 use Rattle.machine_core.specs.Cells.{Cell, Object, Memory, same_cell, same_object}
 use Rattle.machine_core.specs.Frames.{Frame}
-use Rattle.machine_core.specs.Effect.{Effect, Action, Plain, action_of, registers_along}
+use Rattle.machine_core.specs.Effect.{Effect, Action, Return, action_of, registers_along}
 use Rattle.machine_core.specs.State.{override, added, only, went}
 use Rattle.machine_core.specs.Events as running
 use Rattle.machine_core.specs.Replay.{replay}
 use Rattle.program.specs.declared.function.Program.{Program}
+use Rattle.store.specs.Cells.{NamedCells}
 use Rattle.frame.specs.Reading.{frame_of, cell_of}
 use Rattle.frame.specs.Room.{CanDo, EffectWithin, HasNext, IsSound, SetsAlloca}
 use Rattle.frame.specs.declared.frame.Frame.{Frame as FrameOf}
@@ -21,9 +22,10 @@ use Rattle.cactus.specs.ByPath.{IsTree}
 use Rattle.schedule_core.specs.declared.activation.Activation.{Activation}
 use Rattle.schedule_core.specs.declared.machine.Machine.{Machine}
 use Rattle.schedule_core.specs.declared.machine.Phase.TheVariants.{Ended}
-use Rattle.schedule_core.specs.Running.{IsGoing}
-use Rattle.schedule_core.specs.Scheduling.{hand_of}
-use Rattle.schedule_core.specs.Seen.{place_of, seen, Agrees}
+use Rattle.schedule_core.specs.Running.{IsGoing, IsTrapped}
+use Rattle.schedule_core.specs.Scheduling.{hand_of, counted_in}
+use Rattle.schedule_core.specs.Seen.{place_of, seen, given, event_of, Agrees}
+use Rattle.schedule_core.specs.declared.event.Event.{Event}
 
 -- a state after a plain step of the frame f at p, but for the count of instructions
 abbrev pub effected : running.Machine → Path → Frame → Effect → running.Machine
@@ -41,6 +43,7 @@ pub record PlainDone (old new : Machine) (node : Node Activation) (e : Effect) :
   pub becomes : seen new ≡ effected (seen old) (place_of node) (frame_in node) e
   pub agrees : Agrees new.cactus new.hands.items
   pub workers : length new.hands.items ≡ length old.hands.items
+  pub program : new.verified ≡ old.verified
 
 -- of the slot's frame, which waits for no call
 abbrev pub DoesPlain : Machine → Machine → ℕ → (Path → Frame → Effect) → Type 0
@@ -67,6 +70,7 @@ pub record Written (old new : Machine) (writes : Cell → Option (Option ℤ)) :
   pub becomes : seen new ≡ record (seen old) { core = record (seen old).core { memory = λ x. override (writes x) ((seen old).core.memory x) } }
   pub agrees : Agrees new.cactus new.hands.items
   pub workers : length new.hands.items ≡ length old.hands.items
+  pub program : new.verified ≡ old.verified
   pub stays : (slot : ℕ) (node : Node Activation) → node_at old.cactus slot ≡ Some node → (later : Node Activation) × (node_at new.cactus slot ≡ Some later) × (later.path ≡ node.path) × (later.frame ≡ record node.frame { frame = record node.frame.frame { allocas = later.frame.frame.allocas } })
 
 -- the cell of an alloca of the owner's frame takes the number
@@ -93,14 +97,6 @@ StoresAt old new slot cell z = (node : Node Activation) → node_at old.cactus s
 abbrev pub HasEdge : Program → Machine → ℕ → ℕ → Type 0
 HasEdge prog m slot target = (node : Node Activation) → node_at m.cactus slot ≡ Some node → Agrees m.cactus m.hands.items → node.frame.callee ≡ None → IsSome (registers_along prog (frame_in node) target)
 
--- what is asked of the slot's frame is done, where that is a plain step
-abbrev pub PerformsPlain : Program → Machine → Machine → ℕ → Asked → Type 0
-PerformsPlain prog old new slot effect = (node : Node Activation) (e : Effect) → node_at old.cactus slot ≡ Some node → Agrees old.cactus old.hands.items → node.frame.callee ≡ None → asked prog (place_of node) (frame_in node) (seen old).core.memory (Ok effect) ≡ Plain e → PlainDone old new node e
-
--- where the definitions have a plain step of the slot's frame, it is done
-abbrev pub DoesAsked : Program → Machine → Machine → ℕ → Type 0
-DoesAsked prog old new slot = (node : Node Activation) (e : Effect) → node_at old.cactus slot ≡ Some node → Agrees old.cactus old.hands.items → node.frame.callee ≡ None → action_of prog (place_of node) (frame_in node) (seen old).core.memory ≡ Plain e → PlainDone old new node e
-
 -- ---- machines that a schedule leads to
 
 pub record IsReached (prog : Program) (workers : ℕ) (c : running.Machine) : Type 0 where
@@ -109,17 +105,18 @@ pub record IsReached (prog : Program) (workers : ℕ) (c : running.Machine) : Ty
   pub events : List running.Event
   pub after : replay prog workers events (running.start prog arguments memory) ≡ c
 
+-- no frame is left of a run that has ended
+abbrev pub IsOver : Machine → Type 0
+IsOver m = (z : ℤ) → m.phase ≡ Ended z → (seen m).core.frames [] ≡ None
+
 -- the machine reads as a state that a schedule leads to, and no step has trapped
 pub record IsMachine (prog : Program) (m : Machine) : Type 0 where
-  pub going : IsGoing m
+  pub sound : ¬ IsTrapped m
+  pub over : IsOver m
   pub agrees : Agrees m.cactus m.hands.items
   pub reached : IsReached prog (length m.hands.items) (seen m)
 
 -- ---- the step of a worker
-
--- no frame is left of a run that has ended
-abbrev pub IsOver : Machine → Type 0
-IsOver m = (z : ℤ) → m.phase ≡ Ended z → (seen m).core.frames [] ≡ None
 
 -- the worker's step is the definitions' event, but for the count of instructions
 pub record IsStep (prog : Program) (old new : Machine) (worker : ℕ) : Type 0 where
@@ -127,6 +124,7 @@ pub record IsStep (prog : Program) (old new : Machine) (worker : ℕ) : Type 0 w
   pub counts : new.instructions ≡ old.instructions
   pub agrees : Agrees new.cactus new.hands.items
   pub workers : length new.hands.items ≡ length old.hands.items
+  pub program : new.verified ≡ old.verified
   pub over : IsOver new
 
 -- the slot has this node, and it is the top of the task that the worker runs, of a machine that goes on
@@ -140,11 +138,48 @@ pub record IsTurn (prog : Program) (m : Machine) (worker slot : ℕ) (node : Nod
 abbrev pub next_action : Program → Machine → Node Activation → Action
 next_action prog m node = action_of prog (place_of node) (frame_in node) (seen m).core.memory
 
+-- the slot's frame, which has this parent and no children, returns the value
+abbrev pub ReturnsTo : Program → Machine → Machine → ℕ → ℕ → Option ℕ → Option ℤ → Type 0
+ReturnsTo prog old new worker slot parent value = (node : Node Activation) → IsTurn prog old worker slot node → node.parent ≡ parent → ((region : ℕ) → counted_in node.frame region ≡ 0) → next_action prog old node ≡ Return value → IsStep prog old new worker
+
 -- what is asked of the slot's frame is done, where the definitions ask for it
 abbrev pub Performs : Program → Machine → Machine → ℕ → ℕ → Asked → Type 0
 Performs prog old new worker slot effect = (node : Node Activation) → IsTurn prog old worker slot node → asked prog (place_of node) (frame_in node) (seen old).core.memory (Ok effect) ≡ next_action prog old node → IsStep prog old new worker
 
--- the event of the definitions, where the worker's next step is a plain one
-abbrev pub StepsPlainly : Program → Machine → Machine → ℕ → Type 0
-StepsPlainly prog old new worker = (p : Path) (f : Frame) (e : Effect) → IsMachine prog old → (seen old).hands worker ≡ Some p → (seen old).core.frames p ≡ Some f → action_of prog p f (seen old).core.memory ≡ Plain e → IsGoing new →
-    (running.event prog (length old.hands.items) (running.Step worker) (seen old) ≡ Some (seen new)) × IsMachine prog new
+-- the slot's frame has done its next instruction
+abbrev pub StepsAt : Program → Machine → Machine → ℕ → ℕ → Type 0
+StepsAt prog old new worker slot = (node : Node Activation) → IsTurn prog old worker slot node → IsStep prog old new worker
+
+-- ---- events
+
+-- The event is done exactly where it is enabled, and then the machine is as the definitions say. Of a step that the machine's own tests refuse
+-- nothing is said.
+pub record IsEvent (prog : Program) (old new : Machine) (event : running.Event) (done : Bool) : Type 0 where
+  pub exact : running.event prog (length old.hands.items) event (seen old) ≡ cond done (Some (seen new)) None
+  pub workers : length new.hands.items ≡ length old.hands.items
+  pub program : new.verified ≡ old.verified
+  pub machine : IsMachine prog new
+
+abbrev pub DoesEvent : Program → Machine → Machine → running.Event → Bool → Type 0
+DoesEvent prog old new event done = IsMachine prog old → ¬ IsTrapped new → IsEvent prog old new event done
+
+-- the events, one after another, are those of the definitions' replay
+pub record AreEvents (prog : Program) (old new : Machine) (events : List running.Event) : Type 0 where
+  pub replayed : replay prog (length old.hands.items) events (seen old) ≡ seen new
+  pub workers : length new.hands.items ≡ length old.hands.items
+  pub program : new.verified ≡ old.verified
+  pub machine : IsMachine prog new
+
+abbrev pub DoesAll : Program → Machine → Machine → List running.Event → Type 0
+DoesAll prog old new events = IsMachine prog old → ¬ IsTrapped new → AreEvents prog old new events
+
+-- the machine is the definitions' start, with these arguments and globals
+pub record StartsAs (prog : Program) (arguments : List ℤ) (globals : List NamedCells) (m : Machine) : Type 0 where
+  pub reads : seen m ≡ running.start prog arguments (given globals)
+  pub program : m.verified.now ≡ prog
+  pub machine : IsMachine prog m
+
+-- the machine is the definitions' replay of the events
+pub record Replays (prog : Program) (arguments : List ℤ) (globals : List NamedCells) (workers : ℕ) (events : List Event) (m : Machine) : Type 0 where
+  pub reads : seen m ≡ replay prog workers (map event_of events) (running.start prog arguments (given globals))
+  pub machine : IsMachine prog m

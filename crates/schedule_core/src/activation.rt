@@ -4,6 +4,7 @@ ghost use Rattle.machine_core.specs.State.{continued};
 ghost use Rattle.frame.specs.Reading.{frame_of};
 ghost use Rattle.frame.specs.Room.{IsSound};
 ghost use Rattle.frame.specs.declared.frame.Wait.TheVariants.{Nothing, Region};
+ghost use Rattle.schedule_core.specs.Running.{WaitsForCall, ResumesWith};
 ghost use Rattle.schedule_core.specs.Scheduling.{IsReady, standing_of, count_in, counted_in};
 
 use frame::{Frame, Trap, Wait};
@@ -107,8 +108,7 @@ impl Activation {
 
     /// The frame, whose worker is this one's, waits for the call.
     pub fn wait_for_call(&mut self, register: Option<RegisterId>, callee: usize)
-        ensures runner { self.new.runner ≡ None }
-        ensures callee { self.new.callee ≡ Some callee }
+        ensures { WaitsForCall self.old self.new register callee }
     {
         let _number = self.frame.wait_for_call(register);
         self.callee = Some(callee);
@@ -117,8 +117,7 @@ impl Activation {
 
     /// The callee returned with the value; the worker goes on with this frame.
     pub fn after_call(&mut self, worker: u8, value: Option<i64>)
-        ensures runner { self.new.runner ≡ Some worker }
-        ensures callee { self.new.callee ≡ None }
+        ensures { ResumesWith self.old self.new worker value }
     {
         self.frame.resume(value);
         self.callee = None;

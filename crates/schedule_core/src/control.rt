@@ -1,13 +1,10 @@
 ghost use Rattle.std.specs.Prelude.{ℕ, Some, ◌≡◌, ◌≢◌, ◌+◌, ◌^◌, ◌<◌, IsTrue, None, OnOk, max, vec_len};
 ghost use Rattle.std.specs.Vec.{with_item};
-ghost use Rattle.cactus.specs.declared.node.Node.{Node};
-ghost use Rattle.cactus.specs.Frames.{node_at};
-ghost use Rattle.schedule_core.specs.declared.activation.Activation.{Activation};
-ghost use Rattle.schedule_core.specs.Running.{result_of};
 ghost use Rattle.schedule_core.specs.Scheduling.{hand_of, BeginsChild, EndsChild, GoesOnWith, StallsAt, living_within, waits_at};
 ghost use Rattle.schedule_core.specs.Seen.{taken};
 ghost use Rattle.machine_core.specs.Effect.{jumps};
-ghost use Rattle.schedule_core.specs.Stepping.{CanDoAt, DoesPlain, HasEdge, Performs, PerformsPlain};
+ghost use Rattle.cactus.specs.Frames.{Lives};
+ghost use Rattle.schedule_core.specs.Stepping.{CanDoAt, DoesPlain, HasEdge, Performs, ReturnsTo};
 ghost use Rattle.schedule_core.specs.Forking.{Enters, with_change};
 ghost use Rattle.frame.specs.declared.frame.Wait.TheVariants.{Region};
 ghost use Rattle.linear.specs.declared.form.RegisterId.{RegisterId};
@@ -27,7 +24,7 @@ impl Machine<'_> {
     pub(crate) fn control(&mut self, worker: u8, top: usize, effect: Effect) -> Result<(), Halt>
         requires { worker < vec_len self.old.hands }
         ensures refused { result ≡ Err Halt.OutOfMemory → self.new ≡ self.old }
-        ensures plain { OnOk result (PerformsPlain self.old.verified.now self.old self.new top effect) }
+        ensures step { OnOk result (CanDoAt self.old.cactus top effect → Performs self.old.verified.now self.old self.new worker top effect) }
     {
         match effect {
             Effect::Detach {
@@ -234,14 +231,14 @@ impl Machine<'_> {
         callee: FunctionId,
     ) -> Result<(), Halt>
         requires { worker < vec_len self.old.hands }
-        ensures callee_first { OnOk result (BeginsChild self.old.cactus self.new.cactus self.new.hands.items worker slot) }
+        ensures calls { OnOk result (CanDoAt self.old.cactus slot (Effect.Call register callee) → Performs self.old.verified.now self.old self.new worker slot (Effect.Call register callee)) }
         ensures refused { result ≡ Err Halt.OutOfMemory → self.new ≡ self.old }
     {
-        if self.cactus.frames_made() >= MOST_FRAMES {
-            return Err(Halt::Trapped(Trap::Unmatched));
-        }
         let program = self.program();
         let caller = &self.activation(slot)?.frame;
+        if !self.has_room(caller.depth) {
+            return Err(Halt::Trapped(Trap::Unmatched));
+        }
         let frame = Frame::called(self.alloc, program, caller, callee)?;
         let depth = frame.depth;
         let number = caller.made;
@@ -259,32 +256,53 @@ impl Machine<'_> {
     /// The function ends; its caller goes on with the result, or the run ends with it.
     fn return_with(&mut self, worker: u8, slot: usize, value: Option<i64>) -> Result<(), Trap>
         requires { worker < vec_len self.old.hands }
-        ensures returns { (node : Node Activation) (caller : ℕ) → node_at self.old.cactus slot ≡ Some node → node.parent ≡ Some caller
-            → OnOk result (hand_of self.new.hands.items worker ≡ Some caller) }
-        ensures ends { (node : Node Activation) → node_at self.old.cactus slot ≡ Some node → node.parent ≡ None
-            → OnOk result (result_of self.new.phase ≡ value) }
+        ensures { OnOk result (Performs self.old.verified.now self.old self.new worker slot (Effect.Return value)) }
     {
-        let node = self.cactus.node(slot).ok_or(Trap::Unmatched)?;
+        let Some(node) = self.cactus.node(slot) else {
+            return Err(Trap::Unmatched);
+        };
         if !node.frame.is_childless() {
             return Err(Trap::Unmatched);
         }
         match (node.parent, value) {
-            (Some(caller_slot), value) => {
-                let _callee = self.cactus.pop_call(slot);
-                match self.cactus.frame_mut(caller_slot) {
-                    Some(caller) => caller.after_call(worker, value),
-                    None => return Err(Trap::Unmatched),
-                }
-                self.set_hand(worker, Some(caller_slot));
-                Ok(())
-            }
-            (None, Some(result)) => {
-                let _root = self.cactus.pop_call(slot);
-                self.set_hand(worker, None);
-                self.phase = Phase::Ended { result };
+            (Some(caller), _) => self.return_to(worker, slot, caller, value),
+            (None, Some(number)) => {
+                self.end_with(worker, slot, number);
                 Ok(())
             }
             (None, None) => Err(Trap::Undefined),
         }
+    }
+
+    /// The frame in the slot goes, and its caller goes on with the value.
+    fn return_to(
+        &mut self,
+        worker: u8,
+        slot: usize,
+        caller: usize,
+        value: Option<i64>,
+    ) -> Result<(), Trap>
+        requires worker { worker < vec_len self.old.hands }
+        requires lives { Lives self.old.cactus slot }
+        ensures { OnOk result (ReturnsTo self.old.verified.now self.old self.new worker slot (Some caller) value) }
+    {
+        let _callee = self.cactus.pop_call(slot);
+        match self.cactus.frame_mut(caller) {
+            Some(above) => above.after_call(worker, value),
+            None => return Err(Trap::Unmatched),
+        }
+        self.set_hand(worker, Some(caller));
+        Ok(())
+    }
+
+    /// The root goes, and the run ends with the number.
+    fn end_with(&mut self, worker: u8, slot: usize, number: i64)
+        requires worker { worker < vec_len self.old.hands }
+        requires lives { Lives self.old.cactus slot }
+        ensures { ReturnsTo self.old.verified.now self.old self.new worker slot None (Some number) }
+    {
+        let _root = self.cactus.pop_call(slot);
+        self.set_hand(worker, None);
+        self.phase = Phase::Ended { result: number };
     }
 }

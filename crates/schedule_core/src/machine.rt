@@ -1,12 +1,13 @@
-ghost use Rattle.std.specs.Prelude.{◌↔◌, IsSome, is_some, count_by, ◌≡◌, ◌<◌, ℕ, false, true, Some, IsTrue, IsSomeAnd, IfOk, OnOk, OnErr, OnSome, vec_len, reverse};
+ghost use Rattle.std.specs.Prelude.{◌↔◌, IsSome, is_some, count_by, ◌≡◌, ◌<◌, ℕ, false, true, Some, IsTrue, IsSomeAnd, IfOk, OnOk, OnErr, OnSome, length, map, reverse, vec_len};
 ghost use Rattle.std.specs.Vec.{with_item};
 ghost use Rattle.cactus.specs.Frames.{Lives, frame_at};
 ghost use Rattle.schedule_core.specs.Scheduling.{hand_of, IsIdle, IsReady};
 ghost use Rattle.frame.specs.declared.path.Path.{Path};
 ghost use Rattle.store.specs.declared.memory.Memory.{Memory};
 ghost use Rattle.store.specs.Cells.{cell_named};
-ghost use Rattle.schedule_core.specs.Stepping.{StepsPlainly};
-ghost use Rattle.schedule_core.specs.Seen.{Agrees, StealsIf, taken};
+ghost use Rattle.machine_core.specs.Events.{Step};
+ghost use Rattle.schedule_core.specs.Stepping.{DoesAll, DoesEvent, StartsAs};
+ghost use Rattle.schedule_core.specs.Seen.{Agrees, StealsIf, event_of, taken};
 ghost use Rattle.schedule_core.specs.Running.{IsGoing, IsTrapped, result_of, IsStart, IsNumberOfWorkers, StepsWhere, Takes, TakesAt};
 
 use crate::activation::Activation;
@@ -58,6 +59,7 @@ impl<'v> Machine<'v> {
         workers: usize,
     ) -> Result<Machine<'v>, RunFault>
         ensures started { IfOk result (λ m. IsStart m workers) }
+        ensures state { IfOk result (λ m. StartsAs verified.now arguments.now memory m) }
         ensures in_range { OnOk result (IsNumberOfWorkers workers) }
         ensures bad_workers { (m : Memory) → result ≡ Err (RunFault.BadWorkers m) → (m ≡ memory) × ¬ IsNumberOfWorkers workers }
         ensures bad_arguments { (requirement : ℕ) (m : Memory) → result ≡ Err (RunFault.BadArguments requirement m) → m ≡ memory }
@@ -87,11 +89,13 @@ impl<'v> Machine<'v> {
         workers: usize,
     ) -> Result<Machine<'v>, OutOfMemory>
         requires { 0 < workers }
-        ensures { IfOk result (λ m. IsStart m workers) }
+        ensures started { IfOk result (λ m. IsStart m workers) }
+        ensures state { IfOk result (λ m. StartsAs verified.now arguments.now memory m) }
     {
         let frame = Frame::root(alloc, verified.program(), arguments)?;
         let mut cactus = Cactus::new(alloc);
-        let root = cactus.add_root(Activation::new(alloc, frame, 0)?)?;
+        let main = Activation::new(alloc, frame, 0)?;
+        let root = cactus.add_root(main)?;
         let mut hands = vec![in alloc; None; workers]?;
         hands[0] = Some(root);
         Ok(Machine {
@@ -153,9 +157,7 @@ impl<'v> Machine<'v> {
         ensures not_enabled { result ≡ Ok false → self.new ≡ self.old }
         ensures over { ¬ IsGoing self.old → result ≡ Ok false }
         ensures step { (worker : ℕ) → event.now ≡ Event.Step worker → IfOk result (StepsWhere self.old self.new worker) }
-        ensures plain_step { (worker : ℕ) → event.now ≡ Event.Step worker → result ≡ Ok true → StepsPlainly self.old.verified.now self.old self.new worker }
-        ensures steal { (worker : ℕ) (path : Path) → event.now ≡ Event.Steal worker path → IsGoing self.old → Agrees self.old.cactus self.old.hands.items
-            → IfOk result (StealsIf self.old self.new worker (reverse path.numbers)) }
+        ensures event { IfOk result (DoesEvent self.old.verified.now self.old self.new (event_of event.now)) }
     {
         if self.phase != Phase::Going {
             return Ok(false);
@@ -166,13 +168,23 @@ impl<'v> Machine<'v> {
         }
     }
 
+    /// The events, one after another; one that is not enabled changes nothing.
+    pub(crate) fn apply_all(&mut self, events: &[Event]) -> Result<(), OutOfMemory>
+        ensures { OnOk result (DoesAll self.old.verified.now self.old self.new (map event_of events.now)) }
+    {
+        for event in events {
+            let _enabled = self.apply(event)?;
+        }
+        Ok(())
+    }
+
     /// The worker executes the next instruction of its task, if it has one.
     fn step(&mut self, worker: u8) -> Result<bool, OutOfMemory>
         requires { IsGoing self.old }
         ensures refused { OnErr result (self.new ≡ self.old) }
         ensures not_enabled { result ≡ Ok false → self.new ≡ self.old }
         ensures enabled { IfOk result (StepsWhere self.old self.new worker) }
-        ensures plain { result ≡ Ok true → StepsPlainly self.old.verified.now self.old self.new worker }
+        ensures event { IfOk result (DoesEvent self.old.verified.now self.old self.new (Step worker)) }
     {
         let Some(top) = self.hand(worker) else {
             return Ok(false);
@@ -207,6 +219,8 @@ impl<'v> Machine<'v> {
         ensures yes { IsTrue result → Takes self.old self.new worker path.now }
         ensures exact { Agrees self.old.cactus self.old.hands.items → StealsIf self.old self.new worker (reverse path.now.numbers) result }
         ensures agrees { Agrees self.old.cactus self.old.hands.items → Agrees self.new.cactus self.new.hands.items }
+        ensures kept { self.new ≡ record self.old { cactus = self.new.cactus; hands = self.new.hands } }
+        ensures workers { length self.new.hands.items ≡ length self.old.hands.items }
     {
         match self.top_of(path) {
             Some(top) => self.take(worker, top),
@@ -220,6 +234,8 @@ impl<'v> Machine<'v> {
         ensures yes { IsTrue result → TakesAt self.old self.new worker top }
         ensures enabled { IsIdle self.old.hands.items worker → IsSomeAnd (frame_at self.old.cactus top) IsReady → IsTrue result }
         ensures becomes { IsTrue result → self.new ≡ taken self.old worker top }
+        ensures kept { self.new ≡ record self.old { cactus = self.new.cactus; hands = self.new.hands } }
+        ensures workers { length self.new.hands.items ≡ length self.old.hands.items }
     {
         if worker as usize >= self.hands.len() || self.hand(worker).is_some() {
             return false;

@@ -1,9 +1,11 @@
 ghost use Rattle.std.specs.Prelude.{◌≡◌, ℕ, IfOk, OnOk};
 ghost use Rattle.store.specs.declared.memory.Memory.{Memory};
 ghost use Rattle.schedule_core.specs.Running.{IsTrapped, IsNumberOfWorkers};
+ghost use Rattle.schedule_core.specs.Stepping.{Replays};
 
 use crate::event::Event;
 use crate::machine::Machine;
+use lists::OutOfMemory;
 use serial_machine::RunFault;
 use std::alloc::Global;
 use store::Memory;
@@ -23,18 +25,15 @@ pub fn replay<'v>(
     events: &[Event],
 ) -> Result<Machine<'v>, RunFault>
     ensures sound { IfOk result (λ m. ¬ IsTrapped m) }
+    ensures replays { IfOk result (λ m. Replays verified.now arguments.now memory workers events.now m) }
     ensures in_range { OnOk result (IsNumberOfWorkers workers) }
     ensures bad_workers { (m : Memory) → result ≡ Err (RunFault.BadWorkers m) → (m ≡ memory) × ¬ IsNumberOfWorkers workers }
     ensures bad_arguments { (requirement : ℕ) (m : Memory) → result ≡ Err (RunFault.BadArguments requirement m) → m ≡ memory }
 {
     let mut machine = Machine::start(alloc, verified, arguments, memory, workers)?;
-    for event in events {
-        if machine.apply(event).is_err() {
-            return Err(RunFault::OutOfMemory);
-        }
+    match machine.apply_all(events) {
+        Err(OutOfMemory) => Err(RunFault::OutOfMemory),
+        Ok(()) if machine.is_trapped() => Err(RunFault::Trapped),
+        Ok(()) => Ok(machine),
     }
-    if machine.is_trapped() {
-        return Err(RunFault::Trapped);
-    }
-    Ok(machine)
 }

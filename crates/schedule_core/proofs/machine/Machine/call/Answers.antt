@@ -1,17 +1,32 @@
-use Rattle.std.proofs.Common.{rules, ◌≡◌, ◌<◌, length, List, Option, ℕ, Some, subst, sym, ap, ◌∙◌, slice_set}
-use Rattle.cactus.specs.Frames.{Frames, AddsChild}
+use Rattle.std.proofs.Common.{rules, ◌≡◌, ◌+◌, ◌<◌, ◌^◌, ℕ, List, ◌∷◌, length, Option, Some, subst, sym, ap, ◌∙◌}
+use Rattle.std.specs.Prelude.{IsSome}
+use Rattle.std.specs.Option.{option_copied_mut}
+use Rattle.std.specs.Vec.{with_item}
+use Rattle.machine_core.specs.Paths.{Path}
+use Rattle.machine_core.specs.Effect.{argument_values}
+use Rattle.machine_core.specs.State.{called}
+use Rattle.program.specs.declared.function.Program.{Program}
+use Rattle.frame.specs.Asked.{call_arguments, passed}
+use Rattle.frame.specs.Asked as asked
+use Rattle.frame.specs.Reading.{frame_of}
+use Rattle.frame.specs.Room.{HasChild, IsSound}
 use Rattle.cactus.specs.Lending.{with_frame}
-use Rattle.schedule_core.specs.declared.activation.Activation.{Activation}
 use Rattle.schedule_core.specs.declared.machine.Machine.{Machine}
-use Rattle.schedule_core.specs.Scheduling.{BeginsChild}
-use Rattle.schedule_core.proofs.Moves.{begins}
+use Rattle.schedule_core.specs.Stepping.{IsStep}
+use Rattle.schedule_core.proofs.Calls.{calls_there}
 use Rattle.schedule_core.proofs.machine.Machine.call.Goals as goal
 
-pub returns-clause-callee_first : goal.returns-clause-callee_first
-returns-clause-callee_first c =
-    let adds : AddsChild c.args.self.now.cactus c.push_call.new.self c.args.slot c.in_ok-caller.field-0.now.frame.made c.in_ok-called.called c.in_ok-called_slot.called_slot = c.in_ok-called_slot.ensures.ok in
-    let frames : c.set_hand.new.self.cactus ≡ with_frame c.push_call.new.self c.args.slot c.wait_for_call.new.self = ap (λ (m : Machine). m.cactus) c.set_hand.ensures ∙ ap (λ (m : Machine). m.cactus) c.count_depth.ensures.kept in
-    let hands : c.set_hand.new.self.hands.items ≡ slice_set c.args.self.now.hands.items c.args.worker (Some c.in_ok-called_slot.called_slot) = ap (λ (m : Machine). m.hands.items) c.set_hand.ensures ∙ ap (λ (m : Machine). slice_set m.hands.items c.args.worker (Some c.in_ok-called_slot.called_slot)) c.count_depth.ensures.kept in
-    let within : c.args.worker < length c.args.self.now.hands.items = search rules in
-    let at = begins c.args.self.now.cactus c.push_call.new.self c.args.self.now.hands.items c.args.worker c.args.slot c.in_ok-caller.field-0.now.frame.made c.in_ok-called_slot.called_slot c.in_ok-called.called c.wait_for_call.new.self adds within c.in_ok-called.ensures.runner c.wait_for_call.ensures.runner in
-    subst (λ (f : Frames Activation). BeginsChild c.args.self.now.cactus f c.set_hand.new.self.hands.items c.args.worker c.args.slot) (sym frames) (subst (λ (h : List (Option ℕ)). BeginsChild c.args.self.now.cactus (with_frame c.push_call.new.self c.args.slot c.wait_for_call.new.self) h c.args.worker c.args.slot) (sym hands) at)
+pub returns-clause-calls : goal.returns-clause-calls
+returns-clause-calls c can node turn asked_is =
+    let old = c.args.self.now in
+    let prog = c.args.self.now.verified.now in
+    let b = c.in_ok-caller.field-0.now in
+    let deeper : c.in_ok-caller.field-0.now.frame.depth + 2 < 2 ^ 64 = search rules in
+    let room = (can c.in_ok-caller.field-0.now c.in_ok-caller.ensures.value).can in
+    let becomes : c.set_hand.new.self ≡ record old { cactus = with_frame c.push_call.new.self c.args.slot c.wait_for_call.new.self; hands = with_item old.hands c.args.worker (Some c.in_ok-called_slot.called_slot); peak = c.count_depth.new.self.peak } =
+    c.set_hand.ensures ∙ ap (λ (m : Machine). record m { hands = with_item m.hands c.args.worker (Some c.in_ok-called_slot.called_slot) }) c.count_depth.ensures.kept in
+    subst (λ (m : Machine). IsStep prog old m c.args.worker) (sym becomes)
+    (calls_there prog old c.args.worker c.args.slot c.args.register c.args.callee.0 c.push_call.new.self c.in_ok-called.called c.wait_for_call.new.self b c.in-Some.caller.now c.in_ok-called_slot.called_slot c.count_depth.new.self.peak c.in_ok-frame.frame c.in_ok-caller.ensures.value
+    (sym c.frame_mut.ensures.value ∙ ap option_copied_mut c.in-Some.is) c.in_ok-called_slot.ensures.ok c.in_ok-called_slot.ensures.map room.0 room.1 room.2 deeper
+    (subst (λ (q : Program). (p : Path) → length p ≡ b.frame.depth → IsSound b.frame → HasChild b.frame → IsSome (argument_values (frame_of p b.frame) (call_arguments (asked.place_of q b.frame))) → frame_of (b.frame.made ∷ p) c.in_ok-frame.frame ≡ called p (frame_of p b.frame) c.args.callee.0 (passed q (frame_of p b.frame))) c.program-program.ensures c.in_ok-frame.ensures.called)
+    c.in_ok-frame.ensures.sound c.in_ok-frame.ensures.depth c.in_ok-frame.ensures.undefined c.in_ok-called.ensures.runner c.in_ok-called.ensures.frame c.in_ok-called.ensures.no_callee c.in_ok-called.ensures.none c.wait_for_call.ensures c.count_depth.ensures.peak node turn asked_is)

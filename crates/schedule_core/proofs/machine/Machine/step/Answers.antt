@@ -1,12 +1,15 @@
-use Rattle.std.proofs.Common.{◌≡◌, Some, subst, sym, ◌∙◌}
+use Rattle.std.proofs.Common.{◌≡◌, Bool, true, Some, subst, sym, ◌∙◌}
+use Rattle.machine_core.specs.Events.{Step}
 use Rattle.schedule_core.specs.declared.machine.Machine.{Machine}
 use Rattle.schedule_core.specs.Scheduling.{hand_of}
-use Rattle.schedule_core.specs.Stepping.{StepsPlainly}
-use Rattle.schedule_core.proofs.Performed.{steps_plainly}
+use Rattle.schedule_core.specs.Stepping.{DoesEvent}
+use Rattle.schedule_core.proofs.Happening.{turn_done}
 use Rattle.schedule_core.proofs.machine.Machine.step.Goals as goal
 
-pub returns-in-Ok-clause-plain : goal.returns-in-Ok-clause-plain
-returns-in-Ok-clause-plain c t =
+pub returns-in-Ok-clause-event : goal.returns-in-Ok-clause-event
+returns-in-Ok-clause-event c =
     let has : hand_of c.args.self.now.hands.items c.args.worker ≡ Some c.in-Some.top = sym c.hand.ensures.slot ∙ c.in-Some.is in
-    subst (λ (m : Machine). StepsPlainly c.args.self.now.verified.now c.args.self.now m c.args.worker) (sym c.has_executed.ensures.counted)
-    (steps_plainly c.args.self.now.verified.now c.args.self.now c.execute.new.self c.args.worker c.in-Some.top has c.in-Ok.ensures.plain)
+    let prog = c.args.self.now.verified.now in
+    subst (λ (b : Bool). DoesEvent prog c.args.self.now c.has_executed.new.self (Step c.args.worker) b) (sym c.has_executed.ensures.yes)
+    (subst (λ (m : Machine). DoesEvent prog c.args.self.now m (Step c.args.worker) true) (sym c.has_executed.ensures.counted)
+    (turn_done prog c.args.self.now c.execute.new.self c.args.worker c.in-Some.top c.requires has c.in-Ok.ensures.step))
