@@ -106,30 +106,6 @@ ret i64 %r
 }
 ";
 
-/// The text of `examples/loop.ll`, which may use more than its budget.
-const LOOP: &str = "\
-define i64 @main(i64 %n) {
-;! requires %n >= 0
-;! requires %n <= 100
-;! budget 0 11
-entry:
-;! left 0 11
-br label %head
-head:
-;! keeps %i >= 0
-;! keeps %i <= 100
-;! keeps %n <= 100
-;! left 0 10-3*%i
-%i = phi i64 [ 0, %entry ], [ %k, %head ]
-%k = add nsw i64 %i, 1
-%c = icmp slt i64 %k, %n
-br i1 %c, label %head, label %out
-out:
-;! left 0 7-3*%i
-ret i64 %i
-}
-";
-
 fn verified(rt: &HostRuntime, text: &str) -> Result<Verified, Fail> {
     match verify(rt.alloc(), RandomState::new(rt)?, text.as_bytes()) {
         Ok(verified) => Ok(verified),
@@ -196,16 +172,6 @@ fn runs_calls_within_detached_children(rt: HostRuntime) -> Result<(), Fail> {
     assert_eq!(rt; run(&rt, FIB, 1)?.0, 1);
     assert_eq!(rt; run(&rt, FIB, 5)?, (5, 147, 10));
     assert_eq!(rt; run(&rt, FIB, 10)?, (55, 1767, 20));
-    Ok(())
-}
-
-#[test]
-fn stops_where_the_budget_is_used_up(rt: HostRuntime) -> Result<(), Fail> {
-    let alloc = rt.alloc();
-    let verified = verified(&rt, LOOP)?;
-    let memory = Memory::zeroed(alloc, &verified)?;
-    let stopped = serial_run(alloc, &verified, [100].as_slice(), memory);
-    assert!(rt; matches!(&stopped, Err(RunFault::Trapped)));
     Ok(())
 }
 
