@@ -1,14 +1,16 @@
 ghost use Rattle.std.specs.Prelude.{◌≡◌};
 ghost use Rattle.cfg.specs.Edges.{graphs_of};
+ghost use Rattle.cfg.specs.Rules.{IsGraphRight};
 
 use crate::structure::FunctionGraph;
 use lists::Seq;
 use types::Typed;
 
-/// A program with the edges of its functions.
+/// A program with the edges of its functions, which breaks none of the rules 211 to 213.
 #[derive(Debug, Drop)]
 pub struct Graph {
     pub typed: Typed,
     pub functions: Seq<FunctionGraph>,
     pub ghost edges: { functions ≡ graphs_of typed.program },
+    pub ghost right: { ∥ IsGraphRight typed.program ∥₁ },
 }

@@ -3,3 +3,7 @@ pub mod Levels
 pub mod Greatest
 pub mod Deeper
 pub mod Rows
+pub mod Past
+pub mod Judging
+pub mod Costly
+pub mod ByTables

@@ -1,13 +1,12 @@
 -- The table of all functions' costs and depths.
-use Rattle.std.specs.Prelude.{◌≡◌, ℕ, zero, suc, ◌+◌, ◌-◌, ◌^◌, ◌≤◌, min, max, nat_le, eqb, cond, List, length, Option, Some, None, slice_get, if◌then◌else◌}
-use Rattle.program.specs.declared.function.Block.{Block}
+use Rattle.std.specs.Prelude.{◌≡◌, ℕ, zero, suc, ◌+◌, ◌-◌, ◌^◌, min, max, nat_le, List, length, Option, Some, None, slice_get, if◌then◌else◌}
 use Rattle.program.specs.declared.function.Function.{Function}
 use Rattle.program.specs.declared.function.Program.{Program}
 use Rattle.region_match.specs.declared.task.Task.{Task}
 use Rattle.region_match.specs.declared.tables.Regions.{Regions}
 use Rattle.cost_table.specs.declared.entry.Entry.{Entry}
 use Rattle.cost_table.specs.declared.table.Table.{Table}
-use Rattle.cost_table.specs.Cost.{cost, cost_below}
+use Rattle.cost_table.specs.Cost.{cost}
 use Rattle.cost_table.specs.Depth.{flat_depth, self_calls_depth, first_depths, depth, tasks_of}
 
 -- a number as 64 bits hold it: the greatest stands for all beyond

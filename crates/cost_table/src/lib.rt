@@ -1,16 +1,32 @@
 //! What calls cost at most and how deep they reach, by the budgets and measures that functions declare.
 //!
-//! There so far: the table of all functions' costs and depths, exact for each measure within its bound. The rules on cost, 701 to 705, stand in
-//! `specs/Rules` as definitions; no function judges them yet.
+//! `check_cost` judges the rules on cost by what is known at a program's places:
+//!
+//! | Number | Rule |
+//! |---|---|
+//! | 701 | at a block's start what is `left` is at least 0 |
+//! | 702 | what is left of a block covers what it does and what is left behind each edge, at a detach in both targets together |
+//! | 703 | a `measure` lies from 0 to its bound, and falls at each self call |
+//! | 704 | the `budget` covers what is left at the entry |
+//! | 705 | no call costs over a million million |
+//!
+//! The table that it answers has the costs and depths of all functions, exact for each measure within its bound.
 #![tactic(auto)]
 
 mod callee;
+mod check;
 mod depth;
 mod entry;
+mod fault;
+mod judge;
 mod level;
+mod sum;
 mod table;
+mod work;
 
+pub use check::check_cost;
 pub use entry::Entry;
+pub use fault::CostFault;
 pub use table::{Table, make_table};
 
 #[cfg(test)]

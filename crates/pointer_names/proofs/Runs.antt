@@ -17,7 +17,7 @@ use Rattle.program.specs.declared.function.Function.{Function}
 use Rattle.program.specs.declared.function.Program.{Program}
 use Rattle.types.specs.Apart.{NamesGlobal, parameters_at, CallsApart}
 use Rattle.types.specs.Definitions.{IsFrom, KeepsParameters}
-use Rattle.pointer_names.specs.Law.{IsReached, at_start as starts, by_step, PointerNamesAreApart, MeantNamesAreApart}
+use Rattle.pointer_names.specs.Law.{IsReached, at_start as starts, by_step, KeepsNamesApart, PointerNamesAreApart, MeantNamesAreApart, AcceptedNamesAreApart}
 use Rattle.types.proofs.Programs.{program_apart, program_kept}
 use Rattle.ir_text.proofs.Keeping.{answers_kept}
 use Rattle.pointer_names.proofs.Anew.{read_anew}
@@ -177,6 +177,11 @@ pub names_are_apart : PointerNamesAreApart
 names_are_apart prog apart keeps arguments memory s reached p f is = names_apart prog.functions p f (reached_known prog apart keeps arguments memory s reached p f is)
 
 pub meant_names_are_apart : MeantNamesAreApart
-meant_names_are_apart text whole typed read means =
+meant_names_are_apart text whole prog read means =
     let anew = read_anew whole (answers_kept text whole read) in
-    names_are_apart typed.program (program_apart whole (Ok typed) means) (program_kept whole (Ok typed) means anew)
+    names_are_apart prog (program_apart whole prog means) (program_kept whole prog means anew)
+
+pub accepted_names_are_apart : AcceptedNamesAreApart
+accepted_names_are_apart text prog accepted =
+    let at : Program → Type 0 = λ p. KeepsNamesApart p in
+    subst at accepted.4 (meant_names_are_apart text accepted.0 accepted.2.program accepted.1 accepted.3)

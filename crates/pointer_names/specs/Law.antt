@@ -11,8 +11,8 @@ use Rattle.program.specs.declared.identifier.ObjectName.TheVariants.{Global, All
 use Rattle.types.specs.Apart.{NamesGlobal, parameters_at, CallsApart}
 use Rattle.types.specs.Definitions.{KeepsParameters}
 use Rattle.ir_text.specs.Reading.{Answers}
-use Rattle.types.specs.Typed.{Means}
-use Rattle.types.specs.declared.typed.Typed.{Typed}
+use Rattle.types.specs.Meaning.{Means}
+use Rattle.verifier.specs.Accepted.{IsProgramOf}
 use Rattle.syntax.specs.declared.module.Module.{Module}
 
 -- what a function may name: a global that it or one that it calls names, an alloca, a parameter of its own
@@ -42,4 +42,8 @@ PointerNamesAreApart = (prog : Program) → CallsApart prog.functions → KeepsP
 
 -- the program that a text means keeps names apart
 abbrev pub MeantNamesAreApart : Type 0
-MeantNamesAreApart = (text : List ℕ) (whole : Module) (typed : Typed) → Answers text (Ok whole) → Means whole (Ok typed) → KeepsNamesApart typed.program
+MeantNamesAreApart = (text : List ℕ) (whole : Module) (prog : Program) → Answers text (Ok whole) → Means whole (Ok prog) → KeepsNamesApart prog
+
+-- so does each program that the verifier takes
+abbrev pub AcceptedNamesAreApart : Type 0
+AcceptedNamesAreApart = (text : List ℕ) (prog : Program) → IsProgramOf text prog → KeepsNamesApart prog

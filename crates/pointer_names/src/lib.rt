@@ -5,7 +5,7 @@
 //! `specs/Law.antt` states it over the frames of the machine's definitions; there is no code to run here.
 #![tactic(auto)]
 
-ghost use Rattle.pointer_names.specs.Law.{MeantNamesAreApart, PointerNamesAreApart};
+ghost use Rattle.pointer_names.specs.Law.{AcceptedNamesAreApart, MeantNamesAreApart, PointerNamesAreApart};
 
 /// In every state that a run reaches, whatever the schedule, the names of each frame stand for pairwise different objects: it is
 /// enough that each call keeps to the rules on pointers, and that no instruction defines a parameter again.
@@ -16,4 +16,9 @@ pub fn pointer_names_are_apart()
 /// Each program that a text means by the rules of reading and those on names and types is such a program.
 pub fn meant_names_are_apart()
     ensures { MeantNamesAreApart }
+{}
+
+/// And each program that `verify` takes, whatever its text.
+pub fn accepted_names_are_apart()
+    ensures { AcceptedNamesAreApart }
 {}

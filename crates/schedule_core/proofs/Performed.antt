@@ -32,7 +32,7 @@ use Rattle.frame.specs.declared.value.Cell.{Cell as CellName}
 use Rattle.frame.specs.declared.frame.Wait.{Wait as Waits}
 use Rattle.frame.specs.declared.frame.Wait.TheVariants as waits
 use Rattle.frame.specs.Reading.{frame_of, object_of, above}
-use Rattle.frame.specs.Room.{HasNext, CanDo, IsEntered, SetsAlloca, alloca_in}
+use Rattle.frame.specs.Room.{HasNext, HasResult, IsEntered, IsSound, SetsAlloca, alloca_in}
 use Rattle.cactus.specs.declared.node.Node.{Node}
 use Rattle.cactus.specs.Frames.{Frames, node_at, frame_at, Lives, slot_above, owner_at}
 use Rattle.cactus.specs.ByPath.{named, IsTree}
@@ -40,8 +40,9 @@ use Rattle.cactus.specs.Lending.{with_frame}
 use Rattle.cactus.proofs.FramesLemmas.{node_at-with_frame, node_at-with_frame_other, lives-from_frame}
 use Rattle.schedule_core.specs.declared.activation.Activation.{Activation}
 use Rattle.schedule_core.specs.declared.machine.Machine.{Machine}
-use Rattle.schedule_core.specs.Seen.{place_of, seen, frames_of, memory_of, hands_of, held_in, alloca_cell, CalleeStands, Agrees}
-use Rattle.schedule_core.specs.Stepping.{effected, frame_in, PlainDone, DoesPlain, HasNextAt, HoldsAt, Written, WritesAlloca, one_cell, zeros_below, StoresAt, CanDoAt, Performs, DoesAsked, StepsPlainly, IsReached, counted}
+use Rattle.schedule_core.specs.Seen.{place_of, seen, frames_of, memory_of, hands_of, held_in, alloca_cell, CalleeStands, IsFit, Agrees}
+use Rattle.schedule_core.specs.Stepping.{effected, frame_in, PlainDone, DoesPlain, HasNextAt, HoldsAt, Written, WritesAlloca, one_cell, zeros_below, StoresAt, IsDoable, CanDoAt, PerformsPlain, DoesAsked, StepsPlainly, IsReached, counted}
+use Rattle.schedule_core.proofs.Counting.{StaysInTree}
 use Rattle.schedule_core.proofs.Views.{named_written, named_at_place, hands_stay, node_tells, hand_seen, hand_below, frame_seen}
 use Rattle.schedule_core.proofs.PlainSteps.{plain_event, Quiet, went_done, agrees_written, above_place, shared_written}
 
@@ -55,12 +56,12 @@ pub record GoneOn (f g : FrameOf) (p : Path) (e : Effect) : Type 0 where
   pub fine : e.trap ≡ None
   pub quiet : Quiet e
 
-pub went_at : (m : Machine) (slot : ℕ) (a : Activation) (g : FrameOf) (effect : Path → Frame → Effect) → frame_at m.cactus slot ≡ Some a → g.depth ≡ a.frame.depth → g.allocas ≡ a.frame.allocas → ((p : Path) → GoneOn a.frame g p (effect p (frame_of p a.frame))) → DoesPlain m (record m { cactus = with_frame m.cactus slot (record a { frame = g }) }) slot effect
-went_at m slot a g effect stood depth allocas gone node stands agrees none =
+pub went_at : (m : Machine) (slot : ℕ) (a : Activation) (g : FrameOf) (effect : Path → Frame → Effect) → frame_at m.cactus slot ≡ Some a → g.depth ≡ a.frame.depth → g.allocas ≡ a.frame.allocas → (IsSound a.frame → IsSound g) → StaysInTree a.frame g → ((p : Path) → GoneOn a.frame g p (effect p (frame_of p a.frame))) → DoesPlain m (record m { cactus = with_frame m.cactus slot (record a { frame = g }) }) slot effect
+went_at m slot a g effect stood depth allocas sound keeps gone node stands agrees none =
     let same : node.frame ≡ a = same_frame m.cactus slot node a stands stood in
     let h : GoneOn node.frame.frame g (place_of node) (effect (place_of node) (frame_in node)) = subst (λ (b : Activation). GoneOn b.frame g (place_of node) (effect (place_of node) (frame_of (place_of node) b.frame))) (sym same) (gone (place_of node)) in
     subst (λ (b : Activation). PlainDone m (record m { cactus = with_frame m.cactus slot (record b { frame = g }) }) node (effect (place_of node) (frame_in node))) same
-    (went_done m agrees slot node stands none g (effect (place_of node) (frame_in node)) h.is (depth ∙ ap (λ (b : Activation). b.frame.depth) (sym same)) (allocas ∙ ap (λ (b : Activation). b.frame.allocas) (sym same)) h.fine h.quiet)
+    (went_done m agrees slot node stands none g (effect (place_of node) (frame_in node)) h.is (depth ∙ ap (λ (b : Activation). b.frame.depth) (sym same)) (allocas ∙ ap (λ (b : Activation). b.frame.allocas) (sym same)) (subst (λ (b : Activation). IsSound b.frame → IsSound g) (sym same) sound) (subst (λ (b : Activation). StaysInTree b.frame g) (sym same) keeps) h.fine h.quiet)
 
 pub jump_gone : (f g : FrameOf) (p : Path) (target : ℕ) (o : Option Registers) → IsEntered p f target g o → GoneOn f g p (given (frame_of p f) o (enters (frame_of p f) target))
 jump_gone f g p target None entered = absurd entered
@@ -141,7 +142,7 @@ shared_stored m after slot cell g z is sets node stands agrees =
       stays = λ s n there. (n, there, refl, refl);
     }
 
-module _ (m : Machine) (agrees : Agrees m.cactus m.hands.items) (owner : ℕ) (o : Node Activation) (stands : node_at m.cactus owner ≡ Some o) (g : FrameOf) (n i : ℕ) (z : ℤ) (kept : g ≡ record o.frame.frame { allocas = g.allocas }) (sets : SetsAlloca o.frame.frame n i z g) where
+module _ (m : Machine) (agrees : Agrees m.cactus m.hands.items) (owner : ℕ) (o : Node Activation) (stands : node_at m.cactus owner ≡ Some o) (g : FrameOf) (n i : ℕ) (z : ℤ) (kept : g ≡ record o.frame.frame { allocas = g.allocas }) (sets : SetsAlloca o.frame.frame n i z g) (sound : IsSound o.frame.frame → IsSound g) where
   abbrev new_act : Activation
   new_act = record o.frame { frame = g }
 
@@ -218,11 +219,16 @@ module _ (m : Machine) (agrees : Agrees m.cactus m.hands.items) (owner : ℕ) (o
           hands = λ w. hands_stay m.cactus agrees.tree owner o stands new_act m.hands.items w j;
           trapped = None;
         };
-        agrees = agrees_written m.cactus m.hands.items agrees owner o stands new_act (ap (λ (x : FrameOf). x.depth) kept) refl calls;
+        agrees = agrees_written m.cactus m.hands.items agrees owner o stands new_act (ap (λ (x : FrameOf). x.depth) kept) refl calls fit (record { made = ap (λ (x : FrameOf). x.made) kept; role = ap (λ (x : FrameOf). x.role) kept }) (λ region. refl);
         workers = refl;
         stays = node_stays;
       }
     where
+      fit : IsFit g
+      fit =
+          let before : IsFit o.frame.frame = agrees.fits owner o stands in
+          record { sound = sound before.sound; result = λ child register waits. subst (λ (x : FrameOf). HasResult x register) (sym kept) (before.result child register (sym (ap (λ (x : FrameOf). x.waits) kept) ∙ waits)) }
+
       calls : CalleeStands m.cactus (record o { frame = new_act }) g.waits o.frame.callee
       calls = subst (λ w. CalleeStands m.cactus (record o { frame = new_act }) w o.frame.callee) (sym (ap (λ (x : FrameOf). x.waits) kept)) (again o.frame.frame.waits o.frame.callee (agrees.callees owner o stands))
         where
@@ -238,7 +244,8 @@ alloca_stored m new slot cell depth alloca owner z is at w node stands agrees =
     let same : o.frame ≡ w.before = same_frame m.cactus owner o w.before there w.stood in
     let kept : w.frame ≡ record o.frame.frame { allocas = w.frame.allocas } = w.only ∙ ap (λ (a : Activation). record a.frame { allocas = w.frame.allocas }) (sym same) in
     let sets : SetsAlloca o.frame.frame alloca.0 cell.index z w.frame = subst (λ (a : Activation). SetsAlloca a.frame alloca.0 cell.index z w.frame) (sym same) w.set in
-    let done = alloca_written m agrees owner o there w.frame alloca.0 cell.index z kept sets in
+    let sound : IsSound o.frame.frame → IsSound w.frame = subst (λ (a : Activation). IsSound a.frame → IsSound w.frame) (sym same) w.sound in
+    let done = alloca_written m agrees owner o there w.frame alloca.0 cell.index z kept sets sound in
     let new_is : new ≡ record m { cactus = with_frame m.cactus owner (record o.frame { frame = w.frame }) } = w.new_is ∙ ap (λ (a : Activation). record m { cactus = with_frame m.cactus owner (record a { frame = w.frame }) }) (sym same) in
     let object : Local (place_of o) alloca.0 ≡ object_of (place_of node) cell.object = ap (λ p. Local p alloca.0) place ∙ ap (object_of (place_of node)) (sym is) in
     subst (λ x. Written m new (one_cell (record { object = x; index = cell.index }) z)) object
@@ -375,14 +382,14 @@ sync_no_plain f region target (Some r) e some is = let g : Sync region target r 
 
 -- ---- the next instruction
 
-pub executes : (m new : Machine) (top : ℕ) (act : Activation) (prog : Program) (effect : Asked) → frame_at m.cactus top ≡ Some act → CanDo act.frame effect →
+pub executes : (m new : Machine) (top : ℕ) (act : Activation) (prog : Program) (effect : Asked) → frame_at m.cactus top ≡ Some act → IsDoable act.frame effect →
     ((p : Path) (memory : Memory) → length p ≡ act.frame.depth → asked prog p (frame_of p act.frame) memory (Ok effect) ≡ action_of prog p (frame_of p act.frame) memory) →
-    (CanDoAt m.cactus top effect → Performs prog m new top effect) → DoesAsked prog m new top
+    (CanDoAt m.cactus top effect → PerformsPlain prog m new top effect) → DoesAsked prog m new top
 executes m new top act prog effect stood can does performs node e stands agrees none action =
     let same : node.frame ≡ act = same_frame m.cactus top node act stands stood in
     let depth : length (place_of node) ≡ act.frame.depth = length-reverse node.path.numbers ∙ (sym (agrees.depths top node stands) ∙ ap (λ (a : Activation). a.frame.depth) same) in
     let is : asked prog (place_of node) (frame_in node) (seen m).core.memory (Ok effect) ≡ action_of prog (place_of node) (frame_in node) (seen m).core.memory = subst (λ (a : Activation). asked prog (place_of node) (frame_of (place_of node) a.frame) (seen m).core.memory (Ok effect) ≡ action_of prog (place_of node) (frame_of (place_of node) a.frame) (seen m).core.memory) (sym same) (does (place_of node) (seen m).core.memory depth) in
-    performs (λ a at. subst (λ (b : Activation). CanDo b.frame effect) (let q : Some act ≡ Some a = sym stood ∙ at in let r : act ≡ a = cc in r) can) node e stands agrees none (is ∙ action)
+    performs (λ a at. subst (λ (b : Activation). IsDoable b.frame effect) (let q : Some act ≡ Some a = sym stood ∙ at in let r : act ≡ a = cc in r) can) node e stands agrees none (is ∙ action)
 
 pub performed : (old new : Machine) (node : Node Activation) (x e : Effect) → Plain x ≡ Plain e → PlainDone old new node x → PlainDone old new node e
 performed old new node x e is done = subst (λ y. PlainDone old new node y) (let same : x ≡ e = cc in same) done

@@ -16,6 +16,7 @@ use Rattle.frame.specs.declared.frame.Wait.{Wait}
 use Rattle.frame.specs.declared.frame.Wait.TheVariants as wait
 use Rattle.frame.specs.Reading.{frame_of, wait_of}
 use Rattle.frame.specs.declared.frame.Frame as machine
+use Rattle.frame.specs.Room.{IsSound}
 use Rattle.machine_core.specs.Effect as effects
 use Rattle.machine_core.specs.Frames.{Free}
 use Rattle.machine_core.specs.State.{wait_after}
@@ -27,9 +28,10 @@ use Rattle.cactus.proofs.FramesLemmas.{node_at-with_frame, node_at-with_frame_ot
 use Rattle.cactus.proofs.ByPathLemmas.{written_tree}
 use Rattle.schedule_core.specs.declared.activation.Activation.{Activation}
 use Rattle.schedule_core.specs.declared.machine.Machine.{Machine}
-use Rattle.schedule_core.specs.Scheduling.{hand_of}
+use Rattle.schedule_core.specs.Scheduling.{hand_of, counted_in}
 use Rattle.schedule_core.specs.Stepping.{effected, counted, frame_in, PlainDone}
-use Rattle.schedule_core.specs.Seen.{place_of, seen, frames_of, memory_of, held_in, CalleeStands, Agrees}
+use Rattle.schedule_core.specs.Seen.{place_of, seen, frames_of, memory_of, held_in, CalleeStands, IsFit, Agrees}
+use Rattle.schedule_core.proofs.Counting.{StaysInTree, counts_stand}
 use Rattle.schedule_core.proofs.Views.{node_tells, reverse_last, frames_written, memory_stays, hands_stay}
 
 -- ---- one frame is written, and no hand moves
@@ -38,7 +40,7 @@ module _ (frames : Frames Activation) (hands : List (Option ℕ)) (agrees : Agre
   abbrev later : Node Activation
   later = record node { frame = a }
 
-  stood : (s : ℕ) (n : Node Activation) → node_at (with_frame frames slot a) s ≡ Some n → ((slot ≡ s) × (later ≡ n)) ⊎ ((s ≢ slot) × (node_at frames s ≡ Some n))
+  pub stood : (s : ℕ) (n : Node Activation) → node_at (with_frame frames slot a) s ≡ Some n → ((slot ≡ s) × (later ≡ n)) ⊎ ((s ≢ slot) × (node_at frames s ≡ Some n))
   stood s n here =
       elim (eqb_tells slot s) [
         | inl h ↦ let e : Some later ≡ Some n = sym (node_at-with_frame frames slot a node stands) ∙ subst (λ x. node_at (with_frame frames slot a) x ≡ Some n) (sym h.1) here in inl (h.1, cc)
@@ -55,7 +57,7 @@ module _ (frames : Frames Activation) (hands : List (Option ℕ)) (agrees : Agre
         | inr h ↦ (n, node_at-with_frame_other frames slot s a (λ e. h.1 (sym e)) ∙ here, refl)
       ]
 
-  callee_still : (n : Node Activation) (w : Wait) (callee : Option ℕ) → CalleeStands frames n w callee → CalleeStands (with_frame frames slot a) n w callee
+  pub callee_still : (n : Node Activation) (w : Wait) (callee : Option ℕ) → CalleeStands frames n w callee → CalleeStands (with_frame frames slot a) n w callee
   callee_still n wait.Nothing callee c = c
   callee_still n (wait.Region region) callee c = c
   callee_still n (wait.Call child register) callee c =
@@ -63,12 +65,12 @@ module _ (frames : Frames Activation) (hands : List (Option ℕ)) (agrees : Agre
       let (k, now, path) = still s called there in
       (s, k, at, now, ap (λ (p : Name). p.numbers) path ∙ numbers)
 
-  lives_still : (s : ℕ) → Lives frames s → Lives (with_frame frames slot a) s
+  pub lives_still : (s : ℕ) → Lives frames s → Lives (with_frame frames slot a) s
   lives_still s lives = let (n, here) = node_tells frames s lives in let (k, now, path) = still s n here in rw now refl
 
   -- slots and hands agree as before, where the frame keeps its runner and has the callee that it waits for
-  pub agrees_written : a.frame.depth ≡ node.frame.frame.depth → a.runner ≡ node.frame.runner → CalleeStands frames later a.frame.waits a.callee → Agrees (with_frame frames slot a) hands
-  agrees_written depth runner callee =
+  pub agrees_written : a.frame.depth ≡ node.frame.frame.depth → a.runner ≡ node.frame.runner → CalleeStands frames later a.frame.waits a.callee → IsFit a.frame → StaysInTree node.frame.frame a.frame → ((region : ℕ) → counted_in a region ≡ counted_in node.frame region) → Agrees (with_frame frames slot a) hands
+  agrees_written depth runner callee fit keeps own =
       record {
         tree = written_tree frames slot node a agrees.tree stands;
         depths = λ s n here. elim (stood s n here) [ inl h ↦ subst (λ (k : Node Activation). k.frame.frame.depth ≡ length k.path.numbers) h.1 (depth ∙ agrees.depths slot node stands) | inr h ↦ agrees.depths s n h.1 ];
@@ -84,6 +86,8 @@ module _ (frames : Frames Activation) (hands : List (Option ℕ)) (agrees : Agre
           | inl h ↦ subst (λ (k : Node Activation). CalleeStands (with_frame frames slot a) k k.frame.frame.waits k.frame.callee) h.1 (callee_still later a.frame.waits a.callee callee)
           | inr h ↦ callee_still n n.frame.frame.waits n.frame.callee (agrees.callees s n h.1)
         ];
+        fits = λ s n here. elim (stood s n here) [ inl h ↦ subst (λ (k : Node Activation). IsFit k.frame.frame) h.1 fit | inr h ↦ agrees.fits s n h.1 ];
+        counts = counts_stand frames agrees.tree slot node stands a keeps own agrees.counts;
       }
     where
       ap_hand : (w s : ℕ) → slot ≡ s → hand_of hands w ≡ Some slot → hand_of hands w ≡ Some s
@@ -142,7 +146,7 @@ shared_written before after g i z sets frames x = from x.object refl
 
 -- ---- the event
 
-hand_again : (hands : ℕ → Option Path) (w : ℕ) (p : Path) → hands w ≡ Some p → (v : ℕ) → running.with_hand hands w (Some p) v ≡ hands v
+pub hand_again : (hands : ℕ → Option Path) (w : ℕ) (p : Path) → hands w ≡ Some p → (v : ℕ) → running.with_hand hands w (Some p) v ≡ hands v
 hand_again hands w p has v = elim (eqb_tells w v) [ inl h ↦ rw h.0 (sym (subst (λ k. hands k ≡ Some p) h.1 has)) | inr h ↦ rw h.0 refl ]
 
 -- the event of a step, by its change
@@ -181,7 +185,7 @@ plain_event prog workers m w p f e sound has is go act fine =
 
 -- ---- a frame that has gone on
 
-free_wait : (w : Wait) → wait_of w ≡ Free → w ≡ wait.Nothing
+pub free_wait : (w : Wait) → wait_of w ≡ Free → w ≡ wait.Nothing
 free_wait wait.Nothing e = refl
 free_wait (wait.Region region) e = absurd (cc)
 free_wait (wait.Call child register) e = absurd (cc)
@@ -200,17 +204,20 @@ module _ (m : Machine) (agrees : Agrees m.cactus m.hands.items) (slot : ℕ) (no
   gone_on = record m { cactus = with_frame m.cactus slot (record node.frame { frame = g }) }
 
   -- the frame is as the effect says, and holds what it held
-  pub went_done : frame_of (place_of node) g ≡ went (frame_in node) e → g.depth ≡ node.frame.frame.depth → g.allocas ≡ node.frame.frame.allocas → e.trap ≡ None → Quiet e → PlainDone m gone_on node e
-  went_done is depth allocas fine quiet =
+  pub went_done : frame_of (place_of node) g ≡ went (frame_in node) e → g.depth ≡ node.frame.frame.depth → g.allocas ≡ node.frame.frame.allocas → (IsSound node.frame.frame → IsSound g) → StaysInTree node.frame.frame g → e.trap ≡ None → Quiet e → PlainDone m gone_on node e
+  went_done is depth allocas sound keeps fine quiet =
       record {
         sound = fine;
         becomes = seen_written m agrees slot node stands (record node.frame { frame = g }) (went (frame_in node) e) is allocas ∙ quiet_effected (seen m) (place_of node) (frame_in node) e quiet;
-        agrees = agrees_written m.cactus m.hands.items agrees slot node stands (record node.frame { frame = g }) depth refl calls;
+        agrees = agrees_written m.cactus m.hands.items agrees slot node stands (record node.frame { frame = g }) depth refl calls fit keeps (λ region. refl);
         workers = refl;
       }
     where
       free : g.waits ≡ wait.Nothing
       free = free_wait g.waits (ap (λ (f : Frame). f.waits) is ∙ ap wait_after fine)
+
+      fit : IsFit g
+      fit = record { sound = sound (agrees.fits slot node stands).sound; result = λ child register waits. absurd (let e : wait.Nothing ≡ wait.Call child register = sym free ∙ waits in cc) }
 
       calls : CalleeStands m.cactus (record node { frame = record node.frame { frame = g } }) g.waits node.frame.callee
       calls = subst (λ w. CalleeStands m.cactus (record node { frame = record node.frame { frame = g } }) w node.frame.callee) (sym free) none

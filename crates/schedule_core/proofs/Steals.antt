@@ -27,7 +27,8 @@ use Rattle.schedule_core.specs.declared.machine.Machine.{Machine}
 use Rattle.schedule_core.specs.Scheduling.{hand_of, IsIdle, IsReady}
 use Rattle.schedule_core.specs.Tasks.{IsLowest}
 use Rattle.schedule_core.specs.Running.{TakesAt}
-use Rattle.schedule_core.specs.Seen.{place_of, seen, frames_of, hands_of, CalleeStands, Agrees, FindsTop, nobody, no_task, task, run_by, run_at, taken, StealsIf, top_within}
+use Rattle.schedule_core.specs.Seen.{place_of, seen, frames_of, hands_of, CalleeStands, IsFit, Agrees, FindsTop, nobody, no_task, task, run_by, run_at, taken, StealsIf, top_within}
+use Rattle.schedule_core.proofs.Counting.{counts_stand}
 use Rattle.schedule_core.proofs.Views.{node_tells, frame_seen, hand_found, hand_seen, nobody_holds, somebody_holds, TopIs, top_is, ended_at, frames_stay, memory_stays, hand_set}
 
 unless : {A : Type 0} (b : Bool) (o : Option A) → o ≡ None → cond b o None ≡ None
@@ -222,6 +223,8 @@ module _ (m : Machine) (agrees : Agrees m.cactus m.hands.items) where
         | inl h ↦ subst (λ (k : Node Activation). CalleeStands new_frames k k.frame.frame.waits k.frame.callee) h.1 (callee_again (record node { frame = run_by w node.frame }) node.frame.frame.waits node.frame.callee refl (callee_still node node.frame.frame.waits node.frame.callee (agrees.callees top node stands)))
         | inr h ↦ callee_still n n.frame.frame.waits n.frame.callee (agrees.callees s n h.1)
       ];
+      fits = λ s n here. elim (stood s n here) [ inl h ↦ subst (λ (k : Node Activation). IsFit k.frame.frame) h.1 (agrees.fits top node stands) | inr h ↦ agrees.fits s n h.1 ];
+      counts = counts_stand m.cactus agrees.tree top node stands (run_by w node.frame) (record { made = refl; role = refl }) (λ region. refl) agrees.counts;
     })
       where
         callee_again : (k : Node Activation) (w2 : Wait) (callee : Option ℕ) → node.path ≡ k.path → CalleeStands new_frames node w2 callee → CalleeStands new_frames k w2 callee

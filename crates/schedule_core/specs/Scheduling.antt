@@ -33,6 +33,10 @@ standing_of a = standing_by a.runner a.frame.made a.frame.waits
 abbrev pub count_in : Activation → ℕ → Option RegionCount
 count_in a region = slice_get a.counts.items region
 
+-- the living children that the frame counts within a region
+abbrev pub counted_in : Activation → ℕ → ℕ
+counted_in a region = option_map_or (λ (count : RegionCount). count.living) (count_in a region) 0
+
 -- the slot of the top frame of the task that a worker runs
 abbrev pub hand_of : List (Option ℕ) → ℕ → Option ℕ
 hand_of hands worker = slice_index_or hands worker None

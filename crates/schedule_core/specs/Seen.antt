@@ -4,13 +4,17 @@ use Rattle.std.specs.Option.{option_map}
 use Rattle.machine_core.specs.Paths.{Path}
 use Rattle.machine_core.specs.Cells.{Object, Shared, Local, Memory}
 use Rattle.machine_core.specs.Frames.{Frame}
+use Rattle.machine_core.specs.State.{State}
+use Rattle.machine_core.specs.Counts.{count_of}
 use Rattle.machine_core.specs.Events as running
 use Rattle.program.specs.declared.function.Program.{Program}
 use Rattle.store.specs.Cells.{NamedCells, cell_at}
 use Rattle.frame.specs.declared.frame.Wait.{Wait}
 use Rattle.frame.specs.declared.frame.Wait.TheVariants as wait
 use Rattle.frame.specs.Reading.{frame_of}
-use Rattle.frame.specs.Room.{alloca_in}
+use Rattle.frame.specs.Room.{IsSound, HasResult, alloca_in}
+use Rattle.frame.specs.declared.frame.Frame.{Frame as FrameOf}
+use Rattle.linear.specs.declared.form.RegisterId.{RegisterId}
 use Rattle.cactus.specs.declared.node.Node.{Node}
 use Rattle.frame.specs.declared.path.Path.{Path as Name}
 use Rattle.std.specs.Vec.{with_item}
@@ -23,7 +27,7 @@ use Rattle.schedule_core.specs.declared.machine.Machine.{Machine}
 use Rattle.schedule_core.specs.declared.event.Event.{Event}
 use Rattle.schedule_core.specs.declared.event.Event.TheVariants.{Step, Steal}
 use Rattle.schedule_core.specs.Running.{result_of}
-use Rattle.schedule_core.specs.Scheduling.{hand_of}
+use Rattle.schedule_core.specs.Scheduling.{hand_of, counted_in}
 
 -- ---- the parts of a state
 
@@ -72,7 +76,11 @@ abbrev pub event_of : Event → running.Event
 event_of (Step worker) = running.Step worker
 event_of (Steal worker path) = running.Steal worker (reverse path.numbers)
 
--- ---- how slots, hands and callees agree
+-- the frames alone, as a state
+abbrev pub tree_of : Frames Activation → State
+tree_of frames = record { frames = frames_of frames; memory = λ x. None; done = 0; peak = 0; result = None }
+
+-- ---- how slots, hands, callees and counts agree
 
 -- a frame that waits for a call has the callee's slot
 abbrev pub CalleeStands : Frames Activation → Node Activation → Wait → Option ℕ → Type 0
@@ -80,12 +88,23 @@ CalleeStands frames node wait.Nothing callee = callee ≡ None
 CalleeStands frames node (wait.Region region) callee = callee ≡ None
 CalleeStands frames node (wait.Call child register) callee = (slot : ℕ) × (called : Node Activation) × (callee ≡ Some slot) × (node_at frames slot ≡ Some called) × (called.path.numbers ≡ node.path.numbers ++ child ∷ [])
 
+-- the frame's values name owners above it, and it has the register that the result of its call goes into
+pub record IsFit (f : FrameOf) : Type 0 where
+  pub sound : IsSound f
+  pub result : (child : ℕ) (register : Option RegisterId) → f.waits ≡ wait.Call child register → HasResult f register
+
+-- what a frame counts within a region is the number of its living children there
+pub record CountsStand (frames : Frames Activation) : Type 0 where
+  pub same : (slot region : ℕ) (node : Node Activation) → node_at frames slot ≡ Some node → counted_in node.frame region ≡ count_of (tree_of frames) (place_of node) region
+
 pub record Agrees (frames : Frames Activation) (hands : List (Option ℕ)) : Type 0 where
   pub tree : IsTree frames
   pub depths : (slot : ℕ) (node : Node Activation) → node_at frames slot ≡ Some node → node.frame.frame.depth ≡ length node.path.numbers
   pub held : (worker slot : ℕ) → hand_of hands worker ≡ Some slot → Lives frames slot
   pub runners : (slot worker : ℕ) (node : Node Activation) → node_at frames slot ≡ Some node → (node.frame.runner ≡ Some worker) ↔ (hand_of hands worker ≡ Some slot)
   pub callees : (slot : ℕ) (node : Node Activation) → node_at frames slot ≡ Some node → CalleeStands frames node node.frame.frame.waits node.frame.callee
+  pub fits : (slot : ℕ) (node : Node Activation) → node_at frames slot ≡ Some node → IsFit node.frame.frame
+  pub counts : CountsStand frames
 
 -- ---- the top of a task
 

@@ -1,15 +1,15 @@
 -- What a step of a frame does to a machine, as the definitions say it.
-use Rattle.std.specs.Prelude.{◌≡◌, ℕ, ◌+◌, List, length, Option, Some, None, Ok, cond, nat_lt, ◌&&◌, IsSome, ℤ, pos}
+use Rattle.std.specs.Prelude.{◌≡◌, ℕ, ◌+◌, List, [], length, Option, Some, None, Ok, cond, nat_lt, ◌&&◌, IsSome, ℤ, pos}
 use Rattle.machine_core.specs.Paths.{Path}
 use Rattle.machine_core.specs.Cells.{Cell, Object, Memory, same_cell, same_object}
 use Rattle.machine_core.specs.Frames.{Frame}
-use Rattle.machine_core.specs.Effect.{Effect, Plain, action_of, registers_along}
+use Rattle.machine_core.specs.Effect.{Effect, Action, Plain, action_of, registers_along}
 use Rattle.machine_core.specs.State.{override, added, only, went}
 use Rattle.machine_core.specs.Events as running
 use Rattle.machine_core.specs.Replay.{replay}
 use Rattle.program.specs.declared.function.Program.{Program}
 use Rattle.frame.specs.Reading.{frame_of, cell_of}
-use Rattle.frame.specs.Room.{CanDo, HasNext, SetsAlloca}
+use Rattle.frame.specs.Room.{CanDo, EffectWithin, HasNext, IsSound, SetsAlloca}
 use Rattle.frame.specs.declared.frame.Frame.{Frame as FrameOf}
 use Rattle.cactus.specs.Lending.{with_frame}
 use Rattle.frame.specs.Asked.{asked}
@@ -20,7 +20,9 @@ use Rattle.cactus.specs.Frames.{Frames, node_at, frame_at}
 use Rattle.cactus.specs.ByPath.{IsTree}
 use Rattle.schedule_core.specs.declared.activation.Activation.{Activation}
 use Rattle.schedule_core.specs.declared.machine.Machine.{Machine}
+use Rattle.schedule_core.specs.declared.machine.Phase.TheVariants.{Ended}
 use Rattle.schedule_core.specs.Running.{IsGoing}
+use Rattle.schedule_core.specs.Scheduling.{hand_of}
 use Rattle.schedule_core.specs.Seen.{place_of, seen, Agrees}
 
 -- a state after a plain step of the frame f at p, but for the count of instructions
@@ -44,9 +46,14 @@ pub record PlainDone (old new : Machine) (node : Node Activation) (e : Effect) :
 abbrev pub DoesPlain : Machine → Machine → ℕ → (Path → Frame → Effect) → Type 0
 DoesPlain old new slot effect = (node : Node Activation) → node_at old.cactus slot ≡ Some node → Agrees old.cactus old.hands.items → node.frame.callee ≡ None → PlainDone old new node (effect (place_of node) (frame_in node))
 
--- the slot's frame has room for the effect
+-- the frame has room for the effect, which names owners above it
+pub record IsDoable (f : FrameOf) (effect : Asked) : Type 0 where
+  pub can : CanDo f effect
+  pub within : IsSound f → EffectWithin f.depth effect
+
+-- so does the slot's frame
 abbrev pub CanDoAt : Frames Activation → ℕ → Asked → Type 0
-CanDoAt frames slot effect = (a : Activation) → frame_at frames slot ≡ Some a → CanDo a.frame effect
+CanDoAt frames slot effect = (a : Activation) → frame_at frames slot ≡ Some a → IsDoable a.frame effect
 
 abbrev pub HasNextAt : Frames Activation → ℕ → Type 0
 HasNextAt frames slot = (a : Activation) → frame_at frames slot ≡ Some a → HasNext a.frame
@@ -69,6 +76,7 @@ pub record WritesAlloca (old new : Machine) (owner n i : ℕ) (z : ℤ) : Type 0
   pub frame : FrameOf
   pub only : frame ≡ record before.frame { allocas = frame.allocas }
   pub set : SetsAlloca before.frame n i z frame
+  pub sound : IsSound before.frame → IsSound frame
   pub new_is : new ≡ record old { cactus = with_frame old.cactus owner (record before { frame = frame }) }
 
 abbrev pub one_cell : Cell → ℤ → Cell → Option (Option ℤ)
@@ -86,8 +94,8 @@ abbrev pub HasEdge : Program → Machine → ℕ → ℕ → Type 0
 HasEdge prog m slot target = (node : Node Activation) → node_at m.cactus slot ≡ Some node → Agrees m.cactus m.hands.items → node.frame.callee ≡ None → IsSome (registers_along prog (frame_in node) target)
 
 -- what is asked of the slot's frame is done, where that is a plain step
-abbrev pub Performs : Program → Machine → Machine → ℕ → Asked → Type 0
-Performs prog old new slot effect = (node : Node Activation) (e : Effect) → node_at old.cactus slot ≡ Some node → Agrees old.cactus old.hands.items → node.frame.callee ≡ None → asked prog (place_of node) (frame_in node) (seen old).core.memory (Ok effect) ≡ Plain e → PlainDone old new node e
+abbrev pub PerformsPlain : Program → Machine → Machine → ℕ → Asked → Type 0
+PerformsPlain prog old new slot effect = (node : Node Activation) (e : Effect) → node_at old.cactus slot ≡ Some node → Agrees old.cactus old.hands.items → node.frame.callee ≡ None → asked prog (place_of node) (frame_in node) (seen old).core.memory (Ok effect) ≡ Plain e → PlainDone old new node e
 
 -- where the definitions have a plain step of the slot's frame, it is done
 abbrev pub DoesAsked : Program → Machine → Machine → ℕ → Type 0
@@ -106,6 +114,35 @@ pub record IsMachine (prog : Program) (m : Machine) : Type 0 where
   pub going : IsGoing m
   pub agrees : Agrees m.cactus m.hands.items
   pub reached : IsReached prog (length m.hands.items) (seen m)
+
+-- ---- the step of a worker
+
+-- no frame is left of a run that has ended
+abbrev pub IsOver : Machine → Type 0
+IsOver m = (z : ℤ) → m.phase ≡ Ended z → (seen m).core.frames [] ≡ None
+
+-- the worker's step is the definitions' event, but for the count of instructions
+pub record IsStep (prog : Program) (old new : Machine) (worker : ℕ) : Type 0 where
+  pub event : running.event prog (length old.hands.items) (running.Step worker) (seen old) ≡ Some (counted (seen new))
+  pub counts : new.instructions ≡ old.instructions
+  pub agrees : Agrees new.cactus new.hands.items
+  pub workers : length new.hands.items ≡ length old.hands.items
+  pub over : IsOver new
+
+-- the slot has this node, and it is the top of the task that the worker runs, of a machine that goes on
+pub record IsTurn (prog : Program) (m : Machine) (worker slot : ℕ) (node : Node Activation) : Type 0 where
+  pub machine : IsMachine prog m
+  pub going : IsGoing m
+  pub hand : hand_of m.hands.items worker ≡ Some slot
+  pub stands : node_at m.cactus slot ≡ Some node
+
+-- what the definitions have the node's frame do
+abbrev pub next_action : Program → Machine → Node Activation → Action
+next_action prog m node = action_of prog (place_of node) (frame_in node) (seen m).core.memory
+
+-- what is asked of the slot's frame is done, where the definitions ask for it
+abbrev pub Performs : Program → Machine → Machine → ℕ → ℕ → Asked → Type 0
+Performs prog old new worker slot effect = (node : Node Activation) → IsTurn prog old worker slot node → asked prog (place_of node) (frame_in node) (seen old).core.memory (Ok effect) ≡ next_action prog old node → IsStep prog old new worker
 
 -- the event of the definitions, where the worker's next step is a plain one
 abbrev pub StepsPlainly : Program → Machine → Machine → ℕ → Type 0

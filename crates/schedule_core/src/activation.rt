@@ -1,6 +1,10 @@
-ghost use Rattle.std.specs.Prelude.{◌≡◌, ◌↔◌, ◌+◌, IsTrue, Some, None, IfOk, OnOk};
+ghost use Rattle.std.specs.Prelude.{◌≡◌, ◌↔◌, ◌+◌, ◌<◌, ◌^◌, ℕ, IsTrue, IsSome, Some, None, IfOk, OnOk, cond, eqb};
+ghost use Rattle.machine_core.specs.Paths.{Path};
+ghost use Rattle.machine_core.specs.State.{continued};
+ghost use Rattle.frame.specs.Reading.{frame_of};
+ghost use Rattle.frame.specs.Room.{IsSound};
 ghost use Rattle.frame.specs.declared.frame.Wait.TheVariants.{Nothing, Region};
-ghost use Rattle.schedule_core.specs.Scheduling.{IsReady, standing_of, count_in};
+ghost use Rattle.schedule_core.specs.Scheduling.{IsReady, standing_of, count_in, counted_in};
 
 use frame::{Frame, Trap, Wait};
 use lists::OutOfMemory;
@@ -28,6 +32,8 @@ impl Activation {
     pub fn new(alloc: Global, frame: Frame, worker: u8) -> Result<Activation, OutOfMemory>
         ensures runner { IfOk result (λ a. a.runner ≡ Some worker) }
         ensures frame { IfOk result (λ a. a.frame ≡ frame) }
+        ensures no_callee { IfOk result (λ a. a.callee ≡ None) }
+        ensures none { IfOk result (λ a. (region : ℕ) → counted_in a region ≡ 0) }
     {
         let counts = vec![in alloc; RegionCount::NONE; frame.registers.len()]?;
         Ok(Activation {
@@ -40,7 +46,9 @@ impl Activation {
     }
 
     /// Whether no child that the frame detached lives.
-    pub fn is_childless(&self) -> bool {
+    pub fn is_childless(&self) -> bool
+        ensures { IsTrue result ↔ ((region : ℕ) → counted_in self.now region ≡ 0) }
+    {
         self.counts.iter().all(|count| count.living == 0)
     }
 
@@ -76,20 +84,23 @@ impl Activation {
 
     /// Sets the count of the children within a region that is counted.
     pub fn set_count(&mut self, region: RegisterId, count: RegionCount)
-        ensures runner { self.new.runner ≡ self.old.runner }
-        ensures frame { self.new.frame ≡ self.old.frame }
+        ensures only { self.new ≡ record self.old { counts = self.new.counts } }
+        ensures counted { IsSome (count_in self.old region.0) → (other : ℕ) → counted_in self.new other ≡ cond (eqb region.0 other) count.living (counted_in self.old other) }
     {
-        if let Some(place) = self.counts.as_mut_slice().get_mut(region.0) {
-            *place = count;
+        if region.0 < self.counts.len() {
+            self.counts[region.0] = count;
         }
     }
 
     /// The frame detached a child within the region: no worker runs it until a thief or the child's end takes it up.
     pub fn after_detach(&mut self, region: RegisterId, count: RegionCount, continuation: BlockId)
-        ensures { self.new.runner ≡ None }
+        ensures unheld { self.new ≡ record self.old { frame = self.new.frame; counts = self.new.counts; runner = None } }
+        ensures frame { self.new.frame ≡ record self.old.frame { block = continuation; index = 0; made = self.new.frame.made; waits = Nothing } }
+        ensures continued { (p : Path) → self.old.frame.made + 1 < 2 ^ 64 → frame_of p self.new.frame ≡ continued (frame_of p self.old.frame) continuation.0 }
+        ensures sound { IsSound self.old.frame → IsSound self.new.frame }
+        ensures counted { IsSome (count_in self.old region.0) → (other : ℕ) → counted_in self.new other ≡ cond (eqb region.0 other) count.living (counted_in self.old other) }
     {
-        let _number = self.frame.count_child();
-        self.frame.continue_at(continuation);
+        let _number = self.frame.go_on_behind(continuation);
         self.set_count(region, count);
         self.runner = None;
     }

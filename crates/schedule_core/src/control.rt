@@ -1,12 +1,14 @@
-ghost use Rattle.std.specs.Prelude.{ℕ, Some, ◌≡◌, ◌≢◌, ◌<◌, ◌≤◌, None, OnOk, vec_len};
+ghost use Rattle.std.specs.Prelude.{ℕ, Some, ◌≡◌, ◌≢◌, ◌+◌, ◌^◌, ◌<◌, IsTrue, None, OnOk, max, vec_len};
 ghost use Rattle.std.specs.Vec.{with_item};
 ghost use Rattle.cactus.specs.declared.node.Node.{Node};
 ghost use Rattle.cactus.specs.Frames.{node_at};
 ghost use Rattle.schedule_core.specs.declared.activation.Activation.{Activation};
 ghost use Rattle.schedule_core.specs.Running.{result_of};
 ghost use Rattle.schedule_core.specs.Scheduling.{hand_of, BeginsChild, EndsChild, GoesOnWith, StallsAt, living_within, waits_at};
+ghost use Rattle.schedule_core.specs.Seen.{taken};
 ghost use Rattle.machine_core.specs.Effect.{jumps};
-ghost use Rattle.schedule_core.specs.Stepping.{DoesPlain, HasEdge, Performs};
+ghost use Rattle.schedule_core.specs.Stepping.{CanDoAt, DoesPlain, HasEdge, Performs, PerformsPlain};
+ghost use Rattle.schedule_core.specs.Forking.{Enters, with_change};
 ghost use Rattle.frame.specs.declared.frame.Wait.TheVariants.{Region};
 ghost use Rattle.linear.specs.declared.form.RegisterId.{RegisterId};
 
@@ -25,7 +27,7 @@ impl Machine<'_> {
     pub(crate) fn control(&mut self, worker: u8, top: usize, effect: Effect) -> Result<(), Halt>
         requires { worker < vec_len self.old.hands }
         ensures refused { result ≡ Err Halt.OutOfMemory → self.new ≡ self.old }
-        ensures plain { OnOk result (Performs self.old.verified.now self.old self.new top effect) }
+        ensures plain { OnOk result (PerformsPlain self.old.verified.now self.old self.new top effect) }
     {
         match effect {
             Effect::Detach {
@@ -44,6 +46,7 @@ impl Machine<'_> {
     /// The frame goes along the edge to the block.
     pub(crate) fn enter(&mut self, slot: usize, target: BlockId) -> Result<(), Trap>
         ensures kept { self.new ≡ record self.old { cactus = self.new.cactus } }
+        ensures enters { OnOk result (Enters self.old.verified.now self.old self.new slot target.0) }
         ensures jumps { OnOk result (DoesPlain self.old self.new slot (λ p f. jumps self.old.verified.now f target.0)) }
     {
         let program = self.program();
@@ -56,9 +59,17 @@ impl Machine<'_> {
     /// The peak counts a new frame of this depth.
     fn count_depth(&mut self, depth: usize)
         ensures kept { self.new ≡ record self.old { peak = self.new.peak } }
-        ensures peak { self.old.peak ≤ self.new.peak }
+        ensures peak { depth + 1 < 2 ^ 64 → self.new.peak ≡ max self.old.peak (depth + 1) }
     {
         self.peak = self.peak.max((depth as u64).saturating_add(1));
+    }
+
+    /// Whether one more frame, below one of this depth, can be counted.
+    fn has_room(&self, depth: usize) -> bool
+        ensures frames { IsTrue result → self.now.cactus.made + 1 < 2 ^ 63 }
+        ensures depth { IsTrue result → depth + 2 < 2 ^ 64 }
+    {
+        self.cactus.frames_made() < MOST_FRAMES && (depth as u64) < MOST_FRAMES
     }
 
     /// The worker begins the child; the parent is ready at the continuation (Tapir, "detach").
@@ -73,10 +84,11 @@ impl Machine<'_> {
         requires { worker < vec_len self.old.hands }
         ensures refused { result ≡ Err Halt.OutOfMemory → self.new ≡ self.old }
         ensures child_first { OnOk result (BeginsChild self.old.cactus self.new.cactus self.new.hands.items worker slot) }
+        ensures detaches { OnOk result (CanDoAt self.old.cactus slot (Effect.Detach region body continuation) → Performs self.old.verified.now self.old self.new worker slot (Effect.Detach region body continuation)) }
     {
         let parent = self.activation(slot)?;
         let mut count = parent.count(region)?;
-        if count.living == u64::MAX || self.cactus.frames_made() >= MOST_FRAMES {
+        if count.living == u64::MAX || !self.has_room(parent.frame.depth) {
             return Err(Halt::Trapped(Trap::Unmatched));
         }
         let frame = Frame::detached(self.alloc, &parent.frame, region, body, continuation)?;
@@ -98,7 +110,8 @@ impl Machine<'_> {
     /// this child alone (Tapir, "reattach").
     fn reattach(&mut self, worker: u8, slot: usize, region: RegisterId) -> Result<(), Trap>
         requires { worker < vec_len self.old.hands }
-        ensures { OnOk result (EndsChild self.old.cactus self.new.cactus self.new.hands.items worker slot region.0) }
+        ensures ends { OnOk result (EndsChild self.old.cactus self.new.cactus self.new.hands.items worker slot region.0) }
+        ensures reattaches { OnOk result (Performs self.old.verified.now self.old self.new worker slot (Effect.Reattach region)) }
     {
         let Some(node) = self.cactus.node(slot) else {
             return Err(Trap::Unmatched);
@@ -130,6 +143,7 @@ impl Machine<'_> {
         requires { worker < vec_len self.old.hands }
         ensures resumed { OnOk result (outcome ≢ Outcome.Leave
             → GoesOnWith self.new.cactus self.new.hands.items worker parent) }
+        ensures takes { OnOk result (outcome ≢ Outcome.Leave → self.new ≡ taken self.old worker parent) }
         ensures left { OnOk result (outcome ≡ Outcome.Leave
             → self.new ≡ record self.old { hands = with_item self.old.hands worker None }) }
     {
@@ -145,7 +159,8 @@ impl Machine<'_> {
     /// The worker goes on with the task whose top is in the slot.
     fn resume(&mut self, worker: u8, slot: usize) -> Result<(), Trap>
         requires { worker < vec_len self.old.hands }
-        ensures { OnOk result (GoesOnWith self.new.cactus self.new.hands.items worker slot) }
+        ensures runs { OnOk result (GoesOnWith self.new.cactus self.new.hands.items worker slot) }
+        ensures becomes { OnOk result (self.new ≡ taken self.old worker slot) }
     {
         match self.cactus.frame_mut(slot) {
             Some(top) => top.run_by(worker),
@@ -169,6 +184,7 @@ impl Machine<'_> {
         ensures stalls { OnOk result (0 < living_within self.old.cactus slot region.0
             → StallsAt self.new.cactus self.new.hands.items worker slot region) }
         ensures edge { OnOk result (HasEdge self.old.verified.now self.old slot target.0) }
+        ensures syncs { OnOk result (Performs self.old.verified.now self.old self.new worker slot (Effect.Sync region target)) }
     {
         let top = self.activation(slot)?;
         let passage = top.count(region)?.at_sync();
@@ -185,6 +201,7 @@ impl Machine<'_> {
     fn wait_for_children(&mut self, slot: usize, region: RegisterId) -> Result<(), Trap>
         ensures kept { self.new ≡ record self.old { cactus = self.new.cactus } }
         ensures waits { OnOk result (waits_at self.new.cactus slot ≡ Some (Region region)) }
+        ensures becomes { OnOk result (self.new ≡ with_change self.old slot (λ a. record a { frame = record a.frame { waits = Region region } })) }
     {
         match self.cactus.frame_mut(slot) {
             Some(top) => top.wait_for_children(region),
@@ -196,8 +213,9 @@ impl Machine<'_> {
     /// The task of the frame waits; the worker is idle.
     fn stall(&mut self, worker: u8, slot: usize, block: BlockId) -> Result<(), Trap>
         requires { worker < vec_len self.old.hands }
-        ensures { (region : RegisterId) → waits_at self.old.cactus slot ≡ Some (Region region)
+        ensures stalls { (region : RegisterId) → waits_at self.old.cactus slot ≡ Some (Region region)
             → OnOk result (StallsAt self.new.cactus self.new.hands.items worker slot region) }
+        ensures becomes { OnOk result (self.new ≡ record (with_change self.old slot (λ a. record a { runner = None; stalled_in = Some block })) { hands = with_item self.old.hands worker None }) }
     {
         match self.cactus.frame_mut(slot) {
             Some(top) => top.stall(block),

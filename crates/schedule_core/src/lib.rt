@@ -7,6 +7,8 @@ mod activation;
 mod control;
 mod event;
 mod halt;
+#[cfg(test)]
+mod loop_tests;
 mod machine;
 mod plain;
 mod schedule;

@@ -4,7 +4,7 @@ ghost use Rattle.machine_core.specs.Arithmetic.{cell_sum};
 ghost use Rattle.machine_core.specs.Effect.{sets, goes_on, loads, stores, stores_zeros, adds_to};
 ghost use Rattle.frame.specs.Reading.{cell_of, object_of, value_of};
 ghost use Rattle.schedule_core.specs.Seen.{seen};
-ghost use Rattle.schedule_core.specs.Stepping.{CanDoAt, DoesAsked, DoesPlain, HasNextAt, HoldsAt, Performs, StoresAt, WritesAlloca};
+ghost use Rattle.schedule_core.specs.Stepping.{CanDoAt, DoesAsked, DoesPlain, HasNextAt, HoldsAt, PerformsPlain, StoresAt, WritesAlloca};
 
 use crate::halt::Halt;
 use crate::machine::Machine;
@@ -33,7 +33,7 @@ impl Machine<'_> {
     fn perform(&mut self, worker: u8, top: usize, effect: Effect) -> Result<(), Halt>
         requires { worker < vec_len self.old.hands }
         ensures refused { result ≡ Err Halt.OutOfMemory → self.new ≡ self.old }
-        ensures plain { OnOk result (CanDoAt self.old.cactus top effect → Performs self.old.verified.now self.old self.new top effect) }
+        ensures plain { OnOk result (CanDoAt self.old.cactus top effect → PerformsPlain self.old.verified.now self.old self.new top effect) }
     {
         match effect {
             Effect::Define { register, value } => Ok(self.define(top, register, value)?),

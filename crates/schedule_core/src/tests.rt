@@ -146,7 +146,11 @@ fn stalls_and_resumes_a_stolen_root(rt: HostRuntime) -> Result<(), Fail> {
     assert!(rt; is_at(&machine, &root.child(alloc, 0)?, Status::Running(0), 12));
     assert!(rt; machine.task_of(1).is_none());
     assert_eq!(rt; machine.get_global("a", 1), Some(7));
-    for _ in 0..9 {
+    for _ in 0..3 {
+        assert!(rt; machine.apply(&Event::Step(0))?);
+    }
+    assert!(rt; is_at(&machine, &root, Status::Running(0), 23));
+    for _ in 0..6 {
         assert!(rt; machine.apply(&Event::Step(0))?);
     }
     assert!(rt; machine.ended());
@@ -217,5 +221,25 @@ fn one_worker_runs_the_serial_order(rt: HostRuntime) -> Result<(), Fail> {
     assert_eq!(rt; machine.result(), Some(55));
     assert_eq!(rt; machine.instructions(), 1767);
     assert_eq!(rt; machine.peak(), 20);
+    Ok(())
+}
+
+#[test]
+fn steps_through_a_small_recursion(rt: HostRuntime) -> Result<(), Fail> {
+    let alloc = rt.alloc();
+    let verified = verified(&rt, FIB)?;
+    let memory = Memory::zeroed(alloc, &verified)?;
+    let machine = Machine::start(alloc, &verified, [3].as_slice(), memory, 1);
+    let mut machine = machine.ok().ok_or("start")?;
+    for _ in 0..46 {
+        assert!(rt; machine.apply(&Event::Step(0))?);
+        assert!(rt; !machine.ended());
+    }
+    assert!(rt; machine.apply(&Event::Step(0))?);
+    assert_eq!(rt; machine.result(), Some(2));
+    assert_eq!(rt; machine.instructions(), 47);
+    assert_eq!(rt; machine.peak(), 6);
+    assert_eq!(rt; machine.live_frames(), 0);
+    assert!(rt; !machine.apply(&Event::Step(0))?);
     Ok(())
 }

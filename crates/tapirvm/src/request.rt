@@ -3,6 +3,8 @@ use std::alloc::{AllocError, AllocFailed};
 /// What the program is asked to do.
 #[derive(Clone, Copy, Debug, PartialEq, Eq)]
 pub enum Verb {
+    /// Verify the module, and tell its budget and depth.
+    Verify,
     /// Run the serial elision.
     Serial,
     /// Run on workers.
@@ -42,7 +44,7 @@ pub struct Request {
     pub set: Vec<Setting>,
     /// Cells to print after the run.
     pub show: Vec<CellWord>,
-    /// The function whose costs to print, for the verb that takes one.
+    /// The name, without `@`, of the function whose costs to print, for the verb that takes one.
     pub table: Option<String>,
 }
 

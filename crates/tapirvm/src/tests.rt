@@ -5,6 +5,7 @@ mod replays;
 mod runs;
 mod samples;
 mod statuses;
+mod verdicts;
 
 use crate::act::act;
 use crate::words::words;

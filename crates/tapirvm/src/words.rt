@@ -106,6 +106,24 @@ fn workers_of(alloc: Global, matches: &ArgMatches<'_>) -> Result<usize, WordsFau
     }
 }
 
+/// Reads `@f`.
+fn function_word(alloc: Global, text: &str) -> Result<Option<String>, AllocError> {
+    match text.strip_prefix("@") {
+        Some(name) if is_name(name) => Ok(Some(String::from_str(alloc, name)?)),
+        _ => Ok(None),
+    }
+}
+
+fn table_of(alloc: Global, matches: &ArgMatches<'_>) -> Result<Option<String>, WordsFault> {
+    match matches.get_str("table") {
+        None => Ok(None),
+        Some(text) => match function_word(alloc, text)? {
+            Some(name) => Ok(Some(name)),
+            None => Err(wrong_value(alloc, "--table <@f>", text)),
+        },
+    }
+}
+
 fn fault_of(alloc: Global, error: Error) -> WordsFault {
     if error.kind() == ErrorKind::OutOfMemory {
         return WordsFault::out_of_memory();
@@ -114,6 +132,19 @@ fn fault_of(alloc: Global, error: Error) -> WordsFault {
         Ok(text) => WordsFault::told(text),
         Err(_) => WordsFault::out_of_memory(),
     }
+}
+
+fn verify_command<'a>(alloc: Global) -> Result<Command<'a>, AllocError> {
+    let file = Arg::new(alloc, "file").value_name("FILE").required(true);
+    let table = Arg::new(alloc, "table")
+        .long("table")
+        .value_name("@f")
+        .action(ArgAction::Set)
+        .help("prints the costs and depths of a function");
+    Command::new(alloc, "verify")
+        .about("verifies a module, and tells its budget and depth")
+        .arg(file)?
+        .arg(table)
 }
 
 /// The options of a verb that runs a module.
@@ -177,6 +208,7 @@ fn command<'a>(alloc: Global) -> Result<Command<'a>, AllocError> {
     Command::new(alloc, "tapirvm")
         .about("A verified fork-join machine for LLVM IR with Tapir's detach, reattach and sync")
         .subcommand_required(true)
+        .subcommand(verify_command(alloc)?)?
         .subcommand(serial_command(alloc)?)?
         .subcommand(run_command(alloc)?)?
         .subcommand(replay_command(alloc)?)
@@ -189,14 +221,30 @@ fn schedule_of(alloc: Global, matches: &ArgMatches<'_>) -> Result<String, WordsF
     }
 }
 
+fn file_of(alloc: Global, matches: &ArgMatches<'_>) -> Result<String, WordsFault> {
+    match matches.get_str("file") {
+        Some(file) => Ok(String::from_str(alloc, file)?),
+        None => Err(wrong_value(alloc, "<FILE>", "")),
+    }
+}
+
+fn verify_request(alloc: Global, matches: &ArgMatches<'_>) -> Result<Request, WordsFault> {
+    Ok(Request {
+        verb: Verb::Verify,
+        file: file_of(alloc, matches)?,
+        schedule: None,
+        workers: 1,
+        args: Vec::new(alloc),
+        set: Vec::new(alloc),
+        show: Vec::new(alloc),
+        table: table_of(alloc, matches)?,
+    })
+}
+
 fn request_of(alloc: Global, verb: Verb, matches: &ArgMatches<'_>) -> Result<Request, WordsFault> {
-    let file = match matches.get_str("file") {
-        Some(file) => String::from_str(alloc, file)?,
-        None => return Err(wrong_value(alloc, "<FILE>", "")),
-    };
     Ok(Request {
         verb,
-        file,
+        file: file_of(alloc, matches)?,
         schedule: None,
         workers: workers_of(alloc, matches)?,
         args: args_of(alloc, matches)?,
@@ -213,6 +261,7 @@ pub fn words<'a>(alloc: Global, words: &'a [&'a str]) -> Result<Request, WordsFa
         Err(error) => return Err(fault_of(alloc, error)),
     };
     match parsed.subcommand() {
+        Some(("verify", matches)) => verify_request(alloc, matches),
         Some(("serial", matches)) => request_of(alloc, Verb::Serial, matches),
         Some(("run", matches)) => request_of(alloc, Verb::Run, matches),
         Some(("replay", matches)) => {

@@ -1,5 +1,5 @@
 -- What the rules on calls say of the program.
-use Rattle.std.proofs.Common.{◌≡◌, ℕ, zero, suc, ◌<◌, Bool, true, false, not, List, [], ◌∷◌, map, length, get_or, refl, sym, ap, ◌∙◌, subst, arith, true≢false, Result, Ok, Err, IfOk, Option, Some, None, is_some, nat_le, nat_eq}
+use Rattle.std.proofs.Common.{◌≡◌, ℕ, zero, suc, ◌<◌, Bool, true, false, not, List, [], ◌∷◌, map, length, get_or, refl, sym, ap, ◌∙◌, subst, arith, true≢false, Result, Ok, Err, Option, Some, None, is_some, nat_le, nat_eq}
 use Rattle.std.specs.Prelude.{slice_get}
 use Rattle.std.specs.List.{Contains, list_any}
 use Rattle.std.proofs.lemmas.Bool.{or_parts}
@@ -23,28 +23,28 @@ use Rattle.syntax.specs.declared.module.Function.{Function as FunctionText}
 use Rattle.linear.specs.declared.form.RegisterId.{RegisterId}
 use Rattle.program.specs.declared.identifier.AllocaId.{AllocaId}
 use Rattle.syntax.specs.declared.module.Module.{Module}
-use Rattle.types.specs.declared.address.WholeObject.{WholeObject}
+use Rattle.scopes.specs.declared.address.WholeObject.{WholeObject}
 use Rattle.types.specs.declared.block.Body.{Body}
 use Rattle.types.specs.declared.call.ResolvedCall.{ResolvedCall}
-use Rattle.types.specs.declared.typed.Typed.{Typed}
-use Rattle.types.specs.declared.fault.TypeFault.{TypeFault}
-use Rattle.types.specs.declared.fault.TypeFault.TheVariants.{Fault}
+use Rattle.program.specs.declared.function.Program.{Program}
+use Rattle.scopes.specs.declared.fault.TypeFault.{TypeFault}
+use Rattle.scopes.specs.declared.fault.TypeFault.TheVariants.{Fault}
 use Rattle.types.specs.declared.instruction.Spot.{Spot}
-use Rattle.types.specs.declared.mention.Mentions.{Mentions}
-use Rattle.types.specs.Address.{Items, object_of}
+use Rattle.scopes.specs.declared.mention.Mentions.{Mentions}
+use Rattle.scopes.specs.Address.{Items, object_of}
 use Rattle.types.proofs.TextCalls.{IsCallApart, IsApart, CallsApart}
 use Rattle.types.specs.Call.{Named, are_distinct, is_any_named, is_named_below, passed_call, found_call, called, refused_call, arguments_of, fitting_arguments, as_function}
-use Rattle.types.specs.Fault.{both_of, made_of, unless_of}
+use Rattle.scopes.specs.Fault.{both_of, made_of, unless_of}
 use Rattle.types.specs.Instruction.{instruction_of, step_of, defined_of, alloca_id_of}
-use Rattle.types.specs.Layout.{layout_of}
+use Rattle.scopes.specs.Layout.{layout_of}
 use Rattle.types.specs.Function.{function_of, functions_of}
 use Rattle.types.specs.Block.{block_of}
-use Rattle.types.specs.Item.{items_of}
-use Rattle.types.specs.Typed.{Judges}
-use Rattle.types.specs.Mention.{IsNamed, IsNamedTable, mentions_of}
-use Rattle.types.specs.Scope.{Scope}
-use Rattle.types.specs.Table.{look_up}
-use Rattle.types.proofs.Inversion.{made_ok, then_ok, both_ok, unless_ok, all_ok, err_not_ok}
+use Rattle.scopes.specs.Item.{items_of}
+use Rattle.types.specs.Meaning.{Means}
+use Rattle.scopes.specs.Mention.{IsNamed, IsNamedTable, mentions_of}
+use Rattle.scopes.specs.Scope.{Scope}
+use Rattle.scopes.specs.Table.{look_up}
+use Rattle.scopes.proofs.Inversion.{made_ok, then_ok, both_ok, unless_ok, all_ok, err_not_ok}
 
 pub turned : (b : Bool) → not b ≡ true → b ≡ false
 turned true h = absurd (true≢false (sym h))
@@ -157,12 +157,11 @@ module _ (mentions : List Mentions) (globals : ℕ) (named : Named) (table : IsN
       subst P last.2 (instruction_apart items functions counted scope spot three.0.instruction last.0.1 (both_ok _ _ last.0 last.1).1)
 
 -- the calls of a good module
-pub judged_apart : (whole : Module) (answer : Result Typed TypeFault) → Judges whole answer →
-    IfOk answer (λ typed. CallsApart (map (mentions_of (items_of whole)) whole.functions) (length whole.globals) typed.program.functions)
-judged_apart whole (Err fault) j = tt
-judged_apart whole (Ok typed) j =
+pub meant_apart : (whole : Module) (program : Program) → Means whole (Ok program) →
+    CallsApart (map (mentions_of (items_of whole)) whole.functions) (length whole.globals) program.functions
+meant_apart whole program m =
     let mentions : List Mentions = map (mentions_of (items_of whole)) whole.functions in
-    let made = made_ok _ _ typed j.2 in
+    let made = made_ok _ _ program m.2 in
     let functions = (both_ok _ _ made.0 made.1).1 in
-    let P : Typed → Type 0 = λ t. CallsApart mentions (length whole.globals) t.program.functions in
-    subst P made.2 (functions_apart mentions (length whole.globals) j.0 j.1 (items_of whole) whole.functions (sym (length-map whole.functions (mentions_of (items_of whole)))) made.0.1 functions)
+    let P : Program → Type 0 = λ t. CallsApart mentions (length whole.globals) t.functions in
+    subst P made.2 (functions_apart mentions (length whole.globals) m.0 m.1 (items_of whole) whole.functions (sym (length-map whole.functions (mentions_of (items_of whole)))) made.0.1 functions)

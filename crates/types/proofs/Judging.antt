@@ -1,30 +1,36 @@
 -- The answer of the whole.
 use Rattle.std.proofs.Common.{◌≡◌, ℕ, List, map, length, ap, ◌∙◌, subst, Result, Ok, Err}
+use Rattle.program.specs.declared.function.Program.{Program}
 use Rattle.syntax.specs.declared.module.Module.{Module}
-use Rattle.types.specs.declared.fault.TypeFault.{TypeFault}
-use Rattle.types.specs.declared.fault.TypeFault.TheVariants.{Fault, Memory}
-use Rattle.types.specs.declared.mention.Mentions.{Mentions}
-use Rattle.types.specs.declared.typed.Typed.{Typed}
-use Rattle.types.specs.Address.{Items}
+use Rattle.scopes.specs.declared.fault.TypeFault.{TypeFault}
+use Rattle.scopes.specs.declared.fault.TypeFault.TheVariants.{Fault, Memory}
+use Rattle.scopes.specs.declared.mention.Mentions.{Mentions}
+use Rattle.scopes.specs.Address.{Items}
 use Rattle.types.specs.Call.{Named}
-use Rattle.types.specs.Fault.{Gives}
-use Rattle.types.specs.Item.{items_of}
-use Rattle.types.specs.Mention.{mentions_of, IsNamedTable}
-use Rattle.types.specs.Typed.{typed_from, IsNamedIn, Judges}
+use Rattle.scopes.specs.Fault.{Gives}
+use Rattle.scopes.specs.Item.{items_of}
+use Rattle.types.specs.Meaning.{program_from, IsNamedIn, Means}
+use Rattle.scopes.specs.Mention.{mentions_of, IsNamedTable}
 
-by_table : (whole : Module) (named : Named) (answer : Result Typed TypeFault) → IsNamedIn whole named → Gives answer (typed_from (items_of whole) named whole) → Judges whole answer
-by_table whole named (Ok typed) table g = (named, table, g)
+-- the program is what the module means, unless memory was refused
+abbrev pub Resolves : Module → Result Program TypeFault → Type 0
+Resolves whole (Ok program) = Means whole (Ok program)
+Resolves whole (Err Memory) = Unit {0}
+Resolves whole (Err (Fault number line)) = Means whole (Err (Fault number line))
+
+by_table : (whole : Module) (named : Named) (answer : Result Program TypeFault) → IsNamedIn whole named → Gives answer (program_from (items_of whole) named whole) → Resolves whole answer
+by_table whole named (Ok program) table g = (named, table, g)
 by_table whole named (Err Memory) table g = tt
 by_table whole named (Err (Fault number line)) table g = (named, table, g)
 
-pub judged : (whole : Module) (answer : Result Typed TypeFault) (items : Items) (mentions mentions' : List Mentions) (globals : ℕ) (named named' : Named) →
+pub resolved : (whole : Module) (answer : Result Program TypeFault) (items : Items) (mentions mentions' : List Mentions) (globals : ℕ) (named named' : Named) →
     items ≡ items_of whole → mentions ≡ map (mentions_of items) whole.functions → mentions' ≡ mentions → globals ≡ length whole.globals →
-    IsNamedTable mentions' globals named → named' ≡ named → Gives answer (typed_from items named' whole) → Judges whole answer
-judged whole answer items mentions mentions' globals named named' i m m' n table same g =
+    IsNamedTable mentions' globals named → named' ≡ named → Gives answer (program_from items named' whole) → Resolves whole answer
+resolved whole answer items mentions mentions' globals named named' i m m' n table same g =
     let P : List Mentions → Type 0 = λ ms. IsNamedTable ms globals named in
     let Q : ℕ → Type 0 = λ k. IsNamedTable (map (mentions_of (items_of whole)) whole.functions) k named in
-    let R : Items → Type 0 = λ is. Gives answer (typed_from is named whole) in
-    let S : Named → Type 0 = λ ns. Gives answer (typed_from items ns whole) in
+    let R : Items → Type 0 = λ is. Gives answer (program_from is named whole) in
+    let S : Named → Type 0 = λ ns. Gives answer (program_from items ns whole) in
     by_table whole named answer
     (subst Q n (subst P (m' ∙ m ∙ ap (λ is. map (mentions_of is) whole.functions) i) table))
     (subst R i (subst S same g))

@@ -1,15 +1,7 @@
-pub mod Ordered
 pub mod CallLaws
 pub mod Covering
 pub mod Defining
-pub mod Giving
-pub mod Growing
-pub mod Inversion
 pub mod Judging
-pub mod Marks
-pub mod Naming
 pub mod Scopes
-pub mod Searching
-pub mod Tables
 pub mod TextCalls
 pub mod Programs

@@ -1,5 +1,5 @@
 -- The calls of a program keep pointers apart, by what its functions name themselves.
-use Rattle.std.proofs.Common.{◌≡◌, ◌⊎◌, inl, inr, ℕ, zero, suc, ◌+◌, ◌<◌, ◌≤◌, List, [], ◌∷◌, ◌++◌, length, map, Option, Some, Bool, true, false, not, refl, sym, ap, ◌∙◌, subst, arith, Result, Ok, Err, IfOk, nat_eq, true≢false}
+use Rattle.std.proofs.Common.{◌≡◌, ◌⊎◌, inl, inr, ℕ, zero, suc, ◌+◌, ◌<◌, ◌≤◌, List, [], ◌∷◌, ◌++◌, length, map, Option, Some, Bool, true, false, not, refl, sym, ap, ◌∙◌, subst, arith, Result, Ok, nat_eq, true≢false}
 use Rattle.std.specs.Prelude.{slice_get, ◌&&◌}
 use Rattle.std.specs.List.{Contains, list_any}
 use Rattle.std.proofs.lemmas.Bool.{or_parts}
@@ -11,6 +11,7 @@ use Rattle.program.specs.declared.annotation.Pending.{Pending}
 use Rattle.program.specs.declared.annotation.Zone.{Zone}
 use Rattle.program.specs.declared.function.Block.{Block}
 use Rattle.program.specs.declared.function.Function.{Function}
+use Rattle.program.specs.declared.function.Program.{Program}
 use Rattle.program.specs.declared.identifier.FunctionId.{FunctionId}
 use Rattle.program.specs.declared.identifier.GlobalId.{GlobalId}
 use Rattle.program.specs.declared.identifier.ObjectName.{ObjectName}
@@ -30,31 +31,30 @@ use Rattle.syntax.specs.declared.module.Module.{Module}
 use Rattle.types.specs.declared.block.Body.{Body}
 use Rattle.types.specs.declared.block.Head.{Head}
 use Rattle.types.specs.declared.function.Head.{Head as FunctionHead}
-use Rattle.types.specs.declared.fault.TypeFault.{TypeFault}
-use Rattle.types.specs.declared.form.Place.TheVariants as place
-use Rattle.types.specs.declared.item.Item.{Item}
-use Rattle.types.specs.declared.item.Item.TheVariants as item
-use Rattle.types.specs.declared.mention.Mentions.{Mentions}
-use Rattle.types.specs.declared.typed.Typed.{Typed}
-use Rattle.types.specs.Address.{Items}
+use Rattle.scopes.specs.declared.fault.TypeFault.{TypeFault}
+use Rattle.scopes.specs.declared.form.Place.TheVariants as place
+use Rattle.scopes.specs.declared.item.Item.{Item}
+use Rattle.scopes.specs.declared.item.Item.TheVariants as item
+use Rattle.scopes.specs.declared.mention.Mentions.{Mentions}
+use Rattle.scopes.specs.Address.{Items}
 use Rattle.types.specs.Apart.{InstructionNames, IsBlockAt, IsInstructionAt, IsNamedBy, in_instruction, in_zone, in_pending, in_foot, Reaches, itself, through, NamesGlobal, parameters_in, parameters_at, CallsApart}
 use Rattle.types.specs.Block.{head_of, body_of, block_with, block_of, blocks_of}
 use Rattle.types.specs.Call.{Named, parameter_of, is_same_object, passes, is_passed_again, are_distinct}
 use Rattle.types.specs.Definitions.{DefinesFrom, KeepsParameters, IsParameterName, EachDefinesAnew}
 use Rattle.types.specs.Function.{head_of as function_head_of, head_zones_of, function_with, function_of, functions_of}
 use Rattle.types.specs.Instruction.{phi_of, phis_of, instruction_of, step_of, steps_of}
-use Rattle.types.specs.Item.{with_globals, with_functions, items_of}
-use Rattle.types.specs.Layout.{layout_of}
-use Rattle.types.specs.Mention.{with_address, with_instruction, mentions_of, globals_at, callees_at, IsChain, IsNamed}
-use Rattle.types.specs.Note.{zone_of, zones_of, more_zones, pending_of, all_pending_of}
-use Rattle.types.specs.Scope.{Scope}
-use Rattle.types.specs.Table.{with_name}
-use Rattle.types.specs.Typed.{Judges}
-use Rattle.types.proofs.CallLaws.{judged_apart, turned}
+use Rattle.scopes.specs.Item.{with_globals, with_functions, items_of}
+use Rattle.scopes.specs.Layout.{layout_of}
+use Rattle.scopes.specs.Mention.{with_address, with_instruction, mentions_of, globals_at, callees_at, IsChain, IsNamed}
+use Rattle.scopes.specs.Note.{zone_of, zones_of, more_zones, pending_of, all_pending_of}
+use Rattle.scopes.specs.Scope.{Scope}
+use Rattle.scopes.specs.Table.{with_name}
+use Rattle.types.specs.Meaning.{Means}
+use Rattle.types.proofs.CallLaws.{meant_apart, turned}
 use Rattle.types.proofs.Covering.{Bounded, Adds, IsMentioned, named_adds, is_mentioned, zone_adds, pending_adds}
 use Rattle.types.proofs.Defining.{phi_from, instruction_from}
-use Rattle.types.proofs.Growing.{Holds, of_step, of_foot, of_pending, of_reads, of_writes, of_adds}
-use Rattle.types.proofs.Inversion.{made_ok, both_ok, all_from_ok, same_place, all_at}
+use Rattle.scopes.proofs.Growing.{Holds, of_step, of_foot, of_pending, of_reads, of_writes, of_adds}
+use Rattle.scopes.proofs.Inversion.{made_ok, both_ok, all_from_ok, same_place, all_at}
 use Rattle.types.proofs.Scopes.{Entries, entries_with, IsNamedRight, scope_right}
 use Rattle.types.proofs.TextCalls.{IsCallApart as IsTextApart, IsApart as IsTextInstructionApart, CallsApart as TextCallsApart}
 
@@ -403,17 +403,15 @@ module _ (items : Items) (globals : ℕ) (functions : List FunctionText) (named 
           (phi_from (length text.parameters) (IsParameterName text.parameters) (layout_of text).scope (scope_right text) found.0 phi found.2 (λ is. (anew f text from.from.at).by_phis b i from.text found.0 from.at found.1 is))
 
 -- of a module
-functions_are : (whole : Module) (typed : Typed) (j : Judges whole (Ok typed)) → functions_of (items_of whole) whole.functions j.0 ≡ Ok typed.program.functions
-functions_are whole typed j =
-    let made = made_ok _ _ typed j.2 in
-    (both_ok _ _ made.0 made.1).1 ∙ ap (λ (t : Typed). Ok t.program.functions) made.2
+functions_are : (whole : Module) (program : Program) (m : Means whole (Ok program)) → functions_of (items_of whole) whole.functions m.0 ≡ Ok program.functions
+functions_are whole program m =
+    let made = made_ok _ _ program m.2 in
+    (both_ok _ _ made.0 made.1).1 ∙ ap (λ (p : Program). Ok p.functions) made.2
 
-pub program_apart : (whole : Module) (answer : Result Typed TypeFault) → Judges whole answer → IfOk answer (λ typed. CallsApart typed.program.functions)
-program_apart whole (Err fault) j = tt
-program_apart whole (Ok typed) j =
-    calls_apart (items_of whole) (length whole.globals) whole.functions j.0 (items_bounded whole) typed.program.functions (functions_are whole typed j) (judged_apart whole (Ok typed) j)
+pub program_apart : (whole : Module) (program : Program) → Means whole (Ok program) → CallsApart program.functions
+program_apart whole program m =
+    calls_apart (items_of whole) (length whole.globals) whole.functions m.0 (items_bounded whole) program.functions (functions_are whole program m) (meant_apart whole program m)
 
-pub program_kept : (whole : Module) (answer : Result Typed TypeFault) → Judges whole answer → EachDefinesAnew whole.functions → IfOk answer (λ typed. KeepsParameters typed.program.functions)
-program_kept whole (Err fault) j anew = tt
-program_kept whole (Ok typed) j anew =
-    parameters_kept (items_of whole) (length whole.globals) whole.functions j.0 (items_bounded whole) typed.program.functions (functions_are whole typed j) anew
+pub program_kept : (whole : Module) (program : Program) → Means whole (Ok program) → EachDefinesAnew whole.functions → KeepsParameters program.functions
+program_kept whole program m anew =
+    parameters_kept (items_of whole) (length whole.globals) whole.functions m.0 (items_bounded whole) program.functions (functions_are whole program m) anew

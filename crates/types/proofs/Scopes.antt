@@ -13,23 +13,23 @@ use Rattle.syntax.specs.declared.module.Block.{Block as BlockText}
 use Rattle.syntax.specs.declared.module.Function.{Function as FunctionText}
 use Rattle.syntax.specs.declared.module.Parameter.{Parameter as ParameterText}
 use Rattle.syntax.specs.declared.module.Parameter.TheVariants as parameter
-use Rattle.types.specs.declared.fault.TypeFault.TheVariants.{Fault}
-use Rattle.types.specs.declared.layout.Layout.{Layout}
-use Rattle.types.specs.declared.scope.Holding.{Holding}
-use Rattle.types.specs.declared.scope.Holding.TheVariants as holding
-use Rattle.types.specs.declared.scope.Named.{Named}
-use Rattle.types.specs.declared.scope.Named.TheVariants as named
-use Rattle.types.specs.declared.scope.Origin.{Origin}
-use Rattle.types.specs.declared.scope.Origin.TheVariants as origin
-use Rattle.types.specs.declared.scope.Register.{Register}
+use Rattle.scopes.specs.declared.fault.TypeFault.TheVariants.{Fault}
+use Rattle.scopes.specs.declared.layout.Layout.{Layout}
+use Rattle.scopes.specs.declared.scope.Holding.{Holding}
+use Rattle.scopes.specs.declared.scope.Holding.TheVariants as holding
+use Rattle.scopes.specs.declared.scope.Named.{Named}
+use Rattle.scopes.specs.declared.scope.Named.TheVariants as named
+use Rattle.scopes.specs.declared.scope.Origin.{Origin}
+use Rattle.scopes.specs.declared.scope.Origin.TheVariants as origin
+use Rattle.scopes.specs.declared.scope.Register.{Register}
 use Rattle.types.specs.Definitions.{parameter_name, IsParameterName}
-use Rattle.types.specs.Layout.{with_register, with_parameter, with_phi, with_alloca, with_call, with_instruction, with_step, with_phis, with_steps, with_block, with_parameters, with_blocks, with_label, with_labels, no_layout, layout_of, cells_of, target_width}
-use Rattle.types.specs.Fault.{unless_of}
-use Rattle.types.specs.Form.{as_parameter, parameter_of}
-use Rattle.types.specs.Operand.{as_register, register_of}
-use Rattle.types.specs.Scope.{Scope, is_parameter}
-use Rattle.types.specs.Table.{look_up, with_name}
-use Rattle.types.proofs.Inversion.{made_ok, err_not_ok, same_ok}
+use Rattle.scopes.specs.Layout.{with_register, with_parameter, with_phi, with_alloca, with_call, with_instruction, with_step, with_phis, with_steps, with_block, with_parameters, with_blocks, with_label, with_labels, no_layout, layout_of, cells_of, target_width}
+use Rattle.scopes.specs.Fault.{unless_of}
+use Rattle.scopes.specs.Form.{as_parameter, parameter_of}
+use Rattle.scopes.specs.Operand.{as_register, register_of}
+use Rattle.scopes.specs.Scope.{Scope, is_parameter}
+use Rattle.scopes.specs.Table.{look_up, with_name}
+use Rattle.scopes.proofs.Inversion.{made_ok, err_not_ok, same_ok}
 
 -- each entry fits
 abbrev pub Entries : {A : Type 0} → (List ℕ → A → Type 0) → List (List ℕ × A) → Type 0

@@ -7,15 +7,15 @@ use Rattle.syntax.specs.declared.module.Function.{Function as FunctionText}
 use Rattle.syntax.specs.declared.module.ResultType.{ResultType}
 use Rattle.types.specs.declared.block.Body.{Body}
 use Rattle.types.specs.declared.block.Head.{Head}
-use Rattle.types.specs.declared.fault.TypeFault.{TypeFault}
-use Rattle.types.specs.declared.form.Place.TheVariants as place
-use Rattle.types.specs.Address.{Items}
+use Rattle.scopes.specs.declared.fault.TypeFault.{TypeFault}
+use Rattle.scopes.specs.declared.form.Place.TheVariants as place
+use Rattle.scopes.specs.Address.{Items}
 use Rattle.types.specs.Call.{Named}
-use Rattle.types.specs.Fault.{all_of, both_of, made_of}
-use Rattle.types.specs.Form.{inequalities_of}
+use Rattle.scopes.specs.Fault.{all_of, both_of, made_of}
+use Rattle.scopes.specs.Form.{inequalities_of}
 use Rattle.types.specs.Instruction.{phis_of, steps_of}
-use Rattle.types.specs.Note.{all_pending_of, left_of, zones_of}
-use Rattle.types.specs.Scope.{Scope}
+use Rattle.scopes.specs.Note.{all_pending_of, left_of, zones_of}
+use Rattle.scopes.specs.Scope.{Scope}
 use Rattle.types.specs.Terminator.{ending_of}
 
 -- the annotations at a block's head

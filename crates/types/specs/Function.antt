@@ -10,18 +10,18 @@ use Rattle.syntax.specs.declared.annotation.FunctionNotes.{FunctionNotes}
 use Rattle.syntax.specs.declared.module.Function.{Function as FunctionText}
 use Rattle.syntax.specs.declared.module.ResultType.{ResultType}
 use Rattle.syntax.specs.declared.module.ResultType.TheVariants.{Number, Void}
-use Rattle.types.specs.declared.fault.TypeFault.{TypeFault}
-use Rattle.types.specs.declared.form.Place.TheVariants as place
+use Rattle.scopes.specs.declared.fault.TypeFault.{TypeFault}
+use Rattle.scopes.specs.declared.form.Place.TheVariants as place
 use Rattle.types.specs.declared.function.Head.{Head}
-use Rattle.types.specs.declared.layout.Layout.{Layout}
-use Rattle.types.specs.Address.{Items}
+use Rattle.scopes.specs.declared.layout.Layout.{Layout}
+use Rattle.scopes.specs.Address.{Items}
 use Rattle.types.specs.Block.{blocks_of}
 use Rattle.types.specs.Call.{Named, parameter_of}
-use Rattle.types.specs.Fault.{all_of, both_of, made_of}
-use Rattle.types.specs.Form.{inequalities_of}
-use Rattle.types.specs.Layout.{layout_of}
-use Rattle.types.specs.Note.{measure_of, more_zones, zones_of}
-use Rattle.types.specs.Scope.{Scope}
+use Rattle.scopes.specs.Fault.{all_of, both_of, made_of}
+use Rattle.scopes.specs.Form.{inequalities_of}
+use Rattle.scopes.specs.Layout.{layout_of}
+use Rattle.scopes.specs.Note.{measure_of, more_zones, zones_of}
+use Rattle.scopes.specs.Scope.{Scope}
 
 -- the register that stands for the result in `ensures`: the one behind the last
 abbrev pub result_register : ResultType → ℕ → Option RegisterId

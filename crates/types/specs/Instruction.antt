@@ -23,18 +23,18 @@ use Rattle.syntax.specs.declared.operator.Conversion.TheVariants.{Truncate, Sign
 use Rattle.syntax.specs.declared.operator.Predicate.{Predicate}
 use Rattle.syntax.specs.declared.operator.Width.{Width}
 use Rattle.syntax.specs.declared.operator.Width.TheVariants.{Bits64, Bits32}
-use Rattle.types.specs.declared.fault.TypeFault.{TypeFault}
-use Rattle.types.specs.declared.fault.TypeFault.TheVariants.{Fault}
-use Rattle.types.specs.declared.form.Place.TheVariants.{Body}
+use Rattle.scopes.specs.declared.fault.TypeFault.{TypeFault}
+use Rattle.scopes.specs.declared.fault.TypeFault.TheVariants.{Fault}
+use Rattle.scopes.specs.declared.form.Place.TheVariants.{Body}
 use Rattle.types.specs.declared.instruction.Spot.{Spot}
-use Rattle.types.specs.declared.scope.Holding.{Holding}
-use Rattle.types.specs.declared.scope.Holding.TheVariants as holding
-use Rattle.types.specs.Address.{Items, address_of, object_of}
+use Rattle.scopes.specs.declared.scope.Holding.{Holding}
+use Rattle.scopes.specs.declared.scope.Holding.TheVariants as holding
+use Rattle.scopes.specs.Address.{Items, address_of, object_of}
 use Rattle.types.specs.Call.{Named, call_of}
-use Rattle.types.specs.Fault.{all_of, and_then, both_of, made_of, unless_of}
-use Rattle.types.specs.Form.{inequalities_of}
-use Rattle.types.specs.Operand.{label_of, operand_of, register_of}
-use Rattle.types.specs.Scope.{Scope}
+use Rattle.scopes.specs.Fault.{all_of, and_then, both_of, made_of, unless_of}
+use Rattle.scopes.specs.Form.{inequalities_of}
+use Rattle.scopes.specs.Operand.{label_of, operand_of, register_of}
+use Rattle.scopes.specs.Scope.{Scope}
 
 -- the register that an instruction defines
 abbrev pub defined_of : Scope → ℕ → List ℕ → Result RegisterId TypeFault

@@ -13,13 +13,13 @@ use Rattle.syntax.specs.declared.terminator.Case.{Case as CaseText}
 use Rattle.syntax.specs.declared.terminator.Ending.{Ending as EndingText}
 use Rattle.syntax.specs.declared.terminator.Terminator.{Terminator as TerminatorText}
 use Rattle.syntax.specs.declared.terminator.Terminator.TheVariants as text
-use Rattle.types.specs.declared.fault.TypeFault.{TypeFault}
-use Rattle.types.specs.declared.fault.TypeFault.TheVariants.{Fault}
-use Rattle.types.specs.declared.form.Place.TheVariants.{Body}
-use Rattle.types.specs.Fault.{all_of, and_then, both_of, made_of, unless_of}
-use Rattle.types.specs.Form.{inequalities_of}
-use Rattle.types.specs.Operand.{condition_of, fits_width, label_of, operand_of, region_of}
-use Rattle.types.specs.Scope.{Scope}
+use Rattle.scopes.specs.declared.fault.TypeFault.{TypeFault}
+use Rattle.scopes.specs.declared.fault.TypeFault.TheVariants.{Fault}
+use Rattle.scopes.specs.declared.form.Place.TheVariants.{Body}
+use Rattle.scopes.specs.Fault.{all_of, and_then, both_of, made_of, unless_of}
+use Rattle.scopes.specs.Form.{inequalities_of}
+use Rattle.scopes.specs.Operand.{condition_of, fits_width, label_of, operand_of, region_of}
+use Rattle.scopes.specs.Scope.{Scope}
 
 -- a case: its number is one of the switch's width, else 202
 abbrev pub case_of : Scope → ℕ → Width → CaseText → Result Case TypeFault

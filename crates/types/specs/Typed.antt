@@ -1,69 +1,15 @@
--- The program that a module means.
-use Rattle.std.specs.Prelude.{◌≡◌, Bool, true, false, List, map, length, codes, slice_get, Option, Some, None, Result, Ok, Err}
-use Rattle.std.specs.List.{list_all}
-use Rattle.program.specs.declared.function.Function.{Function}
-use Rattle.program.specs.declared.function.Global.{Global}
-use Rattle.program.specs.declared.identifier.FunctionId.{FunctionId}
-use Rattle.syntax.specs.declared.module.Function.{Function as FunctionText}
-use Rattle.syntax.specs.declared.module.Global.{Global as GlobalText}
+-- The answer of the phase.
+use Rattle.std.specs.Prelude.{Result, Ok, Err}
 use Rattle.syntax.specs.declared.module.Module.{Module}
-use Rattle.syntax.specs.declared.module.Parameter.{Parameter as ParameterText}
-use Rattle.syntax.specs.declared.module.Parameter.TheVariants as parameter
-use Rattle.syntax.specs.declared.module.ResultType.{ResultType}
-use Rattle.syntax.specs.declared.module.ResultType.TheVariants.{Number, Void}
-use Rattle.types.specs.declared.fault.TypeFault.{TypeFault}
-use Rattle.types.specs.declared.fault.TypeFault.TheVariants.{Fault, Memory}
-use Rattle.types.specs.declared.item.Item.{Item}
-use Rattle.types.specs.declared.item.Item.TheVariants as item
+use Rattle.scopes.specs.declared.fault.TypeFault.{TypeFault}
+use Rattle.scopes.specs.declared.fault.TypeFault.TheVariants.{Fault, Memory}
 use Rattle.types.specs.declared.typed.Typed.{Typed}
-use Rattle.types.specs.Address.{Items}
-use Rattle.types.specs.Call.{Named}
-use Rattle.types.specs.Fault.{both_of, made_of, unless_of}
-use Rattle.types.specs.Function.{functions_of}
-use Rattle.types.specs.Item.{items_of}
-use Rattle.types.specs.Mention.{mentions_of, IsNamedTable}
-use Rattle.types.specs.Table.{look_up}
-
-abbrev pub is_number : ParameterText → Bool
-is_number (parameter.Number name) = true
-is_number (parameter.Pointer name cells) = false
-
-abbrev pub main_form : ResultType → List ParameterText → Bool
-main_form Void parameters = false
-main_form Number parameters = list_all is_number parameters
-
--- `@main` gives an `i64` and takes nothing else, else 202 at its `define`
-abbrev pub as_main : FunctionId → Option FunctionText → Result FunctionId TypeFault
-as_main id None = Err (Fault 201 1)
-as_main id (Some function) = made_of (λ _. id) (unless_of (main_form function.result_type function.parameters) (Fault 202 function.line))
-
--- 201 at line 1 where no function is called `@main`
-abbrev pub found_main : List FunctionText → Option Item → Result FunctionId TypeFault
-found_main functions None = Err (Fault 201 1)
-found_main functions (Some (item.Global id cells)) = Err (Fault 201 1)
-found_main functions (Some (item.Function id)) = as_main id (slice_get functions id.0)
-
-abbrev pub main_of : Items → List FunctionText → Result FunctionId TypeFault
-main_of items functions = found_main functions (look_up items (codes "main"))
-
-abbrev pub global_of : GlobalText → Global
-global_of global = record { line = global.line; name = global.name; cells = global.cells }
-
-abbrev pub typed_with : Module → FunctionId → List Function → Typed
-typed_with whole main functions = record { program = record { globals = map global_of whole.globals; functions = functions; main = main } }
-
--- the program that a module means by these tables of names, else its earliest fault
-abbrev pub typed_from : Items → Named → Module → Result Typed TypeFault
-typed_from items named whole =
-    made_of (λ p. typed_with whole p.0 p.1) (both_of (main_of items whole.functions) (functions_of items whole.functions named))
-
--- for each function of the module just the globals that it names, itself or by those that it calls
-abbrev pub IsNamedIn : Module → Named → Type 0
-IsNamedIn whole named = IsNamedTable (map (mentions_of (items_of whole)) whole.functions) (length whole.globals) named
+use Rattle.types.specs.Meaning.{Means as MeansProgram}
 
 -- the program that a module means, else its earliest fault
 abbrev pub Means : Module → Result Typed TypeFault → Type 0
-Means whole meaning = (named : Named) × IsNamedIn whole named × (typed_from (items_of whole) named whole ≡ meaning)
+Means whole (Ok typed) = MeansProgram whole (Ok typed.program)
+Means whole (Err fault) = MeansProgram whole (Err fault)
 
 -- the answer is what the module means, unless memory was refused
 abbrev pub Judges : Module → Result Typed TypeFault → Type 0

@@ -2,17 +2,17 @@
 
 ghost use Rattle.std.specs.Prelude.{◌≡◌};
 ghost use Rattle.types.specs.Block as spec;
-ghost use Rattle.types.specs.Fault.{Gives};
+ghost use Rattle.scopes.specs.Fault.{Gives};
 
 use crate::call::World;
-use crate::fault::{TypeFault, both, joined};
-use crate::form::{Place, resolve_inequalities};
 use crate::instruction::{resolve_phis, resolve_steps};
-use crate::note::{resolve_all_pending, resolve_first_zones, resolve_left};
-use crate::scope::Scope;
 use crate::terminator::resolve_ending;
 use lists::Seq;
 use program::{Block, Ending, Inequality, Left, Pending, Phi, Step, Zone};
+use scopes::{
+    Place, Scope, TypeFault, both, joined, resolve_all_pending, resolve_first_zones,
+    resolve_inequalities, resolve_left,
+};
 use std::alloc::Global;
 use syntax::ResultType;
 

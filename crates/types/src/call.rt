@@ -3,20 +3,15 @@
 ghost use Rattle.std.specs.Prelude.{◌≡◌, slice_get};
 ghost use Rattle.std.specs.List.{list_any};
 ghost use Rattle.types.specs.Call as spec;
-ghost use Rattle.types.specs.Fault.{Gives};
-ghost use Rattle.types.specs.Table.{look_up};
+ghost use Rattle.scopes.specs.Fault.{Gives};
+ghost use Rattle.scopes.specs.Table.{look_up};
 
-use crate::address::resolve_object;
-use crate::fault::{
-    TypeFault, both, downward_call, joined, pointer_misuse, type_mismatch, unknown_name, unless,
-    wrong_count,
-};
-use crate::item::{Item, Items};
-use crate::operand::resolve_operand;
-use crate::reach::NamedGlobals;
-use crate::scope::Scope;
 use lists::{Name, Seq};
 use program::{Argument, FunctionId, ObjectName, Parameter, Width};
+use scopes::{
+    Item, Items, NamedGlobals, Scope, TypeFault, both, downward_call, joined, pointer_misuse,
+    resolve_object, resolve_operand, type_mismatch, unknown_name, unless, wrong_count,
+};
 use std::alloc::Global;
 use syntax::{Function, ResultType};
 

@@ -1,19 +1,20 @@
 ghost use Rattle.std.specs.Prelude.{◌≡◌, map, IfOk};
 ghost use Rattle.std.specs.List.{list_all};
-ghost use Rattle.types.specs.Fault.{Gives};
+ghost use Rattle.scopes.specs.Fault.{Gives};
 ghost use Rattle.types.specs.Apart.{CallsApart};
 ghost use Rattle.types.specs.Definitions.{EachDefinesAnew, KeepsParameters};
-ghost use Rattle.types.specs.Typed as spec;
+ghost use Rattle.types.specs.Meaning as spec;
+ghost use Rattle.types.specs.Typed.{Judges};
 
 use crate::call::World;
-use crate::fault::{TypeFault, both, type_mismatch, unknown_name, unless};
 use crate::function::resolve_functions;
-use crate::item::{Item, Items, items_of};
-use crate::mention::all_mentions;
-use crate::reach::{NamedGlobals, named_globals};
 use crate::typed::Typed;
 use lists::Seq;
 use program::{FunctionId, Global as GlobalArray, Program};
+use scopes::{
+    Item, Items, NamedGlobals, TypeFault, all_mentions, both, items_of, named_globals,
+    type_mismatch, unknown_name, unless,
+};
 use std::alloc::{AllocError, Global};
 use std::hash::RandomState;
 use syntax::{Function, Module, Parameter, ResultType};
@@ -87,8 +88,8 @@ fn resolve_program(
     whole: &Module,
     items: &Items,
     named: &[NamedGlobals],
-) -> Result<Typed, TypeFault>
-    ensures { Gives result (spec.typed_from items.now named.now whole.now) }
+) -> Result<Program, TypeFault>
+    ensures { Gives result (spec.program_from items.now named.now whole.now) }
 {
     let functions = whole.functions.as_slice();
     let world = World {
@@ -100,12 +101,10 @@ fn resolve_program(
     let functions = resolve_functions(alloc, state, &world);
     let (main, functions) = both(main, functions)?;
     let globals = globals_of(alloc, whole.globals.as_slice())?;
-    Ok(Typed {
-        program: Program {
-            globals,
-            functions,
-            main,
-        },
+    Ok(Program {
+        globals,
+        functions,
+        main,
     })
 }
 
@@ -113,12 +112,13 @@ fn resolve_program(
 ///
 /// The tables of names are hashed with `state`.
 pub fn check_types(alloc: Global, state: RandomState, whole: Module) -> Result<Typed, TypeFault>
-    ensures judged { spec.Judges whole result }
+    ensures judged { Judges whole result }
     ensures apart { IfOk result (λ typed. CallsApart typed.program.functions) }
     ensures kept { EachDefinesAnew whole.functions → IfOk result (λ typed. KeepsParameters typed.program.functions) }
 {
     let items = items_of(alloc, state, &whole)?;
     let mentions = all_mentions(alloc, &items, whole.functions.as_slice())?;
     let named = named_globals(alloc, mentions.as_slice(), whole.globals.len())?;
-    resolve_program(alloc, state, &whole, &items, named.as_slice())
+    let program = resolve_program(alloc, state, &whole, &items, named.as_slice())?;
+    Ok(Typed { program })
 }

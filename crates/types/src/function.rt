@@ -2,18 +2,17 @@
 
 ghost use Rattle.std.specs.Prelude.{◌≡◌, map, IfOk};
 ghost use Rattle.types.specs.Call.{parameter_of as parameter_meaning};
-ghost use Rattle.types.specs.Fault.{Gives};
+ghost use Rattle.scopes.specs.Fault.{Gives};
 ghost use Rattle.types.specs.Function as spec;
 
 use crate::block::resolve_blocks;
 use crate::call::{World, parameter_of};
-use crate::fault::{TypeFault, both, joined};
-use crate::form::{Place, resolve_inequalities};
-use crate::layout::Layout;
-use crate::note::{resolve_first_zones, resolve_measure, resolve_zones};
-use crate::scope::Scope;
 use lists::Seq;
 use program::{Budget, Function, Inequality, Measure, Parameter, RegisterId, Zone};
+use scopes::{
+    Layout, Place, Scope, TypeFault, both, joined, resolve_first_zones, resolve_inequalities,
+    resolve_measure, resolve_zones,
+};
 use std::alloc::{AllocError, Global};
 use std::hash::RandomState;
 use syntax::{FunctionNotes, ResultType};

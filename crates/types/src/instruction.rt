@@ -1,19 +1,19 @@
 //! Instructions and phis.
 
 ghost use Rattle.std.specs.Prelude.{◌≡◌};
-ghost use Rattle.types.specs.Fault.{Gives};
+ghost use Rattle.scopes.specs.Fault.{Gives};
 ghost use Rattle.types.specs.Instruction as spec;
 
-use crate::address::{resolve_address, resolve_object};
 use crate::call::{CallText, World, resolve_call};
-use crate::fault::{TypeFault, both, joined, pointer_misuse, type_mismatch, unless};
-use crate::form::{Place, resolve_inequalities};
-use crate::operand::{resolve_label, resolve_operand, resolve_register};
-use crate::scope::{Holding, Scope};
 use lists::{Name, Seq};
 use program::{
     AllocaId, BinaryOperator, Conversion, Instruction, ObjectName, Phi, PhiEntry, Predicate,
     RegisterId, Step, Width,
+};
+use scopes::{
+    Holding, Place, Scope, TypeFault, both, joined, pointer_misuse, resolve_address,
+    resolve_inequalities, resolve_label, resolve_object, resolve_operand, resolve_register,
+    type_mismatch, unless,
 };
 use std::alloc::Global;
 

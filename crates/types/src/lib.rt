@@ -13,27 +13,16 @@
 //! | 206 | forms keep their limits, and a block's notes name nothing that its own instructions define |
 #![tactic(auto)]
 
-mod address;
 mod block;
 mod call;
 mod check;
-mod fault;
-mod form;
 mod function;
 mod instruction;
-mod item;
-mod layout;
-mod mention;
-mod note;
-mod operand;
-mod reach;
-mod scope;
-mod table;
 mod terminator;
 #[cfg(test)]
 mod tests;
 mod typed;
 
 pub use check::check_types;
-pub use fault::TypeFault;
+pub use scopes::TypeFault;
 pub use typed::Typed;

@@ -1,17 +1,15 @@
 //! Terminators.
 
 ghost use Rattle.std.specs.Prelude.{◌≡◌};
-ghost use Rattle.types.specs.Fault.{Gives};
+ghost use Rattle.scopes.specs.Fault.{Gives};
 ghost use Rattle.types.specs.Terminator as spec;
 
-use crate::fault::{TypeFault, both, joined, type_mismatch, unless};
-use crate::form::{Place, resolve_inequalities};
-use crate::operand::{
-    fits_width, resolve_condition, resolve_label, resolve_operand, resolve_region,
-};
-use crate::scope::Scope;
 use lists::{Name, Seq};
 use program::{Case, Ending, Terminator, Width};
+use scopes::{
+    Place, Scope, TypeFault, both, fits_width, joined, resolve_condition, resolve_inequalities,
+    resolve_label, resolve_operand, resolve_region, type_mismatch, unless,
+};
 use std::alloc::Global;
 use syntax::ResultType;
 

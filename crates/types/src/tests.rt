@@ -1,8 +1,8 @@
 //! Modules built by hand, and the fault that each rule names.
 
 use crate::check::check_types;
-use crate::fault::TypeFault;
 use lists::{Name, Seq};
+use scopes::TypeFault;
 use std::alloc::{AllocError, Global};
 use std::hash::RandomState;
 use std::test::Fail;

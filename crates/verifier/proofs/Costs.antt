@@ -1,18 +1,38 @@
--- Costs that stop at the greatest.
-use Rattle.std.proofs.Common.{◌≡◌, ℕ, ◌+◌, ◌*◌, zero, suc, min, inl, inr, ◌∙◌, add-one, arith}
+-- The table's entries of `main`.
+use Rattle.std.proofs.Common.{◌≡◌, refl, ◌∙◌, ℕ, ◌≤◌, Bool, true, Option, Some, None, inr, ap, ⊎_elim, arith}
+use Rattle.std.specs.Prelude.{slice_get, nat_le, if◌then◌else◌}
 use Rattle.std.proofs.lemmas.Bool.{cases_lt}
-use Rattle.program.specs.declared.annotation.Budget.{Budget}
-use Rattle.verifier.specs.Budgets.{cost_of}
+use Rattle.program.specs.declared.function.Function.{Function}
+use Rattle.program.specs.declared.function.Program.{Program}
+use Rattle.cfg.specs.declared.refusal.Broken.{Broken}
+use Rattle.region_match.specs.declared.tables.Regions.{Regions}
+use Rattle.cost_table.specs.Cost.{whole_cost}
+use Rattle.cost_table.specs.Depth.{depth}
+use Rattle.cost_table.specs.Tables.{as_u64, cost_in, cost_at, depth_in, depth_at}
+use Rattle.cost_table.specs.Rules.{IsCostBroken}
 
--- a cost past the greatest stays past it, where there are self calls
-stopped : (calls own cost : ℕ) → min 1000000000000 (calls * min 1000000000000 cost + own) ≡ min 1000000000000 (own + calls * cost)
-stopped zero own cost = omega arith
-stopped (suc calls) own cost = elim (cases_lt cost 1000000000000) [
-  | inl l ↦ let same : min 1000000000000 cost ≡ cost = omega (arith, l) in rw same (omega arith)
-  | inr g ↦ let same : min 1000000000000 cost ≡ 1000000000000 = omega (arith, g) in rw same (omega (arith, g))
-]
+-- no call costs over a million million
+affordable : (program : Program) (f : ℕ) (function : Function) → slice_get program.functions f ≡ Some function → ((b : Broken) → IsCostBroken program b → ⊥) → whole_cost function ≤ 1000000000000
+affordable program f function here right = ⊎_elim
+    (λ more. let broken : Broken = record { line = function.line; number = 705 } in
+    absurd (right broken (f, function, here, inr (inr (refl, refl, function.measure.bound, omega arith, more)))))
+    (λ less. less)
+    (cases_lt 1000000000000 (whole_cost function))
 
-pub cost_next : (budget : Budget) (n cost product sum : ℕ) → cost ≡ min 1000000000000 (cost_of budget n) → product ≡ min (budget.self_calls * cost) 18446744073709551615 → sum ≡ min (product + budget.instructions) 18446744073709551615 → min sum 1000000000000 ≡ min 1000000000000 (cost_of budget (n + 1))
-cost_next budget n cost product sum e p s =
-    let known : min sum 1000000000000 ≡ min 1000000000000 (budget.self_calls * cost + budget.instructions) = omega (arith, p, s) in
-    rw add-one (known ∙ (rw e (stopped budget.self_calls budget.instructions (cost_of budget n))))
+within_bound : (m : ℕ) → nat_le m m ≡ true
+within_bound m = grind arith
+
+-- an affordable entry is kept whole
+pub cost_kept : (program : Program) (f : ℕ) (function : Function) → slice_get program.functions f ≡ Some function → ((b : Broken) → IsCostBroken program b → ⊥) → cost_at program f function.measure.bound ≡ Some (whole_cost function)
+cost_kept program f function here right =
+    let less = affordable program f function here right in
+    let whole : as_u64 (whole_cost function) ≡ whole_cost function = omega (arith, less) in
+    ap (λ (o : Option Function). cost_in o function.measure.bound) here
+    ∙ ap (λ (b : Bool). if b then Some (as_u64 (whole_cost function)) else None) (within_bound function.measure.bound)
+    ∙ ap Some whole
+
+pub depth_kept : (program : Program) (regions : Regions) (f : ℕ) (function : Function) → slice_get program.functions f ≡ Some function →
+    depth_at program regions f function.measure.bound ≡ Some (as_u64 (depth program regions f function function.measure.bound))
+depth_kept program regions f function here =
+    ap (λ (o : Option Function). depth_in program regions f o function.measure.bound) here
+    ∙ ap (λ (b : Bool). if b then Some (as_u64 (depth program regions f function function.measure.bound)) else None) (within_bound function.measure.bound)

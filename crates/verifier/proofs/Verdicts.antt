@@ -1,30 +1,39 @@
 -- The answers of the phases put together.
-use Rattle.std.proofs.Common.{◌≡◌, ℕ, List, Result, Ok, Err, IfErr, inl, inr, sym, ap}
+use Rattle.std.proofs.Common.{◌≡◌, ℕ, List, Result, Ok, Err, IfErr, inl, inr, sym, ap, subst}
 use Rattle.std.specs.Prelude.{IsErrAnd}
 use Rattle.syntax.specs.declared.module.Module.{Module}
 use Rattle.ir_lex.specs.declared.fault.TextFault.{TextFault}
 use Rattle.ir_lex.specs.declared.fault.TextFault.TheVariants.{Fault as TextFaultAt, Memory as TextMemory}
 use Rattle.ir_text.specs.Reading.{Answers, IsFaultOfText}
 use Rattle.types.specs.declared.typed.Typed.{Typed}
-use Rattle.types.specs.declared.fault.TypeFault.{TypeFault}
-use Rattle.types.specs.declared.fault.TypeFault.TheVariants.{Fault as TypeFaultAt, Memory as TypeMemory}
+use Rattle.scopes.specs.declared.fault.TypeFault.{TypeFault}
+use Rattle.scopes.specs.declared.fault.TypeFault.TheVariants.{Fault as TypeFaultAt, Memory as TypeMemory}
 use Rattle.types.specs.Typed.{Judges}
 use Rattle.cfg.specs.declared.refusal.GraphFault.{GraphFault}
 use Rattle.cfg.specs.declared.refusal.GraphFault.TheVariants.{Fault as GraphFaultAt, Memory as GraphMemory}
+use Rattle.cfg.specs.declared.structure.FunctionGraph.{FunctionGraph}
+use Rattle.cfg.specs.Edges.{graphs_of}
 use Rattle.cfg.specs.Rules.{IsGraphRight, IsGraphFault}
-use Rattle.cfg.specs.declared.refusal.Broken.{Broken}
+use Rattle.cost_table.specs.declared.fault.CostFault.{CostFault}
+use Rattle.cost_table.specs.declared.fault.CostFault.TheVariants.{Fault as CostFaultAt, Memory as CostMemory}
+use Rattle.cost_table.specs.Rules.{IsCostFault}
 use Rattle.definedness.specs.declared.fault.DefinedFault.{DefinedFault}
 use Rattle.definedness.specs.declared.fault.DefinedFault.TheVariants.{Fault as DefinedFaultAt, Memory as DefinedMemory}
-use Rattle.definedness.specs.Definedness.{IsDefinednessBroken, IsDefinednessFault}
+use Rattle.definedness.specs.Definedness.{IsDefinednessFault}
 use Rattle.ranges.specs.declared.fault.RangeFault.{RangeFault}
 use Rattle.ranges.specs.declared.fault.RangeFault.TheVariants.{Fault as RangeFaultAt, Memory as RangeMemory}
-use Rattle.ranges.specs.Rules.{IsRangeBroken, IsRangeFault}
+use Rattle.ranges.specs.Rules.{IsRangeFault}
+use Rattle.footprints.specs.declared.fault.ZoneFault.{ZoneFault}
+use Rattle.footprints.specs.declared.fault.ZoneFault.TheVariants.{Fault as ZoneFaultAt, Memory as ZoneMemory}
 use Rattle.region_match.specs.declared.fault.RegionFault.{RegionFault}
 use Rattle.region_match.specs.declared.fault.RegionFault.TheVariants.{Fault as RegionFaultAt, Memory as RegionMemory}
+use Rattle.program.specs.declared.function.Program.{Program}
+use Rattle.region_match.specs.declared.tables.Regions.{Regions}
+use Rattle.region_match.specs.Tasks.{AreAllTasks}
 use Rattle.region_match.specs.Matched.{AreRegionsRight, IsRegionFault}
 use Rattle.verifier.specs.declared.refusal.Refused.{Refused}
-use Rattle.verifier.specs.Accepted.{IsDefined, IsProgramOf, IsRefused}
-use Rattle.verifier.specs.Refusals.{by_text, by_types, by_graph, by_regions, by_definedness, by_ranges}
+use Rattle.verifier.specs.Accepted.{IsDefined, AreRangesRight, AreTasksOf, AreZonesRight, AreCostsRight, IsZoneFaultOf, IsProgramOf, IsRefused}
+use Rattle.verifier.specs.Refusals.{by_text, by_types, by_graph, by_regions, by_definedness, by_ranges, by_zones, by_cost}
 
 by_its_text : (text : List ℕ) (fault : TextFault) → IsFaultOfText text fault → IsRefused text (by_text fault)
 by_its_text text (TextFaultAt number line) h = inl h
@@ -64,15 +73,35 @@ refused_by_definedness text whole typed kept fault refused e same a j right regi
     rw e (by_its_definedness text whole typed fault a j right (rw same at regions) (rw same at h))
 
 by_its_ranges : (text : List ℕ) (whole : Module) (typed : Typed) (fault : RangeFault) → Answers text (Ok whole) → Judges whole (Ok typed) → IsGraphRight typed.program → AreRegionsRight typed.program → IsDefined typed.program → IsRangeFault typed.program fault → IsRefused text (by_ranges fault)
-by_its_ranges text whole typed (RangeFaultAt number line) a j right regions defined h = inr (whole, a, inr (typed, j, inr (right, inr (regions, inr (defined, h)))))
+by_its_ranges text whole typed (RangeFaultAt number line) a j right regions defined h = inr (whole, a, inr (typed, j, inr (right, inr (regions, inr (defined, inl h)))))
 by_its_ranges text whole typed RangeMemory a j right regions defined h = tt
 
 pub refused_by_ranges : (text : List ℕ) (whole : Module) (typed kept : Typed) (fault : RangeFault) (refused : Refused) → refused ≡ by_ranges fault → kept ≡ typed → Answers text (Ok whole) → Judges whole (Ok typed) → IsGraphRight typed.program → AreRegionsRight kept.program → IsDefined kept.program → IsRangeFault kept.program fault → IsRefused text refused
 refused_by_ranges text whole typed kept fault refused e same a j right regions defined h =
     rw e (by_its_ranges text whole typed fault a j right (rw same at regions) (rw same at defined) (rw same at h))
 
-pub program_of : (text : List ℕ) (whole : Module) (typed kept : Typed) → kept ≡ typed → Answers text (Ok whole) → Judges whole (Ok typed) → IsGraphRight typed.program → AreRegionsRight kept.program → IsDefined kept.program → ((b : Broken) → IsRangeBroken kept.program b → ⊥) → IsProgramOf text kept.program
-program_of text whole typed kept same a j right regions defined ranges = (whole, a, typed, j, ap (λ (t : Typed). t.program) (sym same), record { graph = rw same right; regions = regions; definedness = defined; ranges = ranges })
+-- a table of the graph's tasks is one of the program's
+pub by_tasks : (program : Program) (graphs : List FunctionGraph) (regions : Regions) → graphs ≡ graphs_of program → AreAllTasks graphs regions.functions → AreTasksOf program regions
+by_tasks program graphs regions e h = subst (λ (gs : List FunctionGraph). AreAllTasks gs regions.functions) e h
+
+by_its_zones : (text : List ℕ) (whole : Module) (typed : Typed) (fault : ZoneFault) → Answers text (Ok whole) → Judges whole (Ok typed) → IsGraphRight typed.program → AreRegionsRight typed.program → IsDefined typed.program → AreRangesRight typed.program → IsZoneFaultOf typed.program fault → IsRefused text (by_zones fault)
+by_its_zones text whole typed (ZoneFaultAt number line) a j right regions defined ranges h = inr (whole, a, inr (typed, j, inr (right, inr (regions, inr (defined, inr (ranges, inl h))))))
+by_its_zones text whole typed ZoneMemory a j right regions defined ranges h = tt
+
+pub refused_by_zones : (text : List ℕ) (whole : Module) (typed kept : Typed) (fault : ZoneFault) (refused : Refused) → refused ≡ by_zones fault → kept ≡ typed → Answers text (Ok whole) → Judges whole (Ok typed) → IsGraphRight typed.program → AreRegionsRight kept.program → IsDefined kept.program → AreRangesRight kept.program → IsZoneFaultOf kept.program fault → IsRefused text refused
+refused_by_zones text whole typed kept fault refused e same a j right regions defined ranges h =
+    rw e (by_its_zones text whole typed fault a j right (rw same at regions) (rw same at defined) (rw same at ranges) (rw same at h))
+
+by_its_cost : (text : List ℕ) (whole : Module) (typed : Typed) (fault : CostFault) → Answers text (Ok whole) → Judges whole (Ok typed) → IsGraphRight typed.program → AreRegionsRight typed.program → IsDefined typed.program → AreRangesRight typed.program → AreZonesRight typed.program → IsCostFault typed.program fault → IsRefused text (by_cost fault)
+by_its_cost text whole typed (CostFaultAt number line) a j right regions defined ranges zones h = inr (whole, a, inr (typed, j, inr (right, inr (regions, inr (defined, inr (ranges, inr (zones, h)))))))
+by_its_cost text whole typed CostMemory a j right regions defined ranges zones h = tt
+
+pub refused_by_cost : (text : List ℕ) (whole : Module) (typed kept : Typed) (fault : CostFault) (refused : Refused) → refused ≡ by_cost fault → kept ≡ typed → Answers text (Ok whole) → Judges whole (Ok typed) → IsGraphRight typed.program → AreRegionsRight kept.program → IsDefined kept.program → AreRangesRight kept.program → AreZonesRight kept.program → IsCostFault kept.program fault → IsRefused text refused
+refused_by_cost text whole typed kept fault refused e same a j right regions defined ranges zones h =
+    rw e (by_its_cost text whole typed fault a j right (rw same at regions) (rw same at defined) (rw same at ranges) (rw same at zones) (rw same at h))
+
+pub program_of : (text : List ℕ) (whole : Module) (typed kept : Typed) → kept ≡ typed → Answers text (Ok whole) → Judges whole (Ok typed) → IsGraphRight typed.program → AreRegionsRight kept.program → IsDefined kept.program → AreRangesRight kept.program → AreZonesRight kept.program → AreCostsRight kept.program → IsProgramOf text kept.program
+program_of text whole typed kept same a j right regions defined ranges zones costs = (whole, a, typed, j, ap (λ (t : Typed). t.program) (sym same), record { graph = rw same right; regions = regions; definedness = defined; ranges = ranges; zones = zones; costs = costs })
 
 -- what a fault is made to
 pub err_from : {T E : Type 0} (Q : E → Type 0) (r : Result T E) (e : E) → IsErrAnd r (λ y. y ≡ e) → Q e → IfErr r Q

@@ -1,18 +1,41 @@
--- What a module declares that its run costs.
-use Rattle.std.specs.Prelude.{ℕ, ◌+◌, ◌*◌, zero, suc, min, Option, Some, None, slice_get}
-use Rattle.program.specs.declared.annotation.Budget.{Budget}
+-- The budget and the depth of a module: the table's entries of `main` at its greatest measure.
+use Rattle.std.specs.Prelude.{◌≡◌, ℕ, Option, Some, None, slice_get}
 use Rattle.program.specs.declared.function.Function.{Function}
 use Rattle.program.specs.declared.function.Program.{Program}
+use Rattle.region_match.specs.declared.tables.Regions.{Regions}
+use Rattle.cost_table.specs.declared.table.Table.{Table}
+use Rattle.cost_table.specs.Cost.{whole_cost}
+use Rattle.cost_table.specs.Depth.{depth}
+use Rattle.cost_table.specs.Tables.{IsTable, as_u64}
+use Rattle.verifier.specs.Accepted.{AreTasksOf, IsAccepted}
 
--- the instructions that a call with this measure may use: its own, and those of its self calls
-abbrev pub cost_of : Budget → ℕ → ℕ
-cost_of budget zero = budget.instructions
-cost_of budget (suc measure) = budget.instructions + budget.self_calls * cost_of budget measure
+abbrev pub budget_in : Option Function → ℕ
+budget_in None = 0
+budget_in (Some main) = whole_cost main
 
-abbrev pub declared_cost : Option Function → ℕ
-declared_cost None = 0
-declared_cost (Some function) = min 1000000000000 (cost_of function.budget function.measure.bound)
+-- what a call of `main` costs at most
+abbrev pub budget_of : Program → ℕ
+budget_of program = budget_in (slice_get program.functions program.main.0)
 
--- the cost of `main` at its greatest measure, as it is declared
-abbrev pub declared_budget : Program → ℕ
-declared_budget program = declared_cost (slice_get program.functions program.main.0)
+abbrev pub depth_in : Program → Regions → Option Function → ℕ
+depth_in program regions None = 0
+depth_in program regions (Some main) = as_u64 (depth program regions program.main.0 main main.measure.bound)
+
+-- how many frames a call of `main` stands on one another at most, where this is the table of the blocks' tasks
+abbrev pub depth_of : Program → Regions → ℕ
+depth_of program regions = depth_in program regions (slice_get program.functions program.main.0)
+
+-- ---- by the tasks of the blocks
+
+abbrev pub IsTableOf : Program → Table → Type 0
+IsTableOf program table = (regions : Regions) × AreTasksOf program regions × IsTable program regions table
+
+abbrev pub IsDepthOf : Program → ℕ → Type 0
+IsDepthOf program n = (regions : Regions) × AreTasksOf program regions × (n ≡ depth_of program regions)
+
+-- what is kept of an accepted program
+pub record IsKept (program : Program) (table : Table) (budget depth : ℕ) : Type 0 where
+  pub is_accepted : IsAccepted program
+  pub is_table : IsTableOf program table
+  pub is_budget : budget ≡ budget_of program
+  pub is_depth : IsDepthOf program depth

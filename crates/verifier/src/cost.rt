@@ -1,31 +1,38 @@
-ghost use Rattle.std.specs.Prelude.{◌≡◌, min};
-ghost use Rattle.verifier.specs.Budgets.{cost_of, declared_budget};
+ghost use Rattle.std.specs.Prelude.{◌≡◌, slice_get};
+ghost use Rattle.std.specs.Option.{option_copied};
+ghost use Rattle.region_match.specs.declared.tables.Regions.{Regions};
+ghost use Rattle.cost_table.specs.Tables.{IsTable};
+ghost use Rattle.verifier.specs.Accepted.{AreCostsRight};
+ghost use Rattle.verifier.specs.Budgets.{budget_of, depth_of};
 
-use program::{Budget, Program};
+use cost_table::Table;
+use program::{Function, Program};
 
-/// A cost that no budget may pass: 1,000,000,000,000 instructions.
-const GREATEST: u64 = 1_000_000_000_000;
-
-/// What a call of this measure may cost by its function's budget, at most the greatest cost.
-fn cost(budget: &Budget, measure: u64) -> u64
-    ensures { result ≡ min 1000000000000 (cost_of budget.now measure) }
+/// The function that a run begins with.
+fn main_of(program: &Program) -> Option<&Function>
+    ensures { option_copied result ≡ slice_get program.now.functions program.now.main.0 }
 {
-    let mut cost = budget.instructions.min(GREATEST);
-    for _below in 0..measure {
-        let of_self_calls = budget.self_calls.saturating_mul(cost);
-        cost = of_self_calls
-            .saturating_add(budget.instructions)
-            .min(GREATEST);
-    }
-    cost
+    program.functions.as_slice().get(program.main.0)
 }
 
-/// What a module declares that `main` costs at its greatest measure.
-pub fn declared(program: &Program) -> u64
-    ensures { result ≡ declared_budget program.now }
+/// What a call of `main` costs at most.
+pub fn budget_of(program: &Program, table: &Table) -> u64
+    requires table { (regions : Regions) × IsTable program.now regions table.now }
+    requires costs { AreCostsRight program.now }
+    ensures { result ≡ budget_of program.now }
 {
-    match program.functions.as_slice().get(program.main.0) {
-        Some(main) => cost(&main.budget, main.measure.bound),
+    match main_of(program) {
+        Some(main) => table.cost(program.main.0, main.measure.bound).unwrap_or(0),
+        None => 0,
+    }
+}
+
+/// How many frames a call of `main` stands on one another at most.
+pub fn depth_of(program: &Program, table: &Table) -> u64
+    ensures { (regions : Regions) → IsTable program.now regions table.now → result ≡ depth_of program.now regions }
+{
+    match main_of(program) {
+        Some(main) => table.depth(program.main.0, main.measure.bound).unwrap_or(0),
         None => 0,
     }
 }

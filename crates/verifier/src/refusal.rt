@@ -1,8 +1,10 @@
 ghost use Rattle.std.specs.Prelude.{◌≡◌};
-ghost use Rattle.verifier.specs.Refusals.{by_text, by_types, by_graph, by_regions, by_definedness, by_ranges};
+ghost use Rattle.verifier.specs.Refusals.{by_text, by_types, by_graph, by_regions, by_definedness, by_ranges, by_zones, by_cost};
 
 use cfg::GraphFault;
+use cost_table::CostFault;
 use definedness::DefinedFault;
+use footprints::ZoneFault;
 use ir_text::TextFault;
 use ranges::RangeFault;
 use region_match::RegionFault;
@@ -82,6 +84,28 @@ impl From<RangeFault> for Refused {
         match fault {
             RangeFault::Fault { number, line } => Refused::Fault { number, line },
             RangeFault::Memory => Refused::Memory,
+        }
+    }
+}
+
+impl From<ZoneFault> for Refused {
+    ghost from_gives = { λ fault refused. refused ≡ by_zones fault };
+
+    fn from(fault: ZoneFault) -> Refused {
+        match fault {
+            ZoneFault::Fault { number, line } => Refused::Fault { number, line },
+            ZoneFault::Memory => Refused::Memory,
+        }
+    }
+}
+
+impl From<CostFault> for Refused {
+    ghost from_gives = { λ fault refused. refused ≡ by_cost fault };
+
+    fn from(fault: CostFault) -> Refused {
+        match fault {
+            CostFault::Fault { number, line } => Refused::Fault { number, line },
+            CostFault::Memory => Refused::Memory,
         }
     }
 }

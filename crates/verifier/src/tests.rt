@@ -2,15 +2,19 @@
 
 mod allocas;
 mod calls;
+mod costs;
 mod facts;
 mod forms;
 mod graph;
+mod kernels;
+mod limits;
 mod names;
 mod pointers;
 mod regions;
 mod samples;
 mod type_rules;
 mod undefined_registers;
+mod zones;
 
 use crate::refusal::Refused;
 use crate::verified::verify;

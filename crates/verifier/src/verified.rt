@@ -1,11 +1,13 @@
 ghost use Rattle.std.specs.Prelude.{◌≡◌, IfOk, IfErr};
 ghost use Rattle.verifier.specs.Accepted.{IsAccepted, IsProgramOf, IsRefused};
-ghost use Rattle.verifier.specs.Budgets.{declared_budget};
+ghost use Rattle.verifier.specs.Budgets.{IsTableOf, IsDepthOf, budget_of};
 
-use crate::cost::declared;
+use crate::cost::{budget_of, depth_of};
 use crate::refusal::Refused;
 use cfg::{Graph, graph};
+use cost_table::{Table, check_cost};
 use definedness::defined;
+use footprints::check_zones;
 use ir_text::read;
 use program::Program;
 use ranges::check_ranges;
@@ -19,20 +21,20 @@ use types::check_types;
 #[derive(Debug, Drop)]
 pub struct Verified {
     graph: Graph,
+    table: Table,
     budget: u64,
+    depth: u64,
 }
 
 impl Model for Verified {
-    ghost use Rattle.std.specs.Prelude.{◌≡◌};
     ghost use Rattle.program.specs.declared.function.Program.{Program};
-    ghost use Rattle.verifier.specs.Accepted.{IsAccepted};
-    ghost use Rattle.verifier.specs.Budgets.{declared_budget};
+    ghost use Rattle.verifier.specs.Budgets.{IsKept};
 
     ghost Value = { Program };
 
     ghost view = { λ v. v.graph.typed.program };
 
-    ghost invariant = { λ v. IsAccepted v.graph.typed.program × (v.budget ≡ declared_budget v.graph.typed.program) };
+    ghost invariant = { λ v. IsKept v.graph.typed.program v.table v.budget v.depth };
 }
 
 impl Verified {
@@ -51,13 +53,25 @@ impl Verified {
         &self.graph
     }
 
-    /// The number of instructions that the module declares for a run: the cost of `main` at its greatest measure, which is
-    /// the instructions of its budget and as many times the cost at the next lower measure as its budget has self calls, at
-    /// most 1,000,000,000,000. It is declared and not yet proved.
+    /// The greatest number of instructions of a run: what a call of `main` costs at its greatest measure, at most 1,000,000,000,000.
     pub fn budget(&self) -> u64
-        ensures { result ≡ declared_budget self.now }
+        ensures { result ≡ budget_of self.now }
     {
         self.budget
+    }
+
+    /// How many frames a run stands on one another at most: the depth of `main` at its greatest measure.
+    pub fn depth(&self) -> u64
+        ensures { IsDepthOf self.now result }
+    {
+        self.depth
+    }
+
+    /// The costs and depths of all functions.
+    pub fn table(&self) -> &Table
+        ensures { IsTableOf self.now result.now }
+    {
+        &self.table
     }
 }
 
@@ -73,7 +87,15 @@ pub fn verify(alloc: Global, state: RandomState, text: &[u8]) -> Result<Verified
     let graph = graph(alloc, typed)?;
     let regions = regions(alloc, &graph)?;
     defined(alloc, &graph, &regions)?;
-    let _facts = check_ranges(alloc, &graph, &regions)?;
-    let budget = declared(&graph.typed.program);
-    Ok(Verified { graph, budget })
+    let facts = check_ranges(alloc, &graph, &regions)?;
+    check_zones(alloc, &graph, &regions, &facts)?;
+    let table = check_cost(alloc, &graph, &regions, &facts)?;
+    let budget = budget_of(&graph.typed.program, &table);
+    let depth = depth_of(&graph.typed.program, &table);
+    Ok(Verified {
+        graph,
+        table,
+        budget,
+        depth,
+    })
 }

@@ -122,3 +122,30 @@ fn shown_facts_keep_limits(rt: HostRuntime) -> Result<(), Fail> {
         1,
     )
 }
+
+/// The limits hold in each annotation of a block.
+#[test]
+fn annotations_of_blocks_keep_limits(rt: HostRuntime) -> Result<(), Fail> {
+    refuses_with(&rt, PAIR, 10, ";! left 0 1000001*%n", 206, 10)?;
+    refuses_with(&rt, PAIR, 10, ";! left 1000001*%n 3", 206, 10)?;
+    refuses_with(&rt, PAIR, 11, ";! foot writes @a 1000001*%n 1", 206, 11)?;
+    refuses_with(&rt, PAIR, 11, ";! foot writes @a 0 1000001*%n", 206, 11)?;
+    refuses_with(
+        &rt,
+        PAIR,
+        16,
+        ";! pending %s writes @a 1000001*%n 1",
+        206,
+        16,
+    )?;
+    refuses_with(
+        &rt,
+        PAIR,
+        16,
+        ";! pending %s writes @a 0 1000001*%n",
+        206,
+        16,
+    )?;
+    refuses_with(&rt, LOOP, 10, ";! keeps %i+1 <= -1000000*%i", 206, 10)?;
+    refuses_with(&rt, LOOP, 10, ";! keeps 1000001*%i >= 0", 206, 10)
+}

@@ -211,6 +211,8 @@ fn annotations_of_blocks_name_registers(rt: HostRuntime) -> Result<(), Fail> {
         201,
         2,
     )?;
+    // the result has no name in a block
+    refuses_body(&rt, ";! keeps %.ret >= 0\nret i64 0", 201, 1)?;
     // those of an entry block are typed too
     refuses_body(&rt, ";! keeps %q >= 0\nret i64 0", 201, 1)?;
     takes_body(&rt, ";! keeps %n >= 0\nret i64 0")

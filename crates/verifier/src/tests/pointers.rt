@@ -237,6 +237,20 @@ fn passed_globals_are_named_by_no_callee(rt: HostRuntime) -> Result<(), Fail> {
     refuses_with(&rt, THROUGH, 15, "call void @outer(ptr @b)", 204, 15)
 }
 
+/// A block's annotations name globals too.
+#[test]
+fn zones_of_blocks_name_globals(rt: HostRuntime) -> Result<(), Fail> {
+    refuses_with(&rt, THROUGH, 5, "entry:\n;! foot reads @a 0 1", 204, 16)?;
+    refuses_with(
+        &rt,
+        THROUGH,
+        6,
+        "%s = call token @llvm.syncregion.start()\nbr label %x\nx:\n;! pending %s reads @a 0 1\nret void",
+        204,
+        19,
+    )
+}
+
 /// A self call names the globals that it passes, and a function that passes a global names it.
 #[test]
 fn a_passed_global_is_named_by_its_caller(rt: HostRuntime) -> Result<(), Fail> {

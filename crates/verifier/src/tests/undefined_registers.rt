@@ -1,7 +1,7 @@
 //! Registers: 401.
 
 use super::samples::*;
-use super::{fault_of, refuses, refuses_with};
+use super::{fault_of, refuses, refuses_with, with_line};
 use std::process::Abort;
 use std::random::RandomSource;
 use std::test::Fail;
@@ -14,6 +14,17 @@ fn is_defined(rt: &(impl Abort + AllocGlobal + RandomSource), text: &str) -> Res
         "{number} line {line} of {text}"
     );
     Ok(())
+}
+
+/// The same with one line replaced.
+fn is_defined_with(
+    rt: &(impl Abort + AllocGlobal + RandomSource),
+    text: &str,
+    replaced: u32,
+    new: &str,
+) -> Result<(), Fail> {
+    let changed = with_line(rt, text, replaced, Some(new))?;
+    is_defined(rt, changed.as_str())
 }
 
 /// A branch whose left side defines `%l`, and a loop; lines 1 to 19.
@@ -209,7 +220,7 @@ ret i64 %n
 #[test]
 fn annotations_use_registers_where_they_stand(rt: HostRuntime) -> Result<(), Fail> {
     // the block's own phis count
-    refuses_with(&rt, SIDES, 11, "join:\n;! keeps %p >= %p", 0, 0)?;
+    is_defined_with(&rt, SIDES, 11, "join:\n;! keeps %p >= %p")?;
     refuses_with(&rt, SIDES, 11, "join:\n;! keeps %l >= 0", 401, 12)?;
     refuses_with(&rt, SIDES, 11, "join:\n;! keeps %l >= %l", 401, 12)?;
     refuses_with(&rt, SIDES, 11, "join:\n;! left 0 %l", 401, 12)?;
@@ -223,7 +234,7 @@ fn annotations_use_registers_where_they_stand(rt: HostRuntime) -> Result<(), Fai
         401,
         6,
     )?;
-    refuses_with(&rt, SIDES, 7, ";! shows %l <= %l\nbr label %join", 0, 0)?;
+    is_defined_with(&rt, SIDES, 7, ";! shows %l <= %l\nbr label %join")?;
     refuses_with(&rt, SIDES, 7, ";! shows %r <= 5\nbr label %join", 401, 7)?;
     // the entry's `keeps` too
     refuses_with(&rt, SIDES, 2, "entry:\n;! keeps %l >= 0", 401, 3)?;

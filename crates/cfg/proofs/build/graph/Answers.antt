@@ -15,9 +15,15 @@ loop-function-preserved c =
     c.loop-function.invariant c.in_ok-made.ensures c.in_ok-broken.ensures c.lower-named.ensures)
 
 pub invariant_of-result : goal.invariant_of-result
-invariant_of-result c = record {
-  edges = c.from_vec.ensures ∙ graphs_all c.args.typed.program _ _ _ (rw c.as_slice-function-items.ensures at c.loop-function-test.false) c.loop-function.invariant;
-}
+invariant_of-result c =
+    let program = c.args.typed.program in
+    let past = rw c.as_slice-function-items.ensures at c.loop-function-test.false in
+    let all : IsJudged (IsGraphRight program) (IsGraphBroken program) c.loop-function.named = judged_all program _ _ _ past c.loop-function.invariant in
+    let here : IsJudged (IsGraphRight program) (IsGraphBroken program) None = rw c.in-None.is at all in
+    record {
+      edges = c.from_vec.ensures ∙ graphs_all program _ _ _ past c.loop-function.invariant;
+      right = ∣ here.0 ∣₁;
+    }
 
 pub returns-in-Some-clause-fault : goal.returns-in-Some-clause-fault
 returns-in-Some-clause-fault c =

@@ -1,4 +1,4 @@
-use Rattle.std.proofs.Common.{◌≡◌, ◌-◌, ◌+◌, ◌^◌, suc, take}
+use Rattle.std.proofs.Common.{◌≡◌, ◌-◌, ◌^◌, suc, take}
 use Rattle.program.specs.declared.instruction.Step.{Step}
 use Rattle.cost_table.specs.Cost.{callee_of}
 use Rattle.cost_table.specs.Depth.{greatest, greatest_block, block_depth, callee_depth, detaches_around}

@@ -1,5 +1,4 @@
-use Rattle.std.proofs.Common.{◌≡◌, ℕ, suc, ◌+◌, ◌-◌, length, arith}
-use Rattle.cost_table.specs.Depth.{detaches_within}
+use Rattle.std.proofs.Common.{ℕ, suc, ◌-◌, length, arith}
 use Rattle.cost_table.proofs.Levels.{outermost}
 use Rattle.cost_table.proofs.level.detaches_around.Goals as goal
 

@@ -1,5 +1,5 @@
 use Rattle.std.proofs.Common.{◌≡◌, map, take}
-use Rattle.types.specs.Typed as spec
+use Rattle.types.specs.Meaning as spec
 use Rattle.types.proofs.check.globals_of.Given as goal
 
 abbrev pub invariant-loop-global : goal.invariant-loop-global

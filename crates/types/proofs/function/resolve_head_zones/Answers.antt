@@ -1,6 +1,6 @@
-use Rattle.types.specs.declared.form.Place.TheVariants as place
-use Rattle.types.specs.Note.{zone_of, zones_of, more_zones}
-use Rattle.types.proofs.Giving.{behind_gives, gives_from}
+use Rattle.scopes.specs.declared.form.Place.TheVariants as place
+use Rattle.scopes.specs.Note.{zone_of, zones_of, more_zones}
+use Rattle.scopes.proofs.Giving.{behind_gives, gives_from}
 use Rattle.types.proofs.function.resolve_head_zones.Goals as goal
 
 pub returns : goal.returns

@@ -11,7 +11,7 @@ use Rattle.schedule_core.proofs.machine.Machine.execute.Goals as goal
 pub returns-clause-plain : goal.returns-clause-plain
 returns-clause-plain c =
     on_ok_weaker c.perform.result (λ performs.
-    executes c.args.self.now c.perform.new.self c.args.top c.in_ok-activation.field-0.now c.args.self.now.verified.now c.in_ok-effect.effect c.in_ok-activation.ensures.value c.in_ok-effect.ensures.can
+    executes c.args.self.now c.perform.new.self c.args.top c.in_ok-activation.field-0.now c.args.self.now.verified.now c.in_ok-effect.effect c.in_ok-activation.ensures.value (record { can = c.in_ok-effect.ensures.can; within = c.in_ok-effect.ensures.within })
     (λ p memory depth. subst (λ (q : Program). asked q p (frame_of p c.in_ok-activation.field-0.now.frame) memory (Ok c.in_ok-effect.effect) ≡ action_of q p (frame_of p c.in_ok-activation.field-0.now.frame) memory) c.program.ensures (c.in_ok-effect.ensures.does p memory depth tt))
     performs)
     c.perform.ensures.plain

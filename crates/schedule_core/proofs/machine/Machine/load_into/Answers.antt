@@ -16,5 +16,5 @@ returns c =
     let same = to_z-of_z w64 c.in_ok-number.number fit in
     on_ok_weaker c.define.result (λ defines can node stands agrees none.
     load_done c.args.self.now c.define.new.self node c.args.register (cell_of (place_of node) c.args.cell) c.in_ok-number.number ((seen c.args.self.now).core.memory (cell_of (place_of node) c.args.cell)) (c.in_ok-number.ensures node stands agrees.tree)
-    (subst (λ (z : ℤ). PlainDone c.args.self.now c.define.new.self node (sets (frame_in node) c.args.register (Word z))) same (defines can node stands agrees none)))
+    (subst (λ (z : ℤ). PlainDone c.args.self.now c.define.new.self node (sets (frame_in node) c.args.register (Word z))) same (defines (λ a at. record { can = (can a at).can; within = λ sound. tt }) node stands agrees none)))
     c.define.ensures

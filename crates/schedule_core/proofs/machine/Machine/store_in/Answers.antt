@@ -18,5 +18,6 @@ returns-in-Some c =
       frame = c.set_alloca_cell.new.self;
       only = c.set_alloca_cell.ensures.only;
       set = subst (λ (z : ℤ). SetsAlloca c.in-Some.activation.now.frame c.args.alloca.0 c.args.index z c.set_alloca_cell.new.self) (to_z-of_z w64 c.args.number fit) (OnTrue_at t c.set_alloca_cell.ensures.set);
+      sound = c.set_alloca_cell.ensures.sound;
       new_is = refl;
     })

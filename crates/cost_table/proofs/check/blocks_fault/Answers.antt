@@ -1,0 +1,29 @@
+use Rattle.std.proofs.Common.{◌<◌, ℕ, List, length, ap, subst, arith}
+use Rattle.linear.specs.declared.form.Fact.{Fact}
+use Rattle.program.specs.declared.function.Block.{Block}
+use Rattle.region_match.specs.ByLabel.{IsNamed}
+use Rattle.ranges.proofs.Sweeps.{Within, below_next, below_all}
+use Rattle.cost_table.specs.Rules.{known_at, IsBlockBrokenBy, IsBlockBroken}
+use Rattle.cost_table.proofs.ByTables.{read_in, block_by_table}
+use Rattle.cost_table.proofs.check.blocks_fault.Goals as goal
+
+pub loop-place-preserved : goal.loop-place-preserved
+loop-place-preserved c =
+    let functions = c.args.functions.now in
+    let function = c.args.function.now in
+    let f = c.args.index in
+    let i = c.loop-place.place in
+    let block = c.index-blocks-place.result in
+    let table = c.index-tables-place.result in
+    let within : i < length c.as_slice-tables.result.now = omega (arith, c.loop-place-test.true, c.requires.blocks, ap length c.as_slice-tables.ensures, ap length c.as_slice-blocks.ensures) in
+    below_next (λ (b : ℕ) (x : Block). IsBlockBroken functions function f b x) c.as_slice-blocks.result.now i block _ _ _ c.loop-place-test.true c.index-blocks-place.is c.loop-place.invariant
+    (block_by_table functions function f i block table c.in_ok-broken.broken
+    (c.requires.each i block table (read_in c.as_slice-blocks.result.now function.blocks i block c.as_slice-blocks.ensures c.loop-place-test.true c.index-blocks-place.is) (read_in c.as_slice-tables.result.now c.args.facts.now.blocks i table c.as_slice-tables.ensures within c.index-tables-place.is))
+    (subst (λ (fs : List Fact). IsNamed (IsBlockBrokenBy functions function f block fs (known_at table) table.facts table.edges) c.in_ok-broken.broken) c.in_ok-start.ensures
+    (subst (λ (fs : List Fact). IsNamed (IsBlockBrokenBy functions function f block fs (known_at table) table.facts table.edges) c.in_ok-broken.broken) c.deref.ensures.value c.in_ok-broken.ensures)))
+    c.lower-named.ensures
+
+pub returns : goal.returns
+returns c =
+    subst (λ (blocks : List Block). IsNamed (Within (λ (b : ℕ) (x : Block). IsBlockBroken c.args.functions.now c.args.function.now c.args.index b x) blocks) c.loop-place.named) c.as_slice-blocks.ensures
+    (below_all (λ (b : ℕ) (x : Block). IsBlockBroken c.args.functions.now c.args.function.now c.args.index b x) c.as_slice-blocks.result.now _ _ c.loop-place-test.false c.loop-place.invariant)

@@ -1,0 +1,36 @@
+use Rattle.std.proofs.Common.{◌≡◌, ◌∙◌, ℕ, ◌<◌, ◌^◌, ℤ, pos, ◌-ℤ◌, Bool, List, [], ◌++◌, sym, ap, rules, arith, FitsSigned}
+use Rattle.std.specs.Prelude.{unsigned_abs}
+use Rattle.std.specs.Int.{w128}
+use Rattle.std.proofs.lemmas.Int.{ints, to_z-of_z}
+use Rattle.ranges.specs.declared.sum.Part.{Part}
+use Rattle.ranges.specs.declared.sum.Sum.{Sum}
+use Rattle.ranges.specs.Sums.{shows}
+use Rattle.ranges.specs.Inequalities.{parts_of}
+use Rattle.cost_table.specs.Rules.{left_behind}
+use Rattle.cost_table.specs.Tables.{as_u128}
+use Rattle.cost_table.proofs.Judging.{if_ok_to}
+use Rattle.cost_table.proofs.Past.{past_work, much, exact, made}
+use Rattle.cost_table.proofs.sum.covers_work.Goals as goal
+
+pub returns-then-done-ge-TOO_MUCH : goal.returns-then-done-ge-TOO_MUCH
+returns-then-done-ge-TOO_MUCH c = λ n is.
+    let small : unsigned_abs c.args.left.now.constant < 2 ^ 100 = rw (← c.side_of-left.ensures.constant) c.side_of-left.ensures.small_constant in
+    sym (past_work c.args.facts.now c.args.left.now n small (much c.args.done n is c.if-done-ge-TOO_MUCH.true))
+
+pub returns : goal.returns
+returns c =
+    let facts = c.args.facts.now in
+    let constant : ℤ = c.constant_left.result in
+    let fits : FitsSigned w128 constant = search rules in
+    let shown = rw (to_z-of_z w128 c.constant_left.result fits) at c.shows.ensures in
+    let sum : Sum = record { constant = constant; parts = c.from_vec.result } in
+    let terms = c.args.left.now.terms in
+    let first : c.push_parts.new.parts.items ≡ parts_of [] (pos 1) terms =
+    c.in_ok-push_parts.ensures ∙ ap (λ (ps : List Part). ps ++ parts_of [] (pos 1) c.side_of-left.result.terms.now) c.new-parts.ensures.items ∙ ap (parts_of [] (pos 1)) c.side_of-left.ensures.terms in
+    let parts : c.from_vec.result ≡ parts_of [] (pos 1) terms = c.from_vec.ensures ∙ first in
+    if_ok_to (λ (b : Bool). b ≡ shows facts sum) (λ (b : Bool). (n : ℕ) → c.args.done ≡ as_u128 n → b ≡ shows facts (left_behind c.args.left.now n)) c.shows.result
+    (λ b e. λ n is.
+    let same : c.args.done ≡ n = exact c.args.done n is c.if-done-ge-TOO_MUCH.false in
+    let value : constant ≡ c.args.left.now.constant -ℤ pos n = omega (arith, ints, c.constant_left.ensures, c.side_of-left.ensures.constant) in
+    e ∙ ap (shows facts) (made constant (c.args.left.now.constant -ℤ pos n) c.from_vec.result _ value parts))
+    shown

@@ -1,0 +1,7 @@
+use Rattle.std.proofs.Common.{◌≡◌, ◌+◌, take}
+use Rattle.cost_table.specs.Cost.{self_calls_of}
+use Rattle.cost_table.specs.Tables.{as_u128}
+use Rattle.cost_table.proofs.work.calls_done.Given as goal
+
+abbrev pub invariant-loop-step : goal.invariant-loop-step
+invariant-loop-step l = l.done ≡ as_u128 (0 + self_calls_of l.function (take l.step-index l.steps))

@@ -1,0 +1,217 @@
+ghost use Rattle.std.specs.Prelude.{◌≡◌, ℕ, Some, IfOk, IfErr, OnOk, slice_get, []};
+ghost use Rattle.cfg.specs.declared.refusal.Broken.{Broken};
+ghost use Rattle.region_match.specs.ByLabel.{IsNamed};
+ghost use Rattle.ranges.specs.Inequalities.{differences_of};
+ghost use Rattle.ranges.specs.Places.{stated, start_facts, IsFunctionTable, AreFacts};
+ghost use Rattle.cost_table.specs.Rules.{known_at, IsEndingUncovered, AreStepsNotFalling, IsEntryBroken, IsBlockBrokenBy, AreBlocksBroken, IsFunctionBroken, IsCostBroken, IsCostFault};
+ghost use Rattle.cost_table.specs.Tables.{IsTable};
+
+use crate::fault::CostFault;
+use crate::judge::{
+    budget_fault, cost_fault, measure_fault, start_fault, step_fault, uncovered_fault,
+};
+use crate::table::{Table, make_table};
+use crate::work::work_of;
+use cfg::{Broken, Graph, lower};
+use linear::Fact;
+use lists::OutOfMemory;
+use program::{Block, Function, Inequality, Program};
+use ranges::{BlockFacts, Facts, FunctionFacts, Sum, difference_of, push_facts};
+use region_match::Regions;
+use std::alloc::Global;
+
+/// What each inequality says of a difference.
+fn differences_of(alloc: Global, inequalities: &[Inequality]) -> Result<Vec<Sum>, OutOfMemory>
+    ensures { IfOk result (λ sums. sums.items ≡ differences_of [] inequalities.now) }
+{
+    let mut sums = Vec::new(alloc);
+    for inequality in inequalities {
+        sums.push(difference_of(alloc, &[], inequality)?)?;
+    }
+    Ok(sums)
+}
+
+/// Inequalities as facts.
+fn stated(alloc: Global, inequalities: &[Inequality]) -> Result<Vec<Fact>, OutOfMemory>
+    ensures { IfOk result (λ facts. facts.items ≡ stated inequalities.now) }
+{
+    let sums = differences_of(alloc, inequalities)?;
+    let mut facts = Vec::new(alloc);
+    push_facts(alloc, &mut facts, &sums)?;
+    Ok(facts)
+}
+
+/// The facts at a block's start.
+fn start_facts(
+    alloc: Global,
+    function: &Function,
+    index: usize,
+    block: &Block,
+) -> Result<Vec<Fact>, OutOfMemory>
+    ensures { IfOk result (λ facts. facts.items ≡ start_facts function.now index block.now) }
+{
+    let inequalities = if index == 0 {
+        function.requirements.as_slice()
+    } else {
+        block.keeps.as_slice()
+    };
+    stated(alloc, inequalities)
+}
+
+/// What is broken at the end of a block.
+fn ending_fault(
+    alloc: Global,
+    functions: &[Function],
+    function: &Function,
+    index: usize,
+    block: &Block,
+    table: &BlockFacts,
+) -> Result<Option<Broken>, OutOfMemory>
+    ensures { IfOk result (IsNamed (IsEndingUncovered functions.now function.now index block.now table.now.facts table.now.edges block.now.ending)) }
+{
+    match &block.ending {
+        Some(ending) => {
+            let work = work_of(functions, index, block);
+            let facts = table.facts.as_slice();
+            let edges = table.edges.as_slice();
+            uncovered_fault(alloc, function, block, work, facts, edges, ending)
+        }
+        None => Ok(None),
+    }
+}
+
+/// What is broken at the steps of a block.
+fn steps_fault(
+    alloc: Global,
+    function: &Function,
+    index: usize,
+    block: &Block,
+    table: &BlockFacts,
+) -> Result<Option<Broken>, OutOfMemory>
+    ensures { IfOk result (IsNamed (AreStepsNotFalling function.now index block.now (known_at table.now))) }
+{
+    let mut named: Option<Broken> = None;
+    let steps = block.steps.as_slice();
+    for (place, step) in steps.iter().enumerate() {
+        let known = table.at_step(place);
+        let broken = step_fault(alloc, function, index, known, step)?;
+        named = lower(named, broken);
+    }
+    Ok(named)
+}
+
+/// What is broken in a block, with what is known at its start, and what its table says is known behind it.
+fn block_fault(
+    alloc: Global,
+    functions: &[Function],
+    function: &Function,
+    index: usize,
+    block: &Block,
+    start: &[Fact],
+    table: &BlockFacts,
+) -> Result<Option<Broken>, OutOfMemory>
+    ensures { IfOk result (IsNamed (IsBlockBrokenBy functions.now function.now index block.now start.now (known_at table.now) table.now.facts table.now.edges)) }
+{
+    let at_start = start_fault(alloc, start, block)?;
+    let at_end = ending_fault(alloc, functions, function, index, block, table)?;
+    let at_steps = steps_fault(alloc, function, index, block, table)?;
+    Ok(lower(at_start, lower(at_end, at_steps)))
+}
+
+/// What is broken in the blocks of a function.
+fn blocks_fault(
+    alloc: Global,
+    functions: &[Function],
+    index: usize,
+    function: &Function,
+    facts: &FunctionFacts,
+) -> Result<Option<Broken>, OutOfMemory>
+    requires { IsFunctionTable functions.now function.now facts.now }
+    ensures { IfOk result (IsNamed (AreBlocksBroken functions.now index function.now)) }
+{
+    let mut named: Option<Broken> = None;
+    let tables = facts.blocks.as_slice();
+    let blocks = function.blocks.as_slice();
+    for (place, block) in blocks.iter().enumerate() {
+        let start = start_facts(alloc, function, place, block)?;
+        let table = &tables[place];
+        let broken = block_fault(alloc, functions, function, index, block, &start, table)?;
+        named = lower(named, broken);
+    }
+    Ok(named)
+}
+
+/// What is broken at the entry of a function.
+fn entry_fault(alloc: Global, function: &Function) -> Result<Option<Broken>, OutOfMemory>
+    ensures { IfOk result (IsNamed (IsEntryBroken function.now (slice_get function.now.blocks 0))) }
+{
+    match function.blocks.as_slice().first() {
+        Some(entry) => {
+            let known = stated(alloc, function.requirements.as_slice())?;
+            let unbounded = measure_fault(alloc, &known, function)?;
+            let over = budget_fault(alloc, &known, function, entry)?;
+            Ok(lower(unbounded, over))
+        }
+        None => Ok(None),
+    }
+}
+
+/// What is broken in a function.
+fn function_fault(
+    alloc: Global,
+    functions: &[Function],
+    index: usize,
+    function: &Function,
+    facts: &FunctionFacts,
+) -> Result<Option<Broken>, OutOfMemory>
+    requires { IsFunctionTable functions.now function.now facts.now }
+    ensures { IfOk result (IsNamed (IsFunctionBroken functions.now index function.now)) }
+{
+    let in_blocks = blocks_fault(alloc, functions, index, function, facts)?;
+    let at_entry = entry_fault(alloc, function)?;
+    let whole = cost_fault(function);
+    Ok(lower(in_blocks, lower(at_entry, whole)))
+}
+
+/// What is broken in a program.
+fn program_fault(
+    alloc: Global,
+    program: &Program,
+    facts: &Facts,
+) -> Result<Option<Broken>, OutOfMemory>
+    requires { AreFacts program.now facts.now }
+    ensures { IfOk result (IsNamed (IsCostBroken program.now)) }
+{
+    let mut named: Option<Broken> = None;
+    let tables = facts.functions.as_slice();
+    let functions = program.functions.as_slice();
+    for (index, function) in functions.iter().enumerate() {
+        let table = &tables[index];
+        let broken = function_fault(alloc, functions, index, function, table)?;
+        named = lower(named, broken);
+    }
+    Ok(named)
+}
+
+/// The costs and depths of all calls of a program whose regions are matched, where what is known at its places shows that it keeps to its
+/// budgets and measures. Of several faults that of the lowest line is named, and there that of the lowest number.
+pub fn check_cost(
+    alloc: Global,
+    graph: &Graph,
+    regions: &Regions,
+    facts: &Facts,
+) -> Result<Table, CostFault>
+    requires { AreFacts graph.now.typed.program facts.now }
+    ensures table { IfOk result (IsTable graph.now.typed.program regions.now) }
+    ensures right { OnOk result ((b : Broken) → IsCostBroken graph.now.typed.program b → ⊥) }
+    ensures fault { IfErr result (IsCostFault graph.now.typed.program) }
+{
+    let program = &graph.typed.program;
+    match program_fault(alloc, program, facts)? {
+        Some(broken) => Err(CostFault::Fault {
+            number: broken.number,
+            line: broken.line,
+        }),
+        None => Ok(make_table(alloc, program, regions)?),
+    }
+}

@@ -1,0 +1,294 @@
+ghost use Rattle.std.specs.Prelude.{◌≡◌, ℕ, List, Any, false, IfOk, slice_get, pos};
+ghost use Rattle.linear.specs.Forms.{constant_form};
+ghost use Rattle.program.specs.declared.function.Function.{Function};
+ghost use Rattle.cfg.specs.declared.refusal.Broken.{Broken};
+ghost use Rattle.region_match.specs.ByLabel.{IsNamed};
+ghost use Rattle.cost_table.specs.Rules.{IsPairBroken, IsWork, IsOverdrawn, left_calls, left_instructions, IsEdgeUncovered, IsForkUncovered, IsEndUncovered, IsUncoveredAt, IsUnbounded, IsNotFalling, IsCallNotFalling, IsOverBudget, IsTooCostly};
+
+use crate::sum::{covers_both, covers_next, covers_work, is_at_least_zero, is_at_most};
+use crate::work::{Work, whole_cost};
+use cfg::{Broken, lower};
+use linear::{Fact, Form};
+use lists::OutOfMemory;
+use program::{Argument, Block, BlockId, Ending, Function, Instruction, Step, Terminator};
+use ranges::{EdgeFacts, argument_moves};
+use std::alloc::Global;
+
+/// The greatest cost that a call may have.
+const GREATEST_COST: u128 = 1_000_000_000_000;
+
+/// The rule of this number at this line, unless it holds of self calls and of instructions.
+fn fault_unless(calls: bool, instructions: bool, line: u32, number: u16) -> Option<Broken>
+    ensures { IsNamed (IsPairBroken number line calls instructions) result }
+{
+    if calls && instructions {
+        None
+    } else {
+        Some(Broken { line, number })
+    }
+}
+
+/// What is left at a block's start is not shown to be at least 0.
+pub fn start_fault(
+    alloc: Global,
+    known: &[Fact],
+    block: &Block,
+) -> Result<Option<Broken>, OutOfMemory>
+    ensures { IfOk result (IsNamed (IsOverdrawn known.now block.now)) }
+{
+    let left = &block.left;
+    let calls = covers_work(alloc, known, &left.self_calls, 0)?;
+    let instructions = covers_work(alloc, known, &left.instructions, 0)?;
+    Ok(fault_unless(calls, instructions, left.line, 701))
+}
+
+/// How many self calls a block leaves, and none where there is no such block.
+fn left_calls<'a>(blocks: &'a [Block], block: BlockId, none: &'a Form) -> &'a Form
+    requires { none.now ≡ constant_form (pos 0) }
+    ensures { result.now ≡ left_calls (slice_get blocks.now block.0) }
+{
+    match blocks.get(block.0) {
+        Some(block) => &block.left.self_calls,
+        None => none,
+    }
+}
+
+/// How many instructions a block leaves, and none where there is no such block.
+fn left_instructions<'a>(blocks: &'a [Block], block: BlockId, none: &'a Form) -> &'a Form
+    requires { none.now ≡ constant_form (pos 0) }
+    ensures { result.now ≡ left_instructions (slice_get blocks.now block.0) }
+{
+    match blocks.get(block.0) {
+        Some(block) => &block.left.instructions,
+        None => none,
+    }
+}
+
+/// What is left of a block does not cover what it does and what is left behind an edge.
+fn edge_fault(
+    alloc: Global,
+    function: &Function,
+    block: &Block,
+    work: Work,
+    line: u32,
+    edge: &EdgeFacts,
+) -> Result<Option<Broken>, OutOfMemory>
+    ensures { IfOk result (λ r. (functions : List Function) (f : ℕ) → IsWork functions f block.now work → IsNamed (IsEdgeUncovered functions function.now f block.now line edge.now) r) }
+{
+    let none = Form::from_constant(alloc, 0);
+    let left = &block.left;
+    let blocks = function.blocks.as_slice();
+    let facts = edge.facts.as_slice();
+    let moves = edge.moves.as_slice();
+    let next = left_calls(blocks, edge.to, &none);
+    let calls = covers_next(alloc, facts, &left.self_calls, work.calls, moves, next)?;
+    let next = left_instructions(blocks, edge.to, &none);
+    let instructions = covers_next(
+        alloc,
+        facts,
+        &left.instructions,
+        work.instructions,
+        moves,
+        next,
+    )?;
+    Ok(fault_unless(calls, instructions, line, 702))
+}
+
+/// The same of all edges of a block.
+fn edges_fault(
+    alloc: Global,
+    function: &Function,
+    block: &Block,
+    work: Work,
+    line: u32,
+    edges: &[EdgeFacts],
+) -> Result<Option<Broken>, OutOfMemory>
+    ensures { IfOk result (λ r. (functions : List Function) (f : ℕ) → IsWork functions f block.now work → IsNamed (λ (b : Broken). Any (λ e. IsEdgeUncovered functions function.now f block.now line e b) edges.now) r) }
+{
+    let mut named: Option<Broken> = None;
+    for edge in edges {
+        let broken = edge_fault(alloc, function, block, work, line, edge)?;
+        named = lower(named, broken);
+    }
+    Ok(named)
+}
+
+/// What is left of a block that detaches does not cover what it does and what is left in both its targets.
+fn fork_fault(
+    alloc: Global,
+    function: &Function,
+    block: &Block,
+    work: Work,
+    line: u32,
+    known: &[Fact],
+    body: BlockId,
+    continuation: BlockId,
+) -> Result<Option<Broken>, OutOfMemory>
+    ensures { IfOk result (λ r. (functions : List Function) (f : ℕ) → IsWork functions f block.now work → IsNamed (IsForkUncovered functions function.now f block.now line known.now body.0 continuation.0) r) }
+{
+    let none = Form::from_constant(alloc, 0);
+    let left = &block.left;
+    let blocks = function.blocks.as_slice();
+    let child = left_calls(blocks, body, &none);
+    let parent = left_calls(blocks, continuation, &none);
+    let calls = covers_both(alloc, known, &left.self_calls, work.calls, child, parent)?;
+    let child = left_instructions(blocks, body, &none);
+    let parent = left_instructions(blocks, continuation, &none);
+    let instructions = covers_both(
+        alloc,
+        known,
+        &left.instructions,
+        work.instructions,
+        child,
+        parent,
+    )?;
+    Ok(fault_unless(calls, instructions, line, 702))
+}
+
+/// What is left of a block at a `ret` or `reattach` does not cover what it does.
+fn end_fault(
+    alloc: Global,
+    block: &Block,
+    work: Work,
+    line: u32,
+    known: &[Fact],
+) -> Result<Option<Broken>, OutOfMemory>
+    ensures { IfOk result (λ r. (functions : List Function) (f : ℕ) → IsWork functions f block.now work → IsNamed (IsEndUncovered functions f block.now line known.now) r) }
+{
+    let left = &block.left;
+    let calls = covers_work(alloc, known, &left.self_calls, work.calls)?;
+    let instructions = covers_work(alloc, known, &left.instructions, work.instructions)?;
+    Ok(fault_unless(calls, instructions, line, 702))
+}
+
+/// What is left of a block does not cover what it does and what is left where it goes on.
+pub fn uncovered_fault(
+    alloc: Global,
+    function: &Function,
+    block: &Block,
+    work: Work,
+    known: &[Fact],
+    edges: &[EdgeFacts],
+    ending: &Ending,
+) -> Result<Option<Broken>, OutOfMemory>
+    ensures { IfOk result (λ r. (functions : List Function) (f : ℕ) → IsWork functions f block.now work → IsNamed (IsUncoveredAt functions function.now f block.now ending.now.line known.now edges.now ending.now.terminator) r) }
+{
+    let line = ending.line;
+    match &ending.terminator {
+        Terminator::Jump { .. }
+        | Terminator::Branch { .. }
+        | Terminator::Switch { .. }
+        | Terminator::Sync { .. } => edges_fault(alloc, function, block, work, line, edges),
+        Terminator::Detach {
+            body,
+            continuation,
+            ..
+        } => fork_fault(
+            alloc,
+            function,
+            block,
+            work,
+            line,
+            known,
+            *body,
+            *continuation,
+        ),
+        Terminator::Return { .. } | Terminator::Reattach { .. } => {
+            end_fault(alloc, block, work, line, known)
+        }
+    }
+}
+
+/// The measure is not shown to lie from 0 to its bound.
+pub fn measure_fault(
+    alloc: Global,
+    known: &[Fact],
+    function: &Function,
+) -> Result<Option<Broken>, OutOfMemory>
+    ensures { IfOk result (IsNamed (IsUnbounded function.now known.now)) }
+{
+    let measure = &function.measure;
+    let low = covers_work(alloc, known, &measure.form, 0)?;
+    let high = is_at_most(alloc, known, measure.bound, &measure.form)?;
+    Ok(fault_unless(low, high, measure.line, 703))
+}
+
+/// The measure of a self call is not shown to be at least 0 and less than the call's own.
+fn falling_fault(
+    alloc: Global,
+    function: &Function,
+    line: u32,
+    known: &[Fact],
+    arguments: &[Argument],
+) -> Result<Option<Broken>, OutOfMemory>
+    ensures { IfOk result (IsNamed (IsNotFalling function.now line known.now arguments.now)) }
+{
+    let form = &function.measure.form;
+    let moves = argument_moves(alloc, arguments)?;
+    let low = is_at_least_zero(alloc, known, &moves, form)?;
+    let falls = covers_next(alloc, known, form, 1, &moves, form)?;
+    Ok(fault_unless(low, falls, line, 703))
+}
+
+/// The same of a step, where it is a self call.
+pub fn step_fault(
+    alloc: Global,
+    function: &Function,
+    index: usize,
+    known: &[Fact],
+    step: &Step,
+) -> Result<Option<Broken>, OutOfMemory>
+    ensures { IfOk result (IsNamed (IsCallNotFalling function.now index step.now.line known.now step.now.instruction)) }
+{
+    match &step.instruction {
+        Instruction::Call {
+            callee,
+            arguments,
+            ..
+        } => {
+            if callee.0 != index {
+                return Ok(None);
+            }
+            falling_fault(alloc, function, step.line, known, arguments.as_slice())
+        }
+        Instruction::Binary { .. }
+        | Instruction::Compare { .. }
+        | Instruction::Convert { .. }
+        | Instruction::Alloca { .. }
+        | Instruction::ElementPointer { .. }
+        | Instruction::Load { .. }
+        | Instruction::Store { .. }
+        | Instruction::StoreZeros { .. }
+        | Instruction::AtomicAdd { .. }
+        | Instruction::StartRegion { .. } => Ok(None),
+    }
+}
+
+/// The budget does not cover what is left at the entry.
+pub fn budget_fault(
+    alloc: Global,
+    known: &[Fact],
+    function: &Function,
+    entry: &Block,
+) -> Result<Option<Broken>, OutOfMemory>
+    ensures { IfOk result (IsNamed (IsOverBudget function.now known.now entry.now)) }
+{
+    let budget = &function.budget;
+    let calls = is_at_most(alloc, known, budget.self_calls, &entry.left.self_calls)?;
+    let instructions = is_at_most(alloc, known, budget.instructions, &entry.left.instructions)?;
+    Ok(fault_unless(calls, instructions, budget.line, 704))
+}
+
+/// A call of the function may cost over a million million.
+pub fn cost_fault(function: &Function) -> Option<Broken>
+    ensures { IsNamed (IsTooCostly function.now) result }
+{
+    if whole_cost(function) > GREATEST_COST {
+        Some(Broken {
+            line: function.line,
+            number: 705,
+        })
+    } else {
+        None
+    }
+}

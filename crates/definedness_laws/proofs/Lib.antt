@@ -1,0 +1,15 @@
+pub mod Lists
+pub mod Items
+pub mod Placed
+pub mod Roles
+pub mod Defined
+pub mod Written
+pub mod Stored
+pub mod Values
+pub mod Ending
+pub mod Needed
+pub mod Kept
+pub mod Paths
+pub mod Registers
+pub mod Visits
+pub mod Stable

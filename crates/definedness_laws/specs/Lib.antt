@@ -1,0 +1,6 @@
+pub mod Leads
+pub mod Names
+pub mod Defined
+pub mod Placed
+pub mod Values
+pub mod Stable

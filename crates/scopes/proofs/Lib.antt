@@ -1,0 +1,8 @@
+pub mod Giving
+pub mod Growing
+pub mod Inversion
+pub mod Marks
+pub mod Naming
+pub mod Ordered
+pub mod Searching
+pub mod Tables

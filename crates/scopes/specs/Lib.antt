@@ -1,0 +1,10 @@
+pub mod Address
+pub mod Fault
+pub mod Form
+pub mod Item
+pub mod Layout
+pub mod Mention
+pub mod Note
+pub mod Operand
+pub mod Scope
+pub mod Table

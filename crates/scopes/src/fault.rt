@@ -1,0 +1,143 @@
+ghost use Rattle.std.specs.Prelude.{◌≡◌, Ok};
+ghost use Rattle.scopes.specs.Fault.{both_of, earlier_of, joined_of, unless_of, Gives};
+ghost use Rattle.scopes.specs.declared.fault.TypeFault.TheVariants.{Fault, Memory};
+
+use lists::Seq;
+use std::alloc::{AllocError, AllocFailed};
+use thiserror::Error;
+
+/// Why a module has no program: a rule that it breaks, by its number, and the line; or memory was refused.
+#[derive(Clone, Copy, Debug, PartialEq, Eq, Error)]
+pub enum TypeFault {
+    #[error("{number} line {line}")]
+    Fault { number: u16, line: u32 },
+    #[error("memory")]
+    Memory,
+}
+
+impl From<AllocError> for TypeFault {
+    ghost from_gives = { λ _ e. e ≡ Memory };
+
+    fn from(_error: AllocError) -> TypeFault {
+        TypeFault::Memory
+    }
+}
+
+impl<T: Drop> From<AllocFailed<T>> for TypeFault {
+    ghost from_gives = { λ _ e. e ≡ Memory };
+
+    fn from(_error: AllocFailed<T>) -> TypeFault {
+        TypeFault::Memory
+    }
+}
+
+/// 201: nothing has this name.
+pub fn unknown_name(line: u32) -> TypeFault
+    ensures { result ≡ Fault 201 line }
+{
+    TypeFault::Fault { number: 201, line }
+}
+
+/// 202: what has this name is of another type than stands here.
+pub fn type_mismatch(line: u32) -> TypeFault
+    ensures { result ≡ Fault 202 line }
+{
+    TypeFault::Fault { number: 202, line }
+}
+
+/// 203: a call with more or fewer arguments than the callee has parameters.
+pub fn wrong_count(line: u32) -> TypeFault
+    ensures { result ≡ Fault 203 line }
+{
+    TypeFault::Fault { number: 203, line }
+}
+
+/// 204: a pointer is used as none may be.
+pub fn pointer_misuse(line: u32) -> TypeFault
+    ensures { result ≡ Fault 204 line }
+{
+    TypeFault::Fault { number: 204, line }
+}
+
+/// 205: a call of a function that stands below.
+pub fn downward_call(line: u32) -> TypeFault
+    ensures { result ≡ Fault 205 line }
+{
+    TypeFault::Fault { number: 205, line }
+}
+
+/// 206: a form over a limit, or a note that names what its own block defines.
+pub fn form_limit(line: u32) -> TypeFault
+    ensures { result ≡ Fault 206 line }
+{
+    TypeFault::Fault { number: 206, line }
+}
+
+/// Nothing where the rule holds, else the fault.
+pub fn unless(holds: bool, fault: TypeFault) -> Result<(), TypeFault>
+    ensures { result ≡ unless_of holds fault }
+{
+    if holds { Ok(()) } else { Err(fault) }
+}
+
+/// The fault of the lower line, and on one line of the lower number. Want of memory comes first.
+fn earlier(first: TypeFault, second: TypeFault) -> TypeFault
+    ensures { result ≡ earlier_of first second }
+{
+    match first {
+        TypeFault::Memory => TypeFault::Memory,
+        TypeFault::Fault { number, line } => earlier_than(number, line, second),
+    }
+}
+
+fn earlier_than(number: u16, line: u32, other: TypeFault) -> TypeFault
+    ensures { result ≡ earlier_of (Fault number line) other }
+{
+    match other {
+        TypeFault::Memory => TypeFault::Memory,
+        TypeFault::Fault {
+            number: other_number,
+            line: other_line,
+        } => {
+            if line < other_line || (line == other_line && number <= other_number) {
+                TypeFault::Fault { number, line }
+            } else {
+                TypeFault::Fault {
+                    number: other_number,
+                    line: other_line,
+                }
+            }
+        }
+    }
+}
+
+/// Both parts, else the earlier fault of the two.
+pub fn both<A: Drop, B: Drop>(
+    first: Result<A, TypeFault>,
+    second: Result<B, TypeFault>,
+) -> Result<(A, B), TypeFault>
+    ensures { result ≡ both_of first second }
+{
+    match first {
+        Ok(a) => match second {
+            Ok(b) => Ok((a, b)),
+            Err(fault) => Err(fault),
+        },
+        Err(fault) => match second {
+            Ok(_) => Err(fault),
+            Err(other) => Err(earlier(fault, other)),
+        },
+    }
+}
+
+/// The list with one more part at its end, else the earlier fault of the two.
+pub fn joined<A: Drop>(
+    list: Result<Seq<A>, TypeFault>,
+    part: Result<A, TypeFault>,
+) -> Result<Seq<A>, TypeFault>
+    ensures { Gives result (joined_of list part) }
+{
+    let (mut list, part) = both(list, part)?;
+    list.push(part)?;
+    Ok(list)
+}

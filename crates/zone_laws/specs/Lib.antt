@@ -1,0 +1,4 @@
+pub mod Uses
+pub mod Accesses
+pub mod Children
+pub mod Edges
