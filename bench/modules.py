@@ -4,12 +4,12 @@ import os, subprocess, tempfile, time
 LIMIT = 1048576
 
 def seconds(tapirvm, text, wanted):
-    """The least of three runs. The program has to print a line that begins with `wanted`."""
+    """The least of seven runs. The program has to print a line that begins with `wanted`."""
     assert len(text) <= LIMIT, len(text)
     with tempfile.NamedTemporaryFile("w", suffix=".ll", delete=False) as file:
         file.write(text)
     best = None
-    for _ in range(3):
+    for _ in range(7):
         start = time.time()
         done = subprocess.run([tapirvm, "serial", file.name], capture_output=True, text=True)
         took = time.time() - start
@@ -53,6 +53,13 @@ def known(facts):
     out = ["define i64 @main(i64 %n) {\nentry:\n"]
     out += [f"%x{k} = and i64 %n, 7\n" for k in range(facts // 2)]
     return "".join(out) + ";! shows 2*%n >= 0\nret i64 0\n}\n"
+
+def steps(count):
+    """So many sums in one block, each of the one before; two `shows` lines before each bound it by the two facts that stand last."""
+    out = [f"define i64 @main(i64 %n) {{\n;! requires %n >= 0\n;! requires %n <= 9\n;! budget 0 {count + 1}\nentry:\n;! left 0 {count + 1}\n"]
+    out.append("%x0 = add nsw i64 %n, 1\n")
+    out += [f";! shows %x{k - 1} >= 0\n;! shows %x{k - 1} <= {k + 9}\n%x{k} = add nsw i64 %x{k - 1}, 1\n" for k in range(1, count)]
+    return "".join(out) + "ret i64 0\n}\n"
 
 def pending(blocks):
     """A child that may run beside so many blocks, each with 32 `pending` lines."""

@@ -11,5 +11,8 @@ pub mod Needed
 pub mod Kept
 pub mod Paths
 pub mod Registers
+pub mod RegionTests
 pub mod Visits
 pub mod Stable
+pub mod Known
+pub mod Regions

@@ -1,9 +1,12 @@
 -- Along the serial run each frame stands in a block whose task suits its role.
-use Rattle.std.proofs.Common.{◌≡◌, ℕ, List, [], ◌∷◌, Option, Some, None, true, false, is_some, refl, ap, subst, ◌∙◌, slice_get}
+use Rattle.std.proofs.Common.{◌≡◌, ℕ, zero, suc, ◌<◌, ◌≤◌, List, [], ◌∷◌, length, Option, Some, None, true, false, is_some, refl, ap, subst, ◌∙◌, arith, slice_get}
+use Rattle.std.specs.Prelude.{IsSome}
+use Rattle.std.proofs.lemmas.List.Elements.{All-contains}
+use Rattle.std.proofs.lemmas.Option.{slice_get_within}
 use Rattle.machine_core.specs.Paths.{Path}
-use Rattle.machine_core.specs.Frames.{Registers, Body, Frame, Ends, block_at, item_at}
+use Rattle.machine_core.specs.Frames.{Registers, Body, Frame, Item, Does, Ends, item_of, block_at, item_at}
 use Rattle.machine_core.specs.Effect.{Effect}
-use Rattle.machine_core.specs.State.{went, detached, continued, synced, called}
+use Rattle.machine_core.specs.State.{went, detached, continued, synced, called, waiting, resumed}
 use Rattle.machine_core.specs.SerialConditions.{Says, Nothing, KeptSerially}
 use Rattle.linear.specs.declared.form.RegisterId.{RegisterId}
 use Rattle.program.specs.declared.identifier.BlockId.{BlockId}
@@ -11,19 +14,24 @@ use Rattle.program.specs.declared.function.Block.{Block}
 use Rattle.program.specs.declared.function.Function.{Function}
 use Rattle.program.specs.declared.function.Program.{Program}
 use Rattle.program.specs.declared.instruction.Ending.{Ending}
+use Rattle.program.specs.declared.instruction.Instruction.{Instruction}
+use Rattle.program.specs.declared.instruction.Instruction.TheVariants as instruction
+use Rattle.program.specs.declared.instruction.Step.{Step}
 use Rattle.program.specs.declared.instruction.Terminator.{Terminator}
 use Rattle.program.specs.declared.instruction.Terminator.TheVariants as terminator
 use Rattle.cfg.specs.declared.structure.Way.{Way}
 use Rattle.cfg.specs.declared.structure.Way.TheVariants as way
 use Rattle.cfg.specs.Edges.{graph_of}
+use Rattle.cfg.specs.Rules.{IsFunctionRight}
 use Rattle.region_match.specs.Rules.{ending_at}
 use Rattle.region_match.specs.Tasks.{task_along, task_on, HasTask}
 use Rattle.bridge.specs.Moves.{Moves, is_next, is_along, SyncsTo}
 use Rattle.bridge.proofs.Moves.{moves, sync_here, calls_here, forks_here}
 use Rattle.definedness_laws.specs.Leads.{LeadsTo, IsBlock}
 use Rattle.definedness_laws.specs.Names.{IsNamed}
-use Rattle.definedness_laws.specs.Placed.{Suits, IsPlaced, Placed, NoFinds, TasksKept}
-use Rattle.definedness_laws.proofs.Items.{stands, same_some, is_block, end_there, edge_behind}
+use Rattle.definedness_laws.specs.Placed.{Suits, IsPlaced, Placed, NoFinds, TasksKept, PlacesHaveItems}
+use Rattle.definedness_laws.proofs.Lists.{at_within}
+use Rattle.definedness_laws.proofs.Items.{stands, same_some, is_block, end_there, edge_behind, step_there}
 
 -- the terminator at a place is that of its block
 pub record EndsBlock (prog : Program) (f b : ℕ) (t : Terminator) : Type 0 where
@@ -75,23 +83,34 @@ module _ (prog : Program) (named : IsNamed prog) where
   same_function f b c function other block target h k = same_some (slice_get prog.functions f) function other h.at_function k.at_function
 
   -- a frame that goes on in its task
-  pub goes_placed : (f h : Frame) (w : Way) → IsPlaced prog f → Arrives prog f.function f.block h.block w → h.function ≡ f.function → h.role ≡ f.role → ((ds : List ℕ) → task_along w f.block ds ≡ ds) → IsPlaced prog h
-  goes_placed f h w good to fn role same =
+  pub goes_placed : (f h : Frame) (w : Way) → IsPlaced prog f → Arrives prog f.function f.block h.block w → h.function ≡ f.function → h.role ≡ f.role → h.index ≡ 0 → ((ds : List ℕ) → task_along w f.block ds ≡ ds) → IsPlaced prog h
+  goes_placed f h w good to fn role start same =
       let one : good.function ≡ to.function = same_function f.function f.block f.block good.function to.function good.block to.block good.is to.from in
       record {
         function = to.function;
         block = to.target;
         is = rw fn to.is;
+        within = omega (arith, start);
         task = good.task;
         has_task = subst (λ ds. HasTask (graph_of to.function).blocks h.block ds) (same good.task) (to.along good.task (subst (λ (x : Function). HasTask (graph_of x).blocks f.block good.task) one good.has_task));
         suits = rw role (subst (λ (x : Function). Suits x.blocks f.role good.task) one good.suits);
       }
 
-  stays_placed : (f h : Frame) → IsPlaced prog f → h.function ≡ f.function → h.block ≡ f.block → h.role ≡ f.role → IsPlaced prog h
-  stays_placed f h good fn block role = record {
+  -- a step of a block stands within it
+  step_inside : (f : Frame) (what : Instruction) → (good : IsPlaced prog f) → item_at prog f.function f.block f.index ≡ Some (Does what) → f.index < length good.block.steps
+  step_inside f what good at =
+      let s = stands prog f.function f.block f.index (Does what) at in
+      let step = step_there s.block.steps s.block.ending f.index what s.item in
+      let one : s.function ≡ good.function = same_function f.function f.block f.block s.function good.function s.block good.block s.is good.is in
+      let two : s.block ≡ good.block = same_some (slice_get good.function.blocks f.block) s.block good.block (subst (λ (x : Function). slice_get x.blocks f.block ≡ Some s.block) one s.is.at_block) good.is.at_block in
+      slice_get_within good.block.steps f.index step.0 (subst (λ (x : Block). slice_get x.steps f.index ≡ Some step.0) two step.1)
+
+  stays_placed : (f h : Frame) (what : Instruction) → IsPlaced prog f → item_at prog f.function f.block f.index ≡ Some (Does what) → h.function ≡ f.function → h.block ≡ f.block → h.role ≡ f.role → h.index ≡ suc f.index → IsPlaced prog h
+  stays_placed f h what good at fn block role index = record {
     function = good.function;
     block = good.block;
     is = rw (fn, block) good.is;
+    within = let less = step_inside f what good at in omega (arith, index, less);
     task = good.task;
     has_task = rw block good.has_task;
     suits = rw role good.suits;
@@ -113,16 +132,18 @@ module _ (prog : Program) (named : IsNamed prog) where
         function = to.function;
         block = to.target;
         is = to.is;
+        within = omega arith;
         task = f.block ∷ good.task;
         has_task = to.along good.task (subst (λ (x : Function). HasTask (graph_of x).blocks f.block good.task) one good.has_task);
         suits = (region, continuation, (body, subst (λ (x : Function). ending_at x.blocks f.block ≡ Some (terminator.Detach region body continuation)) two ending), region_is, continuation_is);
       }
 
-  callee_placed : (p : Path) (f : Frame) (g : ℕ) (function : Function) (block : Block) → IsBlock prog g 0 function block → (home : Path) (registers : Registers) → (h : Frame) → h.function ≡ g → h.block ≡ 0 → h.role ≡ Body → IsPlaced prog h
-  callee_placed p f g function block is home registers h fn at role = record {
+  callee_placed : (p : Path) (f : Frame) (g : ℕ) (function : Function) (block : Block) → IsBlock prog g 0 function block → (home : Path) (registers : Registers) → (h : Frame) → h.function ≡ g → h.block ≡ 0 → h.index ≡ 0 → h.role ≡ Body → IsPlaced prog h
+  callee_placed p f g function block is home registers h fn at start role = record {
     function = function;
     block = block;
     is = rw (fn, at) is;
+    within = omega (arith, start);
     task = [];
     has_task = rw at ([], refl, refl);
     suits = rw role tt;
@@ -143,23 +164,41 @@ module _ (prog : Program) (named : IsNamed prog) where
     plain_kept = λ p f m e b good at fine nb. record { next = plain_placed f e good (moves prog p f m e at fine); finds = λ o h. tt };
     sync_kept = λ p f m r t rs b good at nb.
         let s = sync_here prog p f m r t rs at in
-        record { next = goes_placed f (synced f r t rs) (way.Synced (record { 0 = r })) good (arrives f.function f.block f.index t s.0 (way.Synced (record { 0 = r })) s.1 (sync_way s.0 r t s.2)) refl refl (λ ds. refl); finds = λ o h. tt };
+        record { next = goes_placed f (synced f r t rs) (way.Synced (record { 0 = r })) good (arrives f.function f.block f.index t s.0 (way.Synced (record { 0 = r })) s.1 (sync_way s.0 r t s.2)) refl refl refl (λ ds. refl); finds = λ o h. tt };
     child_kept = λ p f m r body next b good at nb. let c = forks_here prog p f m r body next at in child_placed f r body next c.region c.body c.continuation good c.is c.region_is c.body_is c.continuation_is;
     continued_kept = λ p f m r body next b good at nc o gone h nb.
         let c = forks_here prog p f m r body next at in
-        record { next = goes_placed f (continued f next) way.Continued good (arrives f.function f.block f.index next (terminator.Detach c.region c.body c.continuation) way.Continued c.is c.continuation_is) refl refl (λ ds. refl); finds = λ u k. tt };
+        record { next = goes_placed f (continued f next) way.Continued good (arrives f.function f.block f.index next (terminator.Detach c.region c.body c.continuation) way.Continued c.is c.continuation_is) refl refl refl (λ ds. refl); finds = λ u k. tt };
     callee_kept = λ p f m d g vs b good at nb.
         let c = calls_here prog p f m d g vs at in
         let there = function_there g (subst (λ n. is_some (block_at prog n 0) ≡ true) c.number (named.callees f.function f.block f.index d c.function c.arguments c.is)) in
-        callee_placed p f g there.0 there.1 there.2 (f.made ∷ p) f.registers (called p f g vs) refl refl refl;
-    resumed_kept = λ p f m d g vs b good at nc o v gave h nb. record { next = stays_placed f _ good refl refl refl; finds = λ u k. tt };
+        callee_placed p f g there.0 there.1 there.2 (f.made ∷ p) f.registers (called p f g vs) refl refl refl refl;
+    resumed_kept = λ p f m d g vs b good at nc o v gave h nb. let c = calls_here prog p f m d g vs at in record { next = stays_placed f (resumed (waiting f d) d v) (instruction.Call d c.function c.arguments) good c.is refl refl refl refl; finds = λ u k. tt };
     reattach_finds = λ p f m r b good at. tt;
     return_finds = λ p f m v b good at. tt;
   }
     where
       plain_placed : (f : Frame) (e : Effect) → IsPlaced prog f → Moves prog f e → IsPlaced prog (went f e)
-      plain_placed f e good (is_next i at on) = stays_placed f (went f e) good refl on.block refl
-      plain_placed f e good (is_along t at to on) = goes_placed f (went f e) way.Branch good (arrives f.function f.block f.index e.block t way.Branch at to) refl refl (λ ds. refl)
+      plain_placed f e good (is_next i at on) = stays_placed f (went f e) i good at refl on.block refl on.index
+      plain_placed f e good (is_along t at to on) = goes_placed f (went f e) way.Branch good (arrives f.function f.block f.index e.block t way.Branch at to) refl refl on.index (λ ds. refl)
 
 pub tasks_kept_alone : TasksKept
 tasks_kept_alone prog named = tasks_kept prog named Nothing
+
+-- a step, or behind all of them the terminator
+item_within : (steps : List Step) (ending : Ending) (i : ℕ) → i ≤ length steps → (x : Item) × (item_of steps (Some ending) i ≡ Some x)
+item_within [] ending zero low = (Ends ending.terminator, refl)
+item_within [] ending (suc i) low = absurd (omega (arith, low))
+item_within (s ∷ steps) ending zero low = (Does s.instruction, refl)
+item_within (s ∷ steps) ending (suc i) low = item_within steps ending i (omega (arith, low))
+
+pub places_have_items : PlacesHaveItems
+places_have_items prog graph f placed =
+    let right = All-contains IsFunctionRight prog.functions placed.function graph (at_within prog.functions f.function placed.function placed.is.at_function) f.block placed.block placed.is.at_block in
+    by placed.block.ending refl right.2
+  where
+    by : (o : Option Ending) → placed.block.ending ≡ o → IsSome o → (x : Item) × (item_at prog f.function f.block f.index ≡ Some x)
+    by None is there = absurd (cc)
+    by (Some ending) is there =
+        let x = item_within placed.block.steps ending f.index placed.within in
+        (x.0, rw (placed.is.at_function, placed.is.at_block, is) x.1)

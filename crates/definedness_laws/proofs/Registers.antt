@@ -141,7 +141,7 @@ has_or_not (phi ∷ phis) r = by (eqb_tells phi.register.0 r) (has_or_not phis r
     by (inr e) (inl h) = inl (inr h)
     by (inr e) (inr n) = inr (none e.1 n)
 
-dest_or_not : (o : Option ℕ) (r : ℕ) → (o ≡ Some r) ⊎ (o ≢ Some r)
+pub dest_or_not : (o : Option ℕ) (r : ℕ) → (o ≡ Some r) ⊎ (o ≢ Some r)
 dest_or_not None r = inr (λ e. cc)
 dest_or_not (Some d) r = elim (eqb_tells d r) [ inl e ↦ inl (ap (λ x. Some x) e.1) | inr e ↦ inr (λ k. e.1 (cc)) ]
 

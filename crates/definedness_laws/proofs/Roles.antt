@@ -33,7 +33,7 @@ ending_right prog right f b number function block ending is has wrong =
     right.unbroken broken (any_function {P = λ (x : Function). IsFunctionBroken x broken} prog.functions f function is.at_function (inr (b, block, is.at_block, inl (rw has (refl, wrong)))))
 
 module _ (prog : Program) (right : AreRegionsRight prog) (f : Frame) (placed : IsPlaced prog f) where
-  at_end : (t : Terminator) (number : ℕ) → item_at prog f.function f.block f.index ≡ Some (Ends t) → IsEndingWrong placed.function.blocks (graph_of placed.function).blocks f.block t number → ⊥
+  pub at_end : (t : Terminator) (number : ℕ) → item_at prog f.function f.block f.index ≡ Some (Ends t) → IsEndingWrong placed.function.blocks (graph_of placed.function).blocks f.block t number → ⊥
   at_end t number at wrong =
       let e = ends_block prog f.function f.block f.index t at in
       let one : e.function ≡ placed.function = same_some (slice_get prog.functions f.function) e.function placed.function e.is.at_function placed.is.at_function in

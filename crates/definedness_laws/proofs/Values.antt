@@ -48,7 +48,7 @@ use Rattle.definedness_laws.proofs.Written.{shallower, plain_keeps, step_stores}
 set_other : (r : Registers) (d : RegisterId) (v : Value) (x : ℕ) → d.0 ≢ x → set_register r d v x ≡ r x
 set_other r d v x apart = elim (eqb_tells d.0 x) [ inl h ↦ absurd (apart h.1) | inr h ↦ rw h.0 refl ]
 
-phis_stay : (before : Registers) (from : ℕ) (phis : List Phi) (r s : Registers) (x : ℕ) → ((i : ℕ) (phi : Phi) → slice_get phis i ≡ Some phi → phi.register.0 ≢ x) → with_phis before from phis r ≡ Some s → s x ≡ r x
+pub phis_stay : (before : Registers) (from : ℕ) (phis : List Phi) (r s : Registers) (x : ℕ) → ((i : ℕ) (phi : Phi) → slice_get phis i ≡ Some phi → phi.register.0 ≢ x) → with_phis before from phis r ≡ Some s → s x ≡ r x
 phis_stay before from [] r s x apart e = let same : r ≡ s = cc in sym (ap (λ (u : Registers). u x) same)
 phis_stay before from (phi ∷ phis) r s x apart e = by_value (phi_value before from phi) e (λ z h. phis_stay before from phis (set_register r phi.register (Word z)) s x (λ i y at. apart (suc i) y at) h)
   where
@@ -121,15 +121,16 @@ passed_object f (argument.Object name) v c is at = by (object_at f name) refl is
 full_kept : (n : ℕ) (o : Object) (m u : Memory) → ((c : Cell) → c.object ≡ o → is_some (m c) ≡ true → is_some (u c) ≡ true) → Full n o m → Full n o u
 full_kept n o m u keep h = λ i less. keep (record { object = o; index = i }) refl (h i less)
 
+-- the step at a place defines its register
+pub defines_here : (prog : Program) (f b i x : ℕ) (function : Function) (what : Instruction) → slice_get prog.functions f ≡ Some function → item_at prog f b i ≡ Some (Does what) → dest_of what ≡ Some x → StepDefines function b i x
+defines_here prog f b i x function what at is dest =
+    let s = stands prog f b i (Does what) is in
+    let one : s.function ≡ function = same_some (slice_get prog.functions f) s.function function s.is.at_function at in
+    let step = step_there s.block.steps s.block.ending i what s.item in
+    record { block = s.block; step = step.0; at_block = subst (λ (y : Function). slice_get y.blocks b ≡ Some s.block) one s.is.at_block; at_step = step.1; defines = ap dest_of step.2 ∙ dest }
+
 module _ (prog : Program) (named : IsNamed prog) (objects : NamesObjects prog) where
   -- ---- registers of the frame that stay
-
-  pub defines_here : (f b i x : ℕ) (function : Function) (what : Instruction) → slice_get prog.functions f ≡ Some function → item_at prog f b i ≡ Some (Does what) → dest_of what ≡ Some x → StepDefines function b i x
-  defines_here f b i x function what at is dest =
-      let s = stands prog f b i (Does what) is in
-      let one : s.function ≡ function = same_some (slice_get prog.functions f) s.function function s.is.at_function at in
-      let step = step_there s.block.steps s.block.ending i what s.item in
-      record { block = s.block; step = step.0; at_block = subst (λ (y : Function). slice_get y.blocks b ≡ Some s.block) one s.is.at_block; at_step = step.1; defines = ap dest_of step.2 ∙ dest }
 
   parameters_are : (f : ℕ) (function : Function) → slice_get prog.functions f ≡ Some function → parameters_of prog f ≡ length function.parameters
   parameters_are f function at = rw at refl
@@ -138,7 +139,7 @@ module _ (prog : Program) (named : IsNamed prog) (objects : NamesObjects prog) w
   pub dest_above : (f b i x : ℕ) (what : Instruction) → item_at prog f b i ≡ Some (Does what) → x < parameters_of prog f → dest_of what ≢ Some x
   dest_above f b i x what is less dest =
       let s = stands prog f b i (Does what) is in
-      let high : length s.function.parameters ≤ x = (named.once f s.function s.is.at_function).steps_above b i x (defines_here f b i x s.function what s.is.at_function is dest) in
+      let high : length s.function.parameters ≤ x = (named.once f s.function s.is.at_function).steps_above b i x (defines_here prog f b i x s.function what s.is.at_function is dest) in
       let n : parameters_of prog f ≡ length s.function.parameters = parameters_are f s.function s.is.at_function in
       omega (arith, high, n, less)
 
@@ -268,7 +269,7 @@ module _ (prog : Program) (named : IsNamed prog) (objects : NamesObjects prog) w
             apart j d name i before there dest =
                 let s = stands prog f.function f.block f.index (Does what) at in
                 let once = named.once f.function s.function s.is.at_function in
-                let one = once.steps f.block f.block j f.index d.0 (defines_here f.function f.block j d.0 s.function (instruction.ElementPointer d name i) s.is.at_function there refl) (defines_here f.function f.block f.index d.0 s.function what s.is.at_function at dest) in
+                let one = once.steps f.block f.block j f.index d.0 (defines_here prog f.function f.block j d.0 s.function (instruction.ElementPointer d name i) s.is.at_function there refl) (defines_here prog f.function f.block f.index d.0 s.function what s.is.at_function at dest) in
                 omega (arith, one.1, before)
 
   -- ---- what the rest of a frame leaves

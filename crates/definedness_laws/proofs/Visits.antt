@@ -26,6 +26,7 @@ use Rattle.region_match.specs.Matched.{AreRegionsRight}
 use Rattle.definedness_laws.specs.Leads.{IsBlock}
 use Rattle.definedness_laws.proofs.Lists.{none_within, within_cases}
 use Rattle.definedness_laws.proofs.Items.{block_edges}
+use Rattle.definedness_laws.proofs.RegionTests.{same_or_not}
 use Rattle.definedness_laws.proofs.Roles.{any_function}
 
 -- a leg leaves the block
@@ -110,18 +111,6 @@ module _ (function : Function) (detach : ℕ) (outer : List ℕ) (region : Regis
           inl (sym path.1 ∙ detached_edge function detach region body continuation leg.edge ends (subst (λ n. Contains (edges_of (graph_of function).blocks n) leg.edge) same path.0) is)
       by way.Continued is h rest = on (rest h)
       by (way.Synced r) is h rest = on (rest h)
-
-same_or_not : (xs ys : List ℕ) → (xs ≡ ys) ⊎ (xs ≢ ys)
-same_or_not [] [] = inl refl
-same_or_not [] (y ∷ ys) = inr (λ e. cc)
-same_or_not (x ∷ xs) [] = inr (λ e. cc)
-same_or_not (x ∷ xs) (y ∷ ys) = elim (cases_eq x y) [
-  | inl e ↦ elim (same_or_not xs ys) [
-    | inl f ↦ inl (rw (e, f) refl)
-    | inr n ↦ inr (λ g. n (cc))
-  ]
-  | inr n ↦ inr (λ g. n (cc))
-]
 
 -- 306: one task for all paths to a block
 pub one_task : (prog : Program) → AreRegionsRight prog → (f b : ℕ) (function : Function) (block : Block) → IsBlock prog f b function block → (p q : List Leg) → IsPath (graph_of function).blocks 0 p b → IsPath (graph_of function).blocks 0 q b → task_on p ≡ task_on q

@@ -4,3 +4,5 @@ pub mod Defined
 pub mod Placed
 pub mod Values
 pub mod Stable
+pub mod Known
+pub mod Regions

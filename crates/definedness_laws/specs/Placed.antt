@@ -1,8 +1,8 @@
 -- Frames and tasks: a frame stands in a block of its function, and its role is its block's task.
-use Rattle.std.specs.Prelude.{◌≡◌, ℕ, List, [], ◌∷◌, Option, Some}
+use Rattle.std.specs.Prelude.{◌≡◌, ℕ, ◌≤◌, List, [], ◌∷◌, length, Option, Some}
 use Rattle.machine_core.specs.Paths.{Path}
 use Rattle.machine_core.specs.Cells.{Memory}
-use Rattle.machine_core.specs.Frames.{Role, Child, Body, Frame, Ends, item_at}
+use Rattle.machine_core.specs.Frames.{Role, Child, Body, Frame, Item, Ends, item_at}
 use Rattle.machine_core.specs.SerialMeaning.{Outcome}
 use Rattle.machine_core.specs.SerialConditions.{Nothing, KeptSerially}
 use Rattle.linear.specs.declared.form.RegisterId.{RegisterId}
@@ -13,6 +13,7 @@ use Rattle.program.specs.declared.function.Program.{Program}
 use Rattle.program.specs.declared.instruction.Operand.{Operand}
 use Rattle.program.specs.declared.instruction.Terminator.TheVariants as terminator
 use Rattle.cfg.specs.Edges.{graph_of}
+use Rattle.cfg.specs.Rules.{IsGraphRight}
 use Rattle.region_match.specs.Rules.{ending_at, IsDetach}
 use Rattle.region_match.specs.Tasks.{HasTask}
 use Rattle.region_match.specs.Matched.{AreRegionsRight}
@@ -30,6 +31,8 @@ pub record IsPlaced (prog : Program) (f : Frame) : Type 0 where
   pub function : Function
   pub block : Block
   pub is : IsBlock prog f.function f.block function block
+  -- at a step of it, or behind all of them at its terminator
+  pub within : f.index ≤ length block.steps
   pub task : List ℕ
   pub has_task : HasTask (graph_of function).blocks f.block task
   pub suits : Suits function.blocks f.role task
@@ -50,3 +53,7 @@ TasksKept = (prog : Program) → IsNamed prog → KeptSerially prog Nothing (Pla
 
 abbrev pub RolesFitTasks : Type 0
 RolesFitTasks = (prog : Program) → AreRegionsRight prog → (f : Frame) → IsPlaced prog f → RolesFit prog f
+
+-- something stands at a frame's place
+abbrev pub PlacesHaveItems : Type 0
+PlacesHaveItems = (prog : Program) → IsGraphRight prog → (f : Frame) → IsPlaced prog f → (x : Item) × (item_at prog f.function f.block f.index ≡ Some x)

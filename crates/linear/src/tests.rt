@@ -1,5 +1,7 @@
 ghost use Rattle.std.specs.Prelude.{◌<◌, ◌^◌, unsigned_abs};
 
+mod searched;
+
 use crate::{Fact, Form, FormFault, RegisterId, Replacement, shown};
 use std::alloc::Global;
 use std::process::Abort;

@@ -35,7 +35,7 @@ use Rattle.bridge.specs.Costs.{numbers}
 use Rattle.zone_laws.specs.Uses.{StandsIn, KnownHolds, NamesApart, ElementsHold, task_of, MayUse}
 use Rattle.zone_laws.specs.Accesses.{AreZonesRight, AccessesAreLet}
 use Rattle.zone_laws.proofs.Places.{step_here, step_covered, step_clear}
-use Rattle.zone_laws.proofs.Spans.{span_let}
+use Rattle.zone_laws.proofs.Spans.{span_let, used_name}
 use Rattle.zone_laws.proofs.Touching.{UsesBy, UsedHere, used_here}
 
 -- ---- the zone of an access has its cell
@@ -114,7 +114,7 @@ module _ (prog : Program) (regions : Regions) (right : AreZonesRight prog region
         IsNamedBy prog.functions f.function named.object → object_at f named.object ≡ Some c.object → (operand_value (numbers f.registers) named.index +ℤ pos k) ≡ pos c.index → k < count → MayUse regions f function block mode c
     zone_let mode named count k c used is covered clear named_by object index lt =
         span_let prog regions f function block stands names (facts_at_step prog.functions function f.block block f.index) (known.at_step step at) (as_written (cells_zone step.line mode named count)) c object
-        (cells_have (numbers f.registers) step.line mode named count k c index lt) named_by (sym (ap (λ (u : Use). u.covered) is) ∙ covered) (sym (ap (λ (u : Use). u.clear) is) ∙ clear)
+        (cells_have (numbers f.registers) step.line mode named count k c index lt) (used_name prog.functions f.function named.object named_by) (sym (ap (λ (u : Use). u.covered) is) ∙ covered) (sym (ap (λ (u : Use). u.clear) is) ∙ clear)
 
     -- a use of one cell at an address
     address_let : (mode : Mode) (address : Address) (c : Cell) → ((name : ObjectName) → address ≡ First name → IsNamedBy prog.functions f.function name) → cell_at f address ≡ Some c →

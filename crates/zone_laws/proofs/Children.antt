@@ -27,7 +27,7 @@ use Rattle.zone_laws.specs.Uses.{StandsIn, KnownHolds, NamesApart, HoldsCell, ta
 use Rattle.zone_laws.specs.Accesses.{AreZonesRight}
 use Rattle.zone_laws.specs.Children.{FeetAreLet}
 use Rattle.zone_laws.proofs.Places.{all_pass, get_is, ending_here, end_covered, end_clear}
-use Rattle.zone_laws.proofs.Spans.{as_cell, span_let}
+use Rattle.zone_laws.proofs.Spans.{as_cell, span_let, used_name}
 
 -- names stand for the same objects in a new child
 child_objects : (f : Frame) (region body continuation : ℕ) (name : ObjectName) → object_at (detached f region body continuation) name ≡ object_at f name
@@ -70,7 +70,7 @@ module _ (prog : Program) (regions : Regions) (right : AreZonesRight prog region
       let end = ending_here prog f function block stands t fork.is in
       let is2 : Contains (foot_of (slice_get function.blocks fork.body.0)) z = subst (λ (n : ℕ). Contains (foot_of (slice_get function.blocks n)) z) (sym fork.body_is) is in
       span_let prog regions f function block stands names (facts_at_end prog.functions function f.block block) (known.at_end end.2) (as_written z) c holds.object (as_cell f z c z.object refl holds)
-      (foot_named prog f function block stands fork.body.0 z is2)
+      (used_name prog.functions f.function z.object (foot_named prog f function block stands fork.body.0 z is2))
       (All-contains (λ (y : Zone). is_allowed place (as_written y) ≡ true) (foot_of (slice_get function.blocks fork.body.0)) z (all_pass (λ (y : Zone). is_allowed place (as_written y)) (foot_of (slice_get function.blocks fork.body.0)) (all_allowed t fork.is)) is2)
       (All-contains (λ (y : Zone). is_clear place (as_written y) ≡ true) (foot_of (slice_get function.blocks fork.body.0)) z (all_pass (λ (y : Zone). is_clear place (as_written y)) (foot_of (slice_get function.blocks fork.body.0)) (all_clear t fork.is)) is2)
 

@@ -68,10 +68,16 @@ module _ (f g : Frame) (edge : EdgeFacts) (along : GoesAlong f g edge.moves) (ho
     | inl e ↦ absurd (empty_cells edge.facts (as_written z) e (numbers f.registers) hold z.object (pos c.index) (as_cell f z c z.object refl holds))
     | inr e ↦
         let any = Any-from_list_any (λ (q : Pending). (q.region.0 == region.0) && covers edge.facts (span q.zone.object edge.moves q.zone) (as_written z)) waiting e in
-        let parts = both_true (any.1.region.0 == region.0) (covers edge.facts (span any.1.zone.object edge.moves any.1.zone) (as_written z)) any.4 in
-        (any.0, any.1, any.2, any.3,
-          (eqb-true any.1.region.0 region.0 parts.0,
-            (behind f g edge.moves along edge.facts hold any.1.zone z c parts.1 holds, covers_mode edge.facts (span any.1.zone.object edge.moves any.1.zone) (as_written z) parts.1)))
+        let parts = both_true (any.1.region.0 == region.0) (covers edge.facts (span any.1.zone.object edge.moves any.1.zone) (as_written z)) any.4 in (
+          any.0,
+          any.1,
+          any.2,
+          any.3,
+          (
+            eqb-true any.1.region.0 region.0 parts.0,
+            (behind f g edge.moves along edge.facts hold any.1.zone z c parts.1 holds, covers_mode edge.facts (span any.1.zone.object edge.moves any.1.zone) (as_written z) parts.1),
+          ),
+        )
   ]
 
 -- what hands on passes
@@ -84,7 +90,7 @@ pending_goes_on prog regions right f g function block ending stands is edge at h
     let waiting = pending_of (slice_get function.blocks edge.to.0) in
     let rule = both_true (are_passed edge waiting block.pending) (child_passed_on function.blocks edge waiting edge.way ending.terminator) (edge_passes prog f function block stands regions right ending is edge at) in
     let one = All-contains (λ (x : Pending). (not (hands_on edge.way x.region) || is_passed edge waiting x.region x.zone) ≡ true) block.pending q
-        (all_pass (λ (x : Pending). not (hands_on edge.way x.region) || is_passed edge waiting x.region x.zone) block.pending rule.0) in_pending in
+    (all_pass (λ (x : Pending). not (hands_on edge.way x.region) || is_passed edge waiting x.region x.zone) block.pending rule.0) in_pending in
     passed_let f g edge along hold waiting q.region q.zone c (handed (hands_on edge.way q.region) (is_passed edge waiting q.region q.zone) one hands) holds
 
 pub feet_go_on : FeetGoOn
@@ -92,8 +98,8 @@ feet_go_on prog regions right f g function block ending stands is edge at hold a
     let waiting = pending_of (slice_get function.blocks edge.to.0) in
     let rule = both_true (are_passed edge waiting block.pending) (child_passed_on function.blocks edge waiting edge.way ending.terminator) (edge_passes prog f function block stands regions right ending is edge at) in
     let child : foot_passed edge waiting region (foot_of (slice_get function.blocks body.0)) ≡ true =
-        subst (λ (w : Way). child_passed_on function.blocks edge waiting w (terminator.Detach region body continuation) ≡ true) way
-        (subst (λ (x : Terminator). child_passed_on function.blocks edge waiting edge.way x ≡ true) t rule.1) in
+    subst (λ (w : Way). child_passed_on function.blocks edge waiting w (terminator.Detach region body continuation) ≡ true) way
+    (subst (λ (x : Terminator). child_passed_on function.blocks edge waiting edge.way x ≡ true) t rule.1) in
     let one = All-contains (λ (x : Zone). is_passed edge waiting region x ≡ true) (foot_of (slice_get function.blocks body.0)) z
-        (all_pass (λ (x : Zone). is_passed edge waiting region x) (foot_of (slice_get function.blocks body.0)) child) in_foot in
+    (all_pass (λ (x : Zone). is_passed edge waiting region x) (foot_of (slice_get function.blocks body.0)) child) in_foot in
     passed_let f g edge along hold waiting region z c one holds

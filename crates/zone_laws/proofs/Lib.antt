@@ -4,3 +4,6 @@ pub mod Touching
 pub mod Accesses
 pub mod Children
 pub mod Edges
+pub mod Callees
+pub mod Stays
+pub mod Tables

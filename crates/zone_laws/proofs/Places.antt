@@ -93,8 +93,17 @@ module _ (prog : Program) (f : Frame) (function : Function) (block : Block) (sta
     -- what is broken at the end, where it is this ending
     end_broken : (end : Ending) (broken : Broken) → block.ending ≡ Some end →
         IsEndBroken function (task_of regions f) block (facts_at_end prog.functions function f.block block) (edges_known prog.functions function f.block block (Some end)) (Some end) broken → ⊥
-    end_broken end broken is h = right broken (f.function, function, stands.at_function, (f.block, block, stands.at_block,
-        inr (subst (λ (o : Option Ending). IsEndBroken function (task_of regions f) block (facts_at_end prog.functions function f.block block) (edges_known prog.functions function f.block block o) o broken) (sym is) h)))
+    end_broken end broken is h = right broken (
+      f.function,
+      function,
+      stands.at_function,
+      (
+        f.block,
+        block,
+        stands.at_block,
+        inr (subst (λ (o : Option Ending). IsEndBroken function (task_of regions f) block (facts_at_end prog.functions function f.block block) (edges_known prog.functions function f.block block o) o broken) (sym is) h),
+      ),
+    )
 
     pub end_covered : (end : Ending) → block.ending ≡ Some end → (used_at_end end).covered ≡ true
     end_covered end is = true_unless (used_at_end end).covered (λ e. end_broken end (record { line = end.line; number = (used_at_end end).number }) is (inl (inl (refl, refl, e))))

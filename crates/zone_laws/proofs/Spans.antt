@@ -18,7 +18,7 @@ use Rattle.program.specs.declared.identifier.ObjectName.TheVariants.{Global, All
 use Rattle.program.specs.declared.function.Block.{Block}
 use Rattle.program.specs.declared.function.Function.{Function}
 use Rattle.program.specs.declared.function.Program.{Program}
-use Rattle.types.specs.Apart.{IsNamedBy, in_pending}
+use Rattle.types.specs.Apart.{IsNamedBy, in_pending, itself}
 use Rattle.region_match.specs.declared.tables.Regions.{Regions}
 use Rattle.footprints.specs.Zones.{Span, as_written, mode_covers, modes_agree, conflict, is_covered}
 use Rattle.footprints.specs.Cells.{terms_value, end_value, HasCell}
@@ -26,7 +26,7 @@ use Rattle.footprints.specs.Footprints.{is_own, is_allowed, is_clear}
 use Rattle.footprints.specs.Rules.{covering_of, is_own_block, place_in}
 use Rattle.footprints.proofs.CellLaws.{covered_by_one, shared_cells}
 use Rattle.bridge.specs.Costs.{numbers}
-use Rattle.zone_laws.specs.Uses.{StandsIn, NamesApart, HoldsCell, IsInOne, IsOwnCell, IsClearOf, task_of, MayUse}
+use Rattle.zone_laws.specs.Uses.{StandsIn, IsUsed, NamesApart, HoldsCell, IsInOne, IsOwnCell, IsClearOf, task_of, MayUse}
 use Rattle.zone_laws.proofs.Places.{either_true, get_is, all_pass}
 
 -- ---- ends as they are written
@@ -40,6 +40,12 @@ turned a b = omega (arith, ints)
 
 pub end_is : (v : ℕ → ℤ) (e : Combination) → end_value v [] e ≡ value v e
 end_is v e = ap (λ x. e.constant +ℤ x) (terms_are v e.terms) ∙ turned e.constant (value_of v e.terms)
+
+-- what the text names is used
+pub used_name : (functions : List Function) (f : ℕ) (name : ObjectName) → IsNamedBy functions f name → IsUsed functions f name
+used_name functions f (Global g) named = (f, itself, named)
+used_name functions f (Alloca a) named = tt
+used_name functions f (Parameter r) named = named
 
 own_is : (own : Bool) (o : ObjectName) → is_own own o ≡ true → (own ≡ true) × (a : AllocaId) × (o ≡ Alloca a)
 own_is false o h = absurd (false≢true h)
@@ -76,17 +82,17 @@ module _ (prog : Program) (regions : Regions) (f : Frame) (function : Function) 
       | inr e ↦ inr (in_one e)
     ]
 
-    agrees : (q : Pending) → IsNamedBy prog.functions f.function y.object → IsNamedBy prog.functions f.function q.zone.object → not (conflict facts (as_written q.zone) y) ≡ true → HoldsCell f q.zone c → modes_agree q.zone.mode y.zone.mode ≡ true
+    agrees : (q : Pending) → IsUsed prog.functions f.function y.object → IsNamedBy prog.functions f.function q.zone.object → not (conflict facts (as_written q.zone) y) ≡ true → HoldsCell f q.zone c → modes_agree q.zone.mode y.zone.mode ≡ true
     agrees q named other h holds =
-        let same : y.object ≡ q.zone.object = names y.object q.zone.object c.object named other object holds.object in
+        let same : y.object ≡ q.zone.object = names y.object q.zone.object c.object named (used_name prog.functions f.function q.zone.object other) object holds.object in
         shared_cells facts (as_written q.zone) y (not-true (conflict facts (as_written q.zone) y) h) (numbers f.registers) hold y.object (pos c.index) (as_cell f q.zone c y.object same holds) cell
 
-    span_clear : IsNamedBy prog.functions f.function y.object → is_clear (place_in function (task_of regions f) block facts) y ≡ true → IsClearOf f block.pending y.zone.mode c
+    span_clear : IsUsed prog.functions f.function y.object → is_clear (place_in function (task_of regions f) block facts) y ≡ true → IsClearOf f block.pending y.zone.mode c
     unfolding is_clear
     span_clear named h k d lt holds =
         agrees (slice_index_or block.pending k d) named
         (in_pending f.block k block (slice_index_or block.pending k d) (record { function = function; at_function = stands.at_function; at_block = stands.at_block }) (get_is block.pending k d lt) refl)
         (all_pass (λ (q : Pending). not (conflict facts (as_written q.zone) y)) block.pending h k d lt) holds
 
-    pub span_let : IsNamedBy prog.functions f.function y.object → is_allowed (place_in function (task_of regions f) block facts) y ≡ true → is_clear (place_in function (task_of regions f) block facts) y ≡ true → MayUse regions f function block y.zone.mode c
+    pub span_let : IsUsed prog.functions f.function y.object → is_allowed (place_in function (task_of regions f) block facts) y ≡ true → is_clear (place_in function (task_of regions f) block facts) y ≡ true → MayUse regions f function block y.zone.mode c
     span_let named a b = record { covered = span_covered a; clear = span_clear named b }

@@ -1,5 +1,5 @@
 -- What an instruction uses of the cells, and what lets a frame use a cell at its place.
-use Rattle.std.specs.Prelude.{◌≡◌, ◌⊎◌, ◌≤ℤ◌, ◌+ℤ◌, pos, Bool, true, List, Some, is_some, All, Any, length, slice_get}
+use Rattle.std.specs.Prelude.{◌≡◌, ◌⊎◌, ◌≤ℤ◌, ◌+ℤ◌, pos, ℕ, Bool, true, List, Some, is_some, All, Any, length, slice_get}
 use Rattle.syntax.specs.declared.operator.Mode.{Mode}
 use Rattle.syntax.specs.declared.operator.Mode.TheVariants.{Reads, Writes, Adds}
 use Rattle.linear.specs.Forms.{value}
@@ -12,12 +12,12 @@ use Rattle.program.specs.declared.annotation.Pending.{Pending}
 use Rattle.program.specs.declared.annotation.Zone.{Zone}
 use Rattle.program.specs.declared.identifier.AllocaId.{AllocaId}
 use Rattle.program.specs.declared.identifier.ObjectName.{ObjectName}
-use Rattle.program.specs.declared.identifier.ObjectName.TheVariants.{Alloca}
+use Rattle.program.specs.declared.identifier.ObjectName.TheVariants.{Global, Alloca, Parameter}
 use Rattle.program.specs.declared.function.Block.{Block}
 use Rattle.program.specs.declared.function.Function.{Function}
 use Rattle.program.specs.declared.function.Program.{Program}
 use Rattle.program.specs.declared.instruction.Step.{Step}
-use Rattle.types.specs.Apart.{IsNamedBy}
+use Rattle.types.specs.Apart.{IsNamedBy, NamesGlobal}
 use Rattle.region_match.specs.declared.tables.Regions.{Regions}
 use Rattle.region_match.specs.declared.task.Task.{Task}
 use Rattle.region_match.specs.Tasks.{task_at}
@@ -47,10 +47,16 @@ pub record KnownHolds (prog : Program) (f : Frame) (function : Function) (block 
   pub at_step : (step : Step) → slice_get block.steps f.index ≡ Some step → AllHold (numbers f.registers) (facts_at_step prog.functions function f.block block f.index)
   pub at_end : f.index ≡ length block.steps → AllHold (numbers f.registers) (facts_at_end prog.functions function f.block block)
 
--- two names in the text of its function that stand for one object are one name
+-- a name that the function's text has, or a global that a function has that it calls
+abbrev pub IsUsed : List Function → ℕ → ObjectName → Type 0
+IsUsed functions f (Global global) = NamesGlobal functions f global
+IsUsed functions f (Alloca alloca) = Unit {0}
+IsUsed functions f (Parameter register) = IsNamedBy functions f (Parameter register)
+
+-- two of these names that stand for one object are one name
 abbrev pub NamesApart : Program → Frame → Type 0
 NamesApart prog f =
-    (a b : ObjectName) (o : Object) → IsNamedBy prog.functions f.function a → IsNamedBy prog.functions f.function b → object_at f a ≡ Some o → object_at f b ≡ Some o → a ≡ b
+    (a b : ObjectName) (o : Object) → IsUsed prog.functions f.function a → IsUsed prog.functions f.function b → object_at f a ≡ Some o → object_at f b ≡ Some o → a ≡ b
 
 -- the register of an element holds the cell that the `getelementptr` of the block names, as the registers are
 abbrev pub ElementsHold : Frame → Block → Type 0

@@ -76,7 +76,8 @@ fn knows_no_other_words(rt: HostRuntime) -> Result<(), Fail> {
         "tapirvm run m.ll",
         "tapirvm run m.ll --workers 1 --workers 2",
         "tapirvm run m.ll --workers x",
-        "tapirvm verify m.ll",
+        "tapirvm verify m.ll --workers 1",
+        "tapirvm debug m.ll",
     ];
     for line in wrong {
         let (status, output) = told(&rt, line, Some(LOAD.as_bytes()), None)?;
