@@ -1,7 +1,7 @@
 ghost use Rattle.std.specs.Prelude.{◌≡◌, Err, MatchOption};
 ghost use Rattle.serial_machine.specs.Requirements.{unmet_in};
 ghost use Rattle.serial_machine.specs.Serially.{Answers, RunsTo};
-ghost use Rattle.verifier.specs.Budgets.{declared_budget};
+ghost use Rattle.verifier.specs.Budgets.{budget_of};
 
 use crate::arguments::unmet_requirement;
 use crate::outcome::{Finished, Halt, RunFault};
@@ -54,7 +54,7 @@ pub fn serial_run(
     memory: Memory,
 ) -> Result<Finished, RunFault>
     ensures { MatchOption (unmet_in verified.now arguments.now)
-        (Answers verified.now arguments.now memory (declared_budget verified.now) result)
+        (Answers verified.now arguments.now memory (budget_of verified.now) result)
         (λ r. result ≡ Err (RunFault.BadArguments r memory)) }
 {
     let program = verified.program();
