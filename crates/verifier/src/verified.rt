@@ -53,14 +53,16 @@ impl Verified {
         &self.graph
     }
 
-    /// The greatest number of instructions of a run: what a call of `main` costs at its greatest measure, at most 1,000,000,000,000.
+    /// The budget of a run, in instructions: what a call of `main` costs at its greatest measure by the rules on cost, at most
+    /// 1,000,000,000,000. That runs keep to it is not proved yet, so the machine tests for it.
     pub fn budget(&self) -> u64
         ensures { result ≡ budget_of self.now }
     {
         self.budget
     }
 
-    /// How many frames a run stands on one another at most: the depth of `main` at its greatest measure.
+    /// How many frames a serial run stands on one another at most by the table: the depth of `main` at its greatest measure. That
+    /// runs keep to it is not proved yet.
     pub fn depth(&self) -> u64
         ensures { IsDepthOf self.now result }
     {
