@@ -3,6 +3,7 @@ ghost use Rattle.std.specs.Vec.{with_item};
 ghost use Rattle.cactus.specs.Frames.{Lives, frame_at};
 ghost use Rattle.schedule_core.specs.Scheduling.{hand_of, IsIdle, IsReady};
 ghost use Rattle.frame.specs.declared.path.Path.{Path};
+ghost use Rattle.serial_machine.specs.Requirements.{unmet_in};
 ghost use Rattle.store.specs.declared.memory.Memory.{Memory};
 ghost use Rattle.store.specs.Cells.{cell_named};
 ghost use Rattle.machine_core.specs.Events.{Step};
@@ -63,6 +64,8 @@ impl<'v> Machine<'v> {
         ensures in_range { OnOk result (IsNumberOfWorkers workers) }
         ensures bad_workers { (m : Memory) → result ≡ Err (RunFault.BadWorkers m) → (m ≡ memory) × ¬ IsNumberOfWorkers workers }
         ensures bad_arguments { (requirement : ℕ) (m : Memory) → result ≡ Err (RunFault.BadArguments requirement m) → m ≡ memory }
+        ensures unmet { (requirement : ℕ) (m : Memory) → result ≡ Err (RunFault.BadArguments requirement m) → unmet_in verified.now arguments.now ≡ Some requirement }
+        ensures met { OnOk result (unmet_in verified.now arguments.now ≡ None) }
     {
         let program = verified.program();
         if let Some(requirement) = unmet_requirement(program, arguments) {

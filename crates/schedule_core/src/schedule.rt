@@ -1,4 +1,5 @@
-ghost use Rattle.std.specs.Prelude.{◌≡◌, ℕ, IfOk, OnOk};
+ghost use Rattle.std.specs.Prelude.{◌≡◌, ℕ, Some, None, IfOk, OnOk};
+ghost use Rattle.serial_machine.specs.Requirements.{unmet_in};
 ghost use Rattle.store.specs.declared.memory.Memory.{Memory};
 ghost use Rattle.schedule_core.specs.Running.{IsTrapped, IsNumberOfWorkers};
 ghost use Rattle.schedule_core.specs.Stepping.{Replays};
@@ -29,6 +30,8 @@ pub fn replay<'v>(
     ensures in_range { OnOk result (IsNumberOfWorkers workers) }
     ensures bad_workers { (m : Memory) → result ≡ Err (RunFault.BadWorkers m) → (m ≡ memory) × ¬ IsNumberOfWorkers workers }
     ensures bad_arguments { (requirement : ℕ) (m : Memory) → result ≡ Err (RunFault.BadArguments requirement m) → m ≡ memory }
+    ensures unmet { (requirement : ℕ) (m : Memory) → result ≡ Err (RunFault.BadArguments requirement m) → unmet_in verified.now arguments.now ≡ Some requirement }
+    ensures met { OnOk result (unmet_in verified.now arguments.now ≡ None) }
 {
     let mut machine = Machine::start(alloc, verified, arguments, memory, workers)?;
     match machine.apply_all(events) {
