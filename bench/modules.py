@@ -49,10 +49,11 @@ def filled(part, limit):
     return ["".join(part(f"f{f}") for f in range(count)) for count in (half, 2 * half)]
 
 def known(facts):
-    """A block at whose end so many facts are known, and a `shows` line for which no pair of them is enough."""
-    out = ["define i64 @main(i64 %n) {\nentry:\n"]
-    out += [f"%x{k} = and i64 %n, 7\n" for k in range(facts // 2)]
-    return "".join(out) + ";! shows 2*%n >= 0\nret i64 0\n}\n"
+    """A block at whose end so many facts are known, all of the same two registers, and a `shows` line with two factors that no two of them show."""
+    out = ["define i64 @main(i64 %n, i64 %m) {\n;! requires 3*%n+2*%m >= 0\nentry:\n"]
+    for k in range(1, facts):
+        out.append(f";! shows 3*%n+2*%m >= {-k}\n" + (f"%x{k} = add i64 %n, 0\n" if k % 32 == 0 else ""))
+    return "".join(out) + ("" if facts % 32 else f"%x = add i64 %n, 0\n") + ";! shows 5*%n+7*%m >= 1\nret i64 0\n}\n"
 
 def steps(count):
     """So many sums in one block, each of the one before; two `shows` lines before each bound it by the two facts that stand last."""
@@ -73,6 +74,45 @@ def pending(blocks):
         out.append(f"br label %a{block + 1}\n" if block < blocks - 1 else "sync within %s, label %e\n")
     return "".join(out) + "e:\n;! left 0 1\nret i64 0\n}\n"
 
+def children(name, blocks, allocas, turned=False):
+    """So many blocks: detaches in a row, each within a region of its own, and then their syncs. Each alloca is stored by one child, and
+    added to at the end. With `turned` the blocks stand in the text from the last to the first."""
+    count = (blocks - 2) // 3
+    entry = [f"%x{k} = alloca i64\n" for k in range(allocas)] + [f"%r{k} = call token @llvm.syncregion.start()\n" for k in range(count)]
+    out = []
+    for k in range(count):
+        out.append([f"d{k}:\n"] + [f"store i64 1, ptr %x{a}\n" for a in range(k, allocas, count)] + [f"reattach within %r{k}, label %c{k}\n"])
+        out.append([f"c{k}:\n", f"detach within %r{k + 1}, label %d{k + 1}, label %c{k + 1}\n" if k < count - 1 else "br label %s0\n"])
+    for k in range(count):
+        out.append([f"s{k}:\n", f"sync within %r{k}, label %s{k + 1}\n"])
+    out.append([f"s{count}:\n"] + [f"atomicrmw add ptr %x{a}, i64 1 seq_cst\n" for a in range(allocas)] + ["ret i64 0\n"])
+    first = ["entry:\n"] + entry + ["detach within %r0, label %d0, label %c0\n"]
+    return f"define i64 @{name}(i64 %n) {{\n" + "".join("".join(block) for block in [first] + (out[::-1] if turned else out)) + "}\n"
+
+def nested(name, blocks, allocas):
+    """Children within children: each starts a region of its own, and the innermost one stores all allocas."""
+    count = (blocks - 2) // 3
+    out = ["entry:\n"] + [f"%x{k} = alloca i64\n" for k in range(allocas)]
+    for k in range(count):
+        out.append(f"%r{k} = call token @llvm.syncregion.start()\ndetach within %r{k}, label %d{k}, label %c{k}\nd{k}:\n")
+    out += [f"store i64 1, ptr %x{a}\n" for a in range(allocas)] + [f"reattach within %r{count - 1}, label %c{count - 1}\n"]
+    for k in range(count - 1, -1, -1):
+        out.append(f"c{k}:\nsync within %r{k}, label %s{k}\ns{k}:\n")
+        out.append(f"reattach within %r{k - 1}, label %c{k - 1}\n" if k else "".join(f"atomicrmw add ptr %x{a}, i64 1 seq_cst\n" for a in range(allocas)) + "ret i64 0\n")
+    return f"define i64 @{name}(i64 %n) {{\n" + "".join(out) + "}\n"
+
+def endless(name, blocks, allocas):
+    """Detaches in a row of children that never end, and then their syncs: behind those nothing runs, so that each alloca is sure."""
+    count = (blocks - 2) // 4
+    out = ["entry:\n"] + [f"%x{k} = alloca i64\n" for k in range(allocas)] + [f"%r{k} = call token @llvm.syncregion.start()\n" for k in range(count)]
+    out.append("detach within %r0, label %d0, label %c0\n")
+    for k in range(count):
+        out.append(f"d{k}:\nbr label %e{k}\ne{k}:\nbr label %e{k}\nc{k}:\n")
+        out.append(f"detach within %r{k + 1}, label %d{k + 1}, label %c{k + 1}\n" if k < count - 1 else "br label %s0\n")
+    out += [f"s{k}:\nsync within %r{k}, label %s{k + 1}\n" for k in range(count)]
+    out += [f"s{count}:\n"] + [f"atomicrmw add ptr %x{a}, i64 1 seq_cst\n" for a in range(allocas)] + ["ret i64 0\n"]
+    return f"define i64 @{name}(i64 %n) {{\n" + "".join(out) + "}\n"
+
 def plain(size):
     """A module of this many bytes: functions of blocks with annotations, adds, branches and returns."""
     main = "define i64 @main(i64 %n) {\n;! budget 0 1\nentry:\n;! left 0 1\nret i64 0\n}\n"
@@ -90,3 +130,12 @@ def plain(size):
         count += 1
     text = "".join(out) + main
     return text + ";" * (size - len(text) - 1) + "\n"
+
+def costly(size):
+    """A module of at most this many bytes: calls of a function whose greatest measure is the greatest that there is."""
+    def module(count):
+        total = 4098 * count + 1
+        head = "define void @f() {\n;! measure 0 max 4096\n;! budget 1 1\nentry:\n;! left 0 1\nret void\n}\n"
+        body = f"define i64 @main(i64 %n) {{\n;! budget 0 {total}\nentry:\n;! left 0 {total}\n" + "call void @f()\n" * count + "ret i64 0\n}\n"
+        return head + body
+    return module((size - len(module(10 ** 5)) + 15 * 10 ** 5) // 15)

@@ -5,8 +5,6 @@
 
 mod cactus;
 mod node;
-#[cfg(test)]
-mod tests;
 
 pub use cactus::Cactus;
 pub use node::Node;

@@ -1,5 +1,5 @@
 -- The table of depths, as the bridge to the schedule theorem asks for it.
-use Rattle.std.specs.Prelude.{◌≡◌, ◌≢◌, ℕ, suc, ◌+◌, ◌≤◌, List, Option, Some, None, slice_get}
+use Rattle.std.specs.Prelude.{◌≡◌, ℕ, ◌≤◌, List, Option, Some, None, slice_get}
 use Rattle.linear.specs.declared.form.RegisterId.{RegisterId}
 use Rattle.machine_core.specs.Frames.{Does, item_at}
 use Rattle.program.specs.declared.function.Function.{Function}

@@ -1,1 +1,4 @@
 pub mod Depths
+pub mod Levels
+pub mod Shown
+pub mod Ends

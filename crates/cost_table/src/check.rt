@@ -1,8 +1,7 @@
-ghost use Rattle.std.specs.Prelude.{◌≡◌, ℕ, Some, IfOk, IfErr, OnOk, slice_get, []};
+ghost use Rattle.std.specs.Prelude.{Some, IfOk, IfErr, OnOk, slice_get};
 ghost use Rattle.cfg.specs.declared.refusal.Broken.{Broken};
 ghost use Rattle.region_match.specs.ByLabel.{IsNamed};
-ghost use Rattle.ranges.specs.Inequalities.{differences_of};
-ghost use Rattle.ranges.specs.Places.{stated, start_facts, IsFunctionTable, AreFacts};
+ghost use Rattle.ranges.specs.Places.{IsFunctionTable, AreFacts};
 ghost use Rattle.cost_table.specs.Rules.{known_at, IsEndingUncovered, AreStepsNotFalling, IsEntryBroken, IsBlockBrokenBy, AreBlocksBroken, IsFunctionBroken, IsCostBroken, IsCostFault};
 ghost use Rattle.cost_table.specs.Tables.{IsTable};
 
@@ -15,48 +14,10 @@ use crate::work::work_of;
 use cfg::{Broken, Graph, lower};
 use linear::Fact;
 use lists::OutOfMemory;
-use program::{Block, Function, Inequality, Program};
-use ranges::{BlockFacts, Facts, FunctionFacts, Sum, difference_of, push_facts};
+use program::{Block, Function, Program};
+use ranges::{BlockFacts, Facts, FunctionFacts, start_facts, stated};
 use region_match::Regions;
 use std::alloc::Global;
-
-/// What each inequality says of a difference.
-fn differences_of(alloc: Global, inequalities: &[Inequality]) -> Result<Vec<Sum>, OutOfMemory>
-    ensures { IfOk result (λ sums. sums.items ≡ differences_of [] inequalities.now) }
-{
-    let mut sums = Vec::new(alloc);
-    for inequality in inequalities {
-        sums.push(difference_of(alloc, &[], inequality)?)?;
-    }
-    Ok(sums)
-}
-
-/// Inequalities as facts.
-fn stated(alloc: Global, inequalities: &[Inequality]) -> Result<Vec<Fact>, OutOfMemory>
-    ensures { IfOk result (λ facts. facts.items ≡ stated inequalities.now) }
-{
-    let sums = differences_of(alloc, inequalities)?;
-    let mut facts = Vec::new(alloc);
-    push_facts(alloc, &mut facts, &sums)?;
-    Ok(facts)
-}
-
-/// The facts at a block's start.
-fn start_facts(
-    alloc: Global,
-    function: &Function,
-    index: usize,
-    block: &Block,
-) -> Result<Vec<Fact>, OutOfMemory>
-    ensures { IfOk result (λ facts. facts.items ≡ start_facts function.now index block.now) }
-{
-    let inequalities = if index == 0 {
-        function.requirements.as_slice()
-    } else {
-        block.keeps.as_slice()
-    };
-    stated(alloc, inequalities)
-}
 
 /// What is broken at the end of a block.
 fn ending_fault(

@@ -28,6 +28,3 @@ pub use check::check_cost;
 pub use entry::Entry;
 pub use fault::CostFault;
 pub use table::{Table, make_table};
-
-#[cfg(test)]
-mod tests;

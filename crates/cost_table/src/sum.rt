@@ -1,60 +1,16 @@
-ghost use Rattle.std.specs.Prelude.{◌≡◌, ℕ, ◌++◌, ◌<◌, ◌+◌, ◌^◌, ◌⊎◌, ◌*ℤ◌, ◌-ℤ◌, pos, negsuc, IfOk, OnOk, unsigned_abs, []};
-ghost use Rattle.linear.specs.Forms.{AreSmall};
-ghost use Rattle.ranges.specs.Inequalities.{operand_for, parts_of};
+ghost use Rattle.std.specs.Prelude.{◌≡◌, ℕ, ◌<◌, ◌+◌, ◌^◌, ◌-ℤ◌, pos, IfOk, unsigned_abs, []};
 ghost use Rattle.ranges.specs.Sums.{shows};
 ghost use Rattle.cost_table.specs.Rules.{left_behind, less_form, put_in, number_less};
 ghost use Rattle.cost_table.specs.Tables.{as_u128};
 
 use cfg::Move;
-use linear::{Fact, Form, RegisterId, Term, side_of};
+use linear::{Fact, Form, side_of};
 use lists::{OutOfMemory, Seq};
-use program::Operand;
-use ranges::{Part, Sum, shows};
+use ranges::{Sum, push_parts, shows};
 use std::alloc::Global;
 
 /// With so much done nothing is left, whatever the forms are: their constants are below 2^100, and this is 2^104.
 const TOO_MUCH: u128 = 20_282_409_603_651_670_423_947_251_286_016;
-
-/// What the moves put in for a register; a register that they do not name stays.
-fn operand_for(moves: &[Move], register: RegisterId) -> Operand
-    ensures { result ≡ operand_for moves.now register }
-{
-    for item in moves {
-        if item.register.0 == register.0 {
-            return item.value;
-        }
-    }
-    Operand::Register(register)
-}
-
-/// A coefficient, or its opposite.
-fn signed(sign: i64, coefficient: i64) -> i64
-    requires sign { (sign ≡ pos 1) ⊎ (sign ≡ negsuc 0) }
-    requires coefficient { unsigned_abs coefficient < 2 ^ 24 }
-    ensures { result ≡ sign *ℤ coefficient }
-{
-    sign * coefficient
-}
-
-/// Adds the terms of a form, or their opposites, with the moves' operands put in.
-fn push_parts(
-    parts: &mut Vec<Part>,
-    moves: &[Move],
-    sign: i64,
-    terms: &[Term],
-) -> Result<(), OutOfMemory>
-    requires sign { (sign ≡ pos 1) ⊎ (sign ≡ negsuc 0) }
-    requires small { AreSmall terms.now }
-    ensures { OnOk result (parts.new.items ≡ parts.old.items ++ parts_of moves.now sign terms.now) }
-{
-    for term in terms {
-        parts.push(Part {
-            factor: signed(sign, term.coefficient),
-            operand: operand_for(moves, term.register),
-        })?;
-    }
-    Ok(())
-}
 
 /// A constant, less what is done and two others.
 fn constant_left(left: i128, done: u128, first: i128, second: i128) -> i128

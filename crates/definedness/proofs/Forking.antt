@@ -1,10 +1,8 @@
--- The blocks that end children, one by one.
-use Rattle.std.proofs.Common.{◌≡◌, ◌↔◌, ℕ, ◌+◌, ◌<◌, ◌≤◌, List, [], ◌∷◌, ◌++◌, length, get_or, Some, inl, inr, refl, sym, ap, subst, ◌∙◌, ⊎_elim, arith}
+-- What terminators do to children, block by block.
+use Rattle.std.proofs.Common.{◌≡◌, ◌↔◌, ℕ, ◌+◌, ◌<◌, List, [], ◌∷◌, ◌++◌, length, get_or, Some, inl, inr, refl, sym, ap, subst, ◌∙◌, arith}
 use Rattle.std.specs.Prelude.{slice_get}
-use Rattle.std.specs.List.{Contains}
 use Rattle.std.proofs.lemmas.Bool.{cases_eq, cases_lt}
 use Rattle.std.proofs.lemmas.List.{length_push, get_or_append_left, get_or_push}
-use Rattle.std.proofs.lemmas.List.Elements.{Contains-append_left, Contains-push, Contains-push_cases}
 use Rattle.std.proofs.lemmas.Option.{slice_get-get_or, slice_get_within, slice_get_past}
 use Rattle.program.specs.declared.function.Block.{Block}
 use Rattle.cfg.specs.declared.structure.BlockEdges.{BlockEdges}
@@ -24,40 +22,16 @@ end_within bodies b r = elim (cases_lt b (length bodies)) [
   | inr past ↦ absurd (let none = slice_get_past bodies b past in let e = rw none at r.2 in cc)
 ]
 
-pub record EndsBelow (bodies : List Block) (blocks : List BlockEdges) (detach n : ℕ) (ends : List ℕ) : Type 0 where
-  pub to : (end : ℕ) → Contains ends end → IsEndOf bodies blocks detach end
-  pub from : (end : ℕ) → end < n → IsEndOf bodies blocks detach end → Contains ends end
-
-pub ends_none : (bodies : List Block) (blocks : List BlockEdges) (detach : ℕ) → EndsBelow bodies blocks detach 0 []
-ends_none bodies blocks detach = record { to = λ end c. absurd (omega (arith, c.1)); from = λ end l. absurd (omega (arith, l)) }
-
-pub ends_more : (bodies : List Block) (blocks : List BlockEdges) (tasks : List Task) (detach n : ℕ) (ends : List ℕ) → AreTasks blocks tasks → length blocks ≡ length bodies → n < length bodies → IsReattach (ending_at bodies n) → task_at tasks n ≡ Child (record { 0 = detach }) → EndsBelow bodies blocks detach n ends → EndsBelow bodies blocks detach (n + 1) (ends ++ n ∷ [])
-ends_more bodies blocks tasks detach n ends t size l r child e =
-    let task = child_task bodies blocks tasks t size n (record { 0 = detach }) (omega (arith, l, size)) child in
-    let here : IsEndOf bodies blocks detach n = (r, task.0, task.1) in
-    record {
-      to = λ end c. ⊎_elim (λ old. e.to end old) (λ same. subst (IsEndOf bodies blocks detach) same here) (Contains-push_cases ends n end c);
-      from = λ end w is. elim (cases_eq end n) [
-        | inl same ↦ rw same (Contains-push ends n)
-        | inr ne ↦ Contains-append_left ends (n ∷ []) end (e.from end (omega (arith, w, ne)) is)
-      ];
-    }
-
-pub ends_skip : (bodies : List Block) (blocks : List BlockEdges) (detach n : ℕ) (ends : List ℕ) → (IsEndOf bodies blocks detach n → ⊥) → EndsBelow bodies blocks detach n ends → EndsBelow bodies blocks detach (n + 1) ends
-ends_skip bodies blocks detach n ends none e = record {
-  to = e.to;
-  from = λ end w is. elim (cases_eq end n) [
-    | inl same ↦ absurd (none (subst (IsEndOf bodies blocks detach) same is))
-    | inr ne ↦ e.from end (omega (arith, w, ne)) is
-  ];
-}
-
 -- the task of a block that ends a child
 pub end_task : (bodies : List Block) (blocks : List BlockEdges) (tasks : List Task) (detach n : ℕ) → AreTasks blocks tasks → length blocks ≡ length bodies → n < length bodies → IsEndOf bodies blocks detach n → task_at tasks n ≡ Child (record { 0 = detach })
 end_task bodies blocks tasks detach n t size l is = label_of_task bodies blocks tasks t size n (detach ∷ is.1) (omega (arith, l, size)) is.2
 
-pub ends_all : (bodies : List Block) (blocks : List BlockEdges) (detach n : ℕ) (ends : List ℕ) → length bodies ≤ n → EndsBelow bodies blocks detach n ends → (end : ℕ) → Contains ends end ↔ IsEndOf bodies blocks detach end
-ends_all bodies blocks detach n ends past e end = (e.to end, λ is. e.from end (let w = end_within bodies end is.0 in omega (arith, w, past)) is)
+-- a block of this task that ends with a reattach ends the child of its detach
+pub ends_child : (bodies : List Block) (blocks : List BlockEdges) (tasks : List Task) (n : ℕ) → AreTasks blocks tasks → length blocks ≡ length bodies → n < length bodies → IsReattach (ending_at bodies n) → (detach : ℕ) → (task_at tasks n ≡ Child (record { 0 = detach })) ↔ IsEndOf bodies blocks detach n
+ends_child bodies blocks tasks n t size l r detach = (
+  λ child. let task = child_task bodies blocks tasks t size n (record { 0 = detach }) (omega (arith, l, size)) child in (r, task.0, task.1),
+  λ is. end_task bodies blocks tasks detach n t size l is,
+)
 
 pub record ForksBelow (bodies : List Block) (blocks : List BlockEdges) (n : ℕ) (forks : List Fork) : Type 0 where
   pub size : length forks ≡ n

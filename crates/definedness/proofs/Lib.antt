@@ -1,13 +1,14 @@
 mod Always
+mod Due
 mod Forking
+mod Greatest
 mod Judged
 mod Labelled
-mod Listing
 mod Lookups
 mod NeverSure
 mod Paths
+mod OnOk
 mod Places
-mod Relaxing
+mod Settling
 mod Tables
-mod TakingOut
 mod Undefined

@@ -1,5 +1,5 @@
--- What a block detaches, as the tables have it.
-use Rattle.std.specs.Prelude.{◌≡◌, ◌↔◌, ℕ, List, Some, Contains}
+-- What the terminator of a block does to children, as the table has it.
+use Rattle.std.specs.Prelude.{◌≡◌, ◌↔◌, ℕ, List, Some}
 use Rattle.linear.specs.declared.form.RegisterId.{RegisterId}
 use Rattle.program.specs.declared.function.Block.{Block}
 use Rattle.cfg.specs.declared.structure.BlockEdges.{BlockEdges}
@@ -8,4 +8,4 @@ use Rattle.definedness.specs.Sure.{IsFork, IsEndOf}
 
 pub record IsForkOf (bodies : List Block) (blocks : List BlockEdges) (b : ℕ) (fork : Fork) : Type 0 where
   pub region : (region : RegisterId) → (fork.region ≡ Some region) ↔ IsFork bodies b region
-  pub ends : (end : ℕ) → Contains fork.ends end ↔ IsEndOf bodies blocks b end
+  pub ended : (detach : ℕ) → (fork.ended ≡ Some detach) ↔ IsEndOf bodies blocks detach b

@@ -1,12 +1,10 @@
 pub mod Acts
 pub mod AllocaActs
-pub mod Begun
 pub mod Definedness
 pub mod ForkOf
 pub mod Judging
 pub mod Missing
 pub mod Needs
 pub mod RegisterActs
+pub mod Settling
 pub mod Sure
-pub mod Sweeps
-pub mod TakenOut

@@ -11,7 +11,6 @@ use crate::allocas::block_allocas;
 use crate::fault::DefinedFault;
 use crate::fork::all_forks;
 use crate::judge::table_fault;
-use crate::labels::synced_regions;
 use crate::missing::missing_rows;
 use crate::registers::block_registers;
 use crate::table::{Given, Row, all_given, count_needed};
@@ -81,9 +80,8 @@ fn alloca_rows(
     requires size { length blocks.now ≡ length bodies.now }
     ensures { IfOk result (λ rows. (n b : ℕ) → n < count → b < length blocks.now → (mark_at rows.items n b ≡ true) ↔ IsNeverSure bodies.now blocks.now all.now n b) }
 {
-    let regions = synced_regions(alloc, blocks)?;
     let forks = all_forks(alloc, bodies, blocks, tasks)?;
-    Ok(unsure_rows(alloc, bodies, blocks, &forks, &regions, all, count)?)
+    Ok(unsure_rows(alloc, bodies, blocks, &forks, all, count)?)
 }
 
 /// 402: what is named of the allocas of a function.

@@ -1,4 +1,4 @@
-ghost use Rattle.std.specs.Prelude.{◌≡◌, ◌<◌, ◌↔◌, ℕ, Some, length, Contains, IsTrue, IfOk, slice_get};
+ghost use Rattle.std.specs.Prelude.{◌≡◌, ◌<◌, ◌↔◌, ℕ, Some, length, IsTrue, IfOk, slice_get};
 ghost use Rattle.std.specs.Option.{option_copied};
 ghost use Rattle.definedness.specs.declared.fork.Fork.{Fork};
 ghost use Rattle.linear.specs.declared.form.RegisterId.{RegisterId};
@@ -9,16 +9,15 @@ ghost use Rattle.definedness.specs.Sure.{IsFork, IsReattach, IsEndOf};
 ghost use Rattle.definedness.specs.ForkOf.{IsForkOf};
 
 use cfg::BlockEdges;
-use lists::Seq;
 use program::{Block, RegisterId, Terminator};
 use region_match::Task;
 use std::alloc::{AllocError, Global};
 
-/// The detach at the end of a block: its region, and the blocks that end its child.
+/// What the terminator of a block does to children: the region of its detach, and the detach whose child it ends.
 #[derive(Debug, Drop)]
 pub struct Fork {
     pub region: Option<RegisterId>,
-    pub ends: Seq<usize>,
+    pub ended: Option<usize>,
 }
 
 /// The terminator of the block of a number.
@@ -54,39 +53,37 @@ fn is_reattach(bodies: &[Block], block: usize) -> bool
     }
 }
 
-/// Whether a block is of the child of a detach itself.
-fn is_child(task: Task, detach: usize) -> bool
-    ensures { IsTrue result ↔ (task ≡ Child (record { 0 = detach })) }
+/// The detach whose child a block of this task is in itself.
+fn child_of(task: Task) -> Option<usize>
+    ensures { (detach : ℕ) → (result ≡ Some detach) ↔ (task ≡ Child (record { 0 = detach })) }
 {
     match task {
-        Task::Child(its) => its.0 == detach,
-        Task::Unreached | Task::Body => false,
+        Task::Child(its) => Some(its.0),
+        Task::Unreached | Task::Body => None,
     }
 }
 
-/// The blocks that end the child of a detach.
-fn child_ends(
-    alloc: Global,
+/// The detach whose child a block ends.
+fn ended_detach(
     bodies: &[Block],
     blocks: &[BlockEdges],
     tasks: &[Task],
-    detach: usize,
-) -> Result<Vec<usize>, AllocError>
+    block: usize,
+) -> Option<usize>
     requires tasks { AreTasks blocks.now tasks.now }
     requires size { length blocks.now ≡ length bodies.now }
-    ensures { IfOk result (λ ends. (end : ℕ) → Contains ends.items end ↔ IsEndOf bodies.now blocks.now detach end) }
+    requires within { block < length bodies.now }
+    ensures { (detach : ℕ) → (result ≡ Some detach) ↔ IsEndOf bodies.now blocks.now detach block }
 {
     let _blocks = blocks;
-    let mut ends: Vec<usize> = Vec::new(alloc);
-    for block in 0..bodies.len() {
-        if is_reattach(bodies, block) && is_child(tasks[block], detach) {
-            ends.push(block)?;
-        }
+    if is_reattach(bodies, block) {
+        child_of(tasks[block])
+    } else {
+        None
     }
-    Ok(ends)
 }
 
-/// What each block detaches.
+/// What the terminator of each block does to children.
 pub fn all_forks(
     alloc: Global,
     bodies: &[Block],
@@ -100,10 +97,9 @@ pub fn all_forks(
 {
     let mut forks: Vec<Fork> = Vec::with_capacity(alloc, bodies.len())?;
     for block in 0..bodies.len() {
-        let ends = child_ends(alloc, bodies, blocks, tasks, block)?;
         forks.push(Fork {
             region: fork_region(bodies, block),
-            ends: Seq::from_vec(ends),
+            ended: ended_detach(bodies, blocks, tasks, block),
         })?;
     }
     Ok(forks)

@@ -7,11 +7,10 @@ mod check;
 mod fault;
 mod fork;
 mod judge;
-mod labels;
 mod missing;
 mod registers;
 mod sets;
-mod sweep;
+mod settle;
 mod table;
 mod unsure;
 

@@ -1,14 +1,73 @@
-ghost use Rattle.std.specs.Prelude.{◌≡◌, true};
-ghost use Rattle.definedness.specs.Sweeps.{label_of};
-ghost use Rattle.definedness.specs.TakenOut.{TakesOut};
+ghost use Rattle.std.specs.Prelude.{◌≡◌, ◌⊎◌, ◌↔◌, ◌&&◌, ◌||◌, ◌==◌, ◌+◌, ◌≤◌, ℕ, length, true, false, slice_index_or, IfOk, OnOk};
+ghost use Rattle.std.specs.List.{filter};
+ghost use Rattle.linear.specs.declared.form.RegisterId.{RegisterId};
+ghost use Rattle.definedness.specs.Settling.{has, due_in, label_at, label_of};
 
+use lists::Seq;
 use program::RegisterId;
+use std::alloc::{AllocError, Global};
 
-/// Of one alloca: the blocks at whose start it is sure, and those at whose start it is due, a row for each region's register.
+/// Of one alloca, at the start of a block.
+#[derive(Debug, Drop)]
+pub enum Label {
+    /// It has a value, whatever children are running.
+    Sure,
+    /// It has one once the children of any of these regions are over.
+    Due(Seq<RegisterId>),
+}
+
+/// Of one alloca: a label for each block, and a mark for each detach whose child ends somewhere without a value.
 #[derive(Debug, Drop)]
 pub struct Sets {
-    pub sure: Vec<bool>,
-    pub due: Vec<Vec<bool>>,
+    pub labels: Vec<Label>,
+    pub lacking: Vec<bool>,
+}
+
+/// Whether a region is listed.
+fn is_among(regions: &[RegisterId], region: RegisterId) -> bool
+    ensures { result ≡ has regions.now region }
+{
+    regions.iter().any(|its| its.0 == region.0)
+}
+
+/// Whether a region is listed. Looks at this place first.
+fn is_found(regions: &[RegisterId], place: usize, region: RegisterId) -> bool
+    ensures { result ≡ has regions.now region }
+{
+    if let Some(its) = regions.get(place) {
+        if its.0 == region.0 {
+            return true;
+        }
+    }
+    is_among(regions, region)
+}
+
+/// The regions of both lists. Takes time in proportion to the lists where they are the same.
+pub fn both(
+    alloc: Global,
+    left: &[RegisterId],
+    right: &[RegisterId],
+) -> Result<Vec<RegisterId>, AllocError>
+    ensures { IfOk result (λ kept. kept.items ≡ filter (λ its. has right.now its) left.now) }
+{
+    let mut kept: Vec<RegisterId> = Vec::new(alloc);
+    for (place, its) in left.iter().enumerate() {
+        if is_found(right, place, *its) {
+            kept.push(*its)?;
+        }
+    }
+    Ok(kept)
+}
+
+/// Lists a region, once.
+pub fn add_region(regions: &mut Vec<RegisterId>, region: RegisterId) -> Result<(), AllocError>
+    ensures few { OnOk result (length regions.new.items ≤ length regions.old.items + 1) }
+    ensures exact { OnOk result ((r : RegisterId) → has regions.new.items r ≡ (has regions.old.items r || (region.0 == r.0))) }
+{
+    if !is_among(regions, region) {
+        regions.push(region)?;
+    }
+    Ok(())
 }
 
 impl Sets {
@@ -16,29 +75,32 @@ impl Sets {
     pub fn is_in(&self, region: Option<RegisterId>, block: usize) -> bool
         ensures { result ≡ label_of self.now region block }
     {
-        match region {
-            None => match self.sure.get(block) {
-                Some(mark) => *mark,
-                None => false,
-            },
-            Some(its) => match self.due.get(its.0) {
-                Some(row) => match row.get(block) {
-                    Some(mark) => *mark,
-                    None => false,
-                },
-                None => false,
-            },
+        match (self.labels.get(block), region) {
+            (Some(Label::Sure), _) => true,
+            (Some(Label::Due(regions)), Some(its)) => is_among(regions.as_slice(), its),
+            (Some(Label::Due(_)), None) => false,
+            (None, _) => false,
         }
     }
 
-    /// Takes it out of a set that it is in.
-    pub fn take_out(&mut self, region: Option<RegisterId>, block: usize)
-        requires { label_of self.old region block ≡ true }
-        ensures { TakesOut region block self.old self.new }
+    /// Whether the child of a detach ends somewhere without a value.
+    pub fn is_lacking(&self, detach: usize) -> bool
+        ensures { result ≡ slice_index_or self.now.lacking.items detach false }
     {
-        match region {
-            None => self.sure[block] = false,
-            Some(its) => self.due[its.0][block] = false,
+        match self.lacking.get(detach) {
+            Some(mark) => *mark,
+            None => false,
+        }
+    }
+
+    /// The regions in whose sets it is at the start of a block where it is not sure.
+    pub fn copy_due(&self, alloc: Global, block: usize) -> Result<Vec<RegisterId>, AllocError>
+        ensures { IfOk result (λ regions. regions.items ≡ due_in (label_at self.now block)) }
+    {
+        match self.labels.get(block) {
+            Some(Label::Due(regions)) => Ok(regions.as_slice().to_vec(alloc)?),
+            Some(Label::Sure) => Ok(Vec::new(alloc)),
+            None => Ok(Vec::new(alloc)),
         }
     }
 }

@@ -57,7 +57,7 @@ start_defines function b block r at h =
     record { block = block; step = s.1; at_block = at; at_step = s.2; defines = ap dest_of s.3 }
 
 -- the values are as many as the arguments
-values_length : (f : Frame) (arguments : List Argument) (vs : List Value) → argument_values f arguments ≡ Some vs → length vs ≡ length arguments
+pub values_length : (f : Frame) (arguments : List Argument) (vs : List Value) → argument_values f arguments ≡ Some vs → length vs ≡ length arguments
 values_length f [] vs e = let same : [] ≡ vs = cc in sym (ap length same)
 values_length f (a ∷ more) vs e = by_first (argument_value f a) e (λ us k. values_length f more us k)
   where

@@ -58,11 +58,11 @@ use Rattle.fact_laws.proofs.Places.{Contains_map, BlockOf, EndAt, before, arrive
 -- ---- phis
 
 -- what moves put in for a register, over values else
-abbrev moved_or : List Move → (ℕ → ℤ) → (ℕ → ℤ) → ℕ → ℤ
+abbrev pub moved_or : List Move → (ℕ → ℤ) → (ℕ → ℤ) → ℕ → ℤ
 moved_or [] v w x = w x
 moved_or (m ∷ moves) v w x = cond (eqb m.register.0 x) (operand_value v m.value) (moved_or moves v w x)
 
-moved_or_is : (moves : List Move) (v : ℕ → ℤ) (r : RegisterId) → moved_or moves v v r.0 ≡ operand_value v (operand_for moves r)
+pub moved_or_is : (moves : List Move) (v : ℕ → ℤ) (r : RegisterId) → moved_or moves v v r.0 ≡ operand_value v (operand_for moves r)
 moved_or_is [] v r = refl
 moved_or_is (m ∷ moves) v r = from (eqb m.register.0 r.0) (moved_or_is moves v r)
   where
@@ -70,16 +70,16 @@ moved_or_is (m ∷ moves) v r = from (eqb m.register.0 r.0) (moved_or_is moves v
     from true h = refl
     from false h = h
 
-moved_or_same : (moves : List Move) (v w u : ℕ → ℤ) (x : ℕ) → w x ≡ u x → moved_or moves v w x ≡ moved_or moves v u x
+pub moved_or_same : (moves : List Move) (v w u : ℕ → ℤ) (x : ℕ) → w x ≡ u x → moved_or moves v w x ≡ moved_or moves v u x
 moved_or_same [] v w u x e = e
 moved_or_same (m ∷ moves) v w u x e = ap (λ z. cond (eqb m.register.0 x) (operand_value v m.value) z) (moved_or_same moves v w u x e)
 
-value_from_is : (from : ℕ) (entries : List PhiEntry) → value_from from entries ≡ entry_for from entries
+pub value_from_is : (from : ℕ) (entries : List PhiEntry) → value_from from entries ≡ entry_for from entries
 value_from_is from [] = refl
 value_from_is from (e ∷ entries) = ap (λ o. cond (eqb e.predecessor.0 from) (Some e.value) o) (value_from_is from entries)
 
 -- no move is of a register that no phi defines
-not_moved : (from : ℕ) (phis : List Phi) (v w : ℕ → ℤ) (d : ℕ) → All (λ other. other.register.0 ≢ d) phis → moved_or (moves_from from phis) v w d ≡ w d
+pub not_moved : (from : ℕ) (phis : List Phi) (v w : ℕ → ℤ) (d : ℕ) → All (λ other. other.register.0 ≢ d) phis → moved_or (moves_from from phis) v w d ≡ w d
 not_moved from [] v w d all = refl
 not_moved from (phi ∷ phis) v w d all = by_entry (value_from from phi.entries) (not_moved from phis v w d (All-tail (λ (other : Phi). other.register.0 ≢ d) phi phis all))
   where
@@ -337,6 +337,13 @@ module _ (prog : Program) (f : Frame) (steps : List Step) (tests : (k : ℕ) (st
 phis_there : (prog : Program) (fn b : ℕ) (function : Function) (k : Block) → slice_get prog.functions fn ≡ Some function → slice_get function.blocks b ≡ Some k → phis_at prog fn b ≡ k.phis
 phis_there prog fn b function k at there = ap (λ x. block_phis (and_then x (λ (g : Function). slice_get g.blocks b))) at ∙ ap block_phis there
 
+-- behind an edge each register has what the moves put in for it
+pub moves_made : (prog : Program) (f : Frame) (target : ℕ) (s : Registers) (function : Function) (k : Block) → slice_get prog.functions f.function ≡ Some function → slice_get function.blocks target ≡ Some k →
+    AreApart (phis_at prog f.function target) → registers_along prog f target ≡ Some s → (r : RegisterId) → numbers s r.0 ≡ operand_value (numbers f.registers) (operand_for (moves_from f.block k.phis) r)
+moves_made prog f target s function k at there distinct is r =
+    let phis : phis_at prog f.function target ≡ k.phis = phis_there prog f.function target function k at there in
+    phis_moved f.registers f.block k.phis f.registers s (subst AreApart phis distinct) (subst (λ ps. with_phis f.registers f.block ps f.registers ≡ Some s) phis is) r.0 ∙ moved_or_is (moves_from f.block k.phis) (numbers f.registers) r
+
 module _ (prog : Program) (right : AreRangesRight prog) (f : Frame) (t : Terminator) (place : EndAt prog f.function f.block f.index t) (good : KnownHold prog f) where
   pub tests_here : (k : ℕ) (step : Step) → slice_get place.of.block.steps k ≡ Some step → HoldsTest f.registers step.instruction
   tests_here k step at =
@@ -384,12 +391,7 @@ module _ (prog : Program) (right : AreRangesRight prog) (f : Frame) (t : Termina
 
   -- along an edge with its phis
   pub lands_along : (target : ℕ) (s : Registers) → target ≢ 0 → IsTaken place.of.block.steps t (numbers f.registers) target → AreApart (phis_at prog f.function target) → registers_along prog f target ≡ Some s → AllHold (numbers s) (known_at prog f.function target 0)
-  lands_along target s apart way distinct is = lands target s apart way moved
-    where
-      moved : (k : Block) → slice_get place.of.function.blocks target ≡ Some k → (r : RegisterId) → operand_value (numbers f.registers) (operand_for (moves_from f.block k.phis) r) ≡ numbers s r.0
-      moved k there r =
-          let phis : phis_at prog f.function target ≡ k.phis = phis_there prog f.function target place.of.function k place.of.at_function there in
-          sym (phis_moved f.registers f.block k.phis f.registers s (subst AreApart phis distinct) (subst (λ ps. with_phis f.registers f.block ps f.registers ≡ Some s) phis is) r.0 ∙ moved_or_is (moves_from f.block k.phis) (numbers f.registers) r)
+  lands_along target s apart way distinct is = lands target s apart way (λ k there r. sym (moves_made prog f target s place.of.function k place.of.at_function there distinct is r))
 
   -- along a detach, where no phi stands
   pub lands_forked : (target : ℕ) → target ≢ 0 → IsTaken place.of.block.steps t (numbers f.registers) target → phis_at prog f.function target ≡ [] → AllHold (numbers f.registers) (known_at prog f.function target 0)

@@ -34,7 +34,7 @@ use Rattle.fact_laws.proofs.Kept.{at_start, same_action, child_facts, continued_
 -- ---- edges
 
 -- the outs of a block at its end
-outs_are : (prog : Program) (f b index : ℕ) (t : Terminator) (place : EndAt prog f b index t) → outs_at prog f b ≡ outs_along (known_at prog f b (length place.of.block.steps)) place.of.block.steps t
+pub outs_are : (prog : Program) (f b index : ℕ) (t : Terminator) (place : EndAt prog f b index t) → outs_at prog f b ≡ outs_along (known_at prog f b (length place.of.block.steps)) place.of.block.steps t
 outs_are prog f b index t place =
     ap (λ o. outs_in (known_at prog f b) (and_then o (λ (g : Function). slice_get g.blocks b))) place.of.at_function ∙ ap (outs_in (known_at prog f b)) place.of.at_block
     ∙ ap (outs_behind (known_at prog f b (length place.of.block.steps)) place.of.block.steps) place.at_ending

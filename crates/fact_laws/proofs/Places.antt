@@ -135,13 +135,13 @@ next_is functions known (s ∷ steps) (suc index) step h = next_is functions (af
 
 -- ---- what is not broken
 
-Any_at : {X : Type 0} (P : X → Type 0) (xs : List X) (i : ℕ) (x : X) → slice_get xs i ≡ Some x → P x → Any P xs
+pub Any_at : {X : Type 0} (P : X → Type 0) (xs : List X) (i : ℕ) (x : X) → slice_get xs i ≡ Some x → P x → Any P xs
 Any_at P xs i x e p = (i, x, slice_get_within xs i x e, get_or_from_slice_get xs i x x e, p)
 
-Any_of : {X : Type 0} (P : X → Type 0) (xs : List X) (x : X) → Contains xs x → P x → Any P xs
+pub Any_of : {X : Type 0} (P : X → Type 0) (xs : List X) (x : X) → Contains xs x → P x → Any P xs
 Any_of P xs x c p = (c.0, x, c.1, c.2, p)
 
-true_unless : (b : Bool) → (b ≡ false → ⊥) → b ≡ true
+pub true_unless : (b : Bool) → (b ≡ false → ⊥) → b ≡ true
 true_unless true never = refl
 true_unless false never = absurd (never refl)
 

@@ -30,7 +30,7 @@ word_value r (Register x) z e = ap or_zero e
 abbrev pub Moved : List Move → (ℕ → ℤ) → (ℕ → ℤ) → List Term → Type 0
 Moved moves v w terms = All (λ t. operand_value v (operand_for moves t.register) ≡ w t.register.0) terms
 
-parts_moved : (v w : ℕ → ℤ) (moves : List Move) (sign : ℤ) (terms : List Term) → Moved moves v w terms → parts_value v (parts_of moves sign terms) ≡ sign *ℤ value_of w terms
+pub parts_moved : (v w : ℕ → ℤ) (moves : List Move) (sign : ℤ) (terms : List Term) → Moved moves v w terms → parts_value v (parts_of moves sign terms) ≡ sign *ℤ value_of w terms
 parts_moved v w moves sign [] all = sym (*ℤ-zero sign)
 parts_moved v w moves sign (t ∷ terms) all =
     let P : Term → Type 0 = λ (u : Term). operand_value v (operand_for moves u.register) ≡ w u.register.0 in
@@ -44,7 +44,7 @@ add_associates x y z = omega (arith, ints)
 zero_first : (x : ℤ) → x ≡ pos 0 +ℤ x
 zero_first x = omega (arith, ints)
 
-parts_append : (v : ℕ → ℤ) (ps qs : List Part) → parts_value v (ps ++ qs) ≡ parts_value v ps +ℤ parts_value v qs
+pub parts_append : (v : ℕ → ℤ) (ps qs : List Part) → parts_value v (ps ++ qs) ≡ parts_value v ps +ℤ parts_value v qs
 parts_append v [] qs = zero_first (parts_value v qs)
 parts_append v (p ∷ ps) qs = ap (λ z. (p.factor *ℤ operand_value v p.operand) +ℤ z) (parts_append v ps qs) ∙ add_associates (p.factor *ℤ operand_value v p.operand) (parts_value v ps) (parts_value v qs)
 

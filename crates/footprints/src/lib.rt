@@ -31,6 +31,3 @@ pub use zone::{
     PlacedZone, conflict, covers, is_apart, is_covered, is_empty, mode_covers, modes_agree,
     same_object,
 };
-
-#[cfg(test)]
-mod tests;

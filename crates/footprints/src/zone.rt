@@ -1,13 +1,11 @@
-ghost use Rattle.std.specs.Prelude.{◌≡◌, ◌++◌, ◌⊎◌, ◌*ℤ◌, ◌<◌, ◌^◌, pos, negsuc, unsigned_abs, IfOk, OnOk};
-ghost use Rattle.linear.specs.Forms.{AreSmall};
-ghost use Rattle.ranges.specs.Inequalities.{operand_for, parts_of};
+ghost use Rattle.std.specs.Prelude.{◌≡◌, ◌<◌, IfOk};
 ghost use Rattle.footprints.specs.Zones.{span, same_object, mode_covers, modes_agree, between, shows_order, is_empty, covers, is_apart, conflict, is_covered};
 
 use cfg::Move;
-use linear::{Fact, Form, RegisterId, Term, side_of};
+use linear::{Fact, Form, side_of};
 use lists::{OutOfMemory, Seq};
-use program::{Mode, ObjectName, Operand, Zone};
-use ranges::{Part, Sum, shows};
+use program::{Mode, ObjectName, Zone};
+use ranges::{Sum, push_parts, shows};
 use std::alloc::Global;
 
 /// A zone at a place: the object that it is of there, and the operands that stand for its registers there.
@@ -54,47 +52,6 @@ pub fn modes_agree(left: Mode, right: Mode) -> bool
         | (Mode::Reads, Mode::Writes | Mode::Adds)
         | (Mode::Adds, Mode::Reads | Mode::Writes) => false,
     }
-}
-
-/// What the moves put in for a register; a register that they do not name stays.
-fn operand_for(moves: &[Move], register: RegisterId) -> Operand
-    ensures { result ≡ operand_for moves.now register }
-{
-    for item in moves {
-        if item.register.0 == register.0 {
-            return item.value;
-        }
-    }
-    Operand::Register(register)
-}
-
-/// A coefficient, or its opposite.
-fn signed(sign: i64, coefficient: i64) -> i64
-    requires sign { (sign ≡ pos 1) ⊎ (sign ≡ negsuc 0) }
-    requires coefficient { unsigned_abs coefficient < 2 ^ 24 }
-    ensures { result ≡ sign *ℤ coefficient }
-{
-    sign * coefficient
-}
-
-/// Adds the terms of a form, or their opposites, with the moves' operands put in.
-fn push_parts(
-    parts: &mut Vec<Part>,
-    moves: &[Move],
-    sign: i64,
-    terms: &[Term],
-) -> Result<(), OutOfMemory>
-    requires sign { (sign ≡ pos 1) ⊎ (sign ≡ negsuc 0) }
-    requires small { AreSmall terms.now }
-    ensures { OnOk result (parts.new.items ≡ parts.old.items ++ parts_of moves.now sign terms.now) }
-{
-    for term in terms {
-        parts.push(Part {
-            factor: signed(sign, term.coefficient),
-            operand: operand_for(moves, term.register),
-        })?;
-    }
-    Ok(())
 }
 
 /// high - low, each with the operands of its own zone put in.

@@ -9,6 +9,7 @@ use Rattle.machine_core.specs.Effect.{entry_for, phi_value, with_phis}
 use Rattle.program.specs.declared.instruction.Phi.{Phi}
 use Rattle.program.specs.declared.instruction.PhiEntry.{PhiEntry}
 use Rattle.frame.specs.declared.effect.Trap.{Trap}
+use Rattle.frame.specs.declared.effect.Trap.TheVariants.{Undefined}
 use Rattle.frame.specs.declared.value.Value.{Value}
 use Rattle.frame.specs.declared.value.Value.TheVariants as value
 use Rattle.frame.specs.Reading.{found, registers_of}
@@ -60,6 +61,10 @@ drop_at (y ∷ ys) (suc i) x e = drop_at ys i x e
 pub found_none : {A : Type 0} (o : Option A) (t : Trap) → Err t ≡ found o → o ≡ None
 found_none None t e = refl
 found_none (Some a) t e = absurd cc
+
+pub trap_is : {A : Type 0} (o : Option A) (t : Trap) → Err t ≡ found o → t ≡ Undefined
+trap_is None t e = cc
+trap_is (Some a) t e = absurd cc
 
 pub found_some : {A : Type 0} (o : Option A) (a : A) → Ok a ≡ found o → o ≡ Some a
 found_some None a e = absurd cc

@@ -1,7 +1,7 @@
 -- What new frames come to in the definitions of running.
 use Rattle.std.proofs.Common.{◌≡◌, ℕ, zero, suc, ◌+◌, ◌-◌, ◌≤◌, List, [], ◌∷◌, ◌++◌, length, refl, ap, sym, ◌∙◌, subst, arith, ℤ, Option, Some, None, IsSome, take, drop}
 use Rattle.std.specs.Prelude.{slice_get, map, replicate}
-use Rattle.std.proofs.lemmas.List.{map-append}
+use Rattle.std.proofs.lemmas.List.{length-map, map-append}
 use Rattle.machine_core.specs.Paths.{Path}
 use Rattle.machine_core.specs.Cells.{Local}
 use Rattle.machine_core.specs.Frames as frames
@@ -86,6 +86,10 @@ within_padded depth [] k h r = none k r
     none (suc n) (suc j) = none n j
 within_padded depth (x ∷ xs) k h zero = h zero
 within_padded depth (x ∷ xs) k h (suc r) = within_padded depth xs k (λ j. h (suc j)) r
+
+-- as many values as arguments
+pub as_many : (p : Path) (f : frames.Frame) (xs : List (Option Value)) (args : List Argument) → map (held_of p) xs ≡ map (argument_value f) args → length xs ≡ length args
+as_many p f xs args e = sym (length-map xs (held_of p)) ∙ ap length e ∙ length-map args (argument_value f)
 
 -- ---- whole frames
 

@@ -1,5 +1,5 @@
 -- What a frame of the machine is sure of, and what a step of it needs.
-use Rattle.std.specs.Prelude.{◌≡◌, ◌≢◌, ⊤, ℕ, ℤ, ◌+◌, ◌^◌, ◌<◌, ◌≤◌, List, cond, eqb, ◌&&◌, length, map, replicate, Option, Some, None, slice_get}
+use Rattle.std.specs.Prelude.{◌≡◌, ◌≢◌, ⊤, ℕ, ℤ, ◌+◌, ◌^◌, ◌<◌, ◌≤◌, List, [], cond, eqb, ◌&&◌, length, map, replicate, Option, Some, None, slice_get}
 use Rattle.std.specs.Option.{option_flatten}
 use Rattle.linear.specs.declared.form.RegisterId.{RegisterId}
 use Rattle.frame.specs.declared.value.Object.{Object}
@@ -18,6 +18,7 @@ use Rattle.machine_core.specs.Effect.{registers_along, enters, phi_value}
 use Rattle.machine_core.specs.State.{went}
 use Rattle.program.specs.declared.instruction.Phi.{Phi}
 use Rattle.program.specs.declared.function.Program.{Program}
+use Rattle.program.specs.declared.function.Function.{Function}
 use Rattle.program.specs.declared.function.Alloca.{Alloca as AllocaKind}
 use Rattle.program.specs.declared.identifier.FunctionId.{FunctionId}
 use Rattle.frame.specs.declared.frame.Wait.TheVariants as wait
@@ -86,6 +87,21 @@ undefined_cells a = replicate a.cells None
 
 abbrev pub IsUndefined : Frame → Type 0
 IsUndefined f = (n i : ℕ) → alloca_in f n i ≡ None
+
+abbrev pub register_count : Option Function → ℕ
+register_count None = 0
+register_count (Some f) = length f.registers
+
+-- the cells of a function's allocas before a store
+abbrev pub entry_cells : Option Function → List (List (Option ℤ))
+entry_cells None = []
+entry_cells (Some f) = map undefined_cells f.allocas
+
+-- there are so many registers, as many moves, and the cells that the function's text declares
+pub record HasPlaces (prog : Program) (f : Frame) (count : ℕ) : Type 0 where
+  pub registers : length f.registers.items ≡ count
+  pub moves : length f.moves.items ≡ count
+  pub cells : map (λ v. v.items) f.allocas.items ≡ entry_cells (slice_get prog.functions f.function.0)
 
 -- a function's frame before its first instruction
 pub record AtEntry (f : Frame) (function : FunctionId) (depth : ℕ) : Type 0 where

@@ -1,4 +1,4 @@
-ghost use Rattle.std.specs.Prelude.{◌≡◌, ◌↔◌, ◌<◌, ◌&&◌, ℕ, Some, IsTrue, cond, eqb, length, slice_set};
+ghost use Rattle.std.specs.Prelude.{◌≡◌, ◌↔◌, ◌<◌, ◌&&◌, ℕ, Some, IsSome, IsTrue, cond, eqb, length, slice_set};
 ghost use Rattle.std.specs.Bool.{OnFalse, OnTrue};
 ghost use Rattle.std.specs.Option.{option_flatten};
 ghost use Rattle.frame.specs.Room.{HasCell, IsSound, SetsAlloca, alloca_in};
@@ -24,7 +24,8 @@ fn set_cell(cells: &mut Vec<Option<i64>>, index: usize, number: i64) -> bool
 impl Frame {
     /// What a cell of an alloca of this frame holds; none where there is no such cell.
     pub fn alloca_cell(&self, alloca: AllocaId, index: u64) -> Option<Option<i64>>
-        ensures { option_flatten result ≡ alloca_in self.now alloca.0 index }
+        ensures value { option_flatten result ≡ alloca_in self.now alloca.0 index }
+        ensures there { IsSome result ↔ HasCell self.now alloca.0 index }
     {
         self.allocas
             .as_slice()

@@ -1,4 +1,4 @@
-ghost use Rattle.std.specs.Prelude.{◌≡◌, ◌↔◌, ◌<◌, ℕ, IsTrue, Some, None, OnErr, OnOk, eqb, find, length, slice_get};
+ghost use Rattle.std.specs.Prelude.{◌≡◌, ◌↔◌, ◌<◌, ℕ, IfErr, IsTrue, Some, None, OnErr, OnOk, eqb, find, length, slice_get};
 ghost use Rattle.std.specs.Option.{option_copied, option_map};
 ghost use Rattle.frame.specs.declared.value.Value.TheVariants as value;
 ghost use Rattle.machine_core.specs.Paths.{Path};
@@ -50,6 +50,7 @@ impl Frame {
     /// Writes down the value that the phi takes.
     fn read_move(&mut self, place: usize, phi: &Phi) -> Result<(), Trap>
         ensures read { OnOk result (IsMoved self.old place phi.now self.new) }
+        ensures trap { IfErr result (λ t. t ≡ Trap.Undefined) }
         ensures missing { OnErr result ((p : Path) → place < length self.old.moves.items → phi.now.register.0 < length self.old.registers.items → effects.phi_value (registers_of p self.old.registers.items) self.old.block.0 phi.now ≡ None) }
         ensures only { self.new ≡ record self.old { moves = self.new.moves } }
         ensures length { length self.new.moves.items ≡ length self.old.moves.items }
@@ -71,6 +72,7 @@ impl Frame {
     fn read_moves(&mut self, phis: &[Phi]) -> Result<(), Trap>
         ensures read { OnOk result ((p : Path) → AreRead (registers_of p self.old.registers.items) self.old.block.0 phis.now self.new.moves.items) }
         ensures fits { OnOk result (FitsPhis self.old phis.now) }
+        ensures trap { IfErr result (λ t. t ≡ Trap.Undefined) }
         ensures missing { OnErr result ((p : Path) → FitsPhis self.old phis.now → (r : frames.Registers) → effects.with_phis (registers_of p self.old.registers.items) self.old.block.0 phis.now r ≡ None) }
         ensures only { self.new ≡ record self.old { moves = self.new.moves } }
         ensures length { length self.new.moves.items ≡ length self.old.moves.items }
@@ -103,9 +105,11 @@ impl Frame {
     pub fn enter(&mut self, program: &Program, target: BlockId) -> Result<(), Trap>
         ensures entered { OnOk result ((p : Path) → Entered program.now p self.old target.0 self.new) }
         ensures missing { OnErr result ((p : Path) → FitsPhis self.old (frames.phis_at program.now self.old.function.0 target.0) → effects.registers_along program.now (frame_of p self.old) target.0 ≡ None) }
+        ensures trap { IfErr result (λ t. t ≡ Trap.Undefined) }
         ensures unchanged { OnErr result (self.new ≡ record self.old { moves = self.new.moves }) }
         ensures only { self.new ≡ record self.old { registers = self.new.registers; moves = self.new.moves; block = self.new.block; index = self.new.index; waits = self.new.waits } }
         ensures length { length self.new.registers.items ≡ length self.old.registers.items }
+        ensures moves { length self.new.moves.items ≡ length self.old.moves.items }
         ensures sound { IsSound self.old → IsSound self.new }
     {
         let phis = phis_at(program, self.function, target);

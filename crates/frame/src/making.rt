@@ -1,4 +1,4 @@
-ghost use Rattle.std.specs.Prelude.{◌≡◌, ◌+◌, ◌<◌, ◌∷◌, ◌++◌, ◌^◌, ℕ, [], Option, Some, None, IfOk, IsSome, length, map, replicate, slice_get};
+ghost use Rattle.std.specs.Prelude.{◌≡◌, ◌+◌, ◌<◌, ◌∷◌, ◌++◌, ◌^◌, ℕ, [], Option, Some, None, IfOk, IsSome, length, map, max, replicate, slice_get};
 ghost use Rattle.machine_core.specs.Paths.{Path};
 ghost use Rattle.machine_core.specs.Frames as frames;
 ghost use Rattle.machine_core.specs.Effect as effects;
@@ -6,7 +6,7 @@ ghost use Rattle.machine_core.specs.State as states;
 ghost use Rattle.frame.specs.declared.value.Value.TheVariants as value;
 ghost use Rattle.frame.specs.Asked.{arguments_of, call_arguments, place_of, passed};
 ghost use Rattle.frame.specs.Reading.{frame_of, held_of, register_in};
-ghost use Rattle.frame.specs.Room.{AtEntry, HasChild, HeldWithin, IsSound, IsUndefined, cells_in, undefined_cells};
+ghost use Rattle.frame.specs.Room.{AtEntry, HasChild, HasPlaces, HeldWithin, IsSound, IsUndefined, cells_in, entry_cells, register_count, undefined_cells};
 
 use crate::frame::{Frame, Role, Wait, block_at, item_at};
 use crate::value::Value;
@@ -84,7 +84,9 @@ fn arguments_of(instruction: &Instruction) -> &[Argument]
 }
 
 /// The number of registers of a function.
-fn register_count(program: &Program, function: FunctionId) -> usize {
+fn register_count(program: &Program, function: FunctionId) -> usize
+    ensures { result ≡ register_count (slice_get program.now.functions function.0) }
+{
     match item_at(program.functions.as_slice(), function.0) {
         Some(found) => found.registers.len(),
         None => 0,
@@ -97,7 +99,8 @@ fn entry_allocas(
     program: &Program,
     function: FunctionId,
 ) -> Result<Vec<Vec<Option<i64>>>, OutOfMemory>
-    ensures { IfOk result (λ allocas. (n i : ℕ) → cells_in (slice_get (map (λ v. v.items) allocas.items) n) i ≡ None) }
+    ensures cells { IfOk result (λ allocas. map (λ v. v.items) allocas.items ≡ entry_cells (slice_get program.now.functions function.0)) }
+    ensures undefined { IfOk result (λ allocas. (n i : ℕ) → cells_in (slice_get (map (λ v. v.items) allocas.items) n) i ≡ None) }
 {
     match item_at(program.functions.as_slice(), function.0) {
         Some(found) => Ok(made_allocas(alloc, found)?),
@@ -130,6 +133,7 @@ impl Frame {
     ) -> Result<Frame, OutOfMemory>
         ensures place { IfOk result (λ f. AtEntry f function depth) }
         ensures registers { IfOk result (λ f. (k : ℕ) × (f.registers.items ≡ registers.items ++ replicate k None)) }
+        ensures places { IfOk result (λ f. HasPlaces program.now f (max (register_count (slice_get program.now.functions function.0)) (length registers.items))) }
     {
         let count = register_count(program, function).max(registers.len());
         registers.resize(count, None)?;
@@ -153,6 +157,7 @@ impl Frame {
     /// The root frame: `main` at its entry, with the arguments in its first registers.
     pub fn root(alloc: Global, program: &Program, arguments: &[i64]) -> Result<Frame, OutOfMemory>
         ensures root { IfOk result (λ f. frame_of [] f ≡ states.root_frame program.now arguments.now) }
+        ensures places { IfOk result (λ f. HasPlaces program.now f (max (register_count (slice_get program.now.functions program.now.main.0)) (length arguments.now))) }
         ensures sound { IfOk result (λ f. IsSound f) }
         ensures depth { IfOk result (λ f. f.depth ≡ 0) }
         ensures undefined { IfOk result (λ f. IsUndefined f) }
@@ -183,6 +188,7 @@ impl Frame {
         callee: FunctionId,
     ) -> Result<Frame, OutOfMemory>
         ensures called { IfOk result (λ f. (p : Path) → length p ≡ caller.now.depth → IsSound caller.now → HasChild caller.now → IsSome (effects.argument_values (frame_of p caller.now) (call_arguments (place_of program.now caller.now))) → frame_of (caller.now.made ∷ p) f ≡ states.called p (frame_of p caller.now) callee.0 (passed program.now (frame_of p caller.now))) }
+        ensures places { IfOk result (λ f. HasPlaces program.now f (max (register_count (slice_get program.now.functions callee.0)) (length (call_arguments (place_of program.now caller.now))))) }
         ensures sound { IfOk result (λ f. IsSound caller.now → IsSound f) }
         ensures depth { IfOk result (λ f. HasChild caller.now → f.depth ≡ caller.now.depth + 1) }
         ensures undefined { IfOk result (λ f. IsUndefined f) }
@@ -205,6 +211,9 @@ impl Frame {
         continuation: BlockId,
     ) -> Result<Frame, OutOfMemory>
         ensures detached { IfOk result (λ f. (p : Path) (k : ℕ) → length p ≡ parent.now.depth → IsSound parent.now → frame_of (k ∷ p) f ≡ states.detached (frame_of p parent.now) region.0 body.0 continuation.0) }
+        ensures registers { IfOk result (λ f. length f.registers.items ≡ length parent.now.registers.items) }
+        ensures moves { IfOk result (λ f. length f.moves.items ≡ length parent.now.registers.items) }
+        ensures cells { IfOk result (λ f. f.allocas.items ≡ []) }
         ensures sound { IfOk result (λ f. IsSound parent.now → IsSound f) }
         ensures depth { IfOk result (λ f. HasChild parent.now → f.depth ≡ parent.now.depth + 1) }
         ensures undefined { IfOk result (λ f. IsUndefined f) }

@@ -1,9 +1,10 @@
 ghost use Rattle.std.specs.Prelude.{◌≡◌, ◌↔◌, ◌++◌, ◌∷◌, [], IfOk, IsTrue};
+ghost use Rattle.std.specs.Cmp.Lexicographic.{slice_cmp};
+ghost use Rattle.std.specs.Ordering.{nat_cmp};
 
 use lists::{OutOfMemory, Seq};
 use std::alloc::Global;
 use std::cmp::Ordering;
-use std::fmt;
 
 /// The name of a frame: the root's is empty, and the k-th call or detach of a frame, counted together from 0, makes the
 /// child with k at the end.
@@ -57,18 +58,9 @@ impl Path {
     }
 
     /// The order by numbers, a beginning first.
-    pub fn compare(&self, other: &Path) -> Ordering {
+    pub fn compare(&self, other: &Path) -> Ordering
+        ensures { result ≡ slice_cmp nat_cmp self.now.numbers other.now.numbers }
+    {
         self.numbers.as_slice().cmp(&other.numbers.as_slice())
-    }
-}
-
-impl fmt::Display for Path {
-    /// As in `root.0.1`.
-    fn fmt<W: fmt::Write>(&self, f: &mut fmt::Formatter<W>) -> fmt::Result {
-        write!(f, "root")?;
-        for number in self.numbers.as_slice() {
-            write!(f, ".{number}")?;
-        }
-        Ok(())
     }
 }

@@ -23,6 +23,3 @@ pub use spelling::{
     push_budget, push_foot, push_form, push_inequality, push_left, push_measure, push_pending,
     push_zone,
 };
-
-#[cfg(test)]
-mod tests;

@@ -16,8 +16,6 @@ mod printed_laws;
 mod switch;
 mod symbol;
 mod terminator;
-#[cfg(test)]
-mod tests;
 mod tokens;
 
 pub use item::Item;

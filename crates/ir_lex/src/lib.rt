@@ -4,8 +4,6 @@
 mod fault;
 mod scan;
 mod spelling;
-#[cfg(test)]
-mod tests;
 mod token;
 
 pub use fault::TextFault;

@@ -24,6 +24,3 @@ pub use ir_lex::TextFault;
 pub use laws::print_is_read_back;
 pub use printer::print;
 pub use reader::read;
-
-#[cfg(test)]
-mod tests;

@@ -1,14 +1,19 @@
 -- What the search finds is what is shown.
-use Rattle.std.proofs.Common.{◌≡◌, ◌∙◌, ℕ, zero, suc, ◌<◌, pos, ◌+ℤ◌, ◌*ℤ◌, List, length, get_or, inl, inr, sym, ap, refl, arith}
+use Rattle.std.proofs.Common.{◌≡◌, ◌∙◌, ℕ, zero, suc, ◌<◌, pos, ◌+ℤ◌, ◌*ℤ◌, true, List, [], Option, length, get_or, inl, inr, sym, ap, refl, arith}
 use Rattle.std.specs.List.{Contains}
+use Rattle.std.specs.Option.{IfSome}
+use Rattle.std.proofs.lemmas.Bool.{cases_Bool}
 use Rattle.std.specs.Int.RustNames.{unsigned_abs}
 use Rattle.std.proofs.lemmas.List.{length-map, get_or-map}
 use Rattle.std.proofs.Math.IntN.{zero-*ℤ}
 use Rattle.linear.specs.declared.form.Term.{Term}
 use Rattle.linear.specs.declared.form.Fact.{Fact}
 use Rattle.linear.specs.Forms.{Combination, coefficient_of, constant_form, IsRising}
-use Rattle.linear.specs.Shown.{IsFactor, sides, IsShown}
-use Rattle.linear.specs.Search.{factors, IsFound}
+use Rattle.linear.specs.declared.form.RegisterId.{RegisterId}
+use Rattle.linear.specs.Shown.{IsSum, IsFactor, sides, IsShown}
+use Rattle.linear.specs.Search.{factors, IsLeft, has_some, IsFound}
+use Rattle.linear.proofs.Left.{none_leads, swapped}
+use Rattle.linear.proofs.Newest.{in_newest, in_sides}
 use Rattle.linear.proofs.Coefficients.{named_or_none, own_coefficient}
 
 some_term : Term
@@ -52,40 +57,36 @@ counted facts e f a rising in_f (inr (r, is)) = elim (named_or_none e.terms r ri
   | inr (k, within, own) ↦ as_it_is facts e f a in_f (suc k, omega (arith, within, length-map e.terms (λ (t : Term). unsigned_abs t.coefficient)), factor_at e.terms k a within ∙ ap unsigned_abs (sym (own some_term)) ∙ sym is)
 ]
 
-as_found : (facts : List Fact) (e : Combination) (s : IsShown facts e) → Counts facts e s.f s.a → Counts facts e s.g s.b → IsFound facts e
-as_found facts e s f g = (
-  f.side,
-  f.side_is,
-  (
-    g.side,
-    g.side_is,
-    (
-      f.factor,
-      f.factor_is,
-      (
-        g.factor,
-        g.factor_is,
-        record {
-          terms = λ r. s.sum.terms r ∙ ap (λ x. x +ℤ (pos s.b *ℤ coefficient_of s.g.terms r)) (f.terms r) ∙ ap (λ x. (pos f.factor *ℤ coefficient_of f.side.terms r) +ℤ x) (g.terms r);
-          constant = rw (← f.constant, ← g.constant) s.sum.constant;
-        },
-      ),
-    ),
-  ),
-)
+made : (facts : List Fact) (e : Combination) (lead : Option RegisterId) (f g : Combination) (a b : ℕ) → has_some f.terms lead ≡ true →
+    Contains (sides facts) f → Contains (sides facts) g → Contains (factors e.terms) a → Contains (factors e.terms) b → IsSum e a f b g → IsFound facts e lead
+made facts e lead f g a b leads in_f in_g in_a in_b sum = (f, in_newest facts f in_f, (leads, (a, in_a, (g, in_newest facts g in_g, (b, in_b, sum)))))
 
-pub found_shown : (facts : List Fact) (e : Combination) → IsRising e.terms → IsFound facts e → IsShown facts e
-found_shown facts e rising (f, in_f, (g, in_g, (a, in_a, (b, in_b, sum)))) = record {
+as_found : (facts : List Fact) (e : Combination) (lead : Option RegisterId) → IfSome lead (IsLeft e.terms 1 []) → (s : IsShown facts e) → Counts facts e s.f s.a → Counts facts e s.g s.b → IsFound facts e lead
+as_found facts e lead l s f g =
+    let sum : IsSum e f.factor f.side g.factor g.side = record {
+      terms = λ r. s.sum.terms r ∙ ap (λ x. x +ℤ (pos s.b *ℤ coefficient_of s.g.terms r)) (f.terms r) ∙ ap (λ x. (pos f.factor *ℤ coefficient_of f.side.terms r) +ℤ x) (g.terms r);
+      constant = rw (← f.constant, ← g.constant) s.sum.constant;
+    } in
+    elim (cases_Bool (has_some f.side.terms lead)) [
+      | inl leads ↦ made facts e lead f.side g.side f.factor g.factor leads f.side_is g.side_is f.factor_is g.factor_is sum
+      | inr no_f ↦ elim (cases_Bool (has_some g.side.terms lead)) [
+        | inl leads ↦ made facts e lead g.side f.side g.factor f.factor leads g.side_is f.side_is g.factor_is f.factor_is (swapped e f.factor f.side g.factor g.side sum)
+        | inr no_g ↦ absurd (none_leads e lead l f.factor f.side g.factor g.side no_f no_g sum)
+      ]
+    ]
+
+pub found_shown : (facts : List Fact) (e : Combination) (lead : Option RegisterId) → IsRising e.terms → IsFound facts e lead → IsShown facts e
+found_shown facts e lead rising (f, in_f, (leads, (a, in_a, (g, in_g, (b, in_b, sum))))) = record {
   f = f;
   g = g;
   a = a;
   b = b;
-  f_is = in_f;
-  g_is = in_g;
+  f_is = in_sides facts f in_f;
+  g_is = in_sides facts g in_g;
   a_is = is_factor e a rising in_a;
   b_is = is_factor e b rising in_b;
   sum = sum;
 }
 
-pub shown_found : (facts : List Fact) (e : Combination) → IsRising e.terms → IsShown facts e → IsFound facts e
-shown_found facts e rising s = as_found facts e s (counted facts e s.f s.a rising s.f_is s.a_is) (counted facts e s.g s.b rising s.g_is s.b_is)
+pub shown_found : (facts : List Fact) (e : Combination) (lead : Option RegisterId) → IfSome lead (IsLeft e.terms 1 []) → IsRising e.terms → IsShown facts e → IsFound facts e lead
+shown_found facts e lead l rising s = as_found facts e lead l s (counted facts e s.f s.a rising s.f_is s.a_is) (counted facts e s.g s.b rising s.g_is s.b_is)

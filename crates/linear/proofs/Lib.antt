@@ -9,3 +9,5 @@ pub mod Signed
 pub mod Values
 pub mod Tested
 pub mod Added
+pub mod Newest
+pub mod Left

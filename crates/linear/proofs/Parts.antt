@@ -1,16 +1,15 @@
 -- Searches through lists of factors and sides.
-use Rattle.std.proofs.Common.{◌≡◌, ℕ, ◌≤◌, suc, List, length, take}
+use Rattle.std.proofs.Common.{◌≡◌, ℕ, ◌≤◌, suc, List, length, map, take, refl}
 use Rattle.std.specs.List.{All, Contains}
 use Rattle.std.specs.Int.RustNames.{unsigned_abs}
-use Rattle.std.proofs.lemmas.List.{length-map, take_all}
+use Rattle.std.proofs.lemmas.List.{length-map, length-reverse, take_all}
 use Rattle.std.proofs.lemmas.List.Elements.{All-contains}
 use Rattle.linear.specs.declared.form.Term.{Term}
 use Rattle.linear.specs.declared.form.Fact.{Fact}
-use Rattle.linear.specs.Shown.{sides}
-use Rattle.linear.specs.Search.{factors}
+use Rattle.linear.specs.Search.{factors, newest}
 
-pub length_sides : (facts : List Fact) → length (sides facts) ≡ suc (length facts)
-length_sides facts = rw (length-map facts (λ (f : Fact). f.form))
+pub length_newest : (facts : List Fact) → length (newest facts) ≡ suc (length facts)
+length_newest facts = rw (length-reverse (map (λ (f : Fact). f.form) facts), length-map facts (λ (f : Fact). f.form)) refl
 
 pub length_factors : (terms : List Term) → length (factors terms) ≡ suc (length terms)
 length_factors terms = rw (length-map terms (λ (t : Term). unsigned_abs t.coefficient))

@@ -12,6 +12,3 @@ pub use fault::FormFault;
 pub use form::{Fact, Form, RegisterId, Replacement, Term};
 pub use show::shown;
 pub use side::{Side, side_of};
-
-#[cfg(test)]
-mod tests;

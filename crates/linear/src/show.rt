@@ -1,10 +1,10 @@
 //! What facts show.
 
-ghost use Rattle.std.specs.Prelude.{◌≡◌, ◌<◌, ◌≤◌, ◌+◌, ◌^◌, ◌↔◌, ℕ, IsTrue, All, length, slice_index, pos, ◌≤ℤ◌, ◌+ℤ◌, ◌*ℤ◌, unsigned_abs};
+ghost use Rattle.std.specs.Prelude.{◌≡◌, ◌<◌, ◌≤◌, ◌+◌, ◌^◌, ◌↔◌, ℕ, IsTrue, IfSome, All, length, slice_index, pos, ◌≤ℤ◌, ◌+ℤ◌, ◌*ℤ◌, unsigned_abs};
 ghost use Rattle.linear.specs.Forms.{AreSmall, IsRising, Holds};
 ghost use Rattle.linear.specs.Shown.{IsSum, IsShown, AllHold};
 ghost use Rattle.linear.specs.Tested.{is_shown};
-ghost use Rattle.linear.specs.Search.{looked_up, Agrees, factors, side_at, IsFoundByB, IsPairFound, IsFoundWith, IsFound};
+ghost use Rattle.linear.specs.Search.{looked_up, Agrees, factors, side_at, IsLeft, has_some, IsFoundByB, IsFoundByA, IsFoundWith, IsFoundFrom, IsFound};
 ghost use Rattle.std.specs.Prelude.{ℤ};
 
 use crate::form::{Fact, Form, RegisterId, Term};
@@ -108,7 +108,7 @@ fn factor(terms: &[Term], index: usize) -> u32
     size as u32
 }
 
-/// An absent fact at 0, and then the facts.
+/// An absent fact at 0, and then the facts, the newest first.
 fn side_at(facts: &[Fact], index: usize) -> Side<'_>
     requires { index ≤ length facts.now }
     ensures terms { result.terms.now ≡ (side_at facts.now index).terms }
@@ -123,7 +123,48 @@ fn side_at(facts: &[Fact], index: usize) -> Side<'_>
             constant: 0,
         };
     }
-    side_of(&facts[index - 1].form)
+    side_of(&facts[facts.len() - index].form)
+}
+
+/// A register that some terms name, and of which a * f taken away from e leaves something.
+fn left_along(named: &[Term], e: &[Term], a: u32, f: &[Term]) -> Option<RegisterId>
+    requires a { a ≤ 2 ^ 24 }
+    requires e { IsRising e.now }
+    requires f { IsRising f.now }
+    requires small { AreSmall f.now }
+    ensures { IfSome result (IsLeft e.now a f.now) }
+{
+    for term in named {
+        if !agrees_at(term.register, e, a, f, 0, &[]) {
+            return Some(term.register);
+        }
+    }
+    None
+}
+
+/// A register of which a * f taken away from e leaves something, if there is one.
+fn left_over(e: &[Term], a: u32, f: &[Term]) -> Option<RegisterId>
+    requires a { a ≤ 2 ^ 24 }
+    requires e { IsRising e.now }
+    requires f { IsRising f.now }
+    requires small { AreSmall f.now }
+    ensures { IfSome result (IsLeft e.now a f.now) }
+{
+    match left_along(f, e, a, f) {
+        Some(register) => Some(register),
+        None => left_along(e, e, a, f),
+    }
+}
+
+/// Whether some of the register, if one is named, is among the terms.
+fn has_some(terms: &[Term], register: Option<RegisterId>) -> bool
+    requires { IsRising terms.now }
+    ensures { result ≡ has_some terms.now register }
+{
+    match register {
+        Some(register) => coefficient(terms, register) != 0,
+        None => true,
+    }
 }
 
 /// Whether the form is a times one side and b times another, and a constant that is not below 0.
@@ -156,15 +197,35 @@ fn shown_by_some_b(facts: &[Fact], form: &Form, first: usize, a: u32, second: us
     false
 }
 
-fn pair_shown(facts: &[Fact], form: &Form, first: usize, second: usize) -> bool
+/// Whether the second side makes up what is left of the form. A side without the register that is named to be left cannot.
+fn makes_up(
+    facts: &[Fact],
+    form: &Form,
+    first: usize,
+    a: u32,
+    left: Option<RegisterId>,
+    second: usize,
+) -> bool
     requires first { first ≤ length facts.now }
     requires second { second ≤ length facts.now }
-    ensures { IsTrue result ↔ IsPairFound form.now (side_at facts.now first) (side_at facts.now second) }
+    requires a { a ≤ 2 ^ 24 }
+    requires left { IfSome left (IsLeft form.now.terms a (side_at facts.now first).terms) }
+    ensures { IsTrue result ↔ IsFoundByB form.now a (side_at facts.now first) (side_at facts.now second) }
 {
-    let terms = side_of(form).terms;
-    let count = terms.len() + 1;
-    for index in 0..count {
-        if shown_by_some_b(facts, form, first, factor(terms, index), second) {
+    has_some(side_at(facts, second).terms, left) && shown_by_some_b(facts, form, first, a, second)
+}
+
+fn shown_by_a(facts: &[Fact], form: &Form, first: usize, a: u32) -> bool
+    requires first { first ≤ length facts.now }
+    requires a { a ≤ 2 ^ 24 }
+    ensures { IsTrue result ↔ IsFoundByA facts.now form.now (side_at facts.now first) a }
+{
+    let e = side_of(form);
+    let f = side_at(facts, first);
+    let left = left_over(e.terms, a, f.terms);
+    let count = facts.len() + 1;
+    for second in 0..count {
+        if makes_up(facts, form, first, a, left, second) {
             return true;
         }
     }
@@ -175,21 +236,29 @@ fn shown_with(facts: &[Fact], form: &Form, first: usize) -> bool
     requires { first ≤ length facts.now }
     ensures { IsTrue result ↔ IsFoundWith facts.now form.now (side_at facts.now first) }
 {
-    let count = facts.len() + 1;
-    for second in 0..count {
-        if pair_shown(facts, form, first, second) {
+    let terms = side_of(form).terms;
+    let count = terms.len() + 1;
+    for index in 0..count {
+        if shown_by_a(facts, form, first, factor(terms, index)) {
             return true;
         }
     }
     false
 }
 
-fn found(facts: &[Fact], form: &Form) -> bool
-    ensures { IsTrue result ↔ IsFound facts.now form.now }
+fn shown_from(facts: &[Fact], form: &Form, lead: Option<RegisterId>, first: usize) -> bool
+    requires { first ≤ length facts.now }
+    ensures { IsTrue result ↔ IsFoundFrom facts.now form.now lead (side_at facts.now first) }
+{
+    has_some(side_at(facts, first).terms, lead) && shown_with(facts, form, first)
+}
+
+fn found(facts: &[Fact], form: &Form, lead: Option<RegisterId>) -> bool
+    ensures { IsTrue result ↔ IsFound facts.now form.now lead }
 {
     let count = facts.len() + 1;
     for first in 0..count {
-        if shown_with(facts, form, first) {
+        if shown_from(facts, form, lead, first) {
             return true;
         }
     }
@@ -204,6 +273,8 @@ pub fn shown(facts: &[Fact], form: &Form) -> bool
     // What is shown by true facts is true.
     ensures sound { IsTrue result → (v : ℕ → ℤ) → AllHold v facts.now → Holds v form.now }
 {
-    let _rising = side_of(form);
-    found(facts, form)
+    // One of the two facts has some of a register that the form has, so it may be the first.
+    let e = side_of(form);
+    let lead = left_over(e.terms, 1, &[]);
+    found(facts, form, lead)
 }

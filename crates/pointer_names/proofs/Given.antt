@@ -1,30 +1,15 @@
 -- What is known of the pointers that a frame was given, and that its names are apart by it.
-use Rattle.std.proofs.Common.{◌≡◌, ℕ, ◌<◌, ◌≤◌, List, length, Option, Some, None, refl, sym, ap, ◌∙◌, arith}
+use Rattle.std.proofs.Common.{◌≡◌, ℕ, ◌<◌, List, length, Option, Some, None, refl, sym, ap, ◌∙◌, arith}
 use Rattle.linear.specs.declared.form.RegisterId.{RegisterId}
 use Rattle.machine_core.specs.Paths.{Path}
 use Rattle.machine_core.specs.Cells.{Object, Shared, Local, Cell}
-use Rattle.machine_core.specs.Frames.{Value, Word, Truth, Pointer, Region, OnCall, Frame, and_then, cell_of, object_at}
+use Rattle.machine_core.specs.Frames.{Value, Word, Truth, Pointer, Region, Frame, and_then, cell_of, object_at}
 use Rattle.program.specs.declared.function.Function.{Function}
 use Rattle.program.specs.declared.identifier.GlobalId.{GlobalId}
 use Rattle.program.specs.declared.identifier.ObjectName.TheVariants.{Global, Alloca, Parameter}
 use Rattle.types.specs.Apart.{NamesGlobal, parameters_at}
-use Rattle.types.specs.Definitions.{IsFrom}
 use Rattle.pointer_names.specs.Law.{NamesAreApart}
-
--- a parameter of the frame holds this cell
-pub record IsGiven (functions : List Function) (f : Frame) (x : ℕ) (c : Cell) : Type 0 where
-  pub within : x < parameters_at functions f.function
-  pub holds : f.registers x ≡ Some (Pointer c)
-
--- the pointers that a frame was given: first cells of different objects, none an alloca of its own or of a frame below it,
--- and none a global that it names
-pub record KnowsGiven (functions : List Function) (p : Path) (f : Frame) : Type 0 where
-  pub first : (x : ℕ) (c : Cell) → IsGiven functions f x c → c.index ≡ 0
-  pub differ : (x y : ℕ) (c d : Cell) → IsGiven functions f x c → IsGiven functions f y d → c.object ≡ d.object → x ≡ y
-  pub foreign : (x : ℕ) (c : Cell) (owner : Path) (n : ℕ) → IsGiven functions f x c → c.object ≡ Local owner n → length owner < length f.home
-  pub unnamed : (x : ℕ) (c : Cell) (global : GlobalId) → IsGiven functions f x c → c.object ≡ Shared global.0 → NamesGlobal functions f.function global → ⊥
-  pub at_home : length f.home ≤ length p
-  pub awaits : (k : ℕ) (d : Option RegisterId) → f.waits ≡ OnCall k d → IsFrom (parameters_at functions f.function) d
+use Rattle.pointer_names.specs.Given.{KnowsGiven}
 
 -- the object that a parameter names is that of a cell that it was given
 pub of_parameter : (f : Frame) (x : ℕ) (o : Object) (v : Option Value) → f.registers x ≡ v → and_then (cell_of v) (λ (c : Cell). Some c.object) ≡ Some o → (c : Cell) × (f.registers x ≡ Some (Pointer c)) × (c.object ≡ o)

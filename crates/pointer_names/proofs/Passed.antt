@@ -18,7 +18,8 @@ use Rattle.program.specs.declared.instruction.Argument.TheVariants as argument
 use Rattle.program.specs.declared.instruction.Instruction.TheVariants as instruction
 use Rattle.types.specs.Apart.{IsInstructionAt, in_instruction, Reaches, itself, through, NamesGlobal, IsCallApart, CallsApart}
 use Rattle.pointer_names.specs.Law.{IsName}
-use Rattle.pointer_names.proofs.Given.{IsGiven, KnowsGiven, of_parameter, names_apart}
+use Rattle.pointer_names.specs.Given.{IsGiven, KnowsGiven}
+use Rattle.pointer_names.proofs.Given.{of_parameter, names_apart}
 use Rattle.pointer_names.proofs.Kept.{CallIs}
 
 -- the object whose first cell an argument passes

@@ -1,5 +1,5 @@
 -- Each frame of each state that is reached knows what it was given.
-use Rattle.std.proofs.Common.{◌≡◌, inl, inr, ℕ, ◌<◌, ◌≤◌, List, [], ◌∷◌, length, Option, Some, None, Ok, refl, sym, ap, ◌∙◌, subst, arith, ℤ}
+use Rattle.std.proofs.Common.{◌≡◌, inl, inr, ℕ, ◌<◌, ◌≤◌, List, [], ◌∷◌, length, Option, Some, None, refl, sym, ap, ◌∙◌, subst, arith, ℤ}
 use Rattle.std.specs.Prelude.{slice_get}
 use Rattle.std.specs.Option.{option_map}
 use Rattle.std.proofs.lemmas.Option.{slice_get-map}
@@ -21,7 +21,8 @@ use Rattle.pointer_names.specs.Law.{IsReached, at_start as starts, by_step, Keep
 use Rattle.types.proofs.Programs.{program_apart, program_kept}
 use Rattle.ir_text.proofs.Keeping.{answers_kept}
 use Rattle.pointer_names.proofs.Anew.{read_anew}
-use Rattle.pointer_names.proofs.Given.{IsGiven, KnowsGiven, names_apart}
+use Rattle.pointer_names.specs.Given.{IsGiven, KnowsGiven}
+use Rattle.pointer_names.proofs.Given.{names_apart}
 use Rattle.pointer_names.proofs.Kept.{Agrees, agrees_set, Passes, CallIs, action_passes}
 use Rattle.pointer_names.proofs.Passed.{called_knows}
 
@@ -142,7 +143,7 @@ module _ (prog : Program) (apart : CallsApart prog.functions) (keeps : KeepsPara
   word_only None c e = cc
   word_only (Some z) c e = let w : Word z ≡ Pointer c = cc in cc
 
-  root_known : (arguments : List ℤ) → Known [] (root_frame prog arguments)
+  pub root_known : (arguments : List ℤ) → Known [] (root_frame prog arguments)
   root_known arguments = record {
     first = λ x c g. absurd (none x c g);
     differ = λ x y c d g h e. absurd (none x c g);

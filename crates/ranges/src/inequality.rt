@@ -31,7 +31,7 @@ fn signed(sign: i64, coefficient: i64) -> i64
 }
 
 /// Adds the terms of a form, or their opposites, with the moves' operands put in.
-fn push_parts(
+pub fn push_parts(
     parts: &mut Vec<Part>,
     moves: &[Move],
     sign: i64,

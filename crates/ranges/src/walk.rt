@@ -2,7 +2,7 @@ ghost use Rattle.std.specs.Prelude.{◌≡◌, ◌++◌, ◌∷◌, [], ℕ, len
 ghost use Rattle.program.specs.declared.instruction.Step.{Step};
 ghost use Rattle.cfg.specs.declared.refusal.Broken.{Broken};
 ghost use Rattle.region_match.specs.ByLabel.{IsNamed};
-ghost use Rattle.ranges.specs.Places.{start_facts, with_shows, after_step, facts_before, facts_at_step, facts_at_end, edges_known, ending_shows, IsBlockTable};
+ghost use Rattle.ranges.specs.Places.{stated, start_facts, with_shows, after_step, facts_before, facts_at_step, facts_at_end, edges_known, ending_shows, IsBlockTable};
 ghost use Rattle.ranges.specs.Walks.{IsWalked, edges_behind, IsEndUnmetAt};
 ghost use Rattle.ranges.specs.Rules.{IsStepBroken, AreStepsBroken, IsEndBroken, IsBlockBroken};
 
@@ -16,11 +16,21 @@ use crate::table::{BlockFacts, EdgeFacts};
 use cfg::{Broken, lower};
 use linear::Fact;
 use lists::{OutOfMemory, Seq};
-use program::{Block, Ending, Function, Program, Step};
+use program::{Block, Ending, Function, Inequality, Program, Step};
 use std::alloc::Global;
 
+/// Inequalities as facts.
+pub fn stated(alloc: Global, inequalities: &[Inequality]) -> Result<Vec<Fact>, OutOfMemory>
+    ensures { IfOk result (λ facts. facts.items ≡ stated inequalities.now) }
+{
+    let sums = differences_of(alloc, &[], inequalities)?;
+    let mut facts = Vec::new(alloc);
+    push_facts(alloc, &mut facts, &sums)?;
+    Ok(facts)
+}
+
 /// The facts at a block's start.
-fn start_facts(
+pub fn start_facts(
     alloc: Global,
     function: &Function,
     index: usize,
@@ -33,10 +43,7 @@ fn start_facts(
     } else {
         block.keeps.as_slice()
     };
-    let sums = differences_of(alloc, &[], inequalities)?;
-    let mut facts = Vec::new(alloc);
-    push_facts(alloc, &mut facts, &sums)?;
-    Ok(facts)
+    stated(alloc, inequalities)
 }
 
 /// Goes over a step: judges it, counts the facts that are known at it, and adds what it makes known.

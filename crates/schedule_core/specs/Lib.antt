@@ -1,7 +1,3 @@
-pub mod Scheduling
-pub mod Tasks
-pub mod Running
-pub mod Seen
+pub mod Lines
 pub mod Viewed
-pub mod Stepping
-pub mod Forking
+pub mod Replaying

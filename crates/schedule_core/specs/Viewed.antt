@@ -1,18 +1,44 @@
--- What the views of a machine show, in the definitions of running.
-use Rattle.std.specs.Prelude.{◌≡◌, ℕ, length, reverse, Option, Some, None}
+-- What the views of a run show, in the definitions of running.
+use Rattle.std.specs.Prelude.{◌≡◌, ◌≢◌, ◌⊎◌, ℕ, ℤ, length, reverse, Option, Some, None, IfSome, IsSomeAnd}
+use Rattle.std.specs.Cmp.Lexicographic.{slice_cmp}
+use Rattle.std.specs.Ordering.{nat_cmp}
+use Rattle.std.specs.declared.cmp.Ordering.TheVariants.{Greater}
+use Rattle.machine_core.specs.Paths.{Path as RunningPath}
 use Rattle.machine_core.specs.Events as running
 use Rattle.frame.specs.declared.path.Path.{Path}
 use Rattle.frame.specs.declared.frame.Wait as frame_wait
 use Rattle.frame.specs.declared.frame.Wait.TheVariants as wait
-use Rattle.frame.specs.Reading.{frame_of}
+use Rattle.frame.specs.declared.value.Cell.{Cell}
+use Rattle.frame.specs.Reading.{frame_of, cell_of}
+use Rattle.frame.specs.Room.{ObjectWithin}
 use Rattle.cactus.specs.declared.node.Node.{Node}
 use Rattle.cactus.specs.Frames.{Frames, node_at}
-use Rattle.schedule_core.specs.declared.activation.Activation.{Activation}
-use Rattle.schedule_core.specs.declared.machine.Machine.{Machine}
-use Rattle.schedule_core.specs.declared.view.Status.{Status}
-use Rattle.schedule_core.specs.declared.view.Status.TheVariants.{Running, Ready, Stalled}
-use Rattle.schedule_core.specs.declared.view.TaskView.{TaskView}
-use Rattle.schedule_core.specs.Seen.{seen, frames_of}
+use Rattle.cactus.specs.ByPath.{IsTree}
+use Rattle.worker_steps.specs.declared.activation.Activation.{Activation}
+use Rattle.worker_steps.specs.declared.run.Run.{Run}
+use Rattle.worker_steps.specs.Scheduling.{IsReady}
+use Rattle.worker_steps.specs.Seen.{seen, frames_of}
+use Rattle.worker_steps.specs.Tasks.{IsLowestBelow}
+use Rattle.schedule_core.specs.declared.task.Status.{Status}
+use Rattle.schedule_core.specs.declared.task.Status.TheVariants.{Running, Ready, Stalled}
+use Rattle.schedule_core.specs.declared.task.TaskView.{TaskView}
+use Rattle.schedule_core.specs.Lines.{line_of}
+
+-- ---- frames and cells
+
+-- the frame of the path, in the definitions' state
+abbrev pub place_in : Path → RunningPath
+place_in path = reverse path.numbers
+
+-- what the cell holds that the frame of the path names
+abbrev pub held_at : Run → Path → Cell → Option ℤ
+held_at run path cell = (seen run).core.memory (cell_of (place_in path) cell)
+
+-- no such frame lives, or the cell that it names holds nothing
+abbrev pub HoldsNothing : Run → Path → Cell → Type 0
+HoldsNothing run path cell = (seen run).core.frames (place_in path) ≢ None → ObjectWithin (length path.numbers) cell.object → held_at run path cell ≡ None
+
+-- ---- tasks
 
 abbrev pub unheld_status : frame_wait.Wait → Status
 unheld_status wait.Nothing = Ready
@@ -29,30 +55,77 @@ seen_status (Running worker) = running.Running worker
 seen_status Ready = running.Ready
 seen_status (Stalled region) = running.Stalled region.0
 
+-- how the task of this path stands, if it is a task's
+abbrev pub status_in : Run → Path → Option running.Status
+status_in run path = running.status_of (length run.hands.items) (seen run) (place_in path)
+
 -- the view is of these two slots
-pub record Shows (frames : Frames Activation) (low high : ℕ) (view : TaskView) : Type 0 where
+pub record Shows (run : Run) (low high : ℕ) (view : TaskView) : Type 0 where
   pub below : Node Activation
-  pub stands_below : node_at frames low ≡ Some below
+  pub stands_below : node_at run.cactus low ≡ Some below
   pub path : view.path.now ≡ below.path
   pub above : Node Activation
-  pub stands_above : node_at frames high ≡ Some above
+  pub stands_above : node_at run.cactus high ≡ Some above
   pub top : view.top.now ≡ above.frame.frame
   pub top_path : view.top_path.now ≡ above.path
   pub status : view.status ≡ status_by above.frame.runner above.frame.frame.waits
+  pub line : view.line ≡ line_of run.verified.now above.frame.frame above.frame.stalled_in
 
 -- the view's top frame stands at the top's path
-abbrev pub ShowsTop : Machine → TaskView → Type 0
-ShowsTop m view = frames_of m.cactus (reverse view.top_path.now.numbers) ≡ Some (frame_of (reverse view.top_path.now.numbers) view.top.now)
+abbrev pub ShowsTop : Run → TaskView → Type 0
+ShowsTop run view = (seen run).core.frames (place_in view.top_path.now) ≡ Some (frame_of (place_in view.top_path.now) view.top.now)
 
 -- the view is of the task of this path
-pub record IsTask (m : Machine) (path : Path) (view : TaskView) : Type 0 where
+pub record IsTask (run : Run) (path : Path) (view : TaskView) : Type 0 where
   pub named : view.path.now ≡ path
-  pub status : running.status_of (length m.hands.items) (seen m) (reverse path.numbers) ≡ Some (seen_status view.status)
-  pub top_path : running.top_of (seen m).core (reverse path.numbers) ≡ reverse view.top_path.now.numbers
-  pub top : ShowsTop m view
+  pub status : status_in run path ≡ Some (seen_status view.status)
+  pub top_path : running.top_of (seen run).core (place_in path) ≡ place_in view.top_path.now
+  pub top : ShowsTop run view
 
--- the view's top is in the worker's hand
-pub record IsRunBy (m : Machine) (worker : ℕ) (view : TaskView) : Type 0 where
+-- the view is of a task, whose top is in the worker's hand
+pub record IsRunBy (run : Run) (worker : ℕ) (view : TaskView) : Type 0 where
+  pub task : IsTask run view.path.now view
   pub status : view.status ≡ Running worker
-  pub hand : (seen m).hands worker ≡ Some (reverse view.top_path.now.numbers)
-  pub top : ShowsTop m view
+  pub hand : (seen run).hands worker ≡ Some (place_in view.top_path.now)
+
+-- ---- the first task that may be stolen
+
+-- by numbers from the root on, a beginning first
+abbrev pub IsAtMost : Path → Path → Type 0
+IsAtMost p q = slice_cmp nat_cmp p.numbers q.numbers ≢ Greater
+
+-- the slot's frame stands on the task of this path
+pub record IsNamedBelow (frames : Frames Activation) (slot : ℕ) (path : Path) : Type 0 where
+  pub low : ℕ
+  pub below : IsLowestBelow frames slot low
+  pub lowest : Node Activation
+  pub stands : node_at frames low ≡ Some lowest
+  pub named : lowest.path ≡ path
+
+-- the slot's frame is the top of the ready task of this path
+pub record IsReadyAt (frames : Frames Activation) (slot : ℕ) (path : Path) : Type 0 where
+  pub top : Node Activation
+  pub stands : node_at frames slot ≡ Some top
+  pub ready : IsReady top.frame
+  pub task : IsNamedBelow frames slot path
+
+-- the lesser of a path and another, if there is another
+pub record IsLesser (first : Option Path) (path least : Path) : Type 0 where
+  pub among : (least ≡ path) ⊎ (first ≡ Some least)
+  pub at_most : IsAtMost least path
+  pub at_most_first : (p : Path) → first ≡ Some p → IsAtMost least p
+
+-- the next is a path that stood first, or that of the slot's top, and at most as great as both
+pub record Advances (frames : Frames Activation) (slot : ℕ) (first next : Option Path) : Type 0 where
+  pub among : IfSome next (λ path. (first ≡ Some path) ⊎ IsReadyAt frames slot path)
+  pub at_most : (path : Path) → first ≡ Some path → IsSomeAnd next (λ least. IsAtMost least path)
+  pub covers : IsTree frames → (path : Path) → IsReadyAt frames slot path → IsSomeAnd next (λ least. IsAtMost least path)
+
+-- the path is a ready task's, and no other ready task's is less
+pub record IsFirstReady (run : Run) (path : Path) : Type 0 where
+  pub ready : status_in run path ≡ Some running.Ready
+  pub least : (other : Path) → status_in run other ≡ Some running.Ready → IsAtMost path other
+
+-- no task is ready
+abbrev pub IsNoneReady : Run → Type 0
+IsNoneReady run = (path : Path) → status_in run path ≢ Some running.Ready

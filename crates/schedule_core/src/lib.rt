@@ -3,19 +3,14 @@
 //! schedule, and a run is a function of it.
 #![tactic(auto)]
 
-mod activation;
-mod control;
 mod event;
-mod halt;
+mod events;
 mod machine;
-mod plain;
 mod schedule;
-#[cfg(test)]
-mod tests;
+mod task;
 mod view;
 
-pub use activation::Activation;
 pub use event::Event;
 pub use machine::Machine;
 pub use schedule::replay;
-pub use view::{Status, TaskView};
+pub use task::{Status, TaskView};

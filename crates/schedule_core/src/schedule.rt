@@ -1,16 +1,18 @@
 ghost use Rattle.std.specs.Prelude.{◌≡◌, ℕ, Some, None, IfOk, OnOk};
 ghost use Rattle.serial_machine.specs.Requirements.{unmet_in};
 ghost use Rattle.store.specs.declared.memory.Memory.{Memory};
-ghost use Rattle.schedule_core.specs.Running.{IsTrapped, IsNumberOfWorkers};
-ghost use Rattle.schedule_core.specs.Stepping.{Replays};
+ghost use Rattle.worker_steps.specs.Running.{IsTrapped, IsNumberOfWorkers};
+ghost use Rattle.schedule_core.specs.Replaying.{Replays, Stops};
 
 use crate::event::Event;
+use crate::events::{apply_all, begin};
 use crate::machine::Machine;
 use lists::OutOfMemory;
 use serial_machine::RunFault;
 use std::alloc::Global;
 use store::Memory;
 use verifier::Verified;
+use worker_steps::Phase;
 
 /// The machine after a schedule; an event that is not enabled changes nothing.
 ///
@@ -25,18 +27,19 @@ pub fn replay<'v>(
     workers: usize,
     events: &[Event],
 ) -> Result<Machine<'v>, RunFault>
-    ensures sound { IfOk result (λ m. ¬ IsTrapped m) }
-    ensures replays { IfOk result (λ m. Replays verified.now arguments.now memory workers events.now m) }
+    ensures sound { IfOk result (λ m. ¬ IsTrapped m.run) }
+    ensures replays { IfOk result (λ m. Replays verified.now arguments.now memory workers events.now m.run) }
     ensures in_range { OnOk result (IsNumberOfWorkers workers) }
     ensures bad_workers { (m : Memory) → result ≡ Err (RunFault.BadWorkers m) → (m ≡ memory) × ¬ IsNumberOfWorkers workers }
     ensures bad_arguments { (requirement : ℕ) (m : Memory) → result ≡ Err (RunFault.BadArguments requirement m) → m ≡ memory }
     ensures unmet { (requirement : ℕ) (m : Memory) → result ≡ Err (RunFault.BadArguments requirement m) → unmet_in verified.now arguments.now ≡ Some requirement }
     ensures met { OnOk result (unmet_in verified.now arguments.now ≡ None) }
+    ensures trapped { result ≡ Err RunFault.Trapped → Stops verified.now arguments.now memory workers events.now }
 {
-    let mut machine = Machine::start(alloc, verified, arguments, memory, workers)?;
-    match machine.apply_all(events) {
+    let mut run = begin(alloc, verified, arguments, memory, workers)?;
+    match apply_all(&mut run, events) {
         Err(OutOfMemory) => Err(RunFault::OutOfMemory),
-        Ok(()) if machine.is_trapped() => Err(RunFault::Trapped),
-        Ok(()) => Ok(machine),
+        Ok(()) if run.phase == Phase::Trapped => Err(RunFault::Trapped),
+        Ok(()) => Ok(Machine { run }),
     }
 }

@@ -1,204 +1,140 @@
-ghost use Rattle.std.specs.Prelude.{◌≡◌, ◌↔◌, IsTrue, IfSome, IfNone};
+ghost use Rattle.std.specs.Prelude.{◌≡◌, ◌↔◌, None, Some, IsSome, IsSomeAnd, IfNone, IfSome};
 ghost use Rattle.std.specs.Option.{option_copied, option_map};
-ghost use Rattle.cactus.specs.Frames.{HasPath, HasNoPath, node_of_use};
-ghost use Rattle.schedule_core.specs.Seen.{Agrees};
-ghost use Rattle.schedule_core.specs.Viewed.{status_by, Shows, IsTask, IsRunBy};
-ghost use Rattle.schedule_core.specs.Seen.{FindsTop, top_within};
-ghost use Rattle.schedule_core.specs.Tasks.{IsLowest, IsTopAbove, IsTaskTop};
+ghost use Rattle.cactus.specs.Frames.{Lives, HasPath, frame_at, node_of_use};
+ghost use Rattle.cactus.specs.ByPath.{IsTree};
+ghost use Rattle.worker_steps.specs.Running.{IsTrapped};
+ghost use Rattle.worker_steps.specs.Scheduling.{IsReady};
+ghost use Rattle.worker_steps.specs.Seen.{seen};
+ghost use Rattle.schedule_core.specs.Viewed.{Advances, HoldsNothing, IsFirstReady, IsLesser, IsNamedBelow, IsNoneReady, IsReadyAt, IsRunBy, IsTask, Shows, held_at, place_in, status_in};
 
-use crate::activation::Activation;
 use crate::machine::Machine;
-use cactus::Node;
-use frame::{Cell, Frame, Path, Role, Wait, block_at};
-use program::{Block, Program, RegisterId};
+use crate::task::{TaskView, line, standing};
+use frame::{Cell, Path};
+use std::cmp::Ordering;
 
-/// How a task stands.
-#[derive(Clone, Copy, Debug, PartialEq, Eq)]
-pub enum Status {
-    /// The worker runs it.
-    Running(u8),
-    /// No worker runs it; a thief may take it.
-    Ready,
-    /// It stands at a sync within the region; the last child that it waits for takes it on.
-    Stalled(RegisterId),
-}
-
-/// A task, between two events. It is named by the path of its lowest frame.
-#[derive(Clone, Copy)]
-pub struct TaskView<'a> {
-    pub path: &'a Path,
-    pub status: Status,
-    /// The frame whose instruction is next.
-    pub top: &'a Frame,
-    pub top_path: &'a Path,
-    /// The line of that instruction; of a stalled task the line of its sync.
-    pub line: u32,
-}
-
-/// How the task stands whose top this is.
-fn standing(top: &Activation) -> Status
-    ensures { result ≡ status_by top.now.runner top.now.frame.waits }
+/// The lesser of two paths.
+fn lesser<'a>(first: &'a Path, path: &'a Path) -> &'a Path
+    ensures { IsLesser (Some first.now) path.now result.now }
 {
-    match (top.runner, top.frame.waits) {
-        (Some(worker), _) => Status::Running(worker),
-        (None, Wait::Region(region)) => Status::Stalled(region),
-        (None, _) => Status::Ready,
+    match path.compare(first) {
+        Ordering::Less => path,
+        _ => first,
     }
 }
 
-/// The line of the frame's next instruction.
-fn next_line(program: &Program, frame: &Frame) -> Option<u32> {
-    let block = block_at(program, frame.function, frame.block)?;
-    match block.steps.as_slice().get(frame.index) {
-        Some(step) => Some(step.line),
-        None => ending_line(block),
-    }
-}
-
-/// The line of the block's terminator.
-fn ending_line(block: &Block) -> Option<u32> {
-    match &block.ending {
-        Some(ending) => Some(ending.line),
-        None => None,
-    }
-}
-
-/// The line at which the task stands whose top this is.
-fn line(program: &Program, top: &Activation) -> Option<u32> {
-    match top.stalled_in {
-        Some(block) => ending_line(block_at(program, top.frame.function, block)?),
-        None => next_line(program, &top.frame),
+/// The lesser of the path and another, if there is another.
+fn lesser_of<'a>(first: Option<&'a Path>, path: &'a Path) -> &'a Path
+    ensures { IsLesser (option_copied first.entry) path.now result.now }
+{
+    match first {
+        Some(other) => lesser(other, path),
+        None => path,
     }
 }
 
 impl Machine<'_> {
-    /// Whether a path is that of a task: the root's, or a detached child's.
-    fn is_lowest(node: &Node<Activation>) -> bool
-        ensures { IsTrue result ↔ IsLowest node.now }
-    {
-        node.parent.is_none() || node.frame.frame.role != Role::Body
-    }
-
-    /// The slot of the top of the task whose lowest frame is in the slot: no task has more frames than the peak.
-    fn top_above(&self, lowest: usize) -> Option<usize>
-        ensures is_top { IfSome result (IsTopAbove self.now.cactus lowest) }
-        ensures exact { result ≡ top_within self.now.cactus self.now.peak lowest }
-    {
-        let mut top = lowest;
-        for _ in 0..self.peak {
-            match self.cactus.node(top)?.frame.callee {
-                Some(callee) => top = callee,
-                None => return Some(top),
-            }
-        }
-        match self.cactus.node(top)?.frame.callee {
-            Some(_) => None,
-            None => Some(top),
-        }
-    }
-
-    /// The slot of the lowest frame of the task whose top is in the slot.
-    fn lowest_below(&self, top: usize) -> Option<usize> {
-        let mut lowest = top;
-        for _ in 0..self.cactus.live_frames() {
-            let node = self.cactus.node(lowest)?;
-            if Machine::is_lowest(node) {
-                return Some(lowest);
-            }
-            lowest = node.parent?;
-        }
-        None
-    }
-
-    /// The slot of the top of the task of the path.
-    pub(crate) fn top_of(&self, path: &Path) -> Option<usize>
-        ensures is_top { IfSome result (IsTaskTop self.now.cactus path.now) }
-        ensures exact { FindsTop self.now.cactus self.now.peak path.now result }
-    {
-        let (lowest, generation) = self.cactus.spot(path)?;
-        let node = self.cactus.get(lowest, generation)?;
-        if Machine::is_lowest(node) {
-            self.top_above(lowest)
-        } else {
-            None
-        }
-    }
-
     /// The task with this lowest frame and this top.
     fn view(&self, lowest: usize, top: usize) -> Option<TaskView<'_>>
-        ensures { IfSome result (λ view. Shows self.now.cactus lowest top view) }
+        ensures shown { IfSome result (λ view. Shows self.now.run lowest top view) }
+        ensures found { Lives self.now.run.cactus lowest → Lives self.now.run.cactus top → IsSome result }
     {
-        let path = &self.cactus.node(lowest)?.path;
-        let node = self.cactus.node(top)?;
+        let path = &self.run.cactus.node(lowest)?.path;
+        let node = self.run.cactus.node(top)?;
         Some(TaskView {
             path,
             status: standing(&node.frame),
             top: &node.frame.frame,
             top_path: &node.path,
-            line: line(self.program(), &node.frame)?,
+            line: line(self.run.program(), &node.frame),
         })
     }
 
     /// The task of the path; none where the path is no task's.
     pub fn task(&self, path: &Path) -> Option<TaskView<'_>>
-        ensures { Agrees self.now.cactus self.now.hands.items → IfSome result (IsTask self.now path.now) }
+        ensures shown { ¬ IsTrapped self.now.run → IfSome result (IsTask self.now.run path.now) }
+        ensures absent { ¬ IsTrapped self.now.run → IfNone result (status_in self.now.run path.now ≡ None) }
     {
-        let top = self.top_of(path)?;
-        let (lowest, _generation) = self.cactus.spot(path)?;
+        let top = self.run.top_of(path)?;
+        let (lowest, _generation) = self.run.cactus.spot(path)?;
         self.view(lowest, top)
     }
 
     /// The task that the worker runs; none where it is idle.
     pub fn task_of(&self, worker: u8) -> Option<TaskView<'_>>
-        ensures { Agrees self.now.cactus self.now.hands.items → IfSome result (IsRunBy self.now worker) }
+        ensures shown { ¬ IsTrapped self.now.run → IfSome result (IsRunBy self.now.run worker) }
+        ensures idle { ¬ IsTrapped self.now.run → IfNone result ((seen self.now.run).hands worker ≡ None) }
     {
-        let top = self.hand(worker)?;
-        self.view(self.lowest_below(top)?, top)
+        let top = self.run.hand(worker)?;
+        self.view(self.run.lowest_below(top)?, top)
+    }
+
+    /// The path of the task on which the slot's frame stands.
+    fn lowest_path(&self, slot: usize) -> Option<&Path>
+        ensures shown { IfSome (option_copied result) (IsNamedBelow self.now.run.cactus slot) }
+        ensures found { IsTree self.now.run.cactus → Lives self.now.run.cactus slot → IsSome result }
+    {
+        let lowest = self.run.lowest_below(slot)?;
+        Some(&self.run.cactus.node(lowest)?.path)
+    }
+
+    /// The path of the task of which the slot's frame is the top, where the task is ready.
+    fn ready_task(&self, slot: usize) -> Option<&Path>
+        ensures shown { IfSome (option_copied result) (IsReadyAt self.now.run.cactus slot) }
+        ensures absent { IsTree self.now.run.cactus → IfNone (option_copied result) (¬ IsSomeAnd (frame_at self.now.run.cactus slot) IsReady) }
+    {
+        let node = self.run.cactus.node(slot)?;
+        if node.frame.is_ready() {
+            self.lowest_path(slot)
+        } else {
+            None
+        }
+    }
+
+    /// The lesser of the path, if there is one, and that of the task of which the slot's frame is the top, if it is ready.
+    fn first_of<'a>(&'a self, first: Option<&'a Path>, slot: usize) -> Option<&'a Path>
+        ensures { Advances self.now.run.cactus slot (option_copied first.entry) (option_copied result) }
+    {
+        match self.ready_task(slot) {
+            Some(path) => Some(lesser_of(first, path)),
+            None => first,
+        }
     }
 
     /// The path of the ready task of least path.
-    pub fn first_ready(&self) -> Option<&Path> {
+    pub fn first_ready(&self) -> Option<&Path>
+        ensures least { ¬ IsTrapped self.now.run → IfSome (option_copied result) (IsFirstReady self.now.run) }
+        ensures none { ¬ IsTrapped self.now.run → IfNone (option_copied result) (IsNoneReady self.now.run) }
+    {
         let mut first: Option<&Path> = None;
-        for (slot, node) in self.cactus.iter() {
-            if !node.frame.is_ready() {
-                continue;
-            }
-            let Some(lowest) = self.lowest_below(slot) else {
-                continue;
-            };
-            let Some(task) = self.cactus.node(lowest) else {
-                continue;
-            };
-            let is_less = match first {
-                Some(least) => task.path.compare(least).is_lt(),
-                None => true,
-            };
-            if is_less {
-                first = Some(&task.path);
-            }
+        for (slot, _node) in self.run.cactus.iter() {
+            first = self.first_of(first, slot);
         }
         first
     }
 
     /// The slot and the generation of the frame of this path; none where no such frame lives.
     pub fn spot(&self, path: &Path) -> Option<(usize, u64)>
-        ensures found { IfSome result (λ spot. HasPath self.now.cactus spot.0 spot.1 path.now) }
-        ensures absent { IfNone result (HasNoPath self.now.cactus path.now) }
+        ensures found { IfSome result (λ spot. HasPath self.now.run.cactus spot.0 spot.1 path.now) }
+        ensures lives { IsSome result ↔ IsSome ((seen self.now.run).core.frames (place_in path.now)) }
     {
-        self.cactus.spot(path)
+        self.run.cactus.spot(path)
     }
 
     /// The path of the frame that lives in this use of a slot.
     pub fn path_at(&self, slot: usize, generation: u64) -> Option<&Path>
-        ensures { option_copied result ≡ option_map (λ node. node.path) (node_of_use self.now.cactus slot generation) }
+        ensures { option_copied result ≡ option_map (λ node. node.path) (node_of_use self.now.run.cactus slot generation) }
     {
-        self.cactus.path_at(slot, generation)
+        self.run.cactus.path_at(slot, generation)
     }
 
     /// What a cell holds as the frame of the path names it: none where it is not there, and none inside where it is
     /// undefined.
-    pub fn cell(&self, path: &Path, cell: Cell) -> Option<Option<i64>> {
-        let (slot, _generation) = self.cactus.spot(path)?;
-        self.cell_of(slot, cell)
+    pub fn cell(&self, path: &Path, cell: Cell) -> Option<Option<i64>>
+        ensures held { ¬ IsTrapped self.now.run → IfSome result (λ held. held_at self.now.run path.now cell ≡ held) }
+        ensures absent { ¬ IsTrapped self.now.run → IfNone result (HoldsNothing self.now.run path.now cell) }
+        ensures lives { IsSome result → IsSome ((seen self.now.run).core.frames (place_in path.now)) }
+    {
+        let (slot, _generation) = self.run.cactus.spot(path)?;
+        self.run.cell_of(slot, cell)
     }
 }

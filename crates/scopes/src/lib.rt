@@ -16,8 +16,6 @@ mod operand;
 mod reach;
 mod scope;
 mod table;
-#[cfg(test)]
-mod tests;
 
 pub use address::{WholeObject, resolve_address, resolve_object};
 pub use fault::{

@@ -8,8 +8,6 @@ mod outcome;
 mod run;
 mod stack;
 mod stepping;
-#[cfg(test)]
-mod tests;
 
 pub use arguments::unmet_requirement;
 pub use law::steps_mean;

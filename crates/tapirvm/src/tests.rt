@@ -1,10 +1,12 @@
 //! The program's texts and statuses over whole modules. Expected answers are worked by hand.
 
+mod machines;
 mod refusals;
 mod replays;
 mod runs;
 mod samples;
 mod statuses;
+mod traps;
 mod verdicts;
 
 use crate::act::act;
@@ -13,6 +15,7 @@ use std::hash::RandomState;
 use std::process::Abort;
 use std::random::RandomSource;
 use std::test::Fail;
+use verifier::{Verified, verify};
 
 /// What the program writes on a command line, its words parted by one space, over a module and a
 /// schedule; and its status.
@@ -41,6 +44,14 @@ fn told(
         &mut output,
     );
     Ok((status, output))
+}
+
+/// The module that the text means.
+fn verified(rt: &(impl Abort + AllocGlobal + RandomSource), text: &str) -> Result<Verified, Fail> {
+    match verify(rt.alloc(), RandomState::new(rt)?, text.as_bytes()) {
+        Ok(verified) => Ok(verified),
+        Err(_) => Err(Fail::from("refused")),
+    }
 }
 
 /// Asserts what is told over a module.

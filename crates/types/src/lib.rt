@@ -19,8 +19,6 @@ mod check;
 mod function;
 mod instruction;
 mod terminator;
-#[cfg(test)]
-mod tests;
 mod typed;
 
 pub use check::check_types;

@@ -1,15 +1,14 @@
 -- Each cell that an instruction uses lies in the zones of its place.
-use Rattle.std.proofs.Common.{◌≡◌, ◌∙◌, ℕ, zero, suc, ◌<◌, List, [], ◌∷◌, Option, Some, None, Bool, true, false, cond, refl, sym, ap, subst, ℤ, pos, ◌+ℤ◌, ◌*ℤ◌, ◌≤ℤ◌, arith}
+use Rattle.std.proofs.Common.{◌≡◌, ◌∙◌, ℕ, zero, suc, ◌<◌, List, [], ◌∷◌, Option, Some, None, Bool, true, false, cond, refl, sym, ap, subst, ℤ, pos, ◌+ℤ◌, ◌≤ℤ◌, arith}
 use Rattle.std.specs.Prelude.{◌==◌, slice_get}
-use Rattle.std.proofs.lemmas.Bool.{false≢true}
+use Rattle.std.proofs.lemmas.Bool.{false≢true, eqb-true}
 use Rattle.std.proofs.lemmas.Int.{ints}
 use Rattle.syntax.specs.declared.operator.Mode.{Mode}
 use Rattle.syntax.specs.declared.operator.Mode.TheVariants.{Reads, Writes, Adds}
 use Rattle.linear.specs.declared.form.RegisterId.{RegisterId}
 use Rattle.machine_core.specs.Cells.{Object, Cell}
-use Rattle.machine_core.specs.Frames.{Frame, and_then, cell_of, object_at, first_cell, cell_at}
+use Rattle.machine_core.specs.Frames.{Frame, and_then, object_at, first_cell, cell_at}
 use Rattle.program.specs.declared.identifier.ObjectName.{ObjectName}
-use Rattle.program.specs.declared.annotation.Zone.{Zone}
 use Rattle.program.specs.declared.function.Block.{Block}
 use Rattle.program.specs.declared.function.Function.{Function}
 use Rattle.program.specs.declared.function.Program.{Program}
@@ -32,7 +31,7 @@ use Rattle.footprints.specs.Footprints.{Place, pointed, pointer_of, or_else, add
 use Rattle.footprints.specs.Footprints.{first_cell as first_named}
 use Rattle.footprints.specs.Rules.{place_in}
 use Rattle.bridge.specs.Costs.{numbers}
-use Rattle.zone_laws.specs.Uses.{StandsIn, KnownHolds, NamesApart, ElementsHold, task_of, MayUse}
+use Rattle.zone_laws.specs.Uses.{StandsIn, KnownHolds, NamesApart, IsAt, ElementsHold, task_of, MayUse}
 use Rattle.zone_laws.specs.Accesses.{AreZonesRight, AccessesAreLet}
 use Rattle.zone_laws.proofs.Places.{step_here, step_covered, step_clear}
 use Rattle.zone_laws.proofs.Spans.{span_let, used_name}
@@ -70,16 +69,17 @@ same_cell_held a b e = cc
 same_cell_named : (a b : NamedCell) → Some a ≡ Some b → a ≡ b
 same_cell_named a b e = cc
 
-chosen_cell : (d x : RegisterId) (name : ObjectName) (index : Operand) (named : NamedCell) (b : Bool) → cond b (Some (record { object = name; index = index })) None ≡ Some named → instruction.ElementPointer d name index ≡ instruction.ElementPointer d named.object named.index
-chosen_cell d x name index named true e = ap (λ (n : NamedCell). instruction.ElementPointer d n.object n.index) (same_cell_named (record { object = name; index = index }) named e)
-chosen_cell d x name index named false e = absurd (cc)
+chosen_cell : (d x : RegisterId) (name : ObjectName) (index : Operand) (named : NamedCell) (b : Bool) → d.0 == x.0 ≡ b → cond b (Some (record { object = name; index = index })) None ≡ Some named →
+    (instruction.ElementPointer d name index ≡ instruction.ElementPointer d named.object named.index) × (d.0 ≡ x.0)
+chosen_cell d x name index named true is e = (ap (λ (n : NamedCell). instruction.ElementPointer d n.object n.index) (same_cell_named (record { object = name; index = index }) named e), eqb-true d.0 x.0 is)
+chosen_cell d x name index named false is e = absurd (cc)
 
-defines : (x : RegisterId) (what : Instruction) (named : NamedCell) → pointer_of x what ≡ Some named → (d : RegisterId) × (what ≡ instruction.ElementPointer d named.object named.index)
+defines : (x : RegisterId) (what : Instruction) (named : NamedCell) → pointer_of x what ≡ Some named → (d : RegisterId) × (what ≡ instruction.ElementPointer d named.object named.index) × (d.0 ≡ x.0)
 defines x (instruction.Binary d op w a b) named e = absurd (cc)
 defines x (instruction.Compare d by w a b) named e = absurd (cc)
 defines x (instruction.Convert d by a) named e = absurd (cc)
 defines x (instruction.Alloca d a) named e = absurd (cc)
-defines x (instruction.ElementPointer d name i) named e = (d, chosen_cell d x name i named (d.0 == x.0) e)
+defines x (instruction.ElementPointer d name i) named e = let h = chosen_cell d x name i named (d.0 == x.0) refl e in (d, h.0, h.1)
 defines x (instruction.Load d address) named e = absurd (cc)
 defines x (instruction.Store a address) named e = absurd (cc)
 defines x (instruction.StoreZeros cells name) named e = absurd (cc)
@@ -87,16 +87,16 @@ defines x (instruction.AtomicAdd address a) named e = absurd (cc)
 defines x (instruction.Call d callee arguments) named e = absurd (cc)
 defines x (instruction.StartRegion d) named e = absurd (cc)
 
-abbrev PointedAt : List Step → NamedCell → Type 0
-PointedAt steps named = (s : ℕ) × (step : Step) × (d : RegisterId) × (slice_get steps s ≡ Some step) × (step.instruction ≡ instruction.ElementPointer d named.object named.index)
+abbrev pub PointedAt : RegisterId → List Step → NamedCell → Type 0
+PointedAt x steps named = (s : ℕ) × (step : Step) × (d : RegisterId) × (slice_get steps s ≡ Some step) × (step.instruction ≡ instruction.ElementPointer d named.object named.index) × (d.0 ≡ x.0)
 
-pointed_at : (x : RegisterId) (steps : List Step) (named : NamedCell) → pointed x steps ≡ Some named → PointedAt steps named
+pub pointed_at : (x : RegisterId) (steps : List Step) (named : NamedCell) → pointed x steps ≡ Some named → PointedAt x steps named
 pointed_at x [] named e = absurd (cc)
 pointed_at x (step ∷ steps) named e = from (pointer_of x step.instruction) refl (λ k. pointed_at x steps named k) e
   where
-    from : (o : Option NamedCell) → pointer_of x step.instruction ≡ o → (pointed x steps ≡ Some named → PointedAt steps named) → or_else o (pointed x steps) ≡ Some named → PointedAt (step ∷ steps) named
-    from None at later k = let h = later k in (suc h.0, h.1, h.2, h.3, h.4)
-    from (Some n) at later k = let h = defines x step.instruction named (at ∙ k) in (zero, step, h.0, refl, h.1)
+    from : (o : Option NamedCell) → pointer_of x step.instruction ≡ o → (pointed x steps ≡ Some named → PointedAt x steps named) → or_else o (pointed x steps) ≡ Some named → PointedAt x (step ∷ steps) named
+    from None at later k = let h = later k in (suc h.0, h.1, h.2, h.3, h.4, h.5)
+    from (Some n) at later k = let h = defines x step.instruction named (at ∙ k) in (zero, step, h.0, refl, h.1, h.2)
 
 module _ (prog : Program) (regions : Regions) (right : AreZonesRight prog regions) (f : Frame) (function : Function) (block : Block) (stands : StandsIn prog f function block)
     (known : KnownHolds prog f function block) (names : NamesApart prog f) (elements : ElementsHold f block) where
@@ -117,9 +117,9 @@ module _ (prog : Program) (regions : Regions) (right : AreZonesRight prog region
         (cells_have (numbers f.registers) step.line mode named count k c index lt) (used_name prog.functions f.function named.object named_by) (sym (ap (λ (u : Use). u.covered) is) ∙ covered) (sym (ap (λ (u : Use). u.clear) is) ∙ clear)
 
     -- a use of one cell at an address
-    address_let : (mode : Mode) (address : Address) (c : Cell) → ((name : ObjectName) → address ≡ First name → IsNamedBy prog.functions f.function name) → cell_at f address ≡ Some c →
+    address_let : (mode : Mode) (address : Address) (c : Cell) → IsAt step.instruction address → ((name : ObjectName) → address ≡ First name → IsNamedBy prog.functions f.function name) → cell_at f address ≡ Some c →
         (cell_use place step.line mode (address_cell block.steps address)).covered ≡ true → (cell_use place step.line mode (address_cell block.steps address)).clear ≡ true → MayUse regions f function block mode c
-    address_let mode (First name) c named_by is covered clear = from (object_at f name) refl is
+    address_let mode (First name) c used named_by is covered clear = from (object_at f name) refl is
       where
         from : (o : Option Object) → object_at f name ≡ o → and_then o (λ (x : Object). Some (first_cell x)) ≡ Some c → MayUse regions f function block mode c
         from None e k = absurd (cc)
@@ -127,13 +127,13 @@ module _ (prog : Program) (regions : Regions) (right : AreZonesRight prog region
             let same = same_cell_held (first_cell o) c k in
             zone_let mode (first_named name) 1 0 c (cell_use place step.line mode (address_cell block.steps (First name))) refl covered clear (named_by name refl)
             (e ∙ ap (λ (x : Cell). Some x.object) same) (plain (pos 0) c.index (ap (λ (x : Cell). pos x.index) same)) (omega arith)
-    address_let mode (Element x) c named_by is covered clear = from (pointed x block.steps) refl covered clear
+    address_let mode (Element x) c used named_by is covered clear = from (pointed x block.steps) refl covered clear
       where
         from : (o : Option NamedCell) → pointed x block.steps ≡ o → (cell_use place step.line mode o).covered ≡ true → (cell_use place step.line mode o).clear ≡ true → MayUse regions f function block mode c
         from None e a b = absurd (false≢true a)
         from (Some named) e a b =
             let there = pointed_at x block.steps named e in
-            let holds = elements x named c e is in
+            let holds = elements step x named c at used e is in
             zone_let mode named 1 0 c (cell_use place step.line mode (Some named)) refl a b (named_in there.0 there.1 named.object there.3 (instruction.ElementPointer there.2 named.object named.index) there.4 refl)
             holds.0 (plain (operand_value (numbers f.registers) named.index) c.index holds.1) (omega arith)
 
@@ -156,11 +156,11 @@ module _ (prog : Program) (regions : Regions) (right : AreZonesRight prog region
     instruction_let (instruction.Load d address) mode c is u =
         let what : Instruction = instruction.Load d address in
         let rule = judged what is in
-        subst (λ (m : Mode). MayUse regions f function block m c) u.0 (address_let Reads address c (λ name e. named_in f.index step name at what is (names_first address name e)) u.1 rule.0 rule.1)
+        subst (λ (m : Mode). MayUse regions f function block m c) u.0 (address_let Reads address c (subst (λ (i : Instruction). IsAt i address) (sym is) refl) (λ name e. named_in f.index step name at what is (names_first address name e)) u.1 rule.0 rule.1)
     instruction_let (instruction.Store a address) mode c is u =
         let what : Instruction = instruction.Store a address in
         let rule = judged what is in
-        subst (λ (m : Mode). MayUse regions f function block m c) u.0 (address_let Writes address c (λ name e. named_in f.index step name at what is (names_first address name e)) u.1 rule.0 rule.1)
+        subst (λ (m : Mode). MayUse regions f function block m c) u.0 (address_let Writes address c (subst (λ (i : Instruction). IsAt i address) (sym is) refl) (λ name e. named_in f.index step name at what is (names_first address name e)) u.1 rule.0 rule.1)
     instruction_let (instruction.StoreZeros cells name) mode c is u =
         let what : Instruction = instruction.StoreZeros cells name in
         let rule = judged what is in
@@ -169,7 +169,7 @@ module _ (prog : Program) (regions : Regions) (right : AreZonesRight prog region
     instruction_let (instruction.AtomicAdd address a) mode c is u =
         let what : Instruction = instruction.AtomicAdd address a in
         let rule = judged what is in
-        subst (λ (m : Mode). MayUse regions f function block m c) u.0 (address_let Adds address c (λ name e. named_in f.index step name at what is (names_first address name e)) u.1 rule.0 rule.1)
+        subst (λ (m : Mode). MayUse regions f function block m c) u.0 (address_let Adds address c (subst (λ (i : Instruction). IsAt i address) (sym is) refl) (λ name e. named_in f.index step name at what is (names_first address name e)) u.1 rule.0 rule.1)
     instruction_let (instruction.Call d callee arguments) mode c is u = absurd u
     instruction_let (instruction.StartRegion d) mode c is u = absurd u
 

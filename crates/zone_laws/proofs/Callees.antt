@@ -1,5 +1,5 @@
 -- What a callee may touch, its caller may touch at the call.
-use Rattle.std.proofs.Common.{◌≡◌, ◌∙◌, ℕ, zero, suc, ◌+◌, ◌<◌, ◌≤◌, ℤ, pos, ◌+ℤ◌, ◌*ℤ◌, ◌≤ℤ◌, List, [], ◌∷◌, length, Option, Some, None, Bool, true, false, cond, eqb, inl, inr, refl, sym, ap, subst, arith}
+use Rattle.std.proofs.Common.{◌≡◌, ◌∙◌, ℕ, zero, suc, ◌+◌, ◌<◌, ℤ, pos, ◌+ℤ◌, ◌*ℤ◌, ◌≤ℤ◌, List, [], ◌∷◌, length, Option, Some, None, true, inl, inr, refl, sym, ap, subst, arith}
 use Rattle.std.specs.Prelude.{◌==◌, if◌then◌else◌, Contains, All, slice_get}
 use Rattle.std.specs.Option.{option_map}
 use Rattle.std.proofs.lemmas.Bool.{false≢true}
@@ -10,9 +10,9 @@ use Rattle.linear.specs.declared.form.RegisterId.{RegisterId}
 use Rattle.linear.specs.declared.form.Term.{Term}
 use Rattle.linear.specs.Forms.{Combination, value_of, value}
 use Rattle.machine_core.specs.Paths.{Path}
-use Rattle.machine_core.specs.Cells.{Object, Cell, Memory}
-use Rattle.machine_core.specs.Frames.{Value, Word, Truth, Pointer, Region, Registers, Frame, Does, and_then, cell_of, word_of, word_at, object_at, first_cell}
-use Rattle.machine_core.specs.Effect.{Call, argument_value, argument_values, action_of}
+use Rattle.machine_core.specs.Cells.{Object, Cell}
+use Rattle.machine_core.specs.Frames.{Value, Word, Pointer, Frame, and_then, cell_of, word_of, word_at, object_at, first_cell}
+use Rattle.machine_core.specs.Effect.{argument_value, argument_values}
 use Rattle.machine_core.specs.State.{called}
 use Rattle.program.specs.declared.annotation.Zone.{Zone}
 use Rattle.program.specs.declared.identifier.FunctionId.{FunctionId}
@@ -28,15 +28,15 @@ use Rattle.program.specs.declared.instruction.Instruction.TheVariants as instruc
 use Rattle.program.specs.declared.instruction.Operand.{Operand}
 use Rattle.program.specs.declared.instruction.Operand.TheVariants.{Number, Register}
 use Rattle.program.specs.declared.instruction.Step.{Step}
-use Rattle.types.specs.Apart.{IsInstructionAt, InstructionNames, IsNamedBy, in_instruction, in_zone, Reaches, itself, through}
+use Rattle.types.specs.Apart.{IsInstructionAt, in_instruction, in_zone, itself, through}
 use Rattle.cfg.specs.declared.structure.Move.{Move}
 use Rattle.region_match.specs.declared.tables.Regions.{Regions}
 use Rattle.ranges.specs.Inequalities.{operand_for, argument_operand, argument_moves}
 use Rattle.ranges.specs.Places.{facts_at_step}
 use Rattle.ranges.specs.Truth.{operand_value}
-use Rattle.footprints.specs.Zones.{Span, span}
-use Rattle.footprints.specs.Cells.{terms_value, end_value, HasCell}
-use Rattle.footprints.specs.Footprints.{Place, is_allowed, is_clear, argument_object, put_object, put_in, is_put_allowed, is_put_clear, callee_use, call_use, step_use}
+use Rattle.footprints.specs.Zones.{span}
+use Rattle.footprints.specs.Cells.{terms_value, end_value}
+use Rattle.footprints.specs.Footprints.{Place, argument_object, put_object, put_in, is_put_allowed, is_put_clear, callee_use, call_use, step_use}
 use Rattle.footprints.specs.Rules.{place_in}
 use Rattle.bridge.specs.Costs.{or_zero, numbers}
 use Rattle.bridge.proofs.Moves.{calls_here}

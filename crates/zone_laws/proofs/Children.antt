@@ -8,7 +8,6 @@ use Rattle.machine_core.specs.Frames.{Frame, Ends, item_at, object_at}
 use Rattle.machine_core.specs.Effect.{Detach, action_of}
 use Rattle.machine_core.specs.State.{detached}
 use Rattle.program.specs.declared.annotation.Zone.{Zone}
-use Rattle.program.specs.declared.identifier.BlockId.{BlockId}
 use Rattle.program.specs.declared.identifier.ObjectName.{ObjectName}
 use Rattle.program.specs.declared.identifier.ObjectName.TheVariants.{Global, Alloca, Parameter}
 use Rattle.program.specs.declared.function.Block.{Block}
@@ -35,7 +34,7 @@ child_objects f region body continuation (Global g) = refl
 child_objects f region body continuation (Alloca a) = refl
 child_objects f region body continuation (Parameter r) = refl
 
-from_child : (f : Frame) (region body continuation : ℕ) (z : Zone) (c : Cell) → HoldsCell (detached f region body continuation) z c → HoldsCell f z c
+pub from_child : (f : Frame) (region body continuation : ℕ) (z : Zone) (c : Cell) → HoldsCell (detached f region body continuation) z c → HoldsCell f z c
 from_child f region body continuation z c h = record {
   object = sym (child_objects f region body continuation z.object) ∙ h.object;
   from_low = h.from_low;
@@ -43,7 +42,7 @@ from_child f region body continuation z c h = record {
 }
 
 -- a zone of a foot is in the text of its function
-foot_named : (prog : Program) (f : Frame) (function : Function) (block : Block) → StandsIn prog f function block → (b : ℕ) (z : Zone) → Contains (foot_of (slice_get function.blocks b)) z → IsNamedBy prog.functions f.function z.object
+pub foot_named : (prog : Program) (f : Frame) (function : Function) (block : Block) → StandsIn prog f function block → (b : ℕ) (z : Zone) → Contains (foot_of (slice_get function.blocks b)) z → IsNamedBy prog.functions f.function z.object
 foot_named prog f function block stands b z at = from (slice_get function.blocks b) refl at
   where
     from : (o : Option Block) → slice_get function.blocks b ≡ o → Contains (foot_of o) z → IsNamedBy prog.functions f.function z.object

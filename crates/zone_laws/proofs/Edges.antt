@@ -1,7 +1,6 @@
 -- What is pending goes on along each edge.
-use Rattle.std.proofs.Common.{◌≡◌, ◌∙◌, ℕ, ℤ, pos, ◌+ℤ◌, ◌*ℤ◌, ◌≤ℤ◌, List, [], ◌∷◌, Some, Bool, true, false, not, ◌&&◌, ◌||◌, ◌⊎◌, inl, inr, refl, sym, ap, subst, arith}
+use Rattle.std.proofs.Common.{◌≡◌, ◌∙◌, ℕ, ℤ, pos, ◌+ℤ◌, ◌*ℤ◌, ◌≤ℤ◌, List, [], ◌∷◌, Some, Bool, true, false, not, ◌&&◌, ◌||◌, inl, inr, refl, sym, ap, subst, arith}
 use Rattle.std.specs.Prelude.{◌==◌, Contains, slice_get}
-use Rattle.std.specs.List.{list_any, list_all, Any}
 use Rattle.std.proofs.lemmas.Bool.{false≢true, eqb-true}
 use Rattle.std.proofs.lemmas.Int.{ints}
 use Rattle.std.proofs.lemmas.List.Elements.{All-contains}
@@ -15,28 +14,27 @@ use Rattle.machine_core.specs.Cells.{Cell}
 use Rattle.machine_core.specs.Frames.{Frame, object_at}
 use Rattle.program.specs.declared.annotation.Pending.{Pending}
 use Rattle.program.specs.declared.annotation.Zone.{Zone}
-use Rattle.program.specs.declared.identifier.BlockId.{BlockId}
 use Rattle.program.specs.declared.function.Block.{Block}
 use Rattle.program.specs.declared.function.Function.{Function}
 use Rattle.program.specs.declared.function.Program.{Program}
-use Rattle.program.specs.declared.instruction.Ending.{Ending}
 use Rattle.program.specs.declared.instruction.Terminator.{Terminator}
 use Rattle.program.specs.declared.instruction.Terminator.TheVariants as terminator
 use Rattle.cfg.specs.declared.structure.Move.{Move}
 use Rattle.cfg.specs.declared.structure.Way.{Way}
-use Rattle.cfg.specs.declared.structure.Way.TheVariants.{Continued}
 use Rattle.ranges.specs.declared.table.EdgeFacts.{EdgeFacts}
 use Rattle.ranges.specs.Inequalities.{operand_for}
 use Rattle.ranges.specs.Truth.{operand_value}
 use Rattle.footprints.specs.Zones.{span, as_written, is_empty, covers}
-use Rattle.footprints.specs.Cells.{terms_value, end_value, HasCell}
+use Rattle.footprints.specs.Cells.{terms_value, end_value}
 use Rattle.footprints.specs.Footprints.{foot_of, hands_on, is_passed, are_passed, foot_passed, child_passed_on, pending_of}
 use Rattle.footprints.proofs.CellLaws.{empty_cells, covered_cells, covers_mode}
 use Rattle.bridge.specs.Costs.{numbers}
-use Rattle.zone_laws.specs.Uses.{HoldsCell}
+use Rattle.types.specs.Apart.{in_pending}
+use Rattle.zone_laws.specs.Uses.{StandsIn, IsUsed, HoldsCell}
 use Rattle.zone_laws.specs.Edges.{GoesAlong, IsPendingFor, PendingGoesOn, FeetGoOn}
-use Rattle.zone_laws.proofs.Places.{both_true, either_true, all_pass, edge_passes}
-use Rattle.zone_laws.proofs.Spans.{as_cell}
+use Rattle.zone_laws.proofs.Children.{foot_named}
+use Rattle.zone_laws.proofs.Places.{both_true, either_true, get_is, all_pass, edge_passes}
+use Rattle.zone_laws.proofs.Spans.{used_name, as_cell}
 
 -- ---- ends behind an edge
 
@@ -50,21 +48,21 @@ turned a b = omega (arith, ints)
 end_behind : (v w : ℕ → ℤ) (moves : List Move) → ((x : RegisterId) → w x.0 ≡ operand_value v (operand_for moves x)) → (e : Combination) → end_value v moves e ≡ value w e
 end_behind v w moves same e = ap (λ x. e.constant +ℤ x) (terms_behind v w moves same e.terms) ∙ turned e.constant (value_of w e.terms)
 
-module _ (f g : Frame) (moves : List Move) (along : GoesAlong f g moves) (facts : List Fact) (hold : AllHold (numbers f.registers) facts) where
+module _ (prog : Program) (f g : Frame) (moves : List Move) (along : GoesAlong prog f g moves) (facts : List Fact) (hold : AllHold (numbers f.registers) facts) where
   -- a zone that covers it in front of the edge has the cell behind it
-  behind : (q z : Zone) (c : Cell) → covers facts (span q.object moves q) (as_written z) ≡ true → HoldsCell f z c → HoldsCell g q c
-  behind q z c h holds =
+  behind : (q z : Zone) (c : Cell) → IsUsed prog.functions f.function z.object → covers facts (span q.object moves q) (as_written z) ≡ true → HoldsCell f z c → HoldsCell g q c
+  behind q z c named h holds =
       let cell = covered_cells facts (span q.object moves q) (as_written z) h (numbers f.registers) hold z.object (pos c.index) (as_cell f z c z.object refl holds) in
       record {
-        object = along.objects q.object ∙ subst (λ o. object_at f o ≡ Some c.object) cell.object_is holds.object;
+        object = along.objects q.object (subst (IsUsed prog.functions f.function) cell.object_is named) ∙ subst (λ o. object_at f o ≡ Some c.object) cell.object_is holds.object;
         from_low = subst (λ x. x ≤ℤ pos c.index) (end_behind (numbers f.registers) (numbers g.registers) moves along.numbers_are q.low) cell.from_low;
         before_high = subst (λ x. (pos c.index +ℤ pos 1) ≤ℤ x) (end_behind (numbers f.registers) (numbers g.registers) moves along.numbers_are q.high) cell.before_high;
       }
 
-module _ (f g : Frame) (edge : EdgeFacts) (along : GoesAlong f g edge.moves) (hold : AllHold (numbers f.registers) edge.facts) where
-  passed_let : (waiting : List Pending) (region : RegisterId) (z : Zone) (c : Cell) → is_passed edge waiting region z ≡ true → HoldsCell f z c → IsPendingFor g waiting region z.mode c
+module _ (prog : Program) (f g : Frame) (edge : EdgeFacts) (along : GoesAlong prog f g edge.moves) (hold : AllHold (numbers f.registers) edge.facts) where
+  passed_let : (waiting : List Pending) (region : RegisterId) (z : Zone) (c : Cell) → IsUsed prog.functions f.function z.object → is_passed edge waiting region z ≡ true → HoldsCell f z c → IsPendingFor g waiting region z.mode c
   unfolding is_passed
-  passed_let waiting region z c h holds = elim (either_true (is_empty edge.facts (as_written z)) _ h) [
+  passed_let waiting region z c named h holds = elim (either_true (is_empty edge.facts (as_written z)) _ h) [
     | inl e ↦ absurd (empty_cells edge.facts (as_written z) e (numbers f.registers) hold z.object (pos c.index) (as_cell f z c z.object refl holds))
     | inr e ↦
         let any = Any-from_list_any (λ (q : Pending). (q.region.0 == region.0) && covers edge.facts (span q.zone.object edge.moves q.zone) (as_written z)) waiting e in
@@ -75,7 +73,7 @@ module _ (f g : Frame) (edge : EdgeFacts) (along : GoesAlong f g edge.moves) (ho
           any.3,
           (
             eqb-true any.1.region.0 region.0 parts.0,
-            (behind f g edge.moves along edge.facts hold any.1.zone z c parts.1 holds, covers_mode edge.facts (span any.1.zone.object edge.moves any.1.zone) (as_written z) parts.1),
+            (behind prog f g edge.moves along edge.facts hold any.1.zone z c named parts.1 holds, covers_mode edge.facts (span any.1.zone.object edge.moves any.1.zone) (as_written z) parts.1),
           ),
         )
   ]
@@ -85,13 +83,19 @@ handed : (hands passes : Bool) → (not hands || passes) ≡ true → hands ≡ 
 handed true passes h e = h
 handed false passes h e = absurd (false≢true e)
 
+-- what is pending is in the text of its function
+pub pending_used : (prog : Program) (f : Frame) (function : Function) (block : Block) → StandsIn prog f function block → (q : Pending) → Contains block.pending q → IsUsed prog.functions f.function q.zone.object
+pending_used prog f function block stands q at =
+    used_name prog.functions f.function q.zone.object
+    (in_pending f.block at.0 block q (record { function = function; at_function = stands.at_function; at_block = stands.at_block }) (get_is block.pending at.0 q at.1 ∙ ap (λ (x : Pending). Some x) at.2) refl)
+
 pub pending_goes_on : PendingGoesOn
-pending_goes_on prog regions right f g function block ending stands is edge at hold along q in_pending hands c holds =
+pending_goes_on prog regions right f g function block ending stands is edge at hold along q waits hands c holds =
     let waiting = pending_of (slice_get function.blocks edge.to.0) in
     let rule = both_true (are_passed edge waiting block.pending) (child_passed_on function.blocks edge waiting edge.way ending.terminator) (edge_passes prog f function block stands regions right ending is edge at) in
     let one = All-contains (λ (x : Pending). (not (hands_on edge.way x.region) || is_passed edge waiting x.region x.zone) ≡ true) block.pending q
-    (all_pass (λ (x : Pending). not (hands_on edge.way x.region) || is_passed edge waiting x.region x.zone) block.pending rule.0) in_pending in
-    passed_let f g edge along hold waiting q.region q.zone c (handed (hands_on edge.way q.region) (is_passed edge waiting q.region q.zone) one hands) holds
+    (all_pass (λ (x : Pending). not (hands_on edge.way x.region) || is_passed edge waiting x.region x.zone) block.pending rule.0) waits in
+    passed_let prog f g edge along hold waiting q.region q.zone c (pending_used prog f function block stands q waits) (handed (hands_on edge.way q.region) (is_passed edge waiting q.region q.zone) one hands) holds
 
 pub feet_go_on : FeetGoOn
 feet_go_on prog regions right f g function block ending stands is edge at hold along region body continuation t way z in_foot c holds =
@@ -102,4 +106,4 @@ feet_go_on prog regions right f g function block ending stands is edge at hold a
     (subst (λ (x : Terminator). child_passed_on function.blocks edge waiting edge.way x ≡ true) t rule.1) in
     let one = All-contains (λ (x : Zone). is_passed edge waiting region x ≡ true) (foot_of (slice_get function.blocks body.0)) z
     (all_pass (λ (x : Zone). is_passed edge waiting region x) (foot_of (slice_get function.blocks body.0)) child) in_foot in
-    passed_let f g edge along hold waiting region z c one holds
+    passed_let prog f g edge along hold waiting region z c (used_name prog.functions f.function z.object (foot_named prog f function block stands body.0 z in_foot)) one holds

@@ -4,7 +4,7 @@ use Rattle.std.specs.Prelude.{Contains, slice_get, slice_index_or}
 use Rattle.std.specs.List.{All, list_all}
 use Rattle.std.proofs.lemmas.Bool.{false≢true}
 use Rattle.std.proofs.lemmas.List.Elements.{All-nil, All-cons}
-use Rattle.machine_core.specs.Frames.{Frame, Item, Does, Ends, item_of, item_at, block_at, and_then}
+use Rattle.machine_core.specs.Frames.{Frame, Does, Ends, item_of, item_at, block_at, and_then}
 use Rattle.program.specs.declared.function.Block.{Block}
 use Rattle.program.specs.declared.function.Function.{Function}
 use Rattle.program.specs.declared.function.Program.{Program}

@@ -1,7 +1,6 @@
 -- What covers a span and is clear of it lets the frame use its cells.
 use Rattle.std.proofs.Common.{◌≡◌, ◌∙◌, ℕ, ℤ, pos, ◌+ℤ◌, ◌*ℤ◌, ◌≤ℤ◌, List, [], ◌∷◌, Some, Bool, true, false, not, inl, inr, ◌⊎◌, refl, sym, ap, subst, arith}
 use Rattle.std.specs.Prelude.{slice_index_or}
-use Rattle.std.specs.List.{All, Any}
 use Rattle.std.proofs.lemmas.Bool.{false≢true, not-true}
 use Rattle.std.proofs.lemmas.Int.{ints}
 use Rattle.linear.specs.declared.form.Term.{Term}
@@ -20,7 +19,7 @@ use Rattle.program.specs.declared.function.Function.{Function}
 use Rattle.program.specs.declared.function.Program.{Program}
 use Rattle.types.specs.Apart.{IsNamedBy, in_pending, itself}
 use Rattle.region_match.specs.declared.tables.Regions.{Regions}
-use Rattle.footprints.specs.Zones.{Span, as_written, mode_covers, modes_agree, conflict, is_covered}
+use Rattle.footprints.specs.Zones.{Span, as_written, modes_agree, conflict, is_covered}
 use Rattle.footprints.specs.Cells.{terms_value, end_value, HasCell}
 use Rattle.footprints.specs.Footprints.{is_own, is_allowed, is_clear}
 use Rattle.footprints.specs.Rules.{covering_of, is_own_block, place_in}

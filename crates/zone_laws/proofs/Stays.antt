@@ -1,10 +1,10 @@
 -- A zone has the same cells behind a step that writes no register that it names.
-use Rattle.std.proofs.Common.{◌≡◌, ◌≢◌, ◌↔◌, ◌∙◌, ℕ, ℤ, pos, ◌+ℤ◌, ◌*ℤ◌, ◌≤ℤ◌, List, [], ◌∷◌, Option, Some, None, refl, sym, ap, subst, arith}
+use Rattle.std.proofs.Common.{◌≡◌, ◌∙◌, ℕ, pos, ◌+ℤ◌, ◌*ℤ◌, ◌≤ℤ◌, List, [], ◌∷◌, Option, Some, refl, sym, ap, subst}
 use Rattle.std.specs.Prelude.{All}
 use Rattle.std.proofs.lemmas.List.Elements.{All-head, All-tail}
 use Rattle.linear.specs.declared.form.Term.{Term}
 use Rattle.linear.specs.Forms.{Combination, value_of, value}
-use Rattle.machine_core.specs.Cells.{Object, Cell}
+use Rattle.machine_core.specs.Cells.{Cell}
 use Rattle.machine_core.specs.Frames.{Value, Registers, Frame, and_then, cell_of, word_of, object_at}
 use Rattle.machine_core.specs.Effect.{Effect}
 use Rattle.machine_core.specs.State.{went}

@@ -1,12 +1,9 @@
 -- The tasks of the blocks of a program have one table.
-use Rattle.std.proofs.Common.{◌≡◌, ◌≢◌, ◌∙◌, ◌⊎◌, ℕ, zero, suc, ◌<◌, List, [], ◌∷◌, length, inl, inr, refl, sym, ap, arith}
+use Rattle.std.proofs.Common.{◌≡◌, ◌≢◌, ◌∙◌, ◌⊎◌, ℕ, suc, ◌<◌, List, [], ◌∷◌, length, inl, inr, refl, sym, arith}
 use Rattle.cfg.specs.declared.structure.BlockEdges.{BlockEdges}
-use Rattle.cfg.specs.declared.structure.FunctionGraph.{FunctionGraph}
-use Rattle.program.specs.declared.identifier.BlockId.{BlockId}
 use Rattle.region_match.specs.declared.task.Task.{Task}
 use Rattle.region_match.specs.declared.task.Task.TheVariants.{Unreached, Body, Child}
-use Rattle.region_match.specs.declared.tables.FunctionTasks.{FunctionTasks}
-use Rattle.region_match.specs.Tasks.{task_at, AreTasks, AreAllTasks}
+use Rattle.region_match.specs.Tasks.{task_at, AreTasks}
 use Rattle.zone_laws.specs.Tables.{TasksHaveOneTable}
 
 same_items : (xs ys : List Task) → length xs ≡ length ys → ((k : ℕ) → k < length xs → task_at xs k ≡ task_at ys k) → xs ≡ ys

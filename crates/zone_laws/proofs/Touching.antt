@@ -1,5 +1,5 @@
 -- Which cells an instruction uses.
-use Rattle.std.proofs.Common.{◌≡◌, ◌∙◌, ℕ, ◌<◌, List, Option, Some, None, Bool, true, false, cond, ◌&&◌, eqb, eqb-true, inl, inr, refl, sym, ap, subst, is_some, ℤ, [], ◌∷◌, arith}
+use Rattle.std.proofs.Common.{◌≡◌, ◌∙◌, ℕ, ◌<◌, List, Option, Some, None, Bool, true, false, cond, ◌&&◌, eqb, eqb-true, refl, ap, subst, is_some, ℤ, [], ◌∷◌}
 use Rattle.std.specs.Prelude.{nat_lt}
 use Rattle.std.proofs.lemmas.Bool.{false≢true, ltb-true}
 use Rattle.syntax.specs.declared.operator.Mode.{Mode}

@@ -16,6 +16,10 @@ use Rattle.program.specs.declared.identifier.ObjectName.TheVariants.{Global, All
 use Rattle.program.specs.declared.function.Block.{Block}
 use Rattle.program.specs.declared.function.Function.{Function}
 use Rattle.program.specs.declared.function.Program.{Program}
+use Rattle.program.specs.declared.instruction.Address.{Address}
+use Rattle.program.specs.declared.instruction.Address.TheVariants.{Element}
+use Rattle.program.specs.declared.instruction.Instruction.{Instruction}
+use Rattle.program.specs.declared.instruction.Instruction.TheVariants as instruction
 use Rattle.program.specs.declared.instruction.Step.{Step}
 use Rattle.types.specs.Apart.{IsNamedBy, NamesGlobal}
 use Rattle.region_match.specs.declared.tables.Regions.{Regions}
@@ -58,10 +62,24 @@ abbrev pub NamesApart : Program → Frame → Type 0
 NamesApart prog f =
     (a b : ObjectName) (o : Object) → IsUsed prog.functions f.function a → IsUsed prog.functions f.function b → object_at f a ≡ Some o → object_at f b ≡ Some o → a ≡ b
 
--- the register of an element holds the cell that the `getelementptr` of the block names, as the registers are
+-- the instruction loads from, stores at or adds at the address
+abbrev pub IsAt : Instruction → Address → Type 0
+IsAt (instruction.Binary d op w a b) address = ⊥
+IsAt (instruction.Compare d by w a b) address = ⊥
+IsAt (instruction.Convert d by a) address = ⊥
+IsAt (instruction.Alloca d a) address = ⊥
+IsAt (instruction.ElementPointer d name i) address = ⊥
+IsAt (instruction.Load d at) address = at ≡ address
+IsAt (instruction.Store a at) address = at ≡ address
+IsAt (instruction.StoreZeros cells name) address = ⊥
+IsAt (instruction.AtomicAdd at a) address = at ≡ address
+IsAt (instruction.Call d callee arguments) address = ⊥
+IsAt (instruction.StartRegion d) address = ⊥
+
+-- at a use of an element its register holds the cell that the `getelementptr` of the block names, as the registers are
 abbrev pub ElementsHold : Frame → Block → Type 0
 ElementsHold f block =
-    (x : RegisterId) (named : NamedCell) (c : Cell) → pointed x block.steps ≡ Some named → cell_of (f.registers x.0) ≡ Some c →
+    (step : Step) (x : RegisterId) (named : NamedCell) (c : Cell) → slice_get block.steps f.index ≡ Some step → IsAt step.instruction (Element x) → pointed x block.steps ≡ Some named → cell_of (f.registers x.0) ≡ Some c →
     (object_at f named.object ≡ Some c.object) × (operand_value (numbers f.registers) named.index ≡ pos c.index)
 
 -- ---- what lets it use a cell

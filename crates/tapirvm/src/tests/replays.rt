@@ -124,6 +124,26 @@ fn adds_of_two_workers_meet(rt: HostRuntime) -> Result<(), Fail> {
 }
 
 #[test]
+fn steps_a_recursion(rt: HostRuntime) -> Result<(), Fail> {
+    replays(
+        &rt,
+        " --workers 1 --arg 3",
+        FIB,
+        "step 0 46\n",
+        0,
+        "not ended\ninstructions 46\nframes 1\n",
+    )?;
+    replays(
+        &rt,
+        " --workers 1 --arg 3",
+        FIB,
+        "step 0 47\n",
+        0,
+        "result 2\ninstructions 47\npeak 6\n",
+    )
+}
+
+#[test]
 fn refuses_other_texts(rt: HostRuntime) -> Result<(), Fail> {
     let options = " --workers 2 --arg 7";
     replays(

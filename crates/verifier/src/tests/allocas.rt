@@ -129,6 +129,12 @@ fn what_a_child_stores_counts_behind_the_sync(rt: HostRuntime) -> Result<(), Fai
     refuses_with(&rt, FIB, 28, "%w = add i64 %r, 1", 402, 40)
 }
 
+#[test]
+fn of_both_rules_the_lower_line_is_named(rt: HostRuntime) -> Result<(), Fail> {
+    let text = with_line(&rt, FIB, 41, Some("%t = add i64 %r, %y"))?;
+    refuses_with(&rt, text.as_str(), 28, "%w = add i64 %r, 1", 402, 40)
+}
+
 /// Two regions, and a child that stores; lines 1 to 16.
 const REGIONS: &str = "\
 define i64 @main(i64 %n) {

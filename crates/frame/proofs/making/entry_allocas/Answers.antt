@@ -1,5 +1,5 @@
 use Rattle.frame.proofs.Makers.{are_undefined}
 use Rattle.frame.proofs.making.entry_allocas.Goals as goal
 
-pub returns-in_ok-made_allocas-in-Some : goal.returns-in_ok-made_allocas-in-Some
-returns-in_ok-made_allocas-in-Some c = are_undefined _ c.in-Some.found.now.allocas c.in_ok-made_allocas-in-Some.ensures
+pub returns-in_ok-made_allocas-in-Some-clause-undefined : goal.returns-in_ok-made_allocas-in-Some-clause-undefined
+returns-in_ok-made_allocas-in-Some-clause-undefined c = are_undefined _ c.in-Some.found.now.allocas c.in_ok-made_allocas-in-Some.ensures

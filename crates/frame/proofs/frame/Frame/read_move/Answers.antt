@@ -1,10 +1,10 @@
-use Rattle.std.proofs.Common.{◌∙◌, Some, ap, rules, sym}
+use Rattle.std.proofs.Common.{◌∙◌, Some, [], ap, rules, sym}
 use Rattle.std.specs.Prelude.{FitsSigned}
 use Rattle.std.specs.Int.{w64}
 use Rattle.std.proofs.lemmas.Int.{to_z-of_z}
 use Rattle.std.proofs.lemmas.List.{length-set}
 use Rattle.frame.proofs.Changes.{get_set, get_other}
-use Rattle.frame.proofs.Edges.{found_some, found_none}
+use Rattle.frame.proofs.Edges.{found_some, found_none, trap_is}
 use Rattle.frame.proofs.frame.Frame.read_move.Goals as goal
 
 pub returns-in-Ok-clause-read : goal.returns-in-Ok-clause-read
@@ -22,3 +22,6 @@ returns-in-Ok-clause-read c =
 
 pub returns-in-Err-clause-missing : goal.returns-in-Err-clause-missing
 returns-in-Err-clause-missing c = λ p there place. found_none _ c.in-Err.trap (c.in-Err.ensures p)
+
+pub returns-in-Err-clause-trap : goal.returns-in-Err-clause-trap
+returns-in-Err-clause-trap c = trap_is _ c.in-Err.trap (c.in-Err.ensures [])

@@ -1,0 +1,5 @@
+use Rattle.cost_laws.proofs.Ends.{run_ends_within_budget}
+use Rattle.cost_laws.proofs.run_ends_within_budget.Goals as goal
+
+pub returns : goal.returns
+returns c = run_ends_within_budget

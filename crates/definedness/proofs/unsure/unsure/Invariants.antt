@@ -1,0 +1,7 @@
+use Rattle.std.proofs.Common.{None}
+use Rattle.definedness.specs.Settling.{label_of}
+use Rattle.definedness.proofs.NeverSure.{UnsureBelow}
+use Rattle.definedness.proofs.unsure.unsure.Given as goal
+
+abbrev pub invariant-loop-block : goal.invariant-loop-block
+invariant-loop-block l = UnsureBelow (label_of l.sets None) l.block l.marks.items

@@ -1,0 +1,158 @@
+-- One event after another.
+use Rattle.std.proofs.Common.{◌≡◌, ℕ, List, [], ◌∷◌, ◌++◌, append_assoc, length, map, Option, Some, None, Bool, true, false, cond, refl, sym, ap, ◌∙◌, subst, ℤ}
+use Rattle.std.specs.Prelude.{IsSome, IsTrue, Result, Ok, Err, IfOk, OnErr}
+use Rattle.std.proofs.Math.Logic.{∥∥₁_map}
+use Rattle.lists.specs.declared.memory.OutOfMemory.{OutOfMemory}
+use Rattle.machine_core.specs.Events as running
+use Rattle.machine_core.specs.Replay.{or_unchanged, replay}
+use Rattle.program.specs.declared.function.Program.{Program}
+use Rattle.store.specs.Cells.{NamedCells}
+use Rattle.worker_steps.specs.declared.run.Run.{Run}
+use Rattle.worker_steps.specs.declared.run.Phase.{Phase}
+use Rattle.worker_steps.specs.declared.run.Phase.TheVariants.{Going, Ended, Trapped}
+use Rattle.worker_steps.specs.Running.{IsGoing, IsTrapped, StepsWhere}
+use Rattle.worker_steps.specs.Scheduling.{hand_of}
+use Rattle.worker_steps.specs.Seen.{seen}
+use Rattle.worker_steps.specs.Stepping.{IsRun, IsEvent, DoesEvent, StartsAs}
+use Rattle.worker_steps.proofs.Reached.{replay_more}
+use Rattle.schedule_core.specs.declared.event.Event.{Event}
+use Rattle.schedule_core.specs.Replaying.{event_of, Happens, StopsOnly, AreEvents, StopsAt, DoesAll, Replays, Stops}
+
+pub not_going : (m : Run) → IsTrapped m → ¬ IsGoing m
+not_going m trapped going = let e : Trapped ≡ Going = sym trapped ∙ going in cc
+
+pub none_yet : (prog : Program) (old : Run) → IsRun prog old → DoesAll prog old old []
+none_yet prog old m = record { sound = λ fine. record { replayed = refl; run = m; workers = refl; program = refl }; trapped = λ trapped. absurd (m.sound trapped) }
+
+map_more : (events : List Event) (e : Event) → map event_of (events ++ e ∷ []) ≡ map event_of events ++ event_of e ∷ []
+map_more [] e = refl
+map_more (d ∷ events) e = ap (λ (l : List running.Event). event_of d ∷ l) (map_more events e)
+
+-- an event more, of a run that has not trapped
+module _ (prog : Program) (old mid new : Run) (events : List Event) (e : Event) (done : Bool) (event : DoesEvent mid.verified.now mid new (event_of e) done) (same : ¬ IsTrue done → new ≡ mid) (is : prog ≡ old.verified.now) where
+  event_more : ¬ IsTrapped new → AreEvents prog old mid (map event_of events) → AreEvents prog old new (map event_of events ++ event_of e ∷ [])
+  event_more fine a =
+      let prog_is : mid.verified.now ≡ prog = ap (λ v. v.now) a.program ∙ sym is in
+      let d : IsEvent prog mid new (event_of e) done = subst (λ (q : Program). DoesEvent q mid new (event_of e) done) prog_is event a.run fine in
+      record {
+        replayed = replay_more prog (length old.hands.items) (map event_of events) (event_of e) (seen old) ∙ (ap (λ x. or_unchanged (running.event prog (length old.hands.items) (event_of e) x) x) a.replayed ∙ (ap (λ n. or_unchanged (running.event prog n (event_of e) (seen mid)) (seen mid)) (sym a.workers) ∙ (ap (λ o. or_unchanged o (seen mid)) d.exact ∙ by done same)));
+        run = d.machine;
+        workers = d.workers ∙ a.workers;
+        program = d.program ∙ a.program;
+      }
+    where
+      by : (b : Bool) → (¬ IsTrue b → new ≡ mid) → or_unchanged (cond b (Some (seen new)) None) (seen mid) ≡ seen new
+      by true is = refl
+      by false is = sym (ap seen (is (λ e. cc)))
+
+  -- the run stopped before, or it stops here
+  module _ (all : DoesAll prog old mid events) (over : ¬ IsGoing mid → new ≡ mid) (going : IsGoing mid → IsTrapped new → StopsOnly mid e) where
+    stopped_before : IsTrapped mid → StopsAt prog old (events ++ e ∷ [])
+    stopped_before trapped =
+        let s : StopsAt prog old events = all.trapped trapped in
+        record {
+          before = s.before;
+          last = s.last;
+          after = s.after ++ e ∷ [];
+          parts = ap (λ (l : List Event). l ++ e ∷ []) s.parts ∙ append_assoc s.before (s.last ∷ s.after) (e ∷ []);
+          stood = s.stood;
+          reached = s.reached;
+          stops = s.stops;
+        }
+
+    stops_here : ¬ IsTrapped mid → StopsOnly mid e → StopsAt prog old (events ++ e ∷ [])
+    stops_here fine stops =
+        record {
+          before = events;
+          last = e;
+          after = [];
+          parts = refl;
+          stood = mid;
+          reached = all.sound fine;
+          stops = stops;
+        }
+
+    trapped_now : IsTrapped new → (x : Phase) → mid.phase ≡ x → StopsAt prog old (events ++ e ∷ [])
+    trapped_now trapped Going at = stops_here (λ t. not_going mid t at) (going at trapped)
+    trapped_now trapped (Ended z) at = absurd (let stays : new ≡ mid = over (λ g. (let h : Going ≡ Ended z = sym g ∙ at in cc)) in let h : Trapped ≡ Ended z = sym trapped ∙ (ap (λ (m : Run). m.phase) stays ∙ at) in cc)
+    trapped_now trapped Trapped at = stopped_before at
+
+    pub one_more : DoesAll prog old new (events ++ e ∷ [])
+    one_more =
+        record {
+          sound = λ fine. subst (λ (l : List running.Event). AreEvents prog old new l) (sym (map_more events e)) (event_more fine (all.sound (λ trapped. fine (ap (λ (m : Run). m.phase) (over (not_going mid trapped)) ∙ trapped))));
+          trapped = λ trapped. trapped_now trapped mid.phase refl;
+        }
+
+-- from a start
+module _ (prog : Program) (arguments : List ℤ) (globals : List NamedCells) (workers : ℕ) (first : Run) (s : StartsAs prog arguments globals first) (many : length first.hands.items ≡ workers) where
+  replays_from : (events : List Event) (m : Run) → AreEvents prog first m (map event_of events) → Replays prog arguments globals workers events m
+  replays_from events m all =
+      record {
+        reads = sym all.replayed ∙ (ap (λ n. replay prog n (map event_of events) (seen first)) many ∙ ap (replay prog workers (map event_of events)) s.reads);
+        run = all.run;
+      }
+
+  all_from : (m : Run) (events : List Event) → (IsRun first.verified.now first → DoesAll first.verified.now first m events) → DoesAll prog first m events
+  all_from m events does = subst (λ (q : Program). IsRun q first → DoesAll q first m events) s.program does s.machine
+
+  pub replays_all : (m : Run) (events : List Event) → (IsRun first.verified.now first → DoesAll first.verified.now first m events) → ¬ IsTrapped m → Replays prog arguments globals workers events m
+  replays_all m events does fine = replays_from events m ((all_from m events does).sound fine)
+
+  pub stops_all : (m : Run) (events : List Event) → (IsRun first.verified.now first → DoesAll first.verified.now first m events) → IsTrapped m → Stops prog arguments globals workers events
+  stops_all m events does trapped =
+      let a : StopsAt prog first events = (all_from m events does).trapped trapped in
+      record {
+        before = a.before;
+        last = a.last;
+        after = a.after;
+        parts = a.parts;
+        stood = a.stood;
+        reached = replays_from a.before a.stood a.reached;
+        stops = a.stops;
+      }
+
+-- the run of a start, under its own program
+pub start_kept : (prog : Program) (arguments : List ℤ) (globals : List NamedCells) (m : Run) → StartsAs prog arguments globals m → ∥ (¬ IsTrapped m → IsRun m.verified.now m) ∥₁
+start_kept prog arguments globals m s = ∣ (λ fine. subst (λ (q : Program). IsRun q m) (sym s.program) s.machine) ∣₁
+
+-- ---- where a run stops
+
+-- at a step of a worker that has a task
+pub stops_step : (old new : Run) (worker : ℕ) (r : Result Bool OutOfMemory) → OnErr r (new ≡ old) → (r ≡ Ok false → new ≡ old) → IfOk r (StepsWhere old new worker) → IsGoing old → IsTrapped new → IsSome (hand_of old.hands.items worker)
+stops_step old new worker (Err x) same off where_ going trapped = absurd (not_going old (sym (ap (λ (m : Run). m.phase) same) ∙ trapped) going)
+stops_step old new worker (Ok true) same off where_ going trapped = (where_.exactly.0 refl).1
+stops_step old new worker (Ok false) same off where_ going trapped = absurd (not_going old (sym (ap (λ (m : Run). m.phase) (off refl)) ∙ trapped) going)
+
+-- and at no steal
+pub steal_goes_on : (old new : Run) → new ≡ record old { cactus = new.cactus; hands = new.hands } → IsGoing old → IsTrapped new → ⊥
+steal_goes_on old new kept going trapped = not_going old (sym (ap (λ (m : Run). m.phase) kept) ∙ trapped) going
+
+-- ---- one event of a run that is kept
+
+module _ (old new : Run) (e : Event) (over : ¬ IsGoing old → new ≡ old) where
+  fine_before : ¬ IsTrapped new → ¬ IsTrapped old
+  fine_before fine trapped = fine (ap (λ (m : Run). m.phase) (over (not_going old trapped)) ∙ trapped)
+
+  happens : (done : Bool) → DoesEvent old.verified.now old new (event_of e) done → ¬ IsTrapped new → (¬ IsTrapped old → IsRun old.verified.now old) → Happens old new (event_of e) done
+  happens done does fine k = does (k (fine_before fine)) fine
+
+  kept_by : (done : Bool) → DoesEvent old.verified.now old new (event_of e) done → (¬ IsTrapped old → IsRun old.verified.now old) → ¬ IsTrapped new → IsRun new.verified.now new
+  kept_by done does k fine =
+      let ev : IsEvent old.verified.now old new (event_of e) done = happens done does fine k in
+      subst (λ (q : Program). IsRun q new) (sym (ap (λ v. v.now) ev.program)) ev.machine
+
+  pub happens_if : (r : Result Bool OutOfMemory) → IfOk r (DoesEvent old.verified.now old new (event_of e)) → ∥ (¬ IsTrapped old → IsRun old.verified.now old) ∥₁ → ¬ IsTrapped new → IfOk r (λ done. ∥ Happens old new (event_of e) done ∥₁)
+  happens_if (Err x) does kept fine = tt
+  happens_if (Ok done) does kept fine = ∥∥₁_map kept (happens done does fine)
+
+  pub kept_after : (r : Result Bool OutOfMemory) → OnErr r (new ≡ old) → IfOk r (DoesEvent old.verified.now old new (event_of e)) → ∥ (¬ IsTrapped old → IsRun old.verified.now old) ∥₁ → ∥ (¬ IsTrapped new → IsRun new.verified.now new) ∥₁
+  kept_after (Err x) same does kept = subst (λ (m : Run). ∥ (¬ IsTrapped m → IsRun m.verified.now m) ∥₁) (sym same) kept
+  kept_after (Ok done) same does kept = ∥∥₁_map kept (kept_by done does)
+
+-- a run after a schedule
+pub replay_kept : (prog : Program) (arguments : List ℤ) (globals : List NamedCells) (first m : Run) (events : List Event) → StartsAs prog arguments globals first → (IsRun first.verified.now first → DoesAll first.verified.now first m events) → ∥ (¬ IsTrapped m → IsRun m.verified.now m) ∥₁
+replay_kept prog arguments globals first m events s does =
+    ∣ (λ fine.
+    let a : AreEvents first.verified.now first m (map event_of events) = (does (subst (λ (q : Program). IsRun q first) (sym s.program) s.machine)).sound fine in
+    subst (λ (q : Program). IsRun q m) (sym (ap (λ v. v.now) a.program)) a.run) ∣₁

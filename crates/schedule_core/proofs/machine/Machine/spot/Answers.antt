@@ -1,0 +1,5 @@
+use Rattle.schedule_core.proofs.Views.{spot_lives}
+use Rattle.schedule_core.proofs.machine.Machine.spot.Goals as goal
+
+pub returns-clause-lives : goal.returns-clause-lives
+returns-clause-lives c = spot_lives c.args.self.now.run c.args.path.now c.spot.result c.spot.ensures.found c.spot.ensures.absent

@@ -1,0 +1,64 @@
+-- What events do to a run, one and many.
+use Rattle.std.specs.Prelude.{◌≡◌, ℕ, List, [], ◌∷◌, ◌++◌, length, reverse, map, Bool, ℤ, IsSome}
+use Rattle.machine_core.specs.Events as running
+use Rattle.machine_core.specs.Replay.{replay}
+use Rattle.program.specs.declared.function.Program.{Program}
+use Rattle.store.specs.Cells.{NamedCells}
+use Rattle.worker_steps.specs.declared.run.Run.{Run}
+use Rattle.worker_steps.specs.Running.{IsTrapped}
+use Rattle.worker_steps.specs.Scheduling.{hand_of}
+use Rattle.worker_steps.specs.Seen.{seen, given}
+use Rattle.worker_steps.specs.Stepping.{IsRun, IsEvent}
+use Rattle.schedule_core.specs.declared.event.Event.{Event}
+use Rattle.schedule_core.specs.declared.event.Event.TheVariants.{Step, Steal}
+
+abbrev pub event_of : Event → running.Event
+event_of (Step worker) = running.Step worker
+event_of (Steal worker path) = running.Steal worker (reverse path.numbers)
+
+-- the event is done exactly where the definitions enable it, and then the run reads as they say
+abbrev pub Happens : Run → Run → running.Event → Bool → Type 0
+Happens old new event done = IsEvent old.verified.now old new event done
+
+-- the event is a step of a worker that runs a task
+abbrev pub StopsOnly : Run → Event → Type 0
+StopsOnly run (Step worker) = IsSome (hand_of run.hands.items worker)
+StopsOnly run (Steal worker path) = ⊥
+
+-- the events, one after another, are those of the definitions' replay
+pub record AreEvents (prog : Program) (old new : Run) (events : List running.Event) : Type 0 where
+  pub replayed : replay prog (length old.hands.items) events (seen old) ≡ seen new
+  pub workers : length new.hands.items ≡ length old.hands.items
+  pub program : new.verified ≡ old.verified
+  pub run : IsRun prog new
+
+-- the run got through these events, and stopped at the next
+pub record StopsAt (prog : Program) (old : Run) (events : List Event) : Type 0 where
+  pub before : List Event
+  pub last : Event
+  pub after : List Event
+  pub parts : events ≡ before ++ last ∷ after
+  pub stood : Run
+  pub reached : AreEvents prog old stood (map event_of before)
+  pub stops : StopsOnly stood last
+
+-- the run is the definitions' replay of the events, or it stopped at one of them
+pub record DoesAll (prog : Program) (old new : Run) (events : List Event) : Type 0 where
+  pub sound : ¬ IsTrapped new → AreEvents prog old new (map event_of events)
+  pub trapped : IsTrapped new → StopsAt prog old events
+
+-- the run is the definitions' replay of the events from the start
+pub record Replays (prog : Program) (arguments : List ℤ) (globals : List NamedCells) (workers : ℕ) (events : List Event) (m : Run) : Type 0 where
+  pub reads : seen m ≡ replay prog workers (map event_of events) (running.start prog arguments (given globals))
+  pub run : IsRun prog m
+
+-- From the start the definitions' replay gets through some of the events, to a state where the next is a step of a worker that runs a task; there the
+-- machine stopped.
+pub record Stops (prog : Program) (arguments : List ℤ) (globals : List NamedCells) (workers : ℕ) (events : List Event) : Type 0 where
+  pub before : List Event
+  pub last : Event
+  pub after : List Event
+  pub parts : events ≡ before ++ last ∷ after
+  pub stood : Run
+  pub reached : Replays prog arguments globals workers before stood
+  pub stops : StopsOnly stood last

@@ -1,0 +1,74 @@
+ghost use Rattle.std.specs.Prelude.{◌≡◌, ◌≢◌, ℕ, Some, None, false, IfOk, OnOk, OnErr};
+ghost use Rattle.serial_machine.specs.Requirements.{unmet_in};
+ghost use Rattle.store.specs.declared.memory.Memory.{Memory};
+ghost use Rattle.worker_steps.specs.Running.{IsGoing, IsTrapped, IsStart, IsNumberOfWorkers, StepsWhere};
+ghost use Rattle.worker_steps.specs.Stepping.{DoesEvent, IsRun, StartsAs};
+ghost use Rattle.schedule_core.specs.Replaying.{DoesAll, StopsOnly, event_of};
+
+use crate::event::Event;
+use lists::OutOfMemory;
+use serial_machine::{RunFault, unmet_requirement};
+use std::alloc::Global;
+use store::Memory;
+use verifier::Verified;
+use worker_steps::{Phase, Run};
+
+/// The state before the first event.
+pub(crate) fn begin<'v>(
+    alloc: Global,
+    verified: &'v Verified,
+    arguments: &[i64],
+    memory: Memory,
+    workers: usize,
+) -> Result<Run<'v>, RunFault>
+    ensures started { IfOk result (λ m. IsStart m workers) }
+    ensures state { IfOk result (λ m. StartsAs verified.now arguments.now memory m) }
+    ensures in_range { OnOk result (IsNumberOfWorkers workers) }
+    ensures bad_workers { (m : Memory) → result ≡ Err (RunFault.BadWorkers m) → (m ≡ memory) × ¬ IsNumberOfWorkers workers }
+    ensures bad_arguments { (requirement : ℕ) (m : Memory) → result ≡ Err (RunFault.BadArguments requirement m) → m ≡ memory }
+    ensures unmet { (requirement : ℕ) (m : Memory) → result ≡ Err (RunFault.BadArguments requirement m) → unmet_in verified.now arguments.now ≡ Some requirement }
+    ensures met { OnOk result (unmet_in verified.now arguments.now ≡ None) }
+    ensures no_trap { result ≢ Err RunFault.Trapped }
+{
+    if let Some(requirement) = unmet_requirement(verified.program(), arguments) {
+        return Err(RunFault::BadArguments {
+            requirement,
+            memory,
+        });
+    }
+    if workers == 0 || 64 < workers {
+        return Err(RunFault::BadWorkers { memory });
+    }
+    match Run::start(alloc, verified, arguments, memory, workers) {
+        Ok(run) => Ok(run),
+        Err(OutOfMemory) => Err(RunFault::OutOfMemory),
+    }
+}
+
+/// One event. The answer is whether it was enabled; where it was not, nothing changes.
+pub(crate) fn apply_to(run: &mut Run, event: &Event) -> Result<bool, OutOfMemory>
+    ensures refused { OnErr result (run.new ≡ run.old) }
+    ensures not_enabled { result ≡ Ok false → run.new ≡ run.old }
+    ensures over { ¬ IsGoing run.old → result ≡ Ok false }
+    ensures step { (worker : ℕ) → event.now ≡ Event.Step worker → IfOk result (StepsWhere run.old run.new worker) }
+    ensures event { IfOk result (DoesEvent run.old.verified.now run.old run.new (event_of event.now)) }
+    ensures stops { IsGoing run.old → IsTrapped run.new → StopsOnly run.old event.now }
+{
+    if run.phase != Phase::Going {
+        return Ok(false);
+    }
+    match event {
+        Event::Step(worker) => run.step(*worker),
+        Event::Steal(worker, path) => Ok(run.steal(*worker, path)),
+    }
+}
+
+/// The events, one after another; one that is not enabled changes nothing.
+pub(crate) fn apply_all(run: &mut Run, events: &[Event]) -> Result<(), OutOfMemory>
+    ensures { OnOk result (IsRun run.old.verified.now run.old → DoesAll run.old.verified.now run.old run.new events.now) }
+{
+    for event in events {
+        let _enabled = apply_to(run, event)?;
+    }
+    Ok(())
+}

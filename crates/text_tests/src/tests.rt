@@ -1,0 +1,4 @@
+mod annotations;
+mod items;
+mod lexemes;
+mod texts;

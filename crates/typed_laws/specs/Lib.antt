@@ -1,0 +1,3 @@
+pub mod Typed
+pub mod Accepted
+pub mod Kinds

@@ -1,0 +1,45 @@
+use Rattle.std.proofs.Common.{rules, refl, arith, ◌+◌, max, ◌≡◌, ◌<◌, length, List, Option, ℕ, Some, subst, sym, ap, ◌∙◌, slice_set}
+use Rattle.cactus.specs.Frames.{Frames, AddsChild}
+use Rattle.cactus.specs.Lending.{with_frame}
+use Rattle.worker_steps.specs.declared.activation.Activation.{Activation}
+use Rattle.worker_steps.specs.declared.run.Run.{Run}
+use Rattle.worker_steps.specs.Scheduling.{BeginsChild}
+use Rattle.std.specs.Prelude.{IsSome, ◌^◌}
+use Rattle.std.specs.Option.{option_copied_mut}
+use Rattle.std.specs.Vec.{with_item}
+use Rattle.machine_core.specs.Paths.{Path}
+use Rattle.machine_core.specs.State.{continued, detached}
+use Rattle.frame.specs.declared.frame.Frame.{Frame as FrameOf}
+use Rattle.frame.specs.declared.effect.Effect.TheVariants as effect
+use Rattle.frame.specs.Reading.{frame_of}
+use Rattle.frame.specs.Room.{HasChild, IsSound}
+use Rattle.cactus.specs.declared.node.Node.{Node}
+use Rattle.worker_steps.specs.Scheduling.{count_in, counted_in}
+use Rattle.worker_steps.specs.Stepping.{IsStep, IsTurn}
+use Rattle.worker_steps.proofs.Performed.{same_frame}
+use Rattle.worker_steps.proofs.Detached.{detaches_there}
+use Rattle.worker_steps.proofs.Moves.{begins}
+use Rattle.worker_steps.proofs.run.Run.detach.Goals as goal
+
+pub returns-clause-child_first : goal.returns-clause-child_first
+returns-clause-child_first c =
+    let adds : AddsChild c.args.self.now.cactus c.add_child.new.self c.args.slot c.in_ok-parent.parent.now.frame.made c.in_ok-child.child c.in_ok-child_slot.child_slot = c.in_ok-child_slot.ensures.ok in
+    let frames : c.set_hand.new.self.cactus ≡ with_frame c.add_child.new.self c.args.slot c.after_detach.new.self = ap (λ (m : Run). m.cactus) c.set_hand.ensures ∙ ap (λ (m : Run). m.cactus) c.count_depth.ensures.kept in
+    let hands : c.set_hand.new.self.hands.items ≡ slice_set c.args.self.now.hands.items c.args.worker (Some c.in_ok-child_slot.child_slot) = ap (λ (m : Run). m.hands.items) c.set_hand.ensures ∙ ap (λ (m : Run). slice_set m.hands.items c.args.worker (Some c.in_ok-child_slot.child_slot)) c.count_depth.ensures.kept in
+    let within : c.args.worker < length c.args.self.now.hands.items = search rules in
+    let at = begins c.args.self.now.cactus c.add_child.new.self c.args.self.now.hands.items c.args.worker c.args.slot c.in_ok-parent.parent.now.frame.made c.in_ok-child_slot.child_slot c.in_ok-child.child c.after_detach.new.self adds within c.in_ok-child.ensures.runner (ap (λ (a : Activation). a.runner) c.after_detach.ensures.unheld) in
+    subst (λ (f : Frames Activation). BeginsChild c.args.self.now.cactus f c.set_hand.new.self.hands.items c.args.worker c.args.slot) (sym frames) (subst (λ (h : List (Option ℕ)). BeginsChild c.args.self.now.cactus (with_frame c.add_child.new.self c.args.slot c.after_detach.new.self) h c.args.worker c.args.slot) (sym hands) at)
+
+pub returns-clause-detaches : goal.returns-clause-detaches
+returns-clause-detaches c can node turn asked_is =
+    let deeper : c.in_ok-parent.parent.now.frame.depth + 2 < 2 ^ 64 = search rules in
+    let prog = c.args.self.now.verified.now in
+    let old = c.args.self.now in
+    let room : HasChild c.in_ok-parent.parent.now.frame = (can c.in_ok-parent.parent.now c.in_ok-parent.ensures.value).can in
+    let frames : c.set_hand.new.self ≡ record old { cactus = with_frame c.add_child.new.self c.args.slot c.after_detach.new.self; hands = with_item old.hands c.args.worker (Some c.in_ok-child_slot.child_slot); peak = c.count_depth.new.self.peak } =
+    c.set_hand.ensures ∙ ap (λ (m : Run). record m { hands = with_item m.hands c.args.worker (Some c.in_ok-child_slot.child_slot) }) c.count_depth.ensures.kept in
+    subst (λ (m : Run). IsStep prog old m c.args.worker) (sym frames)
+    (detaches_there prog old c.args.worker c.args.slot c.args.region c.args.body.0 c.args.continuation.0 c.add_child.new.self c.in_ok-child.child c.after_detach.new.self c.in_ok-parent.parent.now c.in-Some.parent.now c.in_ok-child_slot.child_slot c.in_ok-parent.ensures.value
+    (sym c.frame_mut.ensures.value ∙ ap option_copied_mut c.in-Some.is) c.in_ok-child_slot.ensures.ok c.in_ok-child_slot.ensures.map room deeper c.in_ok-frame.frame c.in_ok-frame.ensures.detached c.in_ok-frame.ensures.sound c.in_ok-frame.ensures.depth c.in_ok-frame.ensures.undefined
+    c.in_ok-child.ensures.runner c.in_ok-child.ensures.frame c.in_ok-child.ensures.no_callee c.in_ok-child.ensures.none c.in_ok-count.count c.opened.new.self c.in_ok-count.ensures c.opened.ensures c.after_detach.ensures.unheld c.args.continuation c.after_detach.ensures.frame c.after_detach.ensures.continued c.after_detach.ensures.sound c.after_detach.ensures.counted
+    c.count_depth.new.self.peak c.count_depth.ensures.peak node turn asked_is)

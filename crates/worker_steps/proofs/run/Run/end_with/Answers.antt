@@ -1,0 +1,16 @@
+use Rattle.std.proofs.Common.{w64, ◌≡◌, ℤ, subst, sym, ap, ◌∙◌}
+use Rattle.std.specs.Prelude.{FitsSigned}
+use Rattle.std.proofs.lemmas.Int.{to_z-of_z}
+use Rattle.worker_steps.specs.declared.run.Run.{Run}
+use Rattle.worker_steps.specs.declared.run.Phase.TheVariants.{Ended}
+use Rattle.worker_steps.specs.Stepping.{IsStep}
+use Rattle.worker_steps.proofs.Calls.{ends_there}
+use Rattle.worker_steps.proofs.run.Run.end_with.Goals as goal
+
+pub returns : goal.returns
+returns c node turn root none action =
+    let prog = c.args.self.now.verified.now in
+    let fit : FitsSigned w64 c.args.number = c.ranges.number in
+    subst (λ (z : ℤ). IsStep prog c.args.self.now (record c.set_hand.new.self { phase = Ended z }) c.args.worker) (sym (to_z-of_z w64 c.args.number fit))
+    (subst (λ (m : Run). IsStep prog c.args.self.now (record m { phase = Ended c.args.number }) c.args.worker) (sym c.set_hand.ensures)
+    (ends_there prog c.args.self.now c.args.worker c.args.slot c.args.number c.pop_call-root.new.self c.pop_call-root.result c.pop_call-root.ensures.value c.pop_call-root.ensures.rest c.pop_call-root.ensures.map node turn root none action))

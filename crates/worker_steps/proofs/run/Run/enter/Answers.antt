@@ -1,0 +1,34 @@
+use Rattle.std.proofs.Common.{◌≡◌, Some, refl, subst, sym, ap, ◌∙◌}
+use Rattle.std.proofs.lemmas.Result.{on_ok_weaker}
+use Rattle.std.specs.Option.{option_copied_mut}
+use Rattle.machine_core.specs.Effect.{jumps, registers_along}
+use Rattle.program.specs.declared.function.Program.{Program}
+use Rattle.frame.specs.declared.frame.Frame.{Frame as FrameOf}
+use Rattle.frame.specs.Reading.{frame_of}
+use Rattle.frame.specs.Room.{Entered}
+use Rattle.cactus.specs.Frames.{frame_at}
+use Rattle.worker_steps.proofs.Performed.{went_at, jump_gone}
+use Rattle.worker_steps.proofs.run.Run.enter.Goals as goal
+
+pub returns-in-Some-clause-jumps : goal.returns-in-Some-clause-jumps
+returns-in-Some-clause-jumps c =
+    let stood : frame_at c.args.self.now.cactus c.args.slot ≡ Some c.in-Some.activation.now = sym c.frame_mut.ensures.value ∙ ap option_copied_mut c.in-Some.is in
+    let prog = c.args.self.now.verified.now in
+    on_ok_weaker c.enter.result (λ entered.
+    went_at c.args.self.now c.args.slot c.in-Some.activation.now c.enter.new.self (λ p f. jumps prog f c.args.target.0) stood (ap (λ (g : FrameOf). g.depth) c.enter.ensures.only) (ap (λ (g : FrameOf). g.allocas) c.enter.ensures.only) c.enter.ensures.sound (record { made = ap (λ (g : FrameOf). g.made) c.enter.ensures.only; role = ap (λ (g : FrameOf). g.role) c.enter.ensures.only })
+    (λ p. jump_gone c.in-Some.activation.now.frame c.enter.new.self p c.args.target.0 (registers_along prog (frame_of p c.in-Some.activation.now.frame) c.args.target.0) (subst (λ (q : Program). Entered q p c.in-Some.activation.now.frame c.args.target.0 c.enter.new.self) c.program-program.ensures (entered p))))
+    c.enter.ensures.entered
+
+pub returns-in-Some-clause-enters : goal.returns-in-Some-clause-enters
+returns-in-Some-clause-enters c =
+    on_ok_weaker c.enter.result (λ entered.
+    record {
+      before = c.in-Some.activation.now;
+      stood = sym c.frame_mut.ensures.value ∙ ap option_copied_mut c.in-Some.is;
+      frame = c.enter.new.self;
+      only = c.enter.ensures.only;
+      sound = c.enter.ensures.sound;
+      entered = λ p. subst (λ (q : Program). Entered q p c.in-Some.activation.now.frame c.args.target.0 c.enter.new.self) c.program-program.ensures (entered p);
+      new_is = refl;
+    })
+    c.enter.ensures.entered

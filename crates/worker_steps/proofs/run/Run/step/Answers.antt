@@ -1,0 +1,15 @@
+use Rattle.std.proofs.Common.{◌≡◌, Bool, true, Some, subst, sym, ◌∙◌}
+use Rattle.machine_core.specs.Events.{Step}
+use Rattle.worker_steps.specs.declared.run.Run.{Run}
+use Rattle.worker_steps.specs.Scheduling.{hand_of}
+use Rattle.worker_steps.specs.Stepping.{DoesEvent}
+use Rattle.worker_steps.proofs.Happening.{turn_done}
+use Rattle.worker_steps.proofs.run.Run.step.Goals as goal
+
+pub returns-in-Ok-clause-event : goal.returns-in-Ok-clause-event
+returns-in-Ok-clause-event c =
+    let has : hand_of c.args.self.now.hands.items c.args.worker ≡ Some c.in-Some.top = sym c.hand.ensures.slot ∙ c.in-Some.is in
+    let prog = c.args.self.now.verified.now in
+    subst (λ (b : Bool). DoesEvent prog c.args.self.now c.has_executed.new.self (Step c.args.worker) b) (sym c.has_executed.ensures.yes)
+    (subst (λ (m : Run). DoesEvent prog c.args.self.now m (Step c.args.worker) true) (sym c.has_executed.ensures.counted)
+    (turn_done prog c.args.self.now c.execute.new.self c.args.worker c.in-Some.top c.requires has c.in-Ok.ensures.step))

@@ -1,0 +1,23 @@
+use Rattle.std.proofs.Common.{◌≡◌, Some, ℤ, w64, refl, sym, subst, ap, ◌∙◌}
+use Rattle.std.specs.Prelude.{FitsSigned}
+use Rattle.std.specs.Option.{option_copied_mut}
+use Rattle.std.proofs.lemmas.Int.{to_z-of_z}
+use Rattle.std.proofs.lemmas.Bool.{OnTrue_at, OnTrue_from}
+use Rattle.cactus.specs.Frames.{frame_at}
+use Rattle.frame.specs.Room.{SetsAlloca}
+use Rattle.worker_steps.proofs.run.Run.store_in.Goals as goal
+
+pub returns-in-Some : goal.returns-in-Some
+returns-in-Some c =
+    let fit : FitsSigned w64 c.args.number = c.ranges.number in
+    let stood : frame_at c.args.self.now.cactus c.args.owner ≡ Some c.in-Some.activation.now = sym c.frame_mut.ensures.value ∙ ap option_copied_mut c.in-Some.is in
+    OnTrue_from c.set_alloca_cell.result _ (λ t.
+    record {
+      before = c.in-Some.activation.now;
+      stood = stood;
+      frame = c.set_alloca_cell.new.self;
+      only = c.set_alloca_cell.ensures.only;
+      set = subst (λ (z : ℤ). SetsAlloca c.in-Some.activation.now.frame c.args.alloca.0 c.args.index z c.set_alloca_cell.new.self) (to_z-of_z w64 c.args.number fit) (OnTrue_at t c.set_alloca_cell.ensures.set);
+      sound = c.set_alloca_cell.ensures.sound;
+      new_is = refl;
+    })

@@ -1,0 +1,6 @@
+pub mod Scheduling
+pub mod Tasks
+pub mod Running
+pub mod Seen
+pub mod Stepping
+pub mod Forking

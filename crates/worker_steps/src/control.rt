@@ -1,0 +1,308 @@
+ghost use Rattle.std.specs.Prelude.{ℕ, Some, ◌≡◌, ◌≢◌, ◌+◌, ◌^◌, ◌<◌, IsTrue, None, OnOk, max, vec_len};
+ghost use Rattle.std.specs.Vec.{with_item};
+ghost use Rattle.worker_steps.specs.Scheduling.{hand_of, BeginsChild, EndsChild, GoesOnWith, StallsAt, living_within, waits_at};
+ghost use Rattle.worker_steps.specs.Seen.{taken};
+ghost use Rattle.machine_core.specs.Effect.{jumps};
+ghost use Rattle.cactus.specs.Frames.{Lives};
+ghost use Rattle.worker_steps.specs.Stepping.{CanDoAt, DoesPlain, HasEdge, Performs, ReturnsTo};
+ghost use Rattle.worker_steps.specs.Forking.{Enters, with_change};
+ghost use Rattle.frame.specs.declared.frame.Wait.TheVariants.{Region};
+ghost use Rattle.linear.specs.declared.form.RegisterId.{RegisterId};
+
+use crate::activation::Activation;
+use crate::halt::Halt;
+use crate::run::{Phase, Run};
+use frame::{Effect, Frame, Trap};
+use program::{BlockId, FunctionId, RegisterId};
+use sync_join::{Outcome, Passage};
+
+/// The most frames that a run may make: slots' generations are counted below it.
+const MOST_FRAMES: u64 = 0x7fff_ffff_ffff_ffff;
+
+impl Run<'_> {
+    /// Does what moves the run from block to block, or from frame to frame.
+    pub(crate) fn control(&mut self, worker: u8, top: usize, effect: Effect) -> Result<(), Halt>
+        requires { worker < vec_len self.old.hands }
+        ensures refused { result ≡ Err Halt.OutOfMemory → self.new ≡ self.old }
+        ensures step { OnOk result (CanDoAt self.old.cactus top effect → Performs self.old.verified.now self.old self.new worker top effect) }
+    {
+        match effect {
+            Effect::Detach {
+                region,
+                body,
+                continuation,
+            } => self.detach(worker, top, region, body, continuation),
+            Effect::Reattach { region } => Ok(self.reattach(worker, top, region)?),
+            Effect::Sync { region, target } => Ok(self.sync(worker, top, region, target)?),
+            Effect::Call { register, callee } => self.call(worker, top, register, callee),
+            Effect::Return { value } => Ok(self.return_with(worker, top, value)?),
+            _ => Err(Halt::Trapped(Trap::Unmatched)),
+        }
+    }
+
+    /// The frame goes along the edge to the block.
+    pub(crate) fn enter(&mut self, slot: usize, target: BlockId) -> Result<(), Trap>
+        ensures kept { self.new ≡ record self.old { cactus = self.new.cactus } }
+        ensures enters { OnOk result (Enters self.old.verified.now self.old self.new slot target.0) }
+        ensures jumps { OnOk result (DoesPlain self.old self.new slot (λ p f. jumps self.old.verified.now f target.0)) }
+    {
+        let program = self.program();
+        match self.cactus.frame_mut(slot) {
+            Some(activation) => activation.frame.enter(program, target),
+            None => Err(Trap::Unmatched),
+        }
+    }
+
+    /// The peak counts a new frame of this depth.
+    fn count_depth(&mut self, depth: usize)
+        ensures kept { self.new ≡ record self.old { peak = self.new.peak } }
+        ensures peak { depth + 1 < 2 ^ 64 → self.new.peak ≡ max self.old.peak (depth + 1) }
+    {
+        self.peak = self.peak.max((depth as u64).saturating_add(1));
+    }
+
+    /// Whether one more frame, below one of this depth, can be counted.
+    fn has_room(&self, depth: usize) -> bool
+        ensures frames { IsTrue result → self.now.cactus.made + 1 < 2 ^ 63 }
+        ensures depth { IsTrue result → depth + 2 < 2 ^ 64 }
+    {
+        self.cactus.frames_made() < MOST_FRAMES && (depth as u64) < MOST_FRAMES
+    }
+
+    /// The worker begins the child; the parent is ready at the continuation (Tapir, "detach").
+    fn detach(
+        &mut self,
+        worker: u8,
+        slot: usize,
+        region: RegisterId,
+        body: BlockId,
+        continuation: BlockId,
+    ) -> Result<(), Halt>
+        requires { worker < vec_len self.old.hands }
+        ensures refused { result ≡ Err Halt.OutOfMemory → self.new ≡ self.old }
+        ensures child_first { OnOk result (BeginsChild self.old.cactus self.new.cactus self.new.hands.items worker slot) }
+        ensures detaches { OnOk result (CanDoAt self.old.cactus slot (Effect.Detach region body continuation) → Performs self.old.verified.now self.old self.new worker slot (Effect.Detach region body continuation)) }
+    {
+        let parent = self.activation(slot)?;
+        let mut count = parent.count(region)?;
+        if count.living == u64::MAX || !self.has_room(parent.frame.depth) {
+            return Err(Halt::Trapped(Trap::Unmatched));
+        }
+        let frame = Frame::detached(self.alloc, &parent.frame, region, body, continuation)?;
+        let depth = frame.depth;
+        let number = parent.frame.made;
+        let child = Activation::new(self.alloc, frame, worker)?;
+        let child_slot = self.cactus.add_child(slot, number, child)?;
+        count.opened();
+        match self.cactus.frame_mut(slot) {
+            Some(parent) => parent.after_detach(region, count, continuation),
+            None => return Err(Halt::Trapped(Trap::Unmatched)),
+        }
+        self.count_depth(depth);
+        self.set_hand(worker, Some(child_slot));
+        Ok(())
+    }
+
+    /// The child ends. The worker goes on with the parent where no thief took it since, or where the parent waited for
+    /// this child alone (Tapir, "reattach").
+    fn reattach(&mut self, worker: u8, slot: usize, region: RegisterId) -> Result<(), Trap>
+        requires { worker < vec_len self.old.hands }
+        ensures ends { OnOk result (EndsChild self.old.cactus self.new.cactus self.new.hands.items worker slot region.0) }
+        ensures reattaches { OnOk result (Performs self.old.verified.now self.old self.new worker slot (Effect.Reattach region)) }
+    {
+        let Some(node) = self.cactus.node(slot) else {
+            return Err(Trap::Unmatched);
+        };
+        let last = node.path.numbers.as_slice().last().copied();
+        let (Some(parent_slot), Some(number)) = (node.parent, last) else {
+            return Err(Trap::Unmatched);
+        };
+        if !node.frame.is_childless() {
+            return Err(Trap::Unmatched);
+        }
+        let parent = self.activation(parent_slot)?;
+        let standing = parent.as_parent();
+        let mut count = parent.count(region)?;
+        if count.living == 0 {
+            return Err(Trap::Unmatched);
+        }
+        let outcome = count.closed(region.0, number, standing);
+        let _child = self.cactus.remove(slot);
+        match self.cactus.frame_mut(parent_slot) {
+            Some(parent) => parent.set_count(region, count),
+            None => return Err(Trap::Unmatched),
+        }
+        self.go_on(worker, parent_slot, outcome)
+    }
+
+    /// The worker goes on with the parent, or is idle.
+    fn go_on(&mut self, worker: u8, parent: usize, outcome: Outcome) -> Result<(), Trap>
+        requires { worker < vec_len self.old.hands }
+        ensures resumed { OnOk result (outcome ≢ Outcome.Leave
+            → GoesOnWith self.new.cactus self.new.hands.items worker parent) }
+        ensures takes { OnOk result (outcome ≢ Outcome.Leave → self.new ≡ taken self.old worker parent) }
+        ensures left { OnOk result (outcome ≡ Outcome.Leave
+            → self.new ≡ record self.old { hands = with_item self.old.hands worker None }) }
+    {
+        match outcome {
+            Outcome::ResumeReady | Outcome::ResumeStalled => self.resume(worker, parent),
+            Outcome::Leave => {
+                self.set_hand(worker, None);
+                Ok(())
+            }
+        }
+    }
+
+    /// The worker goes on with the task whose top is in the slot.
+    fn resume(&mut self, worker: u8, slot: usize) -> Result<(), Trap>
+        requires { worker < vec_len self.old.hands }
+        ensures runs { OnOk result (GoesOnWith self.new.cactus self.new.hands.items worker slot) }
+        ensures becomes { OnOk result (self.new ≡ taken self.old worker slot) }
+    {
+        match self.cactus.frame_mut(slot) {
+            Some(top) => top.run_by(worker),
+            None => return Err(Trap::Unmatched),
+        }
+        self.set_hand(worker, Some(slot));
+        Ok(())
+    }
+
+    /// The frame goes on at the sync's target, once none of its children within the region lives (Tapir, "sync").
+    fn sync(
+        &mut self,
+        worker: u8,
+        slot: usize,
+        region: RegisterId,
+        target: BlockId,
+    ) -> Result<(), Trap>
+        requires { worker < vec_len self.old.hands }
+        ensures passes { OnOk result (living_within self.old.cactus slot region.0 ≡ 0
+            → self.new ≡ record self.old { cactus = self.new.cactus }) }
+        ensures stalls { OnOk result (0 < living_within self.old.cactus slot region.0
+            → StallsAt self.new.cactus self.new.hands.items worker slot region) }
+        ensures edge { OnOk result (HasEdge self.old.verified.now self.old slot target.0) }
+        ensures syncs { OnOk result (Performs self.old.verified.now self.old self.new worker slot (Effect.Sync region target)) }
+    {
+        let top = self.activation(slot)?;
+        let passage = top.count(region)?.at_sync();
+        let block = top.frame.block;
+        self.enter(slot, target)?;
+        self.wait_for_children(slot, region)?;
+        match passage {
+            Passage::Pass => Ok(()),
+            Passage::Stall => self.stall(worker, slot, block),
+        }
+    }
+
+    /// The frame goes on once no child of it within the region lives.
+    fn wait_for_children(&mut self, slot: usize, region: RegisterId) -> Result<(), Trap>
+        ensures kept { self.new ≡ record self.old { cactus = self.new.cactus } }
+        ensures waits { OnOk result (waits_at self.new.cactus slot ≡ Some (Region region)) }
+        ensures becomes { OnOk result (self.new ≡ with_change self.old slot (λ a. record a { frame = record a.frame { waits = Region region } })) }
+    {
+        match self.cactus.frame_mut(slot) {
+            Some(top) => top.wait_for_children(region),
+            None => return Err(Trap::Unmatched),
+        }
+        Ok(())
+    }
+
+    /// The task of the frame waits; the worker is idle.
+    fn stall(&mut self, worker: u8, slot: usize, block: BlockId) -> Result<(), Trap>
+        requires { worker < vec_len self.old.hands }
+        ensures stalls { (region : RegisterId) → waits_at self.old.cactus slot ≡ Some (Region region)
+            → OnOk result (StallsAt self.new.cactus self.new.hands.items worker slot region) }
+        ensures becomes { OnOk result (self.new ≡ record (with_change self.old slot (λ a. record a { runner = None; stalled_in = Some block })) { hands = with_item self.old.hands worker None }) }
+    {
+        match self.cactus.frame_mut(slot) {
+            Some(top) => top.stall(block),
+            None => return Err(Trap::Unmatched),
+        }
+        self.set_hand(worker, None);
+        Ok(())
+    }
+
+    /// The callee's frame runs on top of the same task.
+    fn call(
+        &mut self,
+        worker: u8,
+        slot: usize,
+        register: Option<RegisterId>,
+        callee: FunctionId,
+    ) -> Result<(), Halt>
+        requires { worker < vec_len self.old.hands }
+        ensures calls { OnOk result (CanDoAt self.old.cactus slot (Effect.Call register callee) → Performs self.old.verified.now self.old self.new worker slot (Effect.Call register callee)) }
+        ensures refused { result ≡ Err Halt.OutOfMemory → self.new ≡ self.old }
+    {
+        let program = self.program();
+        let caller = &self.activation(slot)?.frame;
+        if !self.has_room(caller.depth) {
+            return Err(Halt::Trapped(Trap::Unmatched));
+        }
+        let frame = Frame::called(self.alloc, program, caller, callee)?;
+        let depth = frame.depth;
+        let number = caller.made;
+        let called = Activation::new(self.alloc, frame, worker)?;
+        let called_slot = self.cactus.push_call(slot, number, called)?;
+        match self.cactus.frame_mut(slot) {
+            Some(caller) => caller.wait_for_call(register, called_slot),
+            None => return Err(Halt::Trapped(Trap::Unmatched)),
+        }
+        self.count_depth(depth);
+        self.set_hand(worker, Some(called_slot));
+        Ok(())
+    }
+
+    /// The function ends; its caller goes on with the result, or the run ends with it.
+    fn return_with(&mut self, worker: u8, slot: usize, value: Option<i64>) -> Result<(), Trap>
+        requires { worker < vec_len self.old.hands }
+        ensures { OnOk result (Performs self.old.verified.now self.old self.new worker slot (Effect.Return value)) }
+    {
+        let Some(node) = self.cactus.node(slot) else {
+            return Err(Trap::Unmatched);
+        };
+        if !node.frame.is_childless() {
+            return Err(Trap::Unmatched);
+        }
+        match (node.parent, value) {
+            (Some(caller), _) => self.return_to(worker, slot, caller, value),
+            (None, Some(number)) => {
+                self.end_with(worker, slot, number);
+                Ok(())
+            }
+            (None, None) => Err(Trap::Undefined),
+        }
+    }
+
+    /// The frame in the slot goes, and its caller goes on with the value.
+    fn return_to(
+        &mut self,
+        worker: u8,
+        slot: usize,
+        caller: usize,
+        value: Option<i64>,
+    ) -> Result<(), Trap>
+        requires worker { worker < vec_len self.old.hands }
+        requires lives { Lives self.old.cactus slot }
+        ensures { OnOk result (ReturnsTo self.old.verified.now self.old self.new worker slot (Some caller) value) }
+    {
+        let _callee = self.cactus.pop_call(slot);
+        match self.cactus.frame_mut(caller) {
+            Some(above) => above.after_call(worker, value),
+            None => return Err(Trap::Unmatched),
+        }
+        self.set_hand(worker, Some(caller));
+        Ok(())
+    }
+
+    /// The root goes, and the run ends with the number.
+    fn end_with(&mut self, worker: u8, slot: usize, number: i64)
+        requires worker { worker < vec_len self.old.hands }
+        requires lives { Lives self.old.cactus slot }
+        ensures { ReturnsTo self.old.verified.now self.old self.new worker slot None (Some number) }
+    {
+        let _root = self.cactus.pop_call(slot);
+        self.set_hand(worker, None);
+        self.phase = Phase::Ended { result: number };
+    }
+}
