@@ -5,8 +5,6 @@
 
 mod cost;
 mod refusal;
-#[cfg(test)]
-mod tests;
 mod verified;
 
 pub use refusal::Refused;

@@ -2,12 +2,11 @@
 
 use super::samples::*;
 use super::{refuses, refuses_with, with_line};
-use crate::refusal::Refused;
-use crate::verified::{Verified, verify};
 use std::alloc::AllocError;
 use std::hash::RandomState;
 use std::random::RandomSource;
 use std::test::Fail;
+use verifier::{Refused, Verified, verify};
 
 fn verified(rt: &(impl AllocGlobal + RandomSource), text: &str) -> Result<Option<Verified>, Fail> {
     let state = RandomState::new(rt)?;

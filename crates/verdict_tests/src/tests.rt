@@ -16,13 +16,12 @@ mod type_rules;
 mod undefined_registers;
 mod zones;
 
-use crate::refusal::Refused;
-use crate::verified::verify;
 use std::alloc::AllocError;
 use std::hash::RandomState;
 use std::process::Abort;
 use std::random::RandomSource;
 use std::test::Fail;
+use verifier::{Refused, verify};
 
 /// The number and the line of a module's fault, and (0, 0) where it is accepted.
 fn fault_of(rt: &(impl AllocGlobal + RandomSource), text: &str) -> Result<(u16, u32), Fail> {
