@@ -1,8 +1,8 @@
 //! The words of an annotation's line.
 
 ghost use Rattle.std.specs.Prelude.{◌≡◌};
-ghost use Rattle.ir_annotation.specs.Reading.{Gives};
-ghost use Rattle.ir_annotation.specs.Lines.{inequality_of, zone_of, measure_of, budget_of, left_of, moded_zone_of, pending_of, annotation_behind, annotation_of};
+ghost use Rattle.ir_annotation.specs.Reading.{Gives, made};
+ghost use Rattle.ir_annotation.specs.Lines.{as_line, inequality_of, zone_of, measure_of, budget_of, left_of, moded_zone_of, pending_of, annotation_behind, annotation_of};
 
 use crate::fault::AnnotationFault;
 use crate::forms::read_form;
@@ -174,6 +174,32 @@ fn read_pending(
     })
 }
 
+/// An annotation's line, within the limits or not.
+fn line_of(annotation: Annotation, is_within_limits: bool) -> AnnotationLine
+    ensures { result ≡ record { annotation = annotation; is_within_limits = is_within_limits } }
+{
+    AnnotationLine {
+        annotation,
+        is_within_limits,
+    }
+}
+
+/// A zone of a function behind its mode.
+fn read_function_zone(
+    alloc: Global,
+    mode: Mode,
+    words: &[Name],
+    line: u32,
+) -> Result<AnnotationLine, AnnotationFault>
+    ensures { Gives (λ a. a) result (made (as_line Annotation.FunctionZone) (zone_of line mode words.now)) }
+{
+    let found = read_zone(alloc, mode, words, line)?;
+    Ok(line_of(
+        Annotation::FunctionZone(found.value),
+        found.is_within_limits,
+    ))
+}
+
 /// What stands behind the first word.
 #[tactic(auto, unfolding(crate::specs::Lines::annotation_behind))]
 fn read_behind(
@@ -187,87 +213,42 @@ fn read_behind(
     match keyword {
         Keyword::Requires => {
             let found = read_inequality(alloc, words, line)?;
-            Ok(AnnotationLine {
-                annotation: Annotation::Requires(found.value),
-                is_within_limits: found.is_within_limits,
-            })
+            Ok(line_of(Annotation::Requires(found.value), found.is_within_limits))
         }
         Keyword::Ensures => {
             let found = read_inequality(alloc, words, line)?;
-            Ok(AnnotationLine {
-                annotation: Annotation::Ensures(found.value),
-                is_within_limits: found.is_within_limits,
-            })
-        }
-        Keyword::Reads => {
-            let found = read_zone(alloc, Mode::Reads, words, line)?;
-            Ok(AnnotationLine {
-                annotation: Annotation::FunctionZone(found.value),
-                is_within_limits: found.is_within_limits,
-            })
-        }
-        Keyword::Writes => {
-            let found = read_zone(alloc, Mode::Writes, words, line)?;
-            Ok(AnnotationLine {
-                annotation: Annotation::FunctionZone(found.value),
-                is_within_limits: found.is_within_limits,
-            })
-        }
-        Keyword::Adds => {
-            let found = read_zone(alloc, Mode::Adds, words, line)?;
-            Ok(AnnotationLine {
-                annotation: Annotation::FunctionZone(found.value),
-                is_within_limits: found.is_within_limits,
-            })
-        }
-        Keyword::Measure => {
-            let found = read_measure(alloc, words, line)?;
-            Ok(AnnotationLine {
-                annotation: Annotation::Measure(found.value),
-                is_within_limits: found.is_within_limits,
-            })
-        }
-        Keyword::Budget => {
-            let found = read_budget(words, line)?;
-            Ok(AnnotationLine {
-                annotation: Annotation::Budget(found.value),
-                is_within_limits: found.is_within_limits,
-            })
+            Ok(line_of(Annotation::Ensures(found.value), found.is_within_limits))
         }
         Keyword::Keeps => {
             let found = read_inequality(alloc, words, line)?;
-            Ok(AnnotationLine {
-                annotation: Annotation::Keeps(found.value),
-                is_within_limits: found.is_within_limits,
-            })
-        }
-        Keyword::Pending => {
-            let found = read_pending(alloc, words, line)?;
-            Ok(AnnotationLine {
-                annotation: Annotation::Pending(found.value),
-                is_within_limits: found.is_within_limits,
-            })
-        }
-        Keyword::Left => {
-            let found = read_left(alloc, words, line)?;
-            Ok(AnnotationLine {
-                annotation: Annotation::Left(found.value),
-                is_within_limits: found.is_within_limits,
-            })
-        }
-        Keyword::Foot => {
-            let found = read_moded_zone(alloc, words, line)?;
-            Ok(AnnotationLine {
-                annotation: Annotation::Foot(found.value),
-                is_within_limits: found.is_within_limits,
-            })
+            Ok(line_of(Annotation::Keeps(found.value), found.is_within_limits))
         }
         Keyword::Shows => {
             let found = read_inequality(alloc, words, line)?;
-            Ok(AnnotationLine {
-                annotation: Annotation::Shows(found.value),
-                is_within_limits: found.is_within_limits,
-            })
+            Ok(line_of(Annotation::Shows(found.value), found.is_within_limits))
+        }
+        Keyword::Reads => read_function_zone(alloc, Mode::Reads, words, line),
+        Keyword::Writes => read_function_zone(alloc, Mode::Writes, words, line),
+        Keyword::Adds => read_function_zone(alloc, Mode::Adds, words, line),
+        Keyword::Measure => {
+            let found = read_measure(alloc, words, line)?;
+            Ok(line_of(Annotation::Measure(found.value), found.is_within_limits))
+        }
+        Keyword::Budget => {
+            let found = read_budget(words, line)?;
+            Ok(line_of(Annotation::Budget(found.value), found.is_within_limits))
+        }
+        Keyword::Pending => {
+            let found = read_pending(alloc, words, line)?;
+            Ok(line_of(Annotation::Pending(found.value), found.is_within_limits))
+        }
+        Keyword::Left => {
+            let found = read_left(alloc, words, line)?;
+            Ok(line_of(Annotation::Left(found.value), found.is_within_limits))
+        }
+        Keyword::Foot => {
+            let found = read_moded_zone(alloc, words, line)?;
+            Ok(line_of(Annotation::Foot(found.value), found.is_within_limits))
         }
     }
 }
