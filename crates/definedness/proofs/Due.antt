@@ -1,6 +1,6 @@
 -- What a block has of what is given.
 use Rattle.std.proofs.Common.{◌≡◌, ◌==◌, ◌&&◌, ◌||◌, ℕ, ◌+◌, ◌<◌, ◌≤◌, Bool, true, false, cond, List, [], ◌∷◌, ◌++◌, Option, Some, None, length, set, inl, inr, refl, sym, ap, ◌∙◌, arith}
-use Rattle.std.specs.List.{filter, list_any}
+use Rattle.std.specs.List.{filter, list_any, list_all}
 use Rattle.std.proofs.lemmas.Bool.{cases_lt, true≢false, false≢true, eqb-true}
 use Rattle.std.proofs.lemmas.List.{length_push, get_or_past}
 use Rattle.std.proofs.lemmas.List.Elements.{Contains-append_left, Contains-push}
@@ -44,6 +44,20 @@ all_kept given (x ∷ xs) le r h = elim (bool_cases (has given x)) [
     | inr ne ↦ all_kept given xs (omega (arith, rw t at le)) r (rw ne at h)
   ]
   | inr f ↦ absurd (omega (arith, rw f at le, length-filter (λ its. has given its) xs, count_by-le-length (λ its. has given its) xs))
+]
+
+pub kept_same : (given old : List RegisterId) → list_all (has given) old ≡ true → length old ≤ length (filter (λ its. has given its) old)
+kept_same given [] h = omega arith
+kept_same given (x ∷ xs) h = elim (bool_cases (has given x)) [
+  | inl t ↦ let rest = kept_same given xs (rw t at h) in rw t (omega (arith, rest))
+  | inr f ↦ absurd (false≢true (rw f at h))
+]
+
+pub kept_fewer : (given old : List RegisterId) → list_all (has given) old ≡ false → length (filter (λ its. has given its) old) < length old
+kept_fewer given [] h = absurd (true≢false h)
+kept_fewer given (x ∷ xs) h = elim (bool_cases (has given x)) [
+  | inl t ↦ let rest = kept_fewer given xs (rw t at h) in rw t (omega (arith, rest))
+  | inr f ↦ rw f (omega (arith, length-filter (λ its. has given its) xs, count_by-le-length (λ its. has given its) xs))
 ]
 
 and_left : (a b : Bool) → (a && b) ≡ true → a ≡ true

@@ -13,8 +13,8 @@ use Rattle.definedness.specs.declared.sets.Sets.{Sets}
 use Rattle.definedness.specs.declared.table.Given.{Given}
 use Rattle.definedness.specs.ForkOf.{IsForkOf}
 use Rattle.definedness.specs.Needs.{numbers_at}
-use Rattle.definedness.specs.Sure.{IsStored, IsFork, IsEndOf, IsNeverSure}
-use Rattle.definedness.specs.Settling.{label_of, Stores, region_in, Forks, ended_in, Ends, IsGreatest}
+use Rattle.definedness.specs.Sure.{Labels, IsStored, IsFork, IsEndOf, IsNeverSure}
+use Rattle.definedness.specs.Settling.{label_of, Stores, region_in, Forks, ended_in, Ends, IsTableLabelling, IsGreatest}
 use Rattle.definedness.proofs.Forking.{end_within}
 use Rattle.definedness.proofs.Labelled.{labelling_to}
 
@@ -74,14 +74,21 @@ module _ (bodies : List Block) (blocks : List BlockEdges) (forks : List Fork) (e
   ended_to d b None at e = absurd (cc)
   ended_to d b (Some fork) at e = ((each b fork at).ended d).0 e
 
-  pub never_sure : (all : List Given) (alloca : ℕ) (stops : List Bool) (sets : Sets) → ((b : ℕ) → (get_or stops b false ≡ true) ↔ Contains (numbers_at all b) alloca) → IsGreatest stops forks blocks sets → (b : ℕ) → b < length blocks → (label_of sets None b ≡ false) ↔ IsNeverSure bodies blocks all alloca b
-  never_sure all alloca stops sets stored g b w =
+  pub never_by_table : (all : List Given) (alloca : ℕ) (stops : List Bool) → ((b : ℕ) → (get_or stops b false ≡ true) ↔ Contains (numbers_at all b) alloca) → (b : ℕ) → IsNeverSure bodies blocks all alloca b ↔ ((l : Labels) → IsTableLabelling stops forks blocks l → l None b ≡ true → ⊥)
+  never_by_table all alloca stops stored b =
       let ST : ℕ → Type 0 = Stores stops in
       let FT : ℕ → RegisterId → Type 0 = Forks forks in
       let ET : ℕ → ℕ → Type 0 = Ends forks in
       let S : ℕ → Type 0 = IsStored all alloca in
       let F : ℕ → RegisterId → Type 0 = IsFork bodies in
       let E : ℕ → ℕ → Type 0 = IsEndOf bodies blocks in (
-        λ h l is sure. true≢false (sym (g.greatest l (labelling_to S ST F FT E ET (λ a. (stored a).1) forked_from (λ d e at. ended_to d e (slice_get forks e) refl at) blocks l is) None b w sure) ∙ h),
-        λ never. not_true (label_of sets None b) (λ h. never (label_of sets) (labelling_to ST S FT F ET E (λ a. (stored a).0) (λ a r at. forked_to a r (slice_get forks a) refl at) ended_from blocks (label_of sets) g.labelling) h),
+        λ never l is. never l (labelling_to ST S FT F ET E (λ a. (stored a).0) (λ a r at. forked_to a r (slice_get forks a) refl at) ended_from blocks l is),
+        λ never l is. never l (labelling_to S ST F FT E ET (λ a. (stored a).1) forked_from (λ d e at. ended_to d e (slice_get forks e) refl at) blocks l is),
       )
+
+-- at the start of a block where the greatest labelling does not have the alloca for sure none has
+pub never_greatest : (stops : List Bool) (forks : List Fork) (blocks : List BlockEdges) (sets : Sets) → IsGreatest stops forks blocks sets → (b : ℕ) → b < length blocks → (label_of sets None b ≡ false) ↔ ((l : Labels) → IsTableLabelling stops forks blocks l → l None b ≡ true → ⊥)
+never_greatest stops forks blocks sets g b w = (
+  λ h l is sure. true≢false (sym (g.greatest l is None b w sure) ∙ h),
+  λ never. not_true (label_of sets None b) (λ h. never (label_of sets) g.labelling h),
+)

@@ -1,5 +1,5 @@
 -- The labelling of an alloca that is being made smaller.
-use Rattle.std.specs.Prelude.{◌≡◌, ◌⊎◌, ◌==◌, ◌++◌, ℕ, ◌+◌, ◌<◌, ◌≤◌, Bool, true, false, List, [], ◌∷◌, Option, Some, None, length, set, Contains, count_by, sum_by, slice_get, slice_index_or}
+use Rattle.std.specs.Prelude.{◌≡◌, ◌⊎◌, ◌↔◌, ◌==◌, ◌++◌, ℕ, ◌+◌, ◌<◌, ◌≤◌, Bool, true, false, List, [], ◌∷◌, Option, Some, None, length, set, Contains, count_by, sum_by, slice_get, slice_index_or}
 use Rattle.std.specs.List.{list_any, filter}
 use Rattle.linear.specs.declared.form.RegisterId.{RegisterId}
 use Rattle.cfg.specs.declared.structure.BlockEdges.{BlockEdges}
@@ -150,3 +150,7 @@ pub record NotesEnd (stops : List Bool) (forks : List Fork) (b : ℕ) (marks mar
 pub record IsGreatest (stops : List Bool) (forks : List Fork) (blocks : List BlockEdges) (sets : Sets) : Type 0 where
   pub labelling : IsTableLabelling stops forks blocks (label_of sets)
   pub greatest : (l : Labels) → IsTableLabelling stops forks blocks l → IsBelow (length blocks) l sets
+
+-- the blocks that are marked are those at whose start no labelling of an alloca that these blocks store has it for sure
+abbrev pub AreNeverSure : List Fork → List BlockEdges → List Bool → List Bool → Type 0
+AreNeverSure forks blocks stops marks = (b : ℕ) → b < length blocks → (slice_index_or marks b false ≡ true) ↔ ((l : Labels) → IsTableLabelling stops forks blocks l → l None b ≡ true → ⊥)

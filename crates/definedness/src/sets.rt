@@ -1,7 +1,7 @@
 ghost use Rattle.std.specs.Prelude.{◌≡◌, ◌⊎◌, ◌↔◌, ◌&&◌, ◌||◌, ◌==◌, ◌+◌, ◌≤◌, ℕ, length, true, false, slice_index_or, IfOk, OnOk};
-ghost use Rattle.std.specs.List.{filter};
+ghost use Rattle.std.specs.List.{filter, list_all};
 ghost use Rattle.linear.specs.declared.form.RegisterId.{RegisterId};
-ghost use Rattle.definedness.specs.Settling.{has, due_in, label_at, label_of};
+ghost use Rattle.definedness.specs.Settling.{has, due_in, label_at, label_of, both_of};
 
 use lists::Seq;
 use program::RegisterId;
@@ -42,8 +42,20 @@ fn is_found(regions: &[RegisterId], place: usize, region: RegisterId) -> bool
     is_among(regions, region)
 }
 
+/// Whether all regions of a list are in the other. Takes time in proportion to the list where the other begins with it.
+fn are_among(left: &[RegisterId], right: &[RegisterId]) -> bool
+    ensures { result ≡ list_all (has right.now) left.now }
+{
+    for (place, its) in left.iter().enumerate() {
+        if !is_found(right, place, *its) {
+            return false;
+        }
+    }
+    true
+}
+
 /// The regions of both lists. Takes time in proportion to the lists where they are the same.
-pub fn both(
+fn both(
     alloc: Global,
     left: &[RegisterId],
     right: &[RegisterId],
@@ -57,6 +69,15 @@ pub fn both(
         }
     }
     Ok(kept)
+}
+
+/// A copy with room for one more.
+fn copy_with_room(alloc: Global, regions: &[RegisterId]) -> Result<Vec<RegisterId>, AllocError>
+    ensures { IfOk result (λ copy. copy.items ≡ regions.now) }
+{
+    let mut copy: Vec<RegisterId> = Vec::with_capacity(alloc, regions.len() + 1)?;
+    copy.extend_from_slice(regions)?;
+    Ok(copy)
 }
 
 /// Lists a region, once.
@@ -93,12 +114,39 @@ impl Sets {
         }
     }
 
-    /// The regions in whose sets it is at the start of a block where it is not sure.
+    /// The regions in whose sets it is at the start of a block where it is not sure, with room for one more.
     pub fn copy_due(&self, alloc: Global, block: usize) -> Result<Vec<RegisterId>, AllocError>
         ensures { IfOk result (λ regions. regions.items ≡ due_in (label_at self.now block)) }
     {
         match self.labels.get(block) {
-            Some(Label::Due(regions)) => Ok(regions.as_slice().to_vec(alloc)?),
+            Some(Label::Due(regions)) => copy_with_room(alloc, regions.as_slice()),
+            Some(Label::Sure) => Ok(Vec::new(alloc)),
+            None => Ok(Vec::new(alloc)),
+        }
+    }
+
+    /// Whether all of these are given.
+    pub fn is_given(&self, block: usize, given: &[RegisterId]) -> bool
+        ensures { result ≡ list_all (has given.now) (due_in (label_at self.now block)) }
+    {
+        match self.labels.get(block) {
+            Some(Label::Due(regions)) => are_among(regions.as_slice(), given),
+            Some(Label::Sure) => true,
+            None => true,
+        }
+    }
+
+    /// Those of them that are given.
+    pub fn copy_given(
+        &self,
+        alloc: Global,
+        block: usize,
+        given: &[RegisterId],
+    ) -> Result<Vec<RegisterId>, AllocError>
+        ensures { IfOk result (λ regions. regions.items ≡ both_of self.now block given.now) }
+    {
+        match self.labels.get(block) {
+            Some(Label::Due(regions)) => both(alloc, regions.as_slice(), given),
             Some(Label::Sure) => Ok(Vec::new(alloc)),
             None => Ok(Vec::new(alloc)),
         }

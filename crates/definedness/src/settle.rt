@@ -6,7 +6,7 @@ ghost use Rattle.definedness.specs.declared.sets.Label.TheVariants.{Due};
 ghost use Rattle.definedness.specs.Settling.{has, due_in, label_in, label_at, label_of, count_sure, Ends, Forks, IsHeldBy, IsOver, IsJoined, IsKept, IsFit, IsBelow, IsTableLabelling, IsSettledAt, IsAllSure, KeepsBoth, Lowers, NotesEnd, IsGreatest};
 
 use crate::fork::Fork;
-use crate::sets::{Label, Sets, add_region, both};
+use crate::sets::{Label, Sets, add_region};
 use cfg::{BlockEdges, Edge, Way, no_marks};
 use lists::Seq;
 use program::RegisterId;
@@ -179,11 +179,10 @@ fn lose_due(
 ) -> Result<(), AllocError>
     ensures { OnOk result (KeepsBoth to given.now sets.old sets.new work.old.items work.new.items) }
 {
-    let old = sets.copy_due(alloc, to)?;
-    let kept = both(alloc, &old, given)?;
-    if kept.len() >= old.len() {
+    if sets.is_given(to, given) {
         return Ok(());
     }
+    let kept = sets.copy_given(alloc, to, given)?;
     put_due(sets, to, Seq::from_vec(kept), work)
 }
 

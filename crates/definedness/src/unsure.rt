@@ -1,16 +1,16 @@
-ghost use Rattle.std.specs.Prelude.{◌≡◌, ◌<◌, ◌↔◌, ℕ, None, Some, true, false, length, All, Contains, IfOk, slice_get, slice_index_or};
+ghost use Rattle.std.specs.Prelude.{◌≡◌, ◌<◌, ◌↔◌, ℕ, None, Some, true, false, length, All, Contains, IfOk, slice_get, slice_index_or, OnOk};
 ghost use Rattle.program.specs.declared.function.Block.{Block};
 ghost use Rattle.definedness.specs.declared.fork.Fork.{Fork};
 ghost use Rattle.definedness.specs.ForkOf.{IsForkOf};
 ghost use Rattle.definedness.specs.Needs.{mark_at};
 ghost use Rattle.definedness.specs.Sure.{IsNeverSure};
-ghost use Rattle.definedness.specs.Settling.{label_of};
+ghost use Rattle.definedness.specs.Settling.{label_of, AreNeverSure};
 
 use crate::fork::Fork;
 use crate::sets::Sets;
 use crate::settle::settle;
 use crate::table::{Given, Row, giving};
-use cfg::BlockEdges;
+use cfg::{BlockEdges, no_marks};
 use lists::Seq;
 use program::Block;
 use std::alloc::{AllocError, Global};
@@ -27,6 +27,49 @@ fn unsure(alloc: Global, sets: &Sets, blocks: usize) -> Result<Vec<bool>, AllocE
     Ok(marks)
 }
 
+/// The blocks that store an alloca, and those at whose start it is never sure.
+#[derive(Debug, Drop)]
+struct Settled {
+    stops: Vec<bool>,
+    marks: Vec<bool>,
+}
+
+/// Settles an alloca that these blocks store.
+fn settle_stored(
+    alloc: Global,
+    stops: Vec<bool>,
+    forks: &[Fork],
+    blocks: &[BlockEdges],
+) -> Result<Settled, AllocError>
+    requires { length forks.now ≡ length blocks.now }
+    ensures stops { IfOk result (λ its. its.stops.items ≡ stops.items) }
+    ensures marks { IfOk result (λ its. AreNeverSure forks.now blocks.now its.stops.items its.marks.items) }
+{
+    let sets = settle(alloc, &stops, forks, blocks)?;
+    let marks = unsure(alloc, &sets, blocks.len())?;
+    Ok(Settled { stops, marks })
+}
+
+/// Settles an alloca that these blocks store, unless the last one that was settled is stored by the same.
+fn settle_next(
+    alloc: Global,
+    stops: Vec<bool>,
+    forks: &[Fork],
+    blocks: &[BlockEdges],
+    last: &mut Settled,
+) -> Result<(), AllocError>
+    requires size { length forks.now ≡ length blocks.now }
+    requires last { AreNeverSure forks.now blocks.now last.old.stops.items last.old.marks.items }
+    ensures stops { OnOk result (last.new.stops.items ≡ stops.items) }
+    ensures last { OnOk result (AreNeverSure forks.now blocks.now last.new.stops.items last.new.marks.items) }
+{
+    if stops.as_slice() == last.stops.as_slice() {
+        return Ok(());
+    }
+    *last = settle_stored(alloc, stops, forks, blocks)?;
+    Ok(())
+}
+
 /// Marks the blocks at whose start no labelling has an alloca for sure.
 fn never_sure(
     alloc: Global,
@@ -35,16 +78,20 @@ fn never_sure(
     forks: &[Fork],
     all: &[Given],
     alloca: usize,
+    last: &mut Settled,
 ) -> Result<Vec<bool>, AllocError>
     requires forks { (b : ℕ) (fork : Fork) → slice_get forks.now b ≡ Some fork → IsForkOf bodies.now blocks.now b fork }
     requires size { length forks.now ≡ length bodies.now }
     requires same { length blocks.now ≡ length bodies.now }
-    ensures { IfOk result (λ marks. (b : ℕ) → b < length blocks.now → (slice_index_or marks.items b false ≡ true) ↔ IsNeverSure bodies.now blocks.now all.now alloca b) }
+    requires last { AreNeverSure forks.now blocks.now last.old.stops.items last.old.marks.items }
+    ensures last { OnOk result (AreNeverSure forks.now blocks.now last.new.stops.items last.new.marks.items) }
+    ensures marks { IfOk result (λ marks. (b : ℕ) → b < length blocks.now → (slice_index_or marks.items b false ≡ true) ↔ IsNeverSure bodies.now blocks.now all.now alloca b) }
 {
     let _bodies = bodies;
     let stops = giving(alloc, all, alloca)?;
-    let sets = settle(alloc, &stops, forks, blocks)?;
-    Ok(unsure(alloc, &sets, blocks.len())?)
+    settle_next(alloc, stops, forks, blocks, last)?;
+    let marks = last.marks.as_slice().to_vec(alloc)?;
+    Ok(marks)
 }
 
 /// A row for each alloca, with a mark for each block at whose start no labelling has it for sure.
@@ -62,8 +109,10 @@ pub fn unsure_rows(
     ensures { IfOk result (λ rows. (n b : ℕ) → n < count → b < length blocks.now → (mark_at rows.items n b ≡ true) ↔ IsNeverSure bodies.now blocks.now all.now n b) }
 {
     let mut rows: Vec<Row> = Vec::new(alloc);
+    let unstored = no_marks(alloc, blocks.len())?;
+    let mut last = settle_stored(alloc, unstored, forks, blocks)?;
     for alloca in 0..count {
-        let marks = never_sure(alloc, bodies, blocks, forks, all, alloca)?;
+        let marks = never_sure(alloc, bodies, blocks, forks, all, alloca, &mut last)?;
         rows.push(Row {
             marks: Seq::from_vec(marks),
         })?;

@@ -1,8 +1,8 @@
-use Rattle.definedness.proofs.NeverSure.{never_sure}
+use Rattle.definedness.proofs.NeverSure.{never_by_table}
 use Rattle.definedness.proofs.unsure.never_sure.Goals as goal
 
-pub returns : goal.returns
-returns c b within =
-    let marked = c.in_ok-unsure.ensures b within in
-    let never = never_sure c.args.bodies.now c.args.blocks.now c.args.forks.now c.requires.forks c.requires.size c.args.all.now c.args.alloca c.deref.result.now c.in_ok-sets.sets (rw (← c.deref.ensures.value) at c.in_ok-stops.ensures.exact) c.in_ok-sets.ensures b within in
-    (λ h. never.0 (marked.0 h), λ n. marked.1 (never.1 n))
+pub returns-clause-marks : goal.returns-clause-marks
+returns-clause-marks c b within =
+    let never = never_by_table c.args.bodies.now c.args.blocks.now c.args.forks.now c.requires.forks c.requires.size c.args.all.now c.args.alloca c.settle_next.new.last.stops.items (rw (← c.in_ok-settle_next.ensures.stops) at c.in_ok-stops.ensures.exact) b in
+    let marked = c.in_ok-settle_next.ensures.last b within in
+    rw (c.in_ok-marks.ensures.items_if_clones_equal, c.as_slice.ensures.value) (λ h. never.1 (marked.0 h), λ n. marked.1 (never.0 n))
