@@ -28,7 +28,7 @@ use Rattle.ranges.specs.Learned.{learned}
 use Rattle.bridge.specs.Costs.{numbers}
 use Rattle.bridge.specs.Moves.{dest_of}
 use Rattle.fact_laws.specs.Known.{HoldsTest}
-use Rattle.fact_laws.specs.Owing.{IsOther, Avoids, FitsConversion, FitsWidths}
+use Rattle.fact_laws.specs.Owing.{IsOther, Avoids, FitsText, FitsConversion, FitsWidths}
 use Rattle.fact_laws.proofs.Sums.{word_value}
 use Rattle.fact_laws.proofs.Learning.{none_true, binary_true, extended_true, truncated_true, zeros_true}
 
@@ -70,7 +70,7 @@ module _ (functions : List Function) (known : List Fact) (f : Frame) (all : AllH
   abbrev Known : Instruction → Effect → Type 0
   Known i e = IsLearned functions known i e.registers
 
-  answered : (d : RegisterId) (op : BinaryOperator) (w : Width) (a b : Operand) (x y : ℤ) → IsOther d.0 a → IsOther d.0 b → word_at f.registers a ≡ Some x → word_at f.registers b ≡ Some y → fits w y ≡ true →
+  answered : (d : RegisterId) (op : BinaryOperator) (w : Width) (a b : Operand) (x y : ℤ) → IsOther d.0 a → IsOther d.0 b → word_at f.registers a ≡ Some x → word_at f.registers b ≡ Some y → FitsText w b →
       (o : Answer) → binary op w x y ≡ o → (answers f d o).trap ≡ None → Known (instruction.Binary d op w a b) (answers f d o)
   answered d op w a b x y first second is_x is_y fit (Traps t) is fine = trapped t fine
   answered d op w a b x y first second is_x is_y fit (Gives z) is fine =
@@ -78,7 +78,7 @@ module _ (functions : List Function) (known : List Fact) (f : Frame) (all : AllH
       let x_is : operand_value v a ≡ x = other_value f.registers d (Word z) a first ∙ word_value f.registers a x is_x in
       let y_is : operand_value v b ≡ y = other_value f.registers d (Word z) b second ∙ word_value f.registers b y is_y in
       record {
-        sums = binary_true v (numbers f.registers) known all op w (Register d) a b (sym (other_value f.registers d (Word z) a first)) (subst (λ n. fits w n ≡ true) (sym y_is) fit)
+        sums = binary_true v (numbers f.registers) known all op w (Register d) a b (sym (other_value f.registers d (Word z) a first)) fit
             (ap (λ n. binary op w n (operand_value v b)) x_is ∙ ap (λ n. binary op w x n) y_is ∙ is ∙ ap (λ n. Gives n) (sym (set_value f.registers d z)));
         test = tt;
       }
@@ -117,7 +117,7 @@ module _ (functions : List Function) (known : List Fact) (f : Frame) (all : AllH
   by_instruction : (prog : Program) (p : Path) (m : Memory) (i : Instruction) → ((d : ℕ) → dest_of i ≡ Some d → Avoids d i) → FitsWidths f.registers i → OfAction functions known i (instruction_action prog p f m i)
   by_instruction prog p m (instruction.Binary d op w a b) avoid fit = λ fine.
       given_case (Known (instruction.Binary d op w a b)) f (word_at f.registers a) _
-      (λ x is fine2. given_case (Known (instruction.Binary d op w a b)) f (word_at f.registers b) _ (λ y is2 fine3. answered d op w a b x y (avoid d.0 refl).0 (avoid d.0 refl).1 is is2 (fit.1 y is2) (binary op w x y) refl fine3) fine2) fine
+      (λ x is fine2. given_case (Known (instruction.Binary d op w a b)) f (word_at f.registers b) _ (λ y is2 fine3. answered d op w a b x y (avoid d.0 refl).0 (avoid d.0 refl).1 is is2 fit (binary op w x y) refl fine3) fine2) fine
   by_instruction prog p m (instruction.Compare d by w a b) avoid fit = λ fine.
       given_case (Known (instruction.Compare d by w a b)) f (word_at f.registers a) _
       (λ x is fine2. given_case (Known (instruction.Compare d by w a b)) f (word_at f.registers b) _

@@ -28,6 +28,7 @@ use Rattle.ranges.specs.Sums.{one, two, three, shows}
 use Rattle.ranges.specs.Truth.{operand_value, IsTrueAt}
 use Rattle.ranges.specs.Learned.{is_scale, scale_number, scale_left, scale_right, scale_of, is_multiple, is_product, is_between, is_quotient, is_divisor, quotient_by, remainder_by, masked_by, binary_sums, is_32_bits, conversion_sums}
 use Rattle.ranges.proofs.Truth.{shown_true}
+use Rattle.fact_laws.specs.Owing.{FitsText}
 
 -- ---- tests and numbers
 
@@ -245,11 +246,11 @@ module _ (v : ℕ → ℤ) where
         (subst (λ z. z ≤ℤ pos m) (sym d_is) (masked_high (cast_unsigned (word w) (operand_value v x)) m))
     mask_true w d x (negsuc m) low fit e = absurd (low.le)
 
-    masked_by_true : (w : Width) (d x y : Operand) → fits w (operand_value v y) ≡ true → operand_value v d ≡ int_bit_and (word w) (operand_value v x) (operand_value v y) → All (IsTrueAt v) (masked_by d y)
+    masked_by_true : (w : Width) (d x y : Operand) → FitsText w y → operand_value v d ≡ int_bit_and (word w) (operand_value v x) (operand_value v y) → All (IsTrueAt v) (masked_by d y)
     masked_by_true w d x (Number c) fit e = chosen_true (int_le (pos 0) c) (is_between (pos 0) c d) (λ h. mask_true w d x c (ordered (pos 0) c h) fit e)
     masked_by_true w d x (Register r) fit e = none_true
 
-    pub binary_true : (op : BinaryOperator) (w : Width) (d x y : Operand) → operand_value before x ≡ operand_value v x → fits w (operand_value v y) ≡ true →
+    pub binary_true : (op : BinaryOperator) (w : Width) (d x y : Operand) → operand_value before x ≡ operand_value v x → FitsText w y →
         binary op w (operand_value v x) (operand_value v y) ≡ Gives (operand_value v d) → All (IsTrueAt v) (binary_sums known op d x y)
     binary_true Add w d x y same fit is = none_true
     binary_true Subtract w d x y same fit is = none_true

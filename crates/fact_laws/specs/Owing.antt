@@ -102,17 +102,23 @@ pub record IsStable (prog : Program) : Type 0 where
 
 -- ---- numbers of their widths
 
+-- A number of i64 may come from memory, where a cell holds any number; so what is made known rests on the widths of these alone.
 abbrev pub FitsAt : Registers → Width → Operand → Type 0
 FitsAt r w x = (z : ℤ) → word_at r x ≡ Some z → fits w z ≡ true
+
+-- a number that the text gives
+abbrev pub FitsText : Width → Operand → Type 0
+FitsText w (Number z) = fits w z ≡ true
+FitsText w (Register r) = Unit {0}
 
 abbrev pub FitsConversion : Registers → Conversion → Operand → Type 0
 FitsConversion r Truncate x = Unit {0}
 FitsConversion r SignExtend x = FitsAt r Bits32 x
 FitsConversion r ZeroExtend x = FitsAt r Bits32 x
 
--- the numbers that the instruction reads are of the widths that it reads them at
+-- the numbers that the instruction reads are of the widths that it reads them at: those of the text, and those of i32 that it extends
 abbrev pub FitsWidths : Registers → Instruction → Type 0
-FitsWidths r (instruction.Binary d operator width x y) = FitsAt r width x × FitsAt r width y
+FitsWidths r (instruction.Binary d operator width x y) = FitsText width y
 FitsWidths r (instruction.Compare d predicate width x y) = Unit {0}
 FitsWidths r (instruction.Convert d conversion x) = FitsConversion r conversion x
 FitsWidths r (instruction.Alloca d alloca) = Unit {0}
