@@ -1,4 +1,4 @@
-ghost use Rattle.std.specs.Prelude.{◌≡◌, ◌↔◌, ◌+◌, ◌<◌, ◌^◌, ℕ, IsTrue, IsSome, Some, None, IfOk, OnOk, cond, eqb};
+ghost use Rattle.std.specs.Prelude.{◌≡◌, ◌↔◌, ◌+◌, ◌<◌, ◌^◌, ℕ, IsTrue, IsSome, Some, None, IfErr, IfOk, OnOk, cond, eqb};
 ghost use Rattle.machine_core.specs.Paths.{Path};
 ghost use Rattle.machine_core.specs.State.{continued};
 ghost use Rattle.frame.specs.Reading.{frame_of};
@@ -35,6 +35,7 @@ impl Activation {
         ensures frame { IfOk result (λ a. a.frame ≡ frame) }
         ensures no_callee { IfOk result (λ a. a.callee ≡ None) }
         ensures none { IfOk result (λ a. (region : ℕ) → counted_in a region ≡ 0) }
+        ensures unstalled { IfOk result (λ a. a.stalled_in ≡ None) }
     {
         let counts = vec![in alloc; RegionCount::NONE; frame.registers.len()]?;
         Ok(Activation {
@@ -75,7 +76,8 @@ impl Activation {
 
     /// The count of the children within the region.
     pub fn count(&self, region: RegisterId) -> Result<RegionCount, Trap>
-        ensures { IfOk result (λ count. count_in self.now region.0 ≡ Some count) }
+        ensures counted { IfOk result (λ count. count_in self.now region.0 ≡ Some count) }
+        ensures uncounted { IfErr result (λ trap. (trap ≡ Trap.Unmatched) × (count_in self.now region.0 ≡ None)) }
     {
         match self.counts.as_slice().get(region.0) {
             Some(count) => Ok(*count),

@@ -41,5 +41,5 @@ returns-clause-detaches c can node turn asked_is =
     subst (λ (m : Run). IsStep prog old m c.args.worker) (sym frames)
     (detaches_there prog old c.args.worker c.args.slot c.args.region c.args.body.0 c.args.continuation.0 c.add_child.new.self c.in_ok-child.child c.after_detach.new.self c.in_ok-parent.parent.now c.in-Some.parent.now c.in_ok-child_slot.child_slot c.in_ok-parent.ensures.value
     (sym c.frame_mut.ensures.value ∙ ap option_copied_mut c.in-Some.is) c.in_ok-child_slot.ensures.ok c.in_ok-child_slot.ensures.map room deeper c.in_ok-frame.frame c.in_ok-frame.ensures.detached c.in_ok-frame.ensures.sound c.in_ok-frame.ensures.depth c.in_ok-frame.ensures.undefined
-    c.in_ok-child.ensures.runner c.in_ok-child.ensures.frame c.in_ok-child.ensures.no_callee c.in_ok-child.ensures.none c.in_ok-count.count c.opened.new.self c.in_ok-count.ensures c.opened.ensures c.after_detach.ensures.unheld c.args.continuation c.after_detach.ensures.frame c.after_detach.ensures.continued c.after_detach.ensures.sound c.after_detach.ensures.counted
+    c.in_ok-child.ensures.runner c.in_ok-child.ensures.frame c.in_ok-child.ensures.no_callee c.in_ok-child.ensures.none c.in_ok-count.count c.opened.new.self c.in_ok-count.ensures.counted c.opened.ensures c.after_detach.ensures.unheld c.args.continuation c.after_detach.ensures.frame c.after_detach.ensures.continued c.after_detach.ensures.sound c.after_detach.ensures.counted
     c.count_depth.new.self.peak c.count_depth.ensures.peak node turn asked_is)

@@ -17,7 +17,7 @@ returns-clause-ends c =
     let ended : node_at c.args.self.now.cactus c.args.slot ≡ Some c.in-Some.node.now = sym c.node.ensures ∙ ap option_copied c.in-Some.is in
     let its_number : slice_get c.in-Some.node.now.path.numbers (length c.in-Some.node.now.path.numbers - 1) ≡ Some c.in-Some-Some.number =
     subst (λ (l : List ℕ). slice_get l (length l - 1) ≡ Some c.in-Some-Some.number) c.as_slice.ensures (sym c.last.ensures.value ∙ (sym c.copied-last.ensures ∙ c.in-Some-Some.is-1)) in
-    let living : living_within c.args.self.now.cactus c.in-Some-Some.parent_slot c.args.region.0 ≡ c.in_ok-count.count.living = living_is c.args.self.now.cactus c.in-Some-Some.parent_slot c.args.region.0 c.in_ok-parent.parent.now c.in_ok-count.count c.in_ok-parent.ensures.value c.in_ok-count.ensures in
+    let living : living_within c.args.self.now.cactus c.in-Some-Some.parent_slot c.args.region.0 ≡ c.in_ok-count.count.living = living_is c.args.self.now.cactus c.in-Some-Some.parent_slot c.args.region.0 c.in_ok-parent.parent.now c.in_ok-count.count c.in_ok-parent.ensures.value c.in_ok-count.ensures.counted in
     let stood : c.as_parent-standing.result ≡ standing_of c.in_ok-parent.parent.now = c.as_parent-standing.ensures in
     let fell : c.closed-outcome.new.self.living + 1 ≡ living_within c.args.self.now.cactus c.in-Some-Some.parent_slot c.args.region.0 = c.closed-outcome.ensures.counted ∙ sym living in
     let takes = taken_goes_on c.closed-outcome.result c.as_parent-standing.result c.in-Some-Some.number c.args.region.0 (living_within c.args.self.now.cactus c.in-Some-Some.parent_slot c.args.region.0) c.closed-outcome.new.self.living fell c.closed-outcome.ensures.ready c.closed-outcome.ensures.stalled in
@@ -48,7 +48,7 @@ returns-clause-reattaches c =
     both_ok c.go_on.result c.go_on.ensures.takes c.go_on.ensures.left (λ takes left.
     reattaches_there prog old c.remove-child.new.self c.args.worker c.args.slot c.args.region c.in-Some-Some.parent_slot c.in-Some-Some.number c.in-Some.node.now c.remove-child.result ended c.in-Some-Some.is-0 its_number childless
     c.remove-child.ensures.rest c.remove-child.ensures.value c.remove-child.ensures.map c.in_ok-parent.parent.now c.in-Some-frame_mut.parent.now c.set_count.new.self c.in_ok-parent.ensures.value (sym c.frame_mut.ensures.value ∙ ap option_copied_mut c.in-Some-frame_mut.is) c.set_count.ensures.only
-    c.in_ok-count.count c.closed-outcome.new.self c.in_ok-count.ensures c.closed-outcome.ensures.counted c.set_count.ensures.counted c.closed-outcome.result
+    c.in_ok-count.count c.closed-outcome.new.self c.in_ok-count.ensures.counted c.closed-outcome.ensures.counted c.set_count.ensures.counted c.closed-outcome.result
     (let r = c.closed-outcome.ensures.ready in (λ e. sym c.as_parent-standing.ensures ∙ r.0 e, λ e. r.1 (c.as_parent-standing.ensures ∙ e)))
     (let r = c.closed-outcome.ensures.stalled in (λ e. (sym c.as_parent-standing.ensures ∙ (r.0 e).0, (r.0 e).1), λ e. r.1 (c.as_parent-standing.ensures ∙ e.0, e.1)))
     c.go_on.new.self takes left)

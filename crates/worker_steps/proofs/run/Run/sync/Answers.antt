@@ -10,13 +10,13 @@ use Rattle.worker_steps.proofs.run.Run.sync.Goals as goal
 
 pub returns-in-Pass-clause-stalls : goal.returns-in-Pass-clause-stalls
 returns-in-Pass-clause-stalls c some =
-    let living : living_within c.args.self.now.cactus c.args.slot c.args.region.0 ≡ c.in_ok-count.field-0.living = living_is c.args.self.now.cactus c.args.slot c.args.region.0 c.in_ok-top.top.now c.in_ok-count.field-0 c.in_ok-top.ensures.value c.in_ok-count.ensures in
+    let living : living_within c.args.self.now.cactus c.args.slot c.args.region.0 ≡ c.in_ok-count.field-0.living = living_is c.args.self.now.cactus c.args.slot c.args.region.0 c.in_ok-top.top.now c.in_ok-count.field-0 c.in_ok-top.ensures.value c.in_ok-count.ensures.counted in
     let none : c.in_ok-count.field-0.living ≡ 0 = c.in-Pass.ensures.0 refl in
     absurd (omega arith)
 
 pub returns-in-Stall-clause-passes : goal.returns-in-Stall-clause-passes
 returns-in-Stall-clause-passes c =
-    let living : living_within c.args.self.now.cactus c.args.slot c.args.region.0 ≡ c.in_ok-count.field-0.living = living_is c.args.self.now.cactus c.args.slot c.args.region.0 c.in_ok-top.top.now c.in_ok-count.field-0 c.in_ok-top.ensures.value c.in_ok-count.ensures in
+    let living : living_within c.args.self.now.cactus c.args.slot c.args.region.0 ≡ c.in_ok-count.field-0.living = living_is c.args.self.now.cactus c.args.slot c.args.region.0 c.in_ok-top.top.now c.in_ok-count.field-0 c.in_ok-top.ensures.value c.in_ok-count.ensures.counted in
     let some : c.in_ok-count.field-0.living ≡ 0 → Stall ≡ Pass = c.in-Stall.ensures.1 in
     on_ok_weaker c.stall.result (λ stalls none. absurd (let passes : Stall ≡ Pass = some (sym living ∙ none) in cc)) (c.stall.ensures.stalls c.args.region c.in_ok-wait_for_children.ensures.waits)
 
@@ -31,12 +31,12 @@ returns-in-Pass-clause-edge c = λ node stands agrees none. edge_of c.args.self.
 
 pub returns-in-Pass-clause-syncs : goal.returns-in-Pass-clause-syncs
 returns-in-Pass-clause-syncs c =
-    let living : living_within c.args.self.now.cactus c.args.slot c.args.region.0 ≡ c.in_ok-count.field-0.living = living_is c.args.self.now.cactus c.args.slot c.args.region.0 c.in_ok-top.top.now c.in_ok-count.field-0 c.in_ok-top.ensures.value c.in_ok-count.ensures in
+    let living : living_within c.args.self.now.cactus c.args.slot c.args.region.0 ≡ c.in_ok-count.field-0.living = living_is c.args.self.now.cactus c.args.slot c.args.region.0 c.in_ok-top.top.now c.in_ok-count.field-0 c.in_ok-top.ensures.value c.in_ok-count.ensures.counted in
     passes_there c.args.self.now.verified.now c.args.self.now c.enter.new.self c.wait_for_children.new.self c.args.worker c.args.slot c.args.region c.args.target.0 c.in_ok-enter.ensures.enters c.in_ok-wait_for_children.ensures.becomes (living ∙ c.in-Pass.ensures.0 refl)
 
 pub returns-in-Stall-clause-syncs : goal.returns-in-Stall-clause-syncs
 returns-in-Stall-clause-syncs c =
-    let living : living_within c.args.self.now.cactus c.args.slot c.args.region.0 ≡ c.in_ok-count.field-0.living = living_is c.args.self.now.cactus c.args.slot c.args.region.0 c.in_ok-top.top.now c.in_ok-count.field-0 c.in_ok-top.ensures.value c.in_ok-count.ensures in
+    let living : living_within c.args.self.now.cactus c.args.slot c.args.region.0 ≡ c.in_ok-count.field-0.living = living_is c.args.self.now.cactus c.args.slot c.args.region.0 c.in_ok-top.top.now c.in_ok-count.field-0 c.in_ok-top.ensures.value c.in_ok-count.ensures.counted in
     let some : c.in_ok-count.field-0.living ≡ 0 → Stall ≡ Pass = c.in-Stall.ensures.1 in
     on_ok_weaker c.stall.result (λ becomes.
     stalls_there c.args.self.now.verified.now c.args.self.now c.enter.new.self c.wait_for_children.new.self c.args.worker c.args.slot c.args.region c.args.target.0 c.in_ok-enter.ensures.enters c.in_ok-wait_for_children.ensures.becomes c.stall.new.self c.in_ok-top.top.now.frame.block becomes
