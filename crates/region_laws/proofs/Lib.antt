@@ -1,0 +1,4 @@
+pub mod Search
+pub mod Tests
+pub mod Open
+pub mod Closed
