@@ -1,0 +1,4 @@
+pub mod Holding
+pub mod Uses
+pub mod Ready
+pub mod Law
