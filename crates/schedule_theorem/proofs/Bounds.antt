@@ -1,0 +1,41 @@
+-- The budget and the depth that the verifier answers are those of the laws on cost.
+use Rattle.std.proofs.Common.{◌≡◌, ℕ, ◌-◌, ◌^◌, ◌≤◌, min, inl, inr, Option, Some, None, refl, arith, le_trans}
+use Rattle.std.specs.Prelude.{slice_get}
+use Rattle.std.proofs.lemmas.Bool.{cases_lt}
+use Rattle.program.specs.declared.function.Function.{Function}
+use Rattle.program.specs.declared.function.Program.{Program}
+use Rattle.cfg.specs.declared.refusal.Broken.{Broken}
+use Rattle.region_match.specs.declared.tables.Regions.{Regions}
+use Rattle.verifier.specs.Budgets.{budget_in, budget_of, depth_in, depth_of}
+use Rattle.bridge.specs.Costs.{bound_in, bound_of}
+use Rattle.cost_table.specs.Cost.{whole_cost, whole_cost_of}
+use Rattle.cost_table.specs.Depth.{first_depths, tasks_of}
+use Rattle.cost_laws.specs.Depths.{depth_in as depth_over, depth_of as depth_at}
+use Rattle.cost_laws.specs.Shown.{AreCostsRight}
+
+pub budget_is : (o : Option Function) → whole_cost_of o ≡ budget_in o
+budget_is None = refl
+budget_is (Some main) = refl
+
+module _ (program : Program) (costs : AreCostsRight program) where
+  -- no call costs more than a million million
+  cost_bounded : (f : ℕ) (function : Function) → slice_get program.functions f ≡ Some function → whole_cost function ≤ 1000000000000
+  cost_bounded f function at = elim (cases_lt 1000000000000 (whole_cost function)) [
+    | inl l ↦
+        let broken : Broken = record { line = function.line; number = 705 } in
+        let most : function.measure.bound ≤ function.measure.bound = omega arith in
+        absurd (costs broken (f, function, at, inr (inr (refl, refl, function.measure.bound, most, l))))
+    | inr g ↦ g
+  ]
+
+  capped : (d n c : ℕ) → d ≤ n → d ≤ c → c ≤ 1000000000000 → d ≤ min n (2 ^ 64 - 1)
+  capped d n c low less cost = omega arith
+
+  -- a run within its budget is no deeper than 64 bits say
+  pub depth_within : (regions : Regions) (d c : ℕ) → d ≤ depth_at program regions program.main.0 (bound_of program program.main.0) → d ≤ c → c ≤ budget_of program → d ≤ depth_of program regions
+  depth_within regions d c = from (slice_get program.functions program.main.0) refl
+    where
+      from : (o : Option Function) → slice_get program.functions program.main.0 ≡ o →
+          d ≤ depth_over (first_depths program regions program.main.0) program.main.0 (tasks_of regions program.main.0) o (bound_in o) → d ≤ c → c ≤ budget_in o → d ≤ depth_in program regions o
+      from None at low less within = low
+      from (Some main) at low less within = capped d _ c low less (le_trans within (cost_bounded program.main.0 main at))

@@ -1,0 +1,91 @@
+-- The serial run of a program that the verifier takes.
+use Rattle.std.proofs.Common.{◌≡◌, ◌∙◌, ◌≤◌, List, [], Option, Some, None, ℤ, true, is_some, refl, ap, subst}
+use Rattle.std.specs.Prelude.{slice_get}
+use Rattle.machine_core.specs.Paths.{Path}
+use Rattle.machine_core.specs.Cells.{Memory, globals_of}
+use Rattle.machine_core.specs.Frames.{Frame}
+use Rattle.machine_core.specs.State.{root_frame}
+use Rattle.machine_core.specs.SerialMeaning.{Gave, Outcome, IsSerialMeaning}
+use Rattle.machine_core.specs.SerialConditions.{Nothing, KeptSerially}
+use Rattle.program.specs.declared.function.Program.{Program}
+use Rattle.region_match.specs.declared.tables.Regions.{Regions}
+use Rattle.verifier.specs.Accepted.{AreTasksOf}
+use Rattle.verifier.specs.Budgets.{budget_of, depth_of}
+use Rattle.bridge.specs.Registers.{Registered}
+use Rattle.definedness_laws.specs.Defined.{IsAlways}
+use Rattle.definedness_laws.specs.Placed.{IsPlaced}
+use Rattle.definedness_laws.specs.Regions.{UsesOwnRegions}
+use Rattle.definedness_laws.specs.Values.{ReadsValues}
+use Rattle.definedness_laws.proofs.Needed.{reads_have_values}
+use Rattle.definedness_laws.proofs.Regions.{regions_are_own}
+use Rattle.fact_laws.specs.Owing.{HasWidths}
+use Rattle.fact_laws.specs.Traps.{IsReady}
+use Rattle.starting_laws.specs.Starting.{IsFirst}
+use Rattle.starting_laws.proofs.Starting.{starts_well}
+use Rattle.cost_laws.specs.Ends.{EndsWithinBudget}
+use Rattle.cost_laws.proofs.Ends.{whole_run}
+use Rattle.zone_conditions.specs.Owed.{IsKept}
+use Rattle.schedule_theorem.specs.Promise.{AreTaken, HasGlobals}
+use Rattle.schedule_theorem.proofs.Accepted.{IsTaken, rules_right}
+use Rattle.schedule_theorem.proofs.Bounds.{budget_is, depth_within}
+use Rattle.schedule_theorem.proofs.Findings.{found, no_deeper, gives_result}
+use Rattle.schedule_theorem.proofs.Serially.{free_goes, Runs, Found, runs_kept}
+use Rattle.schedule_theorem.proofs.Starting.{met_at_root, as_many}
+
+number_given : (v : Option ℤ) → is_some v ≡ true → (z : ℤ) × (v ≡ Some z)
+number_given None some = absurd (cc)
+number_given (Some z) some = (z, refl)
+
+-- kinded: what is kept of the values in a frame's registers by every step of every frame. With it what a frame reads is there.
+abbrev pub MakesReady : Program → (Path → Frame → Type 0) → Type 0
+MakesReady program kinded =
+    (p : Path) (f : Frame) (m : Memory) → IsPlaced program f → Registered (IsAlways program) p f m → kinded p f → ReadsValues program f m →
+    UsesOwnRegions program p f → IsReady program p f m
+
+module _ (program : Program) (t : IsTaken program) (kinded : Path → Frame → Type 0) (kept : IsKept program kinded)
+    (widths : (p : Path) (f : Frame) → kinded p f → HasWidths program f) (ready : MakesReady program kinded)
+  where
+    kept_along : KeptSerially program Nothing (Runs program kinded) (Found program)
+    kept_along = runs_kept program t.names.named t.names.objects t.right.regions t.right.definedness kinded kept
+
+    frame_ready : (p : Path) (f : Frame) (m : Memory) → Runs program kinded p f m → IsReady program p f m
+    frame_ready p f m b =
+        ready p f m b.0.0.0.1 b.1 b.0.0.0.0.1 (reads_have_values program t.names.named t.names.objects t.right.definedness p f m b.0.0.1)
+        (regions_are_own program t.right.regions p f b.0.0.0.1 b.0.1)
+
+    module _ (arguments : List ℤ) (memory : Memory) (given : AreTaken program arguments) (globals : HasGlobals program memory)
+        (start : kinded [] (root_frame program arguments))
+      where
+        first : IsFirst program arguments memory
+        first =
+            starts_well program t.names.named t.right.regions arguments memory
+            (record { main = t.names.main.there; count = as_many program arguments given; globals = globals })
+
+        pub first_placed : IsPlaced program (root_frame program arguments)
+        first_placed = first.placed
+
+        at_root : Runs program kinded [] (root_frame program arguments) (globals_of memory)
+        at_root = (((((free_goes, start), first.placed), first.values), first.regions), first.registers)
+
+        -- the serial run gives a number
+        pub gives : (o : Outcome) → IsSerialMeaning program arguments memory o → (z : ℤ) × (o.ending ≡ Gave (Some z))
+        gives o meant =
+            let back = gives_result program [] (root_frame program arguments) (globals_of memory) meant.within o refl meant.meets in
+            let finds = found program (Runs program kinded) (Found program) kept_along meant.within [] (root_frame program arguments) (globals_of memory) o at_root meant.meets in
+            let number = number_given back.0 (finds.1 back.0 back.1 t.names.main.gives) in
+            (number.0, back.1 ∙ ap (λ v. Gave v) number.1)
+
+        pub ends : (regions : Regions) → AreTasksOf program regions → EndsWithinBudget program regions arguments memory
+        ends regions table =
+            whole_run program regions (rules_right program t regions table) (Runs program kinded) (Found program) kept_along
+            (λ p f m b. widths p f b.0.0.0.0.1) frame_ready arguments memory at_root (met_at_root program arguments given)
+
+        pub within_budget : (regions : Regions) (table : AreTasksOf program regions) → (ends regions table).outcome.count ≤ budget_of program
+        within_budget regions table =
+            subst (λ n. (ends regions table).outcome.count ≤ n) (budget_is (slice_get program.functions program.main.0)) (ends regions table).count
+
+        pub within_depth : (regions : Regions) (table : AreTasksOf program regions) → (ends regions table).outcome.depth ≤ depth_of program regions
+        within_depth regions table =
+            let e = ends regions table in
+            let flat = no_deeper program [] (root_frame program arguments) (globals_of memory) e.serial.within e.outcome e.serial.meets in
+            depth_within program t.right.costs regions e.outcome.depth e.outcome.count e.depth_is flat (within_budget regions table)

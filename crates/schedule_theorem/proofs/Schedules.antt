@@ -1,0 +1,87 @@
+-- Every schedule of a program that the verifier takes.
+use Rattle.std.proofs.Common.{◌≡◌, ℕ, ◌≤◌, List, [], ℤ, Bool, true, sym, subst}
+use Rattle.machine_core.specs.Paths.{Path}
+use Rattle.machine_core.specs.Cells.{Memory}
+use Rattle.machine_core.specs.Conditions.{ClosesRegions}
+use Rattle.machine_core.specs.Frames.{Frame}
+use Rattle.machine_core.specs.State.{root_frame}
+use Rattle.machine_core.specs.SerialMeaning.{Outcome, IsSerialMeaning}
+use Rattle.machine_core.specs.Events.{Event, start}
+use Rattle.machine_core.specs.Replay.{replay}
+use Rattle.machine_core.specs.Schedules.{KeepsSchedule}
+use Rattle.machine_core.proofs.EverySchedule.{kept_by_schedules}
+use Rattle.machine_core.proofs.SerialExists.{serial_alone}
+use Rattle.program.specs.declared.function.Program.{Program}
+use Rattle.region_match.specs.declared.tables.Regions.{Regions}
+use Rattle.verifier.specs.Accepted.{AreTasksOf}
+use Rattle.verifier.specs.Budgets.{depth_of, IsDepthOf}
+use Rattle.definedness_laws.specs.Placed.{IsPlaced}
+use Rattle.fact_laws.proofs.Handed.{facts_at_start}
+use Rattle.zone_conditions.specs.Keeping.{Keeping, OfTask, cells_of, pending_at, Fits, Expects}
+use Rattle.zone_conditions.specs.Owed.{NamesZones, GivesWidths}
+use Rattle.zone_conditions.proofs.Law.{zones_are_met}
+use Rattle.zone_conditions.proofs.Starting.{zones_at_start}
+use Rattle.zone_conditions.specs.Law.{MeetsZones}
+use Rattle.zone_conditions.specs.Owed.{IsJudged}
+use Rattle.cost_laws.specs.Ends.{EndsWithinBudget}
+use Rattle.schedule_theorem.specs.Promise.{AreTaken, HasGlobals, KeepsItsPromise}
+use Rattle.schedule_theorem.proofs.Accepted.{IsTaken, regions_of, judged}
+use Rattle.schedule_theorem.proofs.Runs.{MakesReady, first_placed, gives as gives_number, ends, within_budget, within_depth}
+use Rattle.schedule_theorem.proofs.Starting.{met_at_root}
+
+module _ (program : Program) (t : IsTaken program) (zones : NamesZones program) (kinded : Path → Frame → Bool)
+    (gives : GivesWidths program (λ p f. kinded p f ≡ true)) (ready : MakesReady program (λ p f. kinded p f ≡ true))
+    (opens : Path → Frame → ℕ → Bool) (closes : ClosesRegions program (λ p f. IsPlaced program f) opens)
+    (arguments : List ℤ) (memory : Memory) (given : AreTaken program arguments) (globals : HasGlobals program memory)
+    (begun : kinded [] (root_frame program arguments) ≡ true)
+  where
+    abbrev base : Path → Frame → Type 0
+    base p f = kinded p f ≡ true
+
+    met : IsJudged program (regions_of program t)
+    met = judged program t zones
+
+    zoned : MeetsZones program (regions_of program t) base
+    zoned = zones_are_met program (regions_of program t) kinded met gives
+
+    abbrev placed : IsPlaced program (root_frame program arguments)
+    placed = first_placed program t base gives.kept gives.widths ready arguments memory given globals begun
+
+    abbrev root_zone : Keeping
+    root_zone = OfTask (root_frame program arguments) placed.function.zones []
+
+    root_fits : Fits program (regions_of program t) base [] (root_frame program arguments) root_zone
+    root_fits =
+        zones_at_start program (regions_of program t) kinded met arguments placed.function placed.block placed.is begun
+        (facts_at_start program met.ranges arguments (met_at_root program arguments given))
+
+    by_schedules : (o : Outcome) → IsSerialMeaning program arguments memory o → (workers : ℕ) → 1 ≤ workers → (events : List Event) →
+        KeepsSchedule program workers o (replay program workers events (start program arguments memory))
+    by_schedules o meant workers some events =
+        kept_by_schedules Keeping (cells_of program) program (Fits program (regions_of program t) base) (pending_at program) (Expects program)
+        (λ p f. IsPlaced program f) opens zoned.stays zoned.passes closes arguments memory root_zone root_fits placed o meant workers some events
+
+    abbrev run : (regions : Regions) → AreTasksOf program regions → EndsWithinBudget program regions arguments memory
+    run regions table = ends program t base gives.kept gives.widths ready arguments memory given globals begun regions table
+
+    -- by any table of the blocks' tasks
+    depth_met : (o : Outcome) → IsSerialMeaning program arguments memory o → (depth : ℕ) → IsDepthOf program depth → o.depth ≤ depth
+    depth_met o meant depth (regions, table, is) =
+        let other = run regions table in
+        let same : other.outcome ≡ o = serial_alone program arguments memory other.outcome o other.serial meant in
+        let low = within_depth program t base gives.kept gives.widths ready arguments memory given globals begun regions table in
+        subst (λ n. o.depth ≤ n) (sym is) (subst (λ (x : Outcome). x.depth ≤ depth_of program regions) same low)
+
+    pub keeps : KeepsItsPromise program arguments memory
+    keeps =
+        let table : AreTasksOf program (regions_of program t) = t.right.zones.1 in
+        let e = run (regions_of program t) table in
+        record {
+          serial = e.outcome;
+          is_serial = e.serial;
+          only_one = λ other meant. serial_alone program arguments memory other e.outcome meant e.serial;
+          gives = gives_number program t base gives.kept gives.widths ready arguments memory given globals begun e.outcome e.serial;
+          within_budget = within_budget program t base gives.kept gives.widths ready arguments memory given globals begun (regions_of program t) table;
+          within_depth = λ depth is. depth_met e.outcome e.serial depth is;
+          every_schedule = λ workers some events. by_schedules e.outcome e.serial workers some events;
+        }
