@@ -34,14 +34,16 @@ pub record IsTaken (program : Program) : Type 0 where
   pub parameters : KeepsParameters program.functions
 
 module _ (whole : Module) (kept : IsKept whole) (program : Program) (m : Means whole (Ok program)) where
-  entry_there : (g : ℕ) (function : Function) → slice_get program.functions g ≡ Some function → is_some (slice_get function.blocks 0) ≡ true
+  entry_there : (g : ℕ) (function : Function) → slice_get program.functions g ≡ Some function →
+      is_some (slice_get function.blocks 0) ≡ true
   entry_there g function at =
       let from = function_from whole program m g function at in
       let l : 0 < length from.text.blocks = (kept_function whole kept g from.text from.at_text).some in
       let n : length function.blocks ≡ length from.text.blocks = all_count _ from.text.blocks function.blocks from.is.blocks_are in
       there function.blocks 0 (omega arith)
 
-  measure_named : (g : ℕ) (function : Function) → slice_get program.functions g ≡ Some function → All (λ t. t.register.0 < length function.parameters) function.measure.form.terms
+  measure_named : (g : ℕ) (function : Function) → slice_get program.functions g ≡ Some function →
+      All (λ t. t.register.0 < length function.parameters) function.measure.form.terms
   measure_named g function at = let named = measures_name_parameters whole program m g in rw at at named
 
   pub taken : HasNamesAndTypes program → IsRight program → IsTaken program
@@ -56,7 +58,8 @@ module _ (whole : Module) (kept : IsKept whole) (program : Program) (m : Means w
 pub is_taken : (text : List ℕ) (program : Program) → IsProgramOf text program → IsTaken program
 is_taken text program accepted =
     let P : Program → Type 0 = λ p. Means accepted.0 (Ok p) in
-    taken accepted.0 (answers_kept text accepted.0 accepted.1) program (subst P accepted.4 accepted.3) (accepted_programs_are_typed text program accepted) accepted.5
+    taken accepted.0 (answers_kept text accepted.0 accepted.1) program (subst P accepted.4 accepted.3)
+    (accepted_programs_are_typed text program accepted) accepted.5
 
 module _ (program : Program) (t : IsTaken program) where
   -- by any table of the blocks' tasks

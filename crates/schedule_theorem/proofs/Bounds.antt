@@ -32,10 +32,12 @@ module _ (program : Program) (costs : AreCostsRight program) where
   capped d n c low less cost = omega arith
 
   -- a run within its budget is no deeper than 64 bits say
-  pub depth_within : (regions : Regions) (d c : ℕ) → d ≤ depth_at program regions program.main.0 (bound_of program program.main.0) → d ≤ c → c ≤ budget_of program → d ≤ depth_of program regions
+  pub depth_within : (regions : Regions) (d c : ℕ) → d ≤ depth_at program regions program.main.0 (bound_of program program.main.0) →
+      d ≤ c → c ≤ budget_of program → d ≤ depth_of program regions
   depth_within regions d c = from (slice_get program.functions program.main.0) refl
     where
       from : (o : Option Function) → slice_get program.functions program.main.0 ≡ o →
-          d ≤ depth_over (first_depths program regions program.main.0) program.main.0 (tasks_of regions program.main.0) o (bound_in o) → d ≤ c → c ≤ budget_in o → d ≤ depth_in program regions o
+          d ≤ depth_over (first_depths program regions program.main.0) program.main.0 (tasks_of regions program.main.0) o
+          (bound_in o) → d ≤ c → c ≤ budget_in o → d ≤ depth_in program regions o
       from None at low less within = low
       from (Some main) at low less within = capped d _ c low less (le_trans within (cost_bounded program.main.0 main at))

@@ -6,7 +6,8 @@ use Rattle.machine_core.specs.Arithmetic.{Trap}
 use Rattle.machine_core.specs.Frames.{Body, Frame}
 use Rattle.machine_core.specs.Effect.{Effect, Action, Plain, Detach, Reattach, Sync, Call, Return, action_of}
 use Rattle.machine_core.specs.State.{went, detached, continued, synced, called, waiting, resumed}
-use Rattle.machine_core.specs.SerialMeaning.{Ending, Left, Gave, Outcome, Rest, written, cleared, counted, joined, last, after_effect, after_left, after_child, after_gave, after_call, by_action, meaning}
+use Rattle.machine_core.specs.SerialMeaning.{Ending, Left, Gave, Outcome, Rest, written, cleared, counted, meaning}
+use Rattle.machine_core.specs.SerialMeaning.{joined, last, after_effect, after_left, after_child, after_gave, after_call, by_action}
 use Rattle.machine_core.specs.SerialConditions.{Says, Finds, Nothing, one_more, both_outcomes, at_last, KeptSerially}
 use Rattle.machine_core.proofs.Actions.{return_is_body, reattach_is_child}
 use Rattle.machine_core.proofs.SerialExists.{Suits, body_gave}
@@ -17,24 +18,29 @@ from_counted : (o : Option Outcome) (u : Outcome) → counted o ≡ Some u → (
 from_counted None u e = absurd (cc)
 from_counted (Some v) u e = (v, refl, (let same : one_more v ≡ u = cc in same))
 
-from_joined : (first : Outcome) (o : Option Outcome) (u : Outcome) → joined first o ≡ Some u → (v : Outcome) × (o ≡ Some v) × (both_outcomes first v ≡ u)
+from_joined : (first : Outcome) (o : Option Outcome) (u : Outcome) → joined first o ≡ Some u →
+    (v : Outcome) × (o ≡ Some v) × (both_outcomes first v ≡ u)
 from_joined first None u e = absurd (cc)
 from_joined first (Some v) u e = (v, refl, (let same : both_outcomes first v ≡ u = cc in same))
 
 module _ (rest : Rest) where
-  from_effect : (p : Path) (f : Frame) (m : Memory) (e : Effect) (t : Option Trap) (u : Outcome) → after_effect rest p f m e t ≡ Some u → (t ≡ None) × (counted (rest p (went f e) (written e m)) ≡ Some u)
+  from_effect : (p : Path) (f : Frame) (m : Memory) (e : Effect) (t : Option Trap) (u : Outcome) → after_effect rest p f m e t ≡ Some u →
+      (t ≡ None) × (counted (rest p (went f e) (written e m)) ≡ Some u)
   from_effect p f m e (Some t) u is = absurd (cc)
   from_effect p f m e None u is = (refl, is)
 
-  from_left : (p : Path) (f : Frame) (o : Outcome) (e : Ending) (u : Outcome) → after_left rest p f o e ≡ Some u → (e ≡ Left) × (joined o (rest p f o.memory) ≡ Some u)
+  from_left : (p : Path) (f : Frame) (o : Outcome) (e : Ending) (u : Outcome) → after_left rest p f o e ≡ Some u →
+      (e ≡ Left) × (joined o (rest p f o.memory) ≡ Some u)
   from_left p f o Left u is = (refl, is)
   from_left p f o (Gave v) u is = absurd (cc)
 
-  from_child : (p : Path) (f : Frame) (o : Option Outcome) (u : Outcome) → after_child rest p f o ≡ Some u → (v : Outcome) × (o ≡ Some v) × (v.ending ≡ Left) × (joined v (rest p f v.memory) ≡ Some u)
+  from_child : (p : Path) (f : Frame) (o : Option Outcome) (u : Outcome) → after_child rest p f o ≡ Some u →
+      (v : Outcome) × (o ≡ Some v) × (v.ending ≡ Left) × (joined v (rest p f v.memory) ≡ Some u)
   from_child p f None u is = absurd (cc)
   from_child p f (Some v) u is = let h = from_left p f v v.ending u is in (v, refl, h.0, h.1)
 
-  from_gave : (p : Path) (f : Frame) (d : Option RegisterId) (o : Outcome) (e : Ending) (u : Outcome) → after_gave rest p f d o e ≡ Some u → (v : Option ℤ) × (e ≡ Gave v) × (joined o (rest p (resumed f d v) o.memory) ≡ Some u)
+  from_gave : (p : Path) (f : Frame) (d : Option RegisterId) (o : Outcome) (e : Ending) (u : Outcome) →
+      after_gave rest p f d o e ≡ Some u → (v : Option ℤ) × (e ≡ Gave v) × (joined o (rest p (resumed f d v) o.memory) ≡ Some u)
   from_gave p f d o Left u is = absurd (cc)
   from_gave p f d o (Gave v) u is = (v, refl, is)
 
@@ -47,31 +53,37 @@ module _ (rest : Rest) where
   from_last ending m u is = cc
 
 module _ (prog : Program) (good : Says) (post : Finds) (kept : KeptSerially prog Nothing good post) where
-  module _ (n : ℕ) (before : (p : Path) (f : Frame) (m : Memory) (o : Outcome) → good p f m → meaning prog n p f m ≡ Some o → post p f m o) (p : Path) (f : Frame) (m : Memory) (g : good p f m) (u : Outcome) where
-    by_found : (a : Action) → action_of prog p f m ≡ a → by_action (meaning prog n) p f m a ≡ Some u → post p f m u
-    by_found (Plain e) at is =
-        let (fine, next) = from_effect (meaning prog n) p f m e e.trap u is in
-        let (v, there, same) = from_counted (meaning prog n p (went f e) (written e m)) u next in
-        let on = kept.plain_kept p f m e tt g at fine tt in
-        subst (λ o. post p f m o) same (on.finds v (before p (went f e) (written e m) v on.next there))
-    by_found (Sync r b rs) at is =
-        let (v, there, same) = from_counted (meaning prog n p (synced f r b rs) m) u is in
-        let on = kept.sync_kept p f m r b rs tt g at tt in
-        subst (λ o. post p f m o) same (on.finds v (before p (synced f r b rs) m v on.next there))
-    by_found (Detach r body next) at is =
-        let (c, found, gone, rest) = from_child (meaning prog n) p (continued f next) (meaning prog n (f.made ∷ p) (detached f r body next) m) u is in
-        let (v, there, same) = from_joined c (meaning prog n p (continued f next) c.memory) u rest in
-        let child = kept.child_kept p f m r body next tt g at tt in
-        let on = kept.continued_kept p f m r body next tt g at tt c gone (before (f.made ∷ p) (detached f r body next) m c child found) tt in
-        subst (λ o. post p f m o) same (on.finds v (before p (continued f next) c.memory v on.next there))
-    by_found (Call d h vs) at is =
-        let (c, found, result, gave, rest) = from_call (meaning prog n) p (waiting f d) d (meaning prog n (f.made ∷ p) (called p f h vs) m) u is in
-        let (v, there, same) = from_joined c (meaning prog n p (resumed (waiting f d) d result) c.memory) u rest in
-        let body = kept.callee_kept p f m d h vs tt g at tt in
-        let on = kept.resumed_kept p f m d h vs tt g at tt c result gave (before (f.made ∷ p) (called p f h vs) m c body found) tt in
-        subst (λ o. post p f m o) same (on.finds v (before p (resumed (waiting f d) d result) c.memory v on.next there))
-    by_found (Reattach r) at is = subst (λ o. post p f m o) (from_last (meaning prog n) Left m u is) (kept.reattach_finds p f m r tt g at)
-    by_found (Return v) at is = subst (λ o. post p f m o) (from_last (meaning prog n) (Gave v) (cleared p m) u is) (kept.return_finds p f m v tt g at)
+  module _ (n : ℕ) (before : (p : Path) (f : Frame) (m : Memory) (o : Outcome) → good p f m → meaning prog n p f m ≡ Some o → post p f m o)
+      (p : Path) (f : Frame) (m : Memory) (g : good p f m) (u : Outcome)
+    where
+      by_found : (a : Action) → action_of prog p f m ≡ a → by_action (meaning prog n) p f m a ≡ Some u → post p f m u
+      by_found (Plain e) at is =
+          let (fine, next) = from_effect (meaning prog n) p f m e e.trap u is in
+          let (v, there, same) = from_counted (meaning prog n p (went f e) (written e m)) u next in
+          let on = kept.plain_kept p f m e tt g at fine tt in
+          subst (λ o. post p f m o) same (on.finds v (before p (went f e) (written e m) v on.next there))
+      by_found (Sync r b rs) at is =
+          let (v, there, same) = from_counted (meaning prog n p (synced f r b rs) m) u is in
+          let on = kept.sync_kept p f m r b rs tt g at tt in
+          subst (λ o. post p f m o) same (on.finds v (before p (synced f r b rs) m v on.next there))
+      by_found (Detach r body next) at is =
+          let (c, found, gone, rest) = from_child (meaning prog n) p (continued f next)
+          (meaning prog n (f.made ∷ p) (detached f r body next) m) u is in
+          let (v, there, same) = from_joined c (meaning prog n p (continued f next) c.memory) u rest in
+          let child = kept.child_kept p f m r body next tt g at tt in
+          let on = kept.continued_kept p f m r body next tt g at tt c gone
+          (before (f.made ∷ p) (detached f r body next) m c child found) tt in
+          subst (λ o. post p f m o) same (on.finds v (before p (continued f next) c.memory v on.next there))
+      by_found (Call d h vs) at is =
+          let (c, found, result, gave, rest) = from_call (meaning prog n) p (waiting f d) d
+          (meaning prog n (f.made ∷ p) (called p f h vs) m) u is in
+          let (v, there, same) = from_joined c (meaning prog n p (resumed (waiting f d) d result) c.memory) u rest in
+          let body = kept.callee_kept p f m d h vs tt g at tt in
+          let on = kept.resumed_kept p f m d h vs tt g at tt c result gave (before (f.made ∷ p) (called p f h vs) m c body found) tt in
+          subst (λ o. post p f m o) same (on.finds v (before p (resumed (waiting f d) d result) c.memory v on.next there))
+      by_found (Reattach r) at is = subst (λ o. post p f m o) (from_last (meaning prog n) Left m u is) (kept.reattach_finds p f m r tt g at)
+      by_found (Return v) at is = subst (λ o. post p f m o) (from_last (meaning prog n) (Gave v) (cleared p m) u is)
+          (kept.return_finds p f m v tt g at)
 
   pub found : (n : ℕ) (p : Path) (f : Frame) (m : Memory) (o : Outcome) → good p f m → meaning prog n p f m ≡ Some o → post p f m o
   found zero p f m o g is = absurd (cc)
@@ -89,14 +101,16 @@ shallow_kept prog = record {
   plain_kept = λ p f m e b g at fine nb. record { next = tt; finds = λ o h. omega (arith, h) };
   sync_kept = λ p f m r t rs b g at nb. record { next = tt; finds = λ o h. omega (arith, h) };
   child_kept = λ p f m r body next b g at nb. tt;
-  continued_kept = λ p f m r body next b g at nc o gone h nb. record { next = tt; finds = λ u k. deeper o.depth o.count u.depth u.count h k };
+  continued_kept = λ p f m r body next b g at nc o gone h nb.
+      record { next = tt; finds = λ u k. deeper o.depth o.count u.depth u.count h k };
   callee_kept = λ p f m d c vs b g at nb. tt;
   resumed_kept = λ p f m d c vs b g at nc o v gave h nb. record { next = tt; finds = λ u k. deeper o.depth o.count u.depth u.count h k };
   reattach_finds = λ p f m r b g at. omega arith;
   return_finds = λ p f m v b g at. omega arith;
 }
 
-pub no_deeper : (prog : Program) (p : Path) (f : Frame) (m : Memory) (n : ℕ) (o : Outcome) → meaning prog n p f m ≡ Some o → o.depth ≤ o.count
+pub no_deeper : (prog : Program) (p : Path) (f : Frame) (m : Memory) (n : ℕ) (o : Outcome) → meaning prog n p f m ≡ Some o →
+    o.depth ≤ o.count
 no_deeper prog p f m n o is = found prog Nothing Shallow (shallow_kept prog) n p f m o tt is
 
 -- a function's frame gives a result, and a child leaves
@@ -115,5 +129,7 @@ suited_kept prog = record {
   return_finds = λ p f m v b g at. let role = return_is_body prog p f m v at in subst (λ x. Suits x (Gave v)) (sym role) tt;
 }
 
-pub gives_result : (prog : Program) (p : Path) (f : Frame) (m : Memory) (n : ℕ) (o : Outcome) → f.role ≡ Body → meaning prog n p f m ≡ Some o → (v : Option ℤ) × (o.ending ≡ Gave v)
-gives_result prog p f m n o body is = body_gave o.ending (subst (λ x. Suits x o.ending) body (found prog Nothing Suited (suited_kept prog) n p f m o tt is))
+pub gives_result : (prog : Program) (p : Path) (f : Frame) (m : Memory) (n : ℕ) (o : Outcome) → f.role ≡ Body →
+    meaning prog n p f m ≡ Some o → (v : Option ℤ) × (o.ending ≡ Gave v)
+gives_result prog p f m n o body is =
+    body_gave o.ending (subst (λ x. Suits x o.ending) body (found prog Nothing Suited (suited_kept prog) n p f m o tt is))

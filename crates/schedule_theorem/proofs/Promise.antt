@@ -24,8 +24,8 @@ kinds_make_ready : (program : Program) → IsTaken program → HasKindedUses pro
 kinds_make_ready program t uses p f m placed registers kinded values regions =
     let read : IsReadByRules program =
     record { graph = t.right.graph; regions = t.right.regions; defined = t.names.uses; kinds = t.names.kinds; uses = uses } in
-    frames_are_ready program read p f m
-    (record { placed = placed; registers = registers; kinded = (kinds_are_tested program f).sound kinded; values = values; regions = regions })
+    let kinds = (kinds_are_tested program f).sound kinded in
+    frames_are_ready program read p f m (record { placed = placed; registers = registers; kinded = kinds; values = values; regions = regions })
 
 pub accepted_programs_keep_their_promise : AcceptedProgramsKeepTheirPromise
 accepted_programs_keep_their_promise text program accepted arguments memory given globals =

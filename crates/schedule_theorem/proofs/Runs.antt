@@ -39,7 +39,8 @@ number_given (Some z) some = (z, refl)
 -- kinded: what is kept of the values in a frame's registers by every step of every frame. With it what a frame reads is there.
 abbrev pub MakesReady : Program → (Path → Frame → Type 0) → Type 0
 MakesReady program kinded =
-    (p : Path) (f : Frame) (m : Memory) → IsPlaced program f → Registered (IsAlways program) p f m → kinded p f → ReadsValues program f m →
+    (p : Path) (f : Frame) (m : Memory) → IsPlaced program f → Registered (IsAlways program) p f m → kinded p f →
+    ReadsValues program f m →
     UsesOwnRegions program p f → IsReady program p f m
 
 module _ (program : Program) (t : IsTaken program) (kinded : Path → Frame → Type 0) (kept : IsKept program kinded)
@@ -71,7 +72,8 @@ module _ (program : Program) (t : IsTaken program) (kinded : Path → Frame → 
         pub gives : (o : Outcome) → IsSerialMeaning program arguments memory o → (z : ℤ) × (o.ending ≡ Gave (Some z))
         gives o meant =
             let back = gives_result program [] (root_frame program arguments) (globals_of memory) meant.within o refl meant.meets in
-            let finds = found program (Runs program kinded) (Found program) kept_along meant.within [] (root_frame program arguments) (globals_of memory) o at_root meant.meets in
+            let finds = found program (Runs program kinded) (Found program) kept_along meant.within [] (root_frame program arguments)
+            (globals_of memory) o at_root meant.meets in
             let number = number_given back.0 (finds.1 back.0 back.1 t.names.main.gives) in
             (number.0, back.1 ∙ ap (λ v. Gave v) number.1)
 
@@ -80,11 +82,14 @@ module _ (program : Program) (t : IsTaken program) (kinded : Path → Frame → 
             whole_run program regions (rules_right program t regions table) (Runs program kinded) (Found program) kept_along
             (λ p f m b. widths p f b.0.0.0.0.1) frame_ready arguments memory at_root (met_at_root program arguments given)
 
-        pub within_budget : (regions : Regions) (table : AreTasksOf program regions) → (ends regions table).outcome.count ≤ budget_of program
+        pub within_budget : (regions : Regions) (table : AreTasksOf program regions) →
+            (ends regions table).outcome.count ≤ budget_of program
         within_budget regions table =
-            subst (λ n. (ends regions table).outcome.count ≤ n) (budget_is (slice_get program.functions program.main.0)) (ends regions table).count
+            subst (λ n. (ends regions table).outcome.count ≤ n) (budget_is (slice_get program.functions program.main.0))
+            (ends regions table).count
 
-        pub within_depth : (regions : Regions) (table : AreTasksOf program regions) → (ends regions table).outcome.depth ≤ depth_of program regions
+        pub within_depth : (regions : Regions) (table : AreTasksOf program regions) →
+            (ends regions table).outcome.depth ≤ depth_of program regions
         within_depth regions table =
             let e = ends regions table in
             let flat = no_deeper program [] (root_frame program arguments) (globals_of memory) e.serial.within e.outcome e.serial.meets in

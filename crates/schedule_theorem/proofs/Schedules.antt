@@ -58,8 +58,10 @@ module _ (program : Program) (t : IsTaken program) (zones : NamesZones program) 
     by_schedules : (o : Outcome) → IsSerialMeaning program arguments memory o → (workers : ℕ) → 1 ≤ workers → (events : List Event) →
         KeepsSchedule program workers o (replay program workers events (start program arguments memory))
     by_schedules o meant workers some events =
-        kept_by_schedules Keeping (cells_of program) program (Fits program (regions_of program t) base) (pending_at program) (Expects program)
-        (λ p f. IsPlaced program f) opens zoned.stays zoned.passes closes arguments memory root_zone root_fits placed o meant workers some events
+        kept_by_schedules Keeping (cells_of program) program (Fits program (regions_of program t) base) (pending_at program)
+        (Expects program)
+        (λ p f. IsPlaced program f) opens zoned.stays zoned.passes closes arguments memory root_zone root_fits placed
+        o meant workers some events
 
     abbrev run : (regions : Regions) → AreTasksOf program regions → EndsWithinBudget program regions arguments memory
     run regions table = ends program t base gives.kept gives.widths ready arguments memory given globals begun regions table
@@ -81,7 +83,8 @@ module _ (program : Program) (t : IsTaken program) (zones : NamesZones program) 
           is_serial = e.serial;
           only_one = λ other meant. serial_alone program arguments memory other e.outcome meant e.serial;
           gives = gives_number program t base gives.kept gives.widths ready arguments memory given globals begun e.outcome e.serial;
-          within_budget = within_budget program t base gives.kept gives.widths ready arguments memory given globals begun (regions_of program t) table;
+          within_budget = within_budget program t base gives.kept gives.widths ready arguments memory given globals begun
+              (regions_of program t) table;
           within_depth = λ depth is. depth_met e.outcome e.serial depth is;
           every_schedule = λ workers some events. by_schedules e.outcome e.serial workers some events;
         }

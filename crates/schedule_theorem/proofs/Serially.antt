@@ -25,7 +25,8 @@ use Rattle.zone_conditions.specs.Owed.{IsKept}
 
 -- ---- with more to rest on
 
-pub kept_over : (prog : Program) (base more good : Says) (post : Finds) → ((p : Path) (f : Frame) (m : Memory) → more p f m → base p f m) →
+pub kept_over : (prog : Program) (base more good : Says) (post : Finds) →
+    ((p : Path) (f : Frame) (m : Memory) → more p f m → base p f m) →
     KeptSerially prog base good post → KeptSerially prog more good post
 kept_over prog base more good post within k = record {
   plain_kept = λ p f m e b g at fine nb. k.plain_kept p f m e (within _ _ _ b) g at fine (within _ _ _ nb);
@@ -108,7 +109,8 @@ stands_kept prog named kinded kept =
     (kept_over prog Goes (And Nothing Goes) (Always kinded) NoFinds (λ p f m b. b.1) (always_kept prog kinded kept)))
     (kept_over prog Nothing (And Nothing (And Goes (Always kinded))) (Placed prog) NoFinds (λ p f m b. tt) (tasks_kept_alone prog named))
 
-module _ (prog : Program) (named : IsNamed prog) (objects : NamesObjects prog) (matched : AreRegionsRight prog) (defined : IsDefinednessRight prog)
+module _ (prog : Program) (named : IsNamed prog) (objects : NamesObjects prog) (matched : AreRegionsRight prog)
+    (defined : IsDefinednessRight prog)
     (kinded : Path → Frame → Type 0) (kept : IsKept prog kinded)
   where
     stored_kept : KeptSerially prog Nothing (And (Stands prog kinded) (HasValues prog)) (FindsBoth StandsFound (KeepsValues prog))
@@ -120,7 +122,8 @@ module _ (prog : Program) (named : IsNamed prog) (objects : NamesObjects prog) (
     owned_kept : KeptSerially prog Nothing (And (And (Stands prog kinded) (HasValues prog)) (Owns prog))
         (FindsBoth (FindsBoth StandsFound (KeepsValues prog)) NoFinds)
     owned_kept =
-        kept_both prog Nothing (And (Stands prog kinded) (HasValues prog)) (Owns prog) (FindsBoth StandsFound (KeepsValues prog)) NoFinds stored_kept
+        kept_both prog Nothing (And (Stands prog kinded) (HasValues prog)) (Owns prog)
+        (FindsBoth StandsFound (KeepsValues prog)) NoFinds stored_kept
         (kept_over prog (Placed prog) (And Nothing (And (Stands prog kinded) (HasValues prog))) (Owns prog) NoFinds (λ p f m b. b.1.0.1)
         (regions_are_kept prog named matched))
 
@@ -128,5 +131,5 @@ module _ (prog : Program) (named : IsNamed prog) (objects : NamesObjects prog) (
     runs_kept =
         kept_both prog Nothing (And (And (Stands prog kinded) (HasValues prog)) (Owns prog)) (Registered (IsAlways prog))
         (FindsBoth (FindsBoth StandsFound (KeepsValues prog)) NoFinds) (GivesNumber prog) owned_kept
-        (kept_over prog Nothing (And Nothing (And (And (Stands prog kinded) (HasValues prog)) (Owns prog))) (Registered (IsAlways prog)) (GivesNumber prog)
-        (λ p f m b. tt) (defined_are_kept prog named matched))
+        (kept_over prog Nothing (And Nothing (And (And (Stands prog kinded) (HasValues prog)) (Owns prog))) (Registered (IsAlways prog))
+        (GivesNumber prog) (λ p f m b. tt) (defined_are_kept prog named matched))

@@ -19,7 +19,8 @@ module _ (program : Program) (arguments : List ℤ) (given : AreTaken program ar
   numbers_are : argument_at arguments ≡ numbers (root_frame program arguments).registers
   numbers_are = λ i r. sym (ap or_zero (word_at arguments r)) i
 
-  pub met_at_root : (function : Function) → slice_get program.functions program.main.0 ≡ Some function → All (IsMet (numbers (root_frame program arguments).registers)) function.requirements
+  pub met_at_root : (function : Function) → slice_get program.functions program.main.0 ≡ Some function →
+      All (IsMet (numbers (root_frame program arguments).registers)) function.requirements
   met_at_root function at =
       let both : Some given.main ≡ Some function = sym given.is_main ∙ at in
       let same : given.main ≡ function = cc in
