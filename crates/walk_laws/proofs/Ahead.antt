@@ -1,15 +1,15 @@
 -- The steps of a serial run, forwards: from the rest of the run before a step to the rest after it, which has one instruction less.
-use Rattle.std.proofs.Common.{◌≡◌, ℕ, zero, suc, ◌+◌, ◌<◌, ◌≤◌, max, List, [], ◌∷◌, length, Option, Some, None, is_some, true, false, refl, ap, sym, ◌∙◌, subst, arith, ℤ}
+use Rattle.std.proofs.Common.{◌≡◌, ℕ, suc, ◌+◌, ◌<◌, ◌≤◌, max, List, [], ◌∷◌, length, Option, Some, None, is_some, true, refl, ap, sym, ◌∙◌, subst, arith, ℤ}
 use Rattle.machine_core.specs.Paths.{Path}
 use Rattle.machine_core.specs.Cells.{Memory}
-use Rattle.machine_core.specs.Frames.{Value, Wait, Free, OnRegion, OnCall, Halted, Frame}
-use Rattle.machine_core.specs.Effect.{Effect, Action, Plain, Detach, Reattach, Sync, Call, Return, action_of}
-use Rattle.machine_core.specs.State.{went, detached, continued, synced, called, waiting, resumed, root_frame}
-use Rattle.machine_core.specs.SerialMeaning.{Ending, Left, Gave, Outcome, written, cleared, IsSerialMeaning}
+use Rattle.machine_core.specs.Frames.{Wait, Free, OnRegion, OnCall, Halted, Frame}
+use Rattle.machine_core.specs.Effect.{Action, Plain, Detach, Reattach, Sync, Call, Return, action_of}
+use Rattle.machine_core.specs.State.{went, detached, continued, synced, called, waiting, resumed}
+use Rattle.machine_core.specs.SerialMeaning.{Ending, Left, Gave, Outcome, written, cleared}
 use Rattle.machine_core.specs.SerialConditions.{one_more, both_outcomes, at_last}
 use Rattle.linear.specs.declared.form.RegisterId.{RegisterId}
 use Rattle.program.specs.declared.function.Program.{Program}
-use Rattle.walk_laws.specs.Stack.{Placed, Means, over, GoesOn, Rests, Run, Goes, plain, sync, detach, call, reattach, ret, IsNotFree, IsNotCalling, HasNoStep, IsStuck, Walk, begins, goes_on, starting}
+use Rattle.walk_laws.specs.Stack.{Placed, Means, over, GoesOn, Rests, Run, Goes, plain, sync, detach, call, reattach, ret, IsNotFree, IsNotCalling, HasNoStep, Walk, begins, goes_on, starting}
 use Rattle.walk_laws.specs.Laws.{GoesOnTo, WalksGoOn}
 use Rattle.walk_laws.proofs.Apart.{meaning_means, plain_apart, sync_apart, detach_apart, call_apart, reattach_apart, return_apart}
 

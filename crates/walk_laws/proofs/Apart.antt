@@ -1,5 +1,5 @@
 -- The outcome of a frame, taken apart by the frame's action: what its first instruction leaves, and the outcomes that it is made of.
-use Rattle.std.proofs.Common.{◌≡◌, ℕ, zero, suc, ◌+◌, ◌≤◌, max, List, ◌∷◌, Option, Some, None, refl, ap, sym, ◌∙◌, subst, arith, ℤ}
+use Rattle.std.proofs.Common.{◌≡◌, ℕ, zero, suc, ◌≤◌, max, List, ◌∷◌, Option, Some, None, refl, ap, sym, ◌∙◌, subst, arith, ℤ}
 use Rattle.machine_core.specs.Paths.{Path}
 use Rattle.machine_core.specs.Cells.{Memory}
 use Rattle.machine_core.specs.Arithmetic.{Trap}

@@ -1,10 +1,10 @@
 -- Places, frames made and frames below are no more than the steps.
-use Rattle.std.proofs.Common.{◌≡◌, ℕ, suc, ◌≤◌, List, [], ◌∷◌, length, Option, Some, None, Bool, true, false, cond, ◌&&◌, refl, ap, sym, subst, arith, ℤ, pos, int_lt, int_le, eqb}
+use Rattle.std.proofs.Common.{◌≡◌, ℕ, suc, ◌≤◌, List, [], ◌∷◌, length, Option, Some, None, Bool, true, false, cond, ◌&&◌, ap, subst, arith, ℤ, pos, int_lt, int_le, eqb}
 use Rattle.machine_core.specs.Paths.{Path, same_path}
 use Rattle.machine_core.specs.Cells.{Object, Cell, Memory}
 use Rattle.machine_core.specs.Arithmetic.{Answer, Gives, Traps, binary}
 use Rattle.machine_core.specs.Frames.{Value, Registers, Role, Child, Body, Frame, Item, Does, Ends, item_at, word_at, object_at, cell_at, cells_of, truth_of, region_of}
-use Rattle.machine_core.specs.Effect.{Effect, Action, Plain, Detach, Reattach, Sync, Call, Return, given, answers, points, loads, stores_zeros, adds_to, enters, jumps, case_for, if_own, syncs, calls, returns, returns_value, reattaches, registers_along, argument_values, instruction_action, terminator_action, item_action, action_of}
+use Rattle.machine_core.specs.Effect.{Effect, Action, Plain, Detach, Reattach, Sync, Call, Return, given, answers, points, loads, adds_to, enters, jumps, case_for, if_own, syncs, calls, returns, returns_value, reattaches, registers_along, argument_values, instruction_action, terminator_action, item_action, action_of}
 use Rattle.linear.specs.declared.form.RegisterId.{RegisterId}
 use Rattle.program.specs.declared.function.Program.{Program}
 use Rattle.program.specs.declared.instruction.Instruction.{Instruction}
@@ -162,9 +162,13 @@ step_counted prog n s t (detach r b c act) h = record {
 }
 step_counted prog n s t (call d g vs act) h = record {
   top = record { index = begins_block (suc n); made = begins_block (suc n) };
-  below = (record {
+  below = (
+    record {
       index = less (suc s.frame.index) s.frame.index n (goes (suc s.frame.index)) h.top.index;
-      made = less (suc s.frame.made) s.frame.made n (goes (suc s.frame.made)) h.top.made }, all_within_more n s.below h.below);
+      made = less (suc s.frame.made) s.frame.made n (goes (suc s.frame.made)) h.top.made;
+    },
+    all_within_more n s.below h.below,
+  );
   deep = less (suc (length s.below)) (length s.below) n (goes (suc (length s.below))) h.deep;
 }
 step_counted prog n s t (reattach r g rest act at free) h =

@@ -1,10 +1,10 @@
 -- What a serial run keeps holds of the frame on top of each stack: and of each frame below, once those above it are done.
-use Rattle.std.proofs.Common.{◌≡◌, ℕ, suc, true, List, [], ◌∷◌, Option, refl, sym, subst, ℤ}
+use Rattle.std.proofs.Common.{◌≡◌, ℕ, true, List, [], ◌∷◌, Option, refl, subst}
 use Rattle.std.specs.Prelude.{⊤}
 use Rattle.machine_core.specs.Paths.{Path}
 use Rattle.machine_core.specs.Cells.{Memory}
-use Rattle.machine_core.specs.Frames.{Value, Registers, Wait, Free, OnRegion, OnCall, Halted, Frame}
-use Rattle.machine_core.specs.Effect.{Effect, Plain, Detach, Reattach, Sync, Call, Return, action_of}
+use Rattle.machine_core.specs.Frames.{Value, Wait, Free, OnRegion, OnCall, Halted, Frame}
+use Rattle.machine_core.specs.Effect.{Detach, Call, action_of}
 use Rattle.machine_core.specs.State.{went, detached, continued, synced, called, waiting, resumed}
 use Rattle.machine_core.specs.SerialMeaning.{Ending, Left, Gave, Outcome, written, cleared}
 use Rattle.machine_core.specs.SerialConditions.{Says, Finds, Nothing, one_more, both_outcomes, at_last, KeptSerially}
