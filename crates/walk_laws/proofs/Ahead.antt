@@ -9,7 +9,8 @@ use Rattle.machine_core.specs.SerialMeaning.{Ending, Left, Gave, Outcome, writte
 use Rattle.machine_core.specs.SerialConditions.{one_more, both_outcomes, at_last}
 use Rattle.linear.specs.declared.form.RegisterId.{RegisterId}
 use Rattle.program.specs.declared.function.Program.{Program}
-use Rattle.walk_laws.specs.Stack.{Placed, Means, over, GoesOn, Rests, Run, Goes, plain, sync, detach, call, reattach, ret, IsNotFree, IsNotCalling, HasNoStep, Walk, begins, goes_on, starting}
+use Rattle.serial_machine.specs.Stack.{Placed, Means, over, GoesOn, Rests, Run, Goes, plain, sync, detach, call, reattach, ret, IsNotFree, IsNotCalling, HasNoStep, Walk, begins, goes_on, starting}
+use Rattle.serial_machine.proofs.Walks.{rests_deep}
 use Rattle.walk_laws.specs.Laws.{GoesOnTo, WalksGoOn}
 use Rattle.walk_laws.proofs.Apart.{meaning_means, plain_apart, sync_apart, detach_apart, call_apart, reattach_apart, return_apart}
 
@@ -167,20 +168,6 @@ walk_on prog start o first n peak s (goes_on k high r t w g) =
     through a b c h k = omega arith
 
 -- ---- what the rest of a run says of the run
-
-goes_deep : (next : Next) (n : ℕ) (o : Outcome) (g : Frame) (e : Ending) (w : Wait) (x : Outcome) → 1 ≤ o.depth → GoesOn next n o g e w x → suc n ≤ x.depth
-goes_deep next n o g Left Free x deep h = let e : x.depth ≡ max (n + o.depth) h.0.depth = ap (λ (y : Outcome). y.depth) h.2 in omega (arith, e, deep)
-goes_deep next n o g Left (OnRegion r) x deep h = absurd h
-goes_deep next n o g Left (OnCall k d) x deep h = absurd h
-goes_deep next n o g Left Halted x deep h = absurd h
-goes_deep next n o g (Gave v) Free x deep h = absurd h
-goes_deep next n o g (Gave v) (OnRegion r) x deep h = absurd h
-goes_deep next n o g (Gave v) (OnCall k d) x deep h = let e : x.depth ≡ max (n + o.depth) h.0.depth = ap (λ (y : Outcome). y.depth) h.2 in omega (arith, e, deep)
-goes_deep next n o g (Gave v) Halted x deep h = absurd h
-
-rests_deep : (prog : Program) (p : Path) (f : Frame) (below : List Placed) (m : Memory) (x : Outcome) → Rests prog p f below m x → suc (length below) ≤ x.depth
-rests_deep prog p f [] m x h = h.deep
-rests_deep prog p f (q ∷ below) m x h = goes_deep (next_of prog q below) (suc (length below)) h.0 q.frame h.0.ending q.frame.waits x h.1.deep h.2
 
 goes_counted : (next : Next) (n : ℕ) (o : Outcome) (g : Frame) (e : Ending) (w : Wait) (x : Outcome) → 1 ≤ o.count → GoesOn next n o g e w x → 1 ≤ x.count
 goes_counted next n o g Left Free x some h = let e : x.count ≡ o.count + h.0.count = ap (λ (y : Outcome). y.count) h.2 in omega (arith, e, some)

@@ -11,7 +11,7 @@ use Rattle.machine_core.specs.SerialConditions.{one_more, both_outcomes, at_last
 use Rattle.machine_core.proofs.Fuel.{counted_is, joined_is}
 use Rattle.linear.specs.declared.form.RegisterId.{RegisterId}
 use Rattle.program.specs.declared.function.Program.{Program}
-use Rattle.walk_laws.specs.Stack.{Means}
+use Rattle.serial_machine.specs.Stack.{Means}
 
 module _ (rest : Rest) where
   from_effect : (p : Path) (f : Frame) (m : Memory) (e : Effect) (t : Option Trap) (u : Outcome) → after_effect rest p f m e t ≡ Some u →

@@ -10,7 +10,7 @@ use Rattle.machine_core.specs.SerialMeaning.{Ending, Left, Gave, Outcome, writte
 use Rattle.machine_core.specs.SerialConditions.{Says, Finds, Nothing, one_more, both_outcomes, at_last, KeptSerially}
 use Rattle.linear.specs.declared.form.RegisterId.{RegisterId}
 use Rattle.program.specs.declared.function.Program.{Program}
-use Rattle.walk_laws.specs.Stack.{Placed, Run, Goes, plain, sync, detach, call, reattach, ret, Walk, begins, goes_on, starting}
+use Rattle.serial_machine.specs.Stack.{Placed, Run, Goes, plain, sync, detach, call, reattach, ret, Walk, begins, goes_on, starting}
 use Rattle.walk_laws.specs.Laws.{WalksKeep, WalksKeepTests}
 
 -- where the frame above ends so, the frame g goes on as what is said

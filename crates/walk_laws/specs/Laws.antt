@@ -7,7 +7,7 @@ use Rattle.machine_core.specs.SerialConditions.{Says, Finds, Nothing, KeptSerial
 use Rattle.machine_core.specs.SerialMeaning.{Gave, Outcome, IsSerialMeaning}
 use Rattle.machine_core.specs.State.{root_frame}
 use Rattle.program.specs.declared.function.Program.{Program}
-use Rattle.walk_laws.specs.Stack.{Placed, Run, IsStuck, Walk, starting}
+use Rattle.serial_machine.specs.Stack.{Placed, Run, IsStuck, Walk, starting}
 
 -- after n steps of a serial run whose outcome is o: one more instruction is left at least, and there are no more frames than o has
 pub record GoesOnTo (prog : Program) (o : Outcome) (n : ℕ) (s : Run) : Type 0 where
