@@ -1,0 +1,4 @@
+pub mod Apart
+pub mod Ahead
+pub mod Kept
+pub mod Counted
