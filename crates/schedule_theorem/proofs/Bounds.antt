@@ -28,6 +28,14 @@ module _ (program : Program) (costs : AreCostsRight program) where
     | inr g ↦ g
   ]
 
+  -- nor does a run
+  pub budget_bounded : budget_of program ≤ 1000000000000
+  budget_bounded = from (slice_get program.functions program.main.0) refl
+    where
+      from : (o : Option Function) → slice_get program.functions program.main.0 ≡ o → budget_in o ≤ 1000000000000
+      from None at = omega arith
+      from (Some main) at = cost_bounded program.main.0 main at
+
   capped : (d n c : ℕ) → d ≤ n → d ≤ c → c ≤ 1000000000000 → d ≤ min n (2 ^ 64 - 1)
   capped d n c low less cost = omega arith
 

@@ -3,6 +3,7 @@ pub mod Bounds
 pub mod Findings
 pub mod Serially
 pub mod Starting
+pub mod Along
 pub mod Runs
 pub mod Schedules
 pub mod Promise

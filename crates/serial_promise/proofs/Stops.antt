@@ -1,0 +1,144 @@
+-- The machine stops nowhere: each frame that a serial run leads to has room for its next step, and the definitions never trap.
+use Rattle.std.proofs.Common.{◌≡◌, ◌∙◌, ◌⊎◌, inl, inr, ℕ, suc, ◌+◌, ◌<◌, ◌≤◌, ◌^◌, List, [], ◌∷◌, length, Option, Some, None, refl, sym, ap, subst, arith, ℤ}
+use Rattle.std.specs.Prelude.{⊤, IsSome, Ok, slice_get}
+use Rattle.machine_core.specs.Arithmetic.{Trap}
+use Rattle.machine_core.specs.Cells.{Memory}
+use Rattle.machine_core.specs.Frames as frames
+use Rattle.machine_core.specs.Frames.{phis_at}
+use Rattle.machine_core.specs.Effect as running
+use Rattle.machine_core.specs.Effect.{Plain, action_of}
+use Rattle.machine_core.specs.Paths.{Path}
+use Rattle.program.specs.declared.function.Program.{Program}
+use Rattle.verifier.specs.Accepted.{IsProgramOf}
+use Rattle.verifier.specs.Budgets.{budget_of}
+use Rattle.store.specs.Cells.{NamedCells}
+use Rattle.frame.specs.declared.effect.Effect.{Effect}
+use Rattle.frame.specs.declared.effect.Effect.TheVariants as effect
+use Rattle.frame.specs.declared.frame.Frame.{Frame}
+use Rattle.frame.specs.Asked.{HasRoom, asked}
+use Rattle.frame.specs.Reading.{frame_of}
+use Rattle.frame.specs.Room.{HasChild, HasNext, FitsPhis}
+use Rattle.room_laws.specs.Cells.{StoresThere}
+use Rattle.room_laws.specs.Room.{DoesNotTrap}
+use Rattle.room_laws.proofs.Doable.{frames_have_room}
+use Rattle.room_laws.proofs.Moves.{moves_fit}
+use Rattle.room_laws.proofs.Sizes.{uses_are_sized}
+use Rattle.room_laws.proofs.Space.{cells_are_there}
+use Rattle.schedule_theorem.specs.Promise.{AreTaken, KeepsItsPromise}
+use Rattle.schedule_theorem.proofs.Accepted.{IsTaken, is_taken}
+use Rattle.schedule_theorem.proofs.Along.{Along, kept_along, kept_at_root}
+use Rattle.schedule_theorem.proofs.Bounds.{budget_bounded}
+use Rattle.schedule_theorem.proofs.Promise.{accepted_programs_keep_their_promise}
+use Rattle.schedule_theorem.proofs.Serially.{Found}
+use Rattle.serial_machine.specs.Places.{ArePlaced}
+use Rattle.serial_machine.specs.Requirements.{unmet_in}
+use Rattle.serial_machine.specs.Running.{path_on, seen, memory_of, run_of}
+use Rattle.serial_machine.specs.Serially.{cells_of, Stops, StopsAt}
+use Rattle.serial_machine.specs.Stack.{Placed, HasNoStep, IsStuck}
+use Rattle.serial_machine.specs.Stepping.{HasRoomAt, HasSpace}
+use Rattle.walk_laws.specs.Laws.{GoesOnTo, IsCounted}
+use Rattle.walk_laws.proofs.Ahead.{walks_go_on}
+use Rattle.walk_laws.proofs.Counted.{walks_count}
+use Rattle.walk_laws.proofs.Kept.{walks_keep}
+use Rattle.serial_promise.specs.Promise.{AreGlobalsOf, RunsNeverStop}
+use Rattle.serial_promise.proofs.Arguments.{are_taken}
+
+seen_long : (l : List Frame) → length (seen l) ≡ length l
+seen_long [] = refl
+seen_long (f ∷ l) = ap suc (seen_long l)
+
+-- an action that is not stuck is no trap
+no_trap : (o : Option Trap) → (IsSome o → ⊥) → o ≡ None
+no_trap None h = refl
+no_trap (Some t) h = absurd (h refl)
+
+fine_here : (a : running.Action) (below : List Placed) → (HasNoStep a below → ⊥) → (e : running.Effect) → a ≡ Plain e → e.trap ≡ None
+fine_here a below h e is = no_trap e.trap (λ some. h (subst (λ x. HasNoStep x below) (sym is) some))
+
+-- the cells that are stored are there, and there is room for the moves of each edge
+space_for : (prog : Program) (f : Frame) (below : List Frame) (globals : List NamedCells) → ((b : ℕ) → FitsPhis f (phis_at prog f.function.0 b)) →
+    (e : Effect) → StoresThere (f ∷ below) globals e → HasSpace prog f below globals e
+space_for prog f below globals fits (effect.Define d v) h = tt
+space_for prog f below globals fits (effect.Load d c) h = tt
+space_for prog f below globals fits (effect.Store c z) h = h
+space_for prog f below globals fits (effect.StoreZeros o n) h = h
+space_for prog f below globals fits (effect.Add c z) h = tt
+space_for prog f below globals fits (effect.Branch b) h = fits b.0
+space_for prog f below globals fits (effect.Detach r b c) h = tt
+space_for prog f below globals fits (effect.Reattach r) h = tt
+space_for prog f below globals fits (effect.Sync r b) h = fits b.0
+space_for prog f below globals fits (effect.Call d g) h = tt
+space_for prog f below globals fits (effect.Return v) h = tt
+
+module _ (text : List ℕ) (program : Program) (accepted : IsProgramOf text program) (arguments : List ℤ) (memory : List NamedCells)
+    (none : unmet_in program arguments ≡ None) (globals : AreGlobalsOf program memory)
+  where
+    given : AreTaken program arguments
+    given = are_taken program arguments none
+
+    taken : IsTaken program
+    taken = is_taken text program accepted
+
+    promise : KeepsItsPromise program arguments (cells_of memory)
+    promise = accepted_programs_keep_their_promise text program accepted arguments (cells_of memory) given globals
+
+    module _ (done peak : ℕ) (f : Frame) (below : List Frame) (cells : List NamedCells)
+        (s : StopsAt program arguments memory (budget_of program) done peak f below cells)
+      where
+        abbrev path : Path
+        path = path_on below
+
+        abbrev place : frames.Frame
+        place = frame_of path f
+
+        abbrev held : Memory
+        held = memory_of (f ∷ below) cells
+
+        goes_on : GoesOnTo program promise.serial done (run_of f below cells)
+        goes_on = walks_go_on program arguments (cells_of memory) promise.serial promise.gives.0 promise.is_serial promise.gives.1 done peak (run_of f below cells) s.reached
+
+        good : Along program path place held
+        good =
+            walks_keep program (Along program) (Found program) (kept_along text program accepted) arguments (cells_of memory)
+            (kept_at_root text program accepted arguments (cells_of memory) given globals) done peak (run_of f below cells) s.reached
+
+        counted : IsCounted done (run_of f below cells)
+        counted = walks_count program arguments (cells_of memory) done peak (run_of f below cells) s.reached
+
+        small : done + 2 < 2 ^ 64
+        small = let b = budget_bounded program taken.right.costs in let w = promise.within_budget in let c = goes_on.counted in omega (arith, b, w, c)
+
+        next : HasNext f
+        next = let i = counted.top.index in let b = small in omega (arith, i, b)
+
+        child : HasChild f
+        child = record {
+          made = let m = counted.top.made in let b = small in omega (arith, m, b);
+          depth = let d = s.sound.0.depth in let l = seen_long below in let n = counted.deep in let b = small in omega (arith, d, l, n, b);
+        }
+
+        fine : DoesNotTrap program path place held
+        fine e is = fine_here (action_of program path place held) (seen below) goes_on.not_stuck e is
+
+        frame_room : HasRoom program path f held
+        frame_room = frames_have_room program taken.names.kinds path f held good.0.0.0.0.1 s.placed.0.registers next child fine
+
+        fits : (b : ℕ) → FitsPhis f (phis_at program f.function.0 b)
+        fits b = moves_fit program taken.names.kinds taken.names.stable f s.placed.0.registers s.placed.0.moves b
+
+        room : HasRoomAt program f below cells
+        room = record {
+          frame = frame_room;
+          space = λ e within is. space_for program f below cells fits e
+          (cells_are_there program (uses_are_sized text program accepted) f below cells s.sound.0 s.placed.0.cells good.0.0.1 e within is);
+        }
+
+        never : ⊥
+        never = elim s.stops [
+          | inl all ↦ let w = promise.within_budget in let c = goes_on.counted in absurd (omega (arith, all, w, c))
+          | inr stuck ↦ goes_on.not_stuck (stuck room)
+        ]
+
+pub runs_never_stop : RunsNeverStop
+runs_never_stop text program accepted arguments memory none globals (done, peak, f, below, cells, s) =
+    never text program accepted arguments memory none globals done peak f below cells s
