@@ -26,9 +26,10 @@ use Rattle.frame.specs.declared.frame.Frame.{Frame}
 use Rattle.frame.specs.Reading.{above, cell_of, object_of}
 use Rattle.frame.specs.Room.{HasCell, IsCellIn, ObjectWithin, SetsAlloca, alloca_in, cells_in}
 use Rattle.serial_machine.specs.Running.{path_on, seen, object_cell, memory_of, frame_at, held_at, AreSound}
-use Rattle.serial_machine.specs.Stepping.{below_of, frames_in, path_in, frame_in, memory_in, one_cell, zeros_below, names_of, HasCellIn, HasCellOf, Wrote, Loads, Stores, StoresZeros}
+use Rattle.serial_machine.specs.Stepping.{below_of, frames_in, path_in, frame_in, memory_in, one_cell, zeros_below, names_of, HasCellIn, HasCellOf, ArePlaced, Wrote, Loads, Stores, StoresZeros}
 use Rattle.serial_machine.specs.declared.stack.Stack.{Stack}
 use Rattle.serial_machine.proofs.Depths.{Changed, replaced, replaced_item, replaced_path, replaced_seen, replaced_long, replaced_sound, replaced_there, memory_replaced, memory_shared, stands_changed, frame_at_item}
+use Rattle.serial_machine.proofs.Places.{changed_placed, replaced_placed}
 use Rattle.serial_machine.proofs.Running.{local_at}
 
 -- ---- tests
@@ -107,6 +108,7 @@ module _ (s : Stack) (d n i : ℕ) (z : ℤ) where
         memory = λ x. ap (λ fs. memory_of fs s.memory x) (sym now) ∙ memory_replaced d n i z s.top g c sets s.top (below_of s) s.memory (omega (arith, at)) there x;
         names = refl;
         there = cells_stay (frames_in s) (g ∷ below_of s) s.memory (λ depth k j h. subst (λ fs. HasCellIn (frame_at fs depth) k j) now (replaced_there d s.top g c (frames_in s) there depth k j h));
+        placed = λ prog h. changed_placed prog s.top g (below_of s) c h;
       }
 
   pub wrote_below : (below : Vec Frame Global) (f g : Frame) → Changed f g → SetsAlloca f n i z g → d < length s.below.items → slice_get s.below.items d ≡ Some f → below.items ≡ slice_set s.below.items d g →
@@ -128,6 +130,7 @@ module _ (s : Stack) (d n i : ℕ) (z : ℤ) where
         memory = λ x. ap (λ fs. memory_of fs s.memory x) (sym all) ∙ memory_replaced d n i z f g c sets s.top (below_of s) s.memory (omega (arith, less)) there_all x;
         names = refl;
         there = cells_stay (frames_in s) (s.top ∷ reverse below.items) s.memory (λ depth k j h. subst (λ fs. HasCellIn (frame_at fs depth) k j) all (replaced_there d f g c (frames_in s) there_all depth k j h));
+        placed = λ prog h. subst (ArePlaced prog) all (replaced_placed prog d f g c (frames_in s) there_all h);
       }
 
   pub not_in_top : (b : Bool) → (IsTrue b → HasCell s.top n i) × (HasCell s.top n i → IsTrue b) → d ≡ length (below_of s) → OnFalse b (HasCellIn (frame_at (frames_in s) d) n i → ⊥)
@@ -169,12 +172,12 @@ wrote_shared s after c g z is sets = λ within. subst (λ o. Wrote s (record s {
     stays (object.Alloca d a) i k = k
 
     wrote : Wrote s (record s { memory = after }) (one_cell (record { object = Shared g.0; index = c.index }) z)
-    wrote = record { top = refl; path = refl; below = refl; sound = λ h. h; as_many = refl; memory = memory_shared (frames_in s) s.memory after g.0 c.index z sets; names = sets.names; there = stays }
+    wrote = record { top = refl; path = refl; below = refl; sound = λ h. h; as_many = refl; memory = memory_shared (frames_in s) s.memory after g.0 c.index z sets; names = sets.names; there = stays; placed = λ prog h. h }
 
 -- ---- one write after another
 
 pub wrote_none : (s : Stack) (o : cells.Object) → Wrote s s (zeros_below o 0)
-wrote_none s o = record { top = refl; path = refl; below = refl; sound = λ h. h; as_many = refl; memory = λ x. nothing (same_object o x.object) x; names = refl; there = λ q i h. h }
+wrote_none s o = record { top = refl; path = refl; below = refl; sound = λ h. h; as_many = refl; memory = λ x. nothing (same_object o x.object) x; names = refl; there = λ q i h. h; placed = λ prog h. h }
   where
     nothing : (b : Bool) (x : cells.Cell) → memory_in s x ≡ override (cond (b && nat_lt x.index 0) (Some (Some (pos 0))) None) (memory_in s x)
     nothing false x = refl
@@ -194,6 +197,7 @@ wrote_more s m t o i w within stores =
       memory = λ x. v.memory x ∙ (ap (override (one_cell (record { object = object_of (path_in s) o; index = i }) (pos 0) x)) (w.memory x) ∙ cell (same_object (object_of (path_in s) o) x.object) x (memory_in s x));
       names = v.names ∙ w.names;
       there = λ q j h. v.there q j (w.there q j h);
+      placed = λ prog h. v.placed prog (w.placed prog h);
     }
   where
     cell : (b : Bool) (x : cells.Cell) (m : Option ℤ) → override (cond (b && eqb i x.index) (Some (Some (pos 0))) None) (override (cond (b && nat_lt x.index i) (Some (Some (pos 0))) None) m) ≡ override (cond (b && nat_lt x.index (i + 1)) (Some (Some (pos 0))) None) m

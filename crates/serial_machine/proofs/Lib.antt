@@ -2,6 +2,7 @@ pub mod Calls
 pub mod Cells
 pub mod Depths
 pub mod Performed
+pub mod Places
 pub mod Running
 pub mod Serially
 pub mod Steps

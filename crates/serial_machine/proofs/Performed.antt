@@ -1,6 +1,6 @@
 -- What the pieces of a step of the machine come to, as a step of the definitions.
-use Rattle.std.proofs.Common.{◌≡◌, ℕ, suc, ◌+◌, ◌-◌, ◌<◌, ◌^◌, List, [], ◌∷◌, ◌++◌, length, reverse, refl, ap, sym, ◌∙◌, subst, arith, Bool, true, false, cond, ℤ, Option, Some, None, Vec, Global}
-use Rattle.std.specs.Prelude.{⊤, IsSome, Result, Ok, Err}
+use Rattle.std.proofs.Common.{◌≡◌, ℕ, suc, ◌+◌, ◌-◌, ◌<◌, ◌^◌, List, [], ◌∷◌, ◌++◌, length, max, reverse, refl, ap, sym, ◌∙◌, subst, arith, Bool, true, false, cond, ℤ, Option, Some, None, Vec, Global}
+use Rattle.std.specs.Prelude.{⊤, IsSome, Result, Ok, Err, slice_get}
 use Rattle.std.proofs.lemmas.List.{length-reverse}
 use Rattle.machine_core.specs.Paths.{Path}
 use Rattle.machine_core.specs.Cells as cells
@@ -22,12 +22,13 @@ use Rattle.frame.specs.declared.frame.Role.TheVariants as role
 use Rattle.frame.specs.declared.frame.Wait.{Wait}
 use Rattle.frame.specs.declared.frame.Wait.TheVariants as wait
 use Rattle.frame.specs.Reading.{frame_of, wait_of, role_of}
-use Rattle.frame.specs.Room.{HasChild, HasNext, HasResult, HoldsAllocas, IsEntered, IsSound, IsUndefined, alloca_in, cells_in}
+use Rattle.frame.specs.Room.{HasChild, HasNext, HasPlaces, HasResult, HoldsAllocas, IsEntered, IsSound, IsUndefined, alloca_in, cells_in, register_count}
 use Rattle.serial_machine.specs.Running.{path_on, seen, memory_of, run_of, AwaitsResult, StandsOn, AreSound}
 use Rattle.serial_machine.specs.Stack.{Run, Placed, Goes, HasNoStep, IsStuck, EndsWith, IsNotFree, IsNotCalling}
-use Rattle.serial_machine.specs.Stepping.{below_of, frames_in, path_in, frame_in, memory_in, run_in, names_of, one_cell, Wrote, GoneOn, HasEnded}
+use Rattle.serial_machine.specs.Stepping.{below_of, frames_in, path_in, frame_in, memory_in, run_in, names_of, one_cell, ArePlaced, Wrote, GoneOn, HasEnded}
 use Rattle.serial_machine.specs.declared.stack.Stack.{Stack}
 use Rattle.serial_machine.proofs.Depths.{result_same, awaits_same, reverse_push}
+use Rattle.serial_machine.proofs.Places.{Keeps, top_placed, child_placed, callee_placed}
 use Rattle.serial_machine.proofs.Running.{path_long}
 use Rattle.serial_machine.proofs.Steps.{SameBelow, memory_same, plain_goes, sync_goes, detach_goes, call_goes, reattach_goes, return_goes}
 
@@ -54,21 +55,22 @@ quiet_written e m q = λ i x. added (q.adds i x) (override (q.writes i x) (m x))
 
 module _ (prog : Program) (s : Stack) (sound : AreSound (frames_in s)) where
   pub top_gone : (g : Frame) (e : effects.Effect) → Plain e ≡ action_of prog (path_in s) (frame_in s) (memory_in s) → e.trap ≡ None → Quiet e → frame_of (path_in s) g ≡ went (frame_in s) e →
-      g.allocas ≡ s.top.allocas → g.depth ≡ s.top.depth → IsSound g → g.waits ≡ wait.Nothing → GoneOn prog s (record s { top = g })
-  top_gone g e act fine quiet there allocas depth kept free =
+      g.allocas ≡ s.top.allocas → g.depth ≡ s.top.depth → IsSound g → g.waits ≡ wait.Nothing → Keeps s.top g → GoneOn prog s (record s { top = g })
+  top_gone g e act fine quiet there allocas depth kept free keeps =
       record {
         goes = plain_goes prog s.top (below_of s) s.memory g (below_of s) s.memory e (sym act) fine (record { paths = refl; frames = refl }) there (memory_same s.top g (below_of s) s.memory allocas ∙ sym (quiet_written e (memory_in s) quiet));
         sound = (stands_free g (length (below_of s)) (depth ∙ sound.0.depth) kept free, sound.1);
         names = refl;
+        placed = top_placed prog s.top g (below_of s) keeps;
       }
 
   -- along an edge
   pub edge_gone : (g : Frame) (target : ℕ) (o : Option Registers) → Plain (given (frame_in s) o (enters (frame_in s) target)) ≡ action_of prog (path_in s) (frame_in s) (memory_in s) → IsEntered (path_in s) s.top target g o →
-      g.allocas ≡ s.top.allocas → g.depth ≡ s.top.depth → IsSound g → GoneOn prog s (record s { top = g })
-  edge_gone g target None act entered allocas depth kept = absurd entered
-  edge_gone g target (Some r) act entered allocas depth kept =
+      g.allocas ≡ s.top.allocas → g.depth ≡ s.top.depth → IsSound g → Keeps s.top g → GoneOn prog s (record s { top = g })
+  edge_gone g target None act entered allocas depth kept keeps = absurd entered
+  edge_gone g target (Some r) act entered allocas depth kept keeps =
       let free : g.waits ≡ wait.Nothing = free_wait g.waits (ap (λ (f : frames.Frame). f.waits) entered) in
-      top_gone g (enters (frame_in s) target r) act refl (record { writes = refl; adds = refl }) entered allocas depth kept free
+      top_gone g (enters (frame_in s) target r) act refl (record { writes = refl; adds = refl }) entered allocas depth kept free keeps
 
   pub edge_stuck : (target : ℕ) (o : Option Registers) → Plain (given (frame_in s) o (enters (frame_in s) target)) ≡ action_of prog (path_in s) (frame_in s) (memory_in s) → o ≡ None → IsStuck prog (run_in s)
   edge_stuck target o act none =
@@ -77,9 +79,9 @@ module _ (prog : Program) (s : Stack) (sound : AreSound (frames_in s)) where
 
   -- past a sync
   pub sync_gone : (g : Frame) (region : RegisterId) (target : ℕ) (o : Option Registers) → syncs (frame_in s) region.0 target o ≡ action_of prog (path_in s) (frame_in s) (memory_in s) → IsEntered (path_in s) s.top target g o →
-      g.allocas ≡ s.top.allocas → g.depth ≡ s.top.depth → IsSound g → GoneOn prog s (record s { top = record g { waits = wait.Region region } })
-  sync_gone g region target None act entered allocas depth kept = absurd entered
-  sync_gone g region target (Some r) act entered allocas depth kept =
+      g.allocas ≡ s.top.allocas → g.depth ≡ s.top.depth → IsSound g → Keeps s.top g → GoneOn prog s (record s { top = record g { waits = wait.Region region } })
+  sync_gone g region target None act entered allocas depth kept keeps = absurd entered
+  sync_gone g region target (Some r) act entered allocas depth kept keeps =
       let h : Frame = record g { waits = wait.Region region } in
       let there : frame_of (path_in s) h ≡ synced (frame_in s) region.0 target r = ap (λ (f : frames.Frame). record f { waits = OnRegion region.0 }) entered in
       let stands : StandsOn h (length (below_of s)) = record { depth = depth ∙ sound.0.depth; sound = record { home = kept.home; registers = kept.registers; allocas = kept.allocas }; awaits = tt } in
@@ -87,6 +89,7 @@ module _ (prog : Program) (s : Stack) (sound : AreSound (frames_in s)) where
         goes = sync_goes prog s.top (below_of s) s.memory h region.0 target r (sym act) there allocas;
         sound = (stands, sound.1);
         names = refl;
+        placed = top_placed prog s.top h (below_of s) (record { function = keeps.function; home = keeps.home; registers = keeps.registers; moves = keeps.moves; cells = keeps.cells });
       }
 
   pub sync_stuck : (region target : ℕ) (o : Option Registers) → syncs (frame_in s) region target o ≡ action_of prog (path_in s) (frame_in s) (memory_in s) → o ≡ None → IsStuck prog (run_in s)
@@ -97,8 +100,8 @@ module _ (prog : Program) (s : Stack) (sound : AreSound (frames_in s)) where
   -- behind a write of cells
   pub wrote_gone : (m : Stack) (w : cells.Cell → Option (Option ℤ)) (g : Frame) (e : effects.Effect) → Wrote s m w → Plain e ≡ action_of prog (path_in s) (frame_in s) (memory_in s) → e.trap ≡ None →
       went (frame_in s) e ≡ went (frame_in s) (goes_on (frame_in s)) → ((x : cells.Cell) → written e (memory_in s) x ≡ override (w x) (memory_in s x)) →
-      frame_of (path_in m) g ≡ went (frame_in m) (goes_on (frame_in m)) → g.allocas ≡ m.top.allocas → g.depth ≡ m.top.depth → (IsSound m.top → IsSound g) → g.waits ≡ wait.Nothing → GoneOn prog s (record m { top = g })
-  wrote_gone m w g e wrote act fine frame held there allocas depth kept free =
+      frame_of (path_in m) g ≡ went (frame_in m) (goes_on (frame_in m)) → g.allocas ≡ m.top.allocas → g.depth ≡ m.top.depth → (IsSound m.top → IsSound g) → g.waits ≡ wait.Nothing → Keeps m.top g → GoneOn prog s (record m { top = g })
+  wrote_gone m w g e wrote act fine frame held there allocas depth kept free keeps =
       let at_end : frame_in m ≡ frame_in s = ap (λ p. frame_of p m.top) wrote.path ∙ ap (frame_of (path_in s)) wrote.top in
       let goes : frame_of (path_in s) g ≡ went (frame_in s) e = ap (λ p. frame_of p g) (sym wrote.path) ∙ (there ∙ (ap (λ f. went f (goes_on f)) at_end ∙ sym frame)) in
       let cells_are : memory_of (g ∷ below_of m) m.memory ≡ written e (memory_in s) = memory_same m.top g (below_of m) m.memory allocas ∙ (λ i x. (wrote.memory x ∙ sym (held x)) i) in
@@ -107,14 +110,16 @@ module _ (prog : Program) (s : Stack) (sound : AreSound (frames_in s)) where
         goes = plain_goes prog s.top (below_of s) s.memory g (below_of m) m.memory e (sym act) fine (record { paths = wrote.path; frames = wrote.below }) goes cells_are;
         sound = (stands_free g (length (below_of m)) (depth ∙ all.0.depth) (kept all.0.sound) free, all.1);
         names = wrote.names;
+        placed = λ h. top_placed prog m.top g (below_of m) keeps (wrote.placed prog h);
       }
 
   -- ---- a frame is made
 
   pub child_gone : (h c : Frame) (below : Vec Frame Global) (region body continuation : ℕ) → Detach region body continuation ≡ action_of prog (path_in s) (frame_in s) (memory_in s) → HasChild s.top →
       below.items ≡ s.below.items ++ (h ∷ []) → frame_of (path_in s) h ≡ continued (frame_in s) continuation → frame_of (s.top.made ∷ path_in s) c ≡ detached (frame_in s) region body continuation →
-      h.allocas ≡ s.top.allocas → h.depth ≡ s.top.depth → h.waits ≡ wait.Nothing → IsSound h → c.depth ≡ s.top.depth + 1 → IsSound c → IsUndefined c → GoneOn prog s (record s { top = c; below = below })
-  child_gone h c below region body continuation act room pushed behind child allocas depth free kept deeper fresh none =
+      h.allocas ≡ s.top.allocas → h.depth ≡ s.top.depth → h.waits ≡ wait.Nothing → IsSound h → c.depth ≡ s.top.depth + 1 → IsSound c → IsUndefined c →
+      length c.registers.items ≡ length s.top.registers.items → length c.moves.items ≡ length s.top.registers.items → Keeps s.top h → GoneOn prog s (record s { top = c; below = below })
+  child_gone h c below region body continuation act room pushed behind child allocas depth free kept deeper fresh none registers moves keeps =
       let now : reverse below.items ≡ h ∷ below_of s = ap reverse pushed ∙ reverse_push s.below.items h in
       let made : h.made ≡ s.top.made + 1 = let e : h.made ≡ suc s.top.made = ap (λ (f : frames.Frame). f.made) behind in omega (arith, e) in
       let waits : c.waits ≡ wait.Nothing = free_wait c.waits (ap (λ (f : frames.Frame). f.waits) child) in
@@ -123,12 +128,14 @@ module _ (prog : Program) (s : Stack) (sound : AreSound (frames_in s)) where
         goes = subst (λ b. Goes prog (run_in s) (run_of c b s.memory)) (sym now) (detach_goes prog s.top (below_of s) s.memory h c region body continuation (sym act) made behind child allocas none);
         sound = subst (λ b. AreSound (c ∷ b)) (sym now) (stands_free c (suc (length (below_of s))) long fresh waits, (stands_free h (length (below_of s)) (depth ∙ sound.0.depth) kept free, sound.1));
         names = refl;
+        placed = λ k. subst (λ b. ArePlaced prog (c ∷ b)) (sym now) (child_placed prog s.top h c (below_of s) (path_in s) region body continuation (path_long (below_of s)) sound.0.depth deeper sound.0.sound fresh child registers moves keeps k);
       }
 
   pub callee_gone : (h c : Frame) (below : Vec Frame Global) (d : Option RegisterId) (callee : ℕ) (values : List Value) → Call d callee values ≡ action_of prog (path_in s) (frame_in s) (memory_in s) → HasResult s.top d →
       below.items ≡ s.below.items ++ (h ∷ []) → frame_of (path_in s) h ≡ waiting (frame_in s) d → frame_of (s.top.made ∷ path_in s) c ≡ called (path_in s) (frame_in s) callee values →
-      h.allocas ≡ s.top.allocas → h.depth ≡ s.top.depth → h.waits ≡ wait.Call s.top.made d → length h.registers.items ≡ length s.top.registers.items → IsSound h → c.depth ≡ s.top.depth + 1 → IsSound c → IsUndefined c → GoneOn prog s (record s { top = c; below = below })
-  callee_gone h c below d callee values act room pushed behind child allocas depth calling registers kept deeper fresh none =
+      h.allocas ≡ s.top.allocas → h.depth ≡ s.top.depth → h.waits ≡ wait.Call s.top.made d → length h.registers.items ≡ length s.top.registers.items → IsSound h → c.depth ≡ s.top.depth + 1 → IsSound c → IsUndefined c →
+      (passed : ℕ) → HasPlaces prog c (max (register_count (slice_get prog.functions callee)) passed) → Keeps s.top h → GoneOn prog s (record s { top = c; below = below })
+  callee_gone h c below d callee values act room pushed behind child allocas depth calling registers kept deeper fresh none passed places keeps =
       let now : reverse below.items ≡ h ∷ below_of s = ap reverse pushed ∙ reverse_push s.below.items h in
       let made : h.made ≡ s.top.made + 1 = let e : h.made ≡ suc s.top.made = ap (λ (f : frames.Frame). f.made) behind in omega (arith, e) in
       let waits : c.waits ≡ wait.Nothing = free_wait c.waits (ap (λ (f : frames.Frame). f.waits) child) in
@@ -139,6 +146,7 @@ module _ (prog : Program) (s : Stack) (sound : AreSound (frames_in s)) where
         goes = subst (λ b. Goes prog (run_in s) (run_of c b s.memory)) (sym now) (call_goes prog s.top (below_of s) s.memory h c d callee values (sym act) made behind child allocas none);
         sound = subst (λ b. AreSound (c ∷ b)) (sym now) (stands_free c (suc (length (below_of s))) long fresh waits, (stands, sound.1));
         names = refl;
+        placed = λ k. subst (λ b. ArePlaced prog (c ∷ b)) (sym now) (callee_placed prog s.top h c (below_of s) (path_in s) callee passed values (path_long (below_of s)) sound.0.depth deeper fresh child places keeps k);
       }
 
 -- ---- a frame is over
@@ -179,17 +187,19 @@ module _ (prog : Program) (s : Stack) (sound : AreSound (frames_in s)) (g : Fram
         goes = subst (λ b. Goes prog (run_of s.top b s.memory) (run_of g (reverse below.items) s.memory)) (sym was) (reattach_goes prog s.top g (reverse below.items) s.memory region at free none);
         sound = stood.1;
         names = refl;
+        placed = λ h. (subst (λ b. ArePlaced prog (s.top ∷ b)) was h).1;
       }
 
   pub return_gone : (h : Frame) (v : Option ℤ) (k : ℕ) (d : Option RegisterId) → Return v ≡ action_of prog (path_in s) (frame_in s) (memory_in s) → g.waits ≡ wait.Call k d →
-      ((p : Path) → HasResult g d → frame_of p h ≡ resumed (frame_of p g) d v) → h.allocas ≡ g.allocas → h.depth ≡ g.depth → h.waits ≡ wait.Nothing → (IsSound g → IsSound h) → GoneOn prog s (record s { top = h; below = below })
-  return_gone h v k d act calling resumes allocas depth free kept =
+      ((p : Path) → HasResult g d → frame_of p h ≡ resumed (frame_of p g) d v) → h.allocas ≡ g.allocas → h.depth ≡ g.depth → h.waits ≡ wait.Nothing → (IsSound g → IsSound h) → Keeps g h → GoneOn prog s (record s { top = h; below = below })
+  return_gone h v k d act calling resumes allocas depth free kept keeps =
       let at : act_on prog s.top s.memory (g ∷ reverse below.items) ≡ Return v = ap (act_on prog s.top s.memory) (sym was) ∙ sym act in
       let room : HasResult g d = subst (AwaitsResult g) calling stood.1.0.awaits in
       record {
         goes = subst (λ b. Goes prog (run_of s.top b s.memory) (run_of h (reverse below.items) s.memory)) (sym was) (return_goes prog s.top g h (reverse below.items) s.memory v k d at calling (resumes (path_on (reverse below.items)) room) allocas);
         sound = (stands_free h (length (reverse below.items)) (depth ∙ stood.1.0.depth) (kept stood.1.0.sound) free, stood.1.1);
         names = refl;
+        placed = λ k. top_placed prog g h (reverse below.items) keeps (subst (λ b. ArePlaced prog (s.top ∷ b)) was k).1;
       }
 
   pub reattach_stuck : (region : ℕ) → Reattach region ≡ action_of prog (path_in s) (frame_in s) (memory_in s) → IsNotFree (wait_of g.waits) → IsStuck prog (run_in s)

@@ -1,6 +1,6 @@
 -- From the steps of the machine to the serial meaning.
 use Rattle.std.proofs.Common.{◌≡◌, ℕ, suc, ◌+◌, max, List, [], ◌∷◌, length, reverse, refl, ap, sym, ◌∙◌, subst, arith, inl, inr, ℤ, Option, Some, None}
-use Rattle.std.specs.Prelude.{Result, Ok, Err}
+use Rattle.std.specs.Prelude.{Result, Ok, Err, slice_get}
 use Rattle.machine_core.specs.Cells.{Object, Shared, Local, Memory, if_shared, globals_of}
 use Rattle.machine_core.specs.Frames as frames
 use Rattle.machine_core.specs.State.{root_frame}
@@ -11,11 +11,11 @@ use Rattle.frame.specs.declared.effect.Effect.{Effect}
 use Rattle.frame.specs.declared.frame.Frame.{Frame}
 use Rattle.frame.specs.Asked.{asked}
 use Rattle.frame.specs.Reading.{frame_of}
-use Rattle.frame.specs.Room.{CanDo, EffectWithin, IsSound, IsUndefined}
+use Rattle.frame.specs.Room.{CanDo, EffectWithin, HasPlaces, IsSound, IsUndefined, register_count}
 use Rattle.machine_core.specs.Effect.{action_of}
 use Rattle.serial_machine.specs.Running.{path_on, seen, object_cell, memory_of, run_of, AreSound}
 use Rattle.serial_machine.specs.Stack.{Run, Walk, begins, goes_on, starting, Goes, EndsWith}
-use Rattle.serial_machine.specs.Stepping.{below_of, frames_in, path_in, frame_in, memory_in, run_in, names_of, HasRoomAt, HasSpace, ComesTo, Performs, GoneOn, HasEnded}
+use Rattle.serial_machine.specs.Stepping.{below_of, frames_in, path_in, frame_in, memory_in, run_in, names_of, ArePlaced, HasRoomAt, HasSpace, ComesTo, Performs, GoneOn, HasEnded}
 use Rattle.serial_machine.specs.Serially.{cells_of, IsMeant, StopsAt, Stops, RunsTo}
 use Rattle.serial_machine.specs.declared.outcome.Finished.{Finished}
 use Rattle.serial_machine.specs.declared.outcome.Halt.{Halt}
@@ -24,6 +24,7 @@ use Rattle.serial_machine.specs.declared.stack.Stack.{Stack}
 use Rattle.serial_machine.specs.declared.stack.Progress.{Progress}
 use Rattle.serial_machine.specs.declared.stack.Progress.TheVariants.{GoesOn, Ended}
 use Rattle.serial_machine.proofs.Performed.{free_wait, stands_free}
+use Rattle.serial_machine.proofs.Places.{root_placed}
 use Rattle.serial_machine.proofs.Running.{memory_pushed, memory_popped}
 use Rattle.serial_machine.proofs.Walks.{steps_mean}
 
@@ -38,7 +39,7 @@ with_room prog old new room more f (Err Trapped) h = λ k. h (f k)
 pub stepped : (prog : Program) (old new : Stack) (e : Effect) (r : Result Progress Halt) → AreSound (frames_in old) → CanDo old.top e → EffectWithin old.top.depth e → asked prog (path_in old) (frame_in old) (memory_in old) (Ok e) ≡ action_of prog (path_in old) (frame_in old) (memory_in old) →
     Performs prog old new e r → ComesTo prog old new (HasRoomAt prog old.top (below_of old) old.memory) r
 stepped prog old new e r sound can within act done =
-    with_room prog old new (HasSpace prog old.top (below_of old) old.memory e) (HasRoomAt prog old.top (below_of old) old.memory) (λ room. room.space e act) r (done sound can within act)
+    with_room prog old new (HasSpace prog old.top (below_of old) old.memory e) (HasRoomAt prog old.top (below_of old) old.memory) (λ room. room.space e within act) r (done sound can within act)
 
 -- ---- a run
 
@@ -59,6 +60,9 @@ module _ (prog : Program) (arguments : List ℤ) (memory : List NamedCells) wher
   pub started_sound : (f : Frame) (below : List Frame) → below ≡ [] → frame_of [] f ≡ root_frame prog arguments → f.depth ≡ 0 → IsSound f → AreSound (f ∷ reverse below)
   started_sound f below none root depth sound =
       subst (λ b. AreSound (f ∷ reverse b)) (sym none) (stands_free f 0 depth sound (free_wait f.waits (ap (λ (g : frames.Frame). g.waits) root)), tt)
+
+  pub started_placed : (f : Frame) (below : List Frame) → below ≡ [] → frame_of [] f ≡ root_frame prog arguments → f.depth ≡ 0 → IsSound f → HasPlaces prog f (max (register_count (slice_get prog.functions prog.main.0)) (length arguments)) → ArePlaced prog (f ∷ reverse below)
+  started_placed f below none root depth sound places = subst (λ b. ArePlaced prog (f ∷ reverse b)) (sym none) (root_placed prog f arguments root depth sound places)
 
   seen_long : (l : List Frame) → length (seen l) ≡ length l
   seen_long [] = refl
@@ -87,9 +91,9 @@ module _ (prog : Program) (arguments : List ℤ) (memory : List NamedCells) wher
       λ i. record { ending = Gave (Some (sym result i)); memory = memory_is i; count = count_is i; depth = sym depth i } in
       record { meant = subst (IsSerialMeaning prog arguments (cells_of memory)) is mean; names = ap names_of (held ∙ ended.memory) ∙ names }
 
-  pub stopped : (s t : Stack) (budget n peak : ℕ) → Walk prog start n peak (run_in s) → AreSound (frames_in s) → (h : Halt) → ComesTo prog s t (HasRoomAt prog s.top (below_of s) s.memory) (Err h) → RunsTo prog arguments memory budget (Err h)
-  stopped s t budget n peak walk sound OutOfMemory c = tt
-  stopped s t budget n peak walk sound Trapped c = (n, peak, s.top, below_of s, s.memory, record { reached = walk; sound = sound; stops = inr c })
+  pub stopped : (s t : Stack) (budget n peak : ℕ) → Walk prog start n peak (run_in s) → AreSound (frames_in s) → ArePlaced prog (frames_in s) → (h : Halt) → ComesTo prog s t (HasRoomAt prog s.top (below_of s) s.memory) (Err h) → RunsTo prog arguments memory budget (Err h)
+  stopped s t budget n peak walk sound placed OutOfMemory c = tt
+  stopped s t budget n peak walk sound placed Trapped c = (n, peak, s.top, below_of s, s.memory, record { reached = walk; sound = sound; placed = placed; stops = inr c })
 
-  pub used_up : (s : Stack) (budget n peak : ℕ) → Walk prog start n peak (run_in s) → AreSound (frames_in s) → n ≡ budget → Stops prog arguments memory budget
-  used_up s budget n peak walk sound all = (n, peak, s.top, below_of s, s.memory, record { reached = walk; sound = sound; stops = inl all })
+  pub used_up : (s : Stack) (budget n peak : ℕ) → Walk prog start n peak (run_in s) → AreSound (frames_in s) → ArePlaced prog (frames_in s) → n ≡ budget → Stops prog arguments memory budget
+  used_up s budget n peak walk sound placed all = (n, peak, s.top, below_of s, s.memory, record { reached = walk; sound = sound; placed = placed; stops = inl all })

@@ -7,7 +7,7 @@ use Rattle.store.specs.Cells.{NamedCells}
 use Rattle.frame.specs.declared.frame.Frame.{Frame}
 use Rattle.serial_machine.specs.Running.{memory_of, run_of, AreSound}
 use Rattle.serial_machine.specs.Stack.{Walk, starting, IsStuck}
-use Rattle.serial_machine.specs.Stepping.{HasRoomAt, names_of}
+use Rattle.serial_machine.specs.Stepping.{ArePlaced, HasRoomAt, names_of}
 use Rattle.serial_machine.specs.declared.outcome.Finished.{Finished}
 use Rattle.serial_machine.specs.declared.outcome.Halt.{Halt}
 use Rattle.serial_machine.specs.declared.outcome.Halt.TheVariants as halt
@@ -23,10 +23,11 @@ pub record IsMeant (prog : Program) (arguments : List ℤ) (memory : List NamedC
   pub meant : IsSerialMeaning prog arguments (cells_of memory) (record { ending = Gave (Some done.result); memory = cells_of done.memory; count = done.instructions; depth = done.peak })
   pub names : names_of done.memory ≡ names_of memory
 
--- The run gets this far and not on: it has done the whole budget, or its next step traps, where the machine has room for it.
+-- The run gets this far, its frames keep their places, and it gets no further: it has done the whole budget, or its next step traps, where the machine has room for it.
 pub record StopsAt (prog : Program) (arguments : List ℤ) (memory : List NamedCells) (budget done peak : ℕ) (f : Frame) (below : List Frame) (globals : List NamedCells) : Type 0 where
   pub reached : Walk prog (starting prog arguments (cells_of memory)) done peak (run_of f below globals)
   pub sound : AreSound (f ∷ below)
+  pub placed : ArePlaced prog (f ∷ below)
   pub stops : (done ≡ budget) ⊎ (HasRoomAt prog f below globals → IsStuck prog (run_of f below globals))
 
 abbrev pub Stops : Program → List ℤ → List NamedCells → ℕ → Type 0

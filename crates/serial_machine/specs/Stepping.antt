@@ -1,12 +1,13 @@
 -- What a step of the machine comes to, as a step over a stack of frames.
-use Rattle.std.specs.Prelude.{◌≡◌, ⊤, ℕ, ◌<◌, ◌≤◌, ◌∷◌, List, length, map, reverse, cond, nat_lt, ◌&&◌, Option, Some, None, IsSome, Result, Ok, Err, ℤ, pos}
+use Rattle.std.specs.Prelude.{◌≡◌, ⊤, ℕ, ◌<◌, ◌≤◌, List, [], ◌∷◌, length, map, reverse, cond, nat_lt, ◌&&◌, Option, Some, None, IsSome, Result, Ok, Err, ℤ, pos, slice_get}
 use Rattle.machine_core.specs.Paths.{Path}
 use Rattle.machine_core.specs.Cells as cells
 use Rattle.machine_core.specs.Cells.{same_cell, same_object}
 use Rattle.machine_core.specs.State.{override}
 use Rattle.machine_core.specs.Effect.{action_of}
 use Rattle.machine_core.specs.Frames as frames
-use Rattle.machine_core.specs.Frames.{phis_at}
+use Rattle.machine_core.specs.Frames.{alloca_cells, phis_at}
+use Rattle.program.specs.declared.function.Function.{Function}
 use Rattle.program.specs.declared.function.Program.{Program}
 use Rattle.store.specs.Cells.{NamedCells, cell_at}
 use Rattle.frame.specs.declared.value.Object.{Object}
@@ -16,7 +17,7 @@ use Rattle.frame.specs.declared.effect.Effect.{Effect}
 use Rattle.frame.specs.declared.effect.Effect.TheVariants as effect
 use Rattle.frame.specs.declared.frame.Frame.{Frame}
 use Rattle.frame.specs.Reading.{above, frame_of, object_of, cell_of}
-use Rattle.frame.specs.Room.{CanDo, EffectWithin, FitsPhis, HasCell, ObjectWithin}
+use Rattle.frame.specs.Room.{CanDo, EffectWithin, FitsPhis, HasCell, ObjectWithin, register_count}
 use Rattle.frame.specs.Asked.{HasRoom, asked}
 use Rattle.serial_machine.specs.Running.{path_on, seen, memory_of, frame_at, run_of, AreSound}
 use Rattle.serial_machine.specs.Stack.{Run, Goes, IsStuck, EndsWith}
@@ -78,7 +79,27 @@ HasSpace prog f below globals (effect.Return v) = ⊤
 -- the frame has room for what its place asks for, and the machine has it too
 pub record HasRoomAt (prog : Program) (f : Frame) (below : List Frame) (globals : List NamedCells) : Type 0 where
   pub frame : HasRoom prog (path_on below) f (memory_of (f ∷ below) globals)
-  pub space : (e : Effect) → asked prog (path_on below) (frame_of (path_on below) f) (memory_of (f ∷ below) globals) (Ok e) ≡ action_of prog (path_on below) (frame_of (path_on below) f) (memory_of (f ∷ below) globals) → HasSpace prog f below globals e
+  pub space : (e : Effect) → EffectWithin f.depth e → asked prog (path_on below) (frame_of (path_on below) f) (memory_of (f ∷ below) globals) (Ok e) ≡ action_of prog (path_on below) (frame_of (path_on below) f) (memory_of (f ∷ below) globals) → HasSpace prog f below globals e
+
+-- ---- places
+
+-- the cells of an alloca of a function, as its text declares them
+abbrev pub declared_in : Option Function → ℕ → ℕ
+declared_in None n = 0
+declared_in (Some f) n = alloca_cells (slice_get f.allocas n)
+
+-- the frame has the registers and moves of its function, and the frame that owns its allocas has their cells
+pub record HasPlacesIn (prog : Program) (f : Frame) (frames : List Frame) : Type 0 where
+  pub registers : register_count (slice_get prog.functions f.function.0) ≤ length f.registers.items
+  pub moves : register_count (slice_get prog.functions f.function.0) ≤ length f.moves.items
+  pub cells : (n i : ℕ) → i < declared_in (slice_get prog.functions f.function.0) n → HasCellIn (frame_at frames f.home) n i
+
+-- so have all frames of a stack, from the top down
+abbrev pub ArePlaced : Program → List Frame → Type 0
+ArePlaced prog [] = ⊤
+ArePlaced prog (f ∷ below) = HasPlacesIn prog f (f ∷ below) × ArePlaced prog below
+
+-- ---- writes
 
 abbrev pub one_cell : cells.Cell → ℤ → cells.Cell → Option (Option ℤ)
 one_cell c z x = cond (same_cell c x) (Some (Some z)) None
@@ -97,6 +118,7 @@ pub record Wrote (old new : Stack) (writes : cells.Cell → Option (Option ℤ))
   pub memory : (x : cells.Cell) → memory_in new x ≡ override (writes x) (memory_in old x)
   pub names : names_of new.memory ≡ names_of old.memory
   pub there : (o : Object) (i : ℕ) → HasCellOf (frames_in old) old.memory o i → HasCellOf (frames_in new) new.memory o i
+  pub placed : (prog : Program) → ArePlaced prog (frames_in old) → ArePlaced prog (frames_in new)
 
 abbrev pub Loads : Stack → Cell → Option ℤ → Type 0
 Loads s c held = ObjectWithin (length (below_of s)) c.object → held ≡ memory_in s (cell_of (path_in s) c)
@@ -121,6 +143,7 @@ pub record GoneOn (prog : Program) (old new : Stack) : Type 0 where
   pub goes : Goes prog (run_in old) (run_in new)
   pub sound : AreSound (frames_in new)
   pub names : names_of new.memory ≡ names_of old.memory
+  pub placed : ArePlaced prog (frames_in old) → ArePlaced prog (frames_in new)
 
 pub record HasEnded (prog : Program) (old new : Stack) (z : ℤ) : Type 0 where
   pub ends : EndsWith prog (run_in old) z

@@ -11,7 +11,7 @@ use Rattle.serial_machine.specs.declared.outcome.Halt.{Halt}
 use Rattle.serial_machine.specs.declared.stack.Stack.{Stack}
 use Rattle.serial_machine.specs.declared.stack.Progress.{Progress}
 use Rattle.serial_machine.specs.declared.stack.Progress.TheVariants.{GoesOn, Ended}
-use Rattle.serial_machine.proofs.Serially.{started, started_sound, walked, meant, stopped, used_up}
+use Rattle.serial_machine.proofs.Serially.{started, started_sound, started_placed, walked, meant, stopped, used_up}
 use Rattle.serial_machine.proofs.run.run_within.Goals as goal
 
 pub loop-executed-init : goal.loop-executed-init
@@ -21,6 +21,7 @@ loop-executed-init c =
     record {
       walk = started prog c.args.arguments.now c.args.memory c.in_ok-root.field-0 c.new.result.items c.new.ensures.items e.root e.undefined;
       sound = started_sound prog c.args.arguments.now c.args.memory c.in_ok-root.field-0 c.new.result.items c.new.ensures.items e.root e.depth e.sound;
+      placed = started_placed prog c.args.arguments.now c.args.memory c.in_ok-root.field-0 c.new.result.items c.new.ensures.items e.root e.depth e.sound e.places;
       names = refl;
     }
 
@@ -34,7 +35,7 @@ pub returns-in-Err : goal.returns-in-Err
 returns-in-Err c =
     let prog = c.args.program.now in
     let loop = c.loop-executed in
-    stopped prog c.args.arguments.now c.args.memory loop.stack c.step.new.self c.args.budget loop.executed loop.peak loop.invariant.walk loop.invariant.sound c.in-Err.halt
+    stopped prog c.args.arguments.now c.args.memory loop.stack c.step.new.self c.args.budget loop.executed loop.peak loop.invariant.walk loop.invariant.sound loop.invariant.placed c.in-Err.halt
     (at_answer prog loop.stack c.step.new.self c.step.result (Err c.in-Err.halt) c.in-Err.is loop.invariant.sound c.step.ensures)
 
 pub returns-in-Ok-Ended : goal.returns-in-Ok-Ended
@@ -55,10 +56,11 @@ loop-executed-preserved c =
     record {
       walk = walked prog c.args.arguments.now c.args.memory loop.stack t loop.executed _ loop.peak c.max-peak.result c.depth.result loop.invariant.walk gone.goes refl (c.max-peak.ensures ∙ higher loop.peak c.depth.result) (omega (arith, long, c.depth.ensures));
       sound = gone.sound;
+      placed = gone.placed loop.invariant.placed;
       names = gone.names ∙ loop.invariant.names;
     }
 
 pub returns : goal.returns
 returns c =
     let loop = c.loop-executed in
-    used_up c.args.program.now c.args.arguments.now c.args.memory loop.stack c.args.budget loop.executed loop.peak loop.invariant.walk loop.invariant.sound (omega (arith, loop.auto.executed-end))
+    used_up c.args.program.now c.args.arguments.now c.args.memory loop.stack c.args.budget loop.executed loop.peak loop.invariant.walk loop.invariant.sound loop.invariant.placed (omega (arith, loop.auto.executed-end))

@@ -4,6 +4,7 @@ use Rattle.std.specs.Prelude.{FitsSigned}
 use Rattle.std.proofs.lemmas.Int.{to_z-of_z}
 use Rattle.frame.specs.declared.frame.Frame.{Frame}
 use Rattle.serial_machine.proofs.Performed.{wrote_gone}
+use Rattle.serial_machine.proofs.Places.{keeps_by}
 use Rattle.serial_machine.proofs.Cells.{from_true, from_false, held_there, sum_written}
 use Rattle.machine_core.specs.Arithmetic.{cell_sum}
 use Rattle.machine_core.specs.Effect.{Plain, adds_to}
@@ -27,7 +28,7 @@ returns-then-store c = λ prog sound can within act.
     let next : HasNext m.top = subst HasNext (sym wrote.top) can in
     wrote_gone prog s sound m (one_cell cell (cell_sum c.in-Some.held c.args.number)) c.pass.new.self (adds_to (frame_in s) cell c.args.number (Some c.in-Some.held)) wrote (ap (λ o. Plain (adds_to (frame_in s) cell c.args.number o)) held ∙ act) refl refl
     (sum_written (frame_in s) (memory_in s) cell c.args.number c.in-Some.held (sym held)) (e.goes_on (path_in m) next)
-    (ap (λ (f : Frame). f.allocas) e.only) (ap (λ (f : Frame). f.depth) e.only) e.sound (ap (λ (f : Frame). f.waits) e.only)
+    (ap (λ (f : Frame). f.allocas) e.only) (ap (λ (f : Frame). f.depth) e.only) e.sound (ap (λ (f : Frame). f.waits) e.only) (keeps_by m.top c.pass.new.self _ _ _ _ _ _ e.only refl refl)
 
 pub returns-else-store : goal.returns-else-store
 returns-else-store c = λ prog sound can within act room.

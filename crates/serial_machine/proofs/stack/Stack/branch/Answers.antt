@@ -1,6 +1,7 @@
 use Rattle.std.proofs.Common.{refl, sym, ap}
 use Rattle.frame.specs.declared.frame.Frame.{Frame}
 use Rattle.serial_machine.proofs.Performed.{edge_gone, edge_stuck}
+use Rattle.serial_machine.proofs.Places.{keeps_by}
 use Rattle.machine_core.specs.Effect.{registers_along}
 use Rattle.serial_machine.specs.Stepping.{path_in, frame_in}
 use Rattle.serial_machine.proofs.stack.Stack.branch.Goals as goal
@@ -9,7 +10,7 @@ pub returns-in-Ok : goal.returns-in-Ok
 returns-in-Ok c = λ sound can within act.
     let s = c.args.self.now in
     let e = c.in-Ok.ensures in
-    edge_gone c.args.program.now s sound c.enter.new.self c.args.target.0 (registers_along c.args.program.now (frame_in s) c.args.target.0) act (e.entered (path_in s)) (ap (λ (f : Frame). f.allocas) e.only) (ap (λ (f : Frame). f.depth) e.only) (e.sound sound.0.sound)
+    edge_gone c.args.program.now s sound c.enter.new.self c.args.target.0 (registers_along c.args.program.now (frame_in s) c.args.target.0) act (e.entered (path_in s)) (ap (λ (f : Frame). f.allocas) e.only) (ap (λ (f : Frame). f.depth) e.only) (e.sound sound.0.sound) (keeps_by s.top c.enter.new.self _ _ _ _ _ _ e.only e.length e.moves)
 
 pub returns-in-Err : goal.returns-in-Err
 returns-in-Err c = λ sound can within act room.

@@ -1,6 +1,7 @@
 use Rattle.std.proofs.Common.{refl, sym, ap}
 use Rattle.frame.specs.declared.frame.Frame.{Frame}
 use Rattle.serial_machine.proofs.Performed.{top_gone}
+use Rattle.serial_machine.proofs.Places.{keeps_by}
 use Rattle.machine_core.specs.Effect.{sets}
 use Rattle.frame.specs.Reading.{value_of}
 use Rattle.serial_machine.specs.Stepping.{path_in, frame_in}
@@ -11,4 +12,4 @@ returns c = λ prog sound can within act.
     let s = c.args.self.now in
     let e = c.define.ensures in
     top_gone prog s sound c.define.new.self (sets (frame_in s) c.args.register (value_of (path_in s) c.args.value)) act refl (record { writes = refl; adds = refl }) (e.goes_on (path_in s) can.0 can.1)
-    (ap (λ (f : Frame). f.allocas) e.only) (ap (λ (f : Frame). f.depth) e.only) (e.sound sound.0.sound within) (ap (λ (f : Frame). f.waits) e.only)
+    (ap (λ (f : Frame). f.allocas) e.only) (ap (λ (f : Frame). f.depth) e.only) (e.sound sound.0.sound within) (ap (λ (f : Frame). f.waits) e.only) (keeps_by s.top c.define.new.self _ _ _ _ _ _ e.only e.length refl)

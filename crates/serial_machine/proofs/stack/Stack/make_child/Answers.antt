@@ -1,6 +1,7 @@
 use Rattle.std.proofs.Common.{◌≡◌, ◌∷◌, refl, sym, ap, ◌∙◌, subst}
 use Rattle.frame.specs.declared.frame.Frame.{Frame}
 use Rattle.serial_machine.proofs.Performed.{child_gone}
+use Rattle.serial_machine.proofs.Places.{keeps_by}
 use Rattle.serial_machine.proofs.Cells.{on_ok}
 use Rattle.serial_machine.proofs.Running.{path_long}
 use Rattle.serial_machine.specs.Stepping.{below_of, path_in, GoneOn}
@@ -14,4 +15,4 @@ returns c = on_ok c.push.result c.push.ensures.below c.push.ensures.only (λ pus
     let d = c.in_ok-child.ensures in
     subst (GoneOn prog s) (sym only) (child_gone prog s sound h c.in_ok-child.child c.push.new.self.below c.args.region.0 c.args.body.0 c.args.continuation.0 act can pushed (e.continued (path_in s) can.made)
     (d.detached (path_in s) s.top.made (path_long (below_of s) ∙ sym sound.0.depth) sound.0.sound)
-    (ap (λ (f : Frame). f.allocas) e.only) (ap (λ (f : Frame). f.depth) e.only) (ap (λ (f : Frame). f.waits) e.only) (e.sound sound.0.sound) (d.depth can) (d.sound sound.0.sound) d.undefined))
+    (ap (λ (f : Frame). f.allocas) e.only) (ap (λ (f : Frame). f.depth) e.only) (ap (λ (f : Frame). f.waits) e.only) (e.sound sound.0.sound) (d.depth can) (d.sound sound.0.sound) d.undefined d.registers d.moves (keeps_by s.top h _ _ _ _ _ _ e.only refl refl)))

@@ -4,6 +4,7 @@ use Rattle.std.specs.Prelude.{FitsSigned}
 use Rattle.std.proofs.lemmas.Int.{to_z-of_z}
 use Rattle.frame.specs.declared.frame.Frame.{Frame}
 use Rattle.serial_machine.proofs.Performed.{wrote_gone}
+use Rattle.serial_machine.proofs.Places.{keeps_by}
 use Rattle.serial_machine.proofs.Cells.{from_true}
 use Rattle.machine_core.specs.Effect.{stores}
 use Rattle.frame.specs.Reading.{cell_of}
@@ -20,4 +21,4 @@ returns-then-store c = λ prog sound can within act.
     let wrote = subst (λ z. Wrote s m (one_cell cell z)) (to_z-of_z w64 c.args.number c.ranges.number) (from_true c.store.result c.store.ensures.stores c.if-store.true (subst (λ n. ObjectWithin n c.args.cell.object) sound.0.depth within)) in
     let next : HasNext m.top = subst HasNext (sym wrote.top) can in
     wrote_gone prog s sound m (one_cell cell c.args.number) c.pass.new.self (stores (frame_in s) cell c.args.number) wrote act refl refl (λ x. refl) (e.goes_on (path_in m) next)
-    (ap (λ (f : Frame). f.allocas) e.only) (ap (λ (f : Frame). f.depth) e.only) e.sound (ap (λ (f : Frame). f.waits) e.only)
+    (ap (λ (f : Frame). f.allocas) e.only) (ap (λ (f : Frame). f.depth) e.only) e.sound (ap (λ (f : Frame). f.waits) e.only) (keeps_by m.top c.pass.new.self _ _ _ _ _ _ e.only refl refl)
