@@ -4,11 +4,14 @@ use Rattle.std.specs.Prelude.{⊤, IsSome, Ok, slice_get}
 use Rattle.machine_core.specs.Arithmetic.{Trap}
 use Rattle.machine_core.specs.Cells.{Memory}
 use Rattle.machine_core.specs.Frames as frames
-use Rattle.machine_core.specs.Frames.{phis_at}
+use Rattle.machine_core.specs.Frames.{cells_in, phis_at}
 use Rattle.machine_core.specs.Effect as running
 use Rattle.machine_core.specs.Effect.{Plain, action_of}
 use Rattle.machine_core.specs.Paths.{Path}
+use Rattle.program.specs.declared.function.Function.{Function}
 use Rattle.program.specs.declared.function.Program.{Program}
+use Rattle.program.specs.declared.identifier.AllocaId.{AllocaId}
+use Rattle.program.specs.declared.identifier.ObjectName.TheVariants as object
 use Rattle.verifier.specs.Accepted.{IsProgramOf}
 use Rattle.verifier.specs.Budgets.{budget_of}
 use Rattle.store.specs.Cells.{NamedCells}
@@ -18,7 +21,7 @@ use Rattle.frame.specs.declared.frame.Frame.{Frame}
 use Rattle.frame.specs.Asked.{HasRoom, asked}
 use Rattle.frame.specs.Reading.{frame_of}
 use Rattle.frame.specs.Room.{HasChild, HasNext, FitsPhis}
-use Rattle.room_laws.specs.Cells.{StoresThere}
+use Rattle.room_laws.specs.Cells.{HasAllocaCells, StoresThere}
 use Rattle.room_laws.specs.Room.{DoesNotTrap}
 use Rattle.room_laws.proofs.Doable.{frames_have_room}
 use Rattle.room_laws.proofs.Moves.{moves_fit}
@@ -30,12 +33,11 @@ use Rattle.schedule_theorem.proofs.Along.{Along, kept_along, kept_at_root}
 use Rattle.schedule_theorem.proofs.Bounds.{budget_bounded}
 use Rattle.schedule_theorem.proofs.Promise.{accepted_programs_keep_their_promise}
 use Rattle.schedule_theorem.proofs.Serially.{Found}
-use Rattle.serial_machine.specs.Places.{ArePlaced}
 use Rattle.serial_machine.specs.Requirements.{unmet_in}
 use Rattle.serial_machine.specs.Running.{path_on, seen, memory_of, run_of}
 use Rattle.serial_machine.specs.Serially.{cells_of, Stops, StopsAt}
 use Rattle.serial_machine.specs.Stack.{Placed, HasNoStep, IsStuck}
-use Rattle.serial_machine.specs.Stepping.{HasRoomAt, HasSpace}
+use Rattle.serial_machine.specs.Stepping.{HasPlacesIn, HasRoomAt, HasSpace, declared_in}
 use Rattle.walk_laws.specs.Laws.{GoesOnTo, IsCounted}
 use Rattle.walk_laws.proofs.Ahead.{walks_go_on}
 use Rattle.walk_laws.proofs.Counted.{walks_count}
@@ -69,6 +71,13 @@ space_for prog f below globals fits (effect.Reattach r) h = tt
 space_for prog f below globals fits (effect.Sync r b) h = fits b.0
 space_for prog f below globals fits (effect.Call d g) h = tt
 space_for prog f below globals fits (effect.Return v) h = tt
+
+declared_is : (prog : Program) (o : Option Function) (a : AllocaId) → cells_in prog o (object.Alloca a) ≡ declared_in o a.0
+declared_is prog None a = refl
+declared_is prog (Some function) a = refl
+
+owned_cells : (prog : Program) (f : Frame) (below : List Frame) → HasPlacesIn prog f (f ∷ below) → HasAllocaCells prog f below
+owned_cells prog f below h a i within = h.cells a.0 i (subst (λ n. i < n) (declared_is prog (slice_get prog.functions f.function.0) a) within)
 
 module _ (text : List ℕ) (program : Program) (accepted : IsProgramOf text program) (arguments : List ℤ) (memory : List NamedCells)
     (none : unmet_in program arguments ≡ None) (globals : AreGlobalsOf program memory)
@@ -130,7 +139,7 @@ module _ (text : List ℕ) (program : Program) (accepted : IsProgramOf text prog
         room = record {
           frame = frame_room;
           space = λ e within is. space_for program f below cells fits e
-          (cells_are_there program (uses_are_sized text program accepted) f below cells s.sound.0 s.placed.0.cells good.0.0.1 e within is);
+          (cells_are_there program (uses_are_sized text program accepted) f below cells s.sound.0 (owned_cells program f below s.placed.0) good.0.0.1 e within is);
         }
 
         never : ⊥
