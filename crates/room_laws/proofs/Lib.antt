@@ -1,0 +1,4 @@
+pub mod ScratchMoves
+pub mod Operands
+pub mod Moves
+pub mod Doable
