@@ -43,4 +43,3 @@ pub record HasKindedRegisters (prog : Program) (f : Frame) : Type 0 where
 
 abbrev pub Kinded : Program → Path → Frame → Memory → Type 0
 Kinded prog p f m = HasKindedRegisters prog f
-

@@ -91,4 +91,3 @@ pub record HasKinds (program : Program) : Type 0 where
   pub steps : (f b i : ℕ) (what : Instruction) (function : Function) → item_at program f b i ≡ Some (Does what) → slice_get program.functions f ≡ Some function → IsKinded function.registers what
   pub ends : (f b i : ℕ) (t : Terminator) (function : Function) → item_at program f b i ≡ Some (Ends t) → slice_get program.functions f ≡ Some function → IsKindedEnd function.registers t
   pub phis : (f b i : ℕ) (function : Function) (block : Block) (phi : Phi) → slice_get program.functions f ≡ Some function → slice_get function.blocks b ≡ Some block → slice_get block.phis i ≡ Some phi → IsKindedPhi function.registers phi
-
