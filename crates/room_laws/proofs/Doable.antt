@@ -1,5 +1,5 @@
 -- What the place of a frame asks for, the frame can do.
-use Rattle.std.proofs.Common.{◌≡◌, ◌≢◌, ℕ, zero, suc, ◌≤◌, ◌<◌, List, length, Option, Some, None, Bool, true, false, cond, eqb, eq-eqb, ◌⊎◌, inl, inr, refl, sym, ap, ◌∙◌, subst, arith, slice_get, is_some, ℤ}
+use Rattle.std.proofs.Common.{◌≡◌, ◌≢◌, ℕ, suc, ◌≤◌, ◌<◌, List, length, Option, Some, None, true, eq-eqb, ◌⊎◌, inl, inr, refl, sym, ap, ◌∙◌, subst, arith, slice_get, is_some, ℤ}
 use Rattle.std.specs.Prelude.{Ok}
 use Rattle.std.specs.Option.{option_flatten}
 use Rattle.std.proofs.lemmas.Bool.Decides.{eqb_tells}
@@ -16,19 +16,18 @@ use Rattle.program.specs.declared.function.Program.{Program}
 use Rattle.program.specs.declared.function.RegisterKind.{RegisterKind}
 use Rattle.program.specs.declared.instruction.Instruction.{Instruction}
 use Rattle.program.specs.declared.instruction.Instruction.TheVariants as instruction
-use Rattle.program.specs.declared.instruction.Terminator.{Terminator}
 use Rattle.frame.specs.declared.effect.Effect.{Effect}
 use Rattle.frame.specs.declared.effect.Effect.TheVariants as effect
 use Rattle.frame.specs.declared.frame.Frame.{Frame}
 use Rattle.frame.specs.declared.value.Value.{Value}
 use Rattle.frame.specs.declared.value.Cell.{Cell}
 use Rattle.frame.specs.Asked.{asked, passed}
-use Rattle.frame.specs.Reading.{cell_of, frame_of, held_of, register_in, registers_of, value_of}
+use Rattle.frame.specs.Reading.{cell_of, frame_of, held_of, registers_of, value_of}
 use Rattle.frame.specs.Room.{CanDo, HasChild, HasNext, HasRegister, HasResult, register_count}
-use Rattle.room_laws.specs.ScratchMoves.{dest_of, number_of, GoesOn, Enters, Moves, is_next, is_along, Calls}
-use Rattle.room_laws.specs.ScratchKinds.{IsOfKind, IsResult, IsKinded, HasKinds}
+use Rattle.bridge.specs.Moves.{dest_of, number_of, Moves, is_next, is_along}
+use Rattle.typed_laws.specs.Kinds.{IsOfKind, IsResult, IsKinded, HasKinds}
 use Rattle.room_laws.specs.Room.{HoldsRegisters, DoesNotTrap, EffectsFit, FramesHaveRoom}
-use Rattle.room_laws.proofs.ScratchMoves.{moves, calls_here}
+use Rattle.bridge.proofs.Moves.{moves, calls_here}
 use Rattle.room_laws.proofs.Operands.{function_there, operands_fit}
 
 -- ---- the register that an instruction defines

@@ -1,4 +1,3 @@
-pub mod ScratchMoves
 pub mod Operands
 pub mod Moves
 pub mod Doable

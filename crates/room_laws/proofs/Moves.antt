@@ -1,5 +1,5 @@
 -- The phis of a block are no more than the registers of its function.
-use Rattle.std.proofs.Common.{◌≡◌, ◌≢◌, ℕ, suc, ◌≤◌, ◌<◌, List, [], ◌∷◌, length, Option, Some, None, Bool, true, false, eqb, ◌||◌, refl, sym, ap, ◌∙◌, subst, arith, slice_get}
+use Rattle.std.proofs.Common.{◌≡◌, ◌≢◌, ℕ, suc, ◌≤◌, ◌<◌, List, [], ◌∷◌, length, Option, Some, None, Bool, true, false, eqb, ◌||◌, refl, sym, subst, arith, slice_get}
 use Rattle.std.specs.Prelude.{map, All}
 use Rattle.std.specs.List.{IsDistinct, AllByRecursion, list_any}
 use Rattle.std.proofs.lemmas.Bool.{ne_eqb, eqb-true}
@@ -7,15 +7,14 @@ use Rattle.std.proofs.lemmas.List.{length-map}
 use Rattle.std.proofs.lemmas.List.Elements.{All-head, All-tail}
 use Rattle.std.proofs.lemmas.Map.Steps.{length-le_from_distinct_below}
 use Rattle.std.proofs.lemmas.Option.{slice_get_within}
-use Rattle.machine_core.specs.Frames.{and_then, block_at, block_phis, phis_at}
+use Rattle.machine_core.specs.Frames.{and_then, block_phis, phis_at}
 use Rattle.program.specs.declared.function.Block.{Block}
 use Rattle.program.specs.declared.function.Function.{Function}
 use Rattle.program.specs.declared.function.Program.{Program}
 use Rattle.program.specs.declared.instruction.Phi.{Phi}
-use Rattle.frame.specs.Room.{FitsPhis, register_count}
-use Rattle.frame.specs.declared.frame.Frame as machine
-use Rattle.room_laws.specs.ScratchKinds.{HasKinds}
-use Rattle.room_laws.specs.ScratchOwing.{AreApart, IsStable}
+use Rattle.frame.specs.Room.{register_count}
+use Rattle.typed_laws.specs.Kinds.{HasKinds}
+use Rattle.fact_laws.specs.Owing.{AreApart}
 use Rattle.room_laws.specs.Room.{MovesFit}
 
 -- ---- as many numbers as phis

@@ -1,9 +1,8 @@
 -- Numbers of i32 that an instruction reads are numbers of that type.
-use Rattle.std.proofs.Common.{◌≡◌, ℕ, ◌≤◌, List, Option, Some, None, true, refl, sym, ap, ◌∙◌, subst, arith, ℤ, pos, negsuc, FitsSigned, slice_get}
+use Rattle.std.proofs.Common.{◌≡◌, ℕ, ◌≤◌, List, Option, Some, None, true, refl, subst, arith, ℤ, pos, negsuc, FitsSigned, slice_get}
 use Rattle.std.specs.Prelude.{int_le}
 use Rattle.std.specs.Int.{w32}
 use Rattle.std.proofs.lemmas.Bool.{and_parts, leb-true}
-use Rattle.machine_core.specs.Paths.{Path}
 use Rattle.machine_core.specs.Arithmetic.{fits}
 use Rattle.machine_core.specs.Frames.{Value, Word, Truth, Pointer, Region, Registers, Frame, Item, Does, Ends, and_then, item_of, item_at, word_of, word_at}
 use Rattle.program.specs.declared.function.Block.{Block}
@@ -24,9 +23,8 @@ use Rattle.frame.specs.Answers.{source_width}
 use Rattle.frame.specs.Asked.{FitsIn, ItemFits, place_of}
 use Rattle.frame.specs.Asked as asked
 use Rattle.frame.specs.Reading.{frame_of}
-use Rattle.frame.specs.declared.frame.Frame as machine
-use Rattle.room_laws.specs.ScratchKinds.{IsNumber, IsKinded, HasKinds}
-use Rattle.room_laws.specs.ScratchHolding.{HoldKinds, HasKindedRegisters, holds_kind}
+use Rattle.typed_laws.specs.Kinds.{IsNumber, IsKinded}
+use Rattle.room_laws.specs.ScratchHolding.{HoldKinds, holds_kind}
 use Rattle.room_laws.specs.Room.{ItemsFit}
 
 fits_signed : (z : ℤ) → fits Bits32 z ≡ true → FitsSigned w32 z

@@ -1,5 +1,2 @@
-pub mod ScratchKinds
-pub mod ScratchHolding
-pub mod ScratchOwing
-pub mod ScratchMoves
 pub mod Room
+pub mod ScratchHolding

@@ -12,8 +12,8 @@ use Rattle.frame.specs.declared.frame.Frame.{Frame}
 use Rattle.frame.specs.Asked.{ItemFits, HasRoom, asked, place_of}
 use Rattle.frame.specs.Reading.{frame_of}
 use Rattle.frame.specs.Room.{CanDo, FitsPhis, HasChild, HasNext, register_count}
-use Rattle.room_laws.specs.ScratchOwing.{IsStable}
-use Rattle.room_laws.specs.ScratchKinds.{HasKinds}
+use Rattle.fact_laws.specs.Owing.{IsStable}
+use Rattle.typed_laws.specs.Kinds.{HasKinds}
 use Rattle.room_laws.specs.ScratchHolding.{HasKindedRegisters}
 
 -- the frame has a place for each register of its function

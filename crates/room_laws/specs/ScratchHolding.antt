@@ -1,9 +1,9 @@
 -- What the registers of a frame hold, by their kinds.
-use Rattle.std.specs.Prelude.{◌≡◌, ℕ, suc, List, [], ◌∷◌, Option, Some, None, Bool, true, false, ◌&&◌, ◌==◌, slice_get, ℤ}
+use Rattle.std.specs.Prelude.{◌≡◌, ℕ, List, Option, Some, None, Bool, true, false, ◌==◌, slice_get, ℤ}
 use Rattle.machine_core.specs.Paths.{Path}
 use Rattle.machine_core.specs.Cells.{Memory}
 use Rattle.machine_core.specs.Arithmetic.{fits}
-use Rattle.machine_core.specs.Frames.{Value, Word, Truth, Pointer, Region, Registers, Wait, Free, OnRegion, OnCall, Halted, Frame}
+use Rattle.machine_core.specs.Frames.{Value, Word, Truth, Pointer, Region, Registers, OnCall, Frame}
 use Rattle.linear.specs.declared.form.RegisterId.{RegisterId}
 use Rattle.syntax.specs.declared.operator.Width.{Width}
 use Rattle.syntax.specs.declared.operator.Width.TheVariants.{Bits64, Bits32}
@@ -11,7 +11,7 @@ use Rattle.program.specs.declared.function.Function.{Function}
 use Rattle.program.specs.declared.function.Program.{Program}
 use Rattle.program.specs.declared.function.RegisterKind.{RegisterKind}
 use Rattle.program.specs.declared.function.RegisterKind.TheVariants as kind
-use Rattle.room_laws.specs.ScratchKinds.{IsResult}
+use Rattle.typed_laws.specs.Kinds.{IsResult}
 
 -- A number of i32 fits its width. One of i64 may come from memory, where a cell holds any number.
 abbrev pub is_of_width : Width → ℤ → Bool
