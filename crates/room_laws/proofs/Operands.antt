@@ -1,9 +1,5 @@
 -- Numbers of i32 that an instruction reads are numbers of that type.
-use Rattle.std.proofs.Common.{◌≡◌, ℕ, ◌≤◌, List, Option, Some, None, true, refl, subst, arith, ℤ, pos, negsuc, FitsSigned, slice_get}
-use Rattle.std.specs.Prelude.{int_le}
-use Rattle.std.specs.Int.{w32}
-use Rattle.std.proofs.lemmas.Bool.{and_parts, leb-true}
-use Rattle.machine_core.specs.Arithmetic.{fits}
+use Rattle.std.proofs.Common.{◌≡◌, ℕ, List, Option, Some, None, true, refl, subst, slice_get}
 use Rattle.machine_core.specs.Frames.{Value, Word, Truth, Pointer, Region, Registers, Frame, Item, Does, Ends, and_then, item_of, item_at, word_of, word_at}
 use Rattle.program.specs.declared.function.Block.{Block}
 use Rattle.program.specs.declared.function.Function.{Function}
@@ -24,12 +20,9 @@ use Rattle.frame.specs.Asked.{FitsIn, ItemFits, place_of}
 use Rattle.frame.specs.Asked as asked
 use Rattle.frame.specs.Reading.{frame_of}
 use Rattle.typed_laws.specs.Kinds.{IsNumber, IsKinded}
-use Rattle.room_laws.specs.ScratchHolding.{HoldKinds, holds_kind}
+use Rattle.kind_laws.specs.Holding.{HoldKinds, holds_kind}
+use Rattle.kind_laws.proofs.Widths.{fits_signed}
 use Rattle.room_laws.specs.Room.{ItemsFit}
-
-fits_signed : (z : ℤ) → fits Bits32 z ≡ true → FitsSigned w32 z
-fits_signed (pos n) e = let l : n ≤ 2147483647 = leb-true n 2147483647 e in record { sfits = omega (arith, l) }
-fits_signed (negsuc n) e = let l : n ≤ 2147483647 = leb-true n 2147483647 (and_parts (int_le (negsuc 2147483647) (negsuc n)) true e).0 in record { sfits = omega (arith, l) }
 
 -- ---- an operand
 

@@ -14,7 +14,7 @@ use Rattle.frame.specs.Reading.{frame_of}
 use Rattle.frame.specs.Room.{CanDo, FitsPhis, HasChild, HasNext, register_count}
 use Rattle.fact_laws.specs.Owing.{IsStable}
 use Rattle.typed_laws.specs.Kinds.{HasKinds}
-use Rattle.room_laws.specs.ScratchHolding.{HasKindedRegisters}
+use Rattle.kind_laws.specs.Holding.{HasKindedRegisters}
 
 -- the frame has a place for each register of its function
 abbrev pub HoldsRegisters : Program → Frame → Type 0
