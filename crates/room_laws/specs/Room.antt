@@ -1,0 +1,48 @@
+-- A frame of the machine has room for what its place asks for.
+use Rattle.std.specs.Prelude.{◌≡◌, ℕ, ◌≤◌, length, None, Ok, slice_get}
+use Rattle.machine_core.specs.Paths.{Path}
+use Rattle.machine_core.specs.Cells.{Memory}
+use Rattle.machine_core.specs.Frames as frames
+use Rattle.machine_core.specs.Frames.{phis_at}
+use Rattle.machine_core.specs.Effect as running
+use Rattle.machine_core.specs.Effect.{Plain, action_of}
+use Rattle.program.specs.declared.function.Program.{Program}
+use Rattle.frame.specs.declared.effect.Effect.{Effect}
+use Rattle.frame.specs.declared.frame.Frame.{Frame}
+use Rattle.frame.specs.Asked.{ItemFits, HasRoom, asked, place_of}
+use Rattle.frame.specs.Reading.{frame_of}
+use Rattle.frame.specs.Room.{CanDo, FitsPhis, HasChild, HasNext, register_count}
+use Rattle.fact_laws.specs.Owing.{IsStable}
+use Rattle.typed_laws.specs.Kinds.{HasKinds}
+use Rattle.kind_laws.specs.Holding.{HasKindedRegisters}
+
+-- the frame has a place for each register of its function
+abbrev pub HoldsRegisters : Program → Frame → Type 0
+HoldsRegisters prog f = register_count (slice_get prog.functions f.function.0) ≤ length f.registers.items
+
+-- and one for the move of each
+abbrev pub HoldsMoves : Program → Frame → Type 0
+HoldsMoves prog f = register_count (slice_get prog.functions f.function.0) ≤ length f.moves.items
+
+-- what the frame does next, with this memory, is no trap
+abbrev pub DoesNotTrap : Program → Path → frames.Frame → Memory → Type 0
+DoesNotTrap prog p f m = (e : running.Effect) → action_of prog p f m ≡ Plain e → e.trap ≡ None
+
+-- numbers of i32 that an instruction reads are numbers of that type
+abbrev pub ItemsFit : Type 0
+ItemsFit = (prog : Program) → HasKinds prog → (p : Path) (f : Frame) → HasKindedRegisters prog (frame_of p f) → ItemFits (frame_of p f) (place_of prog f)
+
+-- an edge to any block finds room for its moves
+abbrev pub MovesFit : Type 0
+MovesFit = (prog : Program) → HasKinds prog → IsStable prog → (f : Frame) → HoldsRegisters prog f → HoldsMoves prog f → (b : ℕ) → FitsPhis f (phis_at prog f.function.0 b)
+
+-- what the place of a frame asks for, the frame can do
+abbrev pub EffectsFit : Type 0
+EffectsFit =
+    (prog : Program) → HasKinds prog → (p : Path) (f : Frame) (m : Memory) → HoldsRegisters prog f → HasNext f → HasChild f → DoesNotTrap prog p (frame_of p f) m → (e : Effect) →
+    asked prog p (frame_of p f) m (Ok e) ≡ action_of prog p (frame_of p f) m → CanDo f e
+
+-- so the machine's own tests stop no frame of a program of kinds
+abbrev pub FramesHaveRoom : Type 0
+FramesHaveRoom =
+    (prog : Program) → HasKinds prog → (p : Path) (f : Frame) (m : Memory) → HasKindedRegisters prog (frame_of p f) → HoldsRegisters prog f → HasNext f → HasChild f → DoesNotTrap prog p (frame_of p f) m → HasRoom prog p f m
