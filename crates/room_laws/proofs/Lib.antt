@@ -1,0 +1,3 @@
+pub mod SpaceWrites
+pub mod Space
+pub mod Sizes
