@@ -1,3 +1,4 @@
 pub mod SpaceWrites
 pub mod Space
+pub mod SizesElements
 pub mod Sizes

@@ -9,7 +9,7 @@ use Rattle.machine_core.specs.Cells as cells
 use Rattle.machine_core.specs.Cells.{Shared, Local, Memory, same_object}
 use Rattle.machine_core.specs.Effect.{action_of}
 use Rattle.machine_core.specs.Frames as frames
-use Rattle.machine_core.specs.Frames.{and_then, parameter_cells, cells_in, cells_of, object_at}
+use Rattle.machine_core.specs.Frames.{and_then, parameter_cells, cells_in, cells_of, phis_at}
 use Rattle.machine_core.proofs.Actions.{same_cell_itself}
 use Rattle.linear.specs.declared.form.RegisterId.{RegisterId}
 use Rattle.program.specs.declared.function.Function.{Function}
@@ -26,9 +26,9 @@ use Rattle.frame.specs.declared.frame.Frame.{Frame}
 use Rattle.frame.specs.declared.value.Object.{Object}
 use Rattle.frame.specs.declared.value.Object.TheVariants.{Global, Alloca}
 use Rattle.frame.specs.Reading.{above, frame_of, object_of}
-use Rattle.frame.specs.Room.{EffectWithin, IsCellIn, ObjectWithin, cells_in as alloca_cells_in}
+use Rattle.frame.specs.Room.{EffectWithin, FitsPhis, IsCellIn, ObjectWithin, cells_in as alloca_cells_in}
 use Rattle.serial_machine.specs.Running.{path_on, object_cell, memory_of, frame_at, held_at, StandsOn}
-use Rattle.serial_machine.specs.Stepping.{HasCellIn, HasCellOf}
+use Rattle.serial_machine.specs.Stepping.{HasCellIn, HasCellOf, HasSpace}
 use Rattle.serial_machine.proofs.Running.{path_long, above_long, local_at}
 use Rattle.room_laws.specs.Cells.{HasAllocaCells, StoresThere, IsAsked, CellsAreThere}
 use Rattle.room_laws.specs.Sizes.{HasSizedUses}
@@ -156,6 +156,20 @@ module _ (prog : Program) (f : Frame) (below : List Frame) (globals : List Named
       stores_there (effect.Sync r b) within is = tt
       stores_there (effect.Call d g) within is = tt
       stores_there (effect.Return v) within is = tt
+
+-- with room for the moves of an edge that is all the space that a step takes
+pub has_space : (prog : Program) (f : Frame) (below : List Frame) (globals : List NamedCells) → ((b : ℕ) → FitsPhis f (phis_at prog f.function.0 b)) → (e : Effect) → StoresThere (f ∷ below) globals e → HasSpace prog f below globals e
+has_space prog f below globals moves (effect.Define d v) there = tt
+has_space prog f below globals moves (effect.Load d c) there = tt
+has_space prog f below globals moves (effect.Store c z) there = there
+has_space prog f below globals moves (effect.StoreZeros o n) there = there
+has_space prog f below globals moves (effect.Add c z) there = tt
+has_space prog f below globals moves (effect.Branch b) there = moves b.0
+has_space prog f below globals moves (effect.Detach r b c) there = tt
+has_space prog f below globals moves (effect.Reattach r) there = tt
+has_space prog f below globals moves (effect.Sync r b) there = moves b.0
+has_space prog f below globals moves (effect.Call d g) there = tt
+has_space prog f below globals moves (effect.Return v) there = tt
 
 pub cells_are_there : CellsAreThere
 cells_are_there prog sized f below globals stands own values e within is = stores_there prog f below globals values sized stands own e within is
