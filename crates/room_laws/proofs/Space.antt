@@ -1,6 +1,6 @@
 -- Each cell that the machine is to store is there, by what the definitions write.
 use Rattle.std.proofs.Common.{◌≡◌, ℕ, zero, suc, ◌<◌, ◌≤◌, List, [], ◌∷◌, length, Option, Some, None, true, is_some, refl, sym, ap, ◌∙◌, subst, arith, slice_get, ℤ, pos}
-use Rattle.std.specs.Prelude.{IsSome, ◌&&◌, nat_lt, eqb, cond}
+use Rattle.std.specs.Prelude.{◌&&◌, nat_lt, eqb, cond}
 use Rattle.std.specs.Option.{option_flatten}
 use Rattle.std.proofs.lemmas.Bool.{and_parts, and_from, lt-ltb}
 use Rattle.std.proofs.lemmas.Option.{slice_get_within}
@@ -17,7 +17,7 @@ use Rattle.program.specs.declared.function.Parameter.{Parameter}
 use Rattle.program.specs.declared.function.Program.{Program}
 use Rattle.program.specs.declared.identifier.ObjectName.{ObjectName}
 use Rattle.program.specs.declared.identifier.ObjectName.TheVariants as object
-use Rattle.bridge.specs.Costs.{parameters_in, parameters_of}
+use Rattle.bridge.specs.Costs.{parameters_in}
 use Rattle.definedness_laws.specs.Values.{LiesIn, HasValues}
 use Rattle.store.specs.Cells.{NamedCells}
 use Rattle.frame.specs.declared.effect.Effect.{Effect}

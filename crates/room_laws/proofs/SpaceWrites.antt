@@ -5,8 +5,8 @@ use Rattle.std.proofs.lemmas.Bool.{and_parts}
 use Rattle.std.proofs.lemmas.Bool.Decides.{eqb_tells, nat_tests}
 use Rattle.machine_core.specs.Paths.{Path, same_path}
 use Rattle.machine_core.specs.Cells.{Object, Shared, Local, Cell, Memory, same_object, same_cell}
-use Rattle.machine_core.specs.Arithmetic.{Trap, Undefined, BadIndex, Unmatched, Answer, Gives, Traps, binary, compares, converts}
-use Rattle.machine_core.specs.Frames.{Value, Word, Truth, Pointer, Region, Registers, Role, Child, Body, Frame, Item, Does, Ends, and_then, item_at, cells_of, word_at, truth_of, region_of, object_at, first_cell, cell_at}
+use Rattle.machine_core.specs.Arithmetic.{BadIndex, Unmatched, Answer, Gives, Traps, binary, compares, converts}
+use Rattle.machine_core.specs.Frames.{Value, Word, Truth, Pointer, Registers, Role, Child, Body, Frame, Item, Does, Ends, and_then, item_at, cells_of, word_at, truth_of, region_of, object_at, first_cell, cell_at}
 use Rattle.machine_core.specs.Effect.{Effect, Action, Plain, Detach, Reattach, Sync, Call, Return, no_writes, stops, sets, answers, given, points, loads, stores, stores_zeros, adds_to, enters, jumps, case_for, registers_along, traps, if_own, syncs, reattaches, argument_values, calls, returns, returns_value, instruction_action, terminator_action, item_action, action_of}
 use Rattle.machine_core.proofs.Places.{same_path_tells}
 use Rattle.linear.specs.declared.form.RegisterId.{RegisterId}
