@@ -1,19 +1,18 @@
 -- Cells that the machine reads and writes, as those of the definitions.
 use Rattle.std.proofs.Common.{◌≡◌, ◌≢◌, ℕ, zero, suc, ◌+◌, ◌<◌, ◌≤◌, List, [], ◌∷◌, length, reverse, refl, ap, sym, ◌∙◌, subst, arith, Bool, true, false, cond, ◌&&◌, eqb, ◌⊎◌, inl, inr, ℤ, Option, Some, None, Vec, Global}
-use Rattle.std.specs.Prelude.{⊤, IsTrue, IsSome, is_some, Result, Ok, Err, OnOk, nat_lt, pos, slice_get, slice_set}
+use Rattle.std.specs.Prelude.{IsTrue, IsSome, is_some, Result, Ok, Err, OnOk, nat_lt, pos, slice_get, slice_set}
 use Rattle.std.specs.Bool.{OnTrue, OnFalse}
 use Rattle.std.specs.Option.{option_flatten}
 use Rattle.std.proofs.lemmas.Bool.Decides.{eqb_tells, nat_tests}
 use Rattle.std.proofs.lemmas.Option.{slice_get_past}
 use Rattle.std.proofs.lemmas.List.{length-reverse}
-use Rattle.machine_core.specs.Paths.{Path}
 use Rattle.machine_core.specs.Cells as cells
 use Rattle.machine_core.specs.Cells.{Shared, Local, same_object, same_cell}
 use Rattle.machine_core.specs.Arithmetic.{cell_sum}
 use Rattle.machine_core.specs.Effect as effects
 use Rattle.machine_core.specs.Frames as frames
 use Rattle.machine_core.specs.Effect.{goes_on}
-use Rattle.machine_core.specs.State.{override, added, sum_in, went}
+use Rattle.machine_core.specs.State.{override, added, sum_in}
 use Rattle.machine_core.specs.SerialMeaning.{written}
 use Rattle.machine_core.proofs.Places.{same_path_tells}
 use Rattle.program.specs.declared.identifier.AllocaId.{AllocaId}
@@ -23,10 +22,10 @@ use Rattle.frame.specs.declared.value.Object.{Object}
 use Rattle.frame.specs.declared.value.Object.TheVariants as object
 use Rattle.frame.specs.declared.value.Cell.{Cell}
 use Rattle.frame.specs.declared.frame.Frame.{Frame}
-use Rattle.frame.specs.Reading.{above, cell_of, object_of}
-use Rattle.frame.specs.Room.{HasCell, IsCellIn, ObjectWithin, SetsAlloca, alloca_in, cells_in}
+use Rattle.frame.specs.Reading.{above, object_of}
+use Rattle.frame.specs.Room.{HasCell, IsCellIn, ObjectWithin, SetsAlloca, cells_in}
 use Rattle.serial_machine.specs.Running.{path_on, seen, object_cell, memory_of, frame_at, held_at, AreSound}
-use Rattle.serial_machine.specs.Stepping.{below_of, frames_in, path_in, frame_in, memory_in, one_cell, zeros_below, names_of, HasCellIn, HasCellOf, ArePlaced, Wrote, Loads, Stores, StoresZeros}
+use Rattle.serial_machine.specs.Stepping.{below_of, frames_in, path_in, memory_in, one_cell, zeros_below, HasCellIn, HasCellOf, ArePlaced, Wrote, Loads, Stores}
 use Rattle.serial_machine.specs.declared.stack.Stack.{Stack}
 use Rattle.serial_machine.proofs.Depths.{Changed, replaced, replaced_item, replaced_path, replaced_seen, replaced_long, replaced_sound, replaced_there, memory_replaced, memory_shared, stands_changed, frame_at_item}
 use Rattle.serial_machine.proofs.Places.{changed_placed, replaced_placed}

@@ -17,7 +17,6 @@ use Rattle.frame.specs.Reading.{above, frame_of}
 use Rattle.frame.specs.Room.{HasCell, HasResult, IsSound, SetsAlloca, alloca_in}
 use Rattle.frame.proofs.Makers.{above_child, above_self}
 use Rattle.serial_machine.specs.Running.{path_on, seen, local_in, object_cell, memory_of, frame_at, AwaitsResult, StandsOn, AreSound}
-use Rattle.serial_machine.specs.Stack.{Placed}
 use Rattle.serial_machine.specs.Stepping.{HasCellIn, one_cell}
 use Rattle.serial_machine.proofs.Running.{path_long, above_long}
 

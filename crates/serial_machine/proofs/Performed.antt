@@ -1,16 +1,15 @@
 -- What the pieces of a step of the machine come to, as a step of the definitions.
-use Rattle.std.proofs.Common.{◌≡◌, ℕ, suc, ◌+◌, ◌-◌, ◌<◌, ◌^◌, List, [], ◌∷◌, ◌++◌, length, max, reverse, refl, ap, sym, ◌∙◌, subst, arith, Bool, true, false, cond, ℤ, Option, Some, None, Vec, Global}
-use Rattle.std.specs.Prelude.{⊤, IsSome, Result, Ok, Err, slice_get}
-use Rattle.std.proofs.lemmas.List.{length-reverse}
+use Rattle.std.proofs.Common.{◌≡◌, ℕ, suc, ◌+◌, List, [], ◌∷◌, ◌++◌, length, max, reverse, refl, ap, sym, ◌∙◌, subst, arith, ℤ, Option, Some, None, Vec, Global}
+use Rattle.std.specs.Prelude.{IsSome, slice_get}
 use Rattle.machine_core.specs.Paths.{Path}
 use Rattle.machine_core.specs.Cells as cells
 use Rattle.machine_core.specs.Cells.{same_cell}
-use Rattle.machine_core.specs.Arithmetic.{cell_sum, Undefined}
+use Rattle.machine_core.specs.Arithmetic.{Undefined}
 use Rattle.machine_core.specs.Frames as frames
 use Rattle.machine_core.specs.Frames.{Registers, Value, Word, Free, OnRegion, OnCall, Child}
 use Rattle.machine_core.specs.Effect as effects
 use Rattle.machine_core.specs.Effect.{Action, Plain, Detach, Reattach, Sync, Call, Return, action_of, goes_on, given, enters, syncs, registers_along, traps, stops}
-use Rattle.machine_core.specs.State.{override, added, sum_in, went, detached, continued, synced, called, waiting, resumed}
+use Rattle.machine_core.specs.State.{override, added, went, detached, continued, synced, called, waiting, resumed}
 use Rattle.machine_core.specs.SerialMeaning.{written}
 use Rattle.machine_core.proofs.Actions.{reattach_is_child}
 use Rattle.linear.specs.declared.form.RegisterId.{RegisterId}
@@ -22,15 +21,15 @@ use Rattle.frame.specs.declared.frame.Role.TheVariants as role
 use Rattle.frame.specs.declared.frame.Wait.{Wait}
 use Rattle.frame.specs.declared.frame.Wait.TheVariants as wait
 use Rattle.frame.specs.Reading.{frame_of, wait_of, role_of}
-use Rattle.frame.specs.Room.{HasChild, HasNext, HasPlaces, HasResult, HoldsAllocas, IsEntered, IsSound, IsUndefined, alloca_in, cells_in, register_count}
+use Rattle.frame.specs.Room.{HasChild, HasPlaces, HasResult, HoldsAllocas, IsEntered, IsSound, IsUndefined, register_count}
 use Rattle.serial_machine.specs.Running.{path_on, seen, memory_of, run_of, AwaitsResult, StandsOn, AreSound}
-use Rattle.serial_machine.specs.Stack.{Run, Placed, Goes, HasNoStep, IsStuck, EndsWith, IsNotFree, IsNotCalling}
-use Rattle.serial_machine.specs.Stepping.{below_of, frames_in, path_in, frame_in, memory_in, run_in, names_of, one_cell, ArePlaced, Wrote, GoneOn, HasEnded}
+use Rattle.serial_machine.specs.Stack.{Goes, HasNoStep, IsStuck, EndsWith, IsNotFree, IsNotCalling}
+use Rattle.serial_machine.specs.Stepping.{below_of, frames_in, path_in, frame_in, memory_in, run_in, ArePlaced, Wrote, GoneOn}
 use Rattle.serial_machine.specs.declared.stack.Stack.{Stack}
-use Rattle.serial_machine.proofs.Depths.{result_same, awaits_same, reverse_push}
+use Rattle.serial_machine.proofs.Depths.{result_same, reverse_push}
 use Rattle.serial_machine.proofs.Places.{Keeps, top_placed, child_placed, callee_placed}
 use Rattle.serial_machine.proofs.Running.{path_long}
-use Rattle.serial_machine.proofs.Steps.{SameBelow, memory_same, plain_goes, sync_goes, detach_goes, call_goes, reattach_goes, return_goes}
+use Rattle.serial_machine.proofs.Steps.{memory_same, plain_goes, sync_goes, detach_goes, call_goes, reattach_goes, return_goes}
 
 -- ---- frames
 

@@ -1,6 +1,6 @@
 -- The places of frames: what keeps them, and new frames that have them.
-use Rattle.std.proofs.Common.{◌≡◌, ◌≢◌, ℕ, zero, suc, ◌+◌, ◌<◌, ◌≤◌, max, List, [], ◌∷◌, length, refl, ap, sym, ◌∙◌, subst, arith, Bool, true, false, cond, eqb, inl, inr, ℤ, Option, Some, None, Vec, Global}
-use Rattle.std.specs.Prelude.{⊤, map, replicate, slice_get}
+use Rattle.std.proofs.Common.{◌≡◌, ℕ, zero, suc, ◌+◌, ◌<◌, ◌≤◌, max, List, [], ◌∷◌, length, refl, ap, sym, ◌∙◌, subst, arith, Bool, true, false, cond, eqb, inl, inr, ℤ, Option, Some, None, Vec, Global}
+use Rattle.std.specs.Prelude.{⊤, map, slice_get}
 use Rattle.std.proofs.lemmas.Bool.Decides.{eqb_tells}
 use Rattle.std.proofs.lemmas.List.{length-replicate}
 use Rattle.machine_core.specs.Paths.{Path}
@@ -152,12 +152,14 @@ child_placed prog f h c below p region body continuation long depth deeper sound
     let for_moves : register_count (slice_get prog.functions f.function.0) ≤ length c.moves.items = omega (arith, least, moves) in
     let same : c.home ≡ h.home = home ∙ sym keeps.home in
     let less : c.home < length (h ∷ below) = omega (arith, home, low, long) in
-    let one : c.function.0 ≡ h.function.0 = function ∙ sym (ap (λ (x : FunctionId). x.0) keeps.function) in
-    (record {
-      registers = subst (λ x. register_count (slice_get prog.functions x) ≤ length c.registers.items) (sym function) for_registers;
-      moves = subst (λ x. register_count (slice_get prog.functions x) ≤ length c.moves.items) (sym function) for_moves;
-      cells = λ n i k. under_top c (h ∷ below) c.home n i less (subst (λ x. HasCellIn (frame_at (h ∷ below) x) n i) (sym same) (parent.0.cells n i (subst (λ x. i < declared_in (slice_get prog.functions x) n) one k)));
-    }, parent)
+    let one : c.function.0 ≡ h.function.0 = function ∙ sym (ap (λ (x : FunctionId). x.0) keeps.function) in (
+      record {
+        registers = subst (λ x. register_count (slice_get prog.functions x) ≤ length c.registers.items) (sym function) for_registers;
+        moves = subst (λ x. register_count (slice_get prog.functions x) ≤ length c.moves.items) (sym function) for_moves;
+        cells = λ n i k. under_top c (h ∷ below) c.home n i less (subst (λ x. HasCellIn (frame_at (h ∷ below) x) n i) (sym same) (parent.0.cells n i (subst (λ x. i < declared_in (slice_get prog.functions x) n) one k)));
+      },
+      parent,
+    )
 
 -- ---- a function's own frame
 
@@ -174,12 +176,14 @@ entry_declared (Some f) n i h = cells_declared f.allocas n i h
 entry_placed : (prog : Program) (c : Frame) (below : List Frame) (count : ℕ) → HasPlaces prog c count → register_count (slice_get prog.functions c.function.0) ≤ count → c.home ≡ length below → ArePlaced prog below → ArePlaced prog (c ∷ below)
 entry_placed prog c below count places fits home placed =
     let a = places.registers in
-    let b = places.moves in
-    (record {
-      registers = omega (arith, a, fits);
-      moves = omega (arith, b, fits);
-      cells = λ n i k. on_top c below c.home n i home (subst (λ x. IsCellIn (slice_get x n) i) (sym places.cells) (entry_declared (slice_get prog.functions c.function.0) n i k));
-    }, placed)
+    let b = places.moves in (
+      record {
+        registers = omega (arith, a, fits);
+        moves = omega (arith, b, fits);
+        cells = λ n i k. on_top c below c.home n i home (subst (λ x. IsCellIn (slice_get x n) i) (sym places.cells) (entry_declared (slice_get prog.functions c.function.0) n i k));
+      },
+      placed,
+    )
 
 -- h waits for the call, f stands before it, c is the callee's frame
 pub callee_placed : (prog : Program) (f h c : Frame) (below : List Frame) (p : Path) (callee passed : ℕ) (values : List ValueOf) → length p ≡ length below → f.depth ≡ length below → c.depth ≡ f.depth + 1 → IsSound c →

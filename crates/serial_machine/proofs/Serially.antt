@@ -1,7 +1,7 @@
 -- From the steps of the machine to the serial meaning.
-use Rattle.std.proofs.Common.{◌≡◌, ℕ, suc, ◌+◌, max, List, [], ◌∷◌, length, reverse, refl, ap, sym, ◌∙◌, subst, arith, inl, inr, ℤ, Option, Some, None}
+use Rattle.std.proofs.Common.{◌≡◌, ℕ, suc, ◌+◌, max, List, [], ◌∷◌, length, reverse, refl, ap, sym, ◌∙◌, subst, arith, inl, inr, ℤ, Some}
 use Rattle.std.specs.Prelude.{Result, Ok, Err, slice_get}
-use Rattle.machine_core.specs.Cells.{Object, Shared, Local, Memory, if_shared, globals_of}
+use Rattle.machine_core.specs.Cells.{Object, Shared, Local, if_shared, globals_of}
 use Rattle.machine_core.specs.Frames as frames
 use Rattle.machine_core.specs.State.{root_frame}
 use Rattle.machine_core.specs.SerialMeaning.{Gave, Outcome, IsSerialMeaning, cleared}
@@ -13,10 +13,10 @@ use Rattle.frame.specs.Asked.{asked}
 use Rattle.frame.specs.Reading.{frame_of}
 use Rattle.frame.specs.Room.{CanDo, EffectWithin, HasPlaces, IsSound, IsUndefined, register_count}
 use Rattle.machine_core.specs.Effect.{action_of}
-use Rattle.serial_machine.specs.Running.{path_on, seen, object_cell, memory_of, run_of, AreSound}
-use Rattle.serial_machine.specs.Stack.{Run, Walk, begins, goes_on, starting, Goes, EndsWith}
-use Rattle.serial_machine.specs.Stepping.{below_of, frames_in, path_in, frame_in, memory_in, run_in, names_of, ArePlaced, HasRoomAt, HasSpace, ComesTo, Performs, GoneOn, HasEnded}
-use Rattle.serial_machine.specs.Serially.{cells_of, IsMeant, StopsAt, Stops, RunsTo}
+use Rattle.serial_machine.specs.Running.{seen, object_cell, memory_of, run_of, AreSound}
+use Rattle.serial_machine.specs.Stack.{Run, Walk, begins, goes_on, starting, Goes}
+use Rattle.serial_machine.specs.Stepping.{below_of, frames_in, path_in, frame_in, memory_in, run_in, names_of, ArePlaced, HasRoomAt, HasSpace, ComesTo, Performs, HasEnded}
+use Rattle.serial_machine.specs.Serially.{cells_of, IsMeant, Stops, RunsTo}
 use Rattle.serial_machine.specs.declared.outcome.Finished.{Finished}
 use Rattle.serial_machine.specs.declared.outcome.Halt.{Halt}
 use Rattle.serial_machine.specs.declared.outcome.Halt.TheVariants.{OutOfMemory, Trapped}

@@ -1,6 +1,5 @@
 -- How the frames and cells of a serial run read in the definitions of running. Frames are listed from the top down.
 use Rattle.std.specs.Prelude.{◌≡◌, ⊤, ℕ, ◌-◌, List, [], ◌∷◌, length, cond, eqb, Option, Some, None, ℤ}
-use Rattle.linear.specs.declared.form.RegisterId.{RegisterId}
 use Rattle.frame.specs.declared.frame.Wait.{Wait}
 use Rattle.frame.specs.declared.frame.Wait.TheVariants as wait
 use Rattle.machine_core.specs.Paths.{Path, same_path}

@@ -1,5 +1,4 @@
-use Rattle.std.proofs.Common.{◌≡◌, Some, None, refl, sym, ap, ◌∙◌}
-use Rattle.frame.specs.declared.frame.Frame.{Frame}
+use Rattle.std.proofs.Common.{Some, None, refl, ◌∙◌}
 use Rattle.serial_machine.proofs.Cells.{load_local}
 use Rattle.serial_machine.proofs.stack.Stack.load.Goals as goal
 

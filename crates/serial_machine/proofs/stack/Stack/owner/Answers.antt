@@ -1,4 +1,4 @@
-use Rattle.std.proofs.Common.{◌≡◌, ◌≢◌, ℕ, List, length, Bool, cond, eqb, Option, Some, sym, ap, ◌∙◌, arith, inl, inr, reverse}
+use Rattle.std.proofs.Common.{◌≡◌, ◌≢◌, ℕ, List, length, cond, eqb, Option, Some, sym, ap, ◌∙◌, arith, inl, inr, reverse}
 use Rattle.std.specs.Prelude.{slice_get}
 use Rattle.std.proofs.lemmas.Bool.Decides.{eqb_tells}
 use Rattle.std.proofs.lemmas.List.{length-reverse}

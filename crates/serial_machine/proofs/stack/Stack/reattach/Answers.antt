@@ -1,4 +1,3 @@
-use Rattle.std.proofs.Common.{◌≡◌, refl, sym, ap, ◌∙◌, subst}
 use Rattle.serial_machine.proofs.Performed.{reattach_gone}
 use Rattle.serial_machine.proofs.stack.Stack.reattach.Goals as goal
 

@@ -1,4 +1,4 @@
-use Rattle.std.proofs.Common.{◌≡◌, refl, sym, ◌∙◌, subst}
+use Rattle.std.proofs.Common.{refl, sym, ◌∙◌}
 use Rattle.serial_machine.proofs.Serially.{stepped}
 use Rattle.serial_machine.proofs.Performed.{plain_stuck}
 use Rattle.serial_machine.proofs.Running.{path_long}

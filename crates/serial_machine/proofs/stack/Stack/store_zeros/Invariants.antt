@@ -1,4 +1,4 @@
-use Rattle.std.proofs.Common.{◌≡◌, length}
+use Rattle.std.proofs.Common.{length}
 use Rattle.frame.specs.Reading.{object_of}
 use Rattle.frame.specs.Room.{ObjectWithin}
 use Rattle.serial_machine.specs.Stepping.{below_of, path_in, zeros_below, Wrote}

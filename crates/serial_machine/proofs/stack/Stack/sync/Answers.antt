@@ -1,4 +1,4 @@
-use Rattle.std.proofs.Common.{refl, sym, ap}
+use Rattle.std.proofs.Common.{ap}
 use Rattle.frame.specs.declared.frame.Frame.{Frame}
 use Rattle.serial_machine.proofs.Performed.{sync_gone, sync_stuck}
 use Rattle.serial_machine.proofs.Places.{keeps_by}
