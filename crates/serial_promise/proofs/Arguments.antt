@@ -117,7 +117,7 @@ module _ (arguments : List ℤ) where
         sym (ap (λ b. cond b (option_map (λ k. suc k) (position (λ r. not (is_met arguments r)) main.requirements)) (Some 0)) h.0) ∙ e in
         record { main = main; is_main = at; count = sym h.1; met = all_pass main.requirements (none_found main.requirements (unmapped _ none)) }
     | inr h ↦
-        let wrong : Some 0 ≡ None = sym (ap (λ b. cond b (option_map (λ k. suc k) (position (λ r. not (is_met arguments r)) main.requirements)) (Some 0)) h.0) ∙ e in
+        let wrong : ◌≡◌ {A = Option ℕ} (Some 0) None = sym (ap (λ b. cond b (option_map (λ k. suc k) (position (λ r. not (is_met arguments r)) main.requirements)) (Some 0)) h.0) ∙ e in
         absurd (cc)
   ]
 
