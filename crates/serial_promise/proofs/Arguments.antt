@@ -1,6 +1,6 @@
 -- Arguments that the machine's test takes are those of which the requirements of `main` are true.
-use Rattle.std.proofs.Common.{◌≡◌, ◌∙◌, ℕ, suc, ◌<◌, ◌≤◌, ◌^◌, List, [], ◌∷◌, length, Option, Some, None, Bool, true, false, cond, T, refl, sym, ap, arith, ℤ, ◌+ℤ◌, ◌*ℤ◌, ◌≤ℤ◌, inl, inr}
-use Rattle.std.specs.Prelude.{int_le, nat_lt, not, eqb, position, find, slice_get}
+use Rattle.std.proofs.Common.{◌≡◌, ◌∙◌, ℕ, suc, ◌≤◌, ◌^◌, List, [], ◌∷◌, length, Option, Some, None, Bool, true, false, cond, T, refl, sym, ap, arith, ℤ, ◌+ℤ◌, ◌*ℤ◌, inl, inr}
+use Rattle.std.specs.Prelude.{int_le, nat_lt, not, position, find, slice_get}
 use Rattle.std.specs.Option.{option_map}
 use Rattle.std.specs.List.{All, position_or_len}
 use Rattle.std.proofs.lemmas.Bool.Decides.{eqb_tells, nat_tests}

@@ -4,7 +4,7 @@ use Rattle.std.specs.Prelude.{Result, Ok, Err}
 use Rattle.machine_core.specs.SerialMeaning.{Gave, Outcome}
 use Rattle.program.specs.declared.function.Program.{Program}
 use Rattle.verifier.specs.Accepted.{IsAccepted, IsProgramOf}
-use Rattle.verifier.specs.Budgets.{budget_of, IsDepthOf}
+use Rattle.verifier.specs.Budgets.{budget_of}
 use Rattle.store.specs.Cells.{NamedCells}
 use Rattle.schedule_theorem.specs.Promise.{KeepsItsPromise}
 use Rattle.schedule_theorem.proofs.Promise.{accepted_programs_keep_their_promise}

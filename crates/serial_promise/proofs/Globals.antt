@@ -1,14 +1,13 @@
 -- Memory that was made for a program has its globals' cells.
-use Rattle.std.proofs.Common.{◌≡◌, ◌≢◌, ◌∙◌, ◌⊎◌, inl, inr, ℕ, zero, suc, ◌<◌, List, [], ◌∷◌, map, replicate, Option, Some, None, Bool, true, false, is_some, refl, sym, ap, subst, arith, ℤ, pos}
+use Rattle.std.proofs.Common.{◌≡◌, ◌∙◌, inl, inr, ℕ, zero, suc, ◌<◌, replicate, Option, Some, None, true, is_some, refl, ap, arith, pos}
 use Rattle.std.specs.Prelude.{slice_get}
 use Rattle.std.specs.Option.{option_map}
 use Rattle.std.proofs.lemmas.Bool.Decides.{eqb_tells}
 use Rattle.std.proofs.lemmas.Option.{slice_get-map}
 use Rattle.machine_core.specs.Frames.{global_cells}
 use Rattle.program.specs.declared.function.Global.{Global}
-use Rattle.program.specs.declared.function.Program.{Program}
-use Rattle.store.specs.Cells.{NamedCells, Sets, zeros, cell_in, cell_at}
-use Rattle.serial_promise.specs.Promise.{AreGlobalsOf, GlobalsAreMade, GlobalsAreKept}
+use Rattle.store.specs.Cells.{zeros, cell_in, cell_at}
+use Rattle.serial_promise.specs.Promise.{GlobalsAreMade, GlobalsAreKept}
 
 replicated : {A : Type 0} (n i : ℕ) (a : A) → i < n → is_some (slice_get (replicate n a) i) ≡ true
 replicated zero i a within = absurd (omega (arith, within))

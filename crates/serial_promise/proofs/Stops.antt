@@ -1,6 +1,6 @@
 -- The machine stops nowhere: each frame that a serial run leads to has room for its next step, and the definitions never trap.
-use Rattle.std.proofs.Common.{◌≡◌, ◌∙◌, ◌⊎◌, inl, inr, ℕ, suc, ◌+◌, ◌<◌, ◌≤◌, ◌^◌, List, [], ◌∷◌, length, Option, Some, None, refl, sym, ap, subst, arith, ℤ}
-use Rattle.std.specs.Prelude.{⊤, IsSome, Ok, slice_get}
+use Rattle.std.proofs.Common.{◌≡◌, inl, inr, ℕ, suc, ◌+◌, ◌<◌, ◌^◌, List, [], ◌∷◌, length, Option, Some, None, refl, sym, ap, subst, arith, ℤ}
+use Rattle.std.specs.Prelude.{IsSome, slice_get}
 use Rattle.machine_core.specs.Arithmetic.{Trap}
 use Rattle.machine_core.specs.Cells.{Memory}
 use Rattle.machine_core.specs.Frames as frames
@@ -18,7 +18,7 @@ use Rattle.store.specs.Cells.{NamedCells}
 use Rattle.frame.specs.declared.effect.Effect.{Effect}
 use Rattle.frame.specs.declared.effect.Effect.TheVariants as effect
 use Rattle.frame.specs.declared.frame.Frame.{Frame}
-use Rattle.frame.specs.Asked.{HasRoom, asked}
+use Rattle.frame.specs.Asked.{HasRoom}
 use Rattle.frame.specs.Reading.{frame_of}
 use Rattle.frame.specs.Room.{HasChild, HasNext, FitsPhis}
 use Rattle.room_laws.specs.Cells.{HasAllocaCells, StoresThere}
@@ -35,8 +35,8 @@ use Rattle.schedule_theorem.proofs.Promise.{accepted_programs_keep_their_promise
 use Rattle.schedule_theorem.proofs.Serially.{Found}
 use Rattle.serial_machine.specs.Requirements.{unmet_in}
 use Rattle.serial_machine.specs.Running.{path_on, seen, memory_of, run_of}
-use Rattle.serial_machine.specs.Serially.{cells_of, Stops, StopsAt}
-use Rattle.serial_machine.specs.Stack.{Placed, HasNoStep, IsStuck}
+use Rattle.serial_machine.specs.Serially.{cells_of, StopsAt}
+use Rattle.serial_machine.specs.Stack.{Placed, HasNoStep}
 use Rattle.serial_machine.specs.Stepping.{HasPlacesIn, HasRoomAt, HasSpace, declared_in}
 use Rattle.walk_laws.specs.Laws.{GoesOnTo, IsCounted}
 use Rattle.walk_laws.proofs.Ahead.{walks_go_on}
@@ -139,7 +139,7 @@ module _ (text : List ℕ) (program : Program) (accepted : IsProgramOf text prog
         room = record {
           frame = frame_room;
           space = λ e within is. space_for program f below cells fits e
-          (cells_are_there program (uses_are_sized text program accepted) f below cells s.sound.0 (owned_cells program f below s.placed.0) good.0.0.1 e within is);
+              (cells_are_there program (uses_are_sized text program accepted) f below cells s.sound.0 (owned_cells program f below s.placed.0) good.0.0.1 e within is);
         }
 
         never : ⊥

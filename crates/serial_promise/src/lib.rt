@@ -10,7 +10,6 @@
 
 mod law;
 mod run;
-
 #[cfg(test)]
 mod tests;
 
