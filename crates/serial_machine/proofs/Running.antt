@@ -12,11 +12,15 @@ use Rattle.frame.specs.declared.frame.Frame.{Frame}
 use Rattle.frame.specs.Reading.{above}
 use Rattle.frame.specs.Room.{IsUndefined}
 use Rattle.frame.proofs.Makers.{above_child, above_self}
-use Rattle.serial_machine.specs.Running.{path_on, local_in, object_cell, memory_of, frame_at, held_at}
+use Rattle.serial_machine.specs.Running.{path_on, seen, local_in, object_cell, memory_of, frame_at, held_at}
 
 pub path_long : (frames : List Frame) → length (path_on frames) ≡ length frames
 path_long [] = refl
 path_long (f ∷ below) = ap suc (path_long below)
+
+pub seen_long : (frames : List Frame) → length (seen frames) ≡ length frames
+seen_long [] = refl
+seen_long (f ∷ below) = ap suc (seen_long below)
 
 longer : (p q : Path) → length p < length q → same_path p q ≡ false
 longer p q h = same_path_apart p q (λ e. let n : length p ≡ length q = ap length e in omega (arith, n, h))

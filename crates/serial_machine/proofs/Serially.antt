@@ -25,7 +25,7 @@ use Rattle.serial_machine.specs.declared.stack.Progress.{Progress}
 use Rattle.serial_machine.specs.declared.stack.Progress.TheVariants.{GoesOn, Ended}
 use Rattle.serial_machine.proofs.Performed.{free_wait, stands_free}
 use Rattle.serial_machine.proofs.Places.{root_placed}
-use Rattle.serial_machine.proofs.Running.{memory_pushed, memory_popped}
+use Rattle.serial_machine.proofs.Running.{memory_pushed, memory_popped, seen_long}
 use Rattle.serial_machine.proofs.Walks.{steps_mean}
 
 -- ---- a step
@@ -63,10 +63,6 @@ module _ (prog : Program) (arguments : List ℤ) (memory : List NamedCells) wher
 
   pub started_placed : (f : Frame) (below : List Frame) → below ≡ [] → frame_of [] f ≡ root_frame prog arguments → f.depth ≡ 0 → IsSound f → HasPlaces prog f (max (register_count (slice_get prog.functions prog.main.0)) (length arguments)) → ArePlaced prog (f ∷ reverse below)
   started_placed f below none root depth sound places = subst (λ b. ArePlaced prog (f ∷ reverse b)) (sym none) (root_placed prog f arguments root depth sound places)
-
-  seen_long : (l : List Frame) → length (seen l) ≡ length l
-  seen_long [] = refl
-  seen_long (f ∷ l) = ap suc (seen_long l)
 
   pub walked : (s t : Stack) (n m peak high depth : ℕ) → Walk prog start n peak (run_in s) → Goes prog (run_in s) (run_in t) → m ≡ n + 1 → high ≡ max peak depth → depth ≡ length (below_of t) + 1 → Walk prog start m high (run_in t)
   walked s t n m peak high depth walk goes count most deep =

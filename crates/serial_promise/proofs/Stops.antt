@@ -26,7 +26,7 @@ use Rattle.room_laws.specs.Room.{DoesNotTrap}
 use Rattle.room_laws.proofs.Doable.{frames_have_room}
 use Rattle.room_laws.proofs.Moves.{moves_fit}
 use Rattle.room_laws.proofs.Sizes.{uses_are_sized}
-use Rattle.room_laws.proofs.Space.{cells_are_there}
+use Rattle.room_laws.proofs.Space.{cells_are_there, has_space}
 use Rattle.schedule_theorem.specs.Promise.{AreTaken, KeepsItsPromise}
 use Rattle.schedule_theorem.proofs.Accepted.{IsTaken, is_taken}
 use Rattle.schedule_theorem.proofs.Along.{Along, kept_along, kept_at_root}
@@ -38,16 +38,13 @@ use Rattle.serial_machine.specs.Running.{path_on, seen, memory_of, run_of}
 use Rattle.serial_machine.specs.Serially.{cells_of, StopsAt}
 use Rattle.serial_machine.specs.Stack.{Placed, HasNoStep}
 use Rattle.serial_machine.specs.Stepping.{HasPlacesIn, HasRoomAt, HasSpace, declared_in}
+use Rattle.serial_machine.proofs.Running.{seen_long}
 use Rattle.walk_laws.specs.Laws.{GoesOnTo, IsCounted}
 use Rattle.walk_laws.proofs.Ahead.{walks_go_on}
 use Rattle.walk_laws.proofs.Counted.{walks_count}
 use Rattle.walk_laws.proofs.Kept.{walks_keep}
 use Rattle.serial_promise.specs.Promise.{AreGlobalsOf, RunsNeverStop}
 use Rattle.serial_promise.proofs.Arguments.{are_taken}
-
-seen_long : (l : List Frame) → length (seen l) ≡ length l
-seen_long [] = refl
-seen_long (f ∷ l) = ap suc (seen_long l)
 
 -- an action that is not stuck is no trap
 no_trap : (o : Option Trap) → (IsSome o → ⊥) → o ≡ None
@@ -56,21 +53,6 @@ no_trap (Some t) h = absurd (h refl)
 
 fine_here : (a : running.Action) (below : List Placed) → (HasNoStep a below → ⊥) → (e : running.Effect) → a ≡ Plain e → e.trap ≡ None
 fine_here a below h e is = no_trap e.trap (λ some. h (subst (λ x. HasNoStep x below) (sym is) some))
-
--- the cells that are stored are there, and there is room for the moves of each edge
-space_for : (prog : Program) (f : Frame) (below : List Frame) (globals : List NamedCells) → ((b : ℕ) → FitsPhis f (phis_at prog f.function.0 b)) →
-    (e : Effect) → StoresThere (f ∷ below) globals e → HasSpace prog f below globals e
-space_for prog f below globals fits (effect.Define d v) h = tt
-space_for prog f below globals fits (effect.Load d c) h = tt
-space_for prog f below globals fits (effect.Store c z) h = h
-space_for prog f below globals fits (effect.StoreZeros o n) h = h
-space_for prog f below globals fits (effect.Add c z) h = tt
-space_for prog f below globals fits (effect.Branch b) h = fits b.0
-space_for prog f below globals fits (effect.Detach r b c) h = tt
-space_for prog f below globals fits (effect.Reattach r) h = tt
-space_for prog f below globals fits (effect.Sync r b) h = fits b.0
-space_for prog f below globals fits (effect.Call d g) h = tt
-space_for prog f below globals fits (effect.Return v) h = tt
 
 declared_is : (prog : Program) (o : Option Function) (a : AllocaId) → cells_in prog o (object.Alloca a) ≡ declared_in o a.0
 declared_is prog None a = refl
@@ -138,7 +120,7 @@ module _ (text : List ℕ) (program : Program) (accepted : IsProgramOf text prog
         room : HasRoomAt program f below cells
         room = record {
           frame = frame_room;
-          space = λ e within is. space_for program f below cells fits e
+          space = λ e within is. has_space program f below cells fits e
               (cells_are_there program (uses_are_sized text program accepted) f below cells s.sound.0 (owned_cells program f below s.placed.0) good.0.0.1 e within is);
         }
 
