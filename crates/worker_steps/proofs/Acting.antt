@@ -1,10 +1,10 @@
 -- What is known of the frame in a worker's hand, and the worker's step as the event of the definitions.
-use Rattle.std.proofs.Common.{◌≡◌, ◌≢◌, ℕ, zero, suc, ◌+◌, ◌<◌, ◌≤◌, List, ◌∷◌, ◌++◌, [], length, reverse, Option, Some, None, Bool, true, false, cond, not, ◌&&◌, eqb, eq-eqb, refl, sym, ap, ◌∙◌, subst, arith, max}
+use Rattle.std.proofs.Common.{◌≡◌, ◌≢◌, ℕ, zero, suc, ◌+◌, ◌<◌, ◌≤◌, ◌∷◌, length, reverse, Option, Some, None, Bool, true, false, not, ◌&&◌, eqb, eq-eqb, refl, sym, ap, ◌∙◌, subst, arith}
 use Rattle.std.specs.Prelude.{is_none}
 use Rattle.machine_core.specs.Paths.{Path}
-use Rattle.machine_core.specs.Frames.{Frame, Child, Body, Role, Wait, Free, OnRegion, OnCall, Halted}
-use Rattle.machine_core.specs.Effect.{Action, action_of}
-use Rattle.machine_core.specs.State.{State, Change, apply, may_go, change_of, all_below, childless, outside, none_within}
+use Rattle.machine_core.specs.Frames.{Frame, Child, Body, Role, Wait, OnCall}
+use Rattle.machine_core.specs.Effect.{action_of}
+use Rattle.machine_core.specs.State.{Change, apply, may_go, change_of, all_below, childless, outside, none_within}
 use Rattle.machine_core.specs.Counts.{Counts, count_of, counts_after}
 use Rattle.machine_core.specs.Events as running
 use Rattle.machine_core.proofs.Diamond.{Goes}

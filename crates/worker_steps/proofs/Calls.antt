@@ -1,13 +1,13 @@
 -- A call, a return and the end of a run are the events of the definitions.
-use Rattle.std.proofs.Common.{◌≡◌, ◌≢◌, ℕ, suc, ◌+◌, ◌<◌, ◌^◌, List, [], ◌∷◌, ◌++◌, length, reverse, Option, Some, None, true, ◌⊎◌, inl, inr, refl, sym, ap, ◌∙◌, subst, arith, max, ℤ}
+use Rattle.std.proofs.Common.{◌≡◌, ◌≢◌, ℕ, suc, ◌+◌, ◌<◌, ◌^◌, List, [], ◌∷◌, ◌++◌, length, reverse, Option, Some, None, true, inl, refl, sym, ap, ◌∙◌, subst, arith, max, ℤ}
 use Rattle.std.specs.Prelude.{IsSome}
 use Rattle.std.specs.Vec.{with_item}
 use Rattle.std.specs.Option.{option_map}
 use Rattle.std.proofs.lemmas.List.{reverse-reverse, length-reverse, length-set}
 use Rattle.machine_core.specs.Paths.{Path}
-use Rattle.machine_core.specs.Frames.{Frame, Value, Free, OnCall, Body, item_at, Wait}
-use Rattle.machine_core.specs.Effect.{Action, Call, Return, argument_values, action_of}
-use Rattle.machine_core.specs.State.{State, Change, override, override_result, only, both, apply, called, waiting, resumed, may_go, frame_change, call_change, return_change, end_change, clears, change_of, childless}
+use Rattle.machine_core.specs.Frames.{Frame, Value, OnCall, Body}
+use Rattle.machine_core.specs.Effect.{Action, Call, Return, argument_values}
+use Rattle.machine_core.specs.State.{Change, override, override_result, both, apply, called, waiting, resumed, may_go, call_change, return_change, end_change, change_of, childless}
 use Rattle.machine_core.specs.Counts.{count_in, count_of, counts_after}
 use Rattle.machine_core.specs.Events as running
 use Rattle.machine_core.proofs.Actions.{return_is_body, same_path_itself}
@@ -29,12 +29,11 @@ use Rattle.cactus.specs.ByPath.{named, IsBelow, IsLeaf, GrowsMap, ShrinksMap}
 use Rattle.cactus.specs.Lending.{with_frame}
 use Rattle.worker_steps.specs.declared.activation.Activation.{Activation}
 use Rattle.worker_steps.specs.declared.run.Run.{Run}
-use Rattle.worker_steps.specs.declared.run.Phase.{Phase}
 use Rattle.worker_steps.specs.declared.run.Phase.TheVariants.{Going, Ended}
 use Rattle.worker_steps.specs.Running.{result_of, WaitsForCall, ResumesWith}
 use Rattle.worker_steps.specs.Scheduling.{hand_of, counted_in}
-use Rattle.worker_steps.specs.Seen.{place_of, seen, seen_at, frames_of, memory_of, hands_of, tree_of, CalleeStands, IsFit, CountsStand, Agrees}
-use Rattle.worker_steps.specs.Stepping.{counted, frame_in, IsRun, IsStep, IsTurn, IsOver, next_action}
+use Rattle.worker_steps.specs.Seen.{place_of, seen, seen_at, frames_of, hands_of, tree_of, CalleeStands, IsFit, CountsStand}
+use Rattle.worker_steps.specs.Stepping.{counted, frame_in, IsStep, IsTurn, IsOver, next_action}
 use Rattle.worker_steps.proofs.Views.{frame_seen, hand_seen, reverse_last}
 use Rattle.worker_steps.proofs.PlainSteps.{step_event, free_wait}
 use Rattle.worker_steps.proofs.Performed.{same_frame as same_activation}

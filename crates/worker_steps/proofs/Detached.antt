@@ -1,16 +1,16 @@
 -- A detach is the event of the definitions: the worker begins the child, and the parent is ready at the continuation.
-use Rattle.std.proofs.Common.{◌≡◌, ◌≢◌, ℕ, suc, ◌+◌, ◌<◌, List, [], ◌∷◌, ◌++◌, length, reverse, Option, Some, None, Bool, true, false, cond, eqb, ◌&&◌, inl, inr, refl, sym, ap, ◌∙◌, subst, arith, max}
+use Rattle.std.proofs.Common.{◌≡◌, ◌≢◌, ℕ, suc, ◌+◌, ◌<◌, [], ◌∷◌, ◌++◌, length, reverse, Option, Some, None, cond, eqb, ◌&&◌, inl, inr, refl, sym, ap, ◌∙◌, subst, arith, max}
 use Rattle.std.proofs.lemmas.Bool.Decides.{eqb_tells}
 use Rattle.std.specs.Prelude.{IsSome, ◌^◌}
 use Rattle.std.specs.Vec.{with_item}
 use Rattle.std.proofs.lemmas.List.{length-set, length-reverse, reverse-reverse}
 use Rattle.machine_core.specs.Paths.{Path, same_path}
-use Rattle.machine_core.specs.Frames.{Frame, Wait, Free}
+use Rattle.machine_core.specs.Frames.{Frame}
 use Rattle.machine_core.specs.Effect.{Action, Detach}
 use Rattle.machine_core.specs.State.{Change, override, both, continued, detached, detach_change, apply, change_of}
-use Rattle.machine_core.specs.Counts.{count_in, count_of, counts_after}
+use Rattle.machine_core.specs.Counts.{count_of, counts_after}
 use Rattle.machine_core.specs.Events as running
-use Rattle.machine_core.proofs.Places.{same_path_tells, same_path_apart, no_own_child}
+use Rattle.machine_core.proofs.Places.{same_path_apart, no_own_child}
 use Rattle.machine_core.proofs.Actions.{same_path_itself}
 use Rattle.machine_core.proofs.Steps.{change_is, detach}
 use Rattle.machine_core.proofs.Diamond.{next_free}
@@ -18,7 +18,7 @@ use Rattle.linear.specs.declared.form.RegisterId.{RegisterId}
 use Rattle.program.specs.declared.identifier.BlockId.{BlockId}
 use Rattle.program.specs.declared.function.Program.{Program}
 use Rattle.frame.specs.declared.frame.Wait.TheVariants as wait
-use Rattle.frame.specs.Reading.{frame_of, wait_of}
+use Rattle.frame.specs.Reading.{frame_of}
 use Rattle.frame.specs.declared.frame.Frame.{Frame as FrameOf}
 use Rattle.frame.specs.Room.{HasChild, IsSound, IsUndefined}
 use Rattle.sync_join.specs.declared.count.RegionCount.{RegionCount}
@@ -31,7 +31,7 @@ use Rattle.worker_steps.specs.declared.run.Run.{Run}
 use Rattle.worker_steps.specs.declared.run.Phase.TheVariants.{Going, Ended}
 use Rattle.worker_steps.specs.Scheduling.{count_in as counts_at, counted_in}
 use Rattle.worker_steps.specs.Seen.{place_of, seen, seen_at, frames_of, tree_of, CalleeStands, IsFit, CountsStand, Agrees}
-use Rattle.worker_steps.specs.Stepping.{frame_in, IsStep, IsTurn, next_action, counted}
+use Rattle.worker_steps.specs.Stepping.{frame_in, IsStep, IsTurn, next_action}
 use Rattle.worker_steps.proofs.Views.{reverse_last, same_place}
 use Rattle.worker_steps.proofs.PlainSteps.{step_event, free_wait}
 use Rattle.worker_steps.proofs.Performed.{same_frame}

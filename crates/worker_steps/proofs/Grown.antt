@@ -19,7 +19,7 @@ use Rattle.frame.specs.Reading.{frame_of}
 use Rattle.frame.specs.Room.{IsUndefined}
 use Rattle.cactus.specs.declared.node.Node.{Node}
 use Rattle.cactus.specs.Frames.{Frames, node_at, Lives, AddsChild}
-use Rattle.cactus.specs.ByPath.{named, IsTree, Binds, GrowsMap, child_node}
+use Rattle.cactus.specs.ByPath.{named, Binds, GrowsMap, child_node}
 use Rattle.cactus.specs.Lending.{with_frame}
 use Rattle.cactus.proofs.FramesLemmas.{node_at-with_frame, node_at-with_frame_other}
 use Rattle.cactus.proofs.ByPathLemmas.{written_tree}

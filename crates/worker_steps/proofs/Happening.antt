@@ -1,5 +1,5 @@
 -- Events of a machine are the definitions' events.
-use Rattle.std.proofs.Common.{◌≡◌, ◌≢◌, ℕ, ◌+◌, ◌<◌, ◌≤◌, List, [], ◌∷◌, ◌++◌, length, Option, Some, None, Bool, true, false, cond, ◌⊎◌, inl, inr, refl, sym, ap, ◌∙◌, subst, arith, ltb, is_none, ◌&&◌, map, ℤ}
+use Rattle.std.proofs.Common.{◌≡◌, ℕ, ◌+◌, ◌<◌, ◌≤◌, [], ◌∷◌, length, Option, Some, None, Bool, true, false, cond, refl, sym, ap, ◌∙◌, subst, arith, ltb, is_none, ◌&&◌, ℤ}
 use Rattle.std.specs.Prelude.{IsTrue}
 use Rattle.std.proofs.lemmas.Bool.{ltb-true}
 use Rattle.machine_core.specs.Paths.{Path}
@@ -17,7 +17,7 @@ use Rattle.worker_steps.specs.declared.run.Phase.TheVariants.{Going, Ended, Trap
 use Rattle.worker_steps.specs.Running.{IsGoing, IsTrapped, result_of}
 use Rattle.worker_steps.specs.Scheduling.{hand_of}
 use Rattle.worker_steps.specs.Seen.{place_of, seen, Agrees, StealsIf}
-use Rattle.worker_steps.specs.Stepping.{effected, counted, frame_in, PlainDone, DoesPlain, IsRun, IsStep, IsTurn, IsEvent, IsReached, DoesEvent, StepsAt, next_action}
+use Rattle.worker_steps.specs.Stepping.{counted, frame_in, PlainDone, DoesPlain, IsRun, IsStep, IsTurn, IsEvent, IsReached, DoesEvent, StepsAt, next_action}
 use Rattle.worker_steps.proofs.Views.{node_tells, frame_seen, hand_below}
 use Rattle.worker_steps.proofs.PlainSteps.{plain_event}
 use Rattle.worker_steps.proofs.Steals.{unless}

@@ -6,6 +6,8 @@ pub mod Steals
 pub mod PlainSteps
 pub mod Reached
 pub mod Performed
+pub mod Missing
+pub mod Refusing
 pub mod Acting
 pub mod Synced
 pub mod Grown

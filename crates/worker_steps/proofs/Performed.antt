@@ -7,14 +7,9 @@ use Rattle.std.proofs.lemmas.List.{length-reverse}
 use Rattle.machine_core.specs.Paths.{Path, same_path}
 use Rattle.machine_core.specs.Cells.{Cell, Object, Memory, Shared, Local, same_object, same_cell}
 use Rattle.machine_core.specs.Arithmetic.{cell_sum}
-use Rattle.machine_core.specs.Frames.{Frame, Word, Registers, Value}
-use Rattle.machine_core.specs.Effect.{Effect, Plain, Detach, Reattach, Call, Return, Sync, syncs, action_of, sets, goes_on, loads, stores, adds_to, given, enters, jumps, registers_along}
-use Rattle.machine_core.specs.State.{override, added, only, went, sum_in, may_go}
-use Rattle.machine_core.proofs.Workers.{Manned}
-use Rattle.machine_core.proofs.Diamond.{Goes}
-use Rattle.worker_steps.proofs.Reached.{reached_manned, reached_next}
-use Rattle.worker_steps.specs.declared.run.Phase.TheVariants.{Going, Trapped}
-use Rattle.worker_steps.specs.Scheduling.{hand_of}
+use Rattle.machine_core.specs.Frames.{Frame, Word, Registers}
+use Rattle.machine_core.specs.Effect.{Effect, Plain, action_of, sets, goes_on, loads, stores, adds_to, given, enters, jumps, registers_along}
+use Rattle.machine_core.specs.State.{override, added, only, went, sum_in}
 use Rattle.machine_core.specs.Events as running
 use Rattle.machine_core.proofs.Places.{same_path_tells}
 use Rattle.linear.specs.declared.form.RegisterId.{RegisterId}
@@ -44,8 +39,8 @@ use Rattle.worker_steps.specs.Seen.{place_of, seen, frames_of, memory_of, hands_
 use Rattle.worker_steps.specs.Stepping.{effected, frame_in, PlainDone, DoesPlain, HasNextAt, HoldsAt, OwnerStands, Written, WritesAlloca, one_cell, zeros_below, StoresAt, IsDoable, CanDoAt, Performs, StepsAt}
 use Rattle.worker_steps.proofs.Counting.{StaysInTree}
 use Rattle.worker_steps.proofs.Lowest.{not_there, owner_lives, owner_there}
-use Rattle.worker_steps.proofs.Views.{named_written, named_at_place, hands_stay, node_tells, hand_seen, hand_below, frame_seen}
-use Rattle.worker_steps.proofs.PlainSteps.{plain_event, Quiet, went_done, agrees_written, above_place, shared_written}
+use Rattle.worker_steps.proofs.Views.{named_written, named_at_place, hands_stay}
+use Rattle.worker_steps.proofs.PlainSteps.{Quiet, went_done, agrees_written, above_place, shared_written}
 
 pub same_frame : (frames : Frames Activation) (slot : ℕ) (node : Node Activation) (a : Activation) → node_at frames slot ≡ Some node → frame_at frames slot ≡ Some a → node.frame ≡ a
 same_frame frames slot node a stands stood = let e : Some node.frame ≡ Some a = sym (ap (option_map (λ (n : Node Activation). n.frame)) stands) ∙ stood in cc

@@ -1,15 +1,15 @@
 -- A reattach is the event of the definitions: the child ends, and its worker goes on with the parent or is idle.
-use Rattle.std.proofs.Common.{ℤ, ◌≡◌, ◌≢◌, ℕ, suc, ◌+◌, ◌-◌, ◌<◌, List, [], ◌∷◌, ◌++◌, length, reverse, Option, Some, None, Bool, true, false, cond, eqb, eq-eqb, eqb-true, ◌&&◌, ◌⊎◌, inl, inr, refl, sym, ap, ◌∙◌, subst, arith, max, slice_set}
+use Rattle.std.proofs.Common.{ℤ, ◌≡◌, ◌≢◌, ℕ, suc, ◌+◌, ◌-◌, ◌<◌, List, [], ◌∷◌, ◌++◌, length, reverse, Option, Some, None, Bool, true, false, cond, eqb, eq-eqb, ◌&&◌, ◌⊎◌, inl, inr, refl, sym, ap, ◌∙◌, subst, arith, max}
 use Rattle.std.specs.Prelude.{slice_get, map, IsSome, ◌↔◌}
 use Rattle.std.specs.Vec.{with_item}
 use Rattle.std.proofs.lemmas.Bool.Decides.{eqb_tells}
-use Rattle.std.proofs.lemmas.List.{length-set, length-append, reverse-reverse}
+use Rattle.std.proofs.lemmas.List.{length-set, length-append}
 use Rattle.machine_core.specs.Paths.{Path, same_path}
 use Rattle.machine_core.specs.Cells.{Cell}
-use Rattle.machine_core.specs.Frames.{Frame, Wait, Free, OnRegion, OnCall, Halted, Child, Body}
+use Rattle.machine_core.specs.Frames.{Frame, Wait, Child, Body}
 use Rattle.machine_core.specs.Effect.{Action, Reattach}
-use Rattle.machine_core.specs.State.{Change, State, override, only, both, reattach_change, apply, change_of, none_within}
-use Rattle.machine_core.specs.Counts.{count_of, counts_after, left_by, changed_at, one_less}
+use Rattle.machine_core.specs.State.{Change, override, only, both, reattach_change, apply, change_of, none_within}
+use Rattle.machine_core.specs.Counts.{count_of, counts_after, left_by, one_less}
 use Rattle.machine_core.specs.Events as running
 use Rattle.machine_core.proofs.Places.{same_path_tells, same_path_apart}
 use Rattle.machine_core.proofs.Actions.{same_path_itself, reattach_is_child}
@@ -22,9 +22,8 @@ use Rattle.frame.specs.declared.frame.Wait.{Wait as Waits}
 use Rattle.frame.specs.declared.frame.Wait.TheVariants as wait
 use Rattle.frame.specs.declared.frame.Role.{Role as RoleOf}
 use Rattle.frame.specs.declared.frame.Role.TheVariants as role
-use Rattle.frame.specs.declared.path.Path.{Path as Name}
 use Rattle.frame.specs.Reading.{frame_of, role_of, wait_of}
-use Rattle.frame.specs.Room.{IsSound, HoldsAllocas, alloca_in, cells_in}
+use Rattle.frame.specs.Room.{HoldsAllocas, alloca_in, cells_in}
 use Rattle.sync_join.specs.declared.count.RegionCount.{RegionCount}
 use Rattle.sync_join.specs.declared.count.Parent.{Parent}
 use Rattle.sync_join.specs.declared.count.Parent.TheVariants.{Ready, Stalled}
@@ -40,15 +39,15 @@ use Rattle.worker_steps.specs.declared.run.Run.{Run}
 use Rattle.worker_steps.specs.declared.run.Phase.TheVariants.{Going, Ended}
 use Rattle.worker_steps.specs.Scheduling.{count_in, counted_in, standing_by, standing_of, TakesParent}
 use Rattle.worker_steps.specs.Seen.{place_of, seen, frames_of, memory_of, tree_of, CalleeStands, IsFit, CountsStand, Agrees, run_by, run_at, taken}
-use Rattle.worker_steps.specs.Stepping.{frame_in, IsStep, IsTurn, next_action, counted}
+use Rattle.worker_steps.specs.Stepping.{frame_in, IsStep, IsTurn, next_action}
 use Rattle.worker_steps.proofs.Views.{reverse_last, same_place, frame_seen, memory_stays}
 use Rattle.worker_steps.proofs.Steals.{holder_is}
 use Rattle.worker_steps.proofs.Moves.{taken_goes_on}
 use Rattle.worker_steps.proofs.Counting.{count_alike, picked, passed_over, both_tests, second_fails}
 use Rattle.worker_steps.proofs.Performed.{same_frame}
 use Rattle.worker_steps.proofs.Synced.{frame_twice}
-use Rattle.worker_steps.proofs.Acting.{changed, within, man, held, there, may, event_is, counts_follow, is_childless, is_leaf}
-use Rattle.worker_steps.proofs.Shrunk.{resumed_frames, above_then, frames_resumed, memory_kept, hands_then, hands_resumed, hands_left, counts_resumed, Lands, agrees_resumed}
+use Rattle.worker_steps.proofs.Acting.{changed, within, man, there, may, event_is, counts_follow, is_childless, is_leaf}
+use Rattle.worker_steps.proofs.Shrunk.{resumed_frames, above_then, frames_resumed, memory_kept, hands_resumed, hands_left, counts_resumed, Lands, agrees_resumed}
 
 none_in : {X : Type 0} (g : X → List (Option ℤ)) (l : List X) (n i : ℕ) → length l ≡ 0 → cells_in (slice_get (map g l) n) i ≡ None
 none_in g [] n i empty = refl

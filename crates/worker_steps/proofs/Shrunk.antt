@@ -1,8 +1,7 @@
 -- A frame without children goes, and its worker goes on with the frame above or is idle.
-use Rattle.std.proofs.Common.{◌≡◌, ◌≢◌, ◌↔◌, ℕ, zero, suc, ◌+◌, ◌<◌, List, [], ◌∷◌, ◌++◌, length, reverse, Option, Some, None, Bool, true, false, cond, ◌&&◌, is_none, ◌⊎◌, inl, inr, refl, sym, ap, ◌∙◌, subst, arith, max, eqb, slice_set, ℤ}
+use Rattle.std.proofs.Common.{◌≡◌, ◌≢◌, ◌↔◌, ℕ, zero, suc, ◌+◌, ◌<◌, List, [], ◌∷◌, ◌++◌, length, reverse, Option, Some, None, Bool, true, false, cond, ◌&&◌, is_none, ◌⊎◌, inl, inr, refl, sym, ap, ◌∙◌, subst, arith, eqb, slice_set}
 use Rattle.std.specs.Prelude.{option_and_then}
 use Rattle.std.specs.Option.{option_map}
-use Rattle.std.specs.Vec.{with_item}
 use Rattle.std.proofs.lemmas.Bool.Decides.{eqb_tells}
 use Rattle.std.proofs.lemmas.List.{reverse-reverse, get_or-set_same, get_or-set_other, length-append}
 use Rattle.machine_core.specs.Paths.{Path, same_path}
@@ -27,11 +26,9 @@ use Rattle.cactus.specs.Lending.{with_frame}
 use Rattle.cactus.proofs.FramesLemmas.{node_at-with_frame, node_at-with_frame_other}
 use Rattle.cactus.proofs.ByPathLemmas.{named_is, written_tree}
 use Rattle.worker_steps.specs.declared.activation.Activation.{Activation}
-use Rattle.worker_steps.specs.declared.run.Run.{Run}
-use Rattle.worker_steps.specs.Running.{result_of}
 use Rattle.machine_core.specs.Counts.{count_of}
 use Rattle.worker_steps.specs.Scheduling.{hand_of, counted_in}
-use Rattle.worker_steps.specs.Seen.{place_of, seen, seen_at, frames_of, tree_of, alloca_cell, held_in, memory_of, hands_of, CalleeStands, IsFit, CountsStand, Agrees}
+use Rattle.worker_steps.specs.Seen.{place_of, seen_at, frames_of, tree_of, alloca_cell, held_in, memory_of, hands_of, CalleeStands, IsFit, CountsStand, Agrees}
 use Rattle.worker_steps.proofs.Views.{node_tells, reverse_last, frame_seen, frames_written, memory_stays}
 use Rattle.worker_steps.proofs.Grown.{slot_tells, eqb_itself}
 

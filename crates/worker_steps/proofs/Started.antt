@@ -1,17 +1,15 @@
 -- A machine before its first event is the definitions' start.
-use Rattle.std.proofs.Common.{◌≡◌, ◌≢◌, ◌↔◌, ℕ, zero, suc, ◌<◌, ◌≤◌, List, [], ◌∷◌, ◌++◌, length, reverse, Option, Some, None, cond, eqb, ◌⊎◌, inl, inr, refl, sym, ap, ◌∙◌, subst, arith, ℤ, slice_set, replicate, get_or}
-use Rattle.std.specs.Prelude.{IsSomeAnd, option_and_then}
-use Rattle.std.specs.Option.{option_map}
+use Rattle.std.proofs.Common.{◌≡◌, ◌≢◌, ℕ, zero, suc, ◌<◌, ◌≤◌, List, [], ◌∷◌, length, reverse, Option, Some, None, cond, eqb, inl, inr, refl, sym, ap, ◌∙◌, subst, arith, ℤ, slice_set, replicate, get_or}
+use Rattle.std.specs.Prelude.{IsSomeAnd}
 use Rattle.std.proofs.lemmas.Bool.Decides.{eqb_tells}
 use Rattle.std.proofs.lemmas.List.{reverse-reverse, get_or-set_same, get_or-set_other, length-set, length-replicate}
 use Rattle.machine_core.specs.Paths.{Path, same_path}
 use Rattle.machine_core.specs.Cells.{Cell, Object, Shared, Local, globals_of}
 use Rattle.machine_core.specs.Frames.{Frame}
-use Rattle.machine_core.specs.State.{root_frame, children_within}
+use Rattle.machine_core.specs.State.{root_frame}
 use Rattle.machine_core.specs.Counts.{count_in, count_of}
 use Rattle.machine_core.specs.Events as running
 use Rattle.program.specs.declared.function.Program.{Program}
-use Rattle.store.specs.Cells.{NamedCells}
 use Rattle.frame.specs.declared.frame.Frame.{Frame as FrameOf}
 use Rattle.frame.specs.declared.frame.Wait.TheVariants as wait
 use Rattle.frame.specs.Reading.{frame_of}
@@ -25,8 +23,8 @@ use Rattle.worker_steps.specs.declared.run.Run.{Run}
 use Rattle.worker_steps.specs.declared.run.Phase.TheVariants.{Going, Ended, Trapped}
 use Rattle.worker_steps.specs.Running.{IsGoing, result_of}
 use Rattle.worker_steps.specs.Scheduling.{hand_of, counted_in}
-use Rattle.worker_steps.specs.Seen.{place_of, seen, seen_at, frames_of, alloca_cell, held_in, memory_of, hands_of, tree_of, given, CalleeStands, IsFit, CountsStand, Agrees}
-use Rattle.worker_steps.specs.Stepping.{IsRun, StartsAs}
+use Rattle.worker_steps.specs.Seen.{place_of, seen, seen_at, frames_of, alloca_cell, held_in, memory_of, hands_of, tree_of, given, CalleeStands, IsFit, Agrees}
+use Rattle.worker_steps.specs.Stepping.{StartsAs}
 use Rattle.worker_steps.proofs.PlainSteps.{free_wait}
 
 no_item : (s : ℕ) → get_or {A = Option (Node Activation)} [] s None ≡ None

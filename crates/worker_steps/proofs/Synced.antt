@@ -1,5 +1,5 @@
 -- A sync is the event of the definitions: it passes where no child of the region is left, and else the task stalls.
-use Rattle.std.proofs.Common.{◌≡◌, ◌≢◌, ◌↔◌, ℕ, zero, suc, ◌<◌, List, [], ◌∷◌, length, Option, Some, None, Bool, true, false, cond, ◌⊎◌, inl, inr, eqb, refl, sym, ap, ◌∙◌, subst, arith, max, slice_set}
+use Rattle.std.proofs.Common.{◌≡◌, ◌≢◌, ◌↔◌, ℕ, zero, suc, ◌<◌, List, [], ◌∷◌, length, Option, Some, None, Bool, true, false, cond, ◌⊎◌, inl, inr, refl, sym, ap, ◌∙◌, subst, arith, max, slice_set}
 use Rattle.std.specs.Option.{option_map}
 use Rattle.std.specs.Prelude.{option_and_then}
 use Rattle.std.specs.Vec.{with_item}
@@ -8,8 +8,7 @@ use Rattle.std.proofs.lemmas.List.{get_or-set_same, get_or-set_other, length-set
 use Rattle.machine_core.specs.Paths.{Path}
 use Rattle.machine_core.specs.Frames.{Frame, Registers, OnRegion}
 use Rattle.machine_core.specs.Effect.{Sync, syncs, enters, registers_along}
-use Rattle.machine_core.specs.State.{Change, override, only, went, synced, sync_change, apply, change_of, none_within}
-use Rattle.machine_core.specs.Counts.{count_of}
+use Rattle.machine_core.specs.State.{Change, went, synced, sync_change, apply, change_of, none_within}
 use Rattle.machine_core.specs.Events as running
 use Rattle.machine_core.proofs.Steps.{change_is, sync}
 use Rattle.machine_core.proofs.ChildCounts.{none_counted, counted_none, count_at}
@@ -21,7 +20,7 @@ use Rattle.frame.specs.declared.frame.Wait.TheVariants as wait
 use Rattle.frame.specs.Reading.{frame_of}
 use Rattle.frame.specs.Room.{IsSound, Entered, IsEntered}
 use Rattle.cactus.specs.declared.node.Node.{Node}
-use Rattle.cactus.specs.Frames.{Frames, node_at, frame_at, Lives}
+use Rattle.cactus.specs.Frames.{Frames, node_at, Lives}
 use Rattle.cactus.specs.Lending.{with_frame, written}
 use Rattle.cactus.proofs.FramesLemmas.{node_at-with_frame, frame_at-with_frame}
 use Rattle.cactus.proofs.ByPathLemmas.{written_tree}
@@ -29,8 +28,8 @@ use Rattle.worker_steps.specs.declared.activation.Activation.{Activation}
 use Rattle.worker_steps.specs.declared.run.Run.{Run}
 use Rattle.worker_steps.specs.declared.run.Phase.TheVariants.{Going, Ended}
 use Rattle.worker_steps.specs.Scheduling.{hand_of, counted_in, living_within}
-use Rattle.worker_steps.specs.Seen.{place_of, seen, frames_of, hands_of, CalleeStands, IsFit, Agrees}
-use Rattle.worker_steps.specs.Stepping.{frame_in, IsStep, IsTurn, next_action, Performs, counted}
+use Rattle.worker_steps.specs.Seen.{place_of, seen, hands_of, CalleeStands, IsFit, Agrees}
+use Rattle.worker_steps.specs.Stepping.{frame_in, IsStep, IsTurn, next_action}
 use Rattle.worker_steps.specs.Forking.{Enters, changed_in, with_change}
 use Rattle.worker_steps.proofs.Counting.{StaysInTree, counts_stand}
 use Rattle.worker_steps.proofs.Views.{hands_stay}

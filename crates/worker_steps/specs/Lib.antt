@@ -4,3 +4,4 @@ pub mod Running
 pub mod Seen
 pub mod Stepping
 pub mod Forking
+pub mod Stopping

@@ -1,5 +1,5 @@
 -- What a step of a frame does to a machine, as the definitions say it.
-use Rattle.std.specs.Prelude.{◌≡◌, ℕ, ◌+◌, ◌≤◌, List, [], length, Option, Some, None, Ok, Bool, cond, nat_lt, ◌&&◌, IsSome, ℤ, pos, map}
+use Rattle.std.specs.Prelude.{◌≡◌, ℕ, ◌+◌, ◌≤◌, List, [], length, Option, Some, None, Ok, Bool, cond, nat_lt, ◌&&◌, IsSome, ℤ, pos}
 use Rattle.machine_core.specs.Paths.{Path}
 use Rattle.machine_core.specs.Cells.{Cell, Object, Memory, same_cell, same_object}
 use Rattle.machine_core.specs.Frames.{Frame}

@@ -1,18 +1,22 @@
-ghost use Rattle.std.specs.Prelude.{ℕ, Some, ◌≡◌, ◌≢◌, ◌+◌, ◌^◌, ◌<◌, IsTrue, None, OnOk, max, vec_len};
+ghost use Rattle.std.specs.Prelude.{ℕ, Some, ◌≡◌, ◌≢◌, ◌+◌, ◌^◌, ◌<◌, IsTrue, None, OnErr, OnOk, max, vec_len};
 ghost use Rattle.std.specs.Vec.{with_item};
 ghost use Rattle.worker_steps.specs.Scheduling.{hand_of, BeginsChild, EndsChild, GoesOnWith, StallsAt, living_within, waits_at};
+ghost use Rattle.worker_steps.specs.Running.{IsGoing, IsTrapped};
 ghost use Rattle.worker_steps.specs.Seen.{taken};
 ghost use Rattle.machine_core.specs.Effect.{jumps};
-ghost use Rattle.cactus.specs.Frames.{Lives};
+ghost use Rattle.cactus.specs.Frames.{Lives, frame_at};
 ghost use Rattle.worker_steps.specs.Stepping.{CanDoAt, DoesPlain, HasEdge, Performs, ReturnsTo};
 ghost use Rattle.worker_steps.specs.Forking.{Enters, with_change};
+ghost use Rattle.worker_steps.specs.Stopping.{HasRoomBelow, Refuses};
+ghost use Rattle.frame.specs.declared.effect.Effect.TheVariants as effect;
+ghost use Rattle.frame.specs.declared.effect.Trap.{Trap};
 ghost use Rattle.frame.specs.declared.frame.Wait.TheVariants.{Region};
 ghost use Rattle.linear.specs.declared.form.RegisterId.{RegisterId};
 
 use crate::activation::Activation;
 use crate::halt::Halt;
 use crate::run::{Phase, Run};
-use frame::{Effect, Frame, Trap};
+use frame::{Frame, Trap};
 use program::{BlockId, FunctionId, RegisterId};
 use sync_join::{Outcome, Passage};
 
@@ -20,31 +24,12 @@ use sync_join::{Outcome, Passage};
 const MOST_FRAMES: u64 = 0x7fff_ffff_ffff_ffff;
 
 impl Run<'_> {
-    /// Does what moves the run from block to block, or from frame to frame.
-    pub(crate) fn control(&mut self, worker: u8, top: usize, effect: Effect) -> Result<(), Halt>
-        requires { worker < vec_len self.old.hands }
-        ensures refused { result ≡ Err Halt.OutOfMemory → self.new ≡ self.old }
-        ensures step { OnOk result (CanDoAt self.old.cactus top effect → Performs self.old.verified.now self.old self.new worker top effect) }
-    {
-        match effect {
-            Effect::Detach {
-                region,
-                body,
-                continuation,
-            } => self.detach(worker, top, region, body, continuation),
-            Effect::Reattach { region } => Ok(self.reattach(worker, top, region)?),
-            Effect::Sync { region, target } => Ok(self.sync(worker, top, region, target)?),
-            Effect::Call { register, callee } => self.call(worker, top, register, callee),
-            Effect::Return { value } => Ok(self.return_with(worker, top, value)?),
-            _ => Err(Halt::Trapped(Trap::Unmatched)),
-        }
-    }
-
     /// The frame goes along the edge to the block.
     pub(crate) fn enter(&mut self, slot: usize, target: BlockId) -> Result<(), Trap>
         ensures kept { self.new ≡ record self.old { cactus = self.new.cactus } }
         ensures enters { OnOk result (Enters self.old.verified.now self.old self.new slot target.0) }
         ensures jumps { OnOk result (DoesPlain self.old self.new slot (λ p f. jumps self.old.verified.now f target.0)) }
+        ensures stopped { OnErr result (Refuses self.old.verified.now self.old slot (effect.Branch target)) }
     {
         let program = self.program();
         match self.cactus.frame_mut(slot) {
@@ -65,12 +50,13 @@ impl Run<'_> {
     fn has_room(&self, depth: usize) -> bool
         ensures frames { IsTrue result → self.now.cactus.made + 1 < 2 ^ 63 }
         ensures depth { IsTrue result → depth + 2 < 2 ^ 64 }
+        ensures exact { HasRoomBelow self.now.cactus depth → IsTrue result }
     {
         self.cactus.frames_made() < MOST_FRAMES && (depth as u64) < MOST_FRAMES
     }
 
     /// The worker begins the child; the parent is ready at the continuation (Tapir, "detach").
-    fn detach(
+    pub(crate) fn detach(
         &mut self,
         worker: u8,
         slot: usize,
@@ -81,7 +67,9 @@ impl Run<'_> {
         requires { worker < vec_len self.old.hands }
         ensures refused { result ≡ Err Halt.OutOfMemory → self.new ≡ self.old }
         ensures child_first { OnOk result (BeginsChild self.old.cactus self.new.cactus self.new.hands.items worker slot) }
-        ensures detaches { OnOk result (CanDoAt self.old.cactus slot (Effect.Detach region body continuation) → Performs self.old.verified.now self.old self.new worker slot (Effect.Detach region body continuation)) }
+        ensures stopped { (trap : Trap) → result ≡ Err (Halt.Trapped trap) → Refuses self.old.verified.now self.old slot (effect.Detach region body continuation) }
+        ensures phase { self.new.phase ≡ self.old.phase }
+        ensures detaches { OnOk result (CanDoAt self.old.cactus slot (effect.Detach region body continuation) → Performs self.old.verified.now self.old self.new worker slot (effect.Detach region body continuation)) }
     {
         let parent = self.activation(slot)?;
         let mut count = parent.count(region)?;
@@ -105,10 +93,17 @@ impl Run<'_> {
 
     /// The child ends. The worker goes on with the parent where no thief took it since, or where the parent waited for
     /// this child alone (Tapir, "reattach").
-    fn reattach(&mut self, worker: u8, slot: usize, region: RegisterId) -> Result<(), Trap>
+    pub(crate) fn reattach(
+        &mut self,
+        worker: u8,
+        slot: usize,
+        region: RegisterId,
+    ) -> Result<(), Trap>
         requires { worker < vec_len self.old.hands }
         ensures ends { OnOk result (EndsChild self.old.cactus self.new.cactus self.new.hands.items worker slot region.0) }
-        ensures reattaches { OnOk result (Performs self.old.verified.now self.old self.new worker slot (Effect.Reattach region)) }
+        ensures stopped { OnErr result (Refuses self.old.verified.now self.old slot (effect.Reattach region)) }
+        ensures phase { self.new.phase ≡ self.old.phase }
+        ensures reattaches { OnOk result (Performs self.old.verified.now self.old self.new worker slot (effect.Reattach region)) }
     {
         let Some(node) = self.cactus.node(slot) else {
             return Err(Trap::Unmatched);
@@ -143,6 +138,8 @@ impl Run<'_> {
         ensures takes { OnOk result (outcome ≢ Outcome.Leave → self.new ≡ taken self.old worker parent) }
         ensures left { OnOk result (outcome ≡ Outcome.Leave
             → self.new ≡ record self.old { hands = with_item self.old.hands worker None }) }
+        ensures lost { OnErr result (frame_at self.old.cactus parent ≡ None) }
+        ensures phase { self.new.phase ≡ self.old.phase }
     {
         match outcome {
             Outcome::ResumeReady | Outcome::ResumeStalled => self.resume(worker, parent),
@@ -158,6 +155,8 @@ impl Run<'_> {
         requires { worker < vec_len self.old.hands }
         ensures runs { OnOk result (GoesOnWith self.new.cactus self.new.hands.items worker slot) }
         ensures becomes { OnOk result (self.new ≡ taken self.old worker slot) }
+        ensures lost { OnErr result (frame_at self.old.cactus slot ≡ None) }
+        ensures phase { self.new.phase ≡ self.old.phase }
     {
         match self.cactus.frame_mut(slot) {
             Some(top) => top.run_by(worker),
@@ -168,7 +167,7 @@ impl Run<'_> {
     }
 
     /// The frame goes on at the sync's target, once none of its children within the region lives (Tapir, "sync").
-    fn sync(
+    pub(crate) fn sync(
         &mut self,
         worker: u8,
         slot: usize,
@@ -181,7 +180,9 @@ impl Run<'_> {
         ensures stalls { OnOk result (0 < living_within self.old.cactus slot region.0
             → StallsAt self.new.cactus self.new.hands.items worker slot region) }
         ensures edge { OnOk result (HasEdge self.old.verified.now self.old slot target.0) }
-        ensures syncs { OnOk result (Performs self.old.verified.now self.old self.new worker slot (Effect.Sync region target)) }
+        ensures stopped { OnErr result (Refuses self.old.verified.now self.old slot (effect.Sync region target)) }
+        ensures phase { self.new.phase ≡ self.old.phase }
+        ensures syncs { OnOk result (Performs self.old.verified.now self.old self.new worker slot (effect.Sync region target)) }
     {
         let top = self.activation(slot)?;
         let passage = top.count(region)?.at_sync();
@@ -199,6 +200,7 @@ impl Run<'_> {
         ensures kept { self.new ≡ record self.old { cactus = self.new.cactus } }
         ensures waits { OnOk result (waits_at self.new.cactus slot ≡ Some (Region region)) }
         ensures becomes { OnOk result (self.new ≡ with_change self.old slot (λ a. record a { frame = record a.frame { waits = Region region } })) }
+        ensures lost { OnErr result (frame_at self.old.cactus slot ≡ None) }
     {
         match self.cactus.frame_mut(slot) {
             Some(top) => top.wait_for_children(region),
@@ -213,6 +215,8 @@ impl Run<'_> {
         ensures stalls { (region : RegisterId) → waits_at self.old.cactus slot ≡ Some (Region region)
             → OnOk result (StallsAt self.new.cactus self.new.hands.items worker slot region) }
         ensures becomes { OnOk result (self.new ≡ record (with_change self.old slot (λ a. record a { runner = None; stalled_in = Some block })) { hands = with_item self.old.hands worker None }) }
+        ensures lost { OnErr result (frame_at self.old.cactus slot ≡ None) }
+        ensures phase { self.new.phase ≡ self.old.phase }
     {
         match self.cactus.frame_mut(slot) {
             Some(top) => top.stall(block),
@@ -223,7 +227,7 @@ impl Run<'_> {
     }
 
     /// The callee's frame runs on top of the same task.
-    fn call(
+    pub(crate) fn call(
         &mut self,
         worker: u8,
         slot: usize,
@@ -231,8 +235,10 @@ impl Run<'_> {
         callee: FunctionId,
     ) -> Result<(), Halt>
         requires { worker < vec_len self.old.hands }
-        ensures calls { OnOk result (CanDoAt self.old.cactus slot (Effect.Call register callee) → Performs self.old.verified.now self.old self.new worker slot (Effect.Call register callee)) }
+        ensures calls { OnOk result (CanDoAt self.old.cactus slot (effect.Call register callee) → Performs self.old.verified.now self.old self.new worker slot (effect.Call register callee)) }
         ensures refused { result ≡ Err Halt.OutOfMemory → self.new ≡ self.old }
+        ensures stopped { (trap : Trap) → result ≡ Err (Halt.Trapped trap) → Refuses self.old.verified.now self.old slot (effect.Call register callee) }
+        ensures phase { self.new.phase ≡ self.old.phase }
     {
         let program = self.program();
         let caller = &self.activation(slot)?.frame;
@@ -254,9 +260,16 @@ impl Run<'_> {
     }
 
     /// The function ends; its caller goes on with the result, or the run ends with it.
-    fn return_with(&mut self, worker: u8, slot: usize, value: Option<i64>) -> Result<(), Trap>
+    pub(crate) fn return_with(
+        &mut self,
+        worker: u8,
+        slot: usize,
+        value: Option<i64>,
+    ) -> Result<(), Trap>
         requires { worker < vec_len self.old.hands }
-        ensures { OnOk result (Performs self.old.verified.now self.old self.new worker slot (Effect.Return value)) }
+        ensures returns { OnOk result (Performs self.old.verified.now self.old self.new worker slot (effect.Return value)) }
+        ensures stopped { OnErr result (Refuses self.old.verified.now self.old slot (effect.Return value)) }
+        ensures going { IsGoing self.old → ¬ IsTrapped self.new }
     {
         let Some(node) = self.cactus.node(slot) else {
             return Err(Trap::Unmatched);
@@ -284,7 +297,9 @@ impl Run<'_> {
     ) -> Result<(), Trap>
         requires worker { worker < vec_len self.old.hands }
         requires lives { Lives self.old.cactus slot }
-        ensures { OnOk result (ReturnsTo self.old.verified.now self.old self.new worker slot (Some caller) value) }
+        ensures returns { OnOk result (ReturnsTo self.old.verified.now self.old self.new worker slot (Some caller) value) }
+        ensures lost { OnErr result (caller ≢ slot → frame_at self.old.cactus caller ≡ None) }
+        ensures phase { self.new.phase ≡ self.old.phase }
     {
         let _callee = self.cactus.pop_call(slot);
         match self.cactus.frame_mut(caller) {
@@ -299,7 +314,8 @@ impl Run<'_> {
     fn end_with(&mut self, worker: u8, slot: usize, number: i64)
         requires worker { worker < vec_len self.old.hands }
         requires lives { Lives self.old.cactus slot }
-        ensures { ReturnsTo self.old.verified.now self.old self.new worker slot None (Some number) }
+        ensures returns { ReturnsTo self.old.verified.now self.old self.new worker slot None (Some number) }
+        ensures sound { ¬ IsTrapped self.new }
     {
         let _root = self.cactus.pop_call(slot);
         self.set_hand(worker, None);

@@ -1,10 +1,16 @@
-ghost use Rattle.std.specs.Prelude.{◌≡◌, ◌<◌, Some, None, vec_len, IfOk, IfNone, IfSome, OnOk};
-ghost use Rattle.std.specs.Bool.{OnTrue};
+ghost use Rattle.std.specs.Prelude.{◌≡◌, ◌<◌, Some, None, vec_len, IfOk, IfNone, IfSome, OnErr, OnOk};
+ghost use Rattle.std.specs.Bool.{OnFalse, OnTrue};
 ghost use Rattle.machine_core.specs.Arithmetic.{cell_sum};
 ghost use Rattle.machine_core.specs.Effect.{sets, goes_on, loads, stores, stores_zeros, adds_to};
 ghost use Rattle.frame.specs.Reading.{cell_of, object_of, value_of};
+ghost use Rattle.frame.specs.Room.{HasCell};
+ghost use Rattle.frame.specs.declared.effect.Trap.{Trap};
+ghost use Rattle.cactus.specs.Frames.{frame_at};
+ghost use Rattle.worker_steps.specs.declared.activation.Activation.{Activation};
+ghost use Rattle.worker_steps.specs.Running.{IsGoing, IsTrapped};
 ghost use Rattle.worker_steps.specs.Seen.{seen};
 ghost use Rattle.worker_steps.specs.Stepping.{CanDoAt, DoesPlain, HasNextAt, HoldsAt, OwnerStands, Performs, StepsAt, StoresAt, WritesAlloca};
+ghost use Rattle.worker_steps.specs.Stopping.{HaltsAt, KeepsCells, Refuses};
 
 use crate::halt::Halt;
 use crate::run::Run;
@@ -24,6 +30,8 @@ impl Run<'_> {
         requires { worker < vec_len self.old.hands }
         ensures refused { result ≡ Err Halt.OutOfMemory → self.new ≡ self.old }
         ensures step { OnOk result (StepsAt self.old.verified.now self.old self.new worker top) }
+        ensures stopped { (trap : Trap) → result ≡ Err (Halt.Trapped trap) → HaltsAt self.old.verified.now self.old top }
+        ensures going { IsGoing self.old → ¬ IsTrapped self.new }
     {
         let effect = next_effect(self.program(), &self.activation(top)?.frame)?;
         self.perform(worker, top, effect)
@@ -34,6 +42,8 @@ impl Run<'_> {
         requires { worker < vec_len self.old.hands }
         ensures refused { result ≡ Err Halt.OutOfMemory → self.new ≡ self.old }
         ensures step { OnOk result (CanDoAt self.old.cactus top effect → Performs self.old.verified.now self.old self.new worker top effect) }
+        ensures stopped { (trap : Trap) → result ≡ Err (Halt.Trapped trap) → Refuses self.old.verified.now self.old top effect }
+        ensures going { IsGoing self.old → ¬ IsTrapped self.new }
     {
         match effect {
             Effect::Define { register, value } => Ok(self.define(top, register, value)?),
@@ -42,14 +52,24 @@ impl Run<'_> {
             Effect::StoreZeros { object, cells } => Ok(self.store_zeros(top, object, cells)?),
             Effect::Add { cell, number } => Ok(self.add_to(top, cell, number)?),
             Effect::Branch { target } => Ok(self.enter(top, target)?),
-            control => self.control(worker, top, control),
+            Effect::Detach {
+                region,
+                body,
+                continuation,
+            } => self.detach(worker, top, region, body, continuation),
+            Effect::Reattach { region } => Ok(self.reattach(worker, top, region)?),
+            Effect::Sync { region, target } => Ok(self.sync(worker, top, region, target)?),
+            Effect::Call { register, callee } => self.call(worker, top, register, callee),
+            Effect::Return { value } => Ok(self.return_with(worker, top, value)?),
         }
     }
 
     /// The frame goes on behind an instruction that defines the register.
     fn define(&mut self, slot: usize, register: RegisterId, value: Value) -> Result<(), Trap>
-        ensures { OnOk result (CanDoAt self.old.cactus slot (Effect.Define register value)
+        ensures defines { OnOk result (CanDoAt self.old.cactus slot (Effect.Define register value)
             → DoesPlain self.old self.new slot (λ p f. sets f register (value_of p value))) }
+        ensures lost { OnErr result (frame_at self.old.cactus slot ≡ None) }
+        ensures phase { self.new.phase ≡ self.old.phase }
     {
         match self.cactus.frame_mut(slot) {
             Some(activation) => activation.frame.define(register, value),
@@ -60,7 +80,9 @@ impl Run<'_> {
 
     /// The frame goes on behind an instruction that defines no register.
     fn pass(&mut self, slot: usize) -> Result<(), Trap>
-        ensures { OnOk result (HasNextAt self.old.cactus slot → DoesPlain self.old self.new slot (λ p f. goes_on f)) }
+        ensures passes { OnOk result (HasNextAt self.old.cactus slot → DoesPlain self.old self.new slot (λ p f. goes_on f)) }
+        ensures lost { OnErr result (frame_at self.old.cactus slot ≡ None) }
+        ensures phase { self.new.phase ≡ self.old.phase }
     {
         match self.cactus.frame_mut(slot) {
             Some(activation) => activation.frame.pass(),
@@ -71,8 +93,10 @@ impl Run<'_> {
 
     /// The frame's register takes what the cell holds.
     fn load_into(&mut self, slot: usize, register: RegisterId, cell: Cell) -> Result<(), Trap>
-        ensures { OnOk result (CanDoAt self.old.cactus slot (Effect.Load register cell)
+        ensures loads { OnOk result (CanDoAt self.old.cactus slot (Effect.Load register cell)
             → DoesPlain self.old self.new slot (λ p f. loads f register (cell_of p cell) ((seen self.old).core.memory (cell_of p cell)))) }
+        ensures stopped { OnErr result (Refuses self.old.verified.now self.old slot (Effect.Load register cell)) }
+        ensures phase { self.new.phase ≡ self.old.phase }
     {
         let number = self.load(slot, cell)?;
         self.define(slot, register, Value::Number(number))
@@ -80,8 +104,10 @@ impl Run<'_> {
 
     /// The cell takes the number.
     fn store_next(&mut self, slot: usize, cell: Cell, number: i64) -> Result<(), Trap>
-        ensures { OnOk result (HasNextAt self.old.cactus slot
+        ensures stores { OnOk result (HasNextAt self.old.cactus slot
             → DoesPlain self.old self.new slot (λ p f. stores f (cell_of p cell) number)) }
+        ensures stopped { OnErr result (Refuses self.old.verified.now self.old slot (Effect.Store cell number)) }
+        ensures phase { self.new.phase ≡ self.old.phase }
     {
         if self.store(slot, cell, number) {
             self.pass(slot)
@@ -92,8 +118,10 @@ impl Run<'_> {
 
     /// The number is added to the cell, modulo 2^64.
     fn add_to(&mut self, slot: usize, cell: Cell, number: i64) -> Result<(), Trap>
-        ensures { OnOk result (HasNextAt self.old.cactus slot
+        ensures adds { OnOk result (HasNextAt self.old.cactus slot
             → DoesPlain self.old self.new slot (λ p f. adds_to f (cell_of p cell) number ((seen self.old).core.memory (cell_of p cell)))) }
+        ensures stopped { OnErr result (Refuses self.old.verified.now self.old slot (Effect.Add cell number)) }
+        ensures phase { self.new.phase ≡ self.old.phase }
     {
         let held = self.load(slot, cell)?;
         if self.store(slot, cell, sum(held, number)) {
@@ -105,7 +133,8 @@ impl Run<'_> {
 
     /// What a cell holds as the frame in the slot names it; it is a trap where the cell holds nothing, or is not there.
     fn load(&self, slot: usize, cell: Cell) -> Result<i64, Trap>
-        ensures { IfOk result (λ number. HoldsAt self.now slot cell (Some number)) }
+        ensures held { IfOk result (λ number. HoldsAt self.now slot cell (Some number)) }
+        ensures missing { OnErr result (OwnerStands self.now.cactus slot cell.object → HoldsAt self.now slot cell None) }
     {
         match self.cell_of(slot, cell) {
             Some(Some(number)) => Ok(number),
@@ -134,7 +163,10 @@ impl Run<'_> {
 
     /// Gives a cell a number; false where the cell is not there.
     fn store(&mut self, slot: usize, cell: Cell, number: i64) -> bool
-        ensures { OnTrue result (StoresAt self.old self.new slot cell number) }
+        ensures stores { OnTrue result (StoresAt self.old self.new slot cell number) }
+        ensures kept { OnTrue result (KeepsCells self.old self.new) }
+        ensures not_there { OnFalse result (Refuses self.old.verified.now self.old slot (Effect.Store cell number)) }
+        ensures phase { self.new.phase ≡ self.old.phase }
     {
         match cell.object {
             Object::Global(global) => self.memory.set_cell(global, cell.index, number),
@@ -147,7 +179,10 @@ impl Run<'_> {
 
     /// Gives a cell of an alloca of the frame in the slot a number; false where the cell is not there.
     fn store_in(&mut self, owner: usize, alloca: AllocaId, index: u64, number: i64) -> bool
-        ensures { OnTrue result (WritesAlloca self.old self.new owner alloca.0 index number) }
+        ensures writes { OnTrue result (WritesAlloca self.old self.new owner alloca.0 index number) }
+        ensures kept { OnTrue result (KeepsCells self.old self.new) }
+        ensures not_there { OnFalse result ((above : Activation) → frame_at self.old.cactus owner ≡ Some above → ¬ HasCell above.frame alloca.0 index) }
+        ensures phase { self.new.phase ≡ self.old.phase }
     {
         match self.cactus.frame_mut(owner) {
             Some(activation) => activation.frame.set_alloca_cell(alloca, index, number),
@@ -157,8 +192,10 @@ impl Run<'_> {
 
     /// The first cells of the object become 0.
     fn store_zeros(&mut self, slot: usize, object: Object, cells: u64) -> Result<(), Trap>
-        ensures { OnOk result (HasNextAt self.old.cactus slot
+        ensures zeros { OnOk result (HasNextAt self.old.cactus slot
             → DoesPlain self.old self.new slot (λ p f. stores_zeros f cells (object_of p object))) }
+        ensures stopped { OnErr result (Refuses self.old.verified.now self.old slot (Effect.StoreZeros object cells)) }
+        ensures phase { self.new.phase ≡ self.old.phase }
     {
         for index in 0..cells {
             if !self.store(slot, Cell { object, index }, 0) {

@@ -1,11 +1,12 @@
-ghost use Rattle.std.specs.Prelude.{◌↔◌, ◌≡◌, ◌<◌, false, true, IsTrue, IsSomeAnd, IfOk, OnErr, OnOk, OnSome, length, reverse, vec_len};
+ghost use Rattle.std.specs.Prelude.{◌↔◌, ◌≡◌, ◌<◌, false, true, IsTrue, IsSomeAnd, IfOk, None, OnErr, OnOk, OnSome, length, reverse, vec_len};
 ghost use Rattle.std.specs.Vec.{with_item};
 ghost use Rattle.cactus.specs.Frames.{Lives, frame_at};
 ghost use Rattle.worker_steps.specs.Scheduling.{hand_of, IsIdle, IsReady};
 ghost use Rattle.machine_core.specs.Events.{Step};
 ghost use Rattle.worker_steps.specs.Stepping.{DoesEvent, StartsAs};
 ghost use Rattle.worker_steps.specs.Seen.{Agrees, StealsIf, taken};
-ghost use Rattle.worker_steps.specs.Running.{IsGoing, IsStart, StepsWhere, Takes, TakesAt};
+ghost use Rattle.worker_steps.specs.Running.{IsGoing, IsTrapped, IsStart, StepsWhere, Takes, TakesAt};
+ghost use Rattle.worker_steps.specs.Stopping.{StopsAtStep};
 
 use crate::activation::Activation;
 use crate::halt::Halt;
@@ -108,6 +109,7 @@ impl<'v> Run<'v> {
     pub(crate) fn activation(&self, slot: usize) -> Result<&Activation, Trap>
         ensures lives { OnOk result (Lives self.now.cactus slot) }
         ensures value { IfOk result (λ a. frame_at self.now.cactus slot ≡ Some a.now) }
+        ensures lost { OnErr result (frame_at self.now.cactus slot ≡ None) }
     {
         match self.cactus.node(slot) {
             Some(node) => Ok(&node.frame),
@@ -126,6 +128,7 @@ impl<'v> Run<'v> {
         ensures not_enabled { result ≡ Ok false → self.new ≡ self.old }
         ensures enabled { IfOk result (StepsWhere self.old self.new worker) }
         ensures event { IfOk result (DoesEvent self.old.verified.now self.old self.new (Step worker)) }
+        ensures stopped { IsTrapped self.new → StopsAtStep self.old.verified.now self.old worker }
     {
         let Some(top) = self.hand(worker) else {
             return Ok(false);

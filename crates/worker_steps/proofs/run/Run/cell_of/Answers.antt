@@ -1,4 +1,4 @@
-use Rattle.std.proofs.Common.{rules, w64, ◌≡◌, Option, Some, None, refl, sym, ap, ◌∙◌}
+use Rattle.std.proofs.Common.{rules, w64, ◌≡◌, Some, None, sym, ap, ◌∙◌}
 use Rattle.std.specs.Prelude.{FitsSigned}
 use Rattle.std.specs.Option.{option_copied}
 use Rattle.std.proofs.lemmas.Int.{to_z-of_z}

@@ -7,8 +7,8 @@ use Rattle.cactus.specs.Frames.{frame_at}
 use Rattle.worker_steps.proofs.Performed.{went_at}
 use Rattle.worker_steps.proofs.run.Run.define.Goals as goal
 
-pub returns : goal.returns
-returns c can =
+pub returns-clause-defines : goal.returns-clause-defines
+returns-clause-defines c can =
     let stood : frame_at c.args.self.now.cactus c.args.slot ≡ Some c.in-Some.activation.now = sym c.frame_mut.ensures.value ∙ ap option_copied_mut c.in-Some.is in
     let room = can c.in-Some.activation.now stood in
     went_at c.args.self.now c.args.slot c.in-Some.activation.now c.define.new.self (λ p f. sets f c.args.register (value_of p c.args.value)) stood (ap (λ (g : FrameOf). g.depth) c.define.ensures.only) (ap (λ (g : FrameOf). g.allocas) c.define.ensures.only) (λ sound. c.define.ensures.sound sound (room.within sound)) (record { made = ap (λ (g : FrameOf). g.made) c.define.ensures.only; role = ap (λ (g : FrameOf). g.role) c.define.ensures.only }) (λ p. record { is = c.define.ensures.goes_on p room.can.0 room.can.1; fine = refl; quiet = (refl, refl) })

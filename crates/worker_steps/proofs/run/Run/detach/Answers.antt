@@ -1,22 +1,14 @@
-use Rattle.std.proofs.Common.{rules, refl, arith, ◌+◌, max, ◌≡◌, ◌<◌, length, List, Option, ℕ, Some, subst, sym, ap, ◌∙◌, slice_set}
+use Rattle.std.proofs.Common.{rules, ◌+◌, ◌≡◌, ◌<◌, length, List, Option, ℕ, Some, subst, sym, ap, ◌∙◌, slice_set}
 use Rattle.cactus.specs.Frames.{Frames, AddsChild}
 use Rattle.cactus.specs.Lending.{with_frame}
 use Rattle.worker_steps.specs.declared.activation.Activation.{Activation}
 use Rattle.worker_steps.specs.declared.run.Run.{Run}
 use Rattle.worker_steps.specs.Scheduling.{BeginsChild}
-use Rattle.std.specs.Prelude.{IsSome, ◌^◌}
+use Rattle.std.specs.Prelude.{◌^◌}
 use Rattle.std.specs.Option.{option_copied_mut}
 use Rattle.std.specs.Vec.{with_item}
-use Rattle.machine_core.specs.Paths.{Path}
-use Rattle.machine_core.specs.State.{continued, detached}
-use Rattle.frame.specs.declared.frame.Frame.{Frame as FrameOf}
-use Rattle.frame.specs.declared.effect.Effect.TheVariants as effect
-use Rattle.frame.specs.Reading.{frame_of}
-use Rattle.frame.specs.Room.{HasChild, IsSound}
-use Rattle.cactus.specs.declared.node.Node.{Node}
-use Rattle.worker_steps.specs.Scheduling.{count_in, counted_in}
-use Rattle.worker_steps.specs.Stepping.{IsStep, IsTurn}
-use Rattle.worker_steps.proofs.Performed.{same_frame}
+use Rattle.frame.specs.Room.{HasChild}
+use Rattle.worker_steps.specs.Stepping.{IsStep}
 use Rattle.worker_steps.proofs.Detached.{detaches_there}
 use Rattle.worker_steps.proofs.Moves.{begins}
 use Rattle.worker_steps.proofs.run.Run.detach.Goals as goal

@@ -1,4 +1,4 @@
-use Rattle.std.proofs.Common.{w64, ◌≡◌, ℤ, subst, sym, ap, ◌∙◌}
+use Rattle.std.proofs.Common.{w64, ℤ, subst, sym}
 use Rattle.std.specs.Prelude.{FitsSigned}
 use Rattle.std.proofs.lemmas.Int.{to_z-of_z}
 use Rattle.worker_steps.specs.declared.run.Run.{Run}
@@ -7,8 +7,8 @@ use Rattle.worker_steps.specs.Stepping.{IsStep}
 use Rattle.worker_steps.proofs.Calls.{ends_there}
 use Rattle.worker_steps.proofs.run.Run.end_with.Goals as goal
 
-pub returns : goal.returns
-returns c node turn root none action =
+pub returns-clause-returns : goal.returns-clause-returns
+returns-clause-returns c node turn root none action =
     let prog = c.args.self.now.verified.now in
     let fit : FitsSigned w64 c.args.number = c.ranges.number in
     subst (λ (z : ℤ). IsStep prog c.args.self.now (record c.set_hand.new.self { phase = Ended z }) c.args.worker) (sym (to_z-of_z w64 c.args.number fit))

@@ -1,11 +1,12 @@
-use Rattle.std.proofs.Common.{◌≡◌, subst}
+use Rattle.std.proofs.Common.{◌≡◌, subst, ap}
 use Rattle.std.proofs.lemmas.Result.{on_ok_weaker}
 use Rattle.program.specs.declared.function.Program.{Program}
-use Rattle.std.specs.Prelude.{Ok}
+use Rattle.std.specs.Prelude.{Ok, is_err}
 use Rattle.machine_core.specs.Effect.{action_of}
-use Rattle.frame.specs.Asked.{asked}
+use Rattle.frame.specs.Asked.{asked, DoesNext}
 use Rattle.frame.specs.Reading.{frame_of}
 use Rattle.worker_steps.proofs.Performed.{executes}
+use Rattle.worker_steps.proofs.Refusing.{next_traps, not_let_there}
 use Rattle.worker_steps.proofs.run.Run.execute.Goals as goal
 
 pub returns-clause-step : goal.returns-clause-step
@@ -15,3 +16,15 @@ returns-clause-step c =
     (λ p memory depth. subst (λ (q : Program). asked q p (frame_of p c.in_ok-activation.field-0.now.frame) memory (Ok c.in_ok-effect.effect) ≡ action_of q p (frame_of p c.in_ok-activation.field-0.now.frame) memory) c.program.ensures (c.in_ok-effect.ensures.does p memory depth tt))
     performs)
     c.perform.ensures.step
+
+pub returns-in_err-effect-clause-stopped : goal.returns-in_err-effect-clause-stopped
+returns-in_err-effect-clause-stopped c trap is =
+    next_traps c.args.self.now.verified.now c.args.self.now c.args.top c.in_ok-activation.field-0.now c.next_effect.result c.in_ok-activation.ensures.value
+    (subst (λ (q : Program). DoesNext q c.in_ok-activation.field-0.now.frame c.next_effect.result) c.program.ensures c.next_effect.ensures.does)
+    (ap is_err c.in_err-effect.was)
+
+pub returns-clause-stopped : goal.returns-clause-stopped
+returns-clause-stopped c trap is =
+    not_let_there c.args.self.now.verified.now c.args.self.now c.args.top c.in_ok-activation.field-0.now c.in_ok-effect.effect c.in_ok-activation.ensures.value
+    (λ p memory depth. subst (λ (q : Program). asked q p (frame_of p c.in_ok-activation.field-0.now.frame) memory (Ok c.in_ok-effect.effect) ≡ action_of q p (frame_of p c.in_ok-activation.field-0.now.frame) memory) c.program.ensures (c.in_ok-effect.ensures.does p memory depth tt))
+    c.in_ok-effect.ensures.within (c.perform.ensures.stopped trap is)

@@ -9,4 +9,4 @@ goes o (inl is) e = let f : ResumeReady ≡ Leave = sym is ∙ e in cc
 goes o (inr is) e = let f : ResumeStalled ≡ Leave = sym is ∙ e in cc
 
 pub returns-in-ResumeReady : goal.returns-in-ResumeReady
-returns-in-ResumeReady c = record { resumed = on_ok_weaker c.resume.result (λ runs on. runs) c.resume.ensures.runs; takes = on_ok_weaker c.resume.result (λ becomes on. becomes) c.resume.ensures.becomes; left = on_ok_weaker c.resume.result (λ runs e. absurd (goes c.args.outcome c.in-ResumeReady.is e)) c.resume.ensures.runs }
+returns-in-ResumeReady c = record { resumed = on_ok_weaker c.resume.result (λ runs on. runs) c.resume.ensures.runs; takes = on_ok_weaker c.resume.result (λ becomes on. becomes) c.resume.ensures.becomes; left = on_ok_weaker c.resume.result (λ runs e. absurd (goes c.args.outcome c.in-ResumeReady.is e)) c.resume.ensures.runs; lost = c.resume.ensures.lost; phase = c.resume.ensures.phase }

@@ -1,8 +1,8 @@
-use Rattle.std.proofs.Common.{◌≡◌, ◌+◌, ◌-◌, ℕ, suc, Some, None, arith, refl, sym, ap, ◌∙◌, subst, inl, inr, length}
+use Rattle.std.proofs.Common.{◌≡◌, ◌+◌, ◌-◌, Some, arith, sym, ap, ◌∙◌, subst, inl, length}
 use Rattle.std.specs.Option.{option_copied}
 use Rattle.cactus.specs.Frames.{node_at}
 use Rattle.worker_steps.specs.Tasks.{IsLowest, lowest, under}
-use Rattle.worker_steps.proofs.Lowest.{HasLength, not_empty, not_low, own_length, parent_shorter, shorter_at, short_root, not_there}
+use Rattle.worker_steps.proofs.Lowest.{HasLength, not_empty, not_low, own_length, shorter_at, not_there}
 use Rattle.worker_steps.proofs.run.Run.lowest_below.Goals as goal
 
 pub returns-in_err-node-clause-found : goal.returns-in_err-node-clause-found

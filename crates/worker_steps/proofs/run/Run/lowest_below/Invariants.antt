@@ -1,5 +1,4 @@
 use Rattle.std.proofs.Common.{◌-◌, ◌≤◌, ℕ}
-use Rattle.cactus.specs.Frames.{Lives}
 use Rattle.cactus.specs.ByPath.{IsTree}
 use Rattle.worker_steps.specs.Tasks.{IsLowestBelow}
 use Rattle.worker_steps.proofs.Lowest.{HasLength}

@@ -6,8 +6,8 @@ use Rattle.cactus.specs.Frames.{frame_at}
 use Rattle.worker_steps.proofs.Performed.{went_at}
 use Rattle.worker_steps.proofs.run.Run.pass.Goals as goal
 
-pub returns : goal.returns
-returns c can =
+pub returns-clause-passes : goal.returns-clause-passes
+returns-clause-passes c can =
     let stood : frame_at c.args.self.now.cactus c.args.slot ≡ Some c.in-Some.activation.now = sym c.frame_mut.ensures.value ∙ ap option_copied_mut c.in-Some.is in
     let room = can c.in-Some.activation.now stood in
     went_at c.args.self.now c.args.slot c.in-Some.activation.now c.pass.new.self (λ p f. goes_on f) stood (ap (λ (g : FrameOf). g.depth) c.pass.ensures.only) (ap (λ (g : FrameOf). g.allocas) c.pass.ensures.only) c.pass.ensures.sound (record { made = ap (λ (g : FrameOf). g.made) c.pass.ensures.only; role = ap (λ (g : FrameOf). g.role) c.pass.ensures.only }) (λ p. record { is = c.pass.ensures.goes_on p room; fine = refl; quiet = (refl, refl) })

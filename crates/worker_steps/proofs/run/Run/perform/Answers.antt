@@ -1,6 +1,6 @@
 use Rattle.std.proofs.Common.{rules, w64, ℤ, subst, sym}
 use Rattle.frame.specs.declared.effect.Effect.{Effect as Asked}
-use Rattle.std.specs.Prelude.{FitsSigned}
+use Rattle.std.specs.Prelude.{FitsSigned, OnOk}
 use Rattle.std.proofs.lemmas.Int.{to_z-of_z}
 use Rattle.machine_core.specs.Effect.{sets, loads, stores, stores_zeros, adds_to, jumps}
 use Rattle.frame.specs.Reading.{cell_of, object_of, value_of}
@@ -12,17 +12,17 @@ use Rattle.worker_steps.proofs.run.Run.perform.Goals as goal
 pub returns-in_ok-define-in-Define-clause-step : goal.returns-in_ok-define-in-Define-clause-step
 returns-in_ok-define-in-Define-clause-step c =
     subst (λ (x : Asked). CanDoAt c.args.self.now.cactus c.args.top x → Performs c.args.self.now.verified.now c.args.self.now c.define.new.self c.args.worker c.args.top x) (sym c.in-Define.is) (λ can node turn is.
-    plain_performed c.args.self.now.verified.now c.args.self.now c.define.new.self c.args.worker c.args.top (λ p f. sets f c.in-Define.register (value_of p c.in-Define.value)) (c.in_ok-define-in-Define.ensures can) node turn is)
+    plain_performed c.args.self.now.verified.now c.args.self.now c.define.new.self c.args.worker c.args.top (λ p f. sets f c.in-Define.register (value_of p c.in-Define.value)) (c.in_ok-define-in-Define.ensures.defines can) node turn is)
 
 pub returns-in_ok-load_into-in-Load-clause-step : goal.returns-in_ok-load_into-in-Load-clause-step
 returns-in_ok-load_into-in-Load-clause-step c =
     subst (λ (x : Asked). CanDoAt c.args.self.now.cactus c.args.top x → Performs c.args.self.now.verified.now c.args.self.now c.load_into.new.self c.args.worker c.args.top x) (sym c.in-Load.is) (λ can node turn is.
-    plain_performed c.args.self.now.verified.now c.args.self.now c.load_into.new.self c.args.worker c.args.top (λ p f. loads f c.in-Load.register (cell_of p c.in-Load.cell) ((seen c.args.self.now).core.memory (cell_of p c.in-Load.cell))) (c.in_ok-load_into-in-Load.ensures can) node turn is)
+    plain_performed c.args.self.now.verified.now c.args.self.now c.load_into.new.self c.args.worker c.args.top (λ p f. loads f c.in-Load.register (cell_of p c.in-Load.cell) ((seen c.args.self.now).core.memory (cell_of p c.in-Load.cell))) (c.in_ok-load_into-in-Load.ensures.loads can) node turn is)
 
 pub returns-in_ok-store_zeros-in-StoreZeros-clause-step : goal.returns-in_ok-store_zeros-in-StoreZeros-clause-step
 returns-in_ok-store_zeros-in-StoreZeros-clause-step c =
     subst (λ (x : Asked). CanDoAt c.args.self.now.cactus c.args.top x → Performs c.args.self.now.verified.now c.args.self.now c.store_zeros.new.self c.args.worker c.args.top x) (sym c.in-StoreZeros.is) (λ can node turn is.
-    plain_performed c.args.self.now.verified.now c.args.self.now c.store_zeros.new.self c.args.worker c.args.top (λ p f. stores_zeros f c.in-StoreZeros.cells (object_of p c.in-StoreZeros.object)) (c.in_ok-store_zeros-in-StoreZeros.ensures (λ a at. (can a at).can)) node turn is)
+    plain_performed c.args.self.now.verified.now c.args.self.now c.store_zeros.new.self c.args.worker c.args.top (λ p f. stores_zeros f c.in-StoreZeros.cells (object_of p c.in-StoreZeros.object)) (c.in_ok-store_zeros-in-StoreZeros.ensures.zeros (λ a at. (can a at).can)) node turn is)
 
 pub returns-in_ok-enter-in-Branch-clause-step : goal.returns-in_ok-enter-in-Branch-clause-step
 returns-in_ok-enter-in-Branch-clause-step c =
@@ -33,13 +33,25 @@ pub returns-in_ok-store_next-in-Store-clause-step : goal.returns-in_ok-store_nex
 returns-in_ok-store_next-in-Store-clause-step c =
     let fit : FitsSigned w64 c.in-Store.number = search rules in
     subst (λ (x : Asked). CanDoAt c.args.self.now.cactus c.args.top x → Performs c.args.self.now.verified.now c.args.self.now c.store_next.new.self c.args.worker c.args.top x) (sym c.in-Store.is) (λ can node turn is.
-    plain_performed c.args.self.now.verified.now c.args.self.now c.store_next.new.self c.args.worker c.args.top (λ p f. stores f (cell_of p c.in-Store.cell) c.in-Store.number) (subst (λ (z : ℤ). DoesPlain c.args.self.now c.store_next.new.self c.args.top (λ p f. stores f (cell_of p c.in-Store.cell) z)) (to_z-of_z w64 c.in-Store.number fit) (c.in_ok-store_next-in-Store.ensures (λ a at. (can a at).can))) node turn is)
+    plain_performed c.args.self.now.verified.now c.args.self.now c.store_next.new.self c.args.worker c.args.top (λ p f. stores f (cell_of p c.in-Store.cell) c.in-Store.number) (subst (λ (z : ℤ). DoesPlain c.args.self.now c.store_next.new.self c.args.top (λ p f. stores f (cell_of p c.in-Store.cell) z)) (to_z-of_z w64 c.in-Store.number fit) (c.in_ok-store_next-in-Store.ensures.stores (λ a at. (can a at).can))) node turn is)
 
 pub returns-in_ok-add_to-in-Add-clause-step : goal.returns-in_ok-add_to-in-Add-clause-step
 returns-in_ok-add_to-in-Add-clause-step c =
     let fit : FitsSigned w64 c.in-Add.number = search rules in
     subst (λ (x : Asked). CanDoAt c.args.self.now.cactus c.args.top x → Performs c.args.self.now.verified.now c.args.self.now c.add_to.new.self c.args.worker c.args.top x) (sym c.in-Add.is) (λ can node turn is.
-    plain_performed c.args.self.now.verified.now c.args.self.now c.add_to.new.self c.args.worker c.args.top (λ p f. adds_to f (cell_of p c.in-Add.cell) c.in-Add.number ((seen c.args.self.now).core.memory (cell_of p c.in-Add.cell))) (subst (λ (z : ℤ). DoesPlain c.args.self.now c.add_to.new.self c.args.top (λ p f. adds_to f (cell_of p c.in-Add.cell) z ((seen c.args.self.now).core.memory (cell_of p c.in-Add.cell)))) (to_z-of_z w64 c.in-Add.number fit) (c.in_ok-add_to-in-Add.ensures (λ a at. (can a at).can))) node turn is)
+    plain_performed c.args.self.now.verified.now c.args.self.now c.add_to.new.self c.args.worker c.args.top (λ p f. adds_to f (cell_of p c.in-Add.cell) c.in-Add.number ((seen c.args.self.now).core.memory (cell_of p c.in-Add.cell))) (subst (λ (z : ℤ). DoesPlain c.args.self.now c.add_to.new.self c.args.top (λ p f. adds_to f (cell_of p c.in-Add.cell) z ((seen c.args.self.now).core.memory (cell_of p c.in-Add.cell)))) (to_z-of_z w64 c.in-Add.number fit) (c.in_ok-add_to-in-Add.ensures.adds (λ a at. (can a at).can))) node turn is)
 
-pub returns-in_default-clause-step : goal.returns-in_default-clause-step
-returns-in_default-clause-step c = c.control.ensures.step
+pub returns-in-Detach-clause-step : goal.returns-in-Detach-clause-step
+returns-in-Detach-clause-step c = subst (λ (x : Asked). OnOk c.detach.result (CanDoAt c.args.self.now.cactus c.args.top x → Performs c.args.self.now.verified.now c.args.self.now c.detach.new.self c.args.worker c.args.top x)) (sym c.in-Detach.is) c.detach.ensures.detaches
+
+pub returns-in-Call-clause-step : goal.returns-in-Call-clause-step
+returns-in-Call-clause-step c = subst (λ (x : Asked). OnOk c.call.result (CanDoAt c.args.self.now.cactus c.args.top x → Performs c.args.self.now.verified.now c.args.self.now c.call.new.self c.args.worker c.args.top x)) (sym c.in-Call.is) c.call.ensures.calls
+
+pub returns-in_ok-reattach-in-Reattach-clause-step : goal.returns-in_ok-reattach-in-Reattach-clause-step
+returns-in_ok-reattach-in-Reattach-clause-step c can = subst (λ (x : Asked). Performs c.args.self.now.verified.now c.args.self.now c.reattach.new.self c.args.worker c.args.top x) (sym c.in-Reattach.is) c.in_ok-reattach-in-Reattach.ensures.reattaches
+
+pub returns-in_ok-return_with-in-Return-clause-step : goal.returns-in_ok-return_with-in-Return-clause-step
+returns-in_ok-return_with-in-Return-clause-step c can = subst (λ (x : Asked). Performs c.args.self.now.verified.now c.args.self.now c.return_with.new.self c.args.worker c.args.top x) (sym c.in-Return.is) c.in_ok-return_with-in-Return.ensures.returns
+
+pub returns-in_ok-sync-in-Sync-clause-step : goal.returns-in_ok-sync-in-Sync-clause-step
+returns-in_ok-sync-in-Sync-clause-step c can = subst (λ (x : Asked). Performs c.args.self.now.verified.now c.args.self.now c.sync.new.self c.args.worker c.args.top x) (sym c.in-Sync.is) c.in_ok-sync-in-Sync.ensures.syncs

@@ -2,12 +2,19 @@ use Rattle.std.proofs.Common.{◌≡◌, ℕ, ◌<◌, ◌-◌, ◌+◌, rules, 
 use Rattle.std.specs.Prelude.{slice_get}
 use Rattle.std.specs.Option.{option_copied}
 use Rattle.sync_join.specs.declared.count.Parent.{Parent}
-use Rattle.cactus.specs.Frames.{node_at}
+use Rattle.cactus.specs.Frames.{node_at, frame_at}
 use Rattle.worker_steps.specs.declared.run.Run.{Run}
 use Rattle.std.specs.Option.{option_copied_mut}
 use Rattle.worker_steps.proofs.Reattached.{reattaches_there}
 use Rattle.worker_steps.specs.Scheduling.{counted_in, standing_of, living_within, hand_of, TakesParent}
 use Rattle.worker_steps.proofs.Moves.{living_is, taken_goes_on, left_leaves, hand_of-set, both_ok}
+use Rattle.std.proofs.lemmas.Result.{on_err_weaker}
+use Rattle.cactus.specs.declared.node.Node.{Node}
+use Rattle.cactus.specs.Lending.{with_frame}
+use Rattle.cactus.proofs.FramesLemmas.{frame_at-with_frame, lives-from_frame}
+use Rattle.worker_steps.proofs.Missing.{same_node}
+use Rattle.worker_steps.proofs.Refusing.{has_last, parent_stays, stood_not}
+use Rattle.worker_steps.specs.declared.activation.Activation.{Activation}
 use Rattle.worker_steps.proofs.run.Run.reattach.Goals as goal
 
 pub returns-clause-ends : goal.returns-clause-ends
@@ -52,3 +59,17 @@ returns-clause-reattaches c =
     (let r = c.closed-outcome.ensures.ready in (λ e. sym c.as_parent-standing.ensures ∙ r.0 e, λ e. r.1 (c.as_parent-standing.ensures ∙ e)))
     (let r = c.closed-outcome.ensures.stalled in (λ e. (sym c.as_parent-standing.ensures ∙ (r.0 e).0, (r.0 e).1), λ e. r.1 (c.as_parent-standing.ensures ∙ e.0, e.1)))
     c.go_on.new.self takes left)
+
+pub returns-in_default-2-clause-stopped : goal.returns-in_default-2-clause-stopped
+returns-in_default-2-clause-stopped c node stands agrees within go =
+    has_last c.args.self.now.cactus agrees.tree c.args.slot c.in_default-2.field-0-0 c.in-Some.node.now (sym c.node.ensures ∙ ap option_copied c.in-Some.is) c.in_default-2.is-0
+    (subst (λ (l : List ℕ). slice_get l (length l - 1) ≡ None) c.as_slice.ensures (sym c.last.ensures.value ∙ (sym c.copied-last.ensures ∙ c.in_default-2.is-1)))
+
+pub returns-clause-stopped : goal.returns-clause-stopped
+returns-clause-stopped c =
+    on_err_weaker c.go_on.result (λ lost node stands agrees within go.
+    let same : c.in-Some.node.now ≡ node = same_node (node_at c.args.self.now.cactus c.args.slot) c.in-Some.node.now node (sym c.node.ensures ∙ ap option_copied c.in-Some.is) stands in
+    let has : node.parent ≡ Some c.in-Some-Some.parent_slot = ap (λ (n : Node Activation). n.parent) (sym same) ∙ c.in-Some-Some.is-0 in
+    let (above, stood) = parent_stays c.args.self.now.cactus agrees.tree c.args.slot c.in-Some-Some.parent_slot node stands has c.remove-child.new.self c.remove-child.ensures.rest in
+    stood_not (frame_at (with_frame c.remove-child.new.self c.in-Some-Some.parent_slot c.set_count.new.self) c.in-Some-Some.parent_slot) c.set_count.new.self (frame_at-with_frame c.remove-child.new.self c.in-Some-Some.parent_slot c.set_count.new.self (lives-from_frame c.remove-child.new.self c.in-Some-Some.parent_slot above stood)) lost)
+    c.go_on.ensures.lost

@@ -1,12 +1,12 @@
-use Rattle.std.proofs.Common.{◌≡◌, Some, subst, sym, ap, ◌∙◌}
+use Rattle.std.proofs.Common.{subst, sym, ap, ◌∙◌}
 use Rattle.std.specs.Option.{option_copied_mut}
 use Rattle.worker_steps.specs.declared.run.Run.{Run}
 use Rattle.worker_steps.specs.Stepping.{IsStep}
 use Rattle.worker_steps.proofs.Calls.{returns_there}
 use Rattle.worker_steps.proofs.run.Run.return_to.Goals as goal
 
-pub returns : goal.returns
-returns c node turn parent none action =
+pub returns-clause-returns : goal.returns-clause-returns
+returns-clause-returns c node turn parent none action =
     let prog = c.args.self.now.verified.now in
     subst (λ (m : Run). IsStep prog c.args.self.now m c.args.worker) (sym c.set_hand.ensures)
     (returns_there prog c.args.self.now c.args.worker c.args.slot c.args.caller c.args.value c.pop_call-callee.new.self c.pop_call-callee.result c.in-Some.above.now c.after_call.new.self c.pop_call-callee.ensures.value c.pop_call-callee.ensures.rest c.pop_call-callee.ensures.map

@@ -1,7 +1,6 @@
 use Rattle.std.proofs.Common.{rules, ◌≡◌, List, Option, ℕ, Some, None, ap, ◌∙◌, slice_set, replicate, refl}
 use Rattle.machine_core.specs.State.{root_frame}
 use Rattle.program.specs.declared.function.Program.{Program}
-use Rattle.frame.specs.Reading.{frame_of}
 use Rattle.worker_steps.proofs.Started.{starts_as}
 use Rattle.worker_steps.proofs.run.Run.start.Goals as goal
 

@@ -1,9 +1,11 @@
-use Rattle.std.proofs.Common.{◌≡◌, Bool, true, Some, subst, sym, ◌∙◌}
+use Rattle.std.proofs.Common.{◌≡◌, Bool, true, Some, subst, sym, ◌∙◌, rules, inr}
 use Rattle.machine_core.specs.Events.{Step}
 use Rattle.worker_steps.specs.declared.run.Run.{Run}
 use Rattle.worker_steps.specs.Scheduling.{hand_of}
 use Rattle.worker_steps.specs.Stepping.{DoesEvent}
 use Rattle.worker_steps.proofs.Happening.{turn_done}
+use Rattle.worker_steps.specs.Stopping.{HaltsAt}
+use Rattle.worker_steps.proofs.Refusing.{trapped_by}
 use Rattle.worker_steps.proofs.run.Run.step.Goals as goal
 
 pub returns-in-Ok-clause-event : goal.returns-in-Ok-clause-event
@@ -13,3 +15,11 @@ returns-in-Ok-clause-event c =
     subst (λ (b : Bool). DoesEvent prog c.args.self.now c.has_executed.new.self (Step c.args.worker) b) (sym c.has_executed.ensures.yes)
     (subst (λ (m : Run). DoesEvent prog c.args.self.now m (Step c.args.worker) true) (sym c.has_executed.ensures.counted)
     (turn_done prog c.args.self.now c.execute.new.self c.args.worker c.in-Some.top c.requires has c.in-Ok.ensures.step))
+
+pub returns-in-Err-Trapped-clause-stopped : goal.returns-in-Err-Trapped-clause-stopped
+returns-in-Err-Trapped-clause-stopped c trapped =
+    record {
+      slot = c.in-Some.top;
+      hand = sym c.hand.ensures.slot ∙ c.in-Some.is;
+      why = inr (trapped_by (HaltsAt c.args.self.now.verified.now c.args.self.now c.in-Some.top) c.execute.result c.execute.ensures.stopped (search rules) (search rules));
+    }

@@ -5,10 +5,11 @@ use Rattle.std.proofs.lemmas.Int.{to_z-of_z}
 use Rattle.std.proofs.lemmas.Bool.{OnTrue_at, OnTrue_from}
 use Rattle.cactus.specs.Frames.{frame_at}
 use Rattle.frame.specs.Room.{SetsAlloca}
+use Rattle.worker_steps.proofs.Missing.{alloca_kept}
 use Rattle.worker_steps.proofs.run.Run.store_in.Goals as goal
 
-pub returns-in-Some : goal.returns-in-Some
-returns-in-Some c =
+pub returns-in-Some-clause-writes : goal.returns-in-Some-clause-writes
+returns-in-Some-clause-writes c =
     let fit : FitsSigned w64 c.args.number = c.ranges.number in
     let stood : frame_at c.args.self.now.cactus c.args.owner ≡ Some c.in-Some.activation.now = sym c.frame_mut.ensures.value ∙ ap option_copied_mut c.in-Some.is in
     OnTrue_from c.set_alloca_cell.result _ (λ t.
@@ -21,3 +22,8 @@ returns-in-Some c =
       sound = c.set_alloca_cell.ensures.sound;
       new_is = refl;
     })
+
+pub returns-in-Some-clause-kept : goal.returns-in-Some-clause-kept
+returns-in-Some-clause-kept c =
+    let stood : frame_at c.args.self.now.cactus c.args.owner ≡ Some c.in-Some.activation.now = sym c.frame_mut.ensures.value ∙ ap option_copied_mut c.in-Some.is in
+    OnTrue_from c.set_alloca_cell.result _ (λ t. alloca_kept c.args.self.now c.args.owner c.in-Some.activation.now c.set_alloca_cell.new.self stood c.set_alloca_cell.ensures.cells)

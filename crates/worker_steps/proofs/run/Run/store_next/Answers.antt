@@ -9,11 +9,11 @@ use Rattle.worker_steps.specs.Stepping.{one_cell, StoresAt}
 use Rattle.worker_steps.proofs.Performed.{stored_done, next_still}
 use Rattle.worker_steps.proofs.run.Run.store_next.Goals as goal
 
-pub returns-then-store : goal.returns-then-store
-returns-then-store c =
+pub returns-then-store-clause-stores : goal.returns-then-store-clause-stores
+returns-then-store-clause-stores c =
     let fit : FitsSigned w64 c.args.number = c.ranges.number in
     on_ok_weaker c.pass.result (λ passes next node stands agrees none.
-    let w = subst (λ (z : ℤ). StoresAt c.args.self.now c.store.new.self c.args.slot c.args.cell z) (to_z-of_z w64 c.args.number fit) (OnTrue_at c.if-store.true c.store.ensures) node stands agrees in
+    let w = subst (λ (z : ℤ). StoresAt c.args.self.now c.store.new.self c.args.slot c.args.cell z) (to_z-of_z w64 c.args.number fit) (OnTrue_at c.if-store.true c.store.ensures.stores) node stands agrees in
     let writes = one_cell (cell_of (place_of node) c.args.cell) c.args.number in
     stored_done c.args.self.now c.store.new.self c.pass.new.self c.args.slot node stands writes w (passes (next_still c.args.self.now c.store.new.self c.pass.new.self c.args.slot node stands writes w next)) none)
-    c.pass.ensures
+    c.pass.ensures.passes
