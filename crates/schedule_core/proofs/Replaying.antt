@@ -1,6 +1,6 @@
 -- One event after another.
 use Rattle.std.proofs.Common.{◌≡◌, ℕ, List, [], ◌∷◌, ◌++◌, append_assoc, length, map, Option, Some, None, Bool, true, false, cond, refl, sym, ap, ◌∙◌, subst, ℤ}
-use Rattle.std.specs.Prelude.{IsSome, IsTrue, Result, Ok, Err, IfOk, OnErr}
+use Rattle.std.specs.Prelude.{IsTrue, Result, Ok, Err, IfOk, OnErr}
 use Rattle.std.proofs.Math.Logic.{∥∥₁_map}
 use Rattle.lists.specs.declared.memory.OutOfMemory.{OutOfMemory}
 use Rattle.machine_core.specs.Events as running
@@ -10,8 +10,7 @@ use Rattle.store.specs.Cells.{NamedCells}
 use Rattle.worker_steps.specs.declared.run.Run.{Run}
 use Rattle.worker_steps.specs.declared.run.Phase.{Phase}
 use Rattle.worker_steps.specs.declared.run.Phase.TheVariants.{Going, Ended, Trapped}
-use Rattle.worker_steps.specs.Running.{IsGoing, IsTrapped, StepsWhere}
-use Rattle.worker_steps.specs.Scheduling.{hand_of}
+use Rattle.worker_steps.specs.Running.{IsGoing, IsTrapped}
 use Rattle.worker_steps.specs.Seen.{seen}
 use Rattle.worker_steps.specs.Stepping.{IsRun, IsEvent, DoesEvent, StartsAs}
 use Rattle.worker_steps.proofs.Reached.{replay_more}
@@ -46,7 +45,7 @@ module _ (prog : Program) (old mid new : Run) (events : List Event) (e : Event) 
       by false is = sym (ap seen (is (λ e. cc)))
 
   -- the run stopped before, or it stops here
-  module _ (all : DoesAll prog old mid events) (over : ¬ IsGoing mid → new ≡ mid) (going : IsGoing mid → IsTrapped new → StopsOnly mid e) where
+  module _ (all : DoesAll prog old mid events) (over : ¬ IsGoing mid → new ≡ mid) (going : IsGoing mid → IsTrapped new → StopsOnly mid.verified.now mid e) where
     stopped_before : IsTrapped mid → StopsAt prog old (events ++ e ∷ [])
     stopped_before trapped =
         let s : StopsAt prog old events = all.trapped trapped in
@@ -60,7 +59,7 @@ module _ (prog : Program) (old mid new : Run) (events : List Event) (e : Event) 
           stops = s.stops;
         }
 
-    stops_here : ¬ IsTrapped mid → StopsOnly mid e → StopsAt prog old (events ++ e ∷ [])
+    stops_here : ¬ IsTrapped mid → StopsOnly mid.verified.now mid e → StopsAt prog old (events ++ e ∷ [])
     stops_here fine stops =
         record {
           before = events;
@@ -69,7 +68,7 @@ module _ (prog : Program) (old mid new : Run) (events : List Event) (e : Event) 
           parts = refl;
           stood = mid;
           reached = all.sound fine;
-          stops = stops;
+          stops = subst (λ (q : Program). StopsOnly q mid e) (ap (λ v. v.now) (all.sound fine).program ∙ sym is) stops;
         }
 
     trapped_now : IsTrapped new → (x : Phase) → mid.phase ≡ x → StopsAt prog old (events ++ e ∷ [])
@@ -118,13 +117,7 @@ start_kept prog arguments globals m s = ∣ (λ fine. subst (λ (q : Program). I
 
 -- ---- where a run stops
 
--- at a step of a worker that has a task
-pub stops_step : (old new : Run) (worker : ℕ) (r : Result Bool OutOfMemory) → OnErr r (new ≡ old) → (r ≡ Ok false → new ≡ old) → IfOk r (StepsWhere old new worker) → IsGoing old → IsTrapped new → IsSome (hand_of old.hands.items worker)
-stops_step old new worker (Err x) same off where_ going trapped = absurd (not_going old (sym (ap (λ (m : Run). m.phase) same) ∙ trapped) going)
-stops_step old new worker (Ok true) same off where_ going trapped = (where_.exactly.0 refl).1
-stops_step old new worker (Ok false) same off where_ going trapped = absurd (not_going old (sym (ap (λ (m : Run). m.phase) (off refl)) ∙ trapped) going)
-
--- and at no steal
+-- at no steal
 pub steal_goes_on : (old new : Run) → new ≡ record old { cactus = new.cactus; hands = new.hands } → IsGoing old → IsTrapped new → ⊥
 steal_goes_on old new kept going trapped = not_going old (sym (ap (λ (m : Run). m.phase) kept) ∙ trapped) going
 

@@ -1,14 +1,14 @@
 -- What events do to a run, one and many.
-use Rattle.std.specs.Prelude.{◌≡◌, ℕ, List, [], ◌∷◌, ◌++◌, length, reverse, map, Bool, ℤ, IsSome}
+use Rattle.std.specs.Prelude.{◌≡◌, ℕ, List, [], ◌∷◌, ◌++◌, length, reverse, map, Bool, ℤ}
 use Rattle.machine_core.specs.Events as running
 use Rattle.machine_core.specs.Replay.{replay}
 use Rattle.program.specs.declared.function.Program.{Program}
 use Rattle.store.specs.Cells.{NamedCells}
 use Rattle.worker_steps.specs.declared.run.Run.{Run}
 use Rattle.worker_steps.specs.Running.{IsTrapped}
-use Rattle.worker_steps.specs.Scheduling.{hand_of}
 use Rattle.worker_steps.specs.Seen.{seen, given}
 use Rattle.worker_steps.specs.Stepping.{IsRun, IsEvent}
+use Rattle.worker_steps.specs.Stopping.{StopsAtStep}
 use Rattle.schedule_core.specs.declared.event.Event.{Event}
 use Rattle.schedule_core.specs.declared.event.Event.TheVariants.{Step, Steal}
 
@@ -20,10 +20,10 @@ event_of (Steal worker path) = running.Steal worker (reverse path.numbers)
 abbrev pub Happens : Run → Run → running.Event → Bool → Type 0
 Happens old new event done = IsEvent old.verified.now old new event done
 
--- the event is a step of a worker that runs a task
-abbrev pub StopsOnly : Run → Event → Type 0
-StopsOnly run (Step worker) = IsSome (hand_of run.hands.items worker)
-StopsOnly run (Steal worker path) = ⊥
+-- the event is a step of a worker that runs a task, where the budget is used up or the top of the task goes no further
+abbrev pub StopsOnly : Program → Run → Event → Type 0
+StopsOnly prog run (Step worker) = StopsAtStep prog run worker
+StopsOnly prog run (Steal worker path) = ⊥
 
 -- the events, one after another, are those of the definitions' replay
 pub record AreEvents (prog : Program) (old new : Run) (events : List running.Event) : Type 0 where
@@ -40,7 +40,7 @@ pub record StopsAt (prog : Program) (old : Run) (events : List Event) : Type 0 w
   pub parts : events ≡ before ++ last ∷ after
   pub stood : Run
   pub reached : AreEvents prog old stood (map event_of before)
-  pub stops : StopsOnly stood last
+  pub stops : StopsOnly prog stood last
 
 -- the run is the definitions' replay of the events, or it stopped at one of them
 pub record DoesAll (prog : Program) (old new : Run) (events : List Event) : Type 0 where
@@ -52,8 +52,8 @@ pub record Replays (prog : Program) (arguments : List ℤ) (globals : List Named
   pub reads : seen m ≡ replay prog workers (map event_of events) (running.start prog arguments (given globals))
   pub run : IsRun prog m
 
--- From the start the definitions' replay gets through some of the events, to a state where the next is a step of a worker that runs a task; there the
--- machine stopped.
+-- From the start the definitions' replay gets through some of the events, to a state where the next is a step at which the machine stops: its budget is
+-- used up there, or the top of the worker's task goes no further.
 pub record Stops (prog : Program) (arguments : List ℤ) (globals : List NamedCells) (workers : ℕ) (events : List Event) : Type 0 where
   pub before : List Event
   pub last : Event
@@ -61,4 +61,4 @@ pub record Stops (prog : Program) (arguments : List ℤ) (globals : List NamedCe
   pub parts : events ≡ before ++ last ∷ after
   pub stood : Run
   pub reached : Replays prog arguments globals workers before stood
-  pub stops : StopsOnly stood last
+  pub stops : StopsOnly prog stood last

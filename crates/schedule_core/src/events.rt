@@ -52,7 +52,7 @@ pub(crate) fn apply_to(run: &mut Run, event: &Event) -> Result<bool, OutOfMemory
     ensures over { ¬ IsGoing run.old → result ≡ Ok false }
     ensures step { (worker : ℕ) → event.now ≡ Event.Step worker → IfOk result (StepsWhere run.old run.new worker) }
     ensures event { IfOk result (DoesEvent run.old.verified.now run.old run.new (event_of event.now)) }
-    ensures stops { IsGoing run.old → IsTrapped run.new → StopsOnly run.old event.now }
+    ensures stops { IsGoing run.old → IsTrapped run.new → StopsOnly run.old.verified.now run.old event.now }
 {
     if run.phase != Phase::Going {
         return Ok(false);

@@ -62,7 +62,7 @@ impl<'v> Machine<'v> {
         ensures over { ¬ IsGoing self.old.run → result ≡ Ok false }
         ensures step { (worker : ℕ) → event.now ≡ Event.Step worker → IfOk result (StepsWhere self.old.run self.new.run worker) }
         ensures event { ¬ IsTrapped self.new.run → IfOk result (λ done. ∥ Happens self.old.run self.new.run (event_of event.now) done ∥₁) }
-        ensures stops { IsGoing self.old.run → IsTrapped self.new.run → StopsOnly self.old.run event.now }
+        ensures stops { IsGoing self.old.run → IsTrapped self.new.run → StopsOnly self.old.run.verified.now self.old.run event.now }
     {
         apply_to(&mut self.run, event)
     }

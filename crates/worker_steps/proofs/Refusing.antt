@@ -1,93 +1,36 @@
 -- Why the machine's own tests do not let a step be done.
-use Rattle.std.proofs.Common.{◌≡◌, ◌≢◌, ℕ, ◌+◌, ◌-◌, ◌<◌, ◌≤◌, ◌^◌, List, [], ◌∷◌, ◌++◌, length, length-append, Option, Some, None, ◌⊎◌, inl, inr, refl, sym, ap, ◌∙◌, subst, arith}
-use Rattle.std.specs.Prelude.{IsErr, IsSome, Result, Ok, Err, slice_get}
+use Rattle.std.proofs.Common.{◌≡◌, ◌≢◌, ℕ, ◌+◌, ◌-◌, ◌≤◌, List, [], ◌∷◌, ◌++◌, length, length-append, Option, Some, None, ◌⊎◌, inl, inr, refl, sym, ap, ◌∙◌, subst, arith}
+use Rattle.std.specs.Prelude.{IsErr, Result, Ok, Err, slice_get}
 use Rattle.std.specs.Option.{option_map}
 use Rattle.std.proofs.lemmas.List.{length-reverse}
-use Rattle.sync_join.specs.declared.count.RegionCount.{RegionCount}
 use Rattle.machine_core.specs.Paths.{Path}
 use Rattle.machine_core.specs.Cells.{Memory}
-use Rattle.machine_core.specs.Frames.{phis_at}
-use Rattle.machine_core.specs.Effect.{action_of, registers_along, traps}
+use Rattle.machine_core.specs.Effect.{action_of, traps}
 use Rattle.program.specs.declared.function.Program.{Program}
-use Rattle.program.specs.declared.identifier.BlockId.{BlockId}
 use Rattle.verifier.specs.Budgets.{budget_of}
 use Rattle.frame.specs.declared.effect.Effect.{Effect as Asked}
-use Rattle.frame.specs.declared.effect.Effect.TheVariants as effect
 use Rattle.frame.specs.declared.effect.Trap.{Trap}
 use Rattle.frame.specs.Answers.{trap_of}
 use Rattle.frame.specs.Asked.{DoesNext, HasRoom, asked}
 use Rattle.frame.specs.Reading.{frame_of}
-use Rattle.frame.specs.Room.{EffectWithin, FitsPhis, IsSound}
+use Rattle.frame.specs.Room.{EffectWithin, IsSound}
 use Rattle.cactus.specs.declared.node.Node.{Node}
-use Rattle.cactus.specs.Frames.{Frames, node_at, frame_at, AddsChild, IsRemoved}
+use Rattle.cactus.specs.Frames.{Frames, node_at, frame_at, IsRemoved}
 use Rattle.cactus.specs.ByPath.{IsBelow, IsTree}
-use Rattle.cactus.proofs.FramesLemmas.{frame_at-with_frame, lives-from_frame}
 use Rattle.worker_steps.specs.declared.activation.Activation.{Activation}
 use Rattle.worker_steps.specs.declared.halt.Halt.{Halt}
 use Rattle.worker_steps.specs.declared.halt.Halt.TheVariants as halt
 use Rattle.worker_steps.specs.declared.run.Run.{Run}
-use Rattle.worker_steps.specs.Forking.{Enters, with_change, changed_in}
-use Rattle.worker_steps.specs.Scheduling.{count_in, counted_in, living_within}
 use Rattle.worker_steps.specs.Seen.{place_of, seen, Agrees}
-use Rattle.worker_steps.specs.Stepping.{frame_in, IsRun}
-use Rattle.worker_steps.specs.Stopping.{CanReattach, Halts, HaltsAt, HasRoomBelow, Refuses, StopsAtStep, no_effect, not_let}
-use Rattle.worker_steps.proofs.Missing.{same_node, stands_here}
+use Rattle.worker_steps.specs.Stepping.{IsRun}
+use Rattle.worker_steps.specs.Stopping.{Halts, HaltsAt, Refuses, StopsAtStep, no_effect, not_let}
+use Rattle.worker_steps.proofs.Missing.{same_node}
 use Rattle.worker_steps.proofs.Performed.{same_frame}
 use Rattle.worker_steps.proofs.Views.{node_tells}
-
-pub nothing_some : {T : Type 0} (o : Option T) → o ≡ None → IsSome o → ⊥
-nothing_some None is some = cc
-nothing_some (Some x) is some = cc
 
 -- a frame that stands is found
 pub stood_not : {T : Type 0} (o : Option T) (x : T) → o ≡ Some x → o ≡ None → ⊥
 stood_not o x is none = let e : Some x ≡ None = sym is ∙ none in cc
-
--- ---- edges
-
-pub edge_refused : (prog : Program) (m : Run) (slot : ℕ) (a : Activation) (target : BlockId) → frame_at m.cactus slot ≡ Some a → ((p : Path) → FitsPhis a.frame (phis_at prog a.frame.function.0 target.0) → registers_along prog (frame_of p a.frame) target.0 ≡ None) → Refuses prog m slot (effect.Branch target)
-edge_refused prog m slot a target stood missing node stands agrees within go =
-    let same : node.frame ≡ a = same_frame m.cactus slot node a stands stood in
-    nothing_some (registers_along prog (frame_in node) target.0) (subst (λ (b : Activation). FitsPhis b.frame (phis_at prog b.frame.function.0 target.0) → registers_along prog (frame_of (place_of node) b.frame) target.0 ≡ None) (sym same) (missing (place_of node)) go.fits) go.values
-
--- the frame stands behind the edge
-pub entered_stands : (prog : Program) (old new : Run) (slot target : ℕ) → Enters prog old new slot target → (a : Activation) × (frame_at new.cactus slot ≡ Some a)
-entered_stands prog old new slot target e = (record e.before { frame = e.frame }, ap (λ (m : Run). frame_at m.cactus slot) e.new_is ∙ frame_at-with_frame old.cactus slot (record e.before { frame = e.frame }) (lives-from_frame old.cactus slot e.before e.stood))
-
--- so does one that was changed
-pub changed_stands : (m new : Run) (slot : ℕ) (a : Activation) (change : Activation → Activation) → frame_at m.cactus slot ≡ Some a → new ≡ with_change m slot change → frame_at new.cactus slot ≡ Some (change a)
-changed_stands m new slot a change stood is =
-    ap (λ (x : Run). frame_at x.cactus slot) is ∙ (ap (λ (o : Option Activation). frame_at (changed_in m.cactus slot change o) slot) stood ∙ frame_at-with_frame m.cactus slot (change a) (lives-from_frame m.cactus slot a stood))
-
--- ---- counts
-
--- the region is not counted
-pub uncounted : (m : Run) (slot region : ℕ) (a : Activation) (node : Node Activation) → frame_at m.cactus slot ≡ Some a → count_in a region ≡ None → node_at m.cactus slot ≡ Some node → IsSome (count_in node.frame region) → ⊥
-uncounted m slot region a node stood none stands some =
-    nothing_some (count_in a region) none (subst (λ (b : Activation). IsSome (count_in b region)) (same_frame m.cactus slot node a stands stood) some)
-
-counted_is : (a : Activation) (region : ℕ) (count : RegionCount) → count_in a region ≡ Some count → counted_in a region ≡ count.living
-counted_is a region count is = rw is refl
-
--- no child more can be counted
-pub full : (m : Run) (slot region : ℕ) (a : Activation) (count : RegionCount) (node : Node Activation) → frame_at m.cactus slot ≡ Some a → count_in a region ≡ Some count → node_at m.cactus slot ≡ Some node → counted_in node.frame region + 1 < 2 ^ 64 → count.living ≡ 18446744073709551615 → ⊥
-full m slot region a count node stood is stands less all =
-    let same : node.frame ≡ a = same_frame m.cactus slot node a stands stood in
-    let living : counted_in node.frame region ≡ count.living = ap (λ (b : Activation). counted_in b region) same ∙ counted_is a region count is in
-    omega arith
-
--- there is no room below the frame
-pub no_room : (m : Run) (slot : ℕ) (a : Activation) (node : Node Activation) → frame_at m.cactus slot ≡ Some a → ¬ HasRoomBelow m.cactus a.frame.depth → node_at m.cactus slot ≡ Some node → HasRoomBelow m.cactus node.frame.frame.depth → ⊥
-no_room m slot a node stood lacks stands room = lacks (subst (λ (b : Activation). HasRoomBelow m.cactus b.frame.depth) (same_frame m.cactus slot node a stands stood) room)
-
--- the parent stands once its child is made
-pub parent_lost : (old mid : Frames Activation) (parent number child : ℕ) (c : Activation) → AddsChild old mid parent number c child → frame_at mid parent ≡ None → ⊥
-parent_lost old mid parent number child c adds none =
-    let apart : parent ≢ child = λ same. (
-    let free : node_at old child ≡ None = adds.added.free in
-    let there : node_at old child ≡ Some adds.above = subst (λ s. node_at old s ≡ Some adds.above) same adds.stands in
-    stood_not (node_at old child) adds.above there free) in
-    stands_here mid parent adds.above (adds.added.change.others parent apart ∙ adds.stands) none
 
 -- ---- parents
 
@@ -123,21 +66,6 @@ module _ (frames : Frames Activation) (tree : IsTree frames) (slot parent : ℕ)
           let long : length (l ++ k ∷ []) ≡ length l + 1 = length-append l (k ∷ []) in
           let at : length (l ++ k ∷ []) - 1 ≡ length l = omega arith in
           stood_not (slice_get (l ++ k ∷ []) (length l)) k (at_end l k) (subst (λ n. slice_get (l ++ k ∷ []) n ≡ None) at none)
-
--- the parent counts no child within the region
-pub parent_uncounted : (frames : Frames Activation) (parent region : ℕ) (node : Node Activation) → node.parent ≡ Some parent → living_within frames parent region ≡ 0 → CanReattach frames node region → ⊥
-parent_uncounted frames parent region node has none can =
-    let e : Some parent ≡ Some can.parent = sym has ∙ can.its_parent in
-    let same : parent ≡ can.parent = cc in
-    let zero_there : living_within frames can.parent region ≡ 0 = subst (λ s. living_within frames s region ≡ 0) same none in
-    let some = can.counts in
-    omega arith
-
-pub nobody_counts : (frames : Frames Activation) (parent region : ℕ) → frame_at frames parent ≡ None → living_within frames parent region ≡ 0
-nobody_counts frames parent region none = rw none refl
-
-pub none_counted : (frames : Frames Activation) (parent region : ℕ) (a : Activation) → frame_at frames parent ≡ Some a → count_in a region ≡ None → living_within frames parent region ≡ 0
-none_counted frames parent region a stood none = rw (stood, none) refl
 
 -- ---- the next instruction
 

@@ -96,6 +96,7 @@ pub data Halts (prog : Program) (m : Run) (node : Node Activation) : Type 0 wher
   no_effect : (trap : Trap) → (HasRoom prog (place_of node) node.frame.frame (seen m).core.memory → traps (trap_of trap) (frame_in node) ≡ next_action prog m node) → Halts prog m node
   not_let : (e : Asked) → asked prog (place_of node) (frame_in node) (seen m).core.memory (Ok e) ≡ next_action prog m node → ¬ IsLet prog m node e → Halts prog m node
 
+-- the node that stands in the slot goes no further, if slots and hands agree
 abbrev pub HaltsAt : Program → Run → ℕ → Type 0
 HaltsAt prog m slot = (node : Node Activation) → node_at m.cactus slot ≡ Some node → Agrees m.cactus m.hands.items → Halts prog m node
 

@@ -4,7 +4,7 @@ use Rattle.worker_steps.specs.Stepping.{DoesEvent}
 use Rattle.worker_steps.proofs.Happening.{over_quiet, steal_done}
 use Rattle.schedule_core.specs.declared.event.Event.{Event}
 use Rattle.schedule_core.specs.Replaying.{event_of, StopsOnly}
-use Rattle.schedule_core.proofs.Replaying.{steal_goes_on, stops_step}
+use Rattle.schedule_core.proofs.Replaying.{steal_goes_on}
 use Rattle.schedule_core.proofs.events.apply_to.Goals as goal
 
 pub returns-then-ne-clause-event : goal.returns-then-ne-clause-event
@@ -25,8 +25,7 @@ returns-then-ne-clause-stops c going trapped =
 
 pub returns-in-Step-clause-stops : goal.returns-in-Step-clause-stops
 returns-in-Step-clause-stops c going trapped =
-    subst (λ (e : Event). StopsOnly c.args.run.now e) (sym c.in-Step.is)
-    (stops_step c.args.run.now c.step.new.self c.in-Step.worker c.step.result c.step.ensures.refused c.step.ensures.not_enabled c.step.ensures.enabled going trapped)
+    subst (λ (e : Event). StopsOnly c.args.run.now.verified.now c.args.run.now e) (sym c.in-Step.is) (c.step.ensures.stopped trapped)
 
 pub returns-in-Steal-clause-stops : goal.returns-in-Steal-clause-stops
 returns-in-Steal-clause-stops c going trapped = absurd (steal_goes_on c.args.run.now c.steal.new.self c.steal.ensures.kept going trapped)
