@@ -54,15 +54,15 @@ impl Verified {
     }
 
     /// The budget of a run, in instructions: what a call of `main` costs at its greatest measure by the rules on cost, at most
-    /// 1,000,000,000,000. That runs keep to it is not proved yet, so the machine tests for it.
+    /// 1,000,000,000,000. By the schedule theorem no run does more.
     pub fn budget(&self) -> u64
         ensures { result ≡ budget_of self.now }
     {
         self.budget
     }
 
-    /// How many frames a serial run stands on one another at most by the table: the depth of `main` at its greatest measure. That
-    /// runs keep to it is not proved yet.
+    /// How many frames a serial run stands on one another at most by the table: the depth of `main` at its greatest measure. By the
+    /// schedule theorem none is deeper.
     pub fn depth(&self) -> u64
         ensures { IsDepthOf self.now result }
     {
