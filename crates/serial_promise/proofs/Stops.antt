@@ -1,5 +1,5 @@
 -- The machine stops nowhere: each frame that a serial run leads to has room for its next step, and the definitions never trap.
-use Rattle.std.proofs.Common.{◌≡◌, inl, inr, ℕ, suc, ◌+◌, ◌<◌, ◌^◌, List, [], ◌∷◌, length, Option, Some, None, refl, sym, ap, subst, arith, ℤ}
+use Rattle.std.proofs.Common.{◌≡◌, inl, inr, ℕ, ◌+◌, ◌<◌, ◌^◌, List, ◌∷◌, Option, Some, None, refl, sym, subst, arith, ℤ}
 use Rattle.std.specs.Prelude.{IsSome, slice_get}
 use Rattle.machine_core.specs.Arithmetic.{Trap}
 use Rattle.machine_core.specs.Cells.{Memory}
@@ -15,13 +15,11 @@ use Rattle.program.specs.declared.identifier.ObjectName.TheVariants as object
 use Rattle.verifier.specs.Accepted.{IsProgramOf}
 use Rattle.verifier.specs.Budgets.{budget_of}
 use Rattle.store.specs.Cells.{NamedCells}
-use Rattle.frame.specs.declared.effect.Effect.{Effect}
-use Rattle.frame.specs.declared.effect.Effect.TheVariants as effect
 use Rattle.frame.specs.declared.frame.Frame.{Frame}
 use Rattle.frame.specs.Asked.{HasRoom}
 use Rattle.frame.specs.Reading.{frame_of}
 use Rattle.frame.specs.Room.{HasChild, HasNext, FitsPhis}
-use Rattle.room_laws.specs.Cells.{HasAllocaCells, StoresThere}
+use Rattle.room_laws.specs.Cells.{HasAllocaCells}
 use Rattle.room_laws.specs.Room.{DoesNotTrap}
 use Rattle.room_laws.proofs.Doable.{frames_have_room}
 use Rattle.room_laws.proofs.Moves.{moves_fit}
@@ -37,7 +35,7 @@ use Rattle.serial_machine.specs.Requirements.{unmet_in}
 use Rattle.serial_machine.specs.Running.{path_on, seen, memory_of, run_of}
 use Rattle.serial_machine.specs.Serially.{cells_of, StopsAt}
 use Rattle.serial_machine.specs.Stack.{Placed, HasNoStep}
-use Rattle.serial_machine.specs.Stepping.{HasPlacesIn, HasRoomAt, HasSpace, declared_in}
+use Rattle.serial_machine.specs.Stepping.{HasPlacesIn, HasRoomAt, declared_in}
 use Rattle.serial_machine.proofs.Running.{seen_long}
 use Rattle.walk_laws.specs.Laws.{GoesOnTo, IsCounted}
 use Rattle.walk_laws.proofs.Ahead.{walks_go_on}
