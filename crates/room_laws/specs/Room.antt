@@ -42,7 +42,7 @@ EffectsFit =
     (prog : Program) → HasKinds prog → (p : Path) (f : Frame) (m : Memory) → HoldsRegisters prog f → HasNext f → HasChild f → DoesNotTrap prog p (frame_of p f) m → (e : Effect) →
     asked prog p (frame_of p f) m (Ok e) ≡ action_of prog p (frame_of p f) m → CanDo f e
 
--- so the machine's own tests stop no frame of a program of kinds
+-- so a frame has room for what its place asks for, where its registers hold values of their kinds
 abbrev pub FramesHaveRoom : Type 0
 FramesHaveRoom =
     (prog : Program) → HasKinds prog → (p : Path) (f : Frame) (m : Memory) → HasKindedRegisters prog (frame_of p f) → HoldsRegisters prog f → HasNext f → HasChild f → DoesNotTrap prog p (frame_of p f) m → HasRoom prog p f m

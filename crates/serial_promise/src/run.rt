@@ -22,6 +22,7 @@ pub fn run_serially(
     ensures refused { (requirement : ℕ) → unmet_in verified.now arguments.now ≡ Some requirement → result ≡ Err (RunFault.BadArguments requirement memory) }
     ensures ends { unmet_in verified.now arguments.now ≡ None → AreGlobalsOf verified.now memory → EndsOrLacksMemory verified.now arguments.now memory result }
 {
+    // for what it says of the module: that it is accepted
     let _accepted = verified.program();
     serial_run(alloc, verified, arguments, memory)
 }
