@@ -4,7 +4,7 @@ use Rattle.std.specs.Prelude.{Result, Ok, Err, IfOk, OnOk, IsSomeAnd}
 use Rattle.lists.specs.declared.memory.OutOfMemory.{OutOfMemory}
 use Rattle.std.proofs.lemmas.Bool.Decides.{eqb_tells}
 use Rattle.frame.specs.declared.path.Path.{Path}
-use Rattle.machine_core.proofs.Places.{same_path_tells}
+use Rattle.running.proofs.Places.{same_path_tells}
 use Rattle.cactus.specs.declared.node.Node.{Node}
 use Rattle.cactus.specs.Frames.{Frames, node_at, ChangesOnly, IsAdded, AddsChild, IsRemoved}
 use Rattle.cactus.specs.ByPath.{first_named, named, IsBelow, IsTree, IsLeaf, Binds, child_node, GrowsMap}

@@ -10,7 +10,7 @@ use Rattle.program.specs.declared.instruction.Phi.{Phi}
 use Rattle.cfg.specs.declared.structure.BlockEdges.{BlockEdges}
 use Rattle.cfg.specs.Paths.{edges_of}
 use Rattle.cfg.specs.Rules.{leads_to, HasPredecessor, IsMatched, IsUnmatched}
-use Rattle.cfg.specs.Faults.{IsJudged}
+use Rattle.refusal.specs.Earliest.{IsJudged}
 use Rattle.cfg.proofs.Searching.{marked_within}
 
 -- the marks of the predecessors, read at a block

@@ -6,11 +6,11 @@ use Rattle.std.proofs.lemmas.List.Elements.{All-nil}
 use Rattle.program.specs.declared.function.Function.{Function}
 use Rattle.program.specs.declared.function.Program.{Program}
 use Rattle.cfg.specs.declared.structure.FunctionGraph.{FunctionGraph}
-use Rattle.cfg.specs.declared.refusal.Broken.{Broken}
+use Rattle.refusal.specs.declared.broken.Broken.{Broken}
 use Rattle.cfg.specs.Edges.{graph_of, graphs_of}
 use Rattle.cfg.specs.Rules.{IsFunctionRight, IsFunctionBroken, IsGraphRight, IsGraphBroken}
-use Rattle.cfg.specs.Faults.{IsLowerOf, IsJudged}
-use Rattle.cfg.proofs.Judging.{judged_next}
+use Rattle.refusal.specs.Earliest.{IsLowerOf, IsJudged}
+use Rattle.refusal.proofs.Judging.{judged_next}
 
 -- the functions so far: their graphs, and what is broken in them
 pub record Judging (functions : List Function) (i : ℕ) (made : List FunctionGraph) (named : Option Broken) : Type 0 where

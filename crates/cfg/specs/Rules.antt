@@ -8,12 +8,9 @@ use Rattle.program.specs.declared.function.Function.{Function}
 use Rattle.program.specs.declared.function.Program.{Program}
 use Rattle.cfg.specs.declared.structure.Edge.{Edge}
 use Rattle.cfg.specs.declared.structure.BlockEdges.{BlockEdges}
-use Rattle.cfg.specs.declared.refusal.Broken.{Broken}
-use Rattle.cfg.specs.declared.refusal.GraphFault.{GraphFault}
-use Rattle.cfg.specs.declared.refusal.GraphFault.TheVariants.{Fault, Memory}
+use Rattle.refusal.specs.declared.broken.Broken.{Broken}
 use Rattle.cfg.specs.Edges.{graph_of}
 use Rattle.cfg.specs.Paths.{edges_of, IsOnPath}
-use Rattle.cfg.specs.Faults.{IsAtOrBefore}
 
 -- one of the edges leads to this block
 abbrev pub leads_to : ℕ → List Edge → Bool
@@ -68,14 +65,8 @@ abbrev pub IsBlockBroken : List BlockEdges → ℕ → Block → Broken → Type
 IsBlockBroken blocks b block broken = IsPhiBroken blocks b block.phis broken ⊎ (IsLabelBroken blocks b block.line broken ⊎ IsEndBroken block broken)
 
 abbrev pub IsFunctionBroken : Function → Broken → Type 0
-IsFunctionBroken function broken = (b : ℕ) × (block : Block) × (slice_get function.blocks b ≡ Some block) × IsBlockBroken (graph_of function).blocks b block broken
+IsFunctionBroken function broken =
+    (b : ℕ) × (block : Block) × (slice_get function.blocks b ≡ Some block) × IsBlockBroken (graph_of function).blocks b block broken
 
 abbrev pub IsGraphBroken : Program → Broken → Type 0
 IsGraphBroken program broken = Any (λ function. IsFunctionBroken function broken) program.functions
-
--- what a fault says: this rule is broken at this line, and no other is broken on a lower line, or there with a lower number
-abbrev pub IsGraphFault : Program → GraphFault → Type 0
-IsGraphFault program Memory = Unit {0}
-IsGraphFault program (Fault number line) =
-    let named : Broken = record { line = line; number = number } in
-    IsGraphBroken program named × ((b : Broken) → IsGraphBroken program b → IsAtOrBefore named b)

@@ -1,12 +1,14 @@
 ghost use Rattle.std.specs.Prelude.{◌≡◌, IfOk, IfErr};
-ghost use Rattle.cfg.specs.Rules.{IsGraphRight, IsGraphFault};
+ghost use Rattle.refusal.specs.Earliest.{NamesEarliest};
+ghost use Rattle.cfg.specs.Rules.{IsGraphRight, IsGraphBroken};
 
+use crate::GraphFault;
 use crate::edges::function_graph;
 use crate::judge::function_fault;
 use crate::program_graph::Graph;
-use crate::refusal::{Broken, GraphFault, lower};
 use crate::structure::FunctionGraph;
 use lists::Seq;
+use refusal::{Broken, lower};
 use std::alloc::Global;
 use types::Typed;
 
@@ -15,7 +17,7 @@ use types::Typed;
 pub fn graph(alloc: Global, typed: Typed) -> Result<Graph, GraphFault>
     ensures same { IfOk result (λ graph. graph.typed ≡ typed) }
     ensures right { IfOk result (λ graph. IsGraphRight typed.program) }
-    ensures fault { IfErr result (IsGraphFault typed.program) }
+    ensures fault { IfErr result (NamesEarliest (IsGraphBroken typed.program)) }
 {
     let mut functions: Vec<FunctionGraph> = Vec::new(alloc);
     let mut named: Option<Broken> = None;
@@ -26,10 +28,7 @@ pub fn graph(alloc: Global, typed: Typed) -> Result<Graph, GraphFault>
         functions.push(made)?;
     }
     match named {
-        Some(broken) => Err(GraphFault::Fault {
-            number: broken.number,
-            line: broken.line,
-        }),
+        Some(broken) => Err(broken.into()),
         None => Ok(Graph {
             typed,
             functions: Seq::from_vec(functions),

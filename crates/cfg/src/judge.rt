@@ -2,13 +2,13 @@ ghost use Rattle.std.specs.Prelude.{◌≡◌, ◌<◌, ◌↔◌, ◌==◌, ℕ
 ghost use Rattle.std.specs.List.{list_any};
 ghost use Rattle.cfg.specs.Edges.{graph_of};
 ghost use Rattle.cfg.specs.Paths.{IsOnPath};
-ghost use Rattle.cfg.specs.Faults.{IsJudged};
+ghost use Rattle.refusal.specs.Earliest.{IsJudged};
 ghost use Rattle.cfg.specs.Rules.{leads_to, HasPredecessor, ArePhisMatched, IsPhiBroken, IsLabelRight, IsLabelBroken, IsBlockRight, IsBlockBroken, IsEndBroken, IsFunctionRight, IsFunctionBroken};
 
 use crate::reach::{no_marks, one_mark, reached};
-use crate::refusal::{Broken, lower};
 use crate::structure::{BlockEdges, Edge};
 use program::{Block, Function, Phi, PhiEntry};
+use refusal::{Broken, lower};
 use std::alloc::{AllocError, Global};
 
 /// Marks the blocks that a path from the entry leads to.
@@ -60,7 +60,8 @@ fn is_marked(marks: &[bool]) -> bool
 
 /// Whether each marked block has exactly one entry, and no other block has one.
 fn is_matched(alloc: Global, leading: &[bool], entries: &[PhiEntry]) -> Result<bool, AllocError>
-    ensures { IfOk result (λ r. IsTrue r ↔ ((a : ℕ) → count_by (λ e. e.predecessor.0 == a) entries.now ≡ (if slice_index_or leading.now a false then 1 else 0))) }
+    ensures { IfOk result (λ r. IsTrue r
+        ↔ ((a : ℕ) → count_by (λ e. e.predecessor.0 == a) entries.now ≡ (if slice_index_or leading.now a false then 1 else 0))) }
 {
     let mut left = leading.to_vec(alloc)?;
     for entry in entries {

@@ -1,5 +1,11 @@
 //! The graph of a program: the edges between the blocks of each function, the moves of the phis along them, and the
 //! one search along edges that the layers above use.
+//!
+//! | Number | Rule |
+//! |---|---|
+//! | 211 | a phi has exactly one entry for each predecessor of its block, and no other |
+//! | 212 | the entry block has no predecessor, and each block is on a path |
+//! | 213 | each block has a terminator |
 #![tactic(auto)]
 
 mod build;
@@ -7,12 +13,11 @@ mod edges;
 mod judge;
 mod program_graph;
 mod reach;
-mod refusal;
 mod structure;
 
 pub use build::graph;
 pub use edges::make_moves;
 pub use program_graph::Graph;
 pub use reach::{no_marks, one_mark, reached};
-pub use refusal::{Broken, GraphFault, lower};
+pub use refusal::Refused as GraphFault;
 pub use structure::{BlockEdges, Edge, FunctionGraph, Move, Way};

@@ -3,14 +3,14 @@ use Rattle.std.proofs.Common.{◌≡◌, ◌∙◌, ℕ, Bool, List, [], Option,
 use Rattle.std.specs.Prelude.{IfOk}
 use Rattle.linear.specs.Forms.{Combination}
 use Rattle.linear.specs.declared.form.Fact.{Fact}
-use Rattle.cfg.specs.declared.refusal.Broken.{Broken}
+use Rattle.refusal.specs.declared.broken.Broken.{Broken}
 use Rattle.cfg.specs.declared.structure.Move.{Move}
-use Rattle.region_match.specs.ByLabel.{IsNamed}
+use Rattle.refusal.specs.Earliest.{IsEarliest}
 use Rattle.ranges.specs.Sums.{shows}
 use Rattle.cost_table.specs.Rules.{left_behind, less_form, IsPairBroken}
 
-pub pair_named : (number line : ℕ) (a a' b b' : Bool) (r : Option Broken) → a ≡ a' → b ≡ b' → IsNamed (IsPairBroken number line a b) r → IsNamed (IsPairBroken number line a' b') r
-pair_named number line a a' b b' r p q j = subst (λ (x : Bool). IsNamed (IsPairBroken number line x b') r) p (subst (λ (y : Bool). IsNamed (IsPairBroken number line a y) r) q j)
+pub pair_named : (number line : ℕ) (a a' b b' : Bool) (r : Option Broken) → a ≡ a' → b ≡ b' → IsEarliest (IsPairBroken number line a b) r → IsEarliest (IsPairBroken number line a' b') r
+pair_named number line a a' b b' r p q j = subst (λ (x : Bool). IsEarliest (IsPairBroken number line x b') r) p (subst (λ (y : Bool). IsEarliest (IsPairBroken number line a y) r) q j)
 
 -- what is shown of an edge, by equal parts
 pub shown_next : (facts facts' : List Fact) (left : Combination) (n : ℕ) (moves moves' : List Move) (next next' : Combination) (b : Bool) → facts ≡ facts' → moves ≡ moves' → next ≡ next' →

@@ -8,7 +8,7 @@ use Rattle.linear.specs.declared.form.Fact.{Fact}
 use Rattle.cfg.specs.declared.structure.Move.{Move}
 use Rattle.ranges.specs.declared.sum.Part.{Part}
 use Rattle.ranges.specs.declared.sum.Sum.{Sum}
-use Rattle.ranges.specs.Sums.{with_parts, start_of, form_of, shows_form, shows}
+use Rattle.ranges.specs.Sums.{with_parts, start_of, sum_form, shows_form, shows}
 use Rattle.cost_table.specs.Rules.{left_behind, less_form}
 use Rattle.cost_table.specs.Tables.{as_u128}
 
@@ -20,7 +20,7 @@ no_start : (c : ℤ) → 2 ^ 100 ≤ unsigned_abs c → start_of c ≡ None
 no_start c far = ap (λ (b : Bool). if b then Some (constant_form c) else None) (le-ltb (unsigned_abs c) (2 ^ 100) far)
 
 past_forms : (facts : List Fact) (s : Sum) → 2 ^ 100 ≤ unsigned_abs s.constant → shows facts s ≡ false
-unfolding form_of
+unfolding sum_form
 past_forms facts s far = ap (λ (f : Option Combination). shows_form facts (with_parts s.parts f)) (no_start s.constant far) ∙ ap (shows_form facts) (no_form s.parts)
 
 pub past_work : (facts : List Fact) (left : Combination) (n : ℕ) → unsigned_abs left.constant < 2 ^ 100 → 2 ^ 104 ≤ n → shows facts (left_behind left n) ≡ false

@@ -45,7 +45,8 @@ self_depth self depth (Some callee) = if callee == self then depth else 0
 
 -- t + 1 + depth(f, m - 1) at a self call within t detaches
 abbrev pub self_call_depth : ℕ → List Task → ℕ → ℕ → Block → ℕ
-self_call_depth self tasks below b block = greatest (λ (s : Step). self_depth self (suc (detaches_around tasks b) + below) (callee_of s.instruction)) block.steps
+self_call_depth self tasks below b block =
+    greatest (λ (s : Step). self_depth self (suc (detaches_around tasks b) + below) (callee_of s.instruction)) block.steps
 
 -- the greatest of all blocks, from this number on
 abbrev pub greatest_block : (ℕ → Block → ℕ) → ℕ → List Block → ℕ
@@ -64,7 +65,8 @@ self_calls_depth self tasks blocks below = greatest_block (self_call_depth self 
 -- t + 1 + depth(f, m - 1) at a self call
 abbrev pub depth_from : List ℕ → ℕ → List Task → List Block → ℕ → ℕ
 depth_from before self tasks blocks zero = flat_depth before self tasks blocks
-depth_from before self tasks blocks (suc m) = max (flat_depth before self tasks blocks) (self_calls_depth self tasks blocks (depth_from before self tasks blocks m))
+depth_from before self tasks blocks (suc m) =
+    max (flat_depth before self tasks blocks) (self_calls_depth self tasks blocks (depth_from before self tasks blocks m))
 
 -- ---- all functions: each calls itself or those before it
 

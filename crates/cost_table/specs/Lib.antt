@@ -1,4 +1,5 @@
 pub mod Cost
+pub mod Doing
 pub mod Depth
 pub mod Rules
 pub mod Tables

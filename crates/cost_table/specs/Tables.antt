@@ -30,23 +30,20 @@ climbed entry (suc m) = max entry.flat (as_u64 (above_self_call entry.rise (clim
 
 -- ---- the table
 
--- the row of the function of this number
-pub record IsEntry (program : Program) (regions : Regions) (f : ℕ) (function : Function) (entry : Entry) : Type 0 where
-  pub bound : entry.bound ≡ function.measure.bound
-  pub budget : entry.budget ≡ function.budget
-  pub flat : entry.flat ≡ as_u64 (flat_depth (first_depths program regions f) f (tasks_of regions f) function.blocks)
-  pub rise : entry.rise ≡ as_u64 (self_calls_depth f (tasks_of regions f) function.blocks 0)
-
--- the same over any list of the depths before
+-- the row of a function of this number, over the depths of those before it
 pub record IsEntryOver (before : List ℕ) (f : ℕ) (tasks : List Task) (function : Function) (entry : Entry) : Type 0 where
   pub bound : entry.bound ≡ function.measure.bound
   pub budget : entry.budget ≡ function.budget
   pub flat : entry.flat ≡ as_u64 (flat_depth before f tasks function.blocks)
   pub rise : entry.rise ≡ as_u64 (self_calls_depth f tasks function.blocks 0)
 
+abbrev pub IsEntry : Program → Regions → ℕ → Function → Entry → Type 0
+IsEntry program regions f function entry = IsEntryOver (first_depths program regions f) f (tasks_of regions f) function entry
+
 pub record IsTable (program : Program) (regions : Regions) (table : Table) : Type 0 where
   pub functions : length table.functions ≡ length program.functions
-  pub each : (f : ℕ) (function : Function) (entry : Entry) → slice_get program.functions f ≡ Some function → slice_get table.functions f ≡ Some entry → IsEntry program regions f function entry
+  pub each : (f : ℕ) (function : Function) (entry : Entry) → slice_get program.functions f ≡ Some function → slice_get table.functions f ≡ Some entry
+      → IsEntry program regions f function entry
 
 abbrev pub bounded : ℕ → ℕ → ℕ → Option ℕ
 bounded bound m value = if nat_le m bound then Some value else None

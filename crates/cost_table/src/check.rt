@@ -1,21 +1,22 @@
 ghost use Rattle.std.specs.Prelude.{Some, IfOk, IfErr, OnOk, slice_get};
-ghost use Rattle.cfg.specs.declared.refusal.Broken.{Broken};
-ghost use Rattle.region_match.specs.ByLabel.{IsNamed};
-ghost use Rattle.ranges.specs.Places.{IsFunctionTable, AreFacts};
-ghost use Rattle.cost_table.specs.Rules.{known_at, IsEndingUncovered, AreStepsNotFalling, IsEntryBroken, IsBlockBrokenBy, AreBlocksBroken, IsFunctionBroken, IsCostBroken, IsCostFault};
+ghost use Rattle.refusal.specs.declared.broken.Broken.{Broken};
+ghost use Rattle.refusal.specs.Earliest.{IsEarliest, NamesEarliest};
+ghost use Rattle.ranges.specs.Places.{IsFunctionTable, AreFacts, facts_in_table};
+ghost use Rattle.cost_table.specs.Rules.{IsEndingUncovered, AreStepsNotFalling, IsEntryBroken, IsBlockBrokenBy, AreBlocksBroken, IsFunctionBroken, IsCostBroken};
 ghost use Rattle.cost_table.specs.Tables.{IsTable};
 
-use crate::fault::CostFault;
+use crate::CostFault;
 use crate::judge::{
     budget_fault, cost_fault, measure_fault, start_fault, step_fault, uncovered_fault,
 };
 use crate::table::{Table, make_table};
 use crate::work::work_of;
-use cfg::{Broken, Graph, lower};
+use cfg::Graph;
 use linear::Fact;
 use lists::OutOfMemory;
 use program::{Block, Function, Program};
 use ranges::{BlockFacts, Facts, FunctionFacts, start_facts, stated};
+use refusal::{Broken, lower};
 use region_match::Regions;
 use std::alloc::Global;
 
@@ -28,7 +29,7 @@ fn ending_fault(
     block: &Block,
     table: &BlockFacts,
 ) -> Result<Option<Broken>, OutOfMemory>
-    ensures { IfOk result (IsNamed (IsEndingUncovered functions.now function.now index block.now table.now.facts table.now.edges block.now.ending)) }
+    ensures { IfOk result (IsEarliest (IsEndingUncovered functions.now function.now index block.now table.now.facts table.now.edges block.now.ending)) }
 {
     match &block.ending {
         Some(ending) => {
@@ -49,7 +50,7 @@ fn steps_fault(
     block: &Block,
     table: &BlockFacts,
 ) -> Result<Option<Broken>, OutOfMemory>
-    ensures { IfOk result (IsNamed (AreStepsNotFalling function.now index block.now (known_at table.now))) }
+    ensures { IfOk result (IsEarliest (AreStepsNotFalling function.now index block.now (facts_in_table table.now))) }
 {
     let mut named: Option<Broken> = None;
     let steps = block.steps.as_slice();
@@ -71,7 +72,8 @@ fn block_fault(
     start: &[Fact],
     table: &BlockFacts,
 ) -> Result<Option<Broken>, OutOfMemory>
-    ensures { IfOk result (IsNamed (IsBlockBrokenBy functions.now function.now index block.now start.now (known_at table.now) table.now.facts table.now.edges)) }
+    ensures { IfOk result (IsEarliest
+        (IsBlockBrokenBy functions.now function.now index block.now start.now (facts_in_table table.now) table.now.facts table.now.edges)) }
 {
     let at_start = start_fault(alloc, start, block)?;
     let at_end = ending_fault(alloc, functions, function, index, block, table)?;
@@ -88,7 +90,7 @@ fn blocks_fault(
     facts: &FunctionFacts,
 ) -> Result<Option<Broken>, OutOfMemory>
     requires { IsFunctionTable functions.now function.now facts.now }
-    ensures { IfOk result (IsNamed (AreBlocksBroken functions.now index function.now)) }
+    ensures { IfOk result (IsEarliest (AreBlocksBroken functions.now index function.now)) }
 {
     let mut named: Option<Broken> = None;
     let tables = facts.blocks.as_slice();
@@ -104,7 +106,7 @@ fn blocks_fault(
 
 /// What is broken at the entry of a function.
 fn entry_fault(alloc: Global, function: &Function) -> Result<Option<Broken>, OutOfMemory>
-    ensures { IfOk result (IsNamed (IsEntryBroken function.now (slice_get function.now.blocks 0))) }
+    ensures { IfOk result (IsEarliest (IsEntryBroken function.now (slice_get function.now.blocks 0))) }
 {
     match function.blocks.as_slice().first() {
         Some(entry) => {
@@ -126,7 +128,7 @@ fn function_fault(
     facts: &FunctionFacts,
 ) -> Result<Option<Broken>, OutOfMemory>
     requires { IsFunctionTable functions.now function.now facts.now }
-    ensures { IfOk result (IsNamed (IsFunctionBroken functions.now index function.now)) }
+    ensures { IfOk result (IsEarliest (IsFunctionBroken functions.now index function.now)) }
 {
     let in_blocks = blocks_fault(alloc, functions, index, function, facts)?;
     let at_entry = entry_fault(alloc, function)?;
@@ -141,7 +143,7 @@ fn program_fault(
     facts: &Facts,
 ) -> Result<Option<Broken>, OutOfMemory>
     requires { AreFacts program.now facts.now }
-    ensures { IfOk result (IsNamed (IsCostBroken program.now)) }
+    ensures { IfOk result (IsEarliest (IsCostBroken program.now)) }
 {
     let mut named: Option<Broken> = None;
     let tables = facts.functions.as_slice();
@@ -165,14 +167,11 @@ pub fn check_cost(
     requires { AreFacts graph.now.typed.program facts.now }
     ensures table { IfOk result (IsTable graph.now.typed.program regions.now) }
     ensures right { OnOk result ((b : Broken) → IsCostBroken graph.now.typed.program b → ⊥) }
-    ensures fault { IfErr result (IsCostFault graph.now.typed.program) }
+    ensures fault { IfErr result (NamesEarliest (IsCostBroken graph.now.typed.program)) }
 {
     let program = &graph.typed.program;
     match program_fault(alloc, program, facts)? {
-        Some(broken) => Err(CostFault::Fault {
-            number: broken.number,
-            line: broken.line,
-        }),
+        Some(broken) => Err(broken.into()),
         None => Ok(make_table(alloc, program, regions)?),
     }
 }

@@ -1,17 +1,18 @@
 ghost use Rattle.std.specs.Prelude.{◌≡◌, ℕ, List, Any, false, IfOk, slice_get, pos};
 ghost use Rattle.linear.specs.Forms.{constant_form};
 ghost use Rattle.program.specs.declared.function.Function.{Function};
-ghost use Rattle.cfg.specs.declared.refusal.Broken.{Broken};
-ghost use Rattle.region_match.specs.ByLabel.{IsNamed};
-ghost use Rattle.cost_table.specs.Rules.{IsPairBroken, IsWork, IsOverdrawn, left_calls, left_instructions, IsEdgeUncovered, IsForkUncovered, IsEndUncovered, IsUncoveredAt, IsUnbounded, IsNotFalling, IsCallNotFalling, IsOverBudget, IsTooCostly};
+ghost use Rattle.refusal.specs.declared.broken.Broken.{Broken};
+ghost use Rattle.refusal.specs.Earliest.{IsEarliest};
+ghost use Rattle.cost_table.specs.Rules.{IsPairBroken, IsOverdrawn, left_calls, left_instructions, IsEdgeUncovered, IsForkUncovered, IsEndUncovered, IsUncoveredAt, IsUnbounded, IsNotFalling, IsCallNotFalling, IsOverBudget, IsTooCostly};
+ghost use Rattle.cost_table.specs.Doing.{IsWork};
 
 use crate::sum::{covers_both, covers_next, covers_work, is_at_least_zero, is_at_most};
 use crate::work::{Work, whole_cost};
-use cfg::{Broken, lower};
 use linear::{Fact, Form};
 use lists::OutOfMemory;
 use program::{Argument, Block, BlockId, Ending, Function, Instruction, Step, Terminator};
 use ranges::{EdgeFacts, argument_moves};
+use refusal::{Broken, lower};
 use std::alloc::Global;
 
 /// The greatest cost that a call may have.
@@ -19,7 +20,7 @@ const GREATEST_COST: u128 = 1_000_000_000_000;
 
 /// The rule of this number at this line, unless it holds of self calls and of instructions.
 fn fault_unless(calls: bool, instructions: bool, line: u32, number: u16) -> Option<Broken>
-    ensures { IsNamed (IsPairBroken number line calls instructions) result }
+    ensures { IsEarliest (IsPairBroken number line calls instructions) result }
 {
     if calls && instructions {
         None
@@ -34,7 +35,7 @@ pub fn start_fault(
     known: &[Fact],
     block: &Block,
 ) -> Result<Option<Broken>, OutOfMemory>
-    ensures { IfOk result (IsNamed (IsOverdrawn known.now block.now)) }
+    ensures { IfOk result (IsEarliest (IsOverdrawn known.now block.now)) }
 {
     let left = &block.left;
     let calls = covers_work(alloc, known, &left.self_calls, 0)?;
@@ -73,7 +74,8 @@ fn edge_fault(
     line: u32,
     edge: &EdgeFacts,
 ) -> Result<Option<Broken>, OutOfMemory>
-    ensures { IfOk result (λ r. (functions : List Function) (f : ℕ) → IsWork functions f block.now work → IsNamed (IsEdgeUncovered functions function.now f block.now line edge.now) r) }
+    ensures { IfOk result (λ r. (functions : List Function) (f : ℕ) → IsWork functions f block.now work
+        → IsEarliest (IsEdgeUncovered functions function.now f block.now line edge.now) r) }
 {
     let none = Form::from_constant(alloc, 0);
     let left = &block.left;
@@ -103,7 +105,8 @@ fn edges_fault(
     line: u32,
     edges: &[EdgeFacts],
 ) -> Result<Option<Broken>, OutOfMemory>
-    ensures { IfOk result (λ r. (functions : List Function) (f : ℕ) → IsWork functions f block.now work → IsNamed (λ (b : Broken). Any (λ e. IsEdgeUncovered functions function.now f block.now line e b) edges.now) r) }
+    ensures { IfOk result (λ r. (functions : List Function) (f : ℕ) → IsWork functions f block.now work
+        → IsEarliest (λ (b : Broken). Any (λ e. IsEdgeUncovered functions function.now f block.now line e b) edges.now) r) }
 {
     let mut named: Option<Broken> = None;
     for edge in edges {
@@ -124,7 +127,8 @@ fn fork_fault(
     body: BlockId,
     continuation: BlockId,
 ) -> Result<Option<Broken>, OutOfMemory>
-    ensures { IfOk result (λ r. (functions : List Function) (f : ℕ) → IsWork functions f block.now work → IsNamed (IsForkUncovered functions function.now f block.now line known.now body.0 continuation.0) r) }
+    ensures { IfOk result (λ r. (functions : List Function) (f : ℕ) → IsWork functions f block.now work
+        → IsEarliest (IsForkUncovered functions function.now f block.now line known.now body.0 continuation.0) r) }
 {
     let none = Form::from_constant(alloc, 0);
     let left = &block.left;
@@ -153,7 +157,8 @@ fn end_fault(
     line: u32,
     known: &[Fact],
 ) -> Result<Option<Broken>, OutOfMemory>
-    ensures { IfOk result (λ r. (functions : List Function) (f : ℕ) → IsWork functions f block.now work → IsNamed (IsEndUncovered functions f block.now line known.now) r) }
+    ensures { IfOk result (λ r. (functions : List Function) (f : ℕ) → IsWork functions f block.now work
+        → IsEarliest (IsEndUncovered functions f block.now line known.now) r) }
 {
     let left = &block.left;
     let calls = covers_work(alloc, known, &left.self_calls, work.calls)?;
@@ -171,7 +176,8 @@ pub fn uncovered_fault(
     edges: &[EdgeFacts],
     ending: &Ending,
 ) -> Result<Option<Broken>, OutOfMemory>
-    ensures { IfOk result (λ r. (functions : List Function) (f : ℕ) → IsWork functions f block.now work → IsNamed (IsUncoveredAt functions function.now f block.now ending.now.line known.now edges.now ending.now.terminator) r) }
+    ensures { IfOk result (λ r. (functions : List Function) (f : ℕ) → IsWork functions f block.now work
+        → IsEarliest (IsUncoveredAt functions function.now f block.now ending.now.line known.now edges.now ending.now.terminator) r) }
 {
     let line = ending.line;
     match &ending.terminator {
@@ -205,7 +211,7 @@ pub fn measure_fault(
     known: &[Fact],
     function: &Function,
 ) -> Result<Option<Broken>, OutOfMemory>
-    ensures { IfOk result (IsNamed (IsUnbounded function.now known.now)) }
+    ensures { IfOk result (IsEarliest (IsUnbounded function.now known.now)) }
 {
     let measure = &function.measure;
     let low = covers_work(alloc, known, &measure.form, 0)?;
@@ -221,7 +227,7 @@ fn falling_fault(
     known: &[Fact],
     arguments: &[Argument],
 ) -> Result<Option<Broken>, OutOfMemory>
-    ensures { IfOk result (IsNamed (IsNotFalling function.now line known.now arguments.now)) }
+    ensures { IfOk result (IsEarliest (IsNotFalling function.now line known.now arguments.now)) }
 {
     let form = &function.measure.form;
     let moves = argument_moves(alloc, arguments)?;
@@ -238,7 +244,7 @@ pub fn step_fault(
     known: &[Fact],
     step: &Step,
 ) -> Result<Option<Broken>, OutOfMemory>
-    ensures { IfOk result (IsNamed (IsCallNotFalling function.now index step.now.line known.now step.now.instruction)) }
+    ensures { IfOk result (IsEarliest (IsCallNotFalling function.now index step.now.line known.now step.now.instruction)) }
 {
     match &step.instruction {
         Instruction::Call {
@@ -271,7 +277,7 @@ pub fn budget_fault(
     function: &Function,
     entry: &Block,
 ) -> Result<Option<Broken>, OutOfMemory>
-    ensures { IfOk result (IsNamed (IsOverBudget function.now known.now entry.now)) }
+    ensures { IfOk result (IsEarliest (IsOverBudget function.now known.now entry.now)) }
 {
     let budget = &function.budget;
     let calls = is_at_most(alloc, known, budget.self_calls, &entry.left.self_calls)?;
@@ -281,7 +287,7 @@ pub fn budget_fault(
 
 /// A call of the function may cost over a million million.
 pub fn cost_fault(function: &Function) -> Option<Broken>
-    ensures { IsNamed (IsTooCostly function.now) result }
+    ensures { IsEarliest (IsTooCostly function.now) result }
 {
     if whole_cost(function) > GREATEST_COST {
         Some(Broken {

@@ -17,7 +17,6 @@ mod callee;
 mod check;
 mod depth;
 mod entry;
-mod fault;
 mod judge;
 mod level;
 mod sum;
@@ -26,5 +25,5 @@ mod work;
 
 pub use check::check_cost;
 pub use entry::Entry;
-pub use fault::CostFault;
+pub use refusal::Refused as CostFault;
 pub use table::{Table, make_table};

@@ -1,6 +1,6 @@
 ghost use Rattle.std.specs.Prelude.{◌≡◌};
 ghost use Rattle.cost_table.specs.Cost.{callee_cost, calls_done, instructions_done, self_call, whole_cost, whole_cost_of};
-ghost use Rattle.cost_table.specs.Rules.{IsWork};
+ghost use Rattle.cost_table.specs.Doing.{IsWork};
 ghost use Rattle.cost_table.specs.Tables.{as_u128};
 
 use crate::callee::callee_of;

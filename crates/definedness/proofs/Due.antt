@@ -12,7 +12,7 @@ use Rattle.definedness.specs.declared.sets.Label.{Label}
 use Rattle.definedness.specs.declared.sets.Label.TheVariants.{Sure, Due}
 use Rattle.definedness.specs.declared.sets.Sets.{Sets}
 use Rattle.definedness.specs.Sure.{Labels}
-use Rattle.definedness.specs.Settling.{has, due_in, label_in, is_sure_label, label_at, label_of, count_sure, weight, load, both_of, KeepsBoth, IsTableLabelling, IsBelow, IsFit, Lowers}
+use Rattle.definedness.specs.Settling.{has, due_in, label_in, is_sure_label, label_at, label_of, count_sure, weight, load, due_and_given, KeepsBoth, IsTableLabelling, IsBelow, IsFit, Lowers}
 use Rattle.definedness.proofs.Settling.{bool_cases, puts_lowers, label_here, lowers_none, unsure_held}
 
 has_cond : (g : Bool) (x : RegisterId) (rest : List RegisterId) (r : RegisterId) → has (cond g (x ∷ rest) rest) r ≡ ((g && (x.0 == r.0)) || has rest r)
@@ -87,39 +87,39 @@ due_within sets b m h = elim (cases_lt b (length sets.labels.items)) [
 
 -- a block where the alloca was not sure
 module _ (stops : List Bool) (forks : List Fork) (blocks : List BlockEdges) (before : Sets) (work : List ℕ) (after : Sets) (work' : List ℕ) (to : ℕ) (given : List RegisterId) (fit : IsFit stops forks (length blocks) before) (unsure : label_of before None to ≡ false) (above : (l : Labels) → IsTableLabelling stops forks blocks l → IsBelow (length blocks) l before → (k : Option RegisterId) → l k to ≡ true → label_in (Due given) k ≡ true) where
-  kept_below : (k : Option RegisterId) → label_in (Due (both_of before to given)) k ≡ true → label_of before k to ≡ true
+  kept_below : (k : Option RegisterId) → label_in (Due (due_and_given before to given)) k ≡ true → label_of before k to ≡ true
   kept_below None h = absurd (false≢true h)
   kept_below (Some r) h = some_label (label_at before to) unsure r ∙ and_left (has (due_in (label_at before to)) r) (has given r) (sym (has_both given (due_in (label_at before to)) r) ∙ h)
 
-  kept_given : (k : Option RegisterId) → label_in (Due (both_of before to given)) k ≡ true → label_in (Due given) k ≡ true
+  kept_given : (k : Option RegisterId) → label_in (Due (due_and_given before to given)) k ≡ true → label_in (Due given) k ≡ true
   kept_given None h = absurd (false≢true h)
   kept_given (Some r) h = and_right (has (due_in (label_at before to)) r) (has given r) (sym (has_both given (due_in (label_at before to)) r) ∙ h)
 
-  both_kept : (k : Option RegisterId) → label_of before k to ≡ true → label_in (Due given) k ≡ true → label_in (Due (both_of before to given)) k ≡ true
+  both_kept : (k : Option RegisterId) → label_of before k to ≡ true → label_in (Due given) k ≡ true → label_in (Due (due_and_given before to given)) k ≡ true
   both_kept None h g = absurd (false≢true g)
   both_kept (Some r) h g = has_both given (due_in (label_at before to)) r ∙ and_both (has (due_in (label_at before to)) r) (has given r) (sym (some_label (label_at before to) unsure r) ∙ h) g
 
-  all_given : length (due_in (label_at before to)) ≤ length (both_of before to given) → (k : Option RegisterId) → label_of before k to ≡ true → label_in (Due given) k ≡ true
+  all_given : length (due_in (label_at before to)) ≤ length (due_and_given before to given) → (k : Option RegisterId) → label_of before k to ≡ true → label_in (Due given) k ≡ true
   all_given le None h = absurd (false≢true (sym unsure ∙ h))
   all_given le (Some r) h = all_kept given (due_in (label_at before to)) le r (sym (some_label (label_at before to) unsure r) ∙ h)
 
-  module _ (less : length (both_of before to given) < length (due_in (label_at before to))) (put : after.labels.items ≡ set before.labels.items to (Due (both_of before to given))) (same : after.lacking.items ≡ before.lacking.items) (listed : work' ≡ work ++ to ∷ []) where
+  module _ (less : length (due_and_given before to given) < length (due_in (label_at before to))) (put : after.labels.items ≡ set before.labels.items to (Due (due_and_given before to given))) (same : after.lacking.items ≡ before.lacking.items) (listed : work' ≡ work ++ to ∷ []) where
     within : to < length before.labels.items
     within = due_within before to _ less
 
     count_same : count_sure after ≤ count_sure before
     count_same =
-        let cells = sum_by-set (λ x. cond (is_sure_label x) 1 0) before.labels.items to (Due (both_of before to given)) (Due []) within in
+        let cells = sum_by-set (λ x. cond (is_sure_label x) 1 0) before.labels.items to (Due (due_and_given before to given)) (Due []) within in
         rw put (omega (arith, cells))
 
     lighter : load (length blocks) after work' ≤ load (length blocks) before work
     lighter =
-        let rows = rw (weight_due (length blocks) (label_at before to) unsure) at (sum_by-set (weight (length blocks)) before.labels.items to (Due (both_of before to given)) (Due []) within) in
+        let rows = rw (weight_due (length blocks) (label_at before to) unsure) at (sum_by-set (weight (length blocks)) before.labels.items to (Due (due_and_given before to given)) (Due []) within) in
         let longer = length_push work to in
         rw (put, listed) (omega (arith, rows, longer, less))
 
     fewer_lowers : Lowers stops forks blocks before work after work'
-    fewer_lowers = puts_lowers stops forks blocks before work after work' to (Due (both_of before to given)) fit (record {
+    fewer_lowers = puts_lowers stops forks blocks before work after work' to (Due (due_and_given before to given)) fit (record {
       within = within;
       put = put;
       below = kept_below;
@@ -137,7 +137,7 @@ module _ (stops : List Bool) (forks : List Fork) (blocks : List BlockEdges) (bef
     })
 
     fewer_taken : (k : Option RegisterId) → label_of after k to ≡ true → label_in (Due given) k ≡ true
-    fewer_taken k h = kept_given k (sym (ap (λ x. label_in x k) (label_here stops forks before after to (Due (both_of before to given)) within put)) ∙ h)
+    fewer_taken k h = kept_given k (sym (ap (λ x. label_in x k) (label_here stops forks before after to (Due (due_and_given before to given)) within put)) ∙ h)
 
   pub due_lowers : KeepsBoth to given before after work work' → Lowers stops forks blocks before work after work'
   due_lowers (inl h) = fewer_lowers h.0 h.1 h.2 h.3

@@ -19,7 +19,7 @@ use Rattle.definedness.specs.declared.sets.Label.{Label}
 use Rattle.definedness.specs.declared.sets.Label.TheVariants.{Due}
 use Rattle.definedness.specs.declared.sets.Sets.{Sets}
 use Rattle.definedness.specs.Sure.{Labels}
-use Rattle.definedness.specs.Settling.{due_in, label_in, is_sure_label, label_at, label_of, ended_in, IsHeldBy, IsKept, IsTableLabelling, IsBelow, IsFit, Lowers, IsSettledAt, IsAllSure, IsGreatest}
+use Rattle.definedness.specs.Settling.{due_in, label_in, is_sure_label, label_at, label_of, ended_in, IsHeldBy, EdgeGives, IsTableLabelling, IsBelow, IsFit, Lowers, IsSettledAt, IsAllSure, IsGreatest}
 use Rattle.definedness.proofs.Settling.{lowers_then}
 
 not_true : (b : Bool) → (b ≡ true → ⊥) → b ≡ false
@@ -52,16 +52,16 @@ module _ (stops : List Bool) (forks : List Fork) (blocks : List BlockEdges) (l :
   end_block d b None at e = absurd (cc)
   end_block d b (Some fork) at e = let w = slice_get_within forks b fork at in omega arith
 
-  pub kept_below : (k : Option RegisterId) (from : ℕ) (way : Way) → from < length blocks → IsKept stops forks l k from way → IsKept stops forks (label_of sets) k from way
+  pub kept_below : (k : Option RegisterId) (from : ℕ) (way : Way) → from < length blocks → EdgeGives stops forks l k from way → EdgeGives stops forks (label_of sets) k from way
   kept_below k from way w (inl held) = inl (held_below k from w held)
   kept_below k from Branch w (inr h) = absurd h
   kept_below k from Detached w (inr h) = absurd h
   kept_below k from Continued w (inr h) = inr (h.0, h.1, h.2, λ end at. held_below None end (end_block from end (slice_get forks end) refl at) (h.3 end at))
   kept_below k from (Synced its) w (inr h) = inr (held_below (Some its) from w h)
 
-pub edge_above : (stops : List Bool) (forks : List Fork) (blocks : List BlockEdges) (sets : Sets) (from : ℕ) (e : Edge) (given : Label) → length forks ≤ length blocks → Contains (edges_of blocks from) e → ((k : Option RegisterId) → IsKept stops forks (label_of sets) k from e.way → label_in given k ≡ true) → (l : Labels) → IsTableLabelling stops forks blocks l → IsBelow (length blocks) l sets → (k : Option RegisterId) → l k e.to.0 ≡ true → label_in given k ≡ true
+pub edge_above : (stops : List Bool) (forks : List Fork) (blocks : List BlockEdges) (sets : Sets) (from : ℕ) (e : Edge) (given : Label) → length forks ≤ length blocks → Contains (edges_of blocks from) e → ((k : Option RegisterId) → EdgeGives stops forks (label_of sets) k from e.way → label_in given k ≡ true) → (l : Labels) → IsTableLabelling stops forks blocks l → IsBelow (length blocks) l sets → (k : Option RegisterId) → l k e.to.0 ≡ true → label_in given k ≡ true
 edge_above stops forks blocks sets from e given size c gives l is below k h =
-    gives k (kept_below stops forks blocks l sets size below k from e.way (edges_within blocks from c) (All-contains (λ (x : Edge). (q : Option RegisterId) → l q x.to.0 ≡ true → IsKept stops forks l q from x.way) (edges_of blocks from) e (is.edges from) c k h))
+    gives k (kept_below stops forks blocks l sets size below k from e.way (edges_within blocks from c) (All-contains (λ (x : Edge). (q : Option RegisterId) → l q x.to.0 ≡ true → EdgeGives stops forks l q from x.way) (edges_of blocks from) e (is.edges from) c k h))
 
 -- the edges of a block, from the last on
 pub record EdgesFrom (stops : List Bool) (forks : List Fork) (blocks : List BlockEdges) (from : ℕ) (edges : List Edge) (before : Sets) (work : List ℕ) (left : ℕ) (after : Sets) (work' : List ℕ) : Type 0 where
@@ -134,7 +134,7 @@ settling_next stops forks blocks sets after work rest work' block popped g s her
 }
 
 -- an edge gives what is left at its target, or is gone through again
-pub settled_now : (stops : List Bool) (forks : List Fork) (blocks : List BlockEdges) (before after : Sets) (work work' : List ℕ) (from : ℕ) (e : Edge) (given : Label) → Contains (edges_of blocks from) e → ((k : Option RegisterId) → label_in given k ≡ true → IsKept stops forks (label_of before) k from e.way) → Lowers stops forks blocks before work after work' → ((k : Option RegisterId) → label_of after k e.to.0 ≡ true → label_in given k ≡ true) → IsSettledAt stops forks after work' from e
+pub settled_now : (stops : List Bool) (forks : List Fork) (blocks : List BlockEdges) (before after : Sets) (work work' : List ℕ) (from : ℕ) (e : Edge) (given : Label) → Contains (edges_of blocks from) e → ((k : Option RegisterId) → label_in given k ≡ true → EdgeGives stops forks (label_of before) k from e.way) → Lowers stops forks blocks before work after work' → ((k : Option RegisterId) → label_of after k e.to.0 ≡ true → label_in given k ≡ true) → IsSettledAt stops forks after work' from e
 settled_now stops forks blocks before after work work' from e given c gives s taken = elim (s.woken from (edges_within blocks from c)) [
   | inl listed ↦ inl listed
   | inr keeps ↦ inr (λ k h. keeps k e.way (gives k (taken k h)))
@@ -148,7 +148,7 @@ pub settling_done : (stops : List Bool) (forks : List Fork) (blocks : List Block
 settling_done stops forks blocks sets work none g = record {
   labelling = record {
     entry = λ k. not_true (label_of sets k 0) (g.entry k);
-    edges = λ a. All-weaker (IsSettledAt stops forks sets work a) (λ (e : Edge). (k : Option RegisterId) → label_of sets k e.to.0 ≡ true → IsKept stops forks (label_of sets) k a e.way) (λ e h. ⊎_elim (λ c. absurd (omega (arith, none, c.1))) (λ kept. kept) h) (edges_of blocks a) (all_edges (IsSettledAt stops forks sets work) blocks g.settled a);
+    edges = λ a. All-weaker (IsSettledAt stops forks sets work a) (λ (e : Edge). (k : Option RegisterId) → label_of sets k e.to.0 ≡ true → EdgeGives stops forks (label_of sets) k a e.way) (λ e h. ⊎_elim (λ c. absurd (omega (arith, none, c.1))) (λ kept. kept) h) (edges_of blocks a) (all_edges (IsSettledAt stops forks sets work) blocks g.settled a);
   };
   greatest = g.above;
 }

@@ -5,17 +5,16 @@ use Rattle.std.proofs.lemmas.Bool.{cases_lt, false≢true, false_from_ne_true}
 use Rattle.std.proofs.lemmas.List.{take_more}
 use Rattle.std.proofs.lemmas.List.Elements.{filter_map-append, Contains-append_left, Contains-append_right, Contains-append_cases, Contains-push, Contains-push_cases}
 use Rattle.std.proofs.lemmas.Option.{slice_get_past}
-use Rattle.cfg.specs.declared.refusal.Broken.{Broken}
-use Rattle.cfg.specs.Faults.{IsLowerOf}
-use Rattle.region_match.specs.ByLabel.{IsNamed}
-use Rattle.region_match.proofs.Lists.{named_same}
+use Rattle.refusal.specs.declared.broken.Broken.{Broken}
+use Rattle.refusal.specs.Earliest.{IsLowerOf, IsEarliest}
+use Rattle.refusal.proofs.Elements.{earliest_same}
 use Rattle.definedness.specs.declared.act.Act.{Act}
 use Rattle.definedness.specs.declared.act.Act.TheVariants.{Needs, Gives}
 use Rattle.definedness.specs.declared.table.Row.{Row}
 use Rattle.definedness.specs.Acts.{given}
 use Rattle.definedness.specs.Judging.{IsNeedBrokenBy, IsGivenBy, MarksGiven}
 use Rattle.definedness.specs.Needs.{gives, mark_at, IsNeedBroken}
-use Rattle.definedness.proofs.Places.{Below, below_nothing, below_next}
+use Rattle.refusal.proofs.Places.{Below, below_nothing, below_next}
 
 abbrev pub BrokenAt : List Row → ℕ → ℕ → List Act → ℕ → Act → Broken → Type 0
 BrokenAt rows block rule acts k act broken = IsNeedBroken (λ n. mark_at rows n block ≡ true) rule (gives (take k acts)) act broken
@@ -23,7 +22,7 @@ BrokenAt rows block rule acts k act broken = IsNeedBroken (λ n. mark_at rows n 
 pub record Judging (rows : List Row) (block rule : ℕ) (acts : List Act) (i : ℕ) (here : List Bool) (named : Option Broken) : Type 0 where
   pub size : length here ≡ length rows
   pub marks : (n : ℕ) → n < length rows → (get_or here n false ≡ true) ↔ Contains (gives (take i acts)) n
-  pub broken : IsNamed (Below (BrokenAt rows block rule acts) acts i) named
+  pub broken : IsEarliest (Below (BrokenAt rows block rule acts) acts i) named
 
 pub judging_none : (rows : List Row) (block rule : ℕ) (acts : List Act) (here : List Bool) → length here ≡ length rows → ((n : ℕ) → get_or here n false ≡ false) → Judging rows block rule acts 0 here None
 judging_none rows block rule acts here size none = record {
@@ -58,7 +57,7 @@ one_given : (act : Act) (n : ℕ) → IsGivenBy act n → Contains (gives (act �
 one_given (Needs m line) n h = absurd h
 one_given (Gives m) n e = rw e (Contains-push [] m)
 
-pub judging_next : (rows : List Row) (block rule : ℕ) (acts : List Act) (i : ℕ) (act : Act) (here here' : List Bool) (named broken r : Option Broken) → i < length acts → act ≡ get_or acts i act → Judging rows block rule acts i here named → IsNamed (IsNeedBrokenBy rows here block rule act) broken → IsLowerOf named broken r → MarksGiven act here here' → Judging rows block rule acts (i + 1) here' r
+pub judging_next : (rows : List Row) (block rule : ℕ) (acts : List Act) (i : ℕ) (act : Act) (here here' : List Bool) (named broken r : Option Broken) → i < length acts → act ≡ get_or acts i act → Judging rows block rule acts i here named → IsEarliest (IsNeedBrokenBy rows here block rule act) broken → IsLowerOf named broken r → MarksGiven act here here' → Judging rows block rule acts (i + 1) here' r
 judging_next rows block rule acts i act here here' named broken r l is j judged lower m =
     let grown : gives (take (i + 1) acts) ≡ gives (take i acts) ++ gives (act ∷ []) = rw (take_more acts i act l, ← is) (filter_map-append given (take i acts) (act ∷ [])) in
     record {
@@ -74,6 +73,6 @@ judging_next rows block rule acts i act here here' named broken r l is j judged 
             (Contains-append_cases (gives (take i acts)) (gives (act ∷ [])) n (rw grown at c)),
       );
       broken = below_next (BrokenAt rows block rule acts) acts i act named broken r l is j.broken
-          (named_same (IsNeedBrokenBy rows here block rule act) (BrokenAt rows block rule acts i act) broken (by_marks rows block rule i acts here named j act) (to_marks rows block rule i acts here named j act) judged)
+          (earliest_same (IsNeedBrokenBy rows here block rule act) (BrokenAt rows block rule acts i act) broken (by_marks rows block rule i acts here named j act) (to_marks rows block rule i acts here named j act) judged)
           lower;
     }

@@ -8,7 +8,6 @@ mod Lookups
 mod NeverSure
 mod Paths
 mod OnOk
-mod Places
 mod Settling
 mod Tables
 mod Undefined

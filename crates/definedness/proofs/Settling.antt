@@ -15,7 +15,7 @@ use Rattle.definedness.specs.declared.sets.Label.{Label}
 use Rattle.definedness.specs.declared.sets.Label.TheVariants.{Sure, Due}
 use Rattle.definedness.specs.declared.sets.Sets.{Sets}
 use Rattle.definedness.specs.Sure.{Labels}
-use Rattle.definedness.specs.Settling.{due_in, label_in, is_sure_label, label_at, label_of, count_sure, weight, load, Stores, ended_in, Ends, IsHeldBy, IsKept, IsTableLabelling, IsBelow, IsFit, Lowers, NotesEnd}
+use Rattle.definedness.specs.Settling.{due_in, label_in, is_sure_label, label_at, label_of, count_sure, weight, load, Stores, ended_in, Ends, IsHeldBy, EdgeGives, IsTableLabelling, IsBelow, IsFit, Lowers, NotesEnd}
 
 pub bool_cases : (b : Bool) → (b ≡ true) ⊎ (b ≡ false)
 bool_cases true = inl refl
@@ -73,7 +73,7 @@ module _ (stops : List Bool) (forks : List Fork) (before after : Sets) (to : ℕ
   held_beside k b ne (inr (inl d)) = inr (inl (ap (λ x. label_in x k) (label_beside b ne) ∙ d))
   held_beside k b ne (inr (inr st)) = inr (inr st)
 
-  pub kept_beside : (a : ℕ) → (a ≡ to → ⊥) → (Ends forks a to → IsHeldBy stops (label_of before) None to → IsHeldBy stops (label_of after) None to) → (k : Option RegisterId) (way : Way) → IsKept stops forks (label_of before) k a way → IsKept stops forks (label_of after) k a way
+  pub kept_beside : (a : ℕ) → (a ≡ to → ⊥) → (Ends forks a to → IsHeldBy stops (label_of before) None to → IsHeldBy stops (label_of after) None to) → (k : Option RegisterId) (way : Way) → EdgeGives stops forks (label_of before) k a way → EdgeGives stops forks (label_of after) k a way
   kept_beside a ne ends k way (inl h) = inl (held_beside k a ne h)
   kept_beside a ne ends k Branch (inr h) = absurd h
   kept_beside a ne ends k Detached (inr h) = absurd h
@@ -141,7 +141,7 @@ module _ (stops : List Bool) (forks : List Fork) (blocks : List BlockEdges) (bef
     | inr ne ↦ ap (λ x. label_in x k) (label_beside stops forks before after to new p.within p.put b ne) ∙ below k b w h
   ]
 
-  puts_woken : (a : ℕ) → a < length blocks → Contains work' a ⊎ ((k : Option RegisterId) (way : Way) → IsKept stops forks (label_of before) k a way → IsKept stops forks (label_of after) k a way)
+  puts_woken : (a : ℕ) → a < length blocks → Contains work' a ⊎ ((k : Option RegisterId) (way : Way) → EdgeGives stops forks (label_of before) k a way → EdgeGives stops forks (label_of after) k a way)
   puts_woken a w = elim (cases_eq a to) [
     | inl e ↦ inl (rw e p.listed)
     | inr ne ↦ elim (p.woken a w) [

@@ -11,7 +11,7 @@ use Rattle.definedness.specs.declared.act.Act.TheVariants.{Needs, Gives}
 use Rattle.definedness.specs.declared.act.BlockActs.{BlockActs}
 use Rattle.definedness.specs.declared.table.Given.{Given}
 use Rattle.definedness.specs.Needs.{numbers_of, numbers_at, IsNeedBelow, AreNeedsBelow}
-use Rattle.definedness.proofs.Places.{item_read}
+use Rattle.refusal.proofs.Places.{read_at}
 
 -- the marks of the first blocks
 pub record MarksOf (all : List Given) (number n : ℕ) (marks : List Bool) : Type 0 where
@@ -26,7 +26,7 @@ contains_nothing n c = absurd (omega (arith, c.1))
 
 pub marks_more : (all : List Given) (number i : ℕ) (block : Given) (marks : List Bool) (mark : Bool) → i < length all → block ≡ get_or all i block → MarksOf all number i marks → (IsTrue mark ↔ Contains block.numbers number) → MarksOf all number (i + 1) (marks ++ mark ∷ [])
 marks_more all number i block marks mark l is m here =
-    let numbers : numbers_at all i ≡ block.numbers = ap numbers_of (item_read all i block l is) in
+    let numbers : numbers_at all i ≡ block.numbers = ap numbers_of (read_at all i block l is) in
     record {
       size = length_push marks mark ∙ omega (arith, m.size);
       exact = λ b w. elim (cases_eq b i) [

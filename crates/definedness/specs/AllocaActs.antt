@@ -14,6 +14,7 @@ use Rattle.program.specs.declared.instruction.Argument.TheVariants as argument
 use Rattle.program.specs.declared.instruction.Instruction.{Instruction}
 use Rattle.program.specs.declared.instruction.Instruction.TheVariants.{Binary, Compare, Convert, Alloca, ElementPointer, Load, Store, StoreZeros, AtomicAdd, Call, StartRegion}
 use Rattle.program.specs.declared.instruction.Step.{Step}
+use Rattle.program.specs.Steps.{first_said}
 use Rattle.definedness.specs.declared.act.Act.{Act}
 use Rattle.definedness.specs.declared.act.Act.TheVariants.{Needs, Gives}
 
@@ -31,14 +32,9 @@ element_in (AtomicAdd address value) r = None
 element_in (Call register callee arguments) r = None
 element_in (StartRegion register) r = None
 
-abbrev pub or_else : Option ObjectName → Option ObjectName → Option ObjectName
-or_else None other = other
-or_else (Some name) other = Some name
-
 -- the object that an address of a block lies in, where a `getelementptr` of the block gave it
 abbrev pub element_object : List Step → RegisterId → Option ObjectName
-element_object [] r = None
-element_object (s ∷ ss) r = or_else (element_in s.instruction r) (element_object ss r)
+element_object steps r = first_said (λ instruction. element_in instruction r) steps
 
 abbrev pub object_read : ℕ → ObjectName → List Act
 object_read line (object.Global g) = []

@@ -1,16 +1,13 @@
--- The rules on definedness: what is broken in a module, and what a fault says.
+-- The rules on definedness: what is broken in a module.
 use Rattle.std.specs.Prelude.{◌≡◌, ◌⊎◌, ℕ, suc, List, [], ◌∷◌, ◌++◌, map, take, Some, Any, Contains, slice_get}
 use Rattle.program.specs.declared.function.Block.{Block}
 use Rattle.program.specs.declared.function.Function.{Function}
 use Rattle.program.specs.declared.function.Program.{Program}
-use Rattle.cfg.specs.declared.refusal.Broken.{Broken}
+use Rattle.refusal.specs.declared.broken.Broken.{Broken}
 use Rattle.cfg.specs.Edges.{graph_of}
-use Rattle.cfg.specs.Faults.{IsAtOrBefore}
 use Rattle.cfg.specs.Paths.{Leg, IsPath}
 use Rattle.definedness.specs.declared.act.Act.TheVariants.{Needs}
 use Rattle.definedness.specs.declared.act.BlockActs.{BlockActs}
-use Rattle.definedness.specs.declared.fault.DefinedFault.{DefinedFault}
-use Rattle.definedness.specs.declared.fault.DefinedFault.TheVariants.{Fault, Memory}
 use Rattle.definedness.specs.Missing.{defined_along, IsMissing}
 use Rattle.definedness.specs.Needs.{gives, given_of, IsTableBroken}
 use Rattle.definedness.specs.AllocaActs.{alloca_acts}
@@ -42,17 +39,11 @@ alloca_table function = map (λ block. record { acts = alloca_acts function.allo
 -- 402: a load or the passing of an alloca that nothing before it in its block stores, where no labelling has the alloca for sure when
 -- the block begins
 abbrev pub IsUnsure : Function → Broken → Type 0
-IsUnsure function broken = IsTableBroken (IsNeverSure function.blocks (graph_of function).blocks (map given_of (alloca_table function))) 402 (alloca_table function) broken
+IsUnsure function broken =
+    IsTableBroken (IsNeverSure function.blocks (graph_of function).blocks (map given_of (alloca_table function))) 402 (alloca_table function) broken
 
 abbrev pub IsFunctionBroken : Function → Broken → Type 0
 IsFunctionBroken function broken = IsUndefined function broken ⊎ IsUnsure function broken
 
 abbrev pub IsDefinednessBroken : Program → Broken → Type 0
 IsDefinednessBroken program broken = Any (λ function. IsFunctionBroken function broken) program.functions
-
--- what a fault says: this rule is broken at this line, and no other is broken on a lower line, or there with a lower number
-abbrev pub IsDefinednessFault : Program → DefinedFault → Type 0
-IsDefinednessFault program Memory = Unit {0}
-IsDefinednessFault program (Fault number line) =
-    let named : Broken = record { line = line; number = number } in
-    IsDefinednessBroken program named × ((b : Broken) → IsDefinednessBroken program b → IsAtOrBefore named b)

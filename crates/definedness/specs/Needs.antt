@@ -1,7 +1,7 @@
 -- Needs that nothing before them meets.
 use Rattle.std.specs.Prelude.{◌≡◌, ℕ, ◌<◌, Bool, false, List, [], take, Option, Some, None, All, Contains, slice_get, slice_index_or}
 use Rattle.std.specs.List.{filter_map}
-use Rattle.cfg.specs.declared.refusal.Broken.{Broken}
+use Rattle.refusal.specs.declared.broken.Broken.{Broken}
 use Rattle.definedness.specs.Acts.{given}
 use Rattle.definedness.specs.declared.act.Act.{Act}
 use Rattle.definedness.specs.declared.act.Act.TheVariants.{Needs, Gives}

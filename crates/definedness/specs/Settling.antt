@@ -1,4 +1,4 @@
--- The labelling of an alloca that is being made smaller.
+-- For the functions of this crate and their loops alone: the labelling of an alloca that is being made smaller.
 use Rattle.std.specs.Prelude.{◌≡◌, ◌⊎◌, ◌↔◌, ◌==◌, ◌++◌, ℕ, ◌+◌, ◌<◌, ◌≤◌, Bool, true, false, List, [], ◌∷◌, Option, Some, None, length, set, Contains, count_by, sum_by, slice_get, slice_index_or}
 use Rattle.std.specs.List.{list_any, filter}
 use Rattle.linear.specs.declared.form.RegisterId.{RegisterId}
@@ -62,8 +62,8 @@ abbrev pub IsHeldBy : List Bool → Labels → Option RegisterId → ℕ → Typ
 IsHeldBy stops l k b = IsHeld (Stores stops) l k b
 
 -- an edge gives the label
-abbrev pub IsKept : List Bool → List Fork → Labels → Option RegisterId → ℕ → Way → Type 0
-IsKept stops forks l k from way = IsHeld (Stores stops) l k from ⊎ IsAdded (Stores stops) (Forks forks) (Ends forks) l k from way
+abbrev pub EdgeGives : List Bool → List Fork → Labels → Option RegisterId → ℕ → Way → Type 0
+EdgeGives stops forks l k from way = IsHeld (Stores stops) l k from ⊎ IsAdded (Stores stops) (Forks forks) (Ends forks) l k from way
 
 abbrev pub IsTableLabelling : List Bool → List Fork → List BlockEdges → Labels → Type 0
 IsTableLabelling stops forks blocks l = IsLabelling (Stores stops) (Forks forks) (Ends forks) blocks l
@@ -104,31 +104,37 @@ pub record IsFit (stops : List Bool) (forks : List Fork) (n : ℕ) (sets : Sets)
   pub labels : length sets.labels.items ≡ n
   pub lacking : length sets.lacking.items ≡ n
   pub short : (b : ℕ) → count_sure sets + length (due_in (label_at sets b)) ≤ n
-  pub lost : (d : ℕ) → slice_index_or sets.lacking.items d false ≡ true → (end : ℕ) × (end < n) × Ends forks d end × (IsHeldBy stops (label_of sets) None end → ⊥)
+  pub lost : (d : ℕ) → slice_index_or sets.lacking.items d false ≡ true
+      → (end : ℕ) × (end < n) × Ends forks d end × (IsHeldBy stops (label_of sets) None end → ⊥)
   pub whole : (d end : ℕ) → d < n → slice_index_or sets.lacking.items d false ≡ false → Ends forks d end → IsHeldBy stops (label_of sets) None end
 
 -- labels are taken away that no labelling has; a block that gives less than it did is listed
-pub record Lowers (stops : List Bool) (forks : List Fork) (blocks : List BlockEdges) (before : Sets) (work : List ℕ) (after : Sets) (work' : List ℕ) : Type 0 where
+pub record Lowers (stops : List Bool) (forks : List Fork) (blocks : List BlockEdges) (before : Sets) (work : List ℕ) (after : Sets)
+    (work' : List ℕ) : Type 0 where
   pub fit : IsFit stops forks (length blocks) after
   pub fewer : (k : Option RegisterId) (b : ℕ) → label_of after k b ≡ true → label_of before k b ≡ true
   pub above : (l : Labels) → IsTableLabelling stops forks blocks l → IsBelow (length blocks) l before → IsBelow (length blocks) l after
   pub waiting : (a : ℕ) → Contains work a → Contains work' a
-  pub woken : (a : ℕ) → a < length blocks → Contains work' a ⊎ ((k : Option RegisterId) (way : Way) → IsKept stops forks (label_of before) k a way → IsKept stops forks (label_of after) k a way)
+  pub woken : (a : ℕ) → a < length blocks
+      → Contains work' a ⊎ ((k : Option RegisterId) (way : Way) → EdgeGives stops forks (label_of before) k a way → EdgeGives stops forks (label_of after) k a way)
   pub less : load (length blocks) after work' ≤ load (length blocks) before work
 
 -- an edge gives what its target has, or is gone through again
 abbrev pub IsSettledAt : List Bool → List Fork → Sets → List ℕ → ℕ → Edge → Type 0
-IsSettledAt stops forks sets work from e = Contains work from ⊎ ((k : Option RegisterId) → label_of sets k e.to.0 ≡ true → IsKept stops forks (label_of sets) k from e.way)
+IsSettledAt stops forks sets work from e =
+    Contains work from ⊎ ((k : Option RegisterId) → label_of sets k e.to.0 ≡ true → EdgeGives stops forks (label_of sets) k from e.way)
 
 -- what is both due and given
-abbrev pub both_of : Sets → ℕ → List RegisterId → List RegisterId
-both_of sets b given = filter (λ its. has given its) (due_in (label_at sets b))
+abbrev pub due_and_given : Sets → ℕ → List RegisterId → List RegisterId
+due_and_given sets b given = filter (λ its. has given its) (due_in (label_at sets b))
 
 -- of what is due at a block what is given stays; the block is listed where that is less
 abbrev pub KeepsBoth : ℕ → List RegisterId → Sets → Sets → List ℕ → List ℕ → Type 0
 KeepsBoth to given before after work work' =
-    ((length (both_of before to given) < length (due_in (label_at before to))) × (after.labels.items ≡ set before.labels.items to (Due (both_of before to given))) × (after.lacking.items ≡ before.lacking.items) × (work' ≡ work ++ to ∷ []))
-    ⊎ ((length (due_in (label_at before to)) ≤ length (both_of before to given)) × (after ≡ before) × (work' ≡ work))
+    ((length (due_and_given before to given) < length (due_in (label_at before to)))
+    × (after.labels.items ≡ set before.labels.items to (Due (due_and_given before to given))) × (after.lacking.items ≡ before.lacking.items)
+    × (work' ≡ work ++ to ∷ []))
+    ⊎ ((length (due_in (label_at before to)) ≤ length (due_and_given before to given)) × (after ≡ before) × (work' ≡ work))
 
 -- the alloca is sure everywhere
 pub record IsAllSure (n : ℕ) (sets : Sets) : Type 0 where
@@ -153,4 +159,5 @@ pub record IsGreatest (stops : List Bool) (forks : List Fork) (blocks : List Blo
 
 -- the blocks that are marked are those at whose start no labelling of an alloca that these blocks store has it for sure
 abbrev pub AreNeverSure : List Fork → List BlockEdges → List Bool → List Bool → Type 0
-AreNeverSure forks blocks stops marks = (b : ℕ) → b < length blocks → (slice_index_or marks b false ≡ true) ↔ ((l : Labels) → IsTableLabelling stops forks blocks l → l None b ≡ true → ⊥)
+AreNeverSure forks blocks stops marks =
+    (b : ℕ) → b < length blocks → (slice_index_or marks b false ≡ true) ↔ ((l : Labels) → IsTableLabelling stops forks blocks l → l None b ≡ true → ⊥)

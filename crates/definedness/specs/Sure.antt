@@ -28,13 +28,16 @@ IsHeld Stores l region b = (l None b ≡ true) ⊎ ((l region b ≡ true) ⊎ St
 abbrev pub IsAdded : (ℕ → Type 0) → (ℕ → RegisterId → Type 0) → (ℕ → ℕ → Type 0) → Labels → Option RegisterId → ℕ → Way → Type 0
 IsAdded Stores Forks Ends l region from Branch = ⊥
 IsAdded Stores Forks Ends l region from Detached = ⊥
-IsAdded Stores Forks Ends l region from Continued = (its : RegisterId) × (region ≡ Some its) × Forks from its × ((end : ℕ) → Ends from end → IsHeld Stores l None end)
+IsAdded Stores Forks Ends l region from Continued =
+    (its : RegisterId) × (region ≡ Some its) × Forks from its × ((end : ℕ) → Ends from end → IsHeld Stores l None end)
 IsAdded Stores Forks Ends l region from (Synced its) = IsHeld Stores l (Some its) from
 
 -- nothing is in a set when the function begins, and a set never holds more than each edge gives
 pub record IsLabelling (Stores : ℕ → Type 0) (Forks : ℕ → RegisterId → Type 0) (Ends : ℕ → ℕ → Type 0) (blocks : List BlockEdges) (l : Labels) : Type 0 where
   pub entry : (region : Option RegisterId) → l region 0 ≡ false
-  pub edges : (a : ℕ) → All (λ e. (region : Option RegisterId) → l region e.to.0 ≡ true → IsHeld Stores l region a ⊎ IsAdded Stores Forks Ends l region a e.way) (edges_of blocks a)
+  pub edges : (a : ℕ)
+      → All (λ e. (region : Option RegisterId) → l region e.to.0 ≡ true → IsHeld Stores l region a ⊎ IsAdded Stores Forks Ends l region a e.way)
+      (edges_of blocks a)
 
 -- the block stores the alloca
 abbrev pub IsStored : List Given → ℕ → ℕ → Type 0

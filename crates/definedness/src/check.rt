@@ -1,23 +1,24 @@
 ghost use Rattle.std.specs.Prelude.{◌≡◌, ◌<◌, ◌↔◌, ℕ, true, length, All, IfOk, IfErr};
 ghost use Rattle.cfg.specs.Edges.{graph_of};
-ghost use Rattle.region_match.specs.ByLabel.{IsNamed};
+ghost use Rattle.refusal.specs.Earliest.{IsEarliest, NamesEarliest};
 ghost use Rattle.region_match.specs.Tasks.{AreTasks, AreAllTasks};
 ghost use Rattle.definedness.specs.Needs.{mark_at};
 ghost use Rattle.definedness.specs.Sure.{IsNeverSure};
-ghost use Rattle.definedness.specs.Definedness.{register_table, alloca_table, AreRegistersDefined, IsUndefined, IsUnsure, IsFunctionBroken, IsDefinednessBroken, IsDefinednessFault};
+ghost use Rattle.definedness.specs.Definedness.{register_table, alloca_table, AreRegistersDefined, IsUndefined, IsUnsure, IsFunctionBroken, IsDefinednessBroken};
 
+use crate::DefinedFault;
 use crate::act::BlockActs;
 use crate::allocas::block_allocas;
-use crate::fault::DefinedFault;
 use crate::fork::all_forks;
 use crate::judge::table_fault;
 use crate::missing::missing_rows;
 use crate::registers::block_registers;
 use crate::table::{Given, Row, all_given, count_needed};
 use crate::unsure::unsure_rows;
-use cfg::{BlockEdges, Broken, Graph, lower};
+use cfg::{BlockEdges, Graph};
 use lists::Seq;
 use program::{Block, Function};
+use refusal::{Broken, lower};
 use region_match::{Regions, Task};
 use std::alloc::{AllocError, Global};
 
@@ -43,7 +44,7 @@ fn register_fault(
     blocks: &[BlockEdges],
 ) -> Result<Option<Broken>, AllocError>
     requires { blocks.now ≡ (graph_of function.now).blocks }
-    ensures { IfOk result (IsNamed (IsUndefined function.now)) }
+    ensures { IfOk result (IsEarliest (IsUndefined function.now)) }
 {
     let table = all_registers(alloc, function)?;
     let all = all_given(alloc, &table)?;
@@ -78,7 +79,8 @@ fn alloca_rows(
 ) -> Result<Vec<Row>, AllocError>
     requires tasks { AreTasks blocks.now tasks.now }
     requires size { length blocks.now ≡ length bodies.now }
-    ensures { IfOk result (λ rows. (n b : ℕ) → n < count → b < length blocks.now → (mark_at rows.items n b ≡ true) ↔ IsNeverSure bodies.now blocks.now all.now n b) }
+    ensures { IfOk result (λ rows. (n b : ℕ) → n < count → b < length blocks.now
+        → (mark_at rows.items n b ≡ true) ↔ IsNeverSure bodies.now blocks.now all.now n b) }
 {
     let forks = all_forks(alloc, bodies, blocks, tasks)?;
     Ok(unsure_rows(alloc, bodies, blocks, &forks, all, count)?)
@@ -93,7 +95,7 @@ fn alloca_fault(
 ) -> Result<Option<Broken>, AllocError>
     requires blocks { blocks.now ≡ (graph_of function.now).blocks }
     requires tasks { AreTasks blocks.now tasks.now }
-    ensures { IfOk result (IsNamed (IsUnsure function.now)) }
+    ensures { IfOk result (IsEarliest (IsUnsure function.now)) }
 {
     let table = all_allocas(alloc, function)?;
     let all = all_given(alloc, &table)?;
@@ -118,7 +120,7 @@ fn function_fault(
 ) -> Result<Option<Broken>, AllocError>
     requires blocks { blocks.now ≡ (graph_of function.now).blocks }
     requires tasks { AreTasks blocks.now tasks.now }
-    ensures { IfOk result (IsNamed (IsFunctionBroken function.now)) }
+    ensures { IfOk result (IsEarliest (IsFunctionBroken function.now)) }
 {
     let of_registers = register_fault(alloc, function, blocks)?;
     let of_allocas = alloca_fault(alloc, function, blocks, tasks)?;
@@ -128,7 +130,7 @@ fn function_fault(
 /// What is named of all functions.
 fn all_faults(alloc: Global, graph: &Graph, regions: &Regions) -> Result<Option<Broken>, AllocError>
     requires { AreAllTasks graph.now.functions regions.now.functions }
-    ensures { IfOk result (IsNamed (IsDefinednessBroken graph.now.typed.program)) }
+    ensures { IfOk result (IsEarliest (IsDefinednessBroken graph.now.typed.program)) }
 {
     let graphs = graph.functions.as_slice();
     let functions = graph.typed.program.functions.as_slice();
@@ -148,13 +150,10 @@ pub fn defined(alloc: Global, graph: &Graph, regions: &Regions) -> Result<(), De
     requires { AreAllTasks graph.now.functions regions.now.functions }
     ensures always { IfOk result (λ _. All AreRegistersDefined graph.now.typed.program.functions) }
     ensures right { IfOk result (λ _. (b : Broken) → IsDefinednessBroken graph.now.typed.program b → ⊥) }
-    ensures fault { IfErr result (IsDefinednessFault graph.now.typed.program) }
+    ensures fault { IfErr result (NamesEarliest (IsDefinednessBroken graph.now.typed.program)) }
 {
     match all_faults(alloc, graph, regions)? {
-        Some(broken) => Err(DefinedFault::Fault {
-            number: broken.number,
-            line: broken.line,
-        }),
+        Some(broken) => Err(broken.into()),
         None => Ok(()),
     }
 }

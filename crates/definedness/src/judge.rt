@@ -1,17 +1,18 @@
 ghost use Rattle.std.specs.Prelude.{◌≡◌, ◌<◌, ◌↔◌, ◌++◌, ℕ, true, false, length, take, Contains, IfOk, slice_index_or};
-ghost use Rattle.region_match.specs.ByLabel.{IsNamed};
+ghost use Rattle.refusal.specs.Earliest.{IsEarliest};
 ghost use Rattle.definedness.specs.Judging.{IsNeedBrokenBy, MarksGiven};
 ghost use Rattle.definedness.specs.Needs.{gives, mark_at, IsNeedBroken, IsBlockBroken, IsTableBroken};
 
 use crate::act::{Act, BlockActs};
 use crate::table::{Row, is_marked};
-use cfg::{Broken, lower, no_marks};
+use cfg::no_marks;
+use refusal::{Broken, lower};
 use std::alloc::{AllocError, Global};
 
 /// What is named of one act, where `here` marks what is defined before it in the block.
 fn act_fault(rows: &[Row], here: &[bool], block: usize, rule: u16, act: &Act) -> Option<Broken>
     requires { length here.now ≡ length rows.now }
-    ensures { IsNamed (IsNeedBrokenBy rows.now here.now block rule act.now) result }
+    ensures { IsEarliest (IsNeedBrokenBy rows.now here.now block rule act.now) result }
 {
     match act {
         Act::Needs { number, line } => {
@@ -47,7 +48,7 @@ fn block_fault(
     rule: u16,
     acts: &[Act],
 ) -> Result<Option<Broken>, AllocError>
-    ensures { IfOk result (IsNamed (IsBlockBroken (λ n. mark_at rows.now n block ≡ true) rule acts.now)) }
+    ensures { IfOk result (IsEarliest (IsBlockBroken (λ n. mark_at rows.now n block ≡ true) rule acts.now)) }
 {
     let mut here = no_marks(alloc, rows.len())?;
     let mut named: Option<Broken> = None;
@@ -66,7 +67,7 @@ pub fn table_fault(
     rule: u16,
     table: &[BlockActs],
 ) -> Result<Option<Broken>, AllocError>
-    ensures { IfOk result (IsNamed (IsTableBroken (λ n b. mark_at rows.now n b ≡ true) rule table.now)) }
+    ensures { IfOk result (IsEarliest (IsTableBroken (λ n b. mark_at rows.now n b ≡ true) rule table.now)) }
 {
     let mut named: Option<Broken> = None;
     for (index, block) in table.iter().enumerate() {

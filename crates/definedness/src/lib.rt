@@ -4,7 +4,6 @@
 mod act;
 mod allocas;
 mod check;
-mod fault;
 mod fork;
 mod judge;
 mod missing;
@@ -15,4 +14,4 @@ mod table;
 mod unsure;
 
 pub use check::defined;
-pub use fault::DefinedFault;
+pub use refusal::Refused as DefinedFault;

@@ -1,7 +1,7 @@
 ghost use Rattle.std.specs.Prelude.{◌≡◌, ◌⊎◌, ◌↔◌, ◌&&◌, ◌||◌, ◌==◌, ◌+◌, ◌≤◌, ℕ, length, true, false, slice_index_or, IfOk, OnOk};
 ghost use Rattle.std.specs.List.{filter, list_all};
 ghost use Rattle.linear.specs.declared.form.RegisterId.{RegisterId};
-ghost use Rattle.definedness.specs.Settling.{has, due_in, label_at, label_of, both_of};
+ghost use Rattle.definedness.specs.Settling.{has, due_in, label_at, label_of, due_and_given};
 
 use lists::Seq;
 use program::RegisterId;
@@ -143,7 +143,7 @@ impl Sets {
         block: usize,
         given: &[RegisterId],
     ) -> Result<Vec<RegisterId>, AllocError>
-        ensures { IfOk result (λ regions. regions.items ≡ both_of self.now block given.now) }
+        ensures { IfOk result (λ regions. regions.items ≡ due_and_given self.now block given.now) }
     {
         match self.labels.get(block) {
             Some(Label::Due(regions)) => both(alloc, regions.as_slice(), given),

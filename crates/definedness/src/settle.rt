@@ -3,7 +3,7 @@ ghost use Rattle.linear.specs.declared.form.RegisterId.{RegisterId};
 ghost use Rattle.cfg.specs.Paths.{edges_of};
 ghost use Rattle.definedness.specs.Sure.{Labels};
 ghost use Rattle.definedness.specs.declared.sets.Label.TheVariants.{Due};
-ghost use Rattle.definedness.specs.Settling.{has, due_in, label_in, label_at, label_of, count_sure, Ends, Forks, IsHeldBy, IsOver, IsJoined, IsKept, IsFit, IsBelow, IsTableLabelling, IsSettledAt, IsAllSure, KeepsBoth, Lowers, NotesEnd, IsGreatest};
+ghost use Rattle.definedness.specs.Settling.{has, due_in, label_in, label_at, label_of, count_sure, Ends, Forks, IsHeldBy, IsOver, IsJoined, EdgeGives, IsFit, IsBelow, IsTableLabelling, IsSettledAt, IsAllSure, KeepsBoth, Lowers, NotesEnd, IsGreatest};
 
 use crate::fork::Fork;
 use crate::sets::{Label, Sets, add_region};
@@ -73,7 +73,9 @@ fn regions_along(
     requires fit { IsFit stops.now forks.now (length sets.now.labels.items) sets.now }
     requires within { from < length sets.now.labels.items }
     ensures few { IfOk result (λ regions. length regions.items ≤ length (due_in (label_at sets.now from)) + 1) }
-    ensures exact { IfOk result (λ regions. (r : RegisterId) → (has regions.items r ≡ true) ↔ ((has (due_in (label_at sets.now from)) r ≡ true) ⊎ IsJoined stops.now forks.now (label_of sets.now) from way r)) }
+    ensures exact { IfOk result (λ regions. (r : RegisterId)
+        → (has regions.items r ≡ true)
+        ↔ ((has (due_in (label_at sets.now from)) r ≡ true) ⊎ IsJoined stops.now forks.now (label_of sets.now) from way r)) }
 {
     let mut regions = sets.copy_due(alloc, from)?;
     if let Some(region) = joined(sets, stops, forks, from, way) {
@@ -94,7 +96,7 @@ fn label_along(
     requires fit { IsFit stops.now forks.now (length sets.now.labels.items) sets.now }
     requires within { from < length sets.now.labels.items }
     ensures few { IfOk result (λ given. count_sure sets.now + length (due_in given) ≤ length sets.now.labels.items + 1) }
-    ensures exact { IfOk result (λ given. (k : Option RegisterId) → (label_in given k ≡ true) ↔ IsKept stops.now forks.now (label_of sets.now) k from way) }
+    ensures exact { IfOk result (λ given. (k : Option RegisterId) → (label_in given k ≡ true) ↔ EdgeGives stops.now forks.now (label_of sets.now) k from way) }
 {
     if is_held(sets, stops, None, from) || is_over(sets, stops, from, way) {
         return Ok(Label::Sure);
@@ -199,7 +201,8 @@ fn narrow(
 ) -> Result<(), AllocError>
     requires fit { IsFit stops.now forks.now (length blocks.now) sets.old }
     requires few { count_sure sets.old + length (due_in given) ≤ length blocks.now + 1 }
-    requires given { (l : Labels) → IsTableLabelling stops.now forks.now blocks.now l → IsBelow (length blocks.now) l sets.old → (k : Option RegisterId) → l k to ≡ true → label_in given k ≡ true }
+    requires given { (l : Labels) → IsTableLabelling stops.now forks.now blocks.now l → IsBelow (length blocks.now) l sets.old → (k : Option RegisterId)
+        → l k to ≡ true → label_in given k ≡ true }
     ensures lowers { OnOk result (Lowers stops.now forks.now blocks.now sets.old work.old.items sets.new work.new.items) }
     ensures taken { OnOk result ((k : Option RegisterId) → label_of sets.new k to ≡ true → label_in given k ≡ true) }
 {

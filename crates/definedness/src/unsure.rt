@@ -85,7 +85,8 @@ fn never_sure(
     requires same { length blocks.now ≡ length bodies.now }
     requires last { AreNeverSure forks.now blocks.now last.old.stops.items last.old.marks.items }
     ensures last { OnOk result (AreNeverSure forks.now blocks.now last.new.stops.items last.new.marks.items) }
-    ensures marks { IfOk result (λ marks. (b : ℕ) → b < length blocks.now → (slice_index_or marks.items b false ≡ true) ↔ IsNeverSure bodies.now blocks.now all.now alloca b) }
+    ensures marks { IfOk result (λ marks. (b : ℕ) → b < length blocks.now
+        → (slice_index_or marks.items b false ≡ true) ↔ IsNeverSure bodies.now blocks.now all.now alloca b) }
 {
     let _bodies = bodies;
     let stops = giving(alloc, all, alloca)?;
@@ -106,7 +107,8 @@ pub fn unsure_rows(
     requires forks { (b : ℕ) (fork : Fork) → slice_get forks.now b ≡ Some fork → IsForkOf bodies.now blocks.now b fork }
     requires size { length forks.now ≡ length bodies.now }
     requires same { length blocks.now ≡ length bodies.now }
-    ensures { IfOk result (λ rows. (n b : ℕ) → n < count → b < length blocks.now → (mark_at rows.items n b ≡ true) ↔ IsNeverSure bodies.now blocks.now all.now n b) }
+    ensures { IfOk result (λ rows. (n b : ℕ) → n < count → b < length blocks.now
+        → (mark_at rows.items n b ≡ true) ↔ IsNeverSure bodies.now blocks.now all.now n b) }
 {
     let mut rows: Vec<Row> = Vec::new(alloc);
     let unstored = no_marks(alloc, blocks.len())?;

@@ -4,21 +4,21 @@ use Rattle.std.specs.Prelude.{slice_get}
 use Rattle.linear.specs.declared.form.Fact.{Fact}
 use Rattle.program.specs.declared.function.Block.{Block}
 use Rattle.program.specs.declared.function.Function.{Function}
-use Rattle.cfg.specs.declared.refusal.Broken.{Broken}
+use Rattle.refusal.specs.declared.broken.Broken.{Broken}
 use Rattle.region_match.specs.declared.task.Task.{Task}
-use Rattle.region_match.specs.ByLabel.{IsNamed}
-use Rattle.region_match.proofs.Lists.{named_same}
+use Rattle.refusal.specs.Earliest.{IsEarliest}
+use Rattle.refusal.proofs.Elements.{earliest_same}
 use Rattle.ranges.specs.declared.table.BlockFacts.{BlockFacts}
 use Rattle.ranges.specs.declared.table.EdgeFacts.{EdgeFacts}
-use Rattle.ranges.proofs.Sweeps.{read_at}
-use Rattle.ranges.specs.Places.{facts_at_step, facts_at_end, edges_known, IsBlockTable}
-use Rattle.footprints.specs.Rules.{known_at, IsStepBroken, AreStepsBroken, IsEndBroken, IsBlockBrokenBy, IsBlockBroken}
+use Rattle.refusal.proofs.Places.{read_at}
+use Rattle.ranges.specs.Places.{facts_at_step, facts_at_end, edges_known, IsBlockTable, facts_in_table}
+use Rattle.footprints.specs.Rules.{IsStepBroken, AreStepsBroken, IsEndBroken, IsBlockBrokenBy, IsBlockBroken}
 
 module _ (functions : List Function) (function : Function) (task : Task) (b : ℕ) (block : Block) (table : BlockFacts) (t : IsBlockTable functions function b block table) (broken : Broken) where
-  steps_to : AreStepsBroken functions function task block (known_at table) broken → AreStepsBroken functions function task block (facts_at_step functions function b block) broken
+  steps_to : AreStepsBroken functions function task block (facts_in_table table) broken → AreStepsBroken functions function task block (facts_at_step functions function b block) broken
   steps_to s = (s.0, s.1, s.2, subst (λ (fs : List Fact). IsStepBroken functions function task block fs s.1 broken) (t.at_step s.0 s.1 s.2) s.3)
 
-  steps_from : AreStepsBroken functions function task block (facts_at_step functions function b block) broken → AreStepsBroken functions function task block (known_at table) broken
+  steps_from : AreStepsBroken functions function task block (facts_at_step functions function b block) broken → AreStepsBroken functions function task block (facts_in_table table) broken
   steps_from s = (s.0, s.1, s.2, subst (λ (fs : List Fact). IsStepBroken functions function task block fs s.1 broken) (sym (t.at_step s.0 s.1 s.2)) s.3)
 
   end_to : IsEndBroken function task block table.facts table.edges block.ending broken → IsEndBroken function task block (facts_at_end functions function b block) (edges_known functions function b block block.ending) block.ending broken
@@ -31,18 +31,14 @@ module _ (functions : List Function) (function : Function) (task : Task) (b : �
       subst (λ (fs : List Fact). IsEndBroken function task block fs table.edges block.ending broken) (sym t.at_end)
       (subst (λ (es : List EdgeFacts). IsEndBroken function task block (facts_at_end functions function b block) es block.ending broken) (sym t.edges) e)
 
-  block_to : IsBlockBrokenBy functions function task block (known_at table) table.facts table.edges broken → IsBlockBroken functions function task b block broken
+  block_to : IsBlockBrokenBy functions function task block (facts_in_table table) table.facts table.edges broken → IsBlockBroken functions function task b block broken
   block_to p = ⊎_elim (λ s. inl (steps_to s)) (λ e. inr (end_to e)) p
 
-  block_from : IsBlockBroken functions function task b block broken → IsBlockBrokenBy functions function task block (known_at table) table.facts table.edges broken
+  block_from : IsBlockBroken functions function task b block broken → IsBlockBrokenBy functions function task block (facts_in_table table) table.facts table.edges broken
   block_from p = ⊎_elim (λ s. inl (steps_from s)) (λ e. inr (end_from e)) p
 
 -- what is broken in a block with what its table says is known there
 pub block_by_table : (functions : List Function) (function : Function) (task : Task) (b : ℕ) (block : Block) (table : BlockFacts) (r : Option Broken) → IsBlockTable functions function b block table →
-    IsNamed (IsBlockBrokenBy functions function task block (known_at table) table.facts table.edges) r → IsNamed (IsBlockBroken functions function task b block) r
+    IsEarliest (IsBlockBrokenBy functions function task block (facts_in_table table) table.facts table.edges) r → IsEarliest (IsBlockBroken functions function task b block) r
 block_by_table functions function task b block table r t j =
-    named_same _ _ r (block_to functions function task b block table t) (block_from functions function task b block table t) j
-
--- an element that is read of a list is one of the list's own
-pub read_in : {X : Type 0} (xs ys : List X) (i : ℕ) (x : X) → xs ≡ ys → i < length xs → x ≡ get_or xs i x → slice_get ys i ≡ Some x
-read_in xs ys i x same l is = ap (λ zs. slice_get zs i) (sym same) ∙ read_at xs i x l is
+    earliest_same _ _ r (block_to functions function task b block table t) (block_from functions function task b block table t) j

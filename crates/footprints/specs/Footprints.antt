@@ -25,6 +25,7 @@ use Rattle.program.specs.declared.instruction.Terminator.{Terminator}
 use Rattle.program.specs.declared.instruction.Terminator.TheVariants as terminator
 use Rattle.program.specs.declared.function.Block.{Block}
 use Rattle.program.specs.declared.function.Function.{Function}
+use Rattle.program.specs.Steps.{first_said}
 use Rattle.cfg.specs.declared.structure.Way.{Way}
 use Rattle.cfg.specs.declared.structure.Way.TheVariants.{Branch, Detached, Continued, Synced}
 use Rattle.ranges.specs.declared.table.EdgeFacts.{EdgeFacts}
@@ -48,14 +49,9 @@ pointer_of r (instruction.AtomicAdd address x) = None
 pointer_of r (instruction.Call d callee arguments) = None
 pointer_of r (instruction.StartRegion d) = None
 
-abbrev pub or_else : Option Cell → Option Cell → Option Cell
-or_else None other = other
-or_else (Some c) other = Some c
-
 -- what the first `getelementptr` among the steps that defines the register points to
 abbrev pub pointed : RegisterId → List Step → Option Cell
-pointed r [] = None
-pointed r (s ∷ steps) = or_else (pointer_of r s.instruction) (pointed r steps)
+pointed r steps = first_said (pointer_of r) steps
 
 abbrev pub first_cell : ObjectName → Cell
 first_cell object = record { object = object; index = Number (pos 0) }

@@ -1,5 +1,5 @@
 -- How the rules on zones are broken, place by place.
-use Rattle.std.specs.Prelude.{◌≡◌, ◌⊎◌, ℕ, Bool, true, false, List, [], take, Option, Some, None, Any, slice_get, slice_index_or}
+use Rattle.std.specs.Prelude.{◌≡◌, ◌⊎◌, ℕ, Bool, true, false, List, [], Option, Some, None, Any, slice_get}
 use Rattle.linear.specs.declared.form.Fact.{Fact}
 use Rattle.program.specs.declared.annotation.Zone.{Zone}
 use Rattle.program.specs.declared.instruction.Ending.{Ending}
@@ -8,19 +8,15 @@ use Rattle.program.specs.declared.instruction.Terminator.{Terminator}
 use Rattle.program.specs.declared.function.Block.{Block}
 use Rattle.program.specs.declared.function.Function.{Function}
 use Rattle.program.specs.declared.function.Program.{Program}
-use Rattle.cfg.specs.declared.refusal.Broken.{Broken}
-use Rattle.cfg.specs.Faults.{IsAtOrBefore}
+use Rattle.refusal.specs.declared.broken.Broken.{Broken}
 use Rattle.region_match.specs.declared.task.Task.{Task}
 use Rattle.region_match.specs.declared.task.Task.TheVariants.{Unreached, Body, Child}
 use Rattle.region_match.specs.declared.tables.FunctionTasks.{FunctionTasks}
 use Rattle.region_match.specs.declared.tables.Regions.{Regions}
 use Rattle.region_match.specs.Tasks.{task_at}
 use Rattle.region_match.specs.Rules.{ending_at}
-use Rattle.ranges.specs.declared.table.BlockFacts.{BlockFacts}
 use Rattle.ranges.specs.declared.table.EdgeFacts.{EdgeFacts}
 use Rattle.ranges.specs.Places.{facts_at_step, facts_at_end, edges_known}
-use Rattle.footprints.specs.declared.fault.ZoneFault.{ZoneFault}
-use Rattle.footprints.specs.declared.fault.ZoneFault.TheVariants.{Fault, Memory}
 use Rattle.footprints.specs.declared.touch.Use.{Use}
 use Rattle.footprints.specs.Footprints.{Place, place_of, step_use, end_use, child_foot, passes_on}
 
@@ -82,13 +78,10 @@ abbrev pub IsBlockBrokenBy : List Function → Function → Task → Block → (
 IsBlockBrokenBy functions function task block facts_at facts edges broken =
     AreStepsBroken functions function task block facts_at broken ⊎ IsEndBroken function task block facts edges block.ending broken
 
--- what a table of a block says is known at its step of this number
-abbrev pub known_at : BlockFacts → ℕ → List Fact
-known_at table i = take (slice_index_or table.counts i 0) table.facts
-
 abbrev pub IsBlockBroken : List Function → Function → Task → ℕ → Block → Broken → Type 0
 IsBlockBroken functions function task b block broken =
-    IsBlockBrokenBy functions function task block (facts_at_step functions function b block) (facts_at_end functions function b block) (edges_known functions function b block block.ending) broken
+    IsBlockBrokenBy functions function task block (facts_at_step functions function b block) (facts_at_end functions function b block)
+    (edges_known functions function b block block.ending) broken
 
 abbrev pub IsFunctionBroken : List Function → Function → List Task → Broken → Type 0
 IsFunctionBroken functions function tasks broken =
@@ -101,11 +94,5 @@ tasks_of (Some table) = table.tasks
 -- 601 to 604
 abbrev pub IsZoneBroken : Program → Regions → Broken → Type 0
 IsZoneBroken program regions broken =
-    (f : ℕ) × (function : Function) × (slice_get program.functions f ≡ Some function) × IsFunctionBroken program.functions function (tasks_of (slice_get regions.functions f)) broken
-
--- what a fault says: this rule is broken at this line, and no other is broken on a lower line, or there with a lower number
-abbrev pub IsZoneFault : Program → Regions → ZoneFault → Type 0
-IsZoneFault program regions Memory = Unit {0}
-IsZoneFault program regions (Fault number line) =
-    let named : Broken = record { line = line; number = number } in
-    IsZoneBroken program regions named × ((b : Broken) → IsZoneBroken program regions b → IsAtOrBefore named b)
+    (f : ℕ) × (function : Function) × (slice_get program.functions f ≡ Some function)
+    × IsFunctionBroken program.functions function (tasks_of (slice_get regions.functions f)) broken

@@ -1,21 +1,22 @@
 ghost use Rattle.std.specs.Prelude.{◌≡◌, ℕ, Some, IfOk, IfErr, OnOk, slice_get};
-ghost use Rattle.cfg.specs.declared.refusal.Broken.{Broken};
-ghost use Rattle.region_match.specs.ByLabel.{IsNamed};
+ghost use Rattle.refusal.specs.declared.broken.Broken.{Broken};
+ghost use Rattle.refusal.specs.Earliest.{IsEarliest, NamesEarliest};
 ghost use Rattle.region_match.specs.Rules.{ending_at};
 ghost use Rattle.region_match.specs.Tasks.{task_at};
-ghost use Rattle.ranges.specs.Places.{IsBlockTable, IsFunctionTable, AreFacts};
+ghost use Rattle.ranges.specs.Places.{IsBlockTable, IsFunctionTable, AreFacts, facts_in_table};
 ghost use Rattle.footprints.specs.Footprints.{place_of};
-ghost use Rattle.footprints.specs.Rules.{foot_at_end, covering_of, is_own_block, place_in, known_at, tasks_of, IsStepBroken, AreStepsBroken, IsEndBroken, IsBlockBrokenBy, IsBlockBroken, IsFunctionBroken, IsZoneBroken, IsZoneFault};
+ghost use Rattle.footprints.specs.Rules.{foot_at_end, covering_of, is_own_block, place_in, tasks_of, IsStepBroken, AreStepsBroken, IsEndBroken, IsBlockBrokenBy, IsBlockBroken, IsFunctionBroken, IsZoneBroken};
 
-use crate::fault::ZoneFault;
+use crate::ZoneFault;
 use crate::judge::{edges_fault, step_fault, use_fault};
 use crate::place::Place;
 use crate::touch::{child_foot, end_use};
-use cfg::{Broken, Graph, lower};
+use cfg::Graph;
 use linear::Fact;
 use lists::OutOfMemory;
 use program::{Block, BlockId, Ending, Function, Program, Step, Zone};
 use ranges::{BlockFacts, EdgeFacts, Facts, FunctionFacts};
+use refusal::{Broken, lower};
 use region_match::{Regions, Task};
 use std::alloc::Global;
 
@@ -99,7 +100,7 @@ fn step_in_block(
     facts: &[Fact],
     step: &Step,
 ) -> Result<Option<Broken>, OutOfMemory>
-    ensures { IfOk result (IsNamed (IsStepBroken functions.now function.now task block.now facts.now step.now)) }
+    ensures { IfOk result (IsEarliest (IsStepBroken functions.now function.now task block.now facts.now step.now)) }
 {
     let place = place_in(function, task, block, facts);
     let steps = block.steps.as_slice();
@@ -115,7 +116,7 @@ fn steps_fault(
     block: &Block,
     table: &BlockFacts,
 ) -> Result<Option<Broken>, OutOfMemory>
-    ensures { IfOk result (IsNamed (AreStepsBroken functions.now function.now task block.now (known_at table.now))) }
+    ensures { IfOk result (IsEarliest (AreStepsBroken functions.now function.now task block.now (facts_in_table table.now))) }
 {
     let mut named: Option<Broken> = None;
     let steps = block.steps.as_slice();
@@ -137,7 +138,7 @@ fn ending_fault(
     edges: &[EdgeFacts],
     ending: &Ending,
 ) -> Result<Option<Broken>, OutOfMemory>
-    ensures { IfOk result (IsNamed (IsEndBroken function.now task block.now facts.now edges.now (Some ending.now))) }
+    ensures { IfOk result (IsEarliest (IsEndBroken function.now task block.now facts.now edges.now (Some ending.now))) }
 {
     let place = place_in(function, task, block, facts);
     let blocks = function.blocks.as_slice();
@@ -156,7 +157,7 @@ fn end_fault(
     facts: &[Fact],
     edges: &[EdgeFacts],
 ) -> Result<Option<Broken>, OutOfMemory>
-    ensures { IfOk result (IsNamed (IsEndBroken function.now task block.now facts.now edges.now block.now.ending)) }
+    ensures { IfOk result (IsEarliest (IsEndBroken function.now task block.now facts.now edges.now block.now.ending)) }
 {
     match &block.ending {
         Some(ending) => ending_fault(alloc, function, task, block, facts, edges, ending),
@@ -173,7 +174,7 @@ fn block_fault(
     block: &Block,
     table: &BlockFacts,
 ) -> Result<Option<Broken>, OutOfMemory>
-    ensures { IfOk result (IsNamed (IsBlockBrokenBy functions.now function.now task block.now (known_at table.now) table.now.facts table.now.edges)) }
+    ensures { IfOk result (IsEarliest (IsBlockBrokenBy functions.now function.now task block.now (facts_in_table table.now) table.now.facts table.now.edges)) }
 {
     let at_steps = steps_fault(alloc, functions, function, task, block, table)?;
     let facts = table.facts.as_slice();
@@ -191,7 +192,7 @@ fn function_fault(
     facts: &FunctionFacts,
 ) -> Result<Option<Broken>, OutOfMemory>
     requires { IsFunctionTable functions.now function.now facts.now }
-    ensures { IfOk result (IsNamed (IsFunctionBroken functions.now function.now tasks.now)) }
+    ensures { IfOk result (IsEarliest (IsFunctionBroken functions.now function.now tasks.now)) }
 {
     let mut named: Option<Broken> = None;
     let tables = facts.blocks.as_slice();
@@ -213,7 +214,7 @@ fn program_fault(
     facts: &Facts,
 ) -> Result<Option<Broken>, OutOfMemory>
     requires { AreFacts program.now facts.now }
-    ensures { IfOk result (IsNamed (IsZoneBroken program.now regions.now)) }
+    ensures { IfOk result (IsEarliest (IsZoneBroken program.now regions.now)) }
 {
     let mut named: Option<Broken> = None;
     let tables = facts.functions.as_slice();
@@ -237,13 +238,10 @@ pub fn check_zones(
 ) -> Result<(), ZoneFault>
     requires { AreFacts graph.now.typed.program facts.now }
     ensures right { OnOk result ((b : Broken) → IsZoneBroken graph.now.typed.program regions.now b → ⊥) }
-    ensures fault { IfErr result (IsZoneFault graph.now.typed.program regions.now) }
+    ensures fault { IfErr result (NamesEarliest (IsZoneBroken graph.now.typed.program regions.now)) }
 {
     match program_fault(alloc, &graph.typed.program, regions, facts)? {
-        Some(broken) => Err(ZoneFault::Fault {
-            number: broken.number,
-            line: broken.line,
-        }),
+        Some(broken) => Err(broken.into()),
         None => Ok(()),
     }
 }

@@ -1,22 +1,22 @@
 ghost use Rattle.std.specs.Prelude.{◌≡◌, ℕ, List, Any, Some, IfOk, false, slice_get, slice_index_or, take};
 ghost use Rattle.program.specs.declared.instruction.Step.{Step};
-ghost use Rattle.cfg.specs.declared.refusal.Broken.{Broken};
-ghost use Rattle.region_match.specs.ByLabel.{IsNamed};
+ghost use Rattle.refusal.specs.declared.broken.Broken.{Broken};
+ghost use Rattle.refusal.specs.Earliest.{IsEarliest};
 ghost use Rattle.footprints.specs.Footprints.{place_of, step_use, end_use, passes_on};
 ghost use Rattle.footprints.specs.Rules.{IsUseBroken, IsEdgeBroken};
 
 use crate::pass::passes_on;
 use crate::place::Place;
 use crate::touch::{Use, end_use, step_use};
-use cfg::{Broken, lower};
 use lists::OutOfMemory;
 use program::{Block, Ending, Function, Step};
 use ranges::EdgeFacts;
+use refusal::{Broken, lower};
 use std::alloc::Global;
 
 /// The rule of this number at this line, unless it holds.
 fn fault_unless(holds: bool, line: u32, number: u16) -> Option<Broken>
-    ensures { IsNamed (λ (b : Broken). (b.number ≡ number) × (b.line ≡ line) × (holds ≡ false)) result }
+    ensures { IsEarliest (λ (b : Broken). (b.number ≡ number) × (b.line ≡ line) × (holds ≡ false)) result }
 {
     if holds {
         None
@@ -27,7 +27,7 @@ fn fault_unless(holds: bool, line: u32, number: u16) -> Option<Broken>
 
 /// What is broken by what a step or a terminator touches.
 pub fn use_fault(line: u32, used: Use) -> Option<Broken>
-    ensures { IsNamed (IsUseBroken line used) result }
+    ensures { IsEarliest (IsUseBroken line used) result }
 {
     let uncovered = fault_unless(used.covered, line, used.number);
     let unclear = fault_unless(used.clear, line, 602);
@@ -42,7 +42,9 @@ pub fn step_fault(
     steps: &[Step],
     step: &Step,
 ) -> Result<Option<Broken>, OutOfMemory>
-    ensures { IfOk result (IsNamed (IsUseBroken step.now.line (step_use (place_of place.now.facts.now place.now.covering.now place.now.own place.now.pending.now) functions.now steps.now step.now.line step.now.instruction))) }
+    ensures { IfOk result (IsEarliest (IsUseBroken step.now.line (step_use
+        (place_of place.now.facts.now place.now.covering.now place.now.own place.now.pending.now)
+        functions.now steps.now step.now.line step.now.instruction))) }
 {
     let used = step_use(alloc, place, functions, steps, step.line, &step.instruction)?;
     Ok(use_fault(step.line, used))
@@ -56,7 +58,7 @@ fn edge_fault(
     ending: &Ending,
     edge: &EdgeFacts,
 ) -> Result<Option<Broken>, OutOfMemory>
-    ensures { IfOk result (IsNamed (IsEdgeBroken blocks.now block.now ending.now edge.now)) }
+    ensures { IfOk result (IsEarliest (IsEdgeBroken blocks.now block.now ending.now edge.now)) }
 {
     let pending = block.pending.as_slice();
     let passed = passes_on(alloc, blocks, pending, &ending.terminator, edge)?;
@@ -71,7 +73,7 @@ pub fn edges_fault(
     ending: &Ending,
     edges: &[EdgeFacts],
 ) -> Result<Option<Broken>, OutOfMemory>
-    ensures { IfOk result (IsNamed (λ (b : Broken). Any (λ e. IsEdgeBroken blocks.now block.now ending.now e b) edges.now)) }
+    ensures { IfOk result (IsEarliest (λ (b : Broken). Any (λ e. IsEdgeBroken blocks.now block.now ending.now e b) edges.now)) }
 {
     let mut named: Option<Broken> = None;
     for edge in edges {

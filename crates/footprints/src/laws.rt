@@ -15,20 +15,25 @@ pub fn empty_zones_have_no_cell()
 
 /// At register values that meet the facts, a covering zone has each cell of the covered one.
 pub fn covering_zones_have_the_cells()
-    ensures { (facts : List Fact) (z y : Span) → covers facts z y ≡ true → (v : ℕ → ℤ) → AllHold v facts → (o : ObjectName) (i : ℤ) → HasCell v y o i → HasCell v z o i }
+    ensures { (facts : List Fact) (z y : Span) → covers facts z y ≡ true → (v : ℕ → ℤ) → AllHold v facts → (o : ObjectName) (i : ℤ)
+        → HasCell v y o i → HasCell v z o i }
 {}
 
 /// At register values that meet the facts, each cell of a covered zone is one of a zone that covers it, in a mode that covers its own.
 pub fn covered_cells_are_covered()
-    ensures { (facts : List Fact) (zones : List Zone) (y : Span) → is_covered facts zones y ≡ true → (v : ℕ → ℤ) → AllHold v facts → (o : ObjectName) (i : ℤ) → HasCell v y o i → Any (λ z. HasCell v (as_written z) o i × (mode_covers z.mode y.zone.mode ≡ true)) zones }
+    ensures { (facts : List Fact) (zones : List Zone) (y : Span) → is_covered facts zones y ≡ true → (v : ℕ → ℤ) → AllHold v facts
+        → (o : ObjectName) (i : ℤ) → HasCell v y o i
+        → Any (λ z. HasCell v (as_written z) o i × (mode_covers z.mode y.zone.mode ≡ true)) zones }
 {}
 
 /// At register values that meet the facts, zones apart share no cell.
 pub fn zones_apart_share_no_cell()
-    ensures { (facts : List Fact) (z y : Span) → is_apart facts z y ≡ true → (v : ℕ → ℤ) → AllHold v facts → (o : ObjectName) (i : ℤ) → HasCell v z o i → HasCell v y o i → ⊥ }
+    ensures { (facts : List Fact) (z y : Span) → is_apart facts z y ≡ true → (v : ℕ → ℤ) → AllHold v facts → (o : ObjectName) (i : ℤ)
+        → HasCell v z o i → HasCell v y o i → ⊥ }
 {}
 
 /// At register values that meet the facts, zones that do not conflict share cells only for uses whose order does not matter.
 pub fn shared_cells_agree()
-    ensures { (facts : List Fact) (z y : Span) → conflict facts z y ≡ false → (v : ℕ → ℤ) → AllHold v facts → (o : ObjectName) (i : ℤ) → HasCell v z o i → HasCell v y o i → modes_agree z.zone.mode y.zone.mode ≡ true }
+    ensures { (facts : List Fact) (z y : Span) → conflict facts z y ≡ false → (v : ℕ → ℤ) → AllHold v facts → (o : ObjectName) (i : ℤ)
+        → HasCell v z o i → HasCell v y o i → modes_agree z.zone.mode y.zone.mode ≡ true }
 {}

@@ -13,7 +13,6 @@
 
 mod access;
 mod check;
-mod fault;
 mod judge;
 pub mod laws;
 mod pass;
@@ -23,9 +22,9 @@ mod zone;
 
 pub use access::{Cell, address_cell, cells_zone};
 pub use check::check_zones;
-pub use fault::ZoneFault;
 pub use pass::passes_on;
 pub use place::{Place, is_allowed, is_clear};
+pub use refusal::Refused as ZoneFault;
 pub use touch::{Use, end_use, step_use};
 pub use zone::{
     PlacedZone, conflict, covers, is_apart, is_covered, is_empty, mode_covers, modes_agree,

@@ -44,7 +44,9 @@ fn is_own(own: bool, object: ObjectName) -> bool
 /// Whether what is touched needs no cover, or has one.
 #[tactic(auto, unfolding(crate::specs::Footprints::is_allowed))]
 pub fn is_allowed(alloc: Global, place: &Place<'_>, y: &PlacedZone<'_>) -> Result<bool, OutOfMemory>
-    ensures { IfOk result (λ b. b ≡ is_allowed (place_of place.now.facts.now place.now.covering.now place.now.own place.now.pending.now) (span y.now.object y.now.moves.now y.now.zone.now)) }
+    ensures { IfOk result (λ b. b ≡ is_allowed
+        (place_of place.now.facts.now place.now.covering.now place.now.own place.now.pending.now)
+        (span y.now.object y.now.moves.now y.now.zone.now)) }
 {
     if is_own(place.own, y.object) {
         return Ok(true);
@@ -55,7 +57,9 @@ pub fn is_allowed(alloc: Global, place: &Place<'_>, y: &PlacedZone<'_>) -> Resul
 /// Whether nothing that is pending conflicts with it.
 #[tactic(auto, unfolding(crate::specs::Footprints::is_clear))]
 pub fn is_clear(alloc: Global, place: &Place<'_>, y: &PlacedZone<'_>) -> Result<bool, OutOfMemory>
-    ensures { IfOk result (λ b. b ≡ is_clear (place_of place.now.facts.now place.now.covering.now place.now.own place.now.pending.now) (span y.now.object y.now.moves.now y.now.zone.now)) }
+    ensures { IfOk result (λ b. b ≡ is_clear
+        (place_of place.now.facts.now place.now.covering.now place.now.own place.now.pending.now)
+        (span y.now.object y.now.moves.now y.now.zone.now)) }
 {
     for item in place.pending {
         if conflict(alloc, place.facts, &as_written(&item.zone), y)? {

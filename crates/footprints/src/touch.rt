@@ -81,7 +81,9 @@ fn address_use(
     mode: Mode,
     address: Address,
 ) -> Result<Use, OutOfMemory>
-    ensures { IfOk result (λ u. u ≡ cell_use (place_of place.now.facts.now place.now.covering.now place.now.own place.now.pending.now) line mode (address_cell steps.now address)) }
+    ensures { IfOk result (λ u. u ≡ cell_use
+        (place_of place.now.facts.now place.now.covering.now place.now.own place.now.pending.now) line mode
+        (address_cell steps.now address)) }
 {
     let cell = address_cell(steps, address);
     cell_use(alloc, place, line, mode, cell)
@@ -95,7 +97,9 @@ fn array_use(
     object: ObjectName,
     cells: u64,
 ) -> Result<Use, OutOfMemory>
-    ensures { IfOk result (λ u. u ≡ access_use (place_of place.now.facts.now place.now.covering.now place.now.own place.now.pending.now) (Some (cells_zone line Writes (first_cell object) cells))) }
+    ensures { IfOk result (λ u. u ≡ access_use
+        (place_of place.now.facts.now place.now.covering.now place.now.own place.now.pending.now)
+        (Some (cells_zone line Writes (first_cell object) cells))) }
 {
     let zone = cells_zone(alloc, line, Mode::Writes, first_cell(object), cells)?;
     access_use(alloc, place, &zone)
@@ -124,7 +128,9 @@ fn is_put_allowed(
     zone: &Zone,
 ) -> Result<bool, OutOfMemory>
     requires { moves.now ≡ argument_moves 0 arguments.now }
-    ensures { IfOk result (λ b. b ≡ is_put_allowed (place_of place.now.facts.now place.now.covering.now place.now.own place.now.pending.now) (put_in arguments.now zone.now)) }
+    ensures { IfOk result (λ b. b ≡ is_put_allowed
+        (place_of place.now.facts.now place.now.covering.now place.now.own place.now.pending.now)
+        (put_in arguments.now zone.now)) }
 {
     match put_object(arguments, zone.object) {
         None => Ok(false),
@@ -148,7 +154,9 @@ fn is_put_clear(
     zone: &Zone,
 ) -> Result<bool, OutOfMemory>
     requires { moves.now ≡ argument_moves 0 arguments.now }
-    ensures { IfOk result (λ b. b ≡ is_put_clear (place_of place.now.facts.now place.now.covering.now place.now.own place.now.pending.now) (put_in arguments.now zone.now)) }
+    ensures { IfOk result (λ b. b ≡ is_put_clear
+        (place_of place.now.facts.now place.now.covering.now place.now.own place.now.pending.now)
+        (put_in arguments.now zone.now)) }
 {
     match put_object(arguments, zone.object) {
         None => Ok(true),
@@ -172,7 +180,9 @@ fn are_put_allowed(
     zones: &[Zone],
 ) -> Result<bool, OutOfMemory>
     requires { moves.now ≡ argument_moves 0 arguments.now }
-    ensures { IfOk result (λ b. b ≡ list_all (λ (z : ZoneKind). is_put_allowed (place_of place.now.facts.now place.now.covering.now place.now.own place.now.pending.now) (put_in arguments.now z)) zones.now) }
+    ensures { IfOk result (λ b. b ≡ list_all (λ (z : ZoneKind). is_put_allowed
+        (place_of place.now.facts.now place.now.covering.now place.now.own place.now.pending.now)
+        (put_in arguments.now z)) zones.now) }
 {
     for zone in zones {
         if !is_put_allowed(alloc, place, moves, arguments, zone)? {
@@ -191,7 +201,9 @@ fn are_put_clear(
     zones: &[Zone],
 ) -> Result<bool, OutOfMemory>
     requires { moves.now ≡ argument_moves 0 arguments.now }
-    ensures { IfOk result (λ b. b ≡ list_all (λ (z : ZoneKind). is_put_clear (place_of place.now.facts.now place.now.covering.now place.now.own place.now.pending.now) (put_in arguments.now z)) zones.now) }
+    ensures { IfOk result (λ b. b ≡ list_all (λ (z : ZoneKind). is_put_clear
+        (place_of place.now.facts.now place.now.covering.now place.now.own place.now.pending.now)
+        (put_in arguments.now z)) zones.now) }
 {
     for zone in zones {
         if !is_put_clear(alloc, place, moves, arguments, zone)? {
@@ -203,7 +215,8 @@ fn are_put_clear(
 
 /// Whether each zone needs no cover, or has one.
 fn are_allowed(alloc: Global, place: &Place<'_>, zones: &[Zone]) -> Result<bool, OutOfMemory>
-    ensures { IfOk result (λ b. b ≡ list_all (λ (z : ZoneKind). is_allowed (place_of place.now.facts.now place.now.covering.now place.now.own place.now.pending.now) (as_written z)) zones.now) }
+    ensures { IfOk result (λ b. b ≡ list_all (λ (z : ZoneKind). is_allowed
+        (place_of place.now.facts.now place.now.covering.now place.now.own place.now.pending.now) (as_written z)) zones.now) }
 {
     for zone in zones {
         if !is_allowed(alloc, place, &as_written(zone))? {
@@ -215,7 +228,8 @@ fn are_allowed(alloc: Global, place: &Place<'_>, zones: &[Zone]) -> Result<bool,
 
 /// Whether nothing that is pending conflicts with one of the zones.
 fn are_clear(alloc: Global, place: &Place<'_>, zones: &[Zone]) -> Result<bool, OutOfMemory>
-    ensures { IfOk result (λ b. b ≡ list_all (λ (z : ZoneKind). is_clear (place_of place.now.facts.now place.now.covering.now place.now.own place.now.pending.now) (as_written z)) zones.now) }
+    ensures { IfOk result (λ b. b ≡ list_all (λ (z : ZoneKind). is_clear
+        (place_of place.now.facts.now place.now.covering.now place.now.own place.now.pending.now) (as_written z)) zones.now) }
 {
     for zone in zones {
         if !is_clear(alloc, place, &as_written(zone))? {
@@ -232,7 +246,8 @@ fn callee_use(
     callee: &Function,
     arguments: &[Argument],
 ) -> Result<Use, OutOfMemory>
-    ensures { IfOk result (λ u. u ≡ callee_use (place_of place.now.facts.now place.now.covering.now place.now.own place.now.pending.now) callee.now arguments.now) }
+    ensures { IfOk result (λ u. u ≡ callee_use
+        (place_of place.now.facts.now place.now.covering.now place.now.own place.now.pending.now) callee.now arguments.now) }
 {
     let moves = argument_moves(alloc, arguments)?;
     let zones = callee.zones.as_slice();
@@ -251,7 +266,9 @@ fn call_use(
     callee: FunctionId,
     arguments: &[Argument],
 ) -> Result<Use, OutOfMemory>
-    ensures { IfOk result (λ u. u ≡ call_use (place_of place.now.facts.now place.now.covering.now place.now.own place.now.pending.now) (slice_get functions.now callee.0) arguments.now) }
+    ensures { IfOk result (λ u. u ≡ call_use
+        (place_of place.now.facts.now place.now.covering.now place.now.own place.now.pending.now)
+        (slice_get functions.now callee.0) arguments.now) }
 {
     match functions.get(callee.0) {
         Some(callee) => callee_use(alloc, place, callee, arguments),
@@ -279,7 +296,8 @@ pub fn step_use(
     line: u32,
     instruction: &Instruction,
 ) -> Result<Use, OutOfMemory>
-    ensures { IfOk result (λ u. u ≡ step_use (place_of place.now.facts.now place.now.covering.now place.now.own place.now.pending.now) functions.now steps.now line instruction.now) }
+    ensures { IfOk result (λ u. u ≡ step_use
+        (place_of place.now.facts.now place.now.covering.now place.now.own place.now.pending.now) functions.now steps.now line instruction.now) }
 {
     match instruction {
         Instruction::Load { address, .. } => {
@@ -333,7 +351,8 @@ pub fn end_use(
     blocks: &[Block],
     terminator: &Terminator,
 ) -> Result<Use, OutOfMemory>
-    ensures { IfOk result (λ u. u ≡ end_use (place_of place.now.facts.now place.now.covering.now place.now.own place.now.pending.now) blocks.now terminator.now) }
+    ensures { IfOk result (λ u. u ≡ end_use
+        (place_of place.now.facts.now place.now.covering.now place.now.own place.now.pending.now) blocks.now terminator.now) }
 {
     foot_use(alloc, place, child_foot(blocks, terminator))
 }

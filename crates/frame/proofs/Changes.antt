@@ -4,10 +4,10 @@ use Rattle.std.specs.Prelude.{eqb, slice_get, slice_set}
 use Rattle.std.specs.Option.{option_flatten}
 use Rattle.std.proofs.lemmas.Bool.Decides.{eqb_tells}
 use Rattle.linear.specs.declared.form.RegisterId.{RegisterId}
-use Rattle.machine_core.specs.Paths.{Path}
-use Rattle.machine_core.specs.Frames as frames
-use Rattle.machine_core.specs.Effect as effects
-use Rattle.machine_core.specs.State as states
+use Rattle.running.specs.Paths.{Path}
+use Rattle.running.specs.Frames as frames
+use Rattle.running.specs.Effect as effects
+use Rattle.running.specs.State as states
 use Rattle.frame.specs.declared.value.Value.{Value}
 use Rattle.frame.specs.declared.value.Value.TheVariants as value
 use Rattle.frame.specs.declared.frame.Frame.{Frame}

@@ -3,9 +3,9 @@ use Rattle.std.proofs.Common.{◌≡◌, ◌≢◌, ℕ, zero, suc, ◌+◌, ◌
 use Rattle.std.specs.Prelude.{eqb, find, slice_get, slice_set, Ok, Err}
 use Rattle.std.proofs.lemmas.Bool.Decides.{eqb_tells}
 use Rattle.std.specs.Option.{option_map}
-use Rattle.machine_core.specs.Paths.{Path}
-use Rattle.machine_core.specs.Frames.{Registers, Word, and_then, word_at, set_register}
-use Rattle.machine_core.specs.Effect.{entry_for, phi_value, with_phis}
+use Rattle.running.specs.Paths.{Path}
+use Rattle.running.specs.Frames.{Registers, Word, and_then, word_at, set_register}
+use Rattle.running.specs.Effect.{entry_for, phi_value, with_phis}
 use Rattle.program.specs.declared.instruction.Phi.{Phi}
 use Rattle.program.specs.declared.instruction.PhiEntry.{PhiEntry}
 use Rattle.frame.specs.declared.effect.Trap.{Trap}
@@ -17,9 +17,9 @@ use Rattle.frame.specs.declared.frame.Frame.{Frame}
 use Rattle.frame.specs.declared.frame.Wait.TheVariants as wait
 use Rattle.frame.specs.Reading.{frame_of}
 use Rattle.frame.specs.Room.{AreRead, FitsPhis, IsMoved, IsSound, IsEntered, Entered}
-use Rattle.machine_core.specs.Effect.{enters, registers_along}
-use Rattle.machine_core.specs.Frames.{phis_at}
-use Rattle.machine_core.specs.State.{went}
+use Rattle.running.specs.Effect.{enters, registers_along}
+use Rattle.running.specs.Frames.{phis_at}
+use Rattle.running.specs.State.{went}
 use Rattle.program.specs.declared.function.Program.{Program}
 use Rattle.program.specs.declared.identifier.BlockId.{BlockId}
 use Rattle.std.proofs.lemmas.Option.{slice_get_within}

@@ -3,9 +3,9 @@ use Rattle.std.proofs.Common.{◌≡◌, ℕ, zero, suc, ◌-◌, ◌<◌, ◌�
 use Rattle.std.specs.Prelude.{find, eqb, ◌&&◌, ◌≢◌, Result, Err}
 use Rattle.std.specs.Option.{option_map_or}
 use Rattle.std.specs.Ordering.{int_eq}
-use Rattle.machine_core.specs.Paths.{Path, same_path}
+use Rattle.running.specs.Paths.{Path, same_path}
 use Rattle.std.specs.Prelude.{Ok, slice_get}
-use Rattle.machine_core.specs.Arithmetic.{Unmatched, Undefined}
+use Rattle.running.specs.Arithmetic.{Unmatched, Undefined}
 use Rattle.program.specs.declared.identifier.FunctionId.{FunctionId}
 use Rattle.program.specs.declared.instruction.Instruction.TheVariants as instruction
 use Rattle.program.specs.declared.instruction.Step.{Step}
@@ -19,9 +19,9 @@ use Rattle.frame.specs.declared.effect.Effect.{Effect}
 use Rattle.frame.specs.declared.effect.Trap.{Trap}
 use Rattle.frame.specs.declared.effect.Trap.TheVariants as trap
 use Rattle.frame.specs.Asked.{Unless, OperandsFit, or_empty, call_arguments, place_of, ItemFits, DoesInstruction, DoesTerminator, DoesPlace}
-use Rattle.machine_core.specs.Frames.{Frame, Value, Region, Item, Does, Ends, item_of, block_at, and_then}
+use Rattle.running.specs.Frames.{Frame, Value, Region, Item, Does, Ends, item_of, block_at, and_then}
 use Rattle.linear.specs.declared.form.RegisterId.{RegisterId}
-use Rattle.machine_core.specs.Effect.{Action, Call, calls, item_action, case_for, argument_value, argument_values, traps, within}
+use Rattle.running.specs.Effect.{Action, Call, calls, item_action, case_for, argument_value, argument_values, traps, within}
 use Rattle.program.specs.declared.instruction.Case.{Case}
 use Rattle.program.specs.declared.instruction.Argument.{Argument}
 use Rattle.frame.specs.Reading.{above, found, frame_of}

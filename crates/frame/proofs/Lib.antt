@@ -4,3 +4,4 @@ pub mod Changes
 pub mod Edges
 pub mod Makers
 pub mod Allocas
+pub mod Declared

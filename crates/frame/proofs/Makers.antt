@@ -2,12 +2,12 @@
 use Rattle.std.proofs.Common.{◌≡◌, ℕ, zero, suc, ◌+◌, ◌-◌, ◌≤◌, List, [], ◌∷◌, ◌++◌, length, refl, ap, sym, ◌∙◌, subst, arith, ℤ, Option, Some, None, IsSome, take, drop}
 use Rattle.std.specs.Prelude.{slice_get, map, replicate}
 use Rattle.std.proofs.lemmas.List.{length-map, map-append}
-use Rattle.machine_core.specs.Paths.{Path}
-use Rattle.machine_core.specs.Cells.{Local}
-use Rattle.machine_core.specs.Frames as frames
-use Rattle.machine_core.specs.Frames.{Word, Body, Free, and_then, item_of}
-use Rattle.machine_core.specs.Effect.{argument_value, argument_values}
-use Rattle.machine_core.specs.State as states
+use Rattle.running.specs.Paths.{Path}
+use Rattle.running.specs.Cells.{Local}
+use Rattle.running.specs.Frames as frames
+use Rattle.running.specs.Frames.{Word, Body, Free, and_then, item_of}
+use Rattle.running.specs.Effect.{argument_value, argument_values}
+use Rattle.running.specs.State as states
 use Rattle.program.specs.declared.function.Program.{Program}
 use Rattle.program.specs.declared.function.Alloca.{Alloca as AllocaKind}
 use Rattle.program.specs.declared.function.Block.{Block}

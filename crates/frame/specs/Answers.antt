@@ -1,7 +1,7 @@
 -- How the answers of the arithmetic read in the definitions of running.
 use Rattle.std.specs.Prelude.{ℕ, ℤ, cond, Result, Ok, Err, FitsSigned}
-use Rattle.machine_core.specs.Arithmetic.{Answer, Gives, Traps, word, is_amount, unsigned}
-use Rattle.machine_core.specs.Arithmetic as running
+use Rattle.running.specs.Arithmetic.{Answer, Gives, Traps, word, is_amount, unsigned}
+use Rattle.running.specs.Arithmetic as running
 use Rattle.syntax.specs.declared.operator.Width.{Width}
 use Rattle.syntax.specs.declared.operator.Width.TheVariants.{Bits64, Bits32}
 use Rattle.syntax.specs.declared.operator.Conversion.{Conversion}

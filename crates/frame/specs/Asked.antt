@@ -1,10 +1,10 @@
 -- What an answer of the machine asks for, in the definitions of running.
 use Rattle.std.specs.Prelude.{◌≡◌, ⊤, ℤ, List, [], length, Option, Some, None, Result, Ok, Err}
-use Rattle.machine_core.specs.Paths.{Path}
-use Rattle.machine_core.specs.Cells.{Memory}
-use Rattle.machine_core.specs.Frames.{Value, Frame, Item, Does, Ends, item_at, word_at}
-use Rattle.machine_core.specs.Effect as running
-use Rattle.machine_core.specs.Effect.{Action, Plain, sets, loads, stores, stores_zeros, adds_to, jumps, registers_along, syncs, traps, argument_values, instruction_action, terminator_action, action_of}
+use Rattle.running.specs.Paths.{Path}
+use Rattle.running.specs.Cells.{Memory}
+use Rattle.running.specs.Frames.{Value, Frame, Item, Does, Ends, item_at, word_at}
+use Rattle.running.specs.Effect as running
+use Rattle.running.specs.Effect.{Action, Plain, sets, loads, stores, stores_zeros, adds_to, jumps, registers_along, syncs, traps, argument_values, instruction_action, terminator_action, action_of}
 use Rattle.program.specs.declared.function.Program.{Program}
 use Rattle.program.specs.declared.instruction.Instruction.{Instruction}
 use Rattle.program.specs.declared.instruction.Instruction.TheVariants as instruction

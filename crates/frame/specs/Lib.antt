@@ -2,3 +2,4 @@ pub mod Answers
 pub mod Reading
 pub mod Asked
 pub mod Room
+pub mod Places

@@ -1,10 +1,10 @@
 -- How a frame of the machine reads in the definitions of running: registers by number, owners by their paths.
 use Rattle.std.specs.Prelude.{ℕ, ◌-◌, List, length, drop, Option, Some, None, Result, Ok, Err, slice_get}
 use Rattle.std.specs.Option.{option_flatten}
-use Rattle.machine_core.specs.Paths.{Path}
-use Rattle.machine_core.specs.Cells as cells
-use Rattle.machine_core.specs.Frames as frames
-use Rattle.machine_core.specs.Frames.{Word, Pointer, Free, OnRegion, OnCall}
+use Rattle.running.specs.Paths.{Path}
+use Rattle.running.specs.Cells as cells
+use Rattle.running.specs.Frames as frames
+use Rattle.running.specs.Frames.{Word, Pointer, Free, OnRegion, OnCall}
 use Rattle.frame.specs.declared.value.Object.{Object}
 use Rattle.frame.specs.declared.value.Object.TheVariants.{Global, Alloca}
 use Rattle.frame.specs.declared.value.Cell.{Cell}

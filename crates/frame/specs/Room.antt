@@ -12,10 +12,10 @@ use Rattle.frame.specs.declared.frame.Frame.{Frame}
 use Rattle.frame.specs.declared.frame.Role.{Role}
 use Rattle.frame.specs.declared.frame.Role.TheVariants as role
 use Rattle.frame.specs.Reading.{frame_of, register_in, registers_of}
-use Rattle.machine_core.specs.Paths.{Path}
-use Rattle.machine_core.specs.Frames as frames
-use Rattle.machine_core.specs.Effect.{registers_along, enters, phi_value}
-use Rattle.machine_core.specs.State.{went}
+use Rattle.running.specs.Paths.{Path}
+use Rattle.running.specs.Frames as frames
+use Rattle.running.specs.Effect.{registers_along, enters, phi_value}
+use Rattle.running.specs.State.{went}
 use Rattle.program.specs.declared.instruction.Phi.{Phi}
 use Rattle.program.specs.declared.function.Program.{Program}
 use Rattle.program.specs.declared.function.Function.{Function}

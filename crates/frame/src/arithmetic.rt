@@ -1,8 +1,8 @@
 ghost use Rattle.std.specs.Prelude.{◌≡◌, ◌<◌, ◌↔◌, ◌^◌, ◌%◌, ℤ, IsTrue, IfOk, FitsSigned};
 ghost use Rattle.std.specs.Int.{w64, int_bit_and, int_bit_or, int_bit_xor};
 ghost use Rattle.std.specs.Option.{SomeIff};
-ghost use Rattle.machine_core.specs.Arithmetic as running;
-ghost use Rattle.machine_core.specs.Arithmetic.{word};
+ghost use Rattle.running.specs.Arithmetic as running;
+ghost use Rattle.running.specs.Arithmetic.{word};
 ghost use Rattle.syntax.specs.declared.operator.BinaryOperator.TheVariants.{SignedDivide, UnsignedDivide, SignedRemainder, UnsignedRemainder, ShiftLeft, LogicalShiftRight, ArithmeticShiftRight};
 ghost use Rattle.frame.specs.Answers.{answer_of, amount_of, source_width, Fits};
 ghost use mir.Val.{bits as bits_of};

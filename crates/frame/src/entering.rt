@@ -1,9 +1,9 @@
 ghost use Rattle.std.specs.Prelude.{◌≡◌, ◌↔◌, ◌<◌, ℕ, IfErr, IsTrue, Some, None, OnErr, OnOk, eqb, find, length, slice_get};
 ghost use Rattle.std.specs.Option.{option_copied, option_map};
 ghost use Rattle.frame.specs.declared.value.Value.TheVariants as value;
-ghost use Rattle.machine_core.specs.Paths.{Path};
-ghost use Rattle.machine_core.specs.Frames as frames;
-ghost use Rattle.machine_core.specs.Effect as effects;
+ghost use Rattle.running.specs.Paths.{Path};
+ghost use Rattle.running.specs.Frames as frames;
+ghost use Rattle.running.specs.Effect as effects;
 ghost use Rattle.frame.specs.Reading.{found, frame_of, registers_of};
 ghost use Rattle.frame.specs.Room.{AreRead, Entered, FitsPhis, IsMoved, IsSound};
 

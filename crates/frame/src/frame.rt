@@ -1,8 +1,8 @@
 ghost use Rattle.std.specs.Prelude.{◌≡◌, IfOk, slice_get};
 ghost use Rattle.std.specs.Option.{option_copied, option_map};
-ghost use Rattle.machine_core.specs.Paths.{Path};
-ghost use Rattle.machine_core.specs.Frames as frames;
-ghost use Rattle.machine_core.specs.Effect as effects;
+ghost use Rattle.running.specs.Paths.{Path};
+ghost use Rattle.running.specs.Frames as frames;
+ghost use Rattle.running.specs.Effect as effects;
 ghost use Rattle.frame.specs.Answers.{Fits};
 ghost use Rattle.frame.specs.Asked.{FitsIn, Unless};
 ghost use Rattle.frame.specs.Reading.{cell_of, found, frame_of, object_of, read, register_in, registers_of, value_of};

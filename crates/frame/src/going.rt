@@ -1,8 +1,8 @@
 ghost use Rattle.std.specs.Prelude.{◌≡◌, ◌+◌, ◌<◌, ◌^◌, ℕ, Option, Some, length, slice_set};
-ghost use Rattle.machine_core.specs.Paths.{Path};
-ghost use Rattle.machine_core.specs.Frames as frames;
-ghost use Rattle.machine_core.specs.Effect as effects;
-ghost use Rattle.machine_core.specs.State as states;
+ghost use Rattle.running.specs.Paths.{Path};
+ghost use Rattle.running.specs.Frames as frames;
+ghost use Rattle.running.specs.Effect as effects;
+ghost use Rattle.running.specs.State as states;
 ghost use Rattle.frame.specs.declared.frame.Wait.TheVariants as wait;
 ghost use Rattle.frame.specs.Reading.{frame_of, value_of};
 ghost use Rattle.frame.specs.Room.{HasNext, HasRegister, HasResult, IsSound, ValueWithin};

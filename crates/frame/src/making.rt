@@ -1,8 +1,8 @@
 ghost use Rattle.std.specs.Prelude.{◌≡◌, ◌+◌, ◌<◌, ◌∷◌, ◌++◌, ◌^◌, ℕ, [], Option, Some, None, IfOk, IsSome, length, map, max, replicate, slice_get};
-ghost use Rattle.machine_core.specs.Paths.{Path};
-ghost use Rattle.machine_core.specs.Frames as frames;
-ghost use Rattle.machine_core.specs.Effect as effects;
-ghost use Rattle.machine_core.specs.State as states;
+ghost use Rattle.running.specs.Paths.{Path};
+ghost use Rattle.running.specs.Frames as frames;
+ghost use Rattle.running.specs.Effect as effects;
+ghost use Rattle.running.specs.State as states;
 ghost use Rattle.frame.specs.declared.value.Value.TheVariants as value;
 ghost use Rattle.frame.specs.Asked.{arguments_of, call_arguments, place_of, passed};
 ghost use Rattle.frame.specs.Reading.{frame_of, held_of, register_in};

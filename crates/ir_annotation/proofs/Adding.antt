@@ -11,8 +11,8 @@ use Rattle.syntax.specs.declared.annotation.Term.{Term}
 use Rattle.ir_annotation.specs.declared.sums.SumTerm.{SumTerm}
 use Rattle.ir_annotation.specs.declared.sums.SignedTerm.{SignedTerm}
 use Rattle.ir_annotation.specs.declared.limits.Limited.{Limited}
-use Rattle.ir_annotation.specs.declared.fault.AnnotationFault.{AnnotationFault}
-use Rattle.ir_annotation.specs.declared.fault.AnnotationFault.TheVariants.{Fault, Memory}
+use Rattle.refusal.specs.declared.refused.Refused.{Refused}
+use Rattle.refusal.specs.declared.refused.Refused.TheVariants.{Fault, Memory}
 use Rattle.ir_annotation.specs.Bounds.{is_no_sign, BeginsWithSign}
 use Rattle.ir_annotation.specs.Reading.{◌>>=◌, Fails}
 use Rattle.ir_annotation.specs.Forms.{SignedText, Cut, as_signed, onto_cut, cut_of, signed_texts, Total, nothing, added, is_at, is_before, has_name, with_more, with_amount, plus, all_added, term_of, kept}
@@ -162,11 +162,11 @@ next_term word total is_negative rest text term sign behind s e h small more =
 
 -- ---- the goals of the loop
 
-pub fails_term : (word : List ℕ) (total : Total) (is_negative : Bool) (rest : List ℕ) (n : ℕ) (read : AnnotationFault) → Summing word total is_negative rest → n ≡ prefix_len is_no_sign rest →
-    Fails read (term_of is_negative (take n rest)) → Fails read (all_added nothing (signed_texts word))
-fails_term word total is_negative rest n Memory s e h = tt
-fails_term word total is_negative rest n (Fault number) s e h =
-    fails_here word total is_negative rest (take n rest) number s (ap (λ (k : ℕ). take k rest) e) h
+pub fails_term : (word : List ℕ) (total : Total) (is_negative : Bool) (rest : List ℕ) (n line : ℕ) (read : Refused) → Summing word total is_negative rest → n ≡ prefix_len is_no_sign rest →
+    Fails line read (term_of is_negative (take n rest)) → Fails line read (all_added nothing (signed_texts word))
+fails_term word total is_negative rest n line Memory s e h = tt
+fails_term word total is_negative rest n line (Fault number at) s e h =
+    (h.0, fails_here word total is_negative rest (take n rest) number s (ap (λ (k : ℕ). take k rest) e) h.1)
 
 all_behind : (n : ℕ) (rest : List ℕ) → take (length rest - n) (drop n rest) ≡ drop n rest
 all_behind n rest = take_rest rest n

@@ -1,7 +1,7 @@
 -- A numeral is digits, a name is ASCII.
 use Rattle.std.proofs.Common.{◌≡◌, ℕ, ◌^◌, ◌<◌, ◌⊎◌, inl, inr, Bool, true, false, eqb, ltb, List, [], ◌∷◌, length, Some, None, Ok, Err, refl, sym, subst, ap, ◌∙◌, arith}
-use Rattle.std.specs.Prelude.{◌&&◌, ◌||◌, nat_le, IsUtf8, IsAscii}
-use Rattle.std.specs.Char.{is_ascii_digit, is_ascii_alphabetic}
+use Rattle.std.specs.Prelude.{◌&&◌, ◌||◌, nat_le, IsUtf8}
+use Rattle.std.specs.Char.{is_ascii_digit}
 use Rattle.std.specs.List.{list_all}
 use Rattle.std.specs.Str.{all_ascii_digits}
 use Rattle.std.specs.Str.Parse.{digits_value, ParsesUnsigned}
@@ -9,9 +9,10 @@ use Rattle.std.proofs.lemmas.Bool.{eqb-true, ltb-true, lt-ltb}
 use Rattle.std.proofs.lemmas.Bool.Decides.{nat_tests}
 use Rattle.std.proofs.lemmas.Str.{IsUtf8-from_ascii}
 use Rattle.std.proofs.lemmas.Str.Parse.{IsNumeralModel, numerals_by_value, tells_all_ascii_digits, parse_digits}
-use Rattle.std.proofs.lemmas.Str.Ascii.{IsAscii-cons}
 use Rattle.std.proofs.lemmas.Fmt.{IsAscii-from_digits}
-use Rattle.ir_annotation.specs.Words.{begins_name, continues_name, is_name, is_numeral, small_value}
+use Rattle.ir_lex.specs.Spelling.{is_name}
+use Rattle.ir_lex.proofs.Plain.{name_printed, printed_ascii}
+use Rattle.ir_annotation.specs.Words.{is_numeral, small_value}
 
 pub both : (x y : Bool) → (x && y) ≡ true → (x ≡ true) × (y ≡ true)
 both true true h = (refl, refl)
@@ -77,34 +78,5 @@ large_parsed t word same h parsed =
 
 -- ---- names
 
-begins_ascii : (b : ℕ) → begins_name b ≡ true → b < 128
-begins_ascii b h =
-    elim (either (is_ascii_alphabetic b || eqb b 95) (eqb b 46) h) [
-      | inl v ↦ elim (either (is_ascii_alphabetic b) (eqb b 95) v) [
-        | inl w ↦ grind (arith, nat_tests)
-        | inr w ↦ let e = eqb-true b 95 w in omega arith
-      ]
-      | inr w ↦ let e = eqb-true b 46 w in omega arith
-    ]
-
-continues_ascii : (b : ℕ) → continues_name b ≡ true → b < 128
-continues_ascii b h =
-    elim (either (begins_name b) (is_ascii_digit b) h) [
-      | inl w ↦ begins_ascii b w
-      | inr w ↦ grind (arith, nat_tests)
-    ]
-
-continued_ascii : (bs : List ℕ) → list_all continues_name bs ≡ true → IsAscii bs
-continued_ascii [] h = λ (k : ℕ). omega arith
-continued_ascii (b ∷ bs) h =
-    let t = both (continues_name b) (list_all continues_name bs) h in
-    IsAscii-cons b bs (continues_ascii b t.0) (continued_ascii bs t.1)
-
-pub name_ascii : (name : List ℕ) → is_name name ≡ true → IsAscii name
-name_ascii [] h = absurd cc
-name_ascii (b ∷ bs) h =
-    let t = both (begins_name b) (list_all continues_name bs) h in
-    IsAscii-cons b bs (begins_ascii b t.0) (continued_ascii bs t.1)
-
 pub name_utf8 : (name : List ℕ) → is_name name ≡ true → IsUtf8 name
-name_utf8 name h = IsUtf8-from_ascii name (name_ascii name h)
+name_utf8 name h = IsUtf8-from_ascii name (printed_ascii name (name_printed name h))

@@ -20,7 +20,8 @@ use Rattle.ir_annotation.specs.declared.sums.SignedTerm.{SignedTerm}
 use Rattle.ir_annotation.specs.Canonical.{is_earlier, AreRising, IsTerm, IsCanonical}
 use Rattle.ir_annotation.specs.Limits.{within, past_limit, fits_form, narrowed}
 use Rattle.ir_annotation.specs.Reading.{◌>>=◌}
-use Rattle.ir_annotation.specs.Words.{is_name, number_of, name_of, register_of}
+use Rattle.ir_lex.specs.Spelling.{is_name}
+use Rattle.ir_annotation.specs.Words.{number_of, name_of, register_of}
 use Rattle.ir_annotation.specs.Forms.{SignedText, signed_texts, signed, term_behind, is_no_star, term_by_number, term_of, Total, is_less, is_before, has_name, is_at, with_more, added, with_amount, plus, all_added, nothing, kept, is_narrow, form_from, form_of}
 use Rattle.ir_annotation.proofs.Digits.{both}
 

@@ -1,5 +1,5 @@
 -- Annotations as a module's text keeps them, and the words that print them.
-use Rattle.std.specs.Prelude.{◌≡◌, ℕ, ◌≤◌, true, List, [], ◌∷◌, ◌++◌, codes, length}
+use Rattle.std.specs.Prelude.{◌≡◌, ℕ, ◌≤◌, true, List, [], ◌∷◌, codes, length}
 use Rattle.std.specs.Fmt.{decimal}
 use Rattle.syntax.specs.declared.annotation.Inequality.{Inequality}
 use Rattle.syntax.specs.declared.annotation.Zone.{Zone}
@@ -12,7 +12,7 @@ use Rattle.syntax.specs.declared.instruction.Address.TheVariants as address
 use Rattle.ir_annotation.specs.declared.meaning.Annotation.{Annotation}
 use Rattle.ir_annotation.specs.declared.meaning.Annotation.TheVariants as annotation
 use Rattle.ir_annotation.specs.declared.meaning.AnnotationLine.{AnnotationLine}
-use Rattle.ir_annotation.specs.Words.{is_name}
+use Rattle.ir_lex.specs.Spelling.{is_name, register_text}
 use Rattle.ir_annotation.specs.Canonical.{IsCanonical}
 use Rattle.ir_annotation.specs.Spelling.{form_text, relation_text, mode_text, object_text}
 
@@ -88,7 +88,7 @@ annotation_words (annotation.FunctionZone z) = moded_zone_words z
 annotation_words (annotation.Measure m) = codes "measure" ∷ form_text m.form ∷ codes "max" ∷ decimal m.bound ∷ []
 annotation_words (annotation.Budget b) = codes "budget" ∷ decimal b.self_calls ∷ decimal b.instructions ∷ []
 annotation_words (annotation.Keeps i) = codes "keeps" ∷ inequality_words i
-annotation_words (annotation.Pending p) = codes "pending" ∷ (codes "%" ++ p.region) ∷ moded_zone_words p.zone
+annotation_words (annotation.Pending p) = codes "pending" ∷ register_text p.region ∷ moded_zone_words p.zone
 annotation_words (annotation.Left l) = codes "left" ∷ form_text l.self_calls ∷ form_text l.instructions ∷ []
 annotation_words (annotation.Foot z) = codes "foot" ∷ moded_zone_words z
 annotation_words (annotation.Shows i) = codes "shows" ∷ inequality_words i

@@ -1,4 +1,4 @@
--- Within what sums of terms stay.
+-- Only the loop that adds up the terms of a form needs these: within what its sums stay, and where its words are cut.
 use Rattle.std.specs.Prelude.{◌≡◌, List, ◌∷◌, ℕ, ◌==◌, Bool, not, ◌&&◌, ◌<◌, ◌^◌, ℤ, unsigned_abs, All}
 use Rattle.ir_annotation.specs.declared.sums.Sum.{Sum}
 use Rattle.ir_annotation.specs.Forms.{Total}

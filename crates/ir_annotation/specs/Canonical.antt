@@ -4,7 +4,7 @@ use Rattle.std.specs.Ordering.{nat_cmp, int_eq}
 use Rattle.std.specs.Cmp.Lexicographic.{slice_cmp}
 use Rattle.syntax.specs.declared.annotation.Term.{Term}
 use Rattle.syntax.specs.declared.annotation.Form.{Form}
-use Rattle.ir_annotation.specs.Words.{is_name}
+use Rattle.ir_lex.specs.Spelling.{is_name}
 use Rattle.ir_annotation.specs.Forms.{is_less}
 
 -- the first name stands before the second in the order of bytes

@@ -1,5 +1,6 @@
 -- A form as its word spells it: terms with signs, added up.
-use Rattle.std.specs.Prelude.{◌==◌, ℕ, ℤ, pos, neg_ℤ, ◌+ℤ◌, Bool, true, false, not, ◌&&◌, List, [], ◌∷◌, take, drop, insert, slice_get, slice_set, slice_index_or, Option, Some, None, Result, Ok, Err, if◌then◌else◌}
+use Rattle.std.specs.Prelude.{◌==◌, ℕ, ℤ, pos, neg_ℤ, ◌+ℤ◌, Bool, true, false, not, ◌&&◌, List, [], ◌∷◌, take, drop, insert, slice_get, slice_set}
+use Rattle.std.specs.Prelude.{slice_index_or, Option, Some, None, Result, Ok, Err, if◌then◌else◌}
 use Rattle.std.specs.declared.cmp.Ordering.{Ordering}
 use Rattle.std.specs.declared.cmp.Ordering.TheVariants.{Less, Equal, Greater}
 use Rattle.std.specs.Ordering.{nat_cmp, int_eq}
@@ -52,9 +53,15 @@ signed is_negative n = if is_negative then neg_ℤ (pos n) else pos n
 
 -- behind a number: nothing, or * and a register
 abbrev pub term_behind : Bool → Limited ℕ → List ℕ → Result (Limited SignedTerm) ℕ
-term_behind is_negative number [] = Ok (record { value = record { register = None; amount = signed is_negative number.value }; is_within_limits = number.is_within_limits })
+term_behind is_negative number [] = Ok (record {
+  value = record { register = None; amount = signed is_negative number.value };
+  is_within_limits = number.is_within_limits;
+})
 term_behind is_negative number (star ∷ word) =
-    register_of word >>= λ name. Ok (record { value = record { register = Some name.value; amount = signed is_negative number.value }; is_within_limits = number.is_within_limits && name.is_within_limits })
+    register_of word >>= λ name. Ok (record {
+      value = record { register = Some name.value; amount = signed is_negative number.value };
+      is_within_limits = number.is_within_limits && name.is_within_limits;
+    })
 
 abbrev pub is_no_star : ℕ → Bool
 is_no_star b = not (b == 42)
@@ -68,7 +75,10 @@ term_by_number is_negative text =
 unfoldable pub term_of : Bool → List ℕ → Result (Limited SignedTerm) ℕ
 term_of is_negative [] = Err 103
 term_of is_negative (b ∷ bs) =
-    if b == 37 then (name_of bs >>= λ name. Ok (record { value = record { register = Some name.value; amount = signed is_negative 1 }; is_within_limits = name.is_within_limits }))
+    if b == 37 then (name_of bs >>= λ name. Ok (record {
+      value = record { register = Some name.value; amount = signed is_negative 1 };
+      is_within_limits = name.is_within_limits;
+    }))
     else term_by_number is_negative (b ∷ bs)
 
 -- ---- terms, added up
@@ -106,8 +116,16 @@ added ts name amount =
     if is_at ts place name then slice_set ts place (with_more amount (slice_index_or ts place new)) else insert ts place new
 
 abbrev pub with_amount : Total → Bool → Option (List ℕ) → ℤ → Total
-with_amount total is_within None amount = record { terms = total.terms; constant = total.constant +ℤ amount; is_within_limits = total.is_within_limits && is_within }
-with_amount total is_within (Some name) amount = record { terms = added total.terms name amount; constant = total.constant; is_within_limits = total.is_within_limits && is_within }
+with_amount total is_within None amount = record {
+  terms = total.terms;
+  constant = total.constant +ℤ amount;
+  is_within_limits = total.is_within_limits && is_within;
+}
+with_amount total is_within (Some name) amount = record {
+  terms = added total.terms name amount;
+  constant = total.constant;
+  is_within_limits = total.is_within_limits && is_within;
+}
 
 abbrev pub plus : Total → Limited SignedTerm → Total
 plus total term = with_amount total term.is_within_limits term.value.register term.value.amount

@@ -32,7 +32,10 @@ inequality_of line _ = Err 103
 unfoldable pub zone_of : ℕ → Mode → List (List ℕ) → Result (Limited Zone) ℕ
 zone_of line mode (object ∷ low ∷ high ∷ []) =
     object_of object >>= λ o. form_of low >>= λ l. form_of high >>= λ h.
-    Ok (record { value = record { line = line; mode = mode; object = o.value; low = l.value; high = h.value }; is_within_limits = o.is_within_limits && l.is_within_limits && h.is_within_limits })
+    Ok (record {
+      value = record { line = line; mode = mode; object = o.value; low = l.value; high = h.value };
+      is_within_limits = o.is_within_limits && l.is_within_limits && h.is_within_limits;
+    })
 zone_of line mode _ = Err 103
 
 -- F max N, N up to 4096

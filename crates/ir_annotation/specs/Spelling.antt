@@ -15,6 +15,7 @@ use Rattle.syntax.specs.declared.instruction.Address.{Address}
 use Rattle.syntax.specs.declared.instruction.Address.TheVariants as address
 use Rattle.syntax.specs.declared.operator.Mode.{Mode}
 use Rattle.syntax.specs.declared.operator.Mode.TheVariants.{Reads, Writes, Adds}
+use Rattle.ir_lex.specs.Spelling.{register_text, global_text}
 
 -- the sign before a term or the constant; the first term has none but a minus
 abbrev pub sign_text : Bool → ℤ → List ℕ
@@ -49,8 +50,8 @@ mode_text Writes = codes "writes"
 mode_text Adds = codes "adds"
 
 abbrev pub object_text : Address → List ℕ
-object_text (address.Register name) = codes "%" ++ name
-object_text (address.Global name) = codes "@" ++ name
+object_text (address.Register name) = register_text name
+object_text (address.Global name) = global_text name
 
 -- WORD F R F
 unfoldable pub inequality_text : List ℕ → Inequality → List ℕ
@@ -67,7 +68,7 @@ unfoldable pub budget_text : Budget → List ℕ
 budget_text b = codes "budget " ++ decimal b.self_calls ++ codes " " ++ decimal b.instructions
 
 unfoldable pub pending_text : Pending → List ℕ
-pending_text p = codes "pending %" ++ p.region ++ codes " " ++ zone_text p.zone
+pending_text p = codes "pending " ++ register_text p.region ++ codes " " ++ zone_text p.zone
 
 unfoldable pub left_text : Left → List ℕ
 left_text l = codes "left " ++ form_text l.self_calls ++ codes " " ++ form_text l.instructions

@@ -1,7 +1,6 @@
 -- The words of an annotation but forms.
-use Rattle.std.specs.Prelude.{ℕ, Bool, false, ◌&&◌, ◌||◌, ◌==◌, nat_le, nat_lt, ◌^◌, List, [], ◌∷◌, length, codes, Option, Some, None, Result, Ok, Err, if◌then◌else◌}
-use Rattle.std.specs.List.{list_all}
-use Rattle.std.specs.Char.{is_ascii_digit, is_ascii_alphabetic}
+use Rattle.std.specs.Prelude.{ℕ, Bool, false, ◌&&◌, ◌||◌, ◌==◌, nat_le, nat_lt, ◌^◌, List, [], ◌∷◌, length, codes, Option, Some, None, Result, Ok}
+use Rattle.std.specs.Prelude.{Err, if◌then◌else◌}
 use Rattle.std.specs.Str.{bytes_eq}
 use Rattle.std.specs.Str.Parse.{digits_value}
 use Rattle.syntax.specs.declared.annotation.Relation.{Relation}
@@ -10,25 +9,15 @@ use Rattle.syntax.specs.declared.instruction.Address.{Address}
 use Rattle.syntax.specs.declared.instruction.Address.TheVariants as address
 use Rattle.syntax.specs.declared.operator.Mode.{Mode}
 use Rattle.syntax.specs.declared.operator.Mode.TheVariants.{Reads, Writes, Adds}
+use Rattle.ir_lex.specs.Spelling.{is_name, is_positive}
 use Rattle.ir_annotation.specs.declared.limits.Limited.{Limited}
 use Rattle.ir_annotation.specs.Reading.{◌>>=◌}
 use Rattle.ir_annotation.specs.Limits.{up_to}
 
--- a letter, _ or .
-abbrev pub begins_name : ℕ → Bool
-begins_name b = is_ascii_alphabetic b || b == 95 || b == 46
-
-abbrev pub continues_name : ℕ → Bool
-continues_name b = begins_name b || is_ascii_digit b
-
-abbrev pub is_name : List ℕ → Bool
-is_name [] = false
-is_name (b ∷ bs) = begins_name b && list_all continues_name bs
-
--- 0, or a digit from 1 on and digits
+-- a number without sign
 abbrev pub is_numeral : List ℕ → Bool
 is_numeral [] = false
-is_numeral (b ∷ bs) = (b == 48 && length bs == 0) || ((nat_le 49 b && nat_le b 57) && list_all is_ascii_digit bs)
+is_numeral (b ∷ bs) = (b == 48 && length bs == 0) || is_positive (b ∷ bs)
 
 -- the value of digits, where it is below 2^64
 abbrev pub small_value : List ℕ → Option ℕ
@@ -59,4 +48,8 @@ abbrev pub relation_of : List ℕ → Result Relation ℕ
 relation_of word = if bytes_eq word (codes "<=") then Ok AtMost else if bytes_eq word (codes ">=") then Ok AtLeast else Err 103
 
 abbrev pub mode_of : List ℕ → Result Mode ℕ
-mode_of word = if bytes_eq word (codes "reads") then Ok Reads else if bytes_eq word (codes "writes") then Ok Writes else if bytes_eq word (codes "adds") then Ok Adds else Err 103
+mode_of word =
+    if bytes_eq word (codes "reads") then Ok Reads
+    else if bytes_eq word (codes "writes") then Ok Writes
+    else if bytes_eq word (codes "adds") then Ok Adds
+    else Err 103

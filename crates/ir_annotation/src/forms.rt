@@ -8,11 +8,11 @@ ghost use Rattle.ir_annotation.specs.Bounds.{total_of, is_no_sign, BeginsWithSig
 ghost use Rattle.ir_annotation.specs.Forms.{is_no_star, term_behind, term_by_number, term_of, kept, is_narrow, form_from, form_of, nothing, all_added, signed_texts};
 ghost use Rattle.ir_annotation.specs.Words.{number_of};
 
-use crate::fault::AnnotationFault;
 use crate::limits::{FORM_MOST, Limited, narrowed};
 use crate::sums::{SignedTerm, Sum, SumTerm, signed};
-use crate::words::{read_name, read_number, read_register};
+use crate::words::{read_name, read_number, read_register, unexpected};
 use lists::{Name, Seq};
+use refusal::Refused;
 use std::alloc::{AllocError, Global};
 use syntax::{Form, Term};
 
@@ -22,9 +22,10 @@ fn read_behind(
     is_negative: bool,
     number: Limited<u64>,
     behind: &[u8],
-) -> Result<Limited<SignedTerm>, AnnotationFault>
+    line: u32,
+) -> Result<Limited<SignedTerm>, Refused>
     requires { number.value < 2 ^ 63 }
-    ensures value { Gives (λ t. t) result (term_behind is_negative number behind.now) }
+    ensures value { Gives (λ t. t) line result (term_behind is_negative number behind.now) }
     ensures small { IfOk result (λ t. unsigned_abs t.value.amount < 2 ^ 63) }
 {
     let amount = signed(is_negative, number.value);
@@ -37,7 +38,7 @@ fn read_behind(
             is_within_limits: number.is_within_limits,
         }),
         [_, word @ ..] => {
-            let name = read_register(alloc, word)?;
+            let name = read_register(alloc, word, line)?;
             Ok(Limited {
                 value: SignedTerm {
                     register: Some(name.value),
@@ -62,13 +63,14 @@ fn read_by_number(
     alloc: Global,
     is_negative: bool,
     text: &[u8],
-) -> Result<Limited<SignedTerm>, AnnotationFault>
-    ensures value { Gives (λ t. t) result (term_by_number is_negative text.now) }
+    line: u32,
+) -> Result<Limited<SignedTerm>, Refused>
+    ensures value { Gives (λ t. t) line result (term_by_number is_negative text.now) }
     ensures small { IfOk result (λ t. unsigned_abs t.value.amount < 2 ^ 63) }
 {
     let end = number_length(text);
-    let number = read_number(FORM_MOST, &text[..end])?;
-    read_behind(alloc, is_negative, number, &text[end..])
+    let number = read_number(FORM_MOST, &text[..end], line)?;
+    read_behind(alloc, is_negative, number, &text[end..], line)
 }
 
 /// A term of a form behind its sign.
@@ -77,14 +79,15 @@ fn read_term(
     alloc: Global,
     is_negative: bool,
     text: &[u8],
-) -> Result<Limited<SignedTerm>, AnnotationFault>
-    ensures value { Gives (λ t. t) result (term_of is_negative text.now) }
+    line: u32,
+) -> Result<Limited<SignedTerm>, Refused>
+    ensures value { Gives (λ t. t) line result (term_of is_negative text.now) }
     ensures small { IfOk result (λ t. unsigned_abs t.value.amount < 2 ^ 63) }
 {
     match text {
-        [] => Err(AnnotationFault::Fault(103)),
+        [] => Err(unexpected(line)),
         [b'%', name @ ..] => {
-            let name = read_name(alloc, name)?;
+            let name = read_name(alloc, name, line)?;
             Ok(Limited {
                 value: SignedTerm {
                     register: Some(name.value),
@@ -93,7 +96,7 @@ fn read_term(
                 is_within_limits: name.is_within_limits,
             })
         }
-        _ => read_by_number(alloc, is_negative, text),
+        _ => read_by_number(alloc, is_negative, text, line),
     }
 }
 
@@ -119,8 +122,8 @@ fn behind_term(text: &[u8]) -> Option<(bool, &[u8])>
 }
 
 /// The sum of the terms of a form's word.
-fn read_sum(alloc: Global, word: &[u8]) -> Result<Sum, AnnotationFault>
-    ensures { Gives total_of result (all_added nothing (signed_texts word.now)) }
+fn read_sum(alloc: Global, word: &[u8], line: u32) -> Result<Sum, Refused>
+    ensures { Gives total_of line result (all_added nothing (signed_texts word.now)) }
 {
     let mut sum = Sum::new(alloc);
     let (mut is_negative, mut rest) = match word {
@@ -129,7 +132,7 @@ fn read_sum(alloc: Global, word: &[u8]) -> Result<Sum, AnnotationFault>
     };
     'terms: loop {
         let end = term_length(rest);
-        let term = read_term(alloc, is_negative, &rest[..end])?;
+        let term = read_term(alloc, is_negative, &rest[..end], line)?;
         sum.add(term)?;
         match behind_term(&rest[end..]) {
             None => return Ok(sum),
@@ -177,10 +180,10 @@ fn kept_terms(alloc: Global, terms: Vec<SumTerm>) -> Result<Seq<Term>, AllocErro
 
 /// A form: terms that rise by the bytes of their names, without coefficients 0.
 #[tactic(auto, unfolding(crate::specs::Forms::form_of, crate::specs::Forms::form_from))]
-pub fn read_form(alloc: Global, word: &[u8]) -> Result<Limited<Form>, AnnotationFault>
-    ensures { Gives (λ f. f) result (form_of word.now) }
+pub fn read_form(alloc: Global, word: &[u8], line: u32) -> Result<Limited<Form>, Refused>
+    ensures { Gives (λ f. f) line result (form_of word.now) }
 {
-    let sum = read_sum(alloc, word)?;
+    let sum = read_sum(alloc, word, line)?;
     let constant = narrowed(sum.constant);
     let is_within_limits = sum.is_within_limits
         && constant.is_within_limits

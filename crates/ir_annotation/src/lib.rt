@@ -4,7 +4,6 @@
 //! Where an annotation may stand, and how often, is judged by the layer above.
 #![tactic(auto)]
 
-mod fault;
 mod forms;
 mod keywords;
 pub mod laws;
@@ -16,9 +15,9 @@ mod spelling;
 mod sums;
 mod words;
 
-pub use fault::AnnotationFault;
 pub use lines::read_annotation;
 pub use meaning::{Annotation, AnnotationLine};
+pub use refusal::Refused as AnnotationFault;
 pub use spelling::{
     push_budget, push_foot, push_form, push_inequality, push_left, push_measure, push_pending,
     push_zone,

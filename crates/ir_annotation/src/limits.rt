@@ -4,7 +4,7 @@ ghost use Rattle.std.specs.Prelude.{◌≡◌, ◌≤◌};
 ghost use Rattle.ir_annotation.specs.Limits.{up_to, narrowed};
 
 /// What a word says, and whether the names and numbers in it are within their limits. A number past its limit stands in it as 0.
-#[derive(Debug, Drop)]
+#[derive(Drop)]
 pub struct Limited<T> {
     pub value: T,
     pub is_within_limits: bool,

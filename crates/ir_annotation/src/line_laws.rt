@@ -13,5 +13,6 @@ pub fn printed_annotation_is_read_back()
 
 /// An annotation that is read and within its limits has canonical forms, and names and numbers within their limits.
 pub fn read_annotation_is_kept()
-    ensures { (line : ℕ) (words : List (List ℕ)) (found : AnnotationLine) → annotation_of words line ≡ Ok found → found.is_within_limits ≡ true → IsKeptAnnotation found.annotation }
+    ensures { (line : ℕ) (words : List (List ℕ)) (found : AnnotationLine) → annotation_of words line ≡ Ok found
+        → found.is_within_limits ≡ true → IsKeptAnnotation found.annotation }
 {}

@@ -4,31 +4,27 @@ ghost use Rattle.std.specs.Prelude.{◌≡◌};
 ghost use Rattle.ir_annotation.specs.Reading.{Gives, made};
 ghost use Rattle.ir_annotation.specs.Lines.{as_line, inequality_of, zone_of, measure_of, budget_of, left_of, moded_zone_of, pending_of, annotation_behind, annotation_of};
 
-use crate::fault::AnnotationFault;
 use crate::forms::read_form;
 use crate::keywords::{Keyword, read_keyword};
 use crate::limits::{BUDGET_MOST, Limited, MEASURE_MOST};
 use crate::meaning::{Annotation, AnnotationLine};
-use crate::words::{read_mode, read_number, read_object, read_register, read_relation};
+use crate::words::{read_mode, read_number, read_object, read_register, read_relation, unexpected};
 use lists::Name;
+use refusal::Refused;
 use std::alloc::Global;
 use syntax::{Budget, Inequality, Left, Measure, Mode, Pending, Zone};
 
 /// `F R F`
 #[tactic(auto, unfolding(crate::specs::Lines::inequality_of))]
-fn read_inequality(
-    alloc: Global,
-    words: &[Name],
-    line: u32,
-) -> Result<Limited<Inequality>, AnnotationFault>
-    ensures { Gives (λ i. i) result (inequality_of line words.now) }
+fn read_inequality(alloc: Global, words: &[Name], line: u32) -> Result<Limited<Inequality>, Refused>
+    ensures { Gives (λ i. i) line result (inequality_of line words.now) }
 {
     let [left, relation, right] = words else {
-        return Err(AnnotationFault::Fault(103));
+        return Err(unexpected(line));
     };
-    let left = read_form(alloc, left.as_bytes())?;
-    let relation = read_relation(relation.as_bytes())?;
-    let right = read_form(alloc, right.as_bytes())?;
+    let left = read_form(alloc, left.as_bytes(), line)?;
+    let relation = read_relation(relation.as_bytes(), line)?;
+    let right = read_form(alloc, right.as_bytes(), line)?;
     Ok(Limited {
         value: Inequality {
             line,
@@ -42,20 +38,15 @@ fn read_inequality(
 
 /// `O F F`
 #[tactic(auto, unfolding(crate::specs::Lines::zone_of))]
-fn read_zone(
-    alloc: Global,
-    mode: Mode,
-    words: &[Name],
-    line: u32,
-) -> Result<Limited<Zone>, AnnotationFault>
-    ensures { Gives (λ z. z) result (zone_of line mode words.now) }
+fn read_zone(alloc: Global, mode: Mode, words: &[Name], line: u32) -> Result<Limited<Zone>, Refused>
+    ensures { Gives (λ z. z) line result (zone_of line mode words.now) }
 {
     let [object, low, high] = words else {
-        return Err(AnnotationFault::Fault(103));
+        return Err(unexpected(line));
     };
-    let object = read_object(alloc, object.as_bytes())?;
-    let low = read_form(alloc, low.as_bytes())?;
-    let high = read_form(alloc, high.as_bytes())?;
+    let object = read_object(alloc, object.as_bytes(), line)?;
+    let low = read_form(alloc, low.as_bytes(), line)?;
+    let high = read_form(alloc, high.as_bytes(), line)?;
     Ok(Limited {
         value: Zone {
             line,
@@ -70,21 +61,17 @@ fn read_zone(
 
 /// `F max N`
 #[tactic(auto, unfolding(crate::specs::Lines::measure_of))]
-fn read_measure(
-    alloc: Global,
-    words: &[Name],
-    line: u32,
-) -> Result<Limited<Measure>, AnnotationFault>
-    ensures { Gives (λ m. m) result (measure_of line words.now) }
+fn read_measure(alloc: Global, words: &[Name], line: u32) -> Result<Limited<Measure>, Refused>
+    ensures { Gives (λ m. m) line result (measure_of line words.now) }
 {
     let [form, max, bound] = words else {
-        return Err(AnnotationFault::Fault(103));
+        return Err(unexpected(line));
     };
-    let form = read_form(alloc, form.as_bytes())?;
+    let form = read_form(alloc, form.as_bytes(), line)?;
     if max.as_bytes() != b"max".as_slice() {
-        return Err(AnnotationFault::Fault(103));
+        return Err(unexpected(line));
     }
-    let bound = read_number(MEASURE_MOST, bound.as_bytes())?;
+    let bound = read_number(MEASURE_MOST, bound.as_bytes(), line)?;
     Ok(Limited {
         value: Measure {
             line,
@@ -97,14 +84,14 @@ fn read_measure(
 
 /// `K S`
 #[tactic(auto, unfolding(crate::specs::Lines::budget_of))]
-fn read_budget(words: &[Name], line: u32) -> Result<Limited<Budget>, AnnotationFault>
-    ensures { Gives (λ b. b) result (budget_of line words.now) }
+fn read_budget(words: &[Name], line: u32) -> Result<Limited<Budget>, Refused>
+    ensures { Gives (λ b. b) line result (budget_of line words.now) }
 {
     let [calls, instructions] = words else {
-        return Err(AnnotationFault::Fault(103));
+        return Err(unexpected(line));
     };
-    let calls = read_number(BUDGET_MOST, calls.as_bytes())?;
-    let instructions = read_number(BUDGET_MOST, instructions.as_bytes())?;
+    let calls = read_number(BUDGET_MOST, calls.as_bytes(), line)?;
+    let instructions = read_number(BUDGET_MOST, instructions.as_bytes(), line)?;
     Ok(Limited {
         value: Budget {
             line,
@@ -117,14 +104,14 @@ fn read_budget(words: &[Name], line: u32) -> Result<Limited<Budget>, AnnotationF
 
 /// `F F`
 #[tactic(auto, unfolding(crate::specs::Lines::left_of))]
-fn read_left(alloc: Global, words: &[Name], line: u32) -> Result<Limited<Left>, AnnotationFault>
-    ensures { Gives (λ l. l) result (left_of line words.now) }
+fn read_left(alloc: Global, words: &[Name], line: u32) -> Result<Limited<Left>, Refused>
+    ensures { Gives (λ l. l) line result (left_of line words.now) }
 {
     let [calls, instructions] = words else {
-        return Err(AnnotationFault::Fault(103));
+        return Err(unexpected(line));
     };
-    let calls = read_form(alloc, calls.as_bytes())?;
-    let instructions = read_form(alloc, instructions.as_bytes())?;
+    let calls = read_form(alloc, calls.as_bytes(), line)?;
+    let instructions = read_form(alloc, instructions.as_bytes(), line)?;
     Ok(Limited {
         value: Left {
             line,
@@ -137,33 +124,25 @@ fn read_left(alloc: Global, words: &[Name], line: u32) -> Result<Limited<Left>, 
 
 /// `MODE O F F`
 #[tactic(auto, unfolding(crate::specs::Lines::moded_zone_of))]
-fn read_moded_zone(
-    alloc: Global,
-    words: &[Name],
-    line: u32,
-) -> Result<Limited<Zone>, AnnotationFault>
-    ensures { Gives (λ z. z) result (moded_zone_of line words.now) }
+fn read_moded_zone(alloc: Global, words: &[Name], line: u32) -> Result<Limited<Zone>, Refused>
+    ensures { Gives (λ z. z) line result (moded_zone_of line words.now) }
 {
     let [mode, words @ ..] = words else {
-        return Err(AnnotationFault::Fault(103));
+        return Err(unexpected(line));
     };
-    let mode = read_mode(mode.as_bytes())?;
+    let mode = read_mode(mode.as_bytes(), line)?;
     read_zone(alloc, mode, words, line)
 }
 
 /// `%s MODE O F F`
 #[tactic(auto, unfolding(crate::specs::Lines::pending_of))]
-fn read_pending(
-    alloc: Global,
-    words: &[Name],
-    line: u32,
-) -> Result<Limited<Pending>, AnnotationFault>
-    ensures { Gives (λ p. p) result (pending_of line words.now) }
+fn read_pending(alloc: Global, words: &[Name], line: u32) -> Result<Limited<Pending>, Refused>
+    ensures { Gives (λ p. p) line result (pending_of line words.now) }
 {
     let [region, words @ ..] = words else {
-        return Err(AnnotationFault::Fault(103));
+        return Err(unexpected(line));
     };
-    let region = read_register(alloc, region.as_bytes())?;
+    let region = read_register(alloc, region.as_bytes(), line)?;
     let zone = read_moded_zone(alloc, words, line)?;
     Ok(Limited {
         value: Pending {
@@ -190,8 +169,8 @@ fn read_function_zone(
     mode: Mode,
     words: &[Name],
     line: u32,
-) -> Result<AnnotationLine, AnnotationFault>
-    ensures { Gives (λ a. a) result (made (as_line Annotation.FunctionZone) (zone_of line mode words.now)) }
+) -> Result<AnnotationLine, Refused>
+    ensures { Gives (λ a. a) line result (made (as_line Annotation.FunctionZone) (zone_of line mode words.now)) }
 {
     let found = read_zone(alloc, mode, words, line)?;
     Ok(line_of(
@@ -207,8 +186,8 @@ fn read_behind(
     keyword: Keyword,
     words: &[Name],
     line: u32,
-) -> Result<AnnotationLine, AnnotationFault>
-    ensures { Gives (λ a. a) result (annotation_behind line keyword words.now) }
+) -> Result<AnnotationLine, Refused>
+    ensures { Gives (λ a. a) line result (annotation_behind line keyword words.now) }
 {
     match keyword {
         Keyword::Requires => {
@@ -257,18 +236,14 @@ fn read_behind(
 ///
 /// 107: the first word begins no annotation. 103: there is no word, or the words behind the first are not those of its annotation.
 /// A name or a number past its limit is no fault here: the line then says that it is not within its limits.
-pub fn read_annotation(
-    alloc: Global,
-    words: &[Name],
-    line: u32,
-) -> Result<AnnotationLine, AnnotationFault>
-    ensures { Gives (λ a. a) result (annotation_of words.now line) }
+pub fn read_annotation(alloc: Global, words: &[Name], line: u32) -> Result<AnnotationLine, Refused>
+    ensures { Gives (λ a. a) line result (annotation_of words.now line) }
 {
     let [word, words @ ..] = words else {
-        return Err(AnnotationFault::Fault(103));
+        return Err(unexpected(line));
     };
     match read_keyword(word.as_bytes()) {
-        None => Err(AnnotationFault::Fault(107)),
+        None => Err(Refused::Fault { number: 107, line }),
         Some(keyword) => read_behind(alloc, keyword, words, line),
     }
 }

@@ -1,6 +1,8 @@
 //! The canonical spelling of annotations: the words behind `;!`, parted by one space.
+//!
+//! A public call writes its words to a text of their own first, so the text that it is lent gets all of them or none.
 
-ghost use Rattle.std.specs.Prelude.{◌≡◌, ◌++◌, OnOk, string_bytes, flat_map, false};
+ghost use Rattle.std.specs.Prelude.{◌≡◌, ◌++◌, OnOk, OnErr, string_bytes, flat_map, false};
 ghost use Rattle.ir_annotation.specs.Spelling.{sign_text, factor_text, term_text, constant_text, terms_text, form_text, relation_text, mode_text, object_text, inequality_text, zone_text, measure_text, budget_text, pending_text, left_text, foot_text};
 
 use itoa::Buffer;
@@ -22,7 +24,7 @@ fn sign_text(is_first: bool, number: i64) -> &'static str
 }
 
 /// A factor and `*`, unless it is 1.
-fn push_factor(out: &mut String, factor: u64) -> Result<(), AllocError>
+fn write_factor(out: &mut String, factor: u64) -> Result<(), AllocError>
     ensures { OnOk result (string_bytes out.new ≡ string_bytes out.old ++ factor_text factor) }
 {
     if factor == 1 {
@@ -32,26 +34,26 @@ fn push_factor(out: &mut String, factor: u64) -> Result<(), AllocError>
     out.push_str("*")
 }
 
-fn push_term(out: &mut String, is_first: bool, term: &Term) -> Result<(), AllocError>
+fn write_term(out: &mut String, is_first: bool, term: &Term) -> Result<(), AllocError>
     ensures { OnOk result (string_bytes out.new ≡ string_bytes out.old ++ term_text is_first term.now) }
 {
     out.push_str(sign_text(is_first, term.coefficient))?;
-    push_factor(out, term.coefficient.unsigned_abs())?;
+    write_factor(out, term.coefficient.unsigned_abs())?;
     out.push_str("%")?;
     out.push_str(term.register.as_str())
 }
 
-fn push_terms(out: &mut String, terms: &[Term]) -> Result<(), AllocError>
+fn write_terms(out: &mut String, terms: &[Term]) -> Result<(), AllocError>
     ensures { OnOk result (string_bytes out.new ≡ string_bytes out.old ++ flat_map (term_text false) terms.now) }
 {
     for term in terms {
-        push_term(out, false, term)?;
+        write_term(out, false, term)?;
     }
     Ok(())
 }
 
 /// The constant behind a register.
-fn push_constant(out: &mut String, constant: i64) -> Result<(), AllocError>
+fn write_constant(out: &mut String, constant: i64) -> Result<(), AllocError>
     ensures { OnOk result (string_bytes out.new ≡ string_bytes out.old ++ constant_text constant) }
 {
     let size: u64 = constant.unsigned_abs();
@@ -62,17 +64,16 @@ fn push_constant(out: &mut String, constant: i64) -> Result<(), AllocError>
     out.push_str(Buffer::new().format(size))
 }
 
-/// A form: its registers in their order, and then the constant, unless it is 0 behind a register.
 #[tactic(auto, unfolding(crate::specs::Spelling::form_text))]
-pub fn push_form(out: &mut String, form: &Form) -> Result<(), AllocError>
+fn write_form(out: &mut String, form: &Form) -> Result<(), AllocError>
     ensures { OnOk result (string_bytes out.new ≡ string_bytes out.old ++ form_text form.now) }
 {
     match form.terms.as_slice() {
         [] => out.push_str(Buffer::new().format(form.constant)),
         [first, rest @ ..] => {
-            push_term(out, true, first)?;
-            push_terms(out, rest)?;
-            push_constant(out, form.constant)
+            write_term(out, true, first)?;
+            write_terms(out, rest)?;
+            write_constant(out, form.constant)
         }
     }
 }
@@ -96,7 +97,7 @@ fn mode_text(mode: Mode) -> &'static str
     }
 }
 
-fn push_object(out: &mut String, object: &Address) -> Result<(), AllocError>
+fn write_object(out: &mut String, object: &Address) -> Result<(), AllocError>
     ensures { OnOk result (string_bytes out.new ≡ string_bytes out.old ++ object_text object.now) }
 {
     match object {
@@ -111,52 +112,44 @@ fn push_object(out: &mut String, object: &Address) -> Result<(), AllocError>
     }
 }
 
-/// `WORD F R F`, for the words `requires`, `ensures`, `keeps` and `shows`.
 #[tactic(auto, unfolding(crate::specs::Spelling::inequality_text))]
-pub fn push_inequality(
-    out: &mut String,
-    word: &str,
-    inequality: &Inequality,
-) -> Result<(), AllocError>
+fn write_inequality(out: &mut String, word: &str, inequality: &Inequality) -> Result<(), AllocError>
     ensures { OnOk result (string_bytes out.new ≡ string_bytes out.old ++ inequality_text word.now inequality.now) }
 {
     out.push_str(word)?;
     out.push_str(" ")?;
-    push_form(out, &inequality.left)?;
+    write_form(out, &inequality.left)?;
     out.push_str(" ")?;
     out.push_str(relation_text(inequality.relation))?;
     out.push_str(" ")?;
-    push_form(out, &inequality.right)
+    write_form(out, &inequality.right)
 }
 
-/// `MODE O F F`, which is the whole annotation `reads`, `writes` or `adds` of a function.
 #[tactic(auto, unfolding(crate::specs::Spelling::zone_text))]
-pub fn push_zone(out: &mut String, zone: &Zone) -> Result<(), AllocError>
+fn write_zone(out: &mut String, zone: &Zone) -> Result<(), AllocError>
     ensures { OnOk result (string_bytes out.new ≡ string_bytes out.old ++ zone_text zone.now) }
 {
     out.push_str(mode_text(zone.mode))?;
     out.push_str(" ")?;
-    push_object(out, &zone.object)?;
+    write_object(out, &zone.object)?;
     out.push_str(" ")?;
-    push_form(out, &zone.low)?;
+    write_form(out, &zone.low)?;
     out.push_str(" ")?;
-    push_form(out, &zone.high)
+    write_form(out, &zone.high)
 }
 
-/// `measure F max N`
 #[tactic(auto, unfolding(crate::specs::Spelling::measure_text))]
-pub fn push_measure(out: &mut String, measure: &Measure) -> Result<(), AllocError>
+fn write_measure(out: &mut String, measure: &Measure) -> Result<(), AllocError>
     ensures { OnOk result (string_bytes out.new ≡ string_bytes out.old ++ measure_text measure.now) }
 {
     out.push_str("measure ")?;
-    push_form(out, &measure.form)?;
+    write_form(out, &measure.form)?;
     out.push_str(" max ")?;
     out.push_str(Buffer::new().format(measure.bound))
 }
 
-/// `budget K S`
 #[tactic(auto, unfolding(crate::specs::Spelling::budget_text))]
-pub fn push_budget(out: &mut String, budget: &Budget) -> Result<(), AllocError>
+fn write_budget(out: &mut String, budget: &Budget) -> Result<(), AllocError>
     ensures { OnOk result (string_bytes out.new ≡ string_bytes out.old ++ budget_text budget.now) }
 {
     out.push_str("budget ")?;
@@ -165,33 +158,114 @@ pub fn push_budget(out: &mut String, budget: &Budget) -> Result<(), AllocError>
     out.push_str(Buffer::new().format(budget.instructions))
 }
 
-/// `pending %s MODE O F F`
 #[tactic(auto, unfolding(crate::specs::Spelling::pending_text))]
-pub fn push_pending(out: &mut String, pending: &Pending) -> Result<(), AllocError>
+fn write_pending(out: &mut String, pending: &Pending) -> Result<(), AllocError>
     ensures { OnOk result (string_bytes out.new ≡ string_bytes out.old ++ pending_text pending.now) }
 {
     out.push_str("pending %")?;
     out.push_str(pending.region.as_str())?;
     out.push_str(" ")?;
-    push_zone(out, &pending.zone)
+    write_zone(out, &pending.zone)
 }
 
-/// `left F F`
 #[tactic(auto, unfolding(crate::specs::Spelling::left_text))]
-pub fn push_left(out: &mut String, left: &Left) -> Result<(), AllocError>
+fn write_left(out: &mut String, left: &Left) -> Result<(), AllocError>
     ensures { OnOk result (string_bytes out.new ≡ string_bytes out.old ++ left_text left.now) }
 {
     out.push_str("left ")?;
-    push_form(out, &left.self_calls)?;
+    write_form(out, &left.self_calls)?;
     out.push_str(" ")?;
-    push_form(out, &left.instructions)
+    write_form(out, &left.instructions)
 }
 
-/// `foot MODE O F F`
 #[tactic(auto, unfolding(crate::specs::Spelling::foot_text))]
-pub fn push_foot(out: &mut String, foot: &Zone) -> Result<(), AllocError>
+fn write_foot(out: &mut String, foot: &Zone) -> Result<(), AllocError>
     ensures { OnOk result (string_bytes out.new ≡ string_bytes out.old ++ foot_text foot.now) }
 {
     out.push_str("foot ")?;
-    push_zone(out, foot)
+    write_zone(out, foot)
+}
+
+/// A form: its registers in their order, and then the constant, unless it is 0 behind a register.
+pub fn push_form(out: &mut String, form: &Form) -> Result<(), AllocError>
+    ensures ok { OnOk result (string_bytes out.new ≡ string_bytes out.old ++ form_text form.now) }
+    ensures err { OnErr result (string_bytes out.new ≡ string_bytes out.old) }
+{
+    let mut words = String::new(*out.allocator());
+    write_form(&mut words, form)?;
+    out.push_str(words.as_str())
+}
+
+/// `WORD F R F`, for the words `requires`, `ensures`, `keeps` and `shows`.
+pub fn push_inequality(
+    out: &mut String,
+    word: &str,
+    inequality: &Inequality,
+) -> Result<(), AllocError>
+    ensures ok { OnOk result (string_bytes out.new ≡ string_bytes out.old ++ inequality_text word.now inequality.now) }
+    ensures err { OnErr result (string_bytes out.new ≡ string_bytes out.old) }
+{
+    let mut words = String::new(*out.allocator());
+    write_inequality(&mut words, word, inequality)?;
+    out.push_str(words.as_str())
+}
+
+/// `MODE O F F`, which is the whole annotation `reads`, `writes` or `adds` of a function.
+pub fn push_zone(out: &mut String, zone: &Zone) -> Result<(), AllocError>
+    ensures ok { OnOk result (string_bytes out.new ≡ string_bytes out.old ++ zone_text zone.now) }
+    ensures err { OnErr result (string_bytes out.new ≡ string_bytes out.old) }
+{
+    let mut words = String::new(*out.allocator());
+    write_zone(&mut words, zone)?;
+    out.push_str(words.as_str())
+}
+
+/// `measure F max N`
+pub fn push_measure(out: &mut String, measure: &Measure) -> Result<(), AllocError>
+    ensures ok { OnOk result (string_bytes out.new ≡ string_bytes out.old ++ measure_text measure.now) }
+    ensures err { OnErr result (string_bytes out.new ≡ string_bytes out.old) }
+{
+    let mut words = String::new(*out.allocator());
+    write_measure(&mut words, measure)?;
+    out.push_str(words.as_str())
+}
+
+/// `budget K S`
+pub fn push_budget(out: &mut String, budget: &Budget) -> Result<(), AllocError>
+    ensures ok { OnOk result (string_bytes out.new ≡ string_bytes out.old ++ budget_text budget.now) }
+    ensures err { OnErr result (string_bytes out.new ≡ string_bytes out.old) }
+{
+    let mut words = String::new(*out.allocator());
+    write_budget(&mut words, budget)?;
+    out.push_str(words.as_str())
+}
+
+/// `pending %s MODE O F F`
+pub fn push_pending(out: &mut String, pending: &Pending) -> Result<(), AllocError>
+    ensures ok { OnOk result (string_bytes out.new ≡ string_bytes out.old ++ pending_text pending.now) }
+    ensures err { OnErr result (string_bytes out.new ≡ string_bytes out.old) }
+{
+    let mut words = String::new(*out.allocator());
+    write_pending(&mut words, pending)?;
+    out.push_str(words.as_str())
+}
+
+/// `left F F`
+pub fn push_left(out: &mut String, left: &Left) -> Result<(), AllocError>
+    ensures ok { OnOk result (string_bytes out.new ≡ string_bytes out.old ++ left_text left.now) }
+    ensures err { OnErr result (string_bytes out.new ≡ string_bytes out.old) }
+{
+    let mut words = String::new(*out.allocator());
+    write_left(&mut words, left)?;
+    out.push_str(words.as_str())
+}
+
+/// `foot MODE O F F`
+pub fn push_foot(out: &mut String, foot: &Zone) -> Result<(), AllocError>
+    ensures ok { OnOk result (string_bytes out.new ≡ string_bytes out.old ++ foot_text foot.now) }
+    ensures err { OnErr result (string_bytes out.new ≡ string_bytes out.old) }
+{
+    let mut words = String::new(*out.allocator());
+    write_foot(&mut words, foot)?;
+    out.push_str(words.as_str())
 }

@@ -11,21 +11,21 @@ use std::alloc::{AllocError, Global};
 use std::cmp::Ordering;
 
 /// A term with its sign: a number, or a number times a register.
-#[derive(Debug, Drop)]
+#[derive(Drop)]
 pub struct SignedTerm {
     pub register: Option<Name>,
     pub amount: i64,
 }
 
 /// A register and what it is multiplied by in a sum.
-#[derive(Debug, Drop)]
+#[derive(Drop)]
 pub struct SumTerm {
     pub register: Name,
     pub coefficient: i128,
 }
 
 /// A sum of terms: those of registers in the order of their names, and a constant.
-#[derive(Debug, Drop)]
+#[derive(Drop)]
 pub struct Sum {
     pub terms: Vec<SumTerm>,
     pub constant: i128,

@@ -24,7 +24,7 @@ use Rattle.ir_item.specs.declared.symbol.Symbol.{Symbol}
 use Rattle.ir_item.specs.declared.symbol.Symbol.TheVariants.{Register, Number, Word, Mark}
 use Rattle.ir_item.specs.declared.switch.SpelledCase.{SpelledCase}
 use Rattle.ir_item.specs.Outcome.{◌>>=◌}
-use Rattle.ir_item.specs.Numerals.{count_of, cells_of}
+use Rattle.ir_item.specs.Numerals.{count_of, cells_of_bytes}
 use Rattle.ir_item.specs.Fronts.{is_mark, array_at, operand_at, pointer_at, width_at}
 use Rattle.ir_item.specs.Operators.{predicate_of, predicate_at}
 use Rattle.ir_item.specs.Lists.{list_at, comma_at, case_follows, parameter_at, argument_at, entry_at, case_at, all_at, all_cases_at, all_entries_at}
@@ -71,7 +71,7 @@ count_again n h = ap (λ (b : Bool). cond b (Some n) None) h
 array_again : (n : ℕ) (rest : List Symbol) → nat_lt 0 n ≡ true → array_at (symbols_in (array_atoms n) ++ rest) ≡ Some (n, rest)
 array_again n rest h = rw h refl
 
-cells_again : (n : ℕ) → nat_lt 0 n ≡ true → cells_of (Small (pos (8 * n))) ≡ Some n
+cells_again : (n : ℕ) → nat_lt 0 n ≡ true → cells_of_bytes (Small (pos (8 * n))) ≡ Some n
 cells_again n h =
     let some : 0 < n = ltb-true 0 n h in
     let first : nat_lt 0 (8 * n) ≡ true = lt-ltb 0 (8 * n) (omega arith) in

@@ -21,7 +21,6 @@ use Rattle.ir_item.specs.Spelling.{Atom, Token, Blank, symbols_in, parameter_ato
 use Rattle.ir_item.specs.Spelled.{is_spelled, is_parted_from, are_spelled}
 use Rattle.ir_item.specs.Printed.{IsSpelledItem, IsKeptItem}
 use Rattle.ir_item.proofs.Again.{symbols_appended}
-use Rattle.ir_item.proofs.Shown.{same_name}
 
 abbrev is_good : Symbol → Bool
 is_good s = is_spelled s && is_within_limits s
@@ -47,7 +46,7 @@ later_good s ss h = (both (is_good s) (list_all is_good ss) h).1
 short : (name : List ℕ) → (is_name name && nat_le (length name) 64) ≡ true → IsShortName name
 short name h =
     let t = both (is_name name) (nat_le (length name) 64) h in
-    record { spelled = same_name name ∙ t.0; short = leb-true (length name) 64 t.1 }
+    record { spelled = t.0; short = leb-true (length name) 64 t.1 }
 
 good_append : (xs ys : List Symbol) → Good (xs ++ ys) → Good xs × Good ys
 good_append xs ys h = both (list_all is_good xs) (list_all is_good ys) (sym (list_all-append is_good xs ys) ∙ h)

@@ -1,5 +1,5 @@
 -- The bytes of lines that are printed.
-use Rattle.std.proofs.Common.{◌≡◌, ℕ, zero, suc, ◌^◌, ◌<◌, inl, inr, Bool, true, false, cond, eqb, leb, List, [], ◌∷◌, ◌++◌, length, length-append, refl, sym, ap, ◌∙◌, arith}
+use Rattle.std.proofs.Common.{◌≡◌, ℕ, zero, suc, ◌^◌, ◌<◌, inl, inr, Bool, true, false, cond, eqb, leb, List, [], ◌∷◌, ◌++◌, length, length-append, refl, ap, ◌∙◌, arith}
 use Rattle.std.specs.Prelude.{◌&&◌, ◌||◌, not, nat_le, ℤ, pos, negsuc, unsigned_abs, codes, flat_map, All, IsUtf8}
 use Rattle.std.specs.List.{list_all, AllByRecursion}
 use Rattle.std.specs.Char.{is_ascii_digit}
@@ -21,13 +21,12 @@ use Rattle.syntax.specs.declared.instruction.Address.{Address}
 use Rattle.syntax.specs.declared.instruction.Address.TheVariants as address
 use Rattle.syntax.specs.declared.operator.Mode.{Mode}
 use Rattle.syntax.specs.declared.operator.Mode.TheVariants.{Reads, Writes, Adds}
-use Rattle.ir_lex.specs.Spelling.{is_name, is_mark, is_printed}
+use Rattle.ir_lex.specs.Spelling.{is_mark, is_printed}
 use Rattle.ir_lex.specs.Words.{words_text, are_words}
 use Rattle.ir_lex.proofs.Printed.{both}
 use Rattle.ir_lex.proofs.Plain.{one_of, name_printed, number_printed, digit_printed}
 use Rattle.ir_annotation.specs.declared.meaning.Annotation.{Annotation}
 use Rattle.ir_annotation.specs.declared.meaning.Annotation.TheVariants as annotation
-use Rattle.ir_annotation.specs.Words as words
 use Rattle.ir_annotation.specs.Canonical.{IsTerm, IsCanonical}
 use Rattle.ir_annotation.specs.Spelling.{sign_text, factor_text, term_text, constant_text, terms_text, form_text, relation_text, mode_text, object_text}
 use Rattle.ir_annotation.specs.Annotations.{IsShortName, address_name, IsInequality, IsZone, IsKeptAnnotation, inequality_words, zone_words, moded_zone_words, annotation_words}
@@ -49,14 +48,6 @@ Printed w = list_all is_printed w ≡ true
 
 join : (xs ys : List ℕ) → Printed xs → Printed ys → Printed (xs ++ ys)
 join xs ys hx hy = list_all-append is_printed xs ys ∙ rw (hx, hy) refl
-
--- both crates have the same names
-pub same_name : (w : List ℕ) → words.is_name w ≡ is_name w
-same_name [] = refl
-same_name (b ∷ bs) = refl
-
-short_printed : (name : List ℕ) → words.is_name name ≡ true → Printed name
-short_printed name h = name_printed name (sym (same_name name) ∙ h)
 
 digits_printed : (ds : List ℕ) → all_ascii_digits ds ≡ true → Printed ds
 digits_printed [] h = refl
@@ -85,7 +76,7 @@ term_printed is_first t is =
     let factor : List ℕ = factor_text (unsigned_abs t.coefficient) in
     join ((sign ++ factor) ++ codes "%") t.register
     (join (sign ++ factor) (codes "%") (join sign factor (sign_printed is_first t.coefficient) (factor_printed (unsigned_abs t.coefficient) is.fits)) refl)
-    (short_printed t.register is.name)
+    (name_printed t.register is.name)
 
 others_printed : (ts : List Term) → All IsTerm ts → Printed (flat_map (term_text false) ts)
 others_printed [] each = refl
@@ -136,7 +127,7 @@ mode_word Writes = record { some = omega arith; printed = refl }
 mode_word Adds = record { some = omega arith; printed = refl }
 
 sigil_word : (b : ℕ) (name : List ℕ) → is_printed b ≡ true → IsShortName name → IsWord (b ∷ name)
-sigil_word b name h is = record { some = omega arith; printed = rw (h, short_printed name is.spelled) refl }
+sigil_word b name h is = record { some = omega arith; printed = rw (h, name_printed name is.spelled) refl }
 
 object_word : (a : Address) → IsShortName (address_name a) → IsWord (object_text a)
 object_word (address.Register name) is = sigil_word 37 name refl is

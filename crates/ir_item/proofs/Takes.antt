@@ -27,7 +27,7 @@ use Rattle.ir_item.specs.declared.symbol.Symbol.TheVariants.{Register, Global, N
 use Rattle.ir_item.specs.declared.switch.SpelledCase.{SpelledCase}
 use Rattle.ir_item.specs.Outcome.{◌>>=◌}
 use Rattle.ir_item.specs.Symbols.{is_within_limits}
-use Rattle.ir_item.specs.Numerals.{count_of, cells_of}
+use Rattle.ir_item.specs.Numerals.{count_of, cells_of_bytes}
 use Rattle.ir_item.specs.Fronts.{mark_at, word_at, named_at, end_at, is_word, is_mark, behind, register_at, global_at, label_at, numeral_at, operand_at, address_at, pointer_at, count_at, array_at, bytes_at, width_at, result_type_at}
 use Rattle.ir_item.specs.Operators.{predicate_of, predicate_at}
 use Rattle.ir_item.specs.Lists.{list_at, more_at, comma_at, case_follows, pointer_parameter_at, number_parameter_at, parameter_at, pointer_argument_at, number_argument_at, argument_at, entry_at, case_at, all_at, all_cases_at}
@@ -153,7 +153,7 @@ count_takes (Number n ∷ more) x w h =
     (ap (λ (k : Numeral). Number k ∷ more) c.0 ∙ ap (λ (y : ℕ × List Symbol). Number (Small (pos y.0)) ∷ y.1) m.2, ap (λ (y : ℕ × List Symbol). nat_lt 0 y.0) (sym m.2) ∙ c.1)
 count_takes _ x w h = absurd cc
 
-cells_are : (n : Numeral) (k : ℕ) → is_within_limits (Number n) ≡ true → cells_of n ≡ Some k → (n ≡ Small (pos (8 * k))) × (0 < k)
+cells_are : (n : Numeral) (k : ℕ) → is_within_limits (Number n) ≡ true → cells_of_bytes n ≡ Some k → (n ≡ Small (pos (8 * k))) × (0 < k)
 cells_are (Small (pos m)) k w h =
     let t = tested (nat_lt 0 m && eqb (m % 8) 0) (m / 8) k h in
     let u = both (nat_lt 0 m) (eqb (m % 8) 0) t.0 in
@@ -167,7 +167,7 @@ cells_are (Large digits) k w h = absurd cc
 
 bytes_takes : (line : List Symbol) (x : ℕ × List Symbol) → are_within line → bytes_at line ≡ Some x → (line ≡ Number (Small (pos (8 * x.0))) ∷ x.1) × (0 < x.0)
 bytes_takes (Number n ∷ more) x w h =
-    let m = map_some (λ (cells : ℕ). (cells, more)) (cells_of n) x h in
+    let m = map_some (λ (cells : ℕ). (cells, more)) (cells_of_bytes n) x h in
     let c = cells_are n m.0 (both (is_within_limits (Number n)) (list_all is_within_limits more) w).0 m.1 in
     (ap (λ (k : Numeral). Number k ∷ more) c.0 ∙ ap (λ (y : ℕ × List Symbol). Number (Small (pos (8 * y.0))) ∷ y.1) m.2, subst (λ (y : ℕ × List Symbol). 0 < y.0) m.2 c.1)
 bytes_takes _ x w h = absurd cc

@@ -13,7 +13,8 @@ use Rattle.ir_item.specs.Spelling.{spelled_cases}
 use Rattle.std.specs.List.{list_all}
 use Rattle.syntax.specs.declared.module.Parameter.{Parameter}
 use Rattle.syntax.specs.declared.module.Parameter.TheVariants as parameter
-use Rattle.ir_item.specs.Shape.{Gap, register, function, label, operand, pointer, array, width, result_type, predicate, parameters, arguments, cases, entries, Piece, word, mark, named, gap, space, Held, Gaps}
+use Rattle.ir_item.specs.Shape.{Gap, register, function, label, operand, pointer, array, width, result_type, predicate, parameters, arguments, cases}
+use Rattle.ir_item.specs.Shape.{entries, Piece, word, mark, named, gap, space, Held, Gaps}
 
 -- a pointer has a cell at least
 abbrev pub has_cells : Parameter → Bool

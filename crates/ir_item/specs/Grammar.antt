@@ -18,7 +18,8 @@ use Rattle.ir_item.specs.Outcome.{◌>>=◌}
 use Rattle.ir_item.specs.Fronts.{is_word, is_mark, behind, mark_at}
 use Rattle.ir_item.specs.Operators.{operator_of, without_wrap}
 use Rattle.ir_item.specs.Cases.{are_cases_of, cases_from}
-use Rattle.ir_item.specs.Shape.{Piece, word, mark, named, gap, register, function, label, operand, pointer, array, width, result_type, predicate, parameters, arguments, cases, entries, space, Gaps, gaps_of}
+use Rattle.ir_item.specs.Shape.{Piece, word, mark, named, gap, register, function, label, operand, pointer, array, width, result_type, predicate}
+use Rattle.ir_item.specs.Shape.{parameters, arguments, cases, entries, space, Gaps, gaps_of}
 
 -- Instructions that define a register, behind '%d = WORD'
 
@@ -66,7 +67,9 @@ alloca_array_from d g = instruction.Alloca d (Array g.0)
 
 -- %d = getelementptr inbounds i64, ptr P, i64 V
 abbrev pub element_pointer_shape : List Piece
-element_pointer_shape = word (codes "inbounds") ∷ space ∷ word (codes "i64") ∷ mark 44 ∷ space ∷ gap pointer ∷ mark 44 ∷ space ∷ word (codes "i64") ∷ space ∷ gap operand ∷ []
+element_pointer_shape =
+    word (codes "inbounds") ∷ space ∷ word (codes "i64") ∷ mark 44 ∷ space ∷ gap pointer
+    ∷ mark 44 ∷ space ∷ word (codes "i64") ∷ space ∷ gap operand ∷ []
 
 abbrev pub element_pointer_from : List ℕ → Gaps element_pointer_shape → Instruction
 element_pointer_from d g = instruction.ElementPointer d g.0 g.1.0
@@ -209,11 +212,15 @@ binary d operator rest =
 
 -- behind '%d = alloca'
 abbrev pub alloca : List ℕ → List Symbol → Option Instruction
-alloca d rest = if is_word (codes "i64") rest then option_map (alloca_from d) (gaps_of alloca_shape rest) else option_map (alloca_array_from d) (gaps_of alloca_array_shape rest)
+alloca d rest =
+    if is_word (codes "i64") rest then option_map (alloca_from d) (gaps_of alloca_shape rest)
+    else option_map (alloca_array_from d) (gaps_of alloca_array_shape rest)
 
 -- behind '%d = call'
 abbrev pub call : List ℕ → List Symbol → Option Instruction
-call d rest = if is_word (codes "token") rest then option_map (start_region_from d) (gaps_of start_region_shape rest) else option_map (call_from d) (gaps_of call_shape rest)
+call d rest =
+    if is_word (codes "token") rest then option_map (start_region_from d) (gaps_of start_region_shape rest)
+    else option_map (call_from d) (gaps_of call_shape rest)
 
 -- behind '%d = WORD', where the word is neither phi nor call
 unfoldable pub fixed : List ℕ → List ℕ → List Symbol → Option Instruction
@@ -237,7 +244,9 @@ definition at d _ = None
 
 -- behind 'store'
 abbrev pub store : List Symbol → Option Instruction
-store rest = if is_word (codes "i64") rest then option_map store_from (gaps_of store_shape rest) else option_map store_zeros_from (gaps_of store_zeros_shape rest)
+store rest =
+    if is_word (codes "i64") rest then option_map store_from (gaps_of store_shape rest)
+    else option_map store_zeros_from (gaps_of store_zeros_shape rest)
 
 -- behind 'br'
 abbrev pub branch_in : List Symbol → Option Terminator
@@ -252,7 +261,9 @@ switch_in rest = gaps_of switch_shape rest >>= switch_from
 
 -- behind 'ret'
 abbrev pub return : List Symbol → Option Terminator
-return rest = if is_word (codes "void") rest then option_map return_void_from (gaps_of return_void_shape rest) else option_map return_from (gaps_of return_shape rest)
+return rest =
+    if is_word (codes "void") rest then option_map return_void_from (gaps_of return_void_shape rest)
+    else option_map return_from (gaps_of return_shape rest)
 
 -- behind 'detach'
 abbrev pub detach_in : List Symbol → Option Terminator

@@ -17,11 +17,13 @@ use Rattle.ir_item.specs.Printed.{item_on, IsKeptItem, item_text, said}
 -- behind any spaces an item's print says the item
 abbrev pub ItemsAreReadBack : Type 0
 ItemsAreReadBack = (at k : ℕ) (i : Item) → item_fits at i ≡ true → are_spelled (item_atoms i) ≡ true
-    → line_of at (spaces k ++ text_of (item_atoms i)) ≡ Ok (Some (record { item = i; is_within_limits = list_all is_within_limits (symbols_in (item_atoms i)) }))
+    → line_of at (spaces k ++ text_of (item_atoms i))
+    ≡ Ok (Some (record { item = i; is_within_limits = list_all is_within_limits (symbols_in (item_atoms i)) }))
 
 -- and words behind ;! say the annotation that they make
 abbrev pub WordsAreReadBack : Type 0
-WordsAreReadBack = (at k : ℕ) (words : List (List ℕ)) → are_words words ≡ true → line_of at (spaces k ++ (59 ∷ 33 ∷ words_text words)) ≡ annotation_line (annotation_of words at)
+WordsAreReadBack = (at k : ℕ) (words : List (List ℕ)) → are_words words ≡ true
+    → line_of at (spaces k ++ (59 ∷ 33 ∷ words_text words)) ≡ annotation_line (annotation_of words at)
 
 -- Symbols within the limits that say an item are its spelling, and the item is one that a line of this number can say.
 abbrev pub SymbolsSpellTheirItem : Type 0

@@ -3,8 +3,8 @@ use Rattle.std.specs.Prelude.{◌≡◌, ℕ, List, [], ◌∷◌, map, Option, 
 use Rattle.std.specs.List.{list_all}
 use Rattle.ir_annotation.specs.declared.meaning.AnnotationLine.{AnnotationLine}
 use Rattle.ir_annotation.specs.Lines.{annotation_of}
-use Rattle.ir_lex.specs.declared.fault.TextFault.{TextFault}
-use Rattle.ir_lex.specs.declared.fault.TextFault.TheVariants as faults
+use Rattle.refusal.specs.declared.refused.Refused.{Refused}
+use Rattle.refusal.specs.declared.refused.Refused.TheVariants as faults
 use Rattle.ir_lex.specs.declared.token.Kind.{Kind}
 use Rattle.ir_lex.specs.declared.token.Kind.TheVariants as kinds
 use Rattle.ir_lex.specs.declared.token.Token.{Token}
@@ -48,11 +48,11 @@ pub data IsLineFault (at : ℕ) (line : List ℕ) : ℕ → Type 0 where
   NotSaid : (number : ℕ) → IsUtf8 line → line_of at line ≡ Err number → IsLineFault at line number
 
 -- the fault is that of the line, or memory was refused
-abbrev pub IsFaultOf : ℕ → List ℕ → TextFault → Type 0
-IsFaultOf at line faults.Memory = Unit {0}
-IsFaultOf at line (faults.Fault number found_at) = (found_at ≡ at) × IsLineFault at line number
+abbrev pub IsFaultOfLine : ℕ → List ℕ → Refused → Type 0
+IsFaultOfLine at line faults.Memory = Unit {0}
+IsFaultOfLine at line (faults.Fault number found_at) = (found_at ≡ at) × IsLineFault at line number
 
 -- the fault is the one that the reading of tokens meets, or memory was refused
-abbrev pub IsMeaningFault : ℕ → Result (Option Line) ℕ → TextFault → Type 0
+abbrev pub IsMeaningFault : ℕ → Result (Option Line) ℕ → Refused → Type 0
 IsMeaningFault at meaning faults.Memory = Unit {0}
 IsMeaningFault at meaning (faults.Fault number found_at) = (found_at ≡ at) × (meaning ≡ Err number)

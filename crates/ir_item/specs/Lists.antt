@@ -17,7 +17,8 @@ more_at first others (Some rest) = others rest >>= λ found. Some (first.0 ∷ f
 
 -- One element or more, and what is left: element reads one, next tells where another one begins, and there are no more of
 -- them than the number says.
-unfoldable pub list_at : {A : Type 0} → (List Symbol → Option (A × List Symbol)) → (List Symbol → Option (List Symbol)) → ℕ → List Symbol → Option (List A × List Symbol)
+unfoldable pub list_at : {A : Type 0} → (List Symbol → Option (A × List Symbol)) → (List Symbol → Option (List Symbol)) → ℕ → List Symbol
+    → Option (List A × List Symbol)
 list_at element next zero line = None
 list_at element next (suc most) line = element line >>= λ first. more_at first (list_at element next most) (next first.1)
 

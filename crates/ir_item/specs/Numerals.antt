@@ -1,5 +1,6 @@
 -- Numbers as lines spell them.
-use Rattle.std.specs.Prelude.{ℕ, ◌+◌, ◌-◌, ◌*◌, ◌/◌, ◌%◌, ℤ, pos, negsuc, nat_lt, nat_le, slice_index, Bool, false, not, ◌&&◌, ◌==◌, List, [], ◌∷◌, length, Option, Some, None, if◌then◌else◌}
+use Rattle.std.specs.Prelude.{ℕ, ◌+◌, ◌-◌, ◌*◌, ◌/◌, ◌%◌, ℤ, pos, negsuc, nat_lt, nat_le, slice_index, Bool, false, not, ◌&&◌, ◌==◌, List, [], ◌∷◌}
+use Rattle.std.specs.Prelude.{length, Option, Some, None, if◌then◌else◌}
 use Rattle.std.specs.Ordering.{int_eq}
 use Rattle.std.specs.Str.{bytes_eq}
 use Rattle.ir_item.specs.declared.symbol.Numeral.{Numeral}
@@ -29,10 +30,10 @@ count_of (Small (negsuc n)) = None
 count_of (Large digits) = if is_negative digits then None else Some 1
 
 -- how many cells of 8 bytes so many bytes are, if they are some
-abbrev pub cells_of : Numeral → Option ℕ
-cells_of (Small (pos n)) = if nat_lt 0 n && n % 8 == 0 then Some (n / 8) else None
-cells_of (Small (negsuc n)) = None
-cells_of (Large digits) = if not (is_negative digits) && is_multiple_of_eight digits then Some 1 else None
+abbrev pub cells_of_bytes : Numeral → Option ℕ
+cells_of_bytes (Small (pos n)) = if nat_lt 0 n && n % 8 == 0 then Some (n / 8) else None
+cells_of_bytes (Small (negsuc n)) = None
+cells_of_bytes (Large digits) = if not (is_negative digits) && is_multiple_of_eight digits then Some 1 else None
 
 abbrev pub is_same_number : Numeral → Numeral → Bool
 is_same_number (Small n) (Small m) = int_eq n m

@@ -18,15 +18,19 @@ use Rattle.syntax.specs.declared.module.Parameter.TheVariants as parameter
 use Rattle.syntax.specs.declared.module.ResultType.{ResultType}
 use Rattle.syntax.specs.declared.module.ResultType.TheVariants as results
 use Rattle.syntax.specs.declared.operator.BinaryOperator.{BinaryOperator}
-use Rattle.syntax.specs.declared.operator.BinaryOperator.TheVariants.{Add, Subtract, Multiply, AddNoWrap, SubtractNoWrap, MultiplyNoWrap, SignedDivide, UnsignedDivide, SignedRemainder, UnsignedRemainder, ShiftLeft, LogicalShiftRight, ArithmeticShiftRight, And, Or, ExclusiveOr}
+use Rattle.syntax.specs.declared.operator.BinaryOperator.TheVariants.{Add, Subtract, Multiply, AddNoWrap, SubtractNoWrap, MultiplyNoWrap}
+use Rattle.syntax.specs.declared.operator.BinaryOperator.TheVariants.{SignedDivide, UnsignedDivide, SignedRemainder, UnsignedRemainder, ShiftLeft}
+use Rattle.syntax.specs.declared.operator.BinaryOperator.TheVariants.{LogicalShiftRight, ArithmeticShiftRight, And, Or, ExclusiveOr}
 use Rattle.syntax.specs.declared.operator.Conversion.TheVariants.{Truncate, SignExtend, ZeroExtend}
 use Rattle.syntax.specs.declared.operator.Predicate.{Predicate}
-use Rattle.syntax.specs.declared.operator.Predicate.TheVariants.{Equal, NotEqual, UnsignedGreater, UnsignedAtLeast, UnsignedLess, UnsignedAtMost, SignedGreater, SignedAtLeast, SignedLess, SignedAtMost}
+use Rattle.syntax.specs.declared.operator.Predicate.TheVariants.{Equal, NotEqual, UnsignedGreater, UnsignedAtLeast, UnsignedLess, UnsignedAtMost}
+use Rattle.syntax.specs.declared.operator.Predicate.TheVariants.{SignedGreater, SignedAtLeast, SignedLess, SignedAtMost}
 use Rattle.syntax.specs.declared.operator.Width.{Width}
 use Rattle.syntax.specs.declared.operator.Width.TheVariants.{Bits64, Bits32}
 use Rattle.syntax.specs.declared.terminator.Case.{Case}
 use Rattle.syntax.specs.declared.terminator.Terminator.{Terminator}
 use Rattle.syntax.specs.declared.terminator.Terminator.TheVariants as terminator
+use Rattle.ir_lex.specs.Spelling.{register_text, global_text}
 use Rattle.ir_item.specs.declared.item.Item.{Item}
 use Rattle.ir_item.specs.declared.item.Item.TheVariants as item
 use Rattle.ir_item.specs.declared.symbol.Numeral.{Numeral}
@@ -34,8 +38,12 @@ use Rattle.ir_item.specs.declared.symbol.Numeral.TheVariants.{Small, Large}
 use Rattle.ir_item.specs.declared.symbol.Symbol.{Symbol}
 use Rattle.ir_item.specs.declared.symbol.Symbol.TheVariants as symbols
 use Rattle.ir_item.specs.declared.switch.SpelledCase.{SpelledCase}
-use Rattle.ir_item.specs.Shape.{Gap, register, function, label, operand, pointer, array, width, result_type, predicate, parameters, arguments, cases, entries, Piece, word, mark, named, gap, space, Held, Gaps}
-use Rattle.ir_item.specs.Grammar.{binary_shape, compare_shape, truncate_shape, extend_shape, alloca_shape, alloca_array_shape, element_pointer_shape, load_shape, start_region_shape, call_shape, phi_shape, store_shape, store_zeros_shape, atomic_shape, call_void_shape, jump_shape, branch_shape, switch_shape, return_void_shape, return_shape, detach_shape, region_shape, global_shape, define_shape}
+use Rattle.ir_item.specs.Shape.{Gap, register, function, label, operand, pointer, array, width, result_type, predicate, parameters, arguments, cases}
+use Rattle.ir_item.specs.Shape.{entries, Piece, word, mark, named, gap, space, Held, Gaps}
+use Rattle.ir_item.specs.Grammar.{binary_shape, compare_shape, truncate_shape, extend_shape, alloca_shape, alloca_array_shape, element_pointer_shape}
+use Rattle.ir_item.specs.Grammar.{load_shape, start_region_shape, call_shape, phi_shape, store_shape, store_zeros_shape, atomic_shape}
+use Rattle.ir_item.specs.Grammar.{call_void_shape, jump_shape, branch_shape, switch_shape, return_void_shape, return_shape, detach_shape}
+use Rattle.ir_item.specs.Grammar.{region_shape, global_shape, define_shape}
 
 -- a symbol, or a space between two
 pub data Atom : Type 0 where
@@ -47,8 +55,8 @@ numeral_text (Small n) = signed_decimal n
 numeral_text (Large digits) = digits
 
 abbrev pub symbol_text : Symbol → List ℕ
-symbol_text (symbols.Register name) = 37 ∷ name
-symbol_text (symbols.Global name) = 64 ∷ name
+symbol_text (symbols.Register name) = register_text name
+symbol_text (symbols.Global name) = global_text name
 symbol_text (symbols.Number n) = numeral_text n
 symbol_text (symbols.Word text) = text
 symbol_text (symbols.Mark byte) = byte ∷ []
@@ -142,7 +150,8 @@ array_atoms n = a_mark 91 ∷ a_number (pos n) ∷ Blank ∷ a_word (codes "x") 
 abbrev pub parameter_atoms : Parameter → List Atom
 parameter_atoms (parameter.Number name) = a_word (codes "i64") ∷ Blank ∷ a_register name ∷ []
 parameter_atoms (parameter.Pointer name cells) =
-    a_word (codes "ptr") ∷ Blank ∷ a_word (codes "noalias") ∷ Blank ∷ a_word (codes "dereferenceable") ∷ a_mark 40 ∷ a_number (pos (8 * cells)) ∷ a_mark 41 ∷ Blank ∷ a_register name ∷ []
+    a_word (codes "ptr") ∷ Blank ∷ a_word (codes "noalias") ∷ Blank ∷ a_word (codes "dereferenceable")
+    ∷ a_mark 40 ∷ a_number (pos (8 * cells)) ∷ a_mark 41 ∷ Blank ∷ a_register name ∷ []
 
 abbrev pub argument_atoms : Argument → List Atom
 argument_atoms (argument.Number value) = a_word (codes "i64") ∷ Blank ∷ operand_atom value ∷ []
@@ -207,7 +216,8 @@ call_atoms (Some d) f xs = defining d (codes "call") (atoms_of call_shape (f, (x
 call_atoms None f xs = beginning (codes "call") (atoms_of call_void_shape (f, (xs, tt)))
 
 abbrev pub instruction_atoms : Instruction → List Atom
-instruction_atoms (instruction.Binary d operator w a b) = a_register d ∷ Blank ∷ a_mark 61 ∷ Blank ∷ (operator_atoms operator ++ Blank ∷ atoms_of binary_shape (w, (a, (b, tt))))
+instruction_atoms (instruction.Binary d operator w a b) =
+    a_register d ∷ Blank ∷ a_mark 61 ∷ Blank ∷ (operator_atoms operator ++ Blank ∷ atoms_of binary_shape (w, (a, (b, tt))))
 instruction_atoms (instruction.Compare d p w a b) = defining d (codes "icmp") (atoms_of compare_shape (p, (w, (a, (b, tt)))))
 instruction_atoms (instruction.Convert d Truncate v) = defining d (codes "trunc") (atoms_of truncate_shape (v, tt))
 instruction_atoms (instruction.Convert d SignExtend v) = defining d (codes "sext") (atoms_of extend_shape (v, tt))

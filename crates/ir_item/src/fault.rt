@@ -2,15 +2,13 @@ ghost use Rattle.std.specs.Prelude.{◌≡◌};
 ghost use Rattle.ir_item.specs.declared.fault.LineFault.TheVariants.{Memory};
 
 use std::alloc::{AllocError, AllocFailed};
-use thiserror::Error;
 
-/// Why a line says no item.
-#[derive(Clone, Copy, Debug, Drop, PartialEq, Eq, Error)]
+/// Why the tokens of a line say no item; the line is known to the caller.
+#[derive(Clone, Copy)]
 pub enum LineFault {
     /// A token stands where the grammar has another, or none.
-    #[error("unexpected token")]
     Unexpected,
-    #[error("memory")]
+    /// Memory was refused.
     Memory,
 }
 

@@ -5,7 +5,7 @@ ghost use Rattle.ir_item.specs.Outcome.{Gives};
 ghost use Rattle.ir_item.specs.Fronts.{mark_at, word_at, named_at, end_at, is_word, is_mark, behind, register_at, global_at, label_at, numeral_at, operand_at, address_at, pointer_at, count_at, array_at, bytes_at, width_at, result_type_at};
 
 use crate::fault::LineFault;
-use crate::numeral::{cells_of, copy_of, count_of, value_of};
+use crate::numeral::{cells_of_bytes, copy_of, count_of, value_of};
 use crate::symbol::{Numeral, Symbol};
 use lists::Name;
 use syntax::{Address, Operand, ResultType, Width};
@@ -168,7 +168,7 @@ pub fn bytes_at(symbols: &[Symbol]) -> Result<(u64, &[Symbol]), LineFault>
     ensures { Gives (λ found. (found.0, found.1.now)) result (bytes_at symbols.now) }
 {
     match symbols {
-        [Symbol::Number(n), rest @ ..] => match cells_of(n) {
+        [Symbol::Number(n), rest @ ..] => match cells_of_bytes(n) {
             Some(cells) => Ok((cells, rest)),
             None => Err(LineFault::Unexpected),
         },

@@ -6,16 +6,17 @@ ghost use Rattle.ir_annotation.specs.Lines.{annotation_of};
 ghost use Rattle.ir_lex.specs.Lexemes.{IsTokenOf, text_at};
 ghost use Rattle.ir_item.specs.Symbols.{symbol_at, is_within_limits};
 ghost use Rattle.ir_item.specs.Grammar.{item_in};
-ghost use Rattle.ir_item.specs.Lines.{annotation_line, item_line, meaning_of, line_of, IsFaultOf, IsMeaningFault};
+ghost use Rattle.ir_item.specs.Lines.{annotation_line, item_line, meaning_of, line_of, IsFaultOfLine, IsMeaningFault};
 
 use crate::fault::LineFault;
 use crate::grammar::item_of;
 use crate::item::Item;
 use crate::symbol::{Numeral, Symbol};
 use crate::tokens::{symbols_of, words_of};
-use ir_annotation::{AnnotationFault, read_annotation};
-use ir_lex::{Kind, TextFault, Token, lex};
+use ir_annotation::read_annotation;
+use ir_lex::{Kind, Token, lex};
 use lists::Name;
+use refusal::Refused;
 use std::alloc::Global;
 
 /// An item with the judgement of its numbers and names.
@@ -47,13 +48,13 @@ fn are_within_limits(symbols: &[Symbol]) -> bool
 }
 
 /// What the symbols of a line say.
-fn read_symbols(alloc: Global, symbols: &[Symbol], number: u32) -> Result<Option<Line>, TextFault>
+fn read_symbols(alloc: Global, symbols: &[Symbol], number: u32) -> Result<Option<Line>, Refused>
     ensures found { IfOk result (λ said. item_line symbols.now (item_in number symbols.now) ≡ Ok said) }
     ensures fault { IfErr result (IsMeaningFault number (item_line symbols.now (item_in number symbols.now))) }
 {
     match item_of(alloc, number, symbols) {
-        Err(LineFault::Memory) => Err(TextFault::Memory),
-        Err(LineFault::Unexpected) => Err(TextFault::Fault {
+        Err(LineFault::Memory) => Err(Refused::Memory),
+        Err(LineFault::Unexpected) => Err(Refused::Fault {
             number: 103,
             line: number,
         }),
@@ -65,21 +66,15 @@ fn read_symbols(alloc: Global, symbols: &[Symbol], number: u32) -> Result<Option
 }
 
 /// What the words behind `;!` say.
-fn read_words(alloc: Global, words: &[Name], number: u32) -> Result<Option<Line>, TextFault>
+fn read_words(alloc: Global, words: &[Name], number: u32) -> Result<Option<Line>, Refused>
     ensures found { IfOk result (λ said. annotation_line (annotation_of words.now number) ≡ Ok said) }
     ensures fault { IfErr result (IsMeaningFault number (annotation_line (annotation_of words.now number))) }
 {
-    match read_annotation(alloc, words, number) {
-        Err(AnnotationFault::Memory) => Err(TextFault::Memory),
-        Err(AnnotationFault::Fault(fault)) => Err(TextFault::Fault {
-            number: fault,
-            line: number,
-        }),
-        Ok(found) => Ok(Some(Line {
-            item: Item::Annotation(found.annotation),
-            is_within_limits: found.is_within_limits,
-        })),
-    }
+    let found = read_annotation(alloc, words, number)?;
+    Ok(Some(Line {
+        item: Item::Annotation(found.annotation),
+        is_within_limits: found.is_within_limits,
+    }))
 }
 
 /// What the tokens of a line say.
@@ -88,7 +83,7 @@ fn read_tokens(
     line: &[u8],
     tokens: &[Token],
     number: u32,
-) -> Result<Option<Line>, TextFault>
+) -> Result<Option<Line>, Refused>
     requires { All (IsTokenOf line.now) tokens.now }
     ensures found { IfOk result (λ said. meaning_of number line.now tokens.now ≡ Ok said) }
     ensures fault { IfErr result (IsMeaningFault number (meaning_of number line.now tokens.now)) }
@@ -110,9 +105,9 @@ fn read_tokens(
 
 /// What a line says: nothing where it is blank or a comment. The faults are 101, 102, 103 and 107; a number or a name past its
 /// limit is told by the flag.
-pub fn read_line(alloc: Global, line: &[u8], number: u32) -> Result<Option<Line>, TextFault>
+pub fn read_line(alloc: Global, line: &[u8], number: u32) -> Result<Option<Line>, Refused>
     ensures found { IfOk result (λ said. IsUtf8 line.now × (line_of number line.now ≡ Ok said)) }
-    ensures fault { IfErr result (IsFaultOf number line.now) }
+    ensures fault { IfErr result (IsFaultOfLine number line.now) }
 {
     let tokens = lex(alloc, line, number)?;
     read_tokens(alloc, line, tokens.as_slice(), number)

@@ -2,7 +2,7 @@
 
 ghost use Rattle.std.specs.Prelude.{◌≡◌, ◌-◌, ◌<◌, IfOk};
 ghost use Rattle.std.specs.Str.{bytes_eq};
-ghost use Rattle.ir_item.specs.Numerals.{value_of, is_negative, is_multiple_of_eight, count_of, cells_of, is_same_number};
+ghost use Rattle.ir_item.specs.Numerals.{value_of, is_negative, is_multiple_of_eight, count_of, cells_of_bytes, is_same_number};
 
 use crate::symbol::Numeral;
 use lists::Name;
@@ -93,8 +93,8 @@ pub fn count_of(numeral: &Numeral) -> Option<u64>
 }
 
 /// How many cells so many bytes are: a positive multiple of 8, divided by 8. One outside `i64` counts as 1.
-pub fn cells_of(numeral: &Numeral) -> Option<u64>
-    ensures { result ≡ cells_of numeral.now }
+pub fn cells_of_bytes(numeral: &Numeral) -> Option<u64>
+    ensures { result ≡ cells_of_bytes numeral.now }
 {
     match numeral {
         Numeral::Small(n) => {

@@ -16,7 +16,7 @@ use std::alloc::{AllocError, Global};
 use syntax::{Case, Width};
 
 /// `T N, label %l` as a line spells it.
-#[derive(Debug, Drop)]
+#[derive(Drop)]
 pub struct SpelledCase {
     pub width: Width,
     pub number: Numeral,

@@ -1,7 +1,7 @@
 use lists::Name;
 
 /// A number as a line spells it.
-#[derive(Debug, Drop)]
+#[derive(Drop)]
 pub enum Numeral {
     Small(i64),
     /// Outside `i64`, with its digits behind an optional sign.
@@ -9,7 +9,7 @@ pub enum Numeral {
 }
 
 /// A token with what it stands for.
-#[derive(Debug, Drop)]
+#[derive(Drop)]
 pub enum Symbol {
     /// `%name`
     Register(Name),

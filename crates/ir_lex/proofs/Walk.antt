@@ -2,15 +2,16 @@
 use Rattle.std.proofs.Common.{◌≡◌, ℕ, zero, suc, ◌+◌, ◌-◌, ◌<◌, ◌≤◌, Bool, true, false, List, [], ◌∷◌, ◌++◌, length, take, drop, Option, Some, None, refl, sym, subst, ap, ◌∙◌, arith, append_assoc}
 use Rattle.std.proofs.lemmas.List.{take_rest, drop-drop, length-drop, drop_all, append-nil}
 use Rattle.std.specs.Prelude.{option_map, IfErr, IsUtf8, Result, Ok, Err}
-use Rattle.ir_lex.specs.declared.fault.TextFault.{TextFault}
-use Rattle.ir_lex.specs.declared.fault.TextFault.TheVariants as faults
+use Rattle.refusal.specs.declared.refused.Refused.{Refused}
+use Rattle.refusal.specs.declared.refused.Refused.TheVariants as faults
 use Rattle.ir_lex.specs.declared.token.Kind.{Kind}
 use Rattle.ir_lex.specs.declared.token.Token.{Token}
 use Rattle.ir_lex.specs.declared.scan.Front.TheVariants.{Space, Comment, Begins, Wrong}
 use Rattle.ir_lex.specs.Spelling.{is_space, is_note_mark}
 use Rattle.ir_lex.specs.Tokens.{front_at, begun, tokens_from, tokens_of}
 use Rattle.std.specs.List.{prefix_len}
-use Rattle.ir_lex.specs.Faults.{prepend, IsBadToken, IsFaultOf, IsLexFault, BadToken}
+use Rattle.ir_lex.specs.Faults.{IsFaultOfTokens, IsLexFault, BadToken}
+use Rattle.ir_lex.specs.Scanning.{prepend, IsBadToken}
 
 -- the bytes of the token before are passed over
 pub skips : (note : Bool) (k i : ℕ) (bs : List ℕ) → k ≤ length bs → tokens_from note k i bs ≡ tokens_from note 0 (i + k) (drop k bs)
@@ -95,7 +96,7 @@ stops_at_wrong note i line tokens before first lt h so_far =
     prepend-none before first (sym so_far ∙ ap (prepend tokens) (at_wrong note i (drop i line) within (sym (h ∙ ap (front_at note) (take_rest line i)))))
 
 -- a line without tokens has the fault 102
-pub is_fault : {X : Type 0} (line : List ℕ) (at : ℕ) (ts : Option (List Token)) (r : Result X TextFault) → IsUtf8 line → (ts ≡ None → tokens_of line ≡ None) → IfErr r (IsBadToken at ts) → IfErr r (IsFaultOf line at)
+pub is_fault : {X : Type 0} (line : List ℕ) (at : ℕ) (ts : Option (List Token)) (r : Result X Refused) → IsUtf8 line → (ts ≡ None → tokens_of line ≡ None) → IfErr r (IsBadToken at ts) → IfErr r (IsFaultOfTokens line at)
 is_fault line at ts (Ok x) utf8 none h = tt
 is_fault line at ts (Err faults.Memory) utf8 none h = tt
 is_fault line at ts (Err (faults.Fault number found_at)) utf8 none h = (h.1, subst (IsLexFault line) (sym h.0) (BadToken utf8 (none h.2)))

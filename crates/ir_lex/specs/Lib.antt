@@ -2,4 +2,5 @@ pub mod Spelling
 pub mod Tokens
 pub mod Lexemes
 pub mod Faults
+pub mod Scanning
 pub mod Words

@@ -1,5 +1,5 @@
 -- The tokens of one line.
-use Rattle.std.specs.Prelude.{ℕ, zero, suc, ◌+◌, ◌-◌, ◌<◌, ◌≤◌, Bool, true, false, ◌==◌, List, [], ◌∷◌, take, drop, Option, Some, None, if◌then◌else◌, option_map}
+use Rattle.std.specs.Prelude.{ℕ, zero, suc, ◌+◌, ◌-◌, Bool, true, false, ◌==◌, List, [], ◌∷◌, take, drop, Option, Some, None, if◌then◌else◌, option_map}
 use Rattle.std.specs.List.{list_all, prefix_len}
 use Rattle.ir_lex.specs.declared.token.Kind.{Kind}
 use Rattle.ir_lex.specs.declared.token.Kind.TheVariants.{Word, Mark, Note}
@@ -21,21 +21,18 @@ lead (b ∷ bs) =
     else if is_mark b then Begins Mark 1
     else if is_note_mark (b ∷ bs) then Begins Note 2
     else if b == 59 then Comment
-    else lead_of_run (kind_of (take (prefix_len is_run_byte (b ∷ bs)) (b ∷ bs))) (prefix_len is_run_byte (b ∷ bs))
+    else
+    let len = prefix_len is_run_byte (b ∷ bs) in
+    lead_of_run (kind_of (take len (b ∷ bs))) len
 
 -- and in an annotation
 unfoldable pub lead_in_note : List ℕ → Front
 lead_in_note [] = Wrong
 lead_in_note (b ∷ bs) =
     if is_space b then Space
-    else lead_of_run (if list_all is_printed (take (prefix_len is_word_byte (b ∷ bs)) (b ∷ bs)) then Some Word else None) (prefix_len is_word_byte (b ∷ bs))
-
--- a token at the front takes a byte and no more than there are
-abbrev pub IsWithin : ℕ → Front → Type 0
-IsWithin len Space = Unit {0}
-IsWithin len Comment = Unit {0}
-IsWithin len (Begins kind n) = (0 < n) × (n ≤ len)
-IsWithin len Wrong = Unit {0}
+    else
+    let len = prefix_len is_word_byte (b ∷ bs) in
+    lead_of_run (if list_all is_printed (take len (b ∷ bs)) then Some Word else None) len
 
 abbrev pub front_at : Bool → List ℕ → Front
 front_at true rest = lead_in_note rest
@@ -59,5 +56,6 @@ tokens_from in_note zero i (b ∷ bs) = begun i (λ skip. tokens_from in_note sk
 abbrev pub tokens_of : List ℕ → Option (List Token)
 tokens_of line =
     let start = prefix_len is_space line in
-    if is_note_mark (drop start line) then option_map (λ ts. record { kind = Note; from = start; to = start + 2 } ∷ ts) (tokens_from true 0 (start + 2) (drop (start + 2) line))
+    if is_note_mark (drop start line) then
+    option_map (λ ts. record { kind = Note; from = start; to = start + 2 } ∷ ts) (tokens_from true 0 (start + 2) (drop (start + 2) line))
     else tokens_from false 0 start (drop start line)

@@ -1,11 +1,11 @@
-//! The tokens of one line of a module's text, and the faults of reading.
+//! The tokens of one line of a module's text.
 #![tactic(auto)]
 
-mod fault;
 mod scan;
 mod spelling;
 mod token;
 
-pub use fault::TextFault;
+pub use refusal::Refused as TextFault;
 pub use scan::lex;
+pub use spelling::{is_name, is_positive};
 pub use token::{Kind, Token};

@@ -1,19 +1,20 @@
 //! From bytes to tokens.
 
 ghost use Rattle.std.specs.Prelude.{◌≡◌, ◌<◌, ◌≤◌, length, drop, All, IfOk, IfErr, IsUtf8, Some};
-ghost use Rattle.ir_lex.specs.Tokens.{lead, lead_in_note, IsWithin, front_at, tokens_from, tokens_of};
+ghost use Rattle.ir_lex.specs.Tokens.{lead, lead_in_note, front_at, tokens_from, tokens_of};
 ghost use Rattle.ir_lex.specs.Lexemes.{IsTokenOf};
-ghost use Rattle.ir_lex.specs.Faults.{IsFaultOf, prepend, IsBadToken};
+ghost use Rattle.ir_lex.specs.Faults.{IsFaultOfTokens};
+ghost use Rattle.ir_lex.specs.Scanning.{IsWithin, prepend, IsBadToken};
 
-use crate::fault::TextFault;
 use crate::spelling::{
     is_mark, is_note_mark, is_printed, is_space, kind_of, run_len, spaces, word_len,
 };
 use crate::token::{Kind, Token};
+use refusal::Refused;
 use std::alloc::Global;
 
 /// What stands at the front of the rest of a line.
-#[derive(Clone, Copy, Debug)]
+#[derive(Clone, Copy)]
 enum Front {
     Space,
     /// Nothing more comes.
@@ -85,7 +86,7 @@ fn scan_from(
     in_note: bool,
     from: usize,
     mut tokens: Vec<Token>,
-) -> Result<Vec<Token>, TextFault>
+) -> Result<Vec<Token>, Refused>
     requires { from ≤ length line.now }
     ensures found { IfOk result (λ v. prepend tokens.items (tokens_from in_note 0 from (drop from line.now)) ≡ Some v.items) }
     ensures fault { IfErr result (IsBadToken number (tokens_from in_note 0 from (drop from line.now))) }
@@ -104,7 +105,7 @@ fn scan_from(
                 })?;
                 at += len;
             }
-            Front::Wrong => return Err(TextFault::Fault {
+            Front::Wrong => return Err(Refused::Fault {
                 number: 102,
                 line: number,
             }),
@@ -113,12 +114,12 @@ fn scan_from(
     Ok(tokens)
 }
 
-fn tokens_of(alloc: Global, line: &[u8], number: u32) -> Result<Vec<Token>, TextFault>
+fn tokens_of(alloc: Global, line: &[u8], number: u32) -> Result<Vec<Token>, Refused>
     ensures found { IfOk result (λ v. IsUtf8 line.now × (tokens_of line.now ≡ Some v.items)) }
-    ensures fault { IfErr result (IsFaultOf line.now number) }
+    ensures fault { IfErr result (IsFaultOfTokens line.now number) }
 {
     if let Err(_) = str::from_utf8(line) {
-        return Err(TextFault::Fault {
+        return Err(Refused::Fault {
             number: 101,
             line: number,
         });
@@ -138,10 +139,10 @@ fn tokens_of(alloc: Global, line: &[u8], number: u32) -> Result<Vec<Token>, Text
 }
 
 /// The tokens of a line without its line end: 101 or 102 where it has none.
-pub fn lex(alloc: Global, line: &[u8], number: u32) -> Result<Vec<Token>, TextFault>
+pub fn lex(alloc: Global, line: &[u8], number: u32) -> Result<Vec<Token>, Refused>
     ensures found { IfOk result (λ v. IsUtf8 line.now × (tokens_of line.now ≡ Some v.items)) }
     ensures each { IfOk result (λ v. All (IsTokenOf line.now) v.items) }
-    ensures fault { IfErr result (IsFaultOf line.now number) }
+    ensures fault { IfErr result (IsFaultOfTokens line.now number) }
 {
     tokens_of(alloc, line, number)
 }

@@ -40,7 +40,8 @@ fn are_digits(bytes: &[u8]) -> bool
     bytes.iter().all(|b| b.is_ascii_digit())
 }
 
-fn is_name(run: &[u8]) -> bool
+/// A letter, `_` or `.`, and then digits too.
+pub fn is_name(run: &[u8]) -> bool
     ensures { result ≡ is_name run.now }
 {
     match run {
@@ -49,7 +50,8 @@ fn is_name(run: &[u8]) -> bool
     }
 }
 
-fn is_positive(run: &[u8]) -> bool
+/// A digit from 1 on, and digits.
+pub fn is_positive(run: &[u8]) -> bool
     ensures { result ≡ is_positive run.now }
 {
     match run {

@@ -13,7 +13,7 @@ use Rattle.ir_item.proofs.Shown.{shown_utf8}
 use Rattle.ir_text.specs.declared.draft.Draft.{Draft}
 use Rattle.ir_text.specs.Draft.{placed}
 use Rattle.ir_text.specs.Counting.{is_within_limits}
-use Rattle.ir_text.specs.Items.{indentation, item_content, item_line}
+use Rattle.ir_text.specs.Items.{indentation, printed_content, printed_line}
 use Rattle.ir_text.specs.Lines.{content}
 use Rattle.ir_text.specs.Reading.{defines_again, judged_if_placed, with_item, Steps, Said, Reads, Done, Next}
 use Rattle.ir_text.proofs.Unlining.{unlined_draft, placed_unlined, within-unlined, again-on, again-unlined}
@@ -59,18 +59,18 @@ item_made d d0 e0 at i same passed =
     again-on d at i ∙ sym (again-unlined d i) ∙ ap (λ (x : Draft). defines_again x i) same ∙ sym (again-on d0 0 i) ∙ passed.once in
     judged_made d at i (placed d at (item_on at i)) e0 refl there passed.within once
 
-step_made : (d e : Draft) (at : ℕ) (i : Item) → IsKeptItem i → with_item d at (said (item_on at i)) ≡ Ok e → Steps d at (content (item_line i)) (Ok e)
+step_made : (d e : Draft) (at : ℕ) (i : Item) → IsKeptItem i → with_item d at (said (item_on at i)) ≡ Ok e → Steps d at (content (printed_line i)) (Ok e)
 step_made d e at i is h =
     let shown = content_shown i is in
-    subst (λ (line : List ℕ). Steps d at line (Ok e)) (sym (content_is (item_content i) shown)) (Said (Some (said (item_on at i))) (Ok e) (shown_utf8 (item_content i) shown) (kept_again at (indentation i) i is) h)
+    subst (λ (line : List ℕ). Steps d at line (Ok e)) (sym (content_is (printed_content i) shown)) (Said (Some (said (item_on at i))) (Ok e) (shown_utf8 (printed_content i) shown) (kept_again at (indentation i) i is) h)
 
 -- The lines of items that pass give what the items make, lines aside.
-pub reads_again : (d d0 e0 : Draft) (items : List Item) (at room : ℕ) → unlined_draft d ≡ d0 → Passes d0 items e0 → AreKept items → length (flat_map item_line items) ≤ room
-    → (e : Draft) × ((unlined_draft e ≡ e0) × Reads d at room (map item_line items) (Ok e))
+pub reads_again : (d d0 e0 : Draft) (items : List Item) (at room : ℕ) → unlined_draft d ≡ d0 → Passes d0 items e0 → AreKept items → length (flat_map printed_line items) ≤ room
+    → (e : Draft) × ((unlined_draft e ≡ e0) × Reads d at room (map printed_line items) (Ok e))
 reads_again d d0 e0 [] at room same passes kept fits = (d, (same ∙ passes, Done d at room))
 reads_again d d0 e0 (i ∷ items) at room same passes kept fits =
-    let line : List ℕ = item_line i in
-    let long = length-append line (flat_map item_line items) in
+    let line : List ℕ = printed_line i in
+    let long = length-append line (flat_map printed_line items) in
     let made = item_made d d0 passes.0 at i same passes.1.0 in
     let later = reads_again made.0 passes.0 e0 items (at + 1) (room - length line) made.1.0 passes.1.1 kept.1 (omega (arith, long)) in
-    (later.0, (later.1.0, Next d made.0 at room line (map item_line items) (Ok later.0) (omega (arith, long)) (step_made d made.0 at i kept.0 made.1.1) later.1.1))
+    (later.0, (later.1.0, Next d made.0 at room line (map printed_line items) (Ok later.0) (omega (arith, long)) (step_made d made.0 at i kept.0 made.1.1) later.1.1))

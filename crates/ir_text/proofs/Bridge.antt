@@ -1,4 +1,4 @@
--- The canonical text of a module is that of its items, line by line.
+-- The printer writes the lines of a module's items.
 use Rattle.std.proofs.Common.{◌≡◌, ℕ, ◌*◌, List, [], ◌∷◌, ◌++◌, map, Option, Some, None, refl, sym, ap, ◌∙◌, arith, append_assoc, append-nil}
 use Rattle.std.specs.Prelude.{codes}
 use Rattle.std.specs.List.{flat_map}
@@ -11,7 +11,7 @@ use Rattle.ir_lex.specs.Words.{words_text}
 use Rattle.ir_item.specs.declared.item.Item.{Item}
 use Rattle.ir_item.specs.declared.item.Item.TheVariants as item
 use Rattle.ir_item.specs.declared.symbol.Symbol.TheVariants as symbols
-use Rattle.ir_item.specs.Spelling.{Atom, Token, Blank, symbol_text, text_of, operand_symbol, address_symbol, width_word, result_word, predicate_word, operator_atoms, parameter_atoms, argument_atoms, entry_atoms, other_atoms, parted, cases_atoms, spelled_cases, instruction_atoms, phi_atoms, terminator_atoms}
+use Rattle.ir_item.specs.Spelling.{Atom, Token, Blank, symbol_text, text_of, operand_symbol, address_symbol, width_word, result_word, operator_atoms, parameter_atoms, argument_atoms, entry_atoms, other_atoms, parted, cases_atoms, spelled_cases, instruction_atoms, phi_atoms, terminator_atoms}
 use Rattle.ir_item.proofs.Texts.{text_appended, parted_text}
 use Rattle.syntax.specs.declared.annotation.Inequality.{Inequality}
 use Rattle.syntax.specs.declared.annotation.Zone.{Zone}
@@ -22,12 +22,8 @@ use Rattle.syntax.specs.declared.annotation.Left.{Left}
 use Rattle.syntax.specs.declared.annotation.FunctionNotes.{FunctionNotes}
 use Rattle.syntax.specs.declared.annotation.BlockNotes.{BlockNotes}
 use Rattle.syntax.specs.declared.operator.Width.{Width}
-use Rattle.syntax.specs.declared.operator.Width.TheVariants.{Bits64, Bits32}
 use Rattle.syntax.specs.declared.operator.BinaryOperator.{BinaryOperator}
-use Rattle.syntax.specs.declared.operator.BinaryOperator.TheVariants.{Add, Subtract, Multiply, AddNoWrap, SubtractNoWrap, MultiplyNoWrap, SignedDivide, UnsignedDivide, SignedRemainder, UnsignedRemainder, ShiftLeft, LogicalShiftRight, ArithmeticShiftRight, And, Or, ExclusiveOr}
 use Rattle.syntax.specs.declared.operator.Conversion.TheVariants.{Truncate, SignExtend, ZeroExtend}
-use Rattle.syntax.specs.declared.operator.Predicate.{Predicate}
-use Rattle.syntax.specs.declared.operator.Predicate.TheVariants.{Equal, NotEqual, UnsignedGreater, UnsignedAtLeast, UnsignedLess, UnsignedAtMost, SignedGreater, SignedAtLeast, SignedLess, SignedAtMost}
 use Rattle.syntax.specs.declared.instruction.AllocaSize.TheVariants.{One, Array}
 use Rattle.syntax.specs.declared.instruction.Operand.{Operand}
 use Rattle.syntax.specs.declared.instruction.Operand.TheVariants as operand
@@ -45,18 +41,17 @@ use Rattle.syntax.specs.declared.terminator.Terminator.{Terminator}
 use Rattle.syntax.specs.declared.terminator.Terminator.TheVariants as terminator
 use Rattle.syntax.specs.declared.terminator.Ending.{Ending}
 use Rattle.syntax.specs.declared.module.Global.{Global}
-use Rattle.syntax.specs.declared.module.ResultType.{ResultType}
-use Rattle.syntax.specs.declared.module.ResultType.TheVariants as result_type
 use Rattle.syntax.specs.declared.module.Parameter.{Parameter}
 use Rattle.syntax.specs.declared.module.Parameter.TheVariants as parameter
 use Rattle.syntax.specs.declared.module.Block.{Block}
 use Rattle.syntax.specs.declared.module.Function.{Function}
 use Rattle.syntax.specs.declared.module.Module.{Module}
-use Rattle.ir_text.specs.Spelling.{width_text, result_type_text, operator_text, predicate_text, register_text, label_text, operand_text, address_text, array_text, pointer_parameter_text, parameter_text, argument_text, behind_comma, parameters_text, arguments_text}
+use Rattle.ir_lex.specs.Spelling.{register_text}
+use Rattle.ir_text.specs.Spelling.{operator_text, label_text, operand_text, address_text, array_text, pointer_parameter_text, parameter_text, argument_text, behind_comma, parameters_text, arguments_text}
 use Rattle.ir_text.specs.InstructionText.{instruction_text, call_text, call_void_text, entry_text, entries_text, phi_text}
 use Rattle.ir_text.specs.TerminatorText.{case_text, switch_text, reattach_text, terminator_text}
-use Rattle.ir_text.specs.Printed.{inner_line, note_line, inequality_line, zone_line, measure_line, budget_line, pending_line, left_line, foot_line, phi_line, step_lines, ending_lines, block_notes_lines, label_line, block_lines, function_notes_lines, define_line, function_lines, global_line, module_text}
-use Rattle.ir_text.specs.Items.{note_items, function_note_items, block_note_items, step_items, ending_items, body_items, block_items, function_items, module_items, item_line}
+use Rattle.ir_text.specs.Printed.{inner_line, note_line, inequality_line, zone_line, measure_line, budget_line, pending_line, left_line, foot_line, phi_line, step_lines, ending_lines, block_notes_lines, label_line, block_lines, function_notes_lines, define_line, function_lines, global_line, module_lines}
+use Rattle.ir_text.specs.Items.{note_items, function_note_items, block_note_items, step_items, ending_items, body_items, block_items, function_items, module_items, printed_line, module_text}
 
 -- ---- grouping
 
@@ -87,26 +82,6 @@ array_within s a b c z p = simp append_assoc
 
 -- ---- words
 
-width_same : (w : Width) → width_word w ≡ width_text w
-width_same Bits64 = refl
-width_same Bits32 = refl
-
-result_same : (r : ResultType) → result_word r ≡ result_type_text r
-result_same result_type.Number = refl
-result_same result_type.Void = refl
-
-predicate_same : (p : Predicate) → predicate_word p ≡ predicate_text p
-predicate_same Equal = refl
-predicate_same NotEqual = refl
-predicate_same UnsignedGreater = refl
-predicate_same UnsignedAtLeast = refl
-predicate_same UnsignedLess = refl
-predicate_same UnsignedAtMost = refl
-predicate_same SignedGreater = refl
-predicate_same SignedAtLeast = refl
-predicate_same SignedLess = refl
-predicate_same SignedAtMost = refl
-
 operand_same : (v : Operand) → symbol_text (operand_symbol v) ≡ operand_text v
 operand_same (operand.Number n) = refl
 operand_same (operand.Register name) = refl
@@ -118,22 +93,7 @@ address_same (address.Global name) rest = refl
 -- ---- instructions
 
 operator_same : (o : BinaryOperator) (rest : List Atom) → text_of (operator_atoms o ++ Blank ∷ rest) ≡ operator_text o ++ (codes " " ++ text_of rest)
-operator_same Add rest = refl
-operator_same Subtract rest = refl
-operator_same Multiply rest = refl
-operator_same AddNoWrap rest = refl
-operator_same SubtractNoWrap rest = refl
-operator_same MultiplyNoWrap rest = refl
-operator_same SignedDivide rest = refl
-operator_same UnsignedDivide rest = refl
-operator_same SignedRemainder rest = refl
-operator_same UnsignedRemainder rest = refl
-operator_same ShiftLeft rest = refl
-operator_same LogicalShiftRight rest = refl
-operator_same ArithmeticShiftRight rest = refl
-operator_same And rest = refl
-operator_same Or rest = refl
-operator_same ExclusiveOr rest = refl
+operator_same o rest = text_appended (operator_atoms o) (Blank ∷ rest)
 
 argument_same : (x : Argument) → text_of (argument_atoms x) ≡ argument_text x
 argument_same (argument.Number (operand.Number n)) = simp append-nil
@@ -157,8 +117,8 @@ arguments_same (x ∷ xs) = text_appended (parted argument_atoms (x ∷ xs)) (To
 instruction_same : (i : Instruction) → text_of (instruction_atoms i) ≡ instruction_text i
 unfolding call_text call_void_text
 instruction_same (instruction.Binary d o w a b) =
-    ap (λ (t : List ℕ). 37 ∷ (d ++ (codes " = " ++ t))) (operator_same o _) ∙ simp (append_assoc, append-nil, operand_same, width_same)
-instruction_same (instruction.Compare d p w a b) = simp (append_assoc, append-nil, operand_same, width_same, predicate_same)
+    ap (λ (t : List ℕ). 37 ∷ (d ++ (codes " = " ++ t))) (operator_same o _) ∙ simp (append_assoc, append-nil, operand_same)
+instruction_same (instruction.Compare d p w a b) = simp (append_assoc, append-nil, operand_same)
 instruction_same (instruction.Convert d Truncate v) = simp (append_assoc, append-nil, operand_same)
 instruction_same (instruction.Convert d SignExtend v) = simp (append_assoc, append-nil, operand_same)
 instruction_same (instruction.Convert d ZeroExtend v) = simp (append_assoc, append-nil, operand_same)
@@ -198,7 +158,7 @@ entries_same [] = refl
 entries_same (e ∷ es) = list_same entry_atoms entry_text entry_same e es
 
 phi_same : (p : Phi) → text_of (phi_atoms p) ≡ phi_text p
-phi_same p = simp (append_assoc, append-nil, width_same, entries_same)
+phi_same p = simp (append_assoc, append-nil, entries_same)
 
 -- ---- terminators
 
@@ -207,16 +167,14 @@ cases_same w [] = refl
 cases_same w (c ∷ cs) =
     let later : List ℕ = flat_map (case_text w) cs in
     ap (λ (t : List ℕ). codes " " ++ (width_word w ++ (codes " " ++ (signed_decimal c.number ++ (codes ", label %" ++ (c.target ++ t)))))) (cases_same w cs)
-    ∙ ap (λ (t : List ℕ). codes " " ++ (t ++ (codes " " ++ (signed_decimal c.number ++ (codes ", label %" ++ (c.target ++ (later ++ codes " ]"))))))) (width_same w)
-    ∙ sym (right8 (codes " ") (width_text w) (codes " ") (signed_decimal c.number) (codes ", ") (label_text c.target) later (codes " ]"))
+    ∙ sym (right8 (codes " ") (width_word w) (codes " ") (signed_decimal c.number) (codes ", ") (label_text c.target) later (codes " ]"))
 
 switch_same : (w : Width) (v : Operand) (d : List ℕ) (cs : List Case) → text_of (terminator_atoms (terminator.Switch w v d cs)) ≡ switch_text w v d cs
 switch_same w v d cs =
     let listed : List Atom = cases_atoms (spelled_cases w cs) in
     ap (λ (t : List ℕ). codes "switch " ++ (width_word w ++ (codes " " ++ (symbol_text (operand_symbol v) ++ (codes ", label %" ++ (d ++ (codes " [" ++ t))))))) (ap (λ (x : List Atom). 32 ∷ text_of x) (append-nil listed) ∙ cases_same w cs)
-    ∙ ap (λ (t : List ℕ). codes "switch " ++ (t ++ (codes " " ++ (symbol_text (operand_symbol v) ++ (codes ", label %" ++ (d ++ (codes " [" ++ (flat_map (case_text w) cs ++ codes " ]")))))))) (width_same w)
-    ∙ ap (λ (t : List ℕ). codes "switch " ++ (width_text w ++ (codes " " ++ (t ++ (codes ", label %" ++ (d ++ (codes " [" ++ (flat_map (case_text w) cs ++ codes " ]")))))))) (operand_same v)
-    ∙ sym (right9 (codes "switch ") (width_text w) (codes " ") (operand_text v) (codes ", ") (label_text d) (codes " [") (flat_map (case_text w) cs) (codes " ]"))
+    ∙ ap (λ (t : List ℕ). codes "switch " ++ (width_word w ++ (codes " " ++ (t ++ (codes ", label %" ++ (d ++ (codes " [" ++ (flat_map (case_text w) cs ++ codes " ]")))))))) (operand_same v)
+    ∙ sym (right9 (codes "switch ") (width_word w) (codes " ") (operand_text v) (codes ", ") (label_text d) (codes " [") (flat_map (case_text w) cs) (codes " ]"))
 
 terminator_same : (t : Terminator) → text_of (terminator_atoms t) ≡ terminator_text t
 unfolding reattach_text
@@ -258,48 +216,48 @@ zone_words_same : (z : Zone) → words_text (mode_text z.mode ∷ object_text z.
 unfolding zone_text
 zone_words_same z = four_words (mode_text z.mode) (object_text z.object) (form_text z.low) (form_text z.high)
 
-requires_line : (i : Inequality) → item_line (item.Annotation (annotation.Requires i)) ≡ inequality_line (codes "requires") i
+requires_line : (i : Inequality) → printed_line (item.Annotation (annotation.Requires i)) ≡ inequality_line (codes "requires") i
 requires_line i = noted (annotation_words (annotation.Requires i)) (inequality_text (codes "requires") i) (inequality_words_same (codes "requires") i)
 
-ensures_line : (i : Inequality) → item_line (item.Annotation (annotation.Ensures i)) ≡ inequality_line (codes "ensures") i
+ensures_line : (i : Inequality) → printed_line (item.Annotation (annotation.Ensures i)) ≡ inequality_line (codes "ensures") i
 ensures_line i = noted (annotation_words (annotation.Ensures i)) (inequality_text (codes "ensures") i) (inequality_words_same (codes "ensures") i)
 
-keeps_line : (i : Inequality) → item_line (item.Annotation (annotation.Keeps i)) ≡ inequality_line (codes "keeps") i
+keeps_line : (i : Inequality) → printed_line (item.Annotation (annotation.Keeps i)) ≡ inequality_line (codes "keeps") i
 keeps_line i = noted (annotation_words (annotation.Keeps i)) (inequality_text (codes "keeps") i) (inequality_words_same (codes "keeps") i)
 
-shows_line : (i : Inequality) → item_line (item.Annotation (annotation.Shows i)) ≡ inequality_line (codes "shows") i
+shows_line : (i : Inequality) → printed_line (item.Annotation (annotation.Shows i)) ≡ inequality_line (codes "shows") i
 shows_line i = noted (annotation_words (annotation.Shows i)) (inequality_text (codes "shows") i) (inequality_words_same (codes "shows") i)
 
-zone_line_same : (z : Zone) → item_line (item.Annotation (annotation.FunctionZone z)) ≡ zone_line z
+zone_line_same : (z : Zone) → printed_line (item.Annotation (annotation.FunctionZone z)) ≡ zone_line z
 zone_line_same z = noted (annotation_words (annotation.FunctionZone z)) (zone_text z) (zone_words_same z)
 
-measure_line_same : (m : Measure) → item_line (item.Annotation (annotation.Measure m)) ≡ measure_line m
+measure_line_same : (m : Measure) → printed_line (item.Annotation (annotation.Measure m)) ≡ measure_line m
 unfolding measure_text
 measure_line_same m =
     noted (annotation_words (annotation.Measure m)) (measure_text m)
     (ap (λ (t : List ℕ). codes " measure " ++ (form_text m.form ++ (codes " max " ++ t))) (append-nil (decimal m.bound)) ∙ ap (λ (t : List ℕ). 32 ∷ t) (sym (right4 (codes "measure ") (form_text m.form) (codes " max ") (decimal m.bound))))
 
-budget_line_same : (b : Budget) → item_line (item.Annotation (annotation.Budget b)) ≡ budget_line b
+budget_line_same : (b : Budget) → printed_line (item.Annotation (annotation.Budget b)) ≡ budget_line b
 unfolding budget_text
 budget_line_same b =
     noted (annotation_words (annotation.Budget b)) (budget_text b)
     (ap (λ (t : List ℕ). codes " budget " ++ (decimal b.self_calls ++ (codes " " ++ t))) (append-nil (decimal b.instructions))
     ∙ ap (λ (t : List ℕ). 32 ∷ t) (sym (right4 (codes "budget ") (decimal b.self_calls) (codes " ") (decimal b.instructions))))
 
-pending_line_same : (p : Pending) → item_line (item.Annotation (annotation.Pending p)) ≡ pending_line p
+pending_line_same : (p : Pending) → printed_line (item.Annotation (annotation.Pending p)) ≡ pending_line p
 unfolding pending_text
 pending_line_same p =
     noted (annotation_words (annotation.Pending p)) (pending_text p)
     (ap (λ (t : List ℕ). codes " pending %" ++ (p.region ++ t)) (zone_words_same p.zone) ∙ ap (λ (t : List ℕ). 32 ∷ t) (sym (right4 (codes "pending %") p.region (codes " ") (zone_text p.zone))))
 
-left_line_same : (l : Left) → item_line (item.Annotation (annotation.Left l)) ≡ left_line l
+left_line_same : (l : Left) → printed_line (item.Annotation (annotation.Left l)) ≡ left_line l
 unfolding left_text
 left_line_same l =
     noted (annotation_words (annotation.Left l)) (left_text l)
     (ap (λ (t : List ℕ). codes " left " ++ (form_text l.self_calls ++ (codes " " ++ t))) (append-nil (form_text l.instructions))
     ∙ ap (λ (t : List ℕ). 32 ∷ t) (sym (right4 (codes "left ") (form_text l.self_calls) (codes " ") (form_text l.instructions))))
 
-foot_line_same : (z : Zone) → item_line (item.Annotation (annotation.Foot z)) ≡ foot_line z
+foot_line_same : (z : Zone) → printed_line (item.Annotation (annotation.Foot z)) ≡ foot_line z
 unfolding foot_text
 foot_line_same z = noted (annotation_words (annotation.Foot z)) (foot_text z) (ap (λ (t : List ℕ). codes " foot" ++ t) (zone_words_same z))
 
@@ -308,16 +266,16 @@ foot_line_same z = noted (annotation_words (annotation.Foot z)) (foot_text z) (a
 inner_same : (atoms text : List ℕ) → atoms ≡ text → (codes "  " ++ atoms) ++ 10 ∷ [] ≡ inner_line text
 inner_same atoms text h = ap (λ (t : List ℕ). codes "  " ++ (t ++ 10 ∷ [])) h
 
-phi_line_same : (p : Phi) → item_line (item.Phi p) ≡ phi_line p
+phi_line_same : (p : Phi) → printed_line (item.Phi p) ≡ phi_line p
 phi_line_same p = inner_same (text_of (phi_atoms p)) (phi_text p) (phi_same p)
 
-label_line_same : (label : List ℕ) → item_line (item.Label label) ≡ label_line label
+label_line_same : (label : List ℕ) → printed_line (item.Label label) ≡ label_line label
 label_line_same label = append_assoc label (codes ":") (10 ∷ [])
 
 line_ended : (a b c d e t n : List ℕ) → (a ++ (b ++ (c ++ (d ++ (e ++ t))))) ++ n ≡ a ++ (b ++ (c ++ (d ++ (e ++ (t ++ n)))))
 line_ended a b c d e t n = simp append_assoc
 
-define_line_same : (f : Function) → item_line (item.Define f.name f.result_type f.parameters) ≡ define_line f
+define_line_same : (f : Function) → printed_line (item.Define f.name f.result_type f.parameters) ≡ define_line f
 unfolding define_line
 define_line_same f =
     let closed : List Atom = parted parameter_atoms f.parameters ++ Token (symbols.Mark 41) ∷ [] in
@@ -328,8 +286,7 @@ define_line_same f =
     ap (λ (t : List ℕ). t ++ 10 ∷ []) (text_appended closed brace ∙ ap (λ (t : List ℕ). t ++ codes " {") (parameters_same f.parameters)) ∙ right4 params (codes ")") (codes " {") (10 ∷ []) in
     line_ended (codes "define ") (result_word f.result_type) (codes " @") f.name (codes "(") list (10 ∷ [])
     ∙ ap (λ (t : List ℕ). codes "define " ++ (result_word f.result_type ++ (codes " @" ++ (f.name ++ (codes "(" ++ t))))) ended
-    ∙ ap (λ (t : List ℕ). codes "define " ++ (t ++ (codes " @" ++ (f.name ++ (codes "(" ++ (params ++ codes ") {\n")))))) (result_same f.result_type)
-    ∙ sym (right7 (codes "define ") (result_type_text f.result_type) (codes " @") f.name (codes "(") params (codes ") {\n"))
+    ∙ sym (right7 (codes "define ") (result_word f.result_type) (codes " @") f.name (codes "(") params (codes ") {\n"))
 
 global_ended : (n a d z e : List ℕ) → (n ++ (a ++ (d ++ z))) ++ e ≡ n ++ (a ++ (d ++ (z ++ e)))
 global_ended n a d z e = simp append_assoc
@@ -337,7 +294,7 @@ global_ended n a d z e = simp append_assoc
 global_grouped : (a n g b d x z : List ℕ) → a ++ n ++ g ++ (b ++ d ++ x) ++ z ≡ a ++ (n ++ (g ++ (b ++ (d ++ (x ++ z)))))
 global_grouped a n g b d x z = simp append_assoc
 
-global_line_same : (g : Global) → item_line (item.Global g) ≡ global_line g
+global_line_same : (g : Global) → printed_line (item.Global g) ≡ global_line g
 global_line_same g =
     ap (λ (t : List ℕ). 64 ∷ t) (global_ended g.name (codes " = global [") (decimal g.cells) (codes " x i64] zeroinitializer") (10 ∷ []))
     ∙ sym (global_grouped (codes "@") g.name (codes " = global ") (codes "[") (decimal g.cells) (codes " x i64]") (codes " zeroinitializer\n"))
@@ -345,12 +302,12 @@ global_line_same g =
 -- ---- all lines
 
 abbrev lines : List Item → List ℕ
-lines items = flat_map item_line items
+lines items = flat_map printed_line items
 
 onto : (xs ys : List Item) (t u : List ℕ) → lines xs ≡ t → lines ys ≡ u → lines (xs ++ ys) ≡ t ++ u
-onto xs ys t u h k = flat_map-append item_line xs ys ∙ ap (λ (a : List ℕ). a ++ lines ys) h ∙ ap (λ (a : List ℕ). t ++ a) k
+onto xs ys t u h k = flat_map-append printed_line xs ys ∙ ap (λ (a : List ℕ). a ++ lines ys) h ∙ ap (λ (a : List ℕ). t ++ a) k
 
-kind_lines : {A : Type 0} (kind : A → Item) (line : A → List ℕ) → ((x : A) → item_line (kind x) ≡ line x) → (xs : List A) → lines (map kind xs) ≡ flat_map line xs
+kind_lines : {A : Type 0} (kind : A → Item) (line : A → List ℕ) → ((x : A) → printed_line (kind x) ≡ line x) → (xs : List A) → lines (map kind xs) ≡ flat_map line xs
 kind_lines kind line same [] = refl
 kind_lines kind line same (x ∷ xs) = ap (λ (t : List ℕ). t ++ lines (map kind xs)) (same x) ∙ ap (λ (t : List ℕ). line x ++ t) (kind_lines kind line same xs)
 
@@ -358,8 +315,8 @@ part_lines : {A : Type 0} (items : A → List Item) (line : A → List ℕ) → 
 part_lines items line same [] = refl
 part_lines items line same (x ∷ xs) = onto (items x) (flat_map items xs) (line x) (flat_map line xs) (same x) (part_lines items line same xs)
 
-one_line : (i : Item) (text : List ℕ) → item_line i ≡ text → lines (i ∷ []) ≡ text
-one_line i text h = append-nil (item_line i) ∙ h
+one_line : (i : Item) (text : List ℕ) → printed_line i ≡ text → lines (i ∷ []) ≡ text
+one_line i text h = append-nil (printed_line i) ∙ h
 
 function_notes_same : (n : FunctionNotes) → lines (function_note_items n) ≡ function_notes_lines n
 unfolding function_note_items function_notes_lines
@@ -399,7 +356,7 @@ block_notes_same n =
     (kind_lines (λ (i : Inequality). item.Annotation (annotation.Keeps i)) (inequality_line (codes "keeps")) keeps_line n.keeps) pends
     ∙ sym (right4 keeps pending (left_line n.left) foot)
 
-shown_same : (shows : List Inequality) (i : Item) (text : List ℕ) → item_line i ≡ text → lines (note_items annotation.Shows shows ++ i ∷ []) ≡ flat_map (inequality_line (codes "shows")) shows ++ text
+shown_same : (shows : List Inequality) (i : Item) (text : List ℕ) → printed_line i ≡ text → lines (note_items annotation.Shows shows ++ i ∷ []) ≡ flat_map (inequality_line (codes "shows")) shows ++ text
 shown_same shows i text h =
     onto (note_items annotation.Shows shows) (i ∷ []) (flat_map (inequality_line (codes "shows")) shows) text (kind_lines (λ (x : Inequality). item.Annotation (annotation.Shows x)) (inequality_line (codes "shows")) shows_line shows) (one_line i text h)
 
@@ -432,9 +389,9 @@ function_same f =
     ap (λ (t : List ℕ). t ++ lines (function_note_items f.notes ++ (flat_map block_items f.blocks ++ item.Close ∷ []))) (define_line_same f) ∙ ap (λ (t : List ℕ). define_line f ++ t) rest
     ∙ sym (right4 (define_line f) (function_notes_lines f.notes) blocks (codes "}\n"))
 
--- The canonical text of a module is the lines of its items.
-pub module_same : (m : Module) → flat_map item_line (module_items m) ≡ module_text m
-unfolding module_items module_text
+-- The canonical text of a module is what the printer writes, part by part.
+pub module_same : (m : Module) → module_text m ≡ module_lines m
+unfolding module_items module_lines
 module_same m =
     onto (map item.Global m.globals) (flat_map function_items m.functions) (flat_map global_line m.globals) (flat_map function_lines m.functions) (kind_lines item.Global global_line global_line_same m.globals)
     (part_lines function_items function_lines function_same m.functions)

@@ -28,7 +28,7 @@ use Rattle.ir_text.specs.Counting.{IsSmall, counts_in, counts_of, are_counts_wit
 use Rattle.ir_text.specs.Tracking.{IsStepless}
 use Rattle.ir_text.specs.Lines.{lines_of}
 use Rattle.ir_text.specs.Reading.{start, defines_again, judged_if_placed, with_item, with_said, Steps, Said, Reads, Done, Next, Stop, Overlong, ended, Answers, Read}
-use Rattle.ir_text.specs.Kept.{IsFunctionWritten, IsFunctionWithin, IsKeptFunction, IsKept}
+use Rattle.ir_text.specs.Kept.{IsFunctionWritten, IsFunctionWithin, IsKeptFunction, IsKeptModule}
 use Rattle.ir_text.proofs.Follows.{Follows, placed_follows}
 use Rattle.ir_item.specs.Lines.{line_of}
 use Rattle.ir_item.specs.Printed.{IsKeptItem}
@@ -217,10 +217,10 @@ all_kept fs counted written within = λ k d h. whole_function (get_or fs k d) (c
 abbrev whole : Module → Result Module (ℕ × ℕ)
 whole m = Ok m
 
-ended_kept : (m n : Module) (p : Place) (count : ℕ) → IsKeptDraft (record { whole = m; place = p }) → ended m p count ≡ whole n → IsKept n
+ended_kept : (m n : Module) (p : Place) (count : ℕ) → IsKeptDraft (record { whole = m; place = p }) → ended m p count ≡ whole n → IsKeptModule n
 ended_kept m n place.Outside count kept h =
     let same : m ≡ n = cc in
-    subst IsKept same (record {
+    subst IsKeptModule same (record {
       distinct = ap (λ (ns : List (List ℕ)). is_repeated [] (reserved_outside ∷ ns)) (sym (append-nil (module_names m))) ∙ kept.outside;
       names = module_short m kept.written.whole.globals kept.written.whole.functions;
       functions = all_kept m.functions kept.functions kept.written.whole.functions kept.within.whole.functions;
@@ -234,5 +234,5 @@ ended_kept m n (place.Phis f b) count kept h = absurd cc
 ended_kept m n (place.Body f b shows) count kept h = absurd cc
 ended_kept m n (place.Ended f b) count kept h = absurd cc
 
-pub answers_kept : (text : List ℕ) (m : Module) → Answers text (Ok m) → IsKept m
+pub answers_kept : (text : List ℕ) (m : Module) → Answers text (Ok m) → IsKeptModule m
 answers_kept text m (Read d _ all h) = ended_kept d.whole m d.place (length (lines_of text)) (reads_kept start 1 1048576 (lines_of text) (Ok d) all start_kept) h

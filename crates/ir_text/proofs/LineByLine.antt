@@ -1,37 +1,32 @@
 -- Reading a text line by line.
 use Rattle.std.proofs.Common.{◌≡◌, ℕ, ◌+◌, ◌-◌, ◌<◌, ◌≤◌, List, [], ◌∷◌, length, refl, sym, subst, arith}
 use Rattle.std.specs.Prelude.{Result, Ok, Err, Some, IfErr, IsUtf8}
-use Rattle.ir_lex.specs.declared.fault.TextFault.{TextFault}
-use Rattle.ir_lex.specs.declared.fault.TextFault.TheVariants as faults
+use Rattle.refusal.specs.declared.refused.Refused.{Refused}
+use Rattle.refusal.specs.declared.refused.Refused.TheVariants as faults
 use Rattle.ir_item.specs.declared.line.Line.{Line}
-use Rattle.ir_item.specs.Lines.{line_of, IsFaultOf}
+use Rattle.ir_item.specs.Lines.{line_of, IsFaultOfLine}
 use Rattle.syntax.specs.declared.module.Module.{Module}
-use Rattle.ir_text.specs.declared.fault.ItemFault.{ItemFault}
-use Rattle.ir_text.specs.declared.fault.ItemFault.TheVariants as item_faults
 use Rattle.ir_text.specs.declared.draft.Draft.{Draft}
 use Rattle.ir_text.specs.declared.draft.Place.{Place}
 use Rattle.ir_text.specs.declared.draft.Place.TheVariants as place
 use Rattle.ir_text.specs.Lines.{lines_of, content}
 use Rattle.ir_text.specs.Faults.{IsOnLineOf}
-use Rattle.ir_text.specs.Reading.{start, with_item, Steps, Said, Faulty, Unsaid, Too-late, Reads, Done, Next, Stop, Overlong, ended, Answers, Read, Unread, IsFaultOfText, FailsItem, FailsAt, at_line, FaultSteps, or_too_late, FaultOverlong, FaultTooLate, FaultEnded}
+use Rattle.ir_text.specs.Reading.{start, with_item, Steps, Said, Faulty, Unsaid, Too-late, Reads, Done, Next, Stop, Overlong, ended, Answers, Read, Unread, IsFaultOfText}
+use Rattle.ir_text.specs.Tracking.{FailsAt, FaultSteps, or_too_late, FaultOverlong, FaultTooLate, FaultEnded}
 
-pub at_its_line : (e : ItemFault) (at : ℕ) (out : Result Draft ℕ) → FailsItem e out → FailsAt at out (at_line e at)
-at_its_line item_faults.Memory at out h = tt
-at_its_line (item_faults.Fault number) at out h = (refl, h)
-
-pub said_fault : (e : TextFault) (d : Draft) (at : ℕ) (line : List ℕ) → IsFaultOf at line e → FaultSteps d at line e
+pub said_fault : (e : Refused) (d : Draft) (at : ℕ) (line : List ℕ) → IsFaultOfLine at line e → FaultSteps d at line e
 said_fault faults.Memory d at line h = tt
 said_fault (faults.Fault number found_at) d at line h = (h.0, Faulty number h.1)
 
-pub item_fault : (e : TextFault) (d : Draft) (at : ℕ) (line : List ℕ) (l : Line) → IsUtf8 line → line_of at line ≡ Ok (Some l) → FailsAt at (with_item d at l) e → FaultSteps d at line e
+pub item_fault : (e : Refused) (d : Draft) (at : ℕ) (line : List ℕ) (l : Line) → IsUtf8 line → line_of at line ≡ Ok (Some l) → FailsAt at (with_item d at l) e → FaultSteps d at line e
 item_fault faults.Memory d at line l utf8 said h = tt
 item_fault (faults.Fault number found_at) d at line l utf8 said h = (h.0, Said (Some l) (Err number) utf8 said h.1)
 
-pub overlong_line : (e : TextFault) (d : Draft) (at : ℕ) (line : List ℕ) → IsFaultOf at line e → FaultOverlong d at line (or_too_late e)
+pub overlong_line : (e : Refused) (d : Draft) (at : ℕ) (line : List ℕ) → IsFaultOfLine at line e → FaultOverlong d at line (or_too_late e)
 overlong_line faults.Memory d at line h = tt
 overlong_line (faults.Fault number found_at) d at line h = (h.0, Unsaid number h.1)
 
-pub overlong_item : (e : TextFault) (d : Draft) (at : ℕ) (line : List ℕ) (l : Line) → IsUtf8 line → line_of at line ≡ Ok (Some l) → FaultTooLate d at l e → FaultOverlong d at line e
+pub overlong_item : (e : Refused) (d : Draft) (at : ℕ) (line : List ℕ) (l : Line) → IsUtf8 line → line_of at line ≡ Ok (Some l) → FaultTooLate d at l e → FaultOverlong d at line e
 overlong_item faults.Memory d at line l utf8 said h = tt
 overlong_item (faults.Fault number found_at) d at line l utf8 said h = (h.0, Too-late (Some l) number utf8 said h.1)
 
@@ -39,12 +34,12 @@ overlong_item (faults.Fault number found_at) d at line l utf8 said h = (h.0, Too
 abbrev pub Goes-on : List ℕ → Draft → ℕ → ℕ → List (List ℕ) → Type 0
 Goes-on text d at room lines = (out : Result Draft (ℕ × ℕ)) → Reads d at room lines out → Reads start 1 1048576 (lines_of text) out
 
-pub stopped : (e : TextFault) (text : List ℕ) (d : Draft) (at room : ℕ) (line : List ℕ) (lines : List (List ℕ)) → Goes-on text d at room (line ∷ lines) → length line ≤ room → FaultSteps d at (content line) e → IsFaultOfText text e
+pub stopped : (e : Refused) (text : List ℕ) (d : Draft) (at room : ℕ) (line : List ℕ) (lines : List (List ℕ)) → Goes-on text d at room (line ∷ lines) → length line ≤ room → FaultSteps d at (content line) e → IsFaultOfText text e
 stopped faults.Memory text d at room line lines so_far fits h = tt
 stopped (faults.Fault number found_at) text d at room line lines so_far fits h =
     subst (λ (k : ℕ). Answers text (Err (number, k))) (sym h.0) (Unread number at (so_far (Err (number, at)) (Stop d at room line lines number fits h.1)))
 
-pub too_long : (e : TextFault) (text : List ℕ) (d : Draft) (at room : ℕ) (line : List ℕ) (lines : List (List ℕ)) → Goes-on text d at room (line ∷ lines) → room < length line → FaultOverlong d at (content line) e → IsFaultOfText text e
+pub too_long : (e : Refused) (text : List ℕ) (d : Draft) (at room : ℕ) (line : List ℕ) (lines : List (List ℕ)) → Goes-on text d at room (line ∷ lines) → room < length line → FaultOverlong d at (content line) e → IsFaultOfText text e
 too_long faults.Memory text d at room line lines so_far past h = tt
 too_long (faults.Fault number found_at) text d at room line lines so_far past h =
     subst (λ (k : ℕ). Answers text (Err (number, k))) (sym h.0) (Unread number at (so_far (Err (number, at)) (Overlong d at room line lines number past h.1)))
@@ -53,7 +48,7 @@ pub goes_on : (text : List ℕ) (d e : Draft) (at room next : ℕ) (line : List 
     → Goes-on text e (at + 1) next lines
 goes_on text d e at room next line lines so_far fits left step = λ out later. so_far out (Next d e at room line lines out fits step (subst (λ (k : ℕ). Reads e (at + 1) k lines out) left later))
 
-pub unfinished : (e : TextFault) (text : List ℕ) (d : Draft) → Reads start 1 1048576 (lines_of text) (Ok d) → FaultEnded (ended d.whole d.place (length (lines_of text))) e → IsFaultOfText text e
+pub unfinished : (e : Refused) (text : List ℕ) (d : Draft) → Reads start 1 1048576 (lines_of text) (Ok d) → FaultEnded (ended d.whole d.place (length (lines_of text))) e → IsFaultOfText text e
 unfinished faults.Memory text d all h = tt
 unfinished (faults.Fault number line) text d all h = Read d (Err (number, line)) all h
 
@@ -102,10 +97,10 @@ answer_on : (text : List ℕ) (out : Result Module (ℕ × ℕ)) → Answers tex
 answer_on text _ (Read d out all h) = subst (IsOnLine (length (lines_of text))) h (ended_within (lines_of text) d all)
 answer_on text _ (Unread number at all) = let h = within start 1 1048576 (lines_of text) (Err (number, at)) all in (h.0, omega arith)
 
-pub on_a_line : (text : List ℕ) (e : TextFault) → IsFaultOfText text e → IsOnLineOf (length (lines_of text)) e
+pub on_a_line : (text : List ℕ) (e : Refused) → IsFaultOfText text e → IsOnLineOf (length (lines_of text)) e
 on_a_line text faults.Memory h = tt
 on_a_line text (faults.Fault number line) h = answer_on text (Err (number, line)) h
 
-pub if_on_a_line : (text : List ℕ) (r : Result Module TextFault) → IfErr r (IsFaultOfText text) → IfErr r (IsOnLineOf (length (lines_of text)))
+pub if_on_a_line : (text : List ℕ) (r : Result Module Refused) → IfErr r (IsFaultOfText text) → IfErr r (IsOnLineOf (length (lines_of text)))
 if_on_a_line text (Ok m) h = tt
 if_on_a_line text (Err e) h = on_a_line text e h

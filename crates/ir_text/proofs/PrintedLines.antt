@@ -7,7 +7,7 @@ use Rattle.std.proofs.lemmas.List.{take_at}
 use Rattle.ir_item.specs.declared.item.Item.{Item}
 use Rattle.ir_item.specs.Printed.{IsKeptItem, item_text}
 use Rattle.ir_item.proofs.Shown.{is_shown, item_shown, spaces_shown}
-use Rattle.ir_text.specs.Items.{indentation, item_content, item_line}
+use Rattle.ir_text.specs.Items.{indentation, printed_content, printed_line}
 use Rattle.ir_text.specs.Lines.{is_inner, onto_first, lines_of, content}
 use Rattle.ir_text.proofs.Tracked.{both}
 
@@ -34,14 +34,14 @@ inner_len (b ∷ c) h =
 pub content_is : (c : List ℕ) → list_all is_shown c ≡ true → content (c ++ 10 ∷ []) ≡ c
 content_is c h = ap (λ (n : ℕ). take n (c ++ 10 ∷ [])) (inner_len c h) ∙ take_at c (10 ∷ []) (length c) refl
 
-pub content_shown : (i : Item) → IsKeptItem i → list_all is_shown (item_content i) ≡ true
+pub content_shown : (i : Item) → IsKeptItem i → list_all is_shown (printed_content i) ≡ true
 content_shown i is = spaces_shown (indentation i) (item_text i) (item_shown i is)
 
 abbrev pub AreKept : List Item → Type 0
 AreKept [] = Unit {0}
 AreKept (i ∷ items) = IsKeptItem i × AreKept items
 
-pub printed_lines : (items : List Item) → AreKept items → lines_of (flat_map item_line items) ≡ map item_line items
+pub printed_lines : (items : List Item) → AreKept items → lines_of (flat_map printed_line items) ≡ map printed_line items
 printed_lines [] is = refl
 printed_lines (i ∷ items) is =
-    line_first (item_content i) (flat_map item_line items) (content_shown i is.0) ∙ ap (λ (lines : List (List ℕ)). item_line i ∷ lines) (printed_lines items is.1)
+    line_first (printed_content i) (flat_map printed_line items) (content_shown i is.0) ∙ ap (λ (lines : List (List ℕ)). printed_line i ∷ lines) (printed_lines items is.1)

@@ -27,15 +27,13 @@ use Rattle.ir_text.specs.Draft.{drafted}
 use Rattle.ir_text.specs.Names.{is_repeated}
 use Rattle.ir_text.specs.Defined.{reserved_outside, reserved_inside, module_names}
 use Rattle.ir_text.specs.Counting.{IsSmall, counts_of}
-use Rattle.ir_text.specs.Items.{note_items, function_note_items, block_note_items, step_items, ending_items, body_items, block_items, function_items, module_items, item_line}
-use Rattle.ir_text.specs.Kept.{IsZoneOf, AreFunctionNotesWritten, AreBlockNotesWritten, IsPhiWritten, IsStepWritten, IsEndingWrittenIfAny, IsBlockWritten, IsFunctionWritten, IsGlobalWritten, AreStepShowsFew, AreEndingShowsFew, IsBlockWithin, IsFunctionWithin, IsKeptFunction, IsKept}
+use Rattle.ir_text.specs.Items.{note_items, function_note_items, block_note_items, step_items, ending_items, body_items, block_items, function_items, module_items, printed_line, module_text}
+use Rattle.ir_text.specs.Kept.{IsZoneOf, AreFunctionNotesWritten, AreBlockNotesWritten, IsPhiWritten, IsStepWritten, IsEndingWrittenIfAny, IsBlockWritten, IsFunctionWritten, IsGlobalWritten, AreStepShowsFew, AreEndingShowsFew, IsBlockWithin, IsFunctionWithin, IsKeptFunction, IsKeptModule}
 use Rattle.ir_text.specs.Lines.{lines_of}
-use Rattle.ir_text.specs.Printed.{module_text}
 use Rattle.ir_text.specs.Reading.{start, Reads, ended, Answers, Read}
 use Rattle.ir_text.specs.RoundTrip.{IsAgain, IsReadBackAs}
 use Rattle.ir_text.specs.Unlined.{unlined_step, unlined_block, unlined_function, unlined}
 use Rattle.ir_text.proofs.Again.{reads_again}
-use Rattle.ir_text.proofs.Bridge.{module_same}
 use Rattle.ir_text.proofs.Fills.{IsWhole, module_fills}
 use Rattle.ir_text.proofs.Limiting.{IsOpenFunction}
 use Rattle.ir_text.proofs.OneAnswer.{one_answer}
@@ -107,7 +105,7 @@ function_kept f is =
           (both_kept blocks (item.Close ∷ []) (part_kept IsBlockWritten block_items block_kept f.blocks is.blocks) (close_kept, tt)),
     )
 
-module_kept : (m : Module) → IsKept m → AreKept (module_items m)
+module_kept : (m : Module) → IsKeptModule m → AreKept (module_items m)
 unfolding module_items
 module_kept m is =
     both_kept (map item.Global m.globals) (flat_map function_items m.functions) (kind_kept IsGlobalWritten item.Global (λ g of. of) m.globals is.globals)
@@ -151,7 +149,7 @@ function_opened f is = record {
   alloca_cells = subst (λ (n : ℕ). n ≤ 4096) (sym (function_cells-unlined f)) is.alloca_cells;
 }
 
-module_good : (m : Module) → IsKept m → IsGoodDraft (drafted (unlined m) place.Outside)
+module_good : (m : Module) → IsKeptModule m → IsGoodDraft (drafted (unlined m) place.Outside)
 module_good m is =
     let counted : All IsOpenFunction (map unlined_function m.functions) = map_all IsKeptFunction IsOpenFunction unlined_function function_opened m.functions is.functions in
     let within : All IsFunctionWithin (map unlined_function m.functions) = map_all IsKeptFunction IsFunctionWithin unlined_function (λ f of. function_within f of.within) m.functions is.functions in
@@ -174,25 +172,23 @@ outside_only (place.Phis f b) h = absurd cc
 outside_only (place.Body f b shows) h = absurd cc
 outside_only (place.Ended f b) h = absurd cc
 
-pub round_trip : (m : Module) → IsKept m → length (module_text m) ≤ 1048576 → (w : Module) × (Answers (module_text m) (Ok w) × (unlined w ≡ unlined m))
+pub round_trip : (m : Module) → IsKeptModule m → length (module_text m) ≤ 1048576 → (w : Module) × (Answers (module_text m) (Ok w) × (unlined w ≡ unlined m))
 round_trip m is short =
     let items : List Item = module_items m in
-    let text : List ℕ = flat_map item_line items in
-    let same : text ≡ module_text m = module_same m in
-    let fits : length text ≤ 1048576 = subst (λ (t : List ℕ). length t ≤ 1048576) (sym same) short in
+    let text : List ℕ = module_text m in
     let end : Draft = drafted (unlined m) place.Outside in
     let whole : All IsWhole m.functions = λ k d h. let f = is.functions k d h in record { some = f.some; written = f.written } in
     let kept : AreKept items = module_kept m is in
     let passes : Passes start items end = (all_pass start end items tt (module_fills m whole) (module_good m is)).0 in
-    let again = reads_again start start end items 1 1048576 refl passes kept fits in
+    let again = reads_again start start end items 1 1048576 refl passes kept short in
     let e : Draft = again.0 in
-    let lines : lines_of text ≡ map item_line items = printed_lines items kept in
+    let lines : lines_of text ≡ map printed_line items = printed_lines items kept in
     let read : Reads start 1 1048576 (lines_of text) (Ok e) = subst (λ (ls : List (List ℕ)). Reads start 1 1048576 ls (Ok e)) (sym lines) again.1.1 in
     let outside : e.place ≡ place.Outside = outside_only e.place (ap (λ (d : Draft). d.place) again.1.0) in
     let over : ended e.whole e.place (length (lines_of text)) ≡ Ok e.whole = ap (λ (p : Place). ended e.whole p (length (lines_of text))) outside in (
       e.whole,
       (
-        subst (λ (t : List ℕ). Answers t (Ok e.whole)) same (Read e (Ok e.whole) read over),
+        Read e (Ok e.whole) read over,
         ap (λ (d : Draft). d.whole) again.1.0,
       ),
     )

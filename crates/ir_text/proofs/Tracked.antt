@@ -7,8 +7,8 @@ use Rattle.ir_item.specs.declared.line.Line.{Line}
 use Rattle.ir_text.specs.declared.draft.Draft.{Draft}
 use Rattle.ir_text.specs.declared.limits.Counts.{Counts}
 use Rattle.ir_text.specs.declared.scope.Scope.{Scope}
-use Rattle.ir_text.specs.declared.fault.ItemFault.{ItemFault}
-use Rattle.ir_text.specs.declared.fault.ItemFault.TheVariants as faults
+use Rattle.refusal.specs.declared.refused.Refused.{Refused}
+use Rattle.refusal.specs.declared.refused.Refused.TheVariants as faults
 use Rattle.ir_text.specs.declared.reader.Reader.{Reader}
 use Rattle.ir_text.specs.Names.{is_repeated}
 use Rattle.ir_text.specs.Defined.{module_names, names_outside, inside_before, defined_outside, defined_inside, reserved_outside}
@@ -16,8 +16,8 @@ use Rattle.ir_text.specs.Counting.{IsSmall, counts_of, counts_with, are_counts_w
 use Rattle.ir_text.specs.Limits.{is_place_within}
 use Rattle.ir_text.specs.Scoping.{repeats, scope_with}
 use Rattle.ir_text.specs.Draft.{placed}
-use Rattle.ir_text.specs.Tracking.{IsTracked, OrMemory, judged_reader, judged_place}
-use Rattle.ir_text.specs.Reading.{start, defines_again, judged, judged_if_placed, with_item, FailsItem}
+use Rattle.ir_text.specs.Tracking.{IsTracked, OrMemory, judged_reader, judged_place, FailsAt}
+use Rattle.ir_text.specs.Reading.{start, defines_again, judged, judged_if_placed, with_item}
 use Rattle.ir_text.proofs.Follows.{Follows, placed_follows}
 
 pub both : (x y : Bool) → (x && y) ≡ true → (x ≡ true) × (y ≡ true)
@@ -57,10 +57,10 @@ repeats-tracked r i tracked =
     ∙ ap (λ (ns : List (List ℕ)). is_repeated (names_outside r.draft) (defined_outside i) || is_repeated (inside_before ns i) (defined_inside i)) tracked.inside
 
 -- what a put answers
-pub record IsPut (r : Reader) (at : ℕ) (line : Line) (out : Result Reader ItemFault) : Type 0 where
+pub record IsPut (r : Reader) (at : ℕ) (line : Line) (out : Result Reader Refused) : Type 0 where
   pub tracked : IfOk out IsTracked
   pub read : IfOk out (λ e. with_item r.draft at line ≡ Ok e.draft)
-  pub fault : IfErr out (λ e. FailsItem e (with_item r.draft at line))
+  pub fault : IfErr out (FailsAt at (with_item r.draft at line))
 
 with_item-placed : (d e : Draft) (at : ℕ) (line : Line) → placed d at line.item ≡ Some e → with_item d at line ≡ judged d line e
 unfolding with_item
@@ -92,42 +92,42 @@ good_tracked r e c s at i tracked counted scoped put within =
     }
 
 -- by the two tests
-judged_by : (r : Reader) (e : Draft) (c : Counts) (s : Scope) (at : ℕ) (line : Line) (good is_new again : Bool) (out : Result Reader ItemFault)
+judged_by : (r : Reader) (e : Draft) (c : Counts) (s : Scope) (at : ℕ) (line : Line) (good is_new again : Bool) (out : Result Reader Refused)
     → IsTracked r → c ≡ counts_with r.counts line.item → (IsTrue is_new → s ≡ scope_with r.scope line.item) → placed r.draft at line.item ≡ Some e → (good ≡ true → is_within_limits e ≡ true)
     → is_new ≡ not again → with_item r.draft at line ≡ (if good then (if again then Err 106 else Ok e) else Err 104)
-    → out ≡ (if good then (if is_new then Ok (reader e c s) else Err (faults.Fault 106)) else Err (faults.Fault 104)) → IsPut r at line out
-judged_by r e c s at line false is_new again out tracked counted scoped put within news said answered = subst (IsPut r at line) (sym answered) (record { tracked = tt; read = tt; fault = said })
+    → out ≡ (if good then (if is_new then Ok (reader e c s) else Err (faults.Fault 106 at)) else Err (faults.Fault 104 at)) → IsPut r at line out
+judged_by r e c s at line false is_new again out tracked counted scoped put within news said answered = subst (IsPut r at line) (sym answered) (record { tracked = tt; read = tt; fault = (refl, said) })
 judged_by r e c s at line true true true out tracked counted scoped put within news said answered = absurd cc
 judged_by r e c s at line true true false out tracked counted scoped put within news said answered =
     subst (IsPut r at line) (sym answered) (record { tracked = good_tracked r e c s at line.item tracked counted (scoped refl) put (within refl); read = said; fault = tt })
-judged_by r e c s at line true false true out tracked counted scoped put within news said answered = subst (IsPut r at line) (sym answered) (record { tracked = tt; read = tt; fault = said })
+judged_by r e c s at line true false true out tracked counted scoped put within news said answered = subst (IsPut r at line) (sym answered) (record { tracked = tt; read = tt; fault = (refl, said) })
 judged_by r e c s at line true false false out tracked counted scoped put within news said answered = absurd cc
 
-pub judged_put : (r : Reader) (e : Draft) (c : Counts) (s : Scope) (at : ℕ) (line : Line) (is_new : Bool) (out : Result Reader ItemFault)
+pub judged_put : (r : Reader) (e : Draft) (c : Counts) (s : Scope) (at : ℕ) (line : Line) (is_new : Bool) (out : Result Reader Refused)
     → IsTracked r → c ≡ counts_with r.counts line.item → is_new ≡ not (repeats r.scope line.item) → (IsTrue is_new → s ≡ scope_with r.scope line.item) → Some e ≡ placed r.draft at line.item
-    → out ≡ judged_reader line.is_within_limits is_new (reader e c s) → IsPut r at line out
+    → out ≡ judged_reader at line.is_within_limits is_new (reader e c s) → IsPut r at line out
 judged_put r e c s at line is_new out tracked counted news scoped put answered =
     judged_by r e c s at line (line.is_within_limits && is_within_limits e) is_new (defines_again r.draft line.item) out tracked counted scoped (sym put)
     (λ h. (both line.is_within_limits (is_within_limits e) h).1)
     (news ∙ ap not (repeats-tracked r line.item tracked)) (with_item-placed r.draft e at line (sym put)) answered
 
-pub or_memory : (r out : Result Reader ItemFault) → r ≡ out → OrMemory r out
+pub or_memory : (r out : Result Reader Refused) → r ≡ out → OrMemory r out
 or_memory (Err faults.Memory) out h = tt
-or_memory (Err (faults.Fault number)) out h = sym h
+or_memory (Err (faults.Fault number at)) out h = sym h
 or_memory (Ok r) out h = sym h
 
-misplaced : (r : Reader) (at : ℕ) (line : Line) (out : Result Reader ItemFault) → placed r.draft at line.item ≡ None → out ≡ Err (faults.Fault 103) → IsPut r at line out
-misplaced r at line out none answered = subst (IsPut r at line) (sym answered) (record { tracked = tt; read = tt; fault = with_item-misplaced r.draft at line none })
+misplaced : (r : Reader) (at : ℕ) (line : Line) (out : Result Reader Refused) → placed r.draft at line.item ≡ None → out ≡ Err (faults.Fault 103 at) → IsPut r at line out
+misplaced r at line out none answered = subst (IsPut r at line) (sym answered) (record { tracked = tt; read = tt; fault = (refl, with_item-misplaced r.draft at line none) })
 
-place_judged : (r : Reader) (o : Option Draft) (c : Counts) (s : Scope) (at : ℕ) (line : Line) (is_new : Bool) (out : Result Reader ItemFault)
+place_judged : (r : Reader) (o : Option Draft) (c : Counts) (s : Scope) (at : ℕ) (line : Line) (is_new : Bool) (out : Result Reader Refused)
     → IsTracked r → c ≡ counts_with r.counts line.item → is_new ≡ not (repeats r.scope line.item) → (IsTrue is_new → s ≡ scope_with r.scope line.item) → placed r.draft at line.item ≡ o
-    → out ≡ judged_place o line.is_within_limits is_new c s → IsPut r at line out
+    → out ≡ judged_place at o line.is_within_limits is_new c s → IsPut r at line out
 place_judged r None c s at line is_new out tracked counted news scoped put answered = misplaced r at line out put answered
 place_judged r (Some e) c s at line is_new out tracked counted news scoped put answered = judged_put r e c s at line is_new out tracked counted news scoped (sym put) answered
 
-pub put_of : (r : Reader) (c : Counts) (s : Scope) (at : ℕ) (line : Line) (is_new : Bool) (out : Result Reader ItemFault)
+pub put_of : (r : Reader) (c : Counts) (s : Scope) (at : ℕ) (line : Line) (is_new : Bool) (out : Result Reader Refused)
     → IsTracked r → c ≡ counts_with r.counts line.item → is_new ≡ not (repeats r.scope line.item) → (IsTrue is_new → s ≡ scope_with r.scope line.item)
-    → OrMemory out (judged_place (placed r.draft at line.item) line.is_within_limits is_new c s) → IsPut r at line out
+    → OrMemory out (judged_place at (placed r.draft at line.item) line.is_within_limits is_new c s) → IsPut r at line out
 put_of r c s at line is_new (Err faults.Memory) tracked counted news scoped h = record { tracked = tt; read = tt; fault = tt }
-put_of r c s at line is_new (Err (faults.Fault number)) tracked counted news scoped h = place_judged r (placed r.draft at line.item) c s at line is_new (Err (faults.Fault number)) tracked counted news scoped refl (sym h)
+put_of r c s at line is_new (Err (faults.Fault number found_at)) tracked counted news scoped h = place_judged r (placed r.draft at line.item) c s at line is_new (Err (faults.Fault number found_at)) tracked counted news scoped refl (sym h)
 put_of r c s at line is_new (Ok e) tracked counted news scoped h = place_judged r (placed r.draft at line.item) c s at line is_new (Ok e) tracked counted news scoped refl (sym h)

@@ -48,8 +48,10 @@ abbrev pub annotated_function : FunctionHead → Annotation → Option FunctionH
 annotated_function h (annotation.Requires i) = Some (record h { function = with_requirement h.function i })
 annotated_function h (annotation.Ensures i) = Some (record h { function = with_guarantee h.function i })
 annotated_function h (annotation.FunctionZone zone) = Some (record h { function = with_zone h.function zone })
-annotated_function h (annotation.Measure measure) = if h.has_measure then None else Some (record h { function = with_measure h.function measure; has_measure = true })
-annotated_function h (annotation.Budget budget) = if h.has_budget then None else Some (record h { function = with_budget h.function budget; has_budget = true })
+annotated_function h (annotation.Measure measure) =
+    if h.has_measure then None else Some (record h { function = with_measure h.function measure; has_measure = true })
+annotated_function h (annotation.Budget budget) =
+    if h.has_budget then None else Some (record h { function = with_budget h.function budget; has_budget = true })
 annotated_function h _ = None
 
 abbrev pub with_keeps : Block → Inequality → Block

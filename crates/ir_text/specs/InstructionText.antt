@@ -1,4 +1,4 @@
--- How instructions are spelled.
+-- Only the printer's own functions need these: how instructions are spelled, as text.
 use Rattle.std.specs.Prelude.{ℕ, List, [], ◌∷◌, ◌++◌, codes, flat_map, Some, None}
 use Rattle.syntax.specs.declared.operator.Width.{Width}
 use Rattle.syntax.specs.declared.operator.BinaryOperator.{BinaryOperator}
@@ -14,15 +14,19 @@ use Rattle.syntax.specs.declared.instruction.PhiEntry.{PhiEntry}
 use Rattle.syntax.specs.declared.instruction.Phi.{Phi}
 use Rattle.syntax.specs.declared.instruction.Instruction.{Instruction}
 use Rattle.syntax.specs.declared.instruction.Instruction.TheVariants as instruction
-use Rattle.ir_text.specs.Spelling.{width_text, operator_text, predicate_text, register_text, operand_text, address_text, array_text, arguments_text, behind_comma}
+use Rattle.ir_lex.specs.Spelling.{register_text}
+use Rattle.ir_item.specs.Spelling.{width_word, predicate_word}
+use Rattle.ir_text.specs.Spelling.{operator_text, operand_text, address_text, array_text, arguments_text, behind_comma}
 
 abbrev pub binary_text : List ℕ → BinaryOperator → Width → Operand → Operand → List ℕ
 binary_text d operator width left right =
-    register_text d ++ codes " = " ++ operator_text operator ++ codes " " ++ width_text width ++ codes " " ++ operand_text left ++ codes ", " ++ operand_text right
+    register_text d ++ codes " = " ++ operator_text operator ++ codes " " ++ width_word width
+    ++ codes " " ++ operand_text left ++ codes ", " ++ operand_text right
 
 abbrev pub compare_text : List ℕ → Predicate → Width → Operand → Operand → List ℕ
 compare_text d predicate width left right =
-    register_text d ++ codes " = icmp " ++ predicate_text predicate ++ codes " " ++ width_text width ++ codes " " ++ operand_text left ++ codes ", " ++ operand_text right
+    register_text d ++ codes " = icmp " ++ predicate_word predicate ++ codes " " ++ width_word width
+    ++ codes " " ++ operand_text left ++ codes ", " ++ operand_text right
 
 -- what stands before the value and behind it
 abbrev pub conversion_texts : Conversion → List ℕ × List ℕ
@@ -41,7 +45,8 @@ abbrev pub alloca_text : List ℕ → AllocaSize → List ℕ
 alloca_text d size = register_text d ++ codes " = alloca " ++ size_text size
 
 abbrev pub element_pointer_text : List ℕ → Address → Operand → List ℕ
-element_pointer_text d base index = register_text d ++ codes " = getelementptr inbounds i64, " ++ address_text base ++ codes ", i64 " ++ operand_text index
+element_pointer_text d base index =
+    register_text d ++ codes " = getelementptr inbounds i64, " ++ address_text base ++ codes ", i64 " ++ operand_text index
 
 abbrev pub load_text : List ℕ → Address → List ℕ
 load_text d address = register_text d ++ codes " = load i64, " ++ address_text address
@@ -87,4 +92,4 @@ entries_text [] = []
 entries_text (e ∷ es) = entry_text e ++ flat_map (behind_comma entry_text) es
 
 abbrev pub phi_text : Phi → List ℕ
-phi_text p = register_text p.register ++ codes " = phi " ++ width_text p.width ++ codes " " ++ entries_text p.entries
+phi_text p = register_text p.register ++ codes " = phi " ++ width_word p.width ++ codes " " ++ entries_text p.entries

@@ -20,11 +20,17 @@ note_items kind xs = map (λ x. item.Annotation (kind x)) xs
 
 unfoldable pub function_note_items : FunctionNotes → List Item
 function_note_items n =
-    note_items annotation.Requires n.requirements ++ (note_items annotation.Ensures n.guarantees ++ (note_items annotation.FunctionZone n.reads ++ (note_items annotation.FunctionZone n.writes ++ (note_items annotation.FunctionZone n.adds
+    note_items annotation.Requires n.requirements
+    ++ (note_items annotation.Ensures n.guarantees
+    ++ (note_items annotation.FunctionZone n.reads
+    ++ (note_items annotation.FunctionZone n.writes
+    ++ (note_items annotation.FunctionZone n.adds
     ++ item.Annotation (annotation.Measure n.measure) ∷ item.Annotation (annotation.Budget n.budget) ∷ []))))
 
 unfoldable pub block_note_items : BlockNotes → List Item
-block_note_items n = note_items annotation.Keeps n.keeps ++ (note_items annotation.Pending n.pending ++ item.Annotation (annotation.Left n.left) ∷ note_items annotation.Foot n.foot)
+block_note_items n =
+    note_items annotation.Keeps n.keeps
+    ++ (note_items annotation.Pending n.pending ++ item.Annotation (annotation.Left n.left) ∷ note_items annotation.Foot n.foot)
 
 abbrev pub step_items : Step → List Item
 step_items s = note_items annotation.Shows s.shows ++ item.Instruction s.instruction ∷ []
@@ -55,8 +61,12 @@ indentation (item.Annotation a) = 2
 indentation _ = 0
 
 -- a line without its LF
-abbrev pub item_content : Item → List ℕ
-item_content i = spaces (indentation i) ++ item_text i
+abbrev pub printed_content : Item → List ℕ
+printed_content i = spaces (indentation i) ++ item_text i
 
-abbrev pub item_line : Item → List ℕ
-item_line i = item_content i ++ 10 ∷ []
+abbrev pub printed_line : Item → List ℕ
+printed_line i = printed_content i ++ 10 ∷ []
+
+-- the canonical text of a module: the lines of its items
+abbrev pub module_text : Module → List ℕ
+module_text m = flat_map printed_line (module_items m)

@@ -118,7 +118,7 @@ pub record IsKeptFunction (f : Function) : Type 0 where
   pub within : IsFunctionWithin f
 
 -- globals and functions have names of at most 64 bytes, defined once, and none has the reserved name
-pub record IsKept (m : Module) : Type 0 where
+pub record IsKeptModule (m : Module) : Type 0 where
   pub distinct : is_repeated [] (reserved_outside ∷ module_names m) ≡ false
   pub names : All IsShortName (module_names m)
   pub functions : All IsKeptFunction m.functions

@@ -2,8 +2,7 @@
 use Rattle.std.specs.Prelude.{ℕ, ◌+◌, Bool, true, ◌&&◌, length, sum_by, nat_le, nat_lt}
 use Rattle.syntax.specs.declared.annotation.FunctionNotes.{FunctionNotes}
 use Rattle.syntax.specs.declared.annotation.BlockNotes.{BlockNotes}
-use Rattle.syntax.specs.declared.instruction.AllocaSize.{AllocaSize}
-use Rattle.syntax.specs.declared.instruction.AllocaSize.TheVariants.{One, Array}
+use Rattle.syntax.specs.Cells.{size_cells}
 use Rattle.syntax.specs.declared.instruction.Instruction.{Instruction}
 use Rattle.syntax.specs.declared.instruction.Instruction.TheVariants as instruction
 use Rattle.syntax.specs.declared.instruction.Step.{Step}
@@ -17,10 +16,6 @@ use Rattle.ir_text.specs.Defined.{block_registers}
 
 abbrev pub global_cells : Module → ℕ
 global_cells m = sum_by (λ (g : Global). g.cells) m.globals
-
-abbrev pub size_cells : AllocaSize → ℕ
-size_cells One = 1
-size_cells (Array cells) = cells
 
 abbrev pub instruction_cells : Instruction → ℕ
 instruction_cells (instruction.Alloca d size) = size_cells size
@@ -44,7 +39,9 @@ unfoldable pub register_count : Function → ℕ
 register_count f = length f.parameters + sum_by block_register_count f.blocks
 
 abbrev pub are_function_notes_within : FunctionNotes → Bool
-are_function_notes_within n = nat_le (length n.requirements) 32 && nat_le (length n.guarantees) 32 && nat_le (length n.reads) 32 && nat_le (length n.writes) 32 && nat_le (length n.adds) 32
+are_function_notes_within n =
+    nat_le (length n.requirements) 32 && nat_le (length n.guarantees) 32
+    && nat_le (length n.reads) 32 && nat_le (length n.writes) 32 && nat_le (length n.adds) 32
 
 abbrev pub are_block_notes_within : BlockNotes → Bool
 are_block_notes_within n = nat_le (length n.keeps) 32 && nat_le (length n.pending) 32 && nat_le (length n.foot) 32

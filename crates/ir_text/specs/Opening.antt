@@ -30,7 +30,14 @@ no_function_notes line = record {
 }
 
 abbrev pub new_function : ℕ → List ℕ → ResultType → List Parameter → Function
-new_function line name result_type parameters = record { line = line; name = name; result_type = result_type; parameters = parameters; notes = no_function_notes line; blocks = [] }
+new_function line name result_type parameters = record {
+  line = line;
+  name = name;
+  result_type = result_type;
+  parameters = parameters;
+  notes = no_function_notes line;
+  blocks = [];
+}
 
 -- nothing is written of what is left: it is 0, on the label's line
 abbrev pub no_block_notes : ℕ → BlockNotes

@@ -1,4 +1,4 @@
--- The canonical text of a module.
+-- Only the printer's own functions need these: the canonical text, part by part. It is that of the module's items.
 use Rattle.std.specs.Prelude.{ℕ, List, [], ◌++◌, codes, flat_map, Option, Some, None}
 use Rattle.syntax.specs.declared.annotation.Inequality.{Inequality}
 use Rattle.syntax.specs.declared.annotation.Zone.{Zone}
@@ -16,7 +16,9 @@ use Rattle.syntax.specs.declared.module.Block.{Block}
 use Rattle.syntax.specs.declared.module.Function.{Function}
 use Rattle.syntax.specs.declared.module.Module.{Module}
 use Rattle.ir_annotation.specs.Spelling.{inequality_text, zone_text, measure_text, budget_text, pending_text, left_text, foot_text}
-use Rattle.ir_text.specs.Spelling.{result_type_text, array_text, parameters_text}
+use Rattle.ir_lex.specs.Spelling.{global_text}
+use Rattle.ir_item.specs.Spelling.{result_word}
+use Rattle.ir_text.specs.Spelling.{array_text, parameters_text}
 use Rattle.ir_text.specs.InstructionText.{instruction_text, phi_text}
 use Rattle.ir_text.specs.TerminatorText.{terminator_text}
 
@@ -73,13 +75,13 @@ function_notes_lines n =
     ++ flat_map zone_line n.reads ++ flat_map zone_line n.writes ++ flat_map zone_line n.adds ++ measure_line n.measure ++ budget_line n.budget
 
 unfoldable pub define_line : Function → List ℕ
-define_line f = codes "define " ++ result_type_text f.result_type ++ codes " @" ++ f.name ++ codes "(" ++ parameters_text f.parameters ++ codes ") {\n"
+define_line f = codes "define " ++ result_word f.result_type ++ codes " @" ++ f.name ++ codes "(" ++ parameters_text f.parameters ++ codes ") {\n"
 
 unfoldable pub function_lines : Function → List ℕ
 function_lines f = define_line f ++ function_notes_lines f.notes ++ flat_map block_lines f.blocks ++ codes "}\n"
 
 abbrev pub global_line : Global → List ℕ
-global_line g = codes "@" ++ g.name ++ codes " = global " ++ array_text g.cells ++ codes " zeroinitializer\n"
+global_line g = global_text g.name ++ codes " = global " ++ array_text g.cells ++ codes " zeroinitializer\n"
 
-unfoldable pub module_text : Module → List ℕ
-module_text m = flat_map global_line m.globals ++ flat_map function_lines m.functions
+unfoldable pub module_lines : Module → List ℕ
+module_lines m = flat_map global_line m.globals ++ flat_map function_lines m.functions

@@ -1,13 +1,12 @@
 -- Reading line by line, up to the first line with a fault.
-use Rattle.std.specs.Prelude.{◌≡◌, ◌<◌, ◌≤◌, ℕ, ◌+◌, ◌-◌, Bool, true, ◌&&◌, ◌||◌, is_some, List, [], ◌∷◌, length, Option, Some, None, Result, Ok, Err, IsUtf8, if◌then◌else◌, min}
-use Rattle.ir_lex.specs.declared.fault.TextFault.{TextFault}
-use Rattle.ir_lex.specs.declared.fault.TextFault.TheVariants as faults
+use Rattle.std.specs.Prelude.{◌≡◌, ◌<◌, ◌≤◌, ℕ, ◌+◌, ◌-◌, min, Bool, true, ◌&&◌, ◌||◌, is_some, if◌then◌else◌}
+use Rattle.std.specs.Prelude.{List, [], ◌∷◌, length, Option, Some, None, Result, Ok, Err, IsUtf8}
+use Rattle.refusal.specs.declared.refused.Refused.{Refused}
+use Rattle.refusal.specs.declared.refused.Refused.TheVariants as faults
 use Rattle.ir_item.specs.declared.item.Item.{Item}
 use Rattle.ir_item.specs.declared.line.Line.{Line}
 use Rattle.ir_item.specs.Lines.{line_of, IsLineFault}
 use Rattle.syntax.specs.declared.module.Module.{Module}
-use Rattle.ir_text.specs.declared.fault.ItemFault.{ItemFault}
-use Rattle.ir_text.specs.declared.fault.ItemFault.TheVariants as item_faults
 use Rattle.ir_text.specs.declared.draft.Draft.{Draft}
 use Rattle.ir_text.specs.declared.draft.Place.{Place}
 use Rattle.ir_text.specs.declared.draft.Place.TheVariants as place
@@ -53,14 +52,15 @@ may_stand d at (Some line) = is_some (placed d at line.item)
 -- the fault of a line with which the text grows too long: its own, or 103 where its item may not stand there, but 104 at most
 pub data OverlongFault (d : Draft) (at : ℕ) (line : List ℕ) : ℕ → Type 0 where
   Unsaid : (number : ℕ) → IsLineFault at line number → OverlongFault d at line (min number 104)
-  Too-late : (said : Option Line) (number : ℕ) → IsUtf8 line → line_of at line ≡ Ok said → number ≡ (if may_stand d at said then 104 else 103) → OverlongFault d at line number
+  Too-late : (said : Option Line) (number : ℕ) → IsUtf8 line → line_of at line ≡ Ok said → number ≡ (if may_stand d at said then 104 else 103)
+      → OverlongFault d at line number
 
 -- The lines, of which the first has this number, come behind what was read. There is room for so many bytes more. They give all of
 -- it, or the first fault and its line.
 pub data Reads : Draft → ℕ → ℕ → List (List ℕ) → Result Draft (ℕ × ℕ) → Type 0 where
   Done : (d : Draft) (at room : ℕ) → Reads d at room [] (Ok d)
-  Next : (d e : Draft) (at room : ℕ) (line : List ℕ) (lines : List (List ℕ)) (out : Result Draft (ℕ × ℕ)) → length line ≤ room → Steps d at (content line) (Ok e)
-      → Reads e (at + 1) (room - length line) lines out → Reads d at room (line ∷ lines) out
+  Next : (d e : Draft) (at room : ℕ) (line : List ℕ) (lines : List (List ℕ)) (out : Result Draft (ℕ × ℕ)) → length line ≤ room
+      → Steps d at (content line) (Ok e) → Reads e (at + 1) (room - length line) lines out → Reads d at room (line ∷ lines) out
   Stop : (d : Draft) (at room : ℕ) (line : List ℕ) (lines : List (List ℕ)) (number : ℕ) → length line ≤ room → Steps d at (content line) (Err number)
       → Reads d at room (line ∷ lines) (Err (number, at))
   Overlong : (d : Draft) (at room : ℕ) (line : List ℕ) (lines : List (List ℕ)) (number : ℕ) → room < length line → OverlongFault d at (content line) number
@@ -77,49 +77,11 @@ ended m _ count = Err (105, count)
 
 -- a text of at most 1,048,576 bytes makes a module, or has a first fault
 pub data Answers (text : List ℕ) : Result Module (ℕ × ℕ) → Type 0 where
-  Read : (d : Draft) (out : Result Module (ℕ × ℕ)) → Reads start 1 1048576 (lines_of text) (Ok d) → ended d.whole d.place (length (lines_of text)) ≡ out → Answers text out
+  Read : (d : Draft) (out : Result Module (ℕ × ℕ)) → Reads start 1 1048576 (lines_of text) (Ok d)
+      → ended d.whole d.place (length (lines_of text)) ≡ out → Answers text out
   Unread : (number at : ℕ) → Reads start 1 1048576 (lines_of text) (Err (number, at)) → Answers text (Err (number, at))
 
 -- the fault is the first of the text, or memory was refused
-abbrev pub IsFaultOfText : List ℕ → TextFault → Type 0
+abbrev pub IsFaultOfText : List ℕ → Refused → Type 0
 IsFaultOfText text faults.Memory = Unit {0}
 IsFaultOfText text (faults.Fault number line) = Answers text (Err (number, line))
-
-abbrev pub at_line : ItemFault → ℕ → TextFault
-at_line item_faults.Memory line = faults.Memory
-at_line (item_faults.Fault number) line = faults.Fault number line
-
-abbrev pub FaultTooLate : Draft → ℕ → Line → TextFault → Type 0
-FaultTooLate d at line faults.Memory = Unit {0}
-FaultTooLate d at line (faults.Fault number found_at) = (found_at ≡ at) × (number ≡ (if is_some (placed d at line.item) then 104 else 103))
-
--- the fault is what one more item meets, or memory was refused
-abbrev pub FailsItem : ItemFault → Result Draft ℕ → Type 0
-FailsItem item_faults.Memory out = Unit {0}
-FailsItem (item_faults.Fault number) out = out ≡ Err number
-
--- the same, on this line
-abbrev pub FailsAt : ℕ → Result Draft ℕ → TextFault → Type 0
-FailsAt at out faults.Memory = Unit {0}
-FailsAt at out (faults.Fault number line) = (line ≡ at) × (out ≡ Err number)
-
-abbrev pub FaultSteps : Draft → ℕ → List ℕ → TextFault → Type 0
-FaultSteps d at line faults.Memory = Unit {0}
-FaultSteps d at line (faults.Fault number found_at) = (found_at ≡ at) × Steps d at line (Err number)
-
--- the lower of a line's own fault and 104
-abbrev pub or_too_late : TextFault → TextFault
-or_too_late faults.Memory = faults.Memory
-or_too_late (faults.Fault number at) = faults.Fault (min number 104) at
-
-abbrev pub FaultOverlong : Draft → ℕ → List ℕ → TextFault → Type 0
-FaultOverlong d at line faults.Memory = Unit {0}
-FaultOverlong d at line (faults.Fault number found_at) = (found_at ≡ at) × OverlongFault d at line number
-
-abbrev pub FaultReads : Draft → ℕ → ℕ → List (List ℕ) → TextFault → Type 0
-FaultReads d at room lines faults.Memory = Unit {0}
-FaultReads d at room lines (faults.Fault number line) = Reads d at room lines (Err (number, line))
-
-abbrev pub FaultEnded : Result Module (ℕ × ℕ) → TextFault → Type 0
-FaultEnded out faults.Memory = Unit {0}
-FaultEnded out (faults.Fault number line) = out ≡ Err (number, line)

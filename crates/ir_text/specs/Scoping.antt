@@ -1,4 +1,4 @@
--- The names that stand, as the items come.
+-- Only the reader's own functions need these: the names that stand, as the items come.
 use Rattle.std.specs.Prelude.{ℕ, Bool, ◌||◌, List, [], ◌∷◌, ◌++◌, map}
 use Rattle.syntax.specs.declared.module.Parameter.{Parameter}
 use Rattle.ir_item.specs.declared.item.Item.{Item}

@@ -31,7 +31,12 @@ unlined_function_notes n = record {
 }
 
 abbrev pub unlined_block_notes : BlockNotes → BlockNotes
-unlined_block_notes n = record { keeps = unlined_inequalities n.keeps; pending = map (pending_on 0) n.pending; left = left_on 0 n.left; foot = unlined_zones n.foot }
+unlined_block_notes n = record {
+  keeps = unlined_inequalities n.keeps;
+  pending = map (pending_on 0) n.pending;
+  left = left_on 0 n.left;
+  foot = unlined_zones n.foot;
+}
 
 abbrev pub unlined_phi : Phi → Phi
 unlined_phi p = record p { line = 0 }
@@ -43,10 +48,24 @@ abbrev pub unlined_ending : Ending → Ending
 unlined_ending e = record { line = 0; shows = unlined_inequalities e.shows; terminator = e.terminator }
 
 abbrev pub unlined_block : Block → Block
-unlined_block b = record { line = 0; label = b.label; notes = unlined_block_notes b.notes; phis = map unlined_phi b.phis; steps = map unlined_step b.steps; ending = option_map unlined_ending b.ending }
+unlined_block b = record {
+  line = 0;
+  label = b.label;
+  notes = unlined_block_notes b.notes;
+  phis = map unlined_phi b.phis;
+  steps = map unlined_step b.steps;
+  ending = option_map unlined_ending b.ending;
+}
 
 abbrev pub unlined_function : Function → Function
-unlined_function f = record { line = 0; name = f.name; result_type = f.result_type; parameters = f.parameters; notes = unlined_function_notes f.notes; blocks = map unlined_block f.blocks }
+unlined_function f = record {
+  line = 0;
+  name = f.name;
+  result_type = f.result_type;
+  parameters = f.parameters;
+  notes = unlined_function_notes f.notes;
+  blocks = map unlined_block f.blocks;
+}
 
 abbrev pub unlined_global : Global → Global
 unlined_global g = record g { line = 0 }

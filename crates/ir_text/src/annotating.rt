@@ -8,7 +8,7 @@ use lists::OutOfMemory;
 use syntax::{Block, Budget, Function, Inequality, Left, Measure, Mode, Pending, Zone};
 
 /// A function of which no label has been read, and whether its `measure` and `budget` are written.
-#[derive(Debug, Drop)]
+#[derive(Drop)]
 pub struct FunctionHead {
     pub function: Function,
     pub has_measure: bool,
@@ -16,7 +16,7 @@ pub struct FunctionHead {
 }
 
 /// A block of which only the label and annotations have been read, and whether its `left` is written.
-#[derive(Debug, Drop)]
+#[derive(Drop)]
 pub struct BlockHead {
     pub block: Block,
     pub has_left: bool,

@@ -1,7 +1,6 @@
 //! A module of which the first lines have been read, and which item may stand behind them.
 
-ghost use Rattle.std.specs.Prelude.{◌≡◌, IfOk};
-ghost use Rattle.std.specs.Prelude.{[]};
+ghost use Rattle.std.specs.Prelude.{◌≡◌, IfOk, []};
 ghost use Rattle.ir_text.specs.Annotating.{annotated_function, annotated_block};
 ghost use Rattle.ir_text.specs.Draft.{placed, placed_outside, placed_at_function, placed_in_function_head, placed_at_block, annotated_in_block_head, placed_in_block_head, placed_in_phis, annotated_in_body, placed_behind, placed_in_body, placed_in_ended, new_place};
 
@@ -17,7 +16,7 @@ use std::alloc::Global;
 use syntax::{Block, Function, Inequality, Module};
 
 /// What the next line stands in. A function and a block that are not at their end are no part of the module yet.
-#[derive(Debug, Drop)]
+#[derive(Drop)]
 pub enum Place {
     /// Not in a function.
     Outside,
@@ -33,7 +32,7 @@ pub enum Place {
     Ended(Function, Block),
 }
 
-#[derive(Debug, Drop)]
+#[derive(Drop)]
 pub struct Draft {
     pub whole: Module,
     pub place: Place,

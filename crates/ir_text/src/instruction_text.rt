@@ -5,8 +5,8 @@ ghost use Rattle.ir_text.specs.InstructionText.{conversion_texts, binary_text, c
 ghost use Rattle.ir_text.specs.Spelling.{behind_comma};
 
 use crate::spelling::{
-    operator_text, predicate_text, push_address, push_arguments, push_array, push_operand,
-    push_register, width_text,
+    operator_text, predicate_word, push_address, push_arguments, push_array, push_operand,
+    push_register, width_word,
 };
 use lists::Name;
 use std::alloc::AllocError;
@@ -29,7 +29,7 @@ fn push_binary(
     out.push_str(" = ")?;
     out.push_str(operator_text(operator))?;
     out.push_str(" ")?;
-    out.push_str(width_text(width))?;
+    out.push_str(width_word(width))?;
     out.push_str(" ")?;
     push_operand(out, left)?;
     out.push_str(", ")?;
@@ -48,9 +48,9 @@ fn push_compare(
 {
     push_register(out, register)?;
     out.push_str(" = icmp ")?;
-    out.push_str(predicate_text(predicate))?;
+    out.push_str(predicate_word(predicate))?;
     out.push_str(" ")?;
-    out.push_str(width_text(width))?;
+    out.push_str(width_word(width))?;
     out.push_str(" ")?;
     push_operand(out, left)?;
     out.push_str(", ")?;
@@ -266,7 +266,7 @@ pub fn push_phi(out: &mut String, phi: &Phi) -> Result<(), AllocError>
 {
     push_register(out, &phi.register)?;
     out.push_str(" = phi ")?;
-    out.push_str(width_text(phi.width))?;
+    out.push_str(width_word(phi.width))?;
     out.push_str(" ")?;
     push_entries(out, phi.entries.as_slice())
 }

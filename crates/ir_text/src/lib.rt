@@ -7,7 +7,6 @@
 
 mod annotating;
 mod draft;
-mod fault;
 mod instruction_text;
 mod laws;
 mod limits;
@@ -20,7 +19,7 @@ mod scope;
 mod spelling;
 mod terminator_text;
 
-pub use ir_lex::TextFault;
 pub use laws::print_is_read_back;
 pub use printer::print;
 pub use reader::read;
+pub use refusal::Refused as TextFault;

@@ -35,7 +35,7 @@ const MAX_ALLOCA_CELLS: u128 = 4096;
 const MAX_LINES: usize = 32;
 
 /// What is counted as the items come. Cells are wide enough for any one item more.
-#[derive(Clone, Copy, Debug)]
+#[derive(Clone, Copy)]
 pub struct Counts {
     /// Of all globals.
     pub global_cells: u128,

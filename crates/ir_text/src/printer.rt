@@ -1,11 +1,12 @@
 //! A module's canonical text: its lines in order, each kind of annotation together, with what was left out written.
 
 ghost use Rattle.std.specs.Prelude.{◌≡◌, ◌++◌, OnOk, IfOk, string_bytes, flat_map};
+ghost use Rattle.ir_text.specs.Items.{module_text};
 ghost use Rattle.ir_text.specs.RoundTrip.{IsReadBackAs};
-ghost use Rattle.ir_text.specs.Printed.{note_line, inequality_line, zone_line, measure_line, budget_line, pending_line, left_line, foot_line, phi_line, step_lines, ending_lines, block_notes_lines, label_line, block_lines, function_notes_lines, define_line, function_lines, global_line, module_text};
+ghost use Rattle.ir_text.specs.Printed.{note_line, inequality_line, zone_line, measure_line, budget_line, pending_line, left_line, foot_line, phi_line, step_lines, ending_lines, block_notes_lines, label_line, block_lines, function_notes_lines, define_line, function_lines, global_line, module_lines};
 
 use crate::instruction_text::{push_instruction, push_phi};
-use crate::spelling::{push_array, push_parameters, result_type_text};
+use crate::spelling::{push_array, push_parameters, result_word};
 use crate::terminator_text::push_terminator;
 use ir_annotation::{
     push_budget, push_foot, push_inequality, push_left, push_measure, push_pending, push_zone,
@@ -217,7 +218,7 @@ fn push_define(out: &mut String, function: &Function) -> Result<(), AllocError>
     ensures { OnOk result (string_bytes out.new ≡ string_bytes out.old ++ define_line function.now) }
 {
     out.push_str("define ")?;
-    out.push_str(result_type_text(function.result_type))?;
+    out.push_str(result_word(function.result_type))?;
     out.push_str(" @")?;
     out.push_str(function.name.as_str())?;
     out.push_str("(")?;
@@ -264,9 +265,9 @@ fn push_globals(out: &mut String, globals: &[Global]) -> Result<(), AllocError>
 }
 
 /// The lines of a module's parts.
-#[tactic(auto, unfolding(crate::specs::Printed::module_text))]
+#[tactic(auto, unfolding(crate::specs::Printed::module_lines))]
 fn spelled(alloc: alloc::Global, module: &Module) -> Result<String, OutOfMemory>
-    ensures { IfOk result (λ text. string_bytes text ≡ module_text «module».now) }
+    ensures { IfOk result (λ text. string_bytes text ≡ module_lines «module».now) }
 {
     let mut out = String::new(alloc);
     push_globals(&mut out, module.globals.as_slice())?;

@@ -4,20 +4,19 @@ ghost use Rattle.std.specs.Prelude.{◌≡◌, length, IfErr, IfOk, Ok, Some};
 ghost use Rattle.ir_text.specs.Draft.{placed};
 ghost use Rattle.ir_text.specs.declared.draft.Draft as draft_type;
 ghost use Rattle.ir_text.specs.Faults.{IsOnLineOf};
-ghost use Rattle.ir_text.specs.Kept.{IsKept};
+ghost use Rattle.ir_text.specs.Kept.{IsKeptModule};
 ghost use Rattle.ir_text.specs.Lines.{lines_of};
 ghost use Rattle.ir_text.specs.Counting.{counts_of};
-ghost use Rattle.ir_text.specs.Tracking.{IsTracked, OrMemory, judged_reader, judged_place};
-ghost use Rattle.ir_text.specs.Reading.{start, with_item, FailsItem, FailsAt, Steps, FaultSteps, FaultOverlong, FaultTooLate, or_too_late, at_line, ended, FaultEnded, Answers, IsFaultOfText};
+ghost use Rattle.ir_text.specs.Tracking.{IsTracked, OrMemory, judged_reader, judged_place, FailsAt, FaultSteps, FaultOverlong, FaultTooLate, FaultEnded, or_too_late};
+ghost use Rattle.ir_text.specs.Reading.{start, with_item, Steps, ended, Answers, IsFaultOfText};
 
 use crate::draft::{Draft, Place};
-use crate::fault::ItemFault;
 use crate::limits::{Counts, MAX_BYTES, is_within_limits};
 use crate::lines::{content, cut_line};
 use crate::scope::Scope;
 use ir_item::{Line, read_line};
-use ir_lex::TextFault;
 use lists::{OutOfMemory, Seq};
+use refusal::Refused;
 use std::alloc::Global;
 use std::hash::RandomState;
 use syntax::Module;
@@ -30,43 +29,33 @@ pub struct Reader {
     pub scope: Scope,
 }
 
-/// An item's fault with its line.
-fn at_line(fault: ItemFault, line: u32) -> TextFault
-    ensures { result ≡ at_line fault line }
-{
-    match fault {
-        ItemFault::Fault(number) => TextFault::Fault { number, line },
-        ItemFault::Memory => TextFault::Memory,
-    }
-}
-
 /// The lower of a line's own fault and 104, which the line has since the text grows too long with it.
-fn or_too_late(fault: TextFault) -> TextFault
+fn or_too_late(fault: Refused) -> Refused
     ensures { result ≡ or_too_late fault }
 {
     match fault {
-        TextFault::Fault { number, line } => TextFault::Fault {
+        Refused::Fault { number, line } => Refused::Fault {
             number: number.min(104),
             line,
         },
-        TextFault::Memory => TextFault::Memory,
+        Refused::Memory => Refused::Memory,
     }
 }
 
-/// The reader, unless its last item passed a limit or defined a name again.
-fn judged(reader: Reader, is_within: bool, is_new: bool) -> Result<Reader, ItemFault>
+/// The reader, unless its last item, which stands on this line, passed a limit or defined a name again.
+fn judged(reader: Reader, line: u32, is_within: bool, is_new: bool) -> Result<Reader, Refused>
     requires { reader.counts ≡ counts_of reader.draft }
-    ensures { result ≡ judged_reader is_within is_new reader }
+    ensures { result ≡ judged_reader line is_within is_new reader }
 {
     let is_good = is_within_limits(&reader.draft, reader.counts);
     if !is_within || !is_good {
         drop(reader);
-        Err(ItemFault::Fault(104))
+        Err(Refused::Fault { number: 104, line })
     } else if is_new {
         Ok(reader)
     } else {
         drop(reader);
-        Err(ItemFault::Fault(106))
+        Err(Refused::Fault { number: 106, line })
     }
 }
 
@@ -79,9 +68,9 @@ fn placed(
     is_new: bool,
     number: u32,
     line: Line,
-) -> Result<Reader, ItemFault>
+) -> Result<Reader, Refused>
     requires { (e : draft_type.Draft) → Some e ≡ placed draft number line.item → counts ≡ counts_of e }
-    ensures { OrMemory result (judged_place (placed draft number line.item) line.is_within_limits is_new counts scope) }
+    ensures { OrMemory result (judged_place number (placed draft number line.item) line.is_within_limits is_new counts scope) }
 {
     let Line {
         item,
@@ -94,16 +83,20 @@ fn placed(
                 counts,
                 scope,
             },
+            number,
             is_within_limits,
             is_new,
         ),
         Ok(None) => {
             drop(scope);
-            Err(ItemFault::Fault(103))
+            Err(Refused::Fault {
+                number: 103,
+                line: number,
+            })
         }
         Err(_) => {
             drop(scope);
-            Err(ItemFault::Memory)
+            Err(Refused::Memory)
         }
     }
 }
@@ -127,12 +120,12 @@ impl Reader {
         })
     }
 
-    /// What was read, with one more item. Of several faults the lowest number is named.
-    fn put(self, alloc: Global, number: u32, line: Line) -> Result<Reader, ItemFault>
+    /// What was read, with the item of one more line. Of several faults the lowest number is named.
+    fn put(self, alloc: Global, number: u32, line: Line) -> Result<Reader, Refused>
         requires { IsTracked self }
         ensures tracked { IfOk result IsTracked }
         ensures read { IfOk result (λ r. with_item self.draft number line ≡ Ok r.draft) }
-        ensures fault { IfErr result (λ e. FailsItem e (with_item self.draft number line)) }
+        ensures fault { IfErr result (FailsAt number (with_item self.draft number line)) }
     {
         let Reader {
             draft,
@@ -146,25 +139,13 @@ impl Reader {
                 drop(draft);
                 drop(scope);
                 drop(line);
-                Err(ItemFault::Memory)
+                Err(Refused::Memory)
             }
         }
     }
 
-    fn put_line(self, alloc: Global, number: u32, line: Line) -> Result<Reader, TextFault>
-        requires { IsTracked self }
-        ensures tracked { IfOk result IsTracked }
-        ensures read { IfOk result (λ r. with_item self.draft number line ≡ Ok r.draft) }
-        ensures fault { IfErr result (FailsAt number (with_item self.draft number line)) }
-    {
-        match self.put(alloc, number, line) {
-            Ok(reader) => Ok(reader),
-            Err(fault) => Err(at_line(fault, number)),
-        }
-    }
-
     /// What was read, with one more line.
-    fn step(self, alloc: Global, number: u32, line: &[u8]) -> Result<Reader, TextFault>
+    fn step(self, alloc: Global, number: u32, line: &[u8]) -> Result<Reader, Refused>
         requires { IsTracked self }
         ensures tracked { IfOk result IsTracked }
         ensures read { IfOk result (λ r. Steps self.draft number line.now (Ok r.draft)) }
@@ -172,7 +153,7 @@ impl Reader {
     {
         match read_line(alloc, line, number) {
             Ok(None) => Ok(self),
-            Ok(Some(line)) => self.put_line(alloc, number, line),
+            Ok(Some(line)) => self.put(alloc, number, line),
             Err(fault) => {
                 drop(self);
                 Err(fault)
@@ -181,28 +162,37 @@ impl Reader {
     }
 
     /// The fault of a line that says this and with which the text grows too long.
-    fn too_late(self, alloc: Global, number: u32, line: Line) -> TextFault
+    fn too_late(self, alloc: Global, number: u32, line: Line) -> Refused
         ensures { FaultTooLate self.draft number line result }
     {
         match self.draft.put(alloc, number, line.item) {
             Ok(Some(draft)) => {
                 drop(draft);
-                at_line(ItemFault::Fault(104), number)
+                Refused::Fault {
+                    number: 104,
+                    line: number,
+                }
             }
-            Ok(None) => at_line(ItemFault::Fault(103), number),
-            Err(_) => TextFault::Memory,
+            Ok(None) => Refused::Fault {
+                number: 103,
+                line: number,
+            },
+            Err(_) => Refused::Memory,
         }
     }
 
     /// The fault of the line with which the text grows too long.
-    fn overlong(self, alloc: Global, number: u32, line: &[u8]) -> TextFault
+    fn overlong(self, alloc: Global, number: u32, line: &[u8]) -> Refused
         ensures { FaultOverlong self.draft number line.now result }
     {
         match read_line(alloc, line, number) {
             Ok(Some(line)) => self.too_late(alloc, number, line),
             Ok(None) => {
                 drop(self);
-                at_line(ItemFault::Fault(104), number)
+                Refused::Fault {
+                    number: 104,
+                    line: number,
+                }
             }
             Err(fault) => {
                 drop(self);
@@ -212,7 +202,7 @@ impl Reader {
     }
 
     /// The module, where it is not in a function that the text ends.
-    fn end(self, number: u32) -> Result<Module, TextFault>
+    fn end(self, number: u32) -> Result<Module, Refused>
         ensures read { IfOk result (λ m. ended self.draft.whole self.draft.place number ≡ Ok m) }
         ensures fault { IfErr result (FaultEnded (ended self.draft.whole self.draft.place number)) }
     {
@@ -222,7 +212,7 @@ impl Reader {
             other => {
                 drop(other);
                 drop(whole);
-                Err(TextFault::Fault {
+                Err(Refused::Fault {
                     number: 105,
                     line: number,
                 })
@@ -232,14 +222,14 @@ impl Reader {
 }
 
 /// Reads a module's text: it answers the module that the lines make, or the first fault with its line.
-pub fn read(alloc: Global, state: RandomState, text: &[u8]) -> Result<Module, TextFault>
+pub fn read(alloc: Global, state: RandomState, text: &[u8]) -> Result<Module, Refused>
     ensures exact { IfOk result (λ m. Answers text.now (Ok m)) }
-    ensures kept { IfOk result IsKept }
+    ensures kept { IfOk result IsKeptModule }
     ensures fault { IfErr result (IsFaultOfText text.now) }
     ensures line { IfErr result (IsOnLineOf (length (lines_of text.now))) }
 {
     let Ok(mut reader) = Reader::new(alloc, state) else {
-        return Err(TextFault::Memory);
+        return Err(Refused::Memory);
     };
     let mut rest = text;
     let mut number: u32 = 0;

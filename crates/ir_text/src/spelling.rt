@@ -1,15 +1,16 @@
 //! How values, types and the words of operations are spelled.
 
 ghost use Rattle.std.specs.Prelude.{◌≡◌, ◌++◌, ◌*◌, OnOk, string_bytes, codes, flat_map};
-ghost use Rattle.ir_text.specs.Spelling.{width_text, result_type_text, operator_text, predicate_text, operand_text, address_text, array_text, label_text, pointer_parameter_text, parameter_text, parameters_text, argument_text, arguments_text, behind_comma};
+ghost use Rattle.ir_item.specs.Spelling.{width_word, result_word, predicate_word};
+ghost use Rattle.ir_text.specs.Spelling.{operator_text, operand_text, address_text, array_text, label_text, pointer_parameter_text, parameter_text, parameters_text, argument_text, arguments_text, behind_comma};
 
 use itoa::Buffer;
 use lists::Name;
 use std::alloc::AllocError;
 use syntax::{Address, Argument, BinaryOperator, Operand, Parameter, Predicate, ResultType, Width};
 
-pub fn width_text(width: Width) -> &'static str
-    ensures { result.now ≡ width_text width }
+pub fn width_word(width: Width) -> &'static str
+    ensures { result.now ≡ width_word width }
 {
     match width {
         Width::Bits64 => "i64",
@@ -17,8 +18,8 @@ pub fn width_text(width: Width) -> &'static str
     }
 }
 
-pub fn result_type_text(result_type: ResultType) -> &'static str
-    ensures { result.now ≡ result_type_text result_type }
+pub fn result_word(result_type: ResultType) -> &'static str
+    ensures { result.now ≡ result_word result_type }
 {
     match result_type {
         ResultType::Number => "i64",
@@ -49,8 +50,8 @@ pub fn operator_text(operator: BinaryOperator) -> &'static str
     }
 }
 
-pub fn predicate_text(predicate: Predicate) -> &'static str
-    ensures { result.now ≡ predicate_text predicate }
+pub fn predicate_word(predicate: Predicate) -> &'static str
+    ensures { result.now ≡ predicate_word predicate }
 {
     match predicate {
         Predicate::Equal => "eq",

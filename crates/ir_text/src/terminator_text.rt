@@ -3,7 +3,7 @@
 ghost use Rattle.std.specs.Prelude.{◌≡◌, ◌++◌, OnOk, string_bytes, flat_map};
 ghost use Rattle.ir_text.specs.TerminatorText.{jump_text, branch_text, case_text, switch_text, return_text, detach_text, reattach_text, sync_text, terminator_text};
 
-use crate::spelling::{push_label, push_operand, push_register, width_text};
+use crate::spelling::{push_label, push_operand, push_register, width_word};
 use itoa::Buffer;
 use lists::Name;
 use std::alloc::AllocError;
@@ -37,7 +37,7 @@ fn push_case(out: &mut String, width: Width, case: &Case) -> Result<(), AllocErr
     ensures { OnOk result (string_bytes out.new ≡ string_bytes out.old ++ case_text width case.now) }
 {
     out.push_str(" ")?;
-    out.push_str(width_text(width))?;
+    out.push_str(width_word(width))?;
     out.push_str(" ")?;
     out.push_str(Buffer::new().format(case.number))?;
     out.push_str(", ")?;
@@ -63,7 +63,7 @@ fn push_switch(
     ensures { OnOk result (string_bytes out.new ≡ string_bytes out.old ++ switch_text width value.now default.now cases.now) }
 {
     out.push_str("switch ")?;
-    out.push_str(width_text(width))?;
+    out.push_str(width_word(width))?;
     out.push_str(" ")?;
     push_operand(out, value)?;
     out.push_str(", ")?;

@@ -46,7 +46,8 @@ placed_at ts place register amount (Some c) =
 
 -- the terms with a register times a number, unless its coefficient would pass the bounds
 unfoldable pub placed : List Term → RegisterId → ℤ → Option (List Term)
-placed ts register amount = placed_at ts (prefix_len (is_below register.0) ts) register amount (coefficient_at ts (prefix_len (is_below register.0) ts) register.0)
+placed ts register amount =
+    placed_at ts (prefix_len (is_below register.0) ts) register amount (coefficient_at ts (prefix_len (is_below register.0) ts) register.0)
 
 abbrev pub with_terms : ℤ → Option (List Term) → Option Combination
 with_terms constant None = None
@@ -59,7 +60,8 @@ with_term f register amount = with_terms f.constant (placed f.terms register amo
 -- a form with a number, unless its constant would pass the bounds
 abbrev pub with_constant : Combination → ℤ → Option Combination
 with_constant f amount =
-    if nat_lt (unsigned_abs (amount +ℤ f.constant)) 1267650600228229401496703205376 then Some (record { terms = f.terms; constant = amount +ℤ f.constant }) else None
+    if nat_lt (unsigned_abs (amount +ℤ f.constant)) 1267650600228229401496703205376
+    then Some (record { terms = f.terms; constant = amount +ℤ f.constant }) else None
 
 -- ---- registers replaced by forms
 

@@ -80,7 +80,9 @@ fn add_term(terms: &mut Vec<Term>, register: RegisterId, amount: i64) -> Result<
     ensures placed { OnOk result (placed terms.old.items register amount ≡ Some terms.new.items) }
     ensures refused { result ≡ Err Bounds → placed terms.old.items register amount ≡ None }
     ensures ok { OnOk result (IsTermAdded (record { register = register; coefficient = amount }) terms.old.items terms.new.items) }
-    ensures bounds { result ≡ Err Bounds → 2 ^ 24 ≤ unsigned_abs (coefficient_of (record { register = register; coefficient = amount } ∷ terms.old.items) register.0) }
+    ensures bounds { result ≡ Err Bounds
+        → 2 ^ 24 ≤ unsigned_abs
+        (coefficient_of (record { register = register; coefficient = amount } ∷ terms.old.items) register.0) }
 {
     let place = place_of(terms.as_slice(), register);
     match coefficient_at(terms.as_slice(), place, register) {

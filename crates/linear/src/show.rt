@@ -1,11 +1,10 @@
 //! What facts show.
 
-ghost use Rattle.std.specs.Prelude.{◌≡◌, ◌<◌, ◌≤◌, ◌+◌, ◌^◌, ◌↔◌, ℕ, IsTrue, IfSome, All, length, slice_index, pos, ◌≤ℤ◌, ◌+ℤ◌, ◌*ℤ◌, unsigned_abs};
+ghost use Rattle.std.specs.Prelude.{◌≡◌, ◌<◌, ◌≤◌, ◌+◌, ◌^◌, ◌↔◌, ℕ, IsTrue, IfSome, All, length, slice_index, pos, ◌≤ℤ◌, ◌+ℤ◌, ◌*ℤ◌, unsigned_abs, ℤ};
 ghost use Rattle.linear.specs.Forms.{AreSmall, IsRising, Holds};
 ghost use Rattle.linear.specs.Shown.{IsSum, IsShown, AllHold};
 ghost use Rattle.linear.specs.Tested.{is_shown};
 ghost use Rattle.linear.specs.Search.{looked_up, Agrees, factors, side_at, IsLeft, has_some, IsFoundByB, IsFoundByA, IsFoundWith, IsFoundFrom, IsFound};
-ghost use Rattle.std.specs.Prelude.{ℤ};
 
 use crate::form::{Fact, Form, RegisterId, Term};
 use crate::side::{Side, side_of};

@@ -10,10 +10,9 @@ use Rattle.program.specs.declared.instruction.Step.{Step}
 use Rattle.program.specs.declared.function.Block.{Block}
 use Rattle.program.specs.declared.function.Function.{Function}
 use Rattle.program.specs.declared.function.Program.{Program}
-use Rattle.cfg.specs.declared.refusal.Broken.{Broken}
-use Rattle.cfg.specs.Faults.{IsLowerOf}
-use Rattle.region_match.specs.ByLabel.{IsNamed}
-use Rattle.region_match.proofs.Lists.{named_same, named_both}
+use Rattle.refusal.specs.declared.broken.Broken.{Broken}
+use Rattle.refusal.specs.Earliest.{IsLowerOf, IsEarliest}
+use Rattle.refusal.proofs.Elements.{earliest_same, earliest_both}
 use Rattle.ranges.specs.declared.table.EdgeFacts.{EdgeFacts}
 use Rattle.ranges.specs.Owed.{owed_at_end}
 use Rattle.ranges.specs.Edges.{edge_owed}
@@ -80,12 +79,12 @@ StepsFrom program function start steps x = (i : ℕ) × (step : Step) × (slice_
 
 pub block_named : (program : Program) (function : Function) (b : ℕ) (block : Block) (start walked : List Fact) (edges : List EdgeFacts) (at_steps at_end r : Option Broken) →
     start ≡ start_facts function b block → walked ≡ facts_before program.functions (start_facts function b block) block.steps (length block.steps) → edges ≡ edges_known program.functions function b block block.ending →
-    IsNamed (StepsFrom program function start block.steps) at_steps → IsNamed (IsEndUnmetAt function walked edges block.ending) at_end → IsLowerOf at_steps at_end r →
-    IsNamed (IsBlockBroken program function b block) r
+    IsEarliest (StepsFrom program function start block.steps) at_steps → IsEarliest (IsEndUnmetAt function walked edges block.ending) at_end → IsLowerOf at_steps at_end r →
+    IsEarliest (IsBlockBroken program function b block) r
 block_named program function b block start walked edges at_steps at_end r s w e steps_named end_named lower =
-    named_both (AreStepsBroken program function b block) (IsEndBroken program function b block block.ending) at_steps at_end r
-    (subst (λ k. IsNamed (StepsFrom program function k block.steps) at_steps) s steps_named)
-    (named_same (IsEndUnmetAt function walked edges block.ending) (IsEndBroken program function b block block.ending) at_end
+    earliest_both (AreStepsBroken program function b block) (IsEndBroken program function b block block.ending) at_steps at_end r
+    (subst (λ k. IsEarliest (StepsFrom program function k block.steps) at_steps) s steps_named)
+    (earliest_same (IsEndUnmetAt function walked edges block.ending) (IsEndBroken program function b block block.ending) at_end
     (λ x h. end_to program function b block walked edges block.ending x refl w e h)
     (λ x h. end_from program function b block walked edges block.ending x refl w e h)
     end_named)

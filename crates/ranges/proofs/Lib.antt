@@ -1,5 +1,4 @@
 pub mod Making
-pub mod Sweeps
 pub mod Tabling
 pub mod Walking
 pub mod Blocks

@@ -10,7 +10,7 @@ use Rattle.program.specs.declared.function.Program.{Program}
 use Rattle.ranges.specs.declared.table.BlockFacts.{BlockFacts}
 use Rattle.ranges.specs.declared.table.FunctionFacts.{FunctionFacts}
 use Rattle.ranges.specs.Places.{IsBlockTable, IsFunctionTable, AreFacts}
-use Rattle.ranges.proofs.Sweeps.{same_at, read_at}
+use Rattle.refusal.proofs.Places.{same_at, read_at}
 
 -- what the table says of the first elements
 pub record Tabled {X T : Type 0} (Is : ℕ → X → T → Type 0) (xs : List X) (n : ℕ) (tables : List T) : Type 0 where

@@ -21,7 +21,7 @@ use Rattle.program.specs.declared.instruction.Operand.TheVariants.{Number, Regis
 use Rattle.ranges.specs.declared.sum.Part.{Part}
 use Rattle.ranges.specs.declared.sum.Sum.{Sum}
 use Rattle.ranges.specs.declared.sum.Obligation.{Obligation}
-use Rattle.ranges.specs.Sums.{with_operand, with_parts, form_of, fact_of, facts_of, shows_form, shows, is_met}
+use Rattle.ranges.specs.Sums.{with_operand, with_parts, sum_form, fact_of, facts_of, shows_form, shows, is_met}
 use Rattle.ranges.specs.Truth.{operand_value, parts_value, sum_value, IsTrueAt}
 
 -- a form of this value
@@ -86,27 +86,27 @@ constant_valued v constant parts f true e h =
     zero_first x = omega (arith, ints)
 
 -- the form of a sum has its value
-pub form_value : (v : ℕ → ℤ) (s : Sum) (f : Combination) → form_of s ≡ Some f → value v f ≡ sum_value v s
-unfolding form_of
+pub form_value : (v : ℕ → ℤ) (s : Sum) (f : Combination) → sum_form s ≡ Some f → value v f ≡ sum_value v s
+unfolding sum_form
 form_value v s f h = constant_valued v s.constant s.parts f (nat_lt (unsigned_abs s.constant) 1267650600228229401496703205376) refl h
 
-shown_form : (facts : List Fact) (s : Sum) (o : Option Combination) → form_of s ≡ o → shows_form facts o ≡ true → (v : ℕ → ℤ) → AllHold v facts → IsTrueAt v s
+shown_form : (facts : List Fact) (s : Sum) (o : Option Combination) → sum_form s ≡ o → shows_form facts o ≡ true → (v : ℕ → ℤ) → AllHold v facts → IsTrueAt v s
 shown_form facts s None e h v all = absurd (false≢true h)
 shown_form facts s (Some f) e h v all = subst (λ z. pos 0 ≤ℤ z) (form_value v s f e) (shown_holds facts f (shown_from_test facts f h) v all)
 
 pub shown_true : (facts : List Fact) (s : Sum) → shows facts s ≡ true → (v : ℕ → ℤ) → AllHold v facts → IsTrueAt v s
-shown_true facts s h v all = shown_form facts s (form_of s) refl h v all
+shown_true facts s h v all = shown_form facts s (sum_form s) refl h v all
 
 pub met_true : (facts : List Fact) (o : Obligation) → is_met facts o ≡ true → (v : ℕ → ℤ) → AllHold v facts → Any (IsTrueAt v) o.choices
 met_true facts o h v all =
     let any = Any-from_list_any (λ s. shows facts s) o.choices h in
     (any.0, any.1, any.2, any.3, shown_true facts any.1 any.4 v all)
 
-fact_true : (v : ℕ → ℤ) (s : Sum) (o : Option Combination) → form_of s ≡ o → IsTrueAt v s → AllHold v (option_to_list (option_map (λ f. record { form = f }) o))
+fact_true : (v : ℕ → ℤ) (s : Sum) (o : Option Combination) → sum_form s ≡ o → IsTrueAt v s → AllHold v (option_to_list (option_map (λ f. record { form = f }) o))
 fact_true v s None e h = All-nil (λ (f : Fact). Holds v f.form)
 fact_true v s (Some f) e h = All-cons (λ (f : Fact). Holds v f.form) (record { form = f }) [] (subst (λ z. pos 0 ≤ℤ z) (sym (form_value v s f e)) h) (All-nil (λ (f : Fact). Holds v f.form))
 
 pub facts_true : (sums : List Sum) (v : ℕ → ℤ) → All (IsTrueAt v) sums → AllHold v (facts_of sums)
 facts_true [] v all = All-nil (λ (f : Fact). Holds v f.form)
 facts_true (s ∷ sums) v all =
-    All-append (λ (f : Fact). Holds v f.form) (option_to_list (fact_of s)) (facts_of sums) (fact_true v s (form_of s) refl (All-head (IsTrueAt v) s sums all)) (facts_true sums v (All-tail (IsTrueAt v) s sums all))
+    All-append (λ (f : Fact). Holds v f.form) (option_to_list (fact_of s)) (facts_of sums) (fact_true v s (sum_form s) refl (All-head (IsTrueAt v) s sums all)) (facts_true sums v (All-tail (IsTrueAt v) s sums all))

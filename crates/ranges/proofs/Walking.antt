@@ -14,7 +14,7 @@ use Rattle.ranges.specs.Inequalities.{difference_of}
 use Rattle.ranges.specs.Learned.{learned}
 use Rattle.ranges.specs.Places.{stated, with_shows, after_step, facts_before}
 use Rattle.ranges.specs.Walks.{IsWalkedTo, IsWalked}
-use Rattle.ranges.proofs.Sweeps.{same_at, read_at}
+use Rattle.refusal.proofs.Places.{same_at, read_at}
 
 stated-append : (xs ys : List Inequality) → stated (xs ++ ys) ≡ stated xs ++ stated ys
 stated-append [] ys = refl

@@ -15,6 +15,7 @@ use Rattle.program.specs.declared.instruction.Step.{Step}
 use Rattle.program.specs.declared.instruction.Terminator.{Terminator}
 use Rattle.program.specs.declared.instruction.Terminator.TheVariants as terminator
 use Rattle.program.specs.declared.function.Block.{Block}
+use Rattle.program.specs.Steps.{first_said}
 use Rattle.cfg.specs.declared.structure.Way.{Way}
 use Rattle.cfg.specs.declared.structure.Way.TheVariants.{Branch, Detached, Continued, Synced}
 use Rattle.cfg.specs.Edges.{moves_from}
@@ -41,14 +42,9 @@ compare_of r (instruction.AtomicAdd address x) = None
 compare_of r (instruction.Call d callee arguments) = None
 compare_of r (instruction.StartRegion d) = None
 
-abbrev pub or_else : Option Comparison → Option Comparison → Option Comparison
-or_else None other = other
-or_else (Some c) other = Some c
-
 -- the first compare among the steps that defines the register
 abbrev pub compared : RegisterId → List Step → Option Comparison
-compared r [] = None
-compared r (s ∷ steps) = or_else (compare_of r s.instruction) (compared r steps)
+compared r steps = first_said (compare_of r) steps
 
 -- ---- what a branch makes known
 

@@ -25,7 +25,8 @@ parts_of moves sign terms = map (part_of moves sign) terms
 
 -- high - low, with the moves' operands put in: it is at least 0 where the inequality holds
 abbrev pub difference_of : List Move → Inequality → Sum
-difference_of moves q = record { constant = q.high.constant -ℤ q.low.constant; parts = parts_of moves (pos 1) q.high.terms ++ parts_of moves (negsuc 0) q.low.terms }
+difference_of moves q =
+    record { constant = q.high.constant -ℤ q.low.constant; parts = parts_of moves (pos 1) q.high.terms ++ parts_of moves (negsuc 0) q.low.terms }
 
 abbrev pub differences_of : List Move → List Inequality → List Sum
 differences_of moves qs = map (difference_of moves) qs

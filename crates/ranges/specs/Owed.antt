@@ -5,20 +5,15 @@ use Rattle.syntax.specs.declared.operator.BinaryOperator.TheVariants.{Add, Subtr
 use Rattle.syntax.specs.declared.operator.Width.{Width}
 use Rattle.syntax.specs.declared.operator.Width.TheVariants.{Bits64, Bits32}
 use Rattle.program.specs.declared.annotation.Inequality.{Inequality}
-use Rattle.program.specs.declared.identifier.ObjectName.{ObjectName}
-use Rattle.program.specs.declared.identifier.ObjectName.TheVariants.{Global, Alloca, Parameter}
 use Rattle.program.specs.declared.instruction.Argument.{Argument}
 use Rattle.program.specs.declared.instruction.Instruction.{Instruction}
 use Rattle.program.specs.declared.instruction.Instruction.TheVariants as instruction
 use Rattle.program.specs.declared.instruction.Operand.{Operand}
 use Rattle.program.specs.declared.instruction.Terminator.{Terminator}
 use Rattle.program.specs.declared.instruction.Terminator.TheVariants as terminator
-use Rattle.program.specs.declared.function.Alloca.{Alloca as AllocaKind}
 use Rattle.program.specs.declared.function.Function.{Function}
-use Rattle.program.specs.declared.function.Global.{Global as GlobalKind}
-use Rattle.program.specs.declared.function.Parameter.{Parameter as ParameterKind}
-use Rattle.program.specs.declared.function.Parameter.TheVariants as parameter
 use Rattle.program.specs.declared.function.Program.{Program}
+use Rattle.program.specs.Cells.{object_cells}
 use Rattle.cfg.specs.declared.structure.Move.{Move}
 use Rattle.ranges.specs.declared.sum.Part.{Part}
 use Rattle.ranges.specs.declared.sum.Sum.{Sum}
@@ -86,25 +81,6 @@ binary_owed ExclusiveOr w x y = []
 
 -- ---- objects
 
-abbrev pub global_cells : Option GlobalKind → ℕ
-global_cells None = 0
-global_cells (Some g) = g.cells
-
-abbrev pub alloca_cells : Option AllocaKind → ℕ
-alloca_cells None = 0
-alloca_cells (Some a) = a.cells
-
-abbrev pub parameter_cells : Option ParameterKind → ℕ
-parameter_cells None = 0
-parameter_cells (Some parameter.Number) = 0
-parameter_cells (Some (parameter.Pointer cells)) = cells
-
--- the cells of an object as the function's text declares it
-abbrev pub cells_of : Program → Function → ObjectName → ℕ
-cells_of program function (Global g) = global_cells (slice_get program.globals g.0)
-cells_of program function (Alloca a) = alloca_cells (slice_get function.allocas a.0)
-cells_of program function (Parameter r) = parameter_cells (slice_get function.parameters r.0)
-
 -- 501: 0 <= index <= cells - 1
 abbrev pub index_owed : ℕ → Operand → List Obligation
 index_owed cells index = must 501 (one (pos 0) (pos 1) index) ∷ (must 501 (one (pos cells -ℤ pos 1) (negsuc 0) index) ∷ [])
@@ -126,7 +102,7 @@ owed program function (instruction.Binary d operator width x y) = binary_owed op
 owed program function (instruction.Compare d predicate width x y) = []
 owed program function (instruction.Convert d conversion x) = []
 owed program function (instruction.Alloca d alloca) = []
-owed program function (instruction.ElementPointer d object index) = index_owed (cells_of program function object) index
+owed program function (instruction.ElementPointer d object index) = index_owed (object_cells program function object) index
 owed program function (instruction.Load d address) = []
 owed program function (instruction.Store x address) = []
 owed program function (instruction.StoreZeros cells object) = []

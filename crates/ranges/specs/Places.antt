@@ -60,22 +60,29 @@ facts_at_end functions function b block =
 -- the facts of each edge at the end of a block, in the order of its terminator
 abbrev pub edges_known : List Function → Function → ℕ → Block → Option Ending → List EdgeFacts
 edges_known functions function b block None = []
-edges_known functions function b block (Some ending) = all_edge_facts function.blocks b (facts_at_end functions function b block) (edges_out block.steps ending.terminator)
+edges_known functions function b block (Some ending) =
+    all_edge_facts function.blocks b (facts_at_end functions function b block) (edges_out block.steps ending.terminator)
 
 -- ---- the tables
+
+-- what the table of a block says is known at its step of this number
+abbrev pub facts_in_table : BlockFacts → ℕ → List Fact
+facts_in_table table i = take (slice_index_or table.counts i 0) table.facts
 
 -- the facts of a block's places and edges
 pub record IsBlockTable (functions : List Function) (function : Function) (b : ℕ) (block : Block) (table : BlockFacts) : Type 0 where
   pub steps : length table.counts ≡ length block.steps
-  pub at_step : (i : ℕ) (step : Step) → slice_get block.steps i ≡ Some step → take (slice_index_or table.counts i 0) table.facts ≡ facts_at_step functions function b block i
+  pub at_step : (i : ℕ) (step : Step) → slice_get block.steps i ≡ Some step → facts_in_table table i ≡ facts_at_step functions function b block i
   pub at_end : table.facts ≡ facts_at_end functions function b block
   pub edges : table.edges ≡ edges_known functions function b block block.ending
 
 pub record IsFunctionTable (functions : List Function) (function : Function) (table : FunctionFacts) : Type 0 where
   pub blocks : length table.blocks ≡ length function.blocks
-  pub each : (b : ℕ) (block : Block) (facts : BlockFacts) → slice_get function.blocks b ≡ Some block → slice_get table.blocks b ≡ Some facts → IsBlockTable functions function b block facts
+  pub each : (b : ℕ) (block : Block) (facts : BlockFacts) → slice_get function.blocks b ≡ Some block → slice_get table.blocks b ≡ Some facts
+      → IsBlockTable functions function b block facts
 
 -- the facts of a program's places and edges
 pub record AreFacts (program : Program) (facts : Facts) : Type 0 where
   pub functions : length facts.functions ≡ length program.functions
-  pub each : (f : ℕ) (function : Function) (table : FunctionFacts) → slice_get program.functions f ≡ Some function → slice_get facts.functions f ≡ Some table → IsFunctionTable program.functions function table
+  pub each : (f : ℕ) (function : Function) (table : FunctionFacts) → slice_get program.functions f ≡ Some function
+      → slice_get facts.functions f ≡ Some table → IsFunctionTable program.functions function table

@@ -7,10 +7,7 @@ use Rattle.program.specs.declared.instruction.Step.{Step}
 use Rattle.program.specs.declared.function.Block.{Block}
 use Rattle.program.specs.declared.function.Function.{Function}
 use Rattle.program.specs.declared.function.Program.{Program}
-use Rattle.cfg.specs.declared.refusal.Broken.{Broken}
-use Rattle.cfg.specs.Faults.{IsAtOrBefore}
-use Rattle.ranges.specs.declared.fault.RangeFault.{RangeFault}
-use Rattle.ranges.specs.declared.fault.RangeFault.TheVariants.{Fault, Memory}
+use Rattle.refusal.specs.declared.broken.Broken.{Broken}
 use Rattle.ranges.specs.declared.sum.Obligation.{Obligation}
 use Rattle.ranges.specs.declared.table.EdgeFacts.{EdgeFacts}
 use Rattle.ranges.specs.Sums.{shows, is_met}
@@ -37,7 +34,8 @@ IsStepBroken program function known step broken =
 
 abbrev pub AreStepsBroken : Program → Function → ℕ → Block → Broken → Type 0
 AreStepsBroken program function b block broken =
-    (i : ℕ) × (step : Step) × (slice_get block.steps i ≡ Some step) × IsStepBroken program function (facts_before program.functions (start_facts function b block) block.steps i) step broken
+    (i : ℕ) × (step : Step) × (slice_get block.steps i ≡ Some step)
+    × IsStepBroken program function (facts_before program.functions (start_facts function b block) block.steps i) step broken
 
 -- 505 on one of the edges
 abbrev pub AreEdgesBroken : Function → ℕ → List EdgeFacts → Broken → Type 0
@@ -55,15 +53,9 @@ abbrev pub IsBlockBroken : Program → Function → ℕ → Block → Broken →
 IsBlockBroken program function b block broken = AreStepsBroken program function b block broken ⊎ IsEndBroken program function b block block.ending broken
 
 abbrev pub IsFunctionBroken : Program → Function → Broken → Type 0
-IsFunctionBroken program function broken = (b : ℕ) × (block : Block) × (slice_get function.blocks b ≡ Some block) × IsBlockBroken program function b block broken
+IsFunctionBroken program function broken =
+    (b : ℕ) × (block : Block) × (slice_get function.blocks b ≡ Some block) × IsBlockBroken program function b block broken
 
 -- 501 to 508
 abbrev pub IsRangeBroken : Program → Broken → Type 0
 IsRangeBroken program broken = Any (λ function. IsFunctionBroken program function broken) program.functions
-
--- what a fault says: this rule is broken at this line, and no other is broken on a lower line, or there with a lower number
-abbrev pub IsRangeFault : Program → RangeFault → Type 0
-IsRangeFault program Memory = Unit {0}
-IsRangeFault program (Fault number line) =
-    let named : Broken = record { line = line; number = number } in
-    IsRangeBroken program named × ((b : Broken) → IsRangeBroken program b → IsAtOrBefore named b)

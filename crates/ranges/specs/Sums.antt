@@ -22,7 +22,11 @@ two constant a x b y = record { constant = constant; parts = record { factor = a
 
 abbrev pub three : ℤ → ℤ → Operand → ℤ → Operand → ℤ → Operand → Sum
 three constant a x b y c z =
-    record { constant = constant; parts = record { factor = a; operand = x } ∷ (record { factor = b; operand = y } ∷ (record { factor = c; operand = z } ∷ [])) }
+    record {
+      constant = constant;
+      parts = record { factor = a; operand = x }
+          ∷ (record { factor = b; operand = y } ∷ (record { factor = c; operand = z } ∷ []));
+    }
 
 -- ---- the form of a sum
 
@@ -40,13 +44,13 @@ abbrev pub start_of : ℤ → Option Combination
 start_of constant = if nat_lt (unsigned_abs constant) 1267650600228229401496703205376 then Some (constant_form constant) else None
 
 -- the form of a sum, its parts added one by one, unless a number of it would pass the bounds of a form
-unfoldable pub form_of : Sum → Option Combination
-form_of sum = with_parts sum.parts (start_of sum.constant)
+unfoldable pub sum_form : Sum → Option Combination
+sum_form sum = with_parts sum.parts (start_of sum.constant)
 
 -- ---- facts
 
 abbrev pub fact_of : Sum → Option Fact
-fact_of sum = option_map (λ f. record { form = f }) (form_of sum)
+fact_of sum = option_map (λ f. record { form = f }) (sum_form sum)
 
 -- that each sum is at least 0; one past the bounds of a form says nothing
 abbrev pub facts_of : List Sum → List Fact
@@ -58,7 +62,7 @@ shows_form facts (Some f) = is_shown facts f
 
 -- whether the facts show that a sum is at least 0; one past the bounds of a form is not shown
 abbrev pub shows : List Fact → Sum → Bool
-shows facts sum = shows_form facts (form_of sum)
+shows facts sum = shows_form facts (sum_form sum)
 
 -- one of the choices is shown to be at least 0
 abbrev pub is_met : List Fact → Obligation → Bool

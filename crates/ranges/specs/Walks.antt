@@ -1,11 +1,11 @@
--- A walk over a block.
+-- For the functions of this crate and their loops alone: a walk over a block.
 use Rattle.std.specs.Prelude.{◌≡◌, ◌⊎◌, ℕ, ◌≤◌, List, [], ◌<◌, length, take, Option, Some, None, Any, slice_get, slice_index_or}
 use Rattle.linear.specs.declared.form.Fact.{Fact}
 use Rattle.program.specs.declared.instruction.Ending.{Ending}
 use Rattle.program.specs.declared.instruction.Step.{Step}
 use Rattle.program.specs.declared.function.Block.{Block}
 use Rattle.program.specs.declared.function.Function.{Function}
-use Rattle.cfg.specs.declared.refusal.Broken.{Broken}
+use Rattle.refusal.specs.declared.broken.Broken.{Broken}
 use Rattle.ranges.specs.declared.table.EdgeFacts.{EdgeFacts}
 use Rattle.ranges.specs.Owed.{owed_at_end}
 use Rattle.ranges.specs.Edges.{edges_out, all_edge_facts, edge_owed}
@@ -17,7 +17,8 @@ pub record IsWalkedTo (functions : List Function) (before : List Fact) (steps : 
   pub size : length counts ≡ n
   pub facts_are : facts ≡ facts_before functions before steps n
   pub within : (i : ℕ) (step : Step) → i < n → slice_get steps i ≡ Some step → slice_index_or counts i 0 ≤ length facts
-  pub at_step : (i : ℕ) (step : Step) → i < n → slice_get steps i ≡ Some step → take (slice_index_or counts i 0) facts ≡ with_shows (facts_before functions before steps i) step.shows
+  pub at_step : (i : ℕ) (step : Step) → i < n → slice_get steps i ≡ Some step
+      → take (slice_index_or counts i 0) facts ≡ with_shows (facts_before functions before steps i) step.shows
 
 -- all steps
 abbrev pub IsWalked : List Function → List Fact → List Step → List ℕ → List Fact → Type 0

@@ -1,15 +1,16 @@
 ghost use Rattle.std.specs.Prelude.{◌≡◌, IfOk, IfErr, Any};
-ghost use Rattle.cfg.specs.declared.refusal.Broken.{Broken};
-ghost use Rattle.region_match.specs.ByLabel.{IsNamed};
+ghost use Rattle.refusal.specs.declared.broken.Broken.{Broken};
+ghost use Rattle.refusal.specs.Earliest.{IsEarliest, NamesEarliest};
 ghost use Rattle.ranges.specs.Places.{IsFunctionTable, AreFacts};
-ghost use Rattle.ranges.specs.Rules.{IsFunctionBroken, IsRangeBroken, IsRangeFault};
+ghost use Rattle.ranges.specs.Rules.{IsFunctionBroken, IsRangeBroken};
 
-use crate::fault::RangeFault;
+use crate::RangeFault;
 use crate::table::{BlockFacts, Facts, FunctionFacts};
 use crate::walk::block_facts;
-use cfg::{Broken, Graph, lower};
+use cfg::Graph;
 use lists::{OutOfMemory, Seq};
 use program::{Function, Program};
+use refusal::{Broken, lower};
 use region_match::Regions;
 use std::alloc::Global;
 
@@ -20,7 +21,7 @@ fn function_facts(
     function: &Function,
 ) -> Result<(FunctionFacts, Option<Broken>), OutOfMemory>
     ensures table { IfOk result (λ r. IsFunctionTable program.now.functions function.now r.0) }
-    ensures named { IfOk result (λ r. IsNamed (IsFunctionBroken program.now function.now) r.1) }
+    ensures named { IfOk result (λ r. IsEarliest (IsFunctionBroken program.now function.now) r.1) }
 {
     let mut tables: Vec<BlockFacts> = Vec::new(alloc);
     let mut named: Option<Broken> = None;
@@ -41,7 +42,7 @@ fn function_facts(
 /// What is known in a program, and what is broken there.
 fn program_facts(alloc: Global, program: &Program) -> Result<(Facts, Option<Broken>), OutOfMemory>
     ensures facts { IfOk result (λ r. AreFacts program.now r.0) }
-    ensures named { IfOk result (λ r. IsNamed (IsRangeBroken program.now) r.1) }
+    ensures named { IfOk result (λ r. IsEarliest (IsRangeBroken program.now) r.1) }
 {
     let mut tables: Vec<FunctionFacts> = Vec::new(alloc);
     let mut named: Option<Broken> = None;
@@ -64,14 +65,11 @@ fn program_facts(alloc: Global, program: &Program) -> Result<(Facts, Option<Brok
 pub fn check_ranges(alloc: Global, graph: &Graph, _regions: &Regions) -> Result<Facts, RangeFault>
     ensures facts { IfOk result (λ facts. AreFacts graph.now.typed.program facts) }
     ensures right { IfOk result (λ facts. (b : Broken) → IsRangeBroken graph.now.typed.program b → ⊥) }
-    ensures fault { IfErr result (IsRangeFault graph.now.typed.program) }
+    ensures fault { IfErr result (NamesEarliest (IsRangeBroken graph.now.typed.program)) }
 {
     let (facts, named) = program_facts(alloc, &graph.typed.program)?;
     match named {
-        Some(broken) => Err(RangeFault::Fault {
-            number: broken.number,
-            line: broken.line,
-        }),
+        Some(broken) => Err(broken.into()),
         None => Ok(facts),
     }
 }

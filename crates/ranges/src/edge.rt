@@ -193,7 +193,9 @@ fn push_branch(
     when_true: BlockId,
     when_false: BlockId,
 ) -> Result<(), OutOfMemory>
-    ensures { OnOk result (edges.new.items ≡ edges.old.items ++ (edge_to when_true Branch (branch_sums comparison true) ∷ (edge_to when_false Branch (branch_sums comparison false) ∷ []))) }
+    ensures { OnOk result (edges.new.items
+        ≡ edges.old.items
+        ++ (edge_to when_true Branch (branch_sums comparison true) ∷ (edge_to when_false Branch (branch_sums comparison false) ∷ []))) }
 {
     edges.push(EdgeSums {
         to: when_true,

@@ -1,21 +1,21 @@
 ghost use Rattle.std.specs.Prelude.{◌≡◌, ◌∷◌, [], false, Any, IfOk, OnOk, slice_get};
-ghost use Rattle.region_match.specs.ByLabel.{IsNamed};
+ghost use Rattle.refusal.specs.Earliest.{IsEarliest};
 ghost use Rattle.ranges.specs.Sums.{shows, is_met};
 ghost use Rattle.ranges.specs.Inequalities.{difference_of};
 ghost use Rattle.ranges.specs.Places.{with_shows, stated};
 ghost use Rattle.ranges.specs.Rules.{AreUnmet, AreUnshown, AreEdgesBroken};
 ghost use Rattle.ranges.specs.Edges.{edge_owed, keeps_of};
-ghost use Rattle.cfg.specs.declared.refusal.Broken.{Broken};
+ghost use Rattle.refusal.specs.declared.broken.Broken.{Broken};
 
 use crate::inequality::difference_of;
 use crate::know::{is_met, push_fact, shows};
 use crate::owe::inequalities_owed;
 use crate::sum::Obligation;
 use crate::table::EdgeFacts;
-use cfg::{Broken, lower};
 use linear::Fact;
 use lists::OutOfMemory;
 use program::{Block, BlockId, Inequality};
+use refusal::{Broken, lower};
 use std::alloc::Global;
 
 /// An obligation that the facts do not meet.
@@ -25,7 +25,7 @@ fn obligation_fault(
     line: u32,
     obligation: &Obligation,
 ) -> Result<Option<Broken>, OutOfMemory>
-    ensures { IfOk result (IsNamed (λ (b : Broken). (b.number ≡ obligation.now.number) × (b.line ≡ line) × (is_met known.now obligation.now ≡ false))) }
+    ensures { IfOk result (IsEarliest (λ (b : Broken). (b.number ≡ obligation.now.number) × (b.line ≡ line) × (is_met known.now obligation.now ≡ false))) }
 {
     let broken = if is_met(alloc, known, obligation)? {
         None
@@ -45,7 +45,7 @@ pub fn unmet_fault(
     line: u32,
     obligations: &[Obligation],
 ) -> Result<Option<Broken>, OutOfMemory>
-    ensures { IfOk result (IsNamed (AreUnmet known.now line obligations.now)) }
+    ensures { IfOk result (IsEarliest (AreUnmet known.now line obligations.now)) }
 {
     let mut named: Option<Broken> = None;
     for obligation in obligations {
@@ -62,7 +62,8 @@ fn push_shown(
     inequality: &Inequality,
 ) -> Result<Option<Broken>, OutOfMemory>
     ensures known { OnOk result (facts.new.items ≡ with_shows facts.old.items (inequality.now ∷ [])) }
-    ensures named { IfOk result (IsNamed (λ (b : Broken). (b.number ≡ 508) × (b.line ≡ inequality.now.line) × (shows facts.old.items (difference_of [] inequality.now) ≡ false))) }
+    ensures named { IfOk result (IsEarliest
+        (λ (b : Broken). (b.number ≡ 508) × (b.line ≡ inequality.now.line) × (shows facts.old.items (difference_of [] inequality.now) ≡ false))) }
 {
     let sum = difference_of(alloc, &[], inequality)?;
     let broken = if shows(alloc, facts.as_slice(), &sum)? {
@@ -84,7 +85,7 @@ pub fn push_shows(
     lines: &[Inequality],
 ) -> Result<Option<Broken>, OutOfMemory>
     ensures known { OnOk result (facts.new.items ≡ with_shows facts.old.items lines.now) }
-    ensures named { IfOk result (IsNamed (AreUnshown facts.old.items lines.now)) }
+    ensures named { IfOk result (IsEarliest (AreUnshown facts.old.items lines.now)) }
 {
     let mut named: Option<Broken> = None;
     for inequality in lines {
@@ -111,7 +112,7 @@ fn edge_fault(
     line: u32,
     edge: &EdgeFacts,
 ) -> Result<Option<Broken>, OutOfMemory>
-    ensures { IfOk result (IsNamed (AreUnmet edge.now.facts line (edge_owed blocks.now edge.now))) }
+    ensures { IfOk result (IsEarliest (AreUnmet edge.now.facts line (edge_owed blocks.now edge.now))) }
 {
     let keeps = keeps_of(blocks, edge.to);
     let owed = inequalities_owed(alloc, 505, edge.moves.as_slice(), keeps)?;
@@ -125,7 +126,7 @@ pub fn edges_fault(
     line: u32,
     edges: &[EdgeFacts],
 ) -> Result<Option<Broken>, OutOfMemory>
-    ensures { IfOk result (IsNamed (λ (b : Broken). Any (λ e. AreUnmet e.facts line (edge_owed blocks.now e) b) edges.now)) }
+    ensures { IfOk result (IsEarliest (λ (b : Broken). Any (λ e. AreUnmet e.facts line (edge_owed blocks.now e) b) edges.now)) }
 {
     let mut named: Option<Broken> = None;
     for edge in edges {

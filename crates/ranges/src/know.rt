@@ -1,7 +1,7 @@
 ghost use Rattle.std.specs.Prelude.{◌≡◌, ◌++◌, ◌∷◌, [], IfOk, OnOk};
 ghost use Rattle.ranges.specs.Sums.{facts_of, shows, is_met};
 
-use crate::sum::{Obligation, Sum, form_of};
+use crate::sum::{Obligation, Sum, sum_form};
 use linear::{Fact, shown};
 use lists::OutOfMemory;
 use std::alloc::Global;
@@ -10,7 +10,7 @@ use std::alloc::Global;
 pub fn push_fact(alloc: Global, facts: &mut Vec<Fact>, sum: &Sum) -> Result<(), OutOfMemory>
     ensures { OnOk result (facts.new.items ≡ facts.old.items ++ facts_of (sum.now ∷ [])) }
 {
-    if let Some(form) = form_of(alloc, sum)? {
+    if let Some(form) = sum_form(alloc, sum)? {
         facts.push(Fact { form })?;
     }
     Ok(())
@@ -30,7 +30,7 @@ pub fn push_facts(alloc: Global, facts: &mut Vec<Fact>, sums: &[Sum]) -> Result<
 pub fn shows(alloc: Global, facts: &[Fact], sum: &Sum) -> Result<bool, OutOfMemory>
     ensures { IfOk result (λ b. b ≡ shows facts.now sum.now) }
 {
-    match form_of(alloc, sum)? {
+    match sum_form(alloc, sum)? {
         Some(form) => Ok(shown(facts, &form)),
         None => Ok(false),
     }

@@ -14,7 +14,6 @@
 
 mod check;
 mod edge;
-mod fault;
 mod inequality;
 mod judge;
 mod know;
@@ -27,10 +26,10 @@ mod walk;
 
 pub use check::check_ranges;
 pub use edge::{Comparison, EdgeSums, edges_out};
-pub use fault::RangeFault;
 pub use inequality::{argument_moves, call_moves, difference_of, push_parts, result_moves};
 pub use know::{is_met, push_facts, shows};
 pub use owe::inequalities_owed;
-pub use sum::{Obligation, Part, Sum, form_of};
+pub use refusal::Refused as RangeFault;
+pub use sum::{Obligation, Part, Sum, sum_form};
 pub use table::{BlockFacts, EdgeFacts, Facts, FunctionFacts};
 pub use walk::{start_facts, stated};

@@ -2,7 +2,8 @@ ghost use Rattle.std.specs.Prelude.{◌≡◌, ◌++◌, ◌∷◌, [], true, So
 ghost use Rattle.syntax.specs.declared.operator.BinaryOperator.TheVariants.{AddNoWrap, SubtractNoWrap};
 ghost use Rattle.ranges.specs.Inequalities.{difference_of};
 ghost use Rattle.ranges.specs.Learned.{is_scale, scale_of};
-ghost use Rattle.ranges.specs.Owed.{must, half, greatest, last_bit, is_not_zero, is_not_least_by_minus_one, product_owed, is_amount, binary_owed, cells_of, index_owed, inequalities_owed, call_owed, owed, owed_at_end};
+ghost use Rattle.ranges.specs.Owed.{must, half, greatest, last_bit, is_not_zero, is_not_least_by_minus_one, product_owed, is_amount, binary_owed, index_owed, inequalities_owed, call_owed, owed, owed_at_end};
+ghost use Rattle.program.specs.Cells.{object_cells};
 
 use crate::inequality::{argument_moves, difference_of, result_moves};
 use crate::learn::scale_of;
@@ -235,8 +236,8 @@ fn binary_owed(
 }
 
 /// The cells of an object as the function's text declares it.
-fn cells_of(program: &Program, function: &Function, object: ObjectName) -> u64
-    ensures { result ≡ cells_of program.now function.now object }
+fn object_cells(program: &Program, function: &Function, object: ObjectName) -> u64
+    ensures { result ≡ object_cells program.now function.now object }
 {
     match object {
         ObjectName::Global(global) => match program.globals.as_slice().get(global.0) {
@@ -320,7 +321,7 @@ pub fn owed(
             ..
         } => binary_owed(alloc, *operator, *width, *left, *right),
         Instruction::ElementPointer { object, index, .. } => {
-            index_owed(alloc, cells_of(program, function, *object), *index)
+            index_owed(alloc, object_cells(program, function, *object), *index)
         }
         Instruction::Call {
             callee,

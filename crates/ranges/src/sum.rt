@@ -2,7 +2,7 @@ ghost use Rattle.std.specs.Prelude.{◌≡◌, ◌<◌, ◌^◌, pos, negsuc, �
 ghost use Rattle.linear.specs.declared.fault.FormFault.TheVariants.{Bounds, Memory};
 ghost use Rattle.linear.specs.Made.{is_bounded};
 ghost use Rattle.ranges.specs.Learned.{is_scale};
-ghost use Rattle.ranges.specs.Sums.{one, two, three, with_operand, start_of, form_of};
+ghost use Rattle.ranges.specs.Sums.{one, two, three, with_operand, start_of, sum_form};
 
 use linear::{Form, FormFault};
 use lists::{OutOfMemory, Seq};
@@ -153,8 +153,8 @@ fn start_of(alloc: Global, constant: i128) -> Option<Form>
 }
 
 /// The form of a sum, unless a number of it would pass the bounds of a form.
-pub fn form_of(alloc: Global, sum: &Sum) -> Result<Option<Form>, OutOfMemory>
-    ensures { IfOk result (λ f. f ≡ form_of sum.now) }
+pub fn sum_form(alloc: Global, sum: &Sum) -> Result<Option<Form>, OutOfMemory>
+    ensures { IfOk result (λ f. f ≡ sum_form sum.now) }
 {
     let parts = sum.parts.as_slice();
     let mut form = start_of(alloc, sum.constant);

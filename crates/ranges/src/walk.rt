@@ -1,7 +1,7 @@
 ghost use Rattle.std.specs.Prelude.{◌≡◌, ◌++◌, ◌∷◌, [], ℕ, length, take, slice_get, slice_index_or, Some, IfOk, OnOk};
 ghost use Rattle.program.specs.declared.instruction.Step.{Step};
-ghost use Rattle.cfg.specs.declared.refusal.Broken.{Broken};
-ghost use Rattle.region_match.specs.ByLabel.{IsNamed};
+ghost use Rattle.refusal.specs.declared.broken.Broken.{Broken};
+ghost use Rattle.refusal.specs.Earliest.{IsEarliest};
 ghost use Rattle.ranges.specs.Places.{stated, start_facts, with_shows, after_step, facts_before, facts_at_step, facts_at_end, edges_known, ending_shows, IsBlockTable};
 ghost use Rattle.ranges.specs.Walks.{IsWalked, edges_behind, IsEndUnmetAt};
 ghost use Rattle.ranges.specs.Rules.{IsStepBroken, AreStepsBroken, IsEndBroken, IsBlockBroken};
@@ -13,10 +13,10 @@ use crate::know::push_facts;
 use crate::learn::learned;
 use crate::owe::{owed, owed_at_end};
 use crate::table::{BlockFacts, EdgeFacts};
-use cfg::{Broken, lower};
 use linear::Fact;
 use lists::{OutOfMemory, Seq};
 use program::{Block, Ending, Function, Inequality, Program, Step};
+use refusal::{Broken, lower};
 use std::alloc::Global;
 
 /// Inequalities as facts.
@@ -57,7 +57,7 @@ fn walk_step(
 ) -> Result<Option<Broken>, OutOfMemory>
     ensures known { OnOk result (facts.new.items ≡ after_step program.now.functions facts.old.items step.now) }
     ensures count { OnOk result (counts.new.items ≡ counts.old.items ++ length (with_shows facts.old.items step.now.shows) ∷ []) }
-    ensures named { IfOk result (IsNamed (IsStepBroken program.now function.now facts.old.items step.now)) }
+    ensures named { IfOk result (IsEarliest (IsStepBroken program.now function.now facts.old.items step.now)) }
 {
     let unshown = push_shows(alloc, facts, step.shows.as_slice())?;
     counts.push(facts.len())?;
@@ -78,7 +78,9 @@ fn walk_steps(
     steps: &[Step],
 ) -> Result<(Vec<usize>, Option<Broken>), OutOfMemory>
     ensures walked { IfOk result (λ r. IsWalked program.now.functions facts.old.items steps.now r.0.items facts.new.items) }
-    ensures named { IfOk result (λ r. IsNamed (λ (b : Broken). (i : ℕ) × (step : Step) × (slice_get steps.now i ≡ Some step) × IsStepBroken program.now function.now (facts_before program.now.functions facts.old.items steps.now i) step b) r.1) }
+    ensures named { IfOk result (λ r. IsEarliest
+        (λ (b : Broken). (i : ℕ) × (step : Step) × (slice_get steps.now i ≡ Some step)
+        × IsStepBroken program.now function.now (facts_before program.now.functions facts.old.items steps.now i) step b) r.1) }
 {
     let mut counts: Vec<usize> = Vec::new(alloc);
     let mut named: Option<Broken> = None;
@@ -100,7 +102,7 @@ fn walk_ending(
 ) -> Result<(Vec<EdgeFacts>, Option<Broken>), OutOfMemory>
     ensures known { OnOk result (facts.new.items ≡ with_shows facts.old.items ending.now.shows) }
     ensures edges { IfOk result (λ r. r.0.items ≡ edges_behind function.now index block.now facts.new.items (Some ending.now)) }
-    ensures named { IfOk result (λ r. IsNamed (IsEndUnmetAt function.now facts.old.items r.0.items (Some ending.now)) r.1) }
+    ensures named { IfOk result (λ r. IsEarliest (IsEndUnmetAt function.now facts.old.items r.0.items (Some ending.now)) r.1) }
 {
     let unshown = push_shows(alloc, facts, ending.shows.as_slice())?;
     let owed = owed_at_end(alloc, function, &ending.terminator)?;
@@ -122,7 +124,7 @@ fn walk_end(
 ) -> Result<(Vec<EdgeFacts>, Option<Broken>), OutOfMemory>
     ensures known { OnOk result (facts.new.items ≡ with_shows facts.old.items (ending_shows block.now.ending)) }
     ensures edges { IfOk result (λ r. r.0.items ≡ edges_behind function.now index block.now facts.new.items block.now.ending) }
-    ensures named { IfOk result (λ r. IsNamed (IsEndUnmetAt function.now facts.old.items r.0.items block.now.ending) r.1) }
+    ensures named { IfOk result (λ r. IsEarliest (IsEndUnmetAt function.now facts.old.items r.0.items block.now.ending) r.1) }
 {
     match &block.ending {
         Some(ending) => walk_ending(alloc, function, index, block, ending, facts),
@@ -139,7 +141,7 @@ pub fn block_facts(
     block: &Block,
 ) -> Result<(BlockFacts, Option<Broken>), OutOfMemory>
     ensures table { IfOk result (λ r. IsBlockTable program.now.functions function.now index block.now r.0) }
-    ensures named { IfOk result (λ r. IsNamed (IsBlockBroken program.now function.now index block.now) r.1) }
+    ensures named { IfOk result (λ r. IsEarliest (IsBlockBroken program.now function.now index block.now) r.1) }
 {
     let mut facts = start_facts(alloc, function, index, block)?;
     let steps = block.steps.as_slice();

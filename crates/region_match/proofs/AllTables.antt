@@ -5,10 +5,10 @@ use Rattle.std.proofs.lemmas.List.{take_more, get_or-map, length-map}
 use Rattle.program.specs.declared.function.Function.{Function}
 use Rattle.program.specs.declared.function.Program.{Program}
 use Rattle.cfg.specs.declared.structure.FunctionGraph.{FunctionGraph}
-use Rattle.cfg.specs.declared.refusal.Broken.{Broken}
+use Rattle.refusal.specs.declared.broken.Broken.{Broken}
 use Rattle.cfg.specs.Edges.{graph_of}
-use Rattle.cfg.specs.Faults.{IsLowerOf, IsJudged}
-use Rattle.cfg.proofs.Judging.{judged_lower, judged_same, Any-append_left, Any-push_cases}
+use Rattle.refusal.specs.Earliest.{IsLowerOf, IsJudged}
+use Rattle.refusal.proofs.Judging.{judged_lower, judged_same, Any-append_left, Any-push_cases}
 use Rattle.std.proofs.lemmas.List.Quantifiers.{Any-push}
 use Rattle.region_match.specs.declared.tables.FunctionTasks.{FunctionTasks}
 use Rattle.region_match.specs.Tasks.{AreTasks, AreAllTasks}

@@ -7,7 +7,7 @@ use Rattle.std.proofs.lemmas.List.Quantifiers.{Any-push}
 use Rattle.cfg.specs.declared.structure.Edge.{Edge}
 use Rattle.cfg.specs.declared.structure.BlockEdges.{BlockEdges}
 use Rattle.cfg.specs.Paths.{edges_of}
-use Rattle.cfg.proofs.Judging.{Any-append_left, Any-push_cases}
+use Rattle.refusal.proofs.Judging.{Any-append_left, Any-push_cases}
 use Rattle.region_match.specs.declared.task.Task.{Task}
 use Rattle.region_match.specs.Tasks.{task_at}
 use Rattle.region_match.specs.Labels.{is_seen, IsClash, HasClash}

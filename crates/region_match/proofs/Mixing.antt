@@ -6,9 +6,10 @@ use Rattle.std.proofs.lemmas.Option.{slice_get-get_or, slice_get_within}
 use Rattle.program.specs.declared.function.Block.{Block}
 use Rattle.program.specs.declared.function.Function.{Function}
 use Rattle.cfg.specs.declared.structure.BlockEdges.{BlockEdges}
-use Rattle.cfg.specs.declared.refusal.Broken.{Broken}
-use Rattle.cfg.specs.Faults.{IsLowerOf, IsJudged}
-use Rattle.cfg.proofs.Judging.{judged_lower, judged_same}
+use Rattle.refusal.specs.declared.broken.Broken.{Broken}
+use Rattle.refusal.specs.Earliest.{IsLowerOf, IsJudged}
+use Rattle.refusal.proofs.Places.{same_at}
+use Rattle.refusal.proofs.Judging.{judged_lower, judged_same}
 use Rattle.region_match.specs.declared.task.Task.{Task}
 use Rattle.region_match.specs.declared.task.Task.TheVariants.{Unreached, Body, Child}
 use Rattle.region_match.specs.Tasks.{AreTasks, HasTwoTasks, IsInnermostAt, task_at, task_on}
@@ -29,9 +30,6 @@ mixed_one blocks b line mark exact on = ((refl, refl, exact.0 on), λ broken p. 
 pub unmixed_one : (blocks : List BlockEdges) (b line : ℕ) (mark : Bool) → (mark ≡ true) ↔ HasTwoTasks blocks b → mark ≡ false → IsJudged (mark ≡ false) (λ broken. (broken.number ≡ 306) × (broken.line ≡ line) × HasTwoTasks blocks b) None
 unmixed_one blocks b line mark exact off = (off, λ broken p. true≢false (sym (exact.1 p.2) ∙ off))
 
-same_block : (bodies : List Block) (i : ℕ) (x y : Block) → slice_get bodies i ≡ Some x → slice_get bodies i ≡ Some y → x ≡ y
-same_block bodies i x y h k = let e : Some x ≡ Some y = sym h ∙ k in cc
-
 pub mixed_next : (bodies : List Block) (blocks : List BlockEdges) (marks : List Bool) (i : ℕ) (block : Block) (named broken r : Option Broken) → i < length bodies → block ≡ get_or bodies i block → IsJudged (AreUnmixed marks i) (AreMixed bodies blocks i) named → IsJudged (get_or marks i false ≡ false) (λ broken. (broken.number ≡ 306) × (broken.line ≡ block.line) × HasTwoTasks blocks i) broken → IsLowerOf named broken r → IsJudged (AreUnmixed marks (i + 1)) (AreMixed bodies blocks (i + 1)) r
 mixed_next bodies blocks marks i block named broken r l is before here lower =
     let read : slice_get bodies i ≡ Some block = slice_get-get_or bodies i block l ∙ ap Some (sym is) in
@@ -42,7 +40,7 @@ mixed_next bodies blocks marks i block named broken r l is before here lower =
     (λ new. (i, block, omega arith, read, new.0, new.1, new.2))
     p)
     (λ x p. ⊎_elim
-    (λ same. let h = rw same at p.3 in let e : p.1 ≡ block = same_block bodies i p.1 block h read in inr (p.4, rw (← e) p.5, rw (← same) p.6))
+    (λ same. let h = rw same at p.3 in let e : p.1 ≡ block = same_at bodies i p.1 block h read in inr (p.4, rw (← e) p.5, rw (← same) p.6))
     (λ other. inl (p.0, p.1, omega (arith, p.2, other), p.3, p.4, p.5, p.6))
     (cases_eq p.0 i))
     (judged_lower (AreUnmixed marks i) (get_or marks i false ≡ false) (AreMixed bodies blocks i) (λ broken. (broken.number ≡ 306) × (broken.line ≡ block.line) × HasTwoTasks blocks i) named broken r before here lower)

@@ -9,16 +9,16 @@ use Rattle.program.specs.declared.instruction.Terminator.{Terminator}
 use Rattle.program.specs.declared.instruction.Terminator.TheVariants.{Detach}
 use Rattle.program.specs.declared.function.Block.{Block}
 use Rattle.cfg.specs.declared.structure.BlockEdges.{BlockEdges}
-use Rattle.cfg.specs.declared.refusal.Broken.{Broken}
-use Rattle.cfg.specs.Faults.{IsLowerOf}
+use Rattle.refusal.specs.declared.broken.Broken.{Broken}
+use Rattle.refusal.specs.Earliest.{IsLowerOf, IsEarliest}
 use Rattle.cfg.specs.Paths.{Leg, IsPath}
 use Rattle.region_match.specs.declared.task.Task.{Task}
 use Rattle.region_match.specs.Tasks.{task_at, HasTask, AreTasks, innermost}
 use Rattle.region_match.specs.Labels.{is_seen}
 use Rattle.region_match.specs.Rules.{ending_at, ending_of, IsDetach, IsUnsynced, IsOpen, is_leave, IsOpenEnd}
-use Rattle.region_match.specs.ByLabel.{IsNamed, IsOpenEndOf}
-use Rattle.region_match.proofs.Lists.{named_same, named_both}
-use Rattle.region_match.proofs.Sweeps.{Within}
+use Rattle.region_match.specs.ByLabel.{IsOpenEndOf}
+use Rattle.refusal.proofs.Elements.{earliest_same, earliest_both}
+use Rattle.refusal.proofs.Places.{Within}
 use Rattle.region_match.proofs.Conversion.{label_of, same_task, seen_not, seen_task}
 
 detach_same : (t : Option Terminator) (r r' : RegisterId) (k k' : BlockId) → IsDetach t r k → IsDetach t r' k' → (r ≡ r') × (k ≡ k')
@@ -73,14 +73,14 @@ module _ (bodies : List Block) (blocks : List BlockEdges) (tasks : List Task) (t
 abbrev pub OpenAt : List Block → List BlockEdges → ℕ → ℕ → Block → Broken → Type 0
 OpenAt bodies blocks d to block broken = (end : Ending) × (block.ending ≡ Some end) × (is_leave end.terminator ≡ true) × (broken.number ≡ 304) × (broken.line ≡ end.line) × IsOpen bodies blocks d to
 
-pub end_open : (bodies : List Block) (blocks : List BlockEdges) (d to : ℕ) (block : Block) (all : Bool) (r : Option Broken) → IsTrue all ↔ IsOpen bodies blocks d to → IsNamed (λ b. (end : Ending) × (block.ending ≡ Some end) × (is_leave end.terminator ≡ true) × (b.number ≡ 304) × (b.line ≡ end.line) × (IsTrue all)) r → IsNamed (OpenAt bodies blocks d to block) r
-end_open bodies blocks d to block all r at j = named_same _ _ r
+pub end_open : (bodies : List Block) (blocks : List BlockEdges) (d to : ℕ) (block : Block) (all : Bool) (r : Option Broken) → IsTrue all ↔ IsOpen bodies blocks d to → IsEarliest (λ b. (end : Ending) × (block.ending ≡ Some end) × (is_leave end.terminator ≡ true) × (b.number ≡ 304) × (b.line ≡ end.line) × (IsTrue all)) r → IsEarliest (OpenAt bodies blocks d to block) r
+end_open bodies blocks d to block all r at j = earliest_same _ _ r
     (λ x p. (p.0, p.1, p.2, p.3, p.4, at.0 p.5))
     (λ x p. (p.0, p.1, p.2, p.3, p.4, at.1 p.5))
     j
 
-pub open_within : (bodies : List Block) (blocks : List BlockEdges) (d : ℕ) (r : Option Broken) → IsNamed (Within (OpenAt bodies blocks d) bodies) r → IsNamed (IsOpenEndOf bodies blocks d) r
-open_within bodies blocks d r j = named_same _ _ r
+pub open_within : (bodies : List Block) (blocks : List BlockEdges) (d : ℕ) (r : Option Broken) → IsEarliest (Within (OpenAt bodies blocks d) bodies) r → IsEarliest (IsOpenEndOf bodies blocks d) r
+open_within bodies blocks d r j = earliest_same _ _ r
     (λ x p. (p.0, p.1, p.3.0, p.2, p.3.1, p.3.2, p.3.3, p.3.4, p.3.5))
     (λ x p. (p.0, p.1, p.3, (p.2, p.4, p.5, p.6, p.7, p.8)))
     j
@@ -89,17 +89,17 @@ open_within bodies blocks d r j = named_same _ _ r
 abbrev pub OpenBelow : List Block → List BlockEdges → ℕ → Broken → Type 0
 OpenBelow bodies blocks n broken = (d : ℕ) × (d < n) × IsOpenEndOf bodies blocks d broken
 
-pub open_none : (bodies : List Block) (blocks : List BlockEdges) → IsNamed (OpenBelow bodies blocks 0) None
+pub open_none : (bodies : List Block) (blocks : List BlockEdges) → IsEarliest (OpenBelow bodies blocks 0) None
 open_none bodies blocks = (tt, λ b p. absurd (omega (arith, p.1)))
 
-pub open_next : (bodies : List Block) (blocks : List BlockEdges) (n : ℕ) (named broken r : Option Broken) → IsNamed (OpenBelow bodies blocks n) named → IsNamed (IsOpenEndOf bodies blocks n) broken → IsLowerOf named broken r → IsNamed (OpenBelow bodies blocks (n + 1)) r
-open_next bodies blocks n named broken r before here lower = named_same _ _ r
+pub open_next : (bodies : List Block) (blocks : List BlockEdges) (n : ℕ) (named broken r : Option Broken) → IsEarliest (OpenBelow bodies blocks n) named → IsEarliest (IsOpenEndOf bodies blocks n) broken → IsLowerOf named broken r → IsEarliest (OpenBelow bodies blocks (n + 1)) r
+open_next bodies blocks n named broken r before here lower = earliest_same _ _ r
     (λ x p. ⊎_elim (λ old. (old.0, omega (arith, old.1), old.2)) (λ new. (n, omega arith, new)) p)
     (λ x p. ⊎_elim (λ same. inr (subst (λ d. IsOpenEndOf bodies blocks d x) same p.2)) (λ other. inl (p.0, omega (arith, p.1, other), p.2)) (cases_eq p.0 n))
-    (named_both (OpenBelow bodies blocks n) (IsOpenEndOf bodies blocks n) named broken r before here lower)
+    (earliest_both (OpenBelow bodies blocks n) (IsOpenEndOf bodies blocks n) named broken r before here lower)
 
-pub open_all : (bodies : List Block) (blocks : List BlockEdges) (n : ℕ) (r : Option Broken) → length bodies ≤ n → IsNamed (OpenBelow bodies blocks n) r → IsNamed (IsOpenEnd bodies blocks) r
-open_all bodies blocks n r past j = named_same _ _ r
+pub open_all : (bodies : List Block) (blocks : List BlockEdges) (n : ℕ) (r : Option Broken) → length bodies ≤ n → IsEarliest (OpenBelow bodies blocks n) r → IsEarliest (IsOpenEnd bodies blocks) r
+open_all bodies blocks n r past j = earliest_same _ _ r
     (λ x p. (p.2.0, p.2.1, p.2.2, p.2.3, p.2.4, p.2.5, p.2.6, p.2.7, p.0, p.2.8))
     (λ x p.
     let o : IsOpen bodies blocks p.8 p.0 = p.9 in
@@ -108,5 +108,5 @@ open_all bodies blocks n r past j = named_same _ _ r
     j
 
 -- a block that does not end with a detach
-pub no_detach : (bodies : List Block) (blocks : List BlockEdges) (d : ℕ) → ((r : RegisterId) (k : BlockId) → IsDetach (ending_at bodies d) r k → ⊥) → IsNamed (IsOpenEndOf bodies blocks d) None
+pub no_detach : (bodies : List Block) (blocks : List BlockEdges) (d : ℕ) → ((r : RegisterId) (k : BlockId) → IsDetach (ending_at bodies d) r k → ⊥) → IsEarliest (IsOpenEndOf bodies blocks d) None
 no_detach bodies blocks d none = (tt, λ x p. let o : IsOpen bodies blocks d p.0 = p.8 in none o.region o.continuation o.is_detach)

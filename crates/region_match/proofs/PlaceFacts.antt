@@ -12,12 +12,12 @@ use Rattle.cfg.specs.declared.structure.Way.{Way}
 use Rattle.cfg.specs.declared.structure.Way.TheVariants.{Detached, Continued}
 use Rattle.cfg.specs.declared.structure.Edge.{Edge}
 use Rattle.cfg.specs.declared.structure.BlockEdges.{BlockEdges}
-use Rattle.cfg.specs.declared.refusal.Broken.{Broken}
+use Rattle.refusal.specs.declared.broken.Broken.{Broken}
 use Rattle.cfg.specs.Paths.{edges_of}
 use Rattle.cfg.specs.Rules.{IsPredecessor}
 use Rattle.region_match.specs.Rules.{IsEntered, IsShared, IsStartBroken, IsPhiBroken, IsFootBroken, IsLabelBroken}
-use Rattle.region_match.specs.ByLabel.{IsNamed}
-use Rattle.region_match.proofs.Lists.{named_same}
+use Rattle.refusal.specs.Earliest.{IsEarliest}
+use Rattle.refusal.proofs.Elements.{earliest_same}
 
 abbrev pub AreStartsWrong : Bool → List Step → Broken → Type 0
 AreStartsWrong wrong steps b = Any (λ step. (IsTrue wrong) × (b.number ≡ 307) × (b.line ≡ step.line) × (region : RegisterId) × (step.instruction ≡ StartRegion region)) steps
@@ -75,22 +75,22 @@ shared_more blocks b i edges read none here a l any has =
     (λ other. none a (omega (arith, l, other)) any has)
     (cases_eq a i)
 
-pub starts_named : (blocks : List BlockEdges) (b : ℕ) (steps : List Step) (wrong detached : Bool) (r : Option Broken) → IsTrue wrong ↔ ((b ≢ 0) × (detached ≡ false)) → IsTrue detached ↔ IsEntered blocks b Detached → IsNamed (AreStartsWrong wrong steps) r → IsNamed (IsStartBroken blocks b steps) r
-starts_named blocks b steps wrong detached r at entered j = named_same _ _ r
+pub starts_named : (blocks : List BlockEdges) (b : ℕ) (steps : List Step) (wrong detached : Bool) (r : Option Broken) → IsTrue wrong ↔ ((b ≢ 0) × (detached ≡ false)) → IsTrue detached ↔ IsEntered blocks b Detached → IsEarliest (AreStartsWrong wrong steps) r → IsEarliest (IsStartBroken blocks b steps) r
+starts_named blocks b steps wrong detached r at entered j = earliest_same _ _ r
     (λ x any. let w = at.0 any.4.0 in (w.0, λ e. true≢false (sym (entered.1 e) ∙ w.1), (any.0, any.1, any.2, any.3, (any.4.1, any.4.2, any.4.3, any.4.4))))
     (λ x p.
     let off : detached ≡ false = ⊎_elim (λ on. absurd (p.1 (entered.0 on))) (λ e. e) (cases_Bool detached) in
     (p.2.0, p.2.1, p.2.2, p.2.3, (at.1 (p.0, off), p.2.4.0, p.2.4.1, p.2.4.2, p.2.4.3)))
     j
 
-pub phis_named : (blocks : List BlockEdges) (b : ℕ) (phis : List Phi) (wrong detached continued : Bool) (r : Option Broken) → IsTrue wrong ↔ (IsTrue detached ⊎ IsTrue continued) → IsTrue detached ↔ IsEntered blocks b Detached → IsTrue continued ↔ IsEntered blocks b Continued → IsNamed (ArePhisWrong wrong phis) r → IsNamed (IsPhiBroken blocks b phis) r
-phis_named blocks b phis wrong detached continued r at d k j = named_same _ _ r
+pub phis_named : (blocks : List BlockEdges) (b : ℕ) (phis : List Phi) (wrong detached continued : Bool) (r : Option Broken) → IsTrue wrong ↔ (IsTrue detached ⊎ IsTrue continued) → IsTrue detached ↔ IsEntered blocks b Detached → IsTrue continued ↔ IsEntered blocks b Continued → IsEarliest (ArePhisWrong wrong phis) r → IsEarliest (IsPhiBroken blocks b phis) r
+phis_named blocks b phis wrong detached continued r at d k j = earliest_same _ _ r
     (λ x any. (⊎_elim (λ h. inl (d.0 h)) (λ h. inr (k.0 h)) (at.0 any.4.0), (any.0, any.1, any.2, any.3, (any.4.1, any.4.2))))
     (λ x p. (p.1.0, p.1.1, p.1.2, p.1.3, (at.1 (⊎_elim (λ h. inl (d.1 h)) (λ h. inr (k.1 h)) p.0), p.1.4.0, p.1.4.1)))
     j
 
-pub foot_named : (blocks : List BlockEdges) (b : ℕ) (foot : List Zone) (detached : Bool) (r : Option Broken) → IsTrue detached ↔ IsEntered blocks b Detached → IsNamed (IsFootWrong (not detached) foot) r → IsNamed (IsFootBroken blocks b foot) r
-foot_named blocks b foot detached r d j = named_same _ _ r
+pub foot_named : (blocks : List BlockEdges) (b : ℕ) (foot : List Zone) (detached : Bool) (r : Option Broken) → IsTrue detached ↔ IsEntered blocks b Detached → IsEarliest (IsFootWrong (not detached) foot) r → IsEarliest (IsFootBroken blocks b foot) r
+foot_named blocks b foot detached r d j = earliest_same _ _ r
     (λ x any. (λ e. let on : detached ≡ true = d.1 e in let wrong : not detached ≡ true = any.4.0 in false≢true (rw on at wrong), (any.0, any.1, any.2, any.3, (any.4.1, any.4.2))))
     (λ x p.
     let off : detached ≡ false = ⊎_elim (λ on. absurd (p.0 (d.0 on))) (λ e. e) (cases_Bool detached) in
@@ -98,14 +98,14 @@ foot_named blocks b foot detached r d j = named_same _ _ r
     (p.1.0, p.1.1, p.1.2, p.1.3, (wrong, p.1.4.0, p.1.4.1)))
     j
 
-pub label_named : (blocks : List BlockEdges) (b : ℕ) (block : Block) (shared : Bool) (r : Option Broken) → IsTrue shared ↔ IsShared blocks b → IsNamed (λ x. (IsTrue shared) × (x.number ≡ 307) × (x.line ≡ block.line)) r → IsNamed (IsLabelBroken blocks b block) r
-label_named blocks b block shared r s j = named_same _ _ r
+pub label_named : (blocks : List BlockEdges) (b : ℕ) (block : Block) (shared : Bool) (r : Option Broken) → IsTrue shared ↔ IsShared blocks b → IsEarliest (λ x. (IsTrue shared) × (x.number ≡ 307) × (x.line ≡ block.line)) r → IsEarliest (IsLabelBroken blocks b block) r
+label_named blocks b block shared r s j = earliest_same _ _ r
     (λ x p. (p.1, p.2, s.0 p.0))
     (λ x p. (s.1 p.2, p.0, p.1))
     j
 
-pub start_here : (wrong starts both : Bool) (step : Step) (r : Option Broken) → IsTrue starts ↔ ((region : RegisterId) × (step.instruction ≡ StartRegion region)) → IsTrue both ↔ ((IsTrue wrong) × (IsTrue starts)) → IsNamed (λ b. (IsTrue both) × (b.number ≡ 307) × (b.line ≡ step.line)) r → IsNamed (λ b. (IsTrue wrong) × (b.number ≡ 307) × (b.line ≡ step.line) × (region : RegisterId) × (step.instruction ≡ StartRegion region)) r
-start_here wrong starts both step r s t j = named_same _ _ r
+pub start_here : (wrong starts both : Bool) (step : Step) (r : Option Broken) → IsTrue starts ↔ ((region : RegisterId) × (step.instruction ≡ StartRegion region)) → IsTrue both ↔ ((IsTrue wrong) × (IsTrue starts)) → IsEarliest (λ b. (IsTrue both) × (b.number ≡ 307) × (b.line ≡ step.line)) r → IsEarliest (λ b. (IsTrue wrong) × (b.number ≡ 307) × (b.line ≡ step.line) × (region : RegisterId) × (step.instruction ≡ StartRegion region)) r
+start_here wrong starts both step r s t j = earliest_same _ _ r
     (λ x p. let k = t.0 p.0 in let g = s.0 k.1 in (k.0, p.1, p.2, g.0, g.1))
     (λ x p. (t.1 (p.0, s.1 (p.3, p.4)), p.1, p.2))
     j

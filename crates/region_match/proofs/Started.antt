@@ -8,13 +8,8 @@ use Rattle.program.specs.declared.function.Block.{Block}
 use Rattle.region_match.specs.declared.task.Task.{Task}
 use Rattle.region_match.specs.Tasks.{task_at}
 use Rattle.region_match.specs.Rules.{Starts}
+use Rattle.refusal.proofs.Places.{same_at, read_at}
 use Rattle.region_match.specs.ByLabel.{IsStartedBy}
-
-pub same_block : (bodies : List Block) (i : ℕ) (x y : Block) → slice_get bodies i ≡ Some x → slice_get bodies i ≡ Some y → x ≡ y
-same_block bodies i x y h k = let e : Some x ≡ Some y = sym h ∙ k in cc
-
-pub block_read : (bodies : List Block) (i : ℕ) (block : Block) → i < length bodies → block ≡ get_or bodies i block → slice_get bodies i ≡ Some block
-block_read bodies i block l is = slice_get-get_or bodies i block l ∙ ap Some (sym is)
 
 -- none of the first blocks of this label starts the region
 abbrev pub IsNotStarted : List Block → List Task → RegisterId → Task → ℕ → Type 0
@@ -24,7 +19,7 @@ pub not_started_more : (bodies : List Block) (tasks : List Task) (region : Regis
 not_started_more bodies tasks region task i block l is before here b x w h starts t =
     ⊎_elim
     (λ same.
-    let e : x ≡ block = same_block bodies i x block (rw (← same) h) (block_read bodies i block l is) in
+    let e : x ≡ block = same_at bodies i x block (rw (← same) h) (read_at bodies i block l is) in
     here (rw (← e) starts) (rw (← same) t))
     (λ other. before b x (omega (arith, w, other)) h starts t)
     (cases_eq b i)

@@ -1,4 +1,4 @@
--- The rules by the labels of the blocks.
+-- For the functions of this crate and their loops alone: the rules by the labels of the blocks.
 use Rattle.std.specs.Prelude.{◌≡◌, ◌⊎◌, ℕ, true, List, Option, Some, None, Any, slice_get}
 use Rattle.linear.specs.declared.form.RegisterId.{RegisterId}
 use Rattle.program.specs.declared.identifier.BlockId.{BlockId}
@@ -7,18 +7,13 @@ use Rattle.program.specs.declared.instruction.Ending.{Ending}
 use Rattle.program.specs.declared.instruction.Terminator.{Terminator}
 use Rattle.program.specs.declared.instruction.Terminator.TheVariants.{Jump, Branch, Switch, Return, Detach, Reattach, Sync}
 use Rattle.program.specs.declared.function.Block.{Block}
-use Rattle.cfg.specs.declared.refusal.Broken.{Broken}
-use Rattle.cfg.specs.Faults.{IsJudged}
+use Rattle.refusal.specs.declared.broken.Broken.{Broken}
 use Rattle.region_match.specs.declared.task.Task.{Task}
 use Rattle.region_match.specs.declared.task.Task.TheVariants.{Unreached, Body, Child}
 use Rattle.region_match.specs.Tasks.{task_at}
 use Rattle.region_match.specs.Labels.{is_seen}
 use Rattle.region_match.specs.Rules.{ending_at, IsDetach, Starts, IsStartBroken, IsPhiBroken, IsFootBroken, IsLabelBroken, IsOpen, is_leave}
 use Rattle.cfg.specs.declared.structure.BlockEdges.{BlockEdges}
-
--- what is named where these rules are broken
-abbrev pub IsNamed : (Broken → Type 0) → Option Broken → Type 0
-IsNamed IsBroken named = IsJudged (Unit {0}) IsBroken named
 
 abbrev pub IsStartedBy : List Block → List Task → RegisterId → Task → Type 0
 IsStartedBy bodies tasks region task = (b : ℕ) × (block : Block) × (slice_get bodies b ≡ Some block) × Starts region block.steps × (task_at tasks b ≡ task)
@@ -47,7 +42,8 @@ IsEndingWrongBy bodies tasks task (Branch condition when_true when_false) number
 IsEndingWrongBy bodies tasks task (Switch width value default cases) number = ⊥
 IsEndingWrongBy bodies tasks task (Return value) number = (number ≡ 305) × IsInsideBy task
 IsEndingWrongBy bodies tasks task (Detach region body continuation) number = (number ≡ 303) × IsForeignBy bodies tasks task region
-IsEndingWrongBy bodies tasks task (Reattach region continuation) number = ((number ≡ 301) × IsStrayBy bodies task region) ⊎ ((number ≡ 302) × IsElsewhereBy bodies task continuation)
+IsEndingWrongBy bodies tasks task (Reattach region continuation) number =
+    ((number ≡ 301) × IsStrayBy bodies task region) ⊎ ((number ≡ 302) × IsElsewhereBy bodies task continuation)
 IsEndingWrongBy bodies tasks task (Sync region target) number = (number ≡ 303) × IsForeignBy bodies tasks task region
 
 abbrev pub IsEndingBrokenBy : List Block → List Task → Task → Option Ending → Broken → Type 0
@@ -55,13 +51,17 @@ IsEndingBrokenBy bodies tasks task None broken = ⊥
 IsEndingBrokenBy bodies tasks task (Some ending) broken = (broken.line ≡ ending.line) × IsEndingWrongBy bodies tasks task ending.terminator broken.number
 
 abbrev pub IsPendingBrokenBy : List Block → List Task → Task → List Pending → Broken → Type 0
-IsPendingBrokenBy bodies tasks task pending broken = Any (λ p. (broken.number ≡ 303) × (broken.line ≡ p.zone.line) × IsForeignBy bodies tasks task p.region) pending
+IsPendingBrokenBy bodies tasks task pending broken =
+    Any (λ p. (broken.number ≡ 303) × (broken.line ≡ p.zone.line) × IsForeignBy bodies tasks task p.region) pending
 
 -- 307, in all its forms
 abbrev pub IsPlaceBroken : List BlockEdges → ℕ → Block → Broken → Type 0
-IsPlaceBroken blocks b block broken = (IsStartBroken blocks b block.steps broken ⊎ IsPhiBroken blocks b block.phis broken) ⊎ (IsFootBroken blocks b block.foot broken ⊎ IsLabelBroken blocks b block broken)
+IsPlaceBroken blocks b block broken =
+    (IsStartBroken blocks b block.steps broken ⊎ IsPhiBroken blocks b block.phis broken)
+    ⊎ (IsFootBroken blocks b block.foot broken ⊎ IsLabelBroken blocks b block broken)
 
 -- 304, at the ends that one detach is open at
 abbrev pub IsOpenEndOf : List Block → List BlockEdges → ℕ → Broken → Type 0
 IsOpenEndOf bodies blocks detach broken =
-    (to : ℕ) × (block : Block) × (ending : Ending) × (slice_get bodies to ≡ Some block) × (block.ending ≡ Some ending) × (is_leave ending.terminator ≡ true) × (broken.number ≡ 304) × (broken.line ≡ ending.line) × IsOpen bodies blocks detach to
+    (to : ℕ) × (block : Block) × (ending : Ending) × (slice_get bodies to ≡ Some block) × (block.ending ≡ Some ending)
+    × (is_leave ending.terminator ≡ true) × (broken.number ≡ 304) × (broken.line ≡ ending.line) × IsOpen bodies blocks detach to

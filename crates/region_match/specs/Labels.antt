@@ -1,4 +1,4 @@
--- A step of the labelling of blocks by their innermost detach.
+-- For the functions of this crate and their loops alone: the labelling of blocks by their innermost detach.
 use Rattle.std.specs.Prelude.{◌≡◌, ◌≢◌, ◌⊎◌, ℕ, ◌+◌, ◌<◌, Bool, true, false, not, List, length, All, Any, Contains, count_by}
 use Rattle.cfg.specs.declared.structure.Way.{Way}
 use Rattle.cfg.specs.declared.structure.Way.TheVariants.{Branch, Detached, Continued, Synced}
@@ -26,7 +26,8 @@ pub record LabelsTargets (from : ℕ) (edges : List Edge) (task : Task) (tasks :
   pub size : length tasks' ≡ length tasks
   pub targets : All (λ e. e.to.0 < length tasks → is_seen (task_at tasks' e.to.0) ≡ true) edges
   pub kept : (b : ℕ) → is_seen (task_at tasks b) ≡ true → task_at tasks' b ≡ task_at tasks b
-  pub added : (b : ℕ) → is_seen (task_at tasks' b) ≡ true → (is_seen (task_at tasks b) ≡ true) ⊎ (Contains work' b × (e : Edge) × Contains edges e × (e.to.0 ≡ b) × (task_at tasks' b ≡ next_task e.way from task))
+  pub added : (b : ℕ) → is_seen (task_at tasks' b) ≡ true
+      → (is_seen (task_at tasks b) ≡ true) ⊎ (Contains work' b × (e : Edge) × Contains edges e × (e.to.0 ≡ b) × (task_at tasks' b ≡ next_task e.way from task))
   pub waiting : (b : ℕ) → Contains work b → Contains work' b
   pub new : (b : ℕ) → Contains work' b → Contains work b ⊎ (is_seen (task_at tasks' b) ≡ true)
   pub count : count_by (λ x. not (is_seen x)) tasks' + length work' ≡ count_by (λ x. not (is_seen x)) tasks + length work

@@ -1,20 +1,18 @@
--- What is broken in a module, and what a fault says.
+-- What is broken in a module.
 use Rattle.std.specs.Prelude.{◌≡◌, ◌⊎◌, ℕ, List, Some, Any, slice_get}
 use Rattle.program.specs.declared.function.Block.{Block}
 use Rattle.program.specs.declared.function.Function.{Function}
 use Rattle.program.specs.declared.function.Program.{Program}
 use Rattle.cfg.specs.declared.structure.BlockEdges.{BlockEdges}
-use Rattle.cfg.specs.declared.refusal.Broken.{Broken}
+use Rattle.refusal.specs.declared.broken.Broken.{Broken}
 use Rattle.cfg.specs.Edges.{graph_of}
-use Rattle.cfg.specs.Faults.{IsAtOrBefore}
-use Rattle.region_match.specs.declared.fault.RegionFault.{RegionFault}
-use Rattle.region_match.specs.declared.fault.RegionFault.TheVariants.{Fault, Memory}
 use Rattle.region_match.specs.Mixed.{IsMixed}
 use Rattle.region_match.specs.Rules.{IsEndingBroken, IsPendingBroken, IsOpenEnd}
 use Rattle.region_match.specs.ByLabel.{IsPlaceBroken}
 
 abbrev pub IsBlockBroken : List Block → List BlockEdges → ℕ → Block → Broken → Type 0
-IsBlockBroken bodies blocks b block broken = IsEndingBroken bodies blocks b block.ending broken ⊎ (IsPendingBroken bodies blocks b block.pending broken ⊎ IsPlaceBroken blocks b block broken)
+IsBlockBroken bodies blocks b block broken =
+    IsEndingBroken bodies blocks b block.ending broken ⊎ (IsPendingBroken bodies blocks b block.pending broken ⊎ IsPlaceBroken blocks b block broken)
 
 abbrev pub IsFunctionBroken : Function → Broken → Type 0
 IsFunctionBroken function broken =
@@ -30,10 +28,6 @@ pub record AreRegionsRight (program : Program) : Type 0 where
   pub unmixed : (b : Broken) → IsMixed program b → ⊥
   pub unbroken : (b : Broken) → IsRegionBroken program b → ⊥
 
--- what a fault says: a block has two tasks, and none on a lower line; or no block has, and this rule is broken and none before it
-abbrev pub IsRegionFault : Program → RegionFault → Type 0
-IsRegionFault program Memory = Unit {0}
-IsRegionFault program (Fault number line) =
-    let named : Broken = record { line = line; number = number } in
-    (IsMixed program named × ((b : Broken) → IsMixed program b → IsAtOrBefore named b))
-    ⊎ (((b : Broken) → IsMixed program b → ⊥) × (IsRegionBroken program named × ((b : Broken) → IsRegionBroken program b → IsAtOrBefore named b)))
+-- what a refusal may name: 306; where no block has two tasks, the other rules
+abbrev pub IsTaskBroken : Program → Broken → Type 0
+IsTaskBroken program broken = IsMixed program broken ⊎ (((mixed : Broken) → IsMixed program mixed → ⊥) × IsRegionBroken program broken)

@@ -14,7 +14,7 @@ use Rattle.program.specs.declared.function.Block.{Block}
 use Rattle.cfg.specs.declared.structure.Way.{Way}
 use Rattle.cfg.specs.declared.structure.Way.TheVariants.{Detached, Continued}
 use Rattle.cfg.specs.declared.structure.BlockEdges.{BlockEdges}
-use Rattle.cfg.specs.declared.refusal.Broken.{Broken}
+use Rattle.refusal.specs.declared.broken.Broken.{Broken}
 use Rattle.cfg.specs.Paths.{edges_of, Leg, IsPath}
 use Rattle.cfg.specs.Rules.{IsPredecessor}
 use Rattle.region_match.specs.Tasks.{HasTask}
@@ -45,11 +45,15 @@ IsStarted bodies blocks region detaches = (b : ℕ) × (block : Block) × (slice
 
 -- 301: a reattach in no task, or within another region than its detach's
 abbrev pub IsStray : List Block → List BlockEdges → ℕ → RegisterId → Type 0
-IsStray bodies blocks b region = HasTask blocks b [] ⊎ ((detach : ℕ) × (outer : List ℕ) × HasTask blocks b (detach ∷ outer) × ((continuation : BlockId) → IsDetach (ending_at bodies detach) region continuation → ⊥))
+IsStray bodies blocks b region =
+    HasTask blocks b []
+    ⊎ ((detach : ℕ) × (outer : List ℕ) × HasTask blocks b (detach ∷ outer)
+    × ((continuation : BlockId) → IsDetach (ending_at bodies detach) region continuation → ⊥))
 
 -- 302: a reattach to another continuation than its detach's
 abbrev pub IsElsewhere : List Block → List BlockEdges → ℕ → BlockId → Type 0
-IsElsewhere bodies blocks b continuation = (detach : ℕ) × (outer : List ℕ) × HasTask blocks b (detach ∷ outer) × ((region : RegisterId) → IsDetach (ending_at bodies detach) region continuation → ⊥)
+IsElsewhere bodies blocks b continuation =
+    (detach : ℕ) × (outer : List ℕ) × HasTask blocks b (detach ∷ outer) × ((region : RegisterId) → IsDetach (ending_at bodies detach) region continuation → ⊥)
 
 -- 303: the task of a use did not start the region
 abbrev pub IsForeign : List Block → List BlockEdges → ℕ → RegisterId → Type 0
@@ -66,7 +70,8 @@ IsEndingWrong bodies blocks b (Branch condition when_true when_false) number = �
 IsEndingWrong bodies blocks b (Switch width value default cases) number = ⊥
 IsEndingWrong bodies blocks b (Return value) number = (number ≡ 305) × IsInside blocks b
 IsEndingWrong bodies blocks b (Detach region body continuation) number = (number ≡ 303) × IsForeign bodies blocks b region
-IsEndingWrong bodies blocks b (Reattach region continuation) number = ((number ≡ 301) × IsStray bodies blocks b region) ⊎ ((number ≡ 302) × IsElsewhere bodies blocks b continuation)
+IsEndingWrong bodies blocks b (Reattach region continuation) number =
+    ((number ≡ 301) × IsStray bodies blocks b region) ⊎ ((number ≡ 302) × IsElsewhere bodies blocks b continuation)
 IsEndingWrong bodies blocks b (Sync region target) number = (number ≡ 303) × IsForeign bodies blocks b region
 
 abbrev pub IsEndingBroken : List Block → List BlockEdges → ℕ → Option Ending → Broken → Type 0
@@ -110,7 +115,8 @@ pub record IsOpen (bodies : List Block) (blocks : List BlockEdges) (detach to : 
 
 abbrev pub IsOpenEnd : List Block → List BlockEdges → Broken → Type 0
 IsOpenEnd bodies blocks broken =
-    (to : ℕ) × (block : Block) × (ending : Ending) × (slice_get bodies to ≡ Some block) × (block.ending ≡ Some ending) × (is_leave ending.terminator ≡ true) × (broken.number ≡ 304) × (broken.line ≡ ending.line)
+    (to : ℕ) × (block : Block) × (ending : Ending) × (slice_get bodies to ≡ Some block) × (block.ending ≡ Some ending)
+    × (is_leave ending.terminator ≡ true) × (broken.number ≡ 304) × (broken.line ≡ ending.line)
     × (detach : ℕ) × IsOpen bodies blocks detach to
 
 -- an edge leads to the block this way
@@ -119,11 +125,14 @@ IsEntered blocks b way = (a : ℕ) × Any (λ e. (e.to.0 ≡ b) × (e.way ≡ wa
 
 -- 307, at an instruction: a region starts in an entry block or a detached block
 abbrev pub IsStartBroken : List BlockEdges → ℕ → List Step → Broken → Type 0
-IsStartBroken blocks b steps broken = (b ≢ 0) × (IsEntered blocks b Detached → ⊥) × Any (λ step. (broken.number ≡ 307) × (broken.line ≡ step.line) × (region : RegisterId) × (step.instruction ≡ StartRegion region)) steps
+IsStartBroken blocks b steps broken =
+    (b ≢ 0) × (IsEntered blocks b Detached → ⊥)
+    × Any (λ step. (broken.number ≡ 307) × (broken.line ≡ step.line) × (region : RegisterId) × (step.instruction ≡ StartRegion region)) steps
 
 -- 307, at a phi: detached and continuation blocks have none
 abbrev pub IsPhiBroken : List BlockEdges → ℕ → List Phi → Broken → Type 0
-IsPhiBroken blocks b phis broken = (IsEntered blocks b Detached ⊎ IsEntered blocks b Continued) × Any (λ phi. (broken.number ≡ 307) × (broken.line ≡ phi.line)) phis
+IsPhiBroken blocks b phis broken =
+    (IsEntered blocks b Detached ⊎ IsEntered blocks b Continued) × Any (λ phi. (broken.number ≡ 307) × (broken.line ≡ phi.line)) phis
 
 -- 307, at a `foot` line: it stands on detached blocks
 abbrev pub IsFootBroken : List BlockEdges → ℕ → List Zone → Broken → Type 0

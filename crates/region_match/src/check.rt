@@ -1,21 +1,21 @@
 ghost use Rattle.std.specs.Prelude.{◌≡◌, ◌<◌, ◌⊎◌, ℕ, length, IfOk, IfErr};
 ghost use Rattle.cfg.specs.Edges.{graph_of};
-ghost use Rattle.cfg.specs.Faults.{IsJudged};
+ghost use Rattle.refusal.specs.Earliest.{IsJudged, NamesEarliest, IsEarliest};
 ghost use Rattle.region_match.specs.Mixed.{IsMixed};
 ghost use Rattle.region_match.specs.Tasks.{AreTasks, AreAllTasks};
-ghost use Rattle.region_match.specs.ByLabel.{IsNamed};
-ghost use Rattle.region_match.specs.Matched.{AreRegionsRight, IsBlockBroken, IsFunctionBroken, IsRegionBroken, IsRegionFault};
+ghost use Rattle.region_match.specs.Matched.{AreRegionsRight, IsBlockBroken, IsFunctionBroken, IsRegionBroken, IsTaskBroken};
 
-use crate::fault::RegionFault;
+use crate::RegionFault;
 use crate::label::function_tasks;
 use crate::matching::{ending_fault, pending_fault};
 use crate::places::place_fault;
 use crate::tables::{FunctionTasks, Regions};
 use crate::task::Task;
 use crate::unsynced::unsynced_fault;
-use cfg::{BlockEdges, Broken, Graph, lower};
+use cfg::{BlockEdges, Graph};
 use lists::Seq;
 use program::{Block, Function};
+use refusal::{Broken, lower};
 use std::alloc::{AllocError, Global};
 
 /// What is named of a block.
@@ -29,7 +29,7 @@ fn block_fault(
     requires tasks { AreTasks blocks.now tasks.now }
     requires size { length blocks.now ≡ length bodies.now }
     requires within { index < length blocks.now }
-    ensures { IsNamed (IsBlockBroken bodies.now blocks.now index block.now) result }
+    ensures { IsEarliest (IsBlockBroken bodies.now blocks.now index block.now) result }
 {
     let task = tasks[index];
     let at_end = ending_fault(bodies, tasks, task, &block.ending);
@@ -47,7 +47,7 @@ fn function_fault(
 ) -> Result<Option<Broken>, AllocError>
     requires blocks { blocks.now ≡ (graph_of function.now).blocks }
     requires tasks { AreTasks blocks.now tasks.now }
-    ensures { IfOk result (IsNamed (IsFunctionBroken function.now)) }
+    ensures { IfOk result (IsEarliest (IsFunctionBroken function.now)) }
 {
     let bodies = function.blocks.as_slice();
     let mut named: Option<Broken> = None;
@@ -85,7 +85,7 @@ fn all_faults(
     tables: &[FunctionTasks],
 ) -> Result<Option<Broken>, AllocError>
     requires { AreAllTasks graph.now.functions tables.now }
-    ensures { IfOk result (IsNamed (IsRegionBroken graph.now.typed.program)) }
+    ensures { IfOk result (IsEarliest (IsRegionBroken graph.now.typed.program)) }
 {
     let graphs = graph.functions.as_slice();
     let functions = graph.typed.program.functions.as_slice();
@@ -103,20 +103,14 @@ fn all_faults(
 pub fn regions(alloc: Global, graph: &Graph) -> Result<Regions, RegionFault>
     ensures tasks { IfOk result (λ regions. AreAllTasks graph.now.functions regions.functions) }
     ensures right { IfOk result (λ _. AreRegionsRight graph.now.typed.program) }
-    ensures fault { IfErr result (IsRegionFault graph.now.typed.program) }
+    ensures fault { IfErr result (NamesEarliest (IsTaskBroken graph.now.typed.program)) }
 {
     let (tables, mixed) = all_tasks(alloc, graph)?;
     if let Some(broken) = mixed {
-        return Err(RegionFault::Fault {
-            number: broken.number,
-            line: broken.line,
-        });
+        return Err(broken.into());
     }
     if let Some(broken) = all_faults(alloc, graph, &tables)? {
-        return Err(RegionFault::Fault {
-            number: broken.number,
-            line: broken.line,
-        });
+        return Err(broken.into());
     }
     Ok(Regions {
         functions: Seq::from_vec(tables),

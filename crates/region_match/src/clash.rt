@@ -19,7 +19,9 @@ fn mark_clashes(from: usize, edges: &[Edge], tasks: &[Task], marks: &mut Vec<boo
     requires within { from < length tasks.now }
     requires marks { length marks.old.items ≡ length tasks.now }
     ensures size { length marks.new.items ≡ length marks.old.items }
-    ensures exact { (b : ℕ) → b < length tasks.now → (slice_index_or marks.new.items b false ≡ true) ↔ ((slice_index_or marks.old.items b false ≡ true) ⊎ Any (λ e. (e.to.0 ≡ b) × IsClash tasks.now from e) edges.now) }
+    ensures exact { (b : ℕ) → b < length tasks.now
+        → (slice_index_or marks.new.items b false ≡ true)
+        ↔ ((slice_index_or marks.old.items b false ≡ true) ⊎ Any (λ e. (e.to.0 ≡ b) × IsClash tasks.now from e) edges.now) }
 {
     let task = tasks[from];
     for edge in edges {
@@ -50,7 +52,8 @@ pub fn mixed(alloc: Global, blocks: &[BlockEdges], tasks: &[Task]) -> Result<Vec
     requires { IsLabelled blocks.now tasks.now }
     ensures size { IfOk result (λ marks. length marks.items ≡ length blocks.now) }
     ensures exact { IfOk result (λ marks. (b : ℕ) → b < length blocks.now → (slice_index_or marks.items b false ≡ true) ↔ HasTwoTasks blocks.now b) }
-    ensures innermost { IfOk result (λ marks. (b : ℕ) → b < length blocks.now → slice_index_or marks.items b false ≡ false → IsInnermostAt blocks.now tasks.now b) }
+    ensures innermost { IfOk result (λ marks. (b : ℕ) → b < length blocks.now → slice_index_or marks.items b false ≡ false
+        → IsInnermostAt blocks.now tasks.now b) }
 {
     let starts = clashes(alloc, blocks, tasks)?;
     let stops = no_marks(alloc, blocks.len())?;

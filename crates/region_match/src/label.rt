@@ -1,15 +1,16 @@
 ghost use Rattle.std.specs.Prelude.{◌≡◌, ◌<◌, ◌↔◌, ℕ, true, false, length, IfOk, slice_index_or};
 ghost use Rattle.cfg.specs.Edges.{graph_of};
-ghost use Rattle.cfg.specs.Faults.{IsJudged};
+ghost use Rattle.refusal.specs.Earliest.{IsJudged};
 ghost use Rattle.region_match.specs.Tasks.{AreTasks, HasTwoTasks};
 ghost use Rattle.region_match.specs.Mixed.{IsMixedBlock, IsMixedIn};
 
 use crate::clash::mixed;
 use crate::tables::FunctionTasks;
 use crate::task::first_tasks;
-use cfg::{BlockEdges, Broken, lower};
+use cfg::BlockEdges;
 use lists::Seq;
 use program::{Block, Function};
+use refusal::{Broken, lower};
 use std::alloc::{AllocError, Global};
 
 /// 306: a block is marked, since two paths give it different tasks.

@@ -12,7 +12,6 @@
 
 mod check;
 mod clash;
-mod fault;
 mod label;
 mod matching;
 mod places;
@@ -21,6 +20,6 @@ mod task;
 mod unsynced;
 
 pub use check::regions;
-pub use fault::RegionFault;
+pub use refusal::Refused as RegionFault;
 pub use tables::{FunctionTasks, Regions};
 pub use task::Task;

@@ -4,12 +4,13 @@ ghost use Rattle.program.specs.declared.instruction.Instruction.TheVariants.{Sta
 ghost use Rattle.linear.specs.declared.form.RegisterId.{RegisterId};
 ghost use Rattle.program.specs.declared.identifier.BlockId.{BlockId};
 ghost use Rattle.region_match.specs.Rules.{IsDetach, ending_at, Starts};
-ghost use Rattle.region_match.specs.ByLabel.{IsNamed, IsStartedBy, IsStrayBy, IsElsewhereBy, IsForeignBy, IsEndingWrongBy, IsEndingBrokenBy, IsPendingBrokenBy};
+ghost use Rattle.refusal.specs.Earliest.{IsEarliest};
+ghost use Rattle.region_match.specs.ByLabel.{IsStartedBy, IsStrayBy, IsElsewhereBy, IsForeignBy, IsEndingWrongBy, IsEndingBrokenBy, IsPendingBrokenBy};
 
 use crate::clash::is_same;
 use crate::task::Task;
-use cfg::{Broken, lower};
 use program::{Block, BlockId, Ending, Instruction, Pending, RegisterId, Step, Terminator};
+use refusal::{Broken, lower};
 
 /// The terminator of the block of a number.
 pub fn ending_of(bodies: &[Block], block: usize) -> Option<&Terminator>
@@ -68,7 +69,7 @@ fn use_fault(
     line: u32,
 ) -> Option<Broken>
     requires { length tasks.now ≡ length bodies.now }
-    ensures { IsNamed (λ broken. (broken.number ≡ 303) × (broken.line ≡ line) × IsForeignBy bodies.now tasks.now task region) result }
+    ensures { IsEarliest (λ broken. (broken.number ≡ 303) × (broken.line ≡ line) × IsForeignBy bodies.now tasks.now task region) result }
 {
     if task.is_reached() && !is_started(bodies, tasks, region, task) {
         Some(Broken { line, number: 303 })
@@ -110,7 +111,8 @@ fn reattach_fault(
     continuation: BlockId,
     line: u32,
 ) -> Option<Broken>
-    ensures { IsNamed (λ broken. (broken.line ≡ line) × (((broken.number ≡ 301) × IsStrayBy bodies.now task region) ⊎ ((broken.number ≡ 302) × IsElsewhereBy bodies.now task continuation))) result }
+    ensures { IsEarliest (λ broken. (broken.line ≡ line)
+        × (((broken.number ≡ 301) × IsStrayBy bodies.now task region) ⊎ ((broken.number ≡ 302) × IsElsewhereBy bodies.now task continuation))) result }
 {
     match task {
         Task::Unreached => None,
@@ -135,7 +137,7 @@ pub fn ending_fault(
     ending: &Option<Ending>,
 ) -> Option<Broken>
     requires { length tasks.now ≡ length bodies.now }
-    ensures { IsNamed (IsEndingBrokenBy bodies.now tasks.now task ending.now) result }
+    ensures { IsEarliest (IsEndingBrokenBy bodies.now tasks.now task ending.now) result }
 {
     let Some(ending) = ending else {
         return None;
@@ -167,7 +169,7 @@ pub fn pending_fault(
     pending: &[Pending],
 ) -> Option<Broken>
     requires { length tasks.now ≡ length bodies.now }
-    ensures { IsNamed (IsPendingBrokenBy bodies.now tasks.now task pending.now) result }
+    ensures { IsEarliest (IsPendingBrokenBy bodies.now tasks.now task pending.now) result }
 {
     let mut named: Option<Broken> = None;
     for item in pending {

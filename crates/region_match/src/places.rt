@@ -4,10 +4,12 @@ ghost use Rattle.program.specs.declared.instruction.Instruction.TheVariants.{Sta
 ghost use Rattle.cfg.specs.Paths.{edges_of};
 ghost use Rattle.cfg.specs.Rules.{leads_to, IsPredecessor};
 ghost use Rattle.region_match.specs.Rules.{IsEntered, IsShared, IsStartBroken, IsPhiBroken, IsFootBroken, IsLabelBroken};
-ghost use Rattle.region_match.specs.ByLabel.{IsNamed, IsPlaceBroken};
+ghost use Rattle.refusal.specs.Earliest.{IsEarliest};
+ghost use Rattle.region_match.specs.ByLabel.{IsPlaceBroken};
 
-use cfg::{BlockEdges, Broken, Edge, Way, lower};
+use cfg::{BlockEdges, Edge, Way};
 use program::{Block, Instruction, Phi, Step, Zone};
+use refusal::{Broken, lower};
 
 /// Whether two edges go the same way.
 fn is_way(left: Way, right: Way) -> bool
@@ -106,7 +108,7 @@ fn is_start_wrong(block: usize, is_detached: bool) -> bool
 
 /// What is named at a line.
 fn named_at(is_broken: bool, line: u32) -> Option<Broken>
-    ensures { IsNamed (λ b. (IsTrue is_broken) × (b.number ≡ 307) × (b.line ≡ line)) result }
+    ensures { IsEarliest (λ b. (IsTrue is_broken) × (b.number ≡ 307) × (b.line ≡ line)) result }
 {
     if is_broken {
         Some(Broken { line, number: 307 })
@@ -117,7 +119,9 @@ fn named_at(is_broken: bool, line: u32) -> Option<Broken>
 
 /// 307: the regions that start in a block where none may.
 fn start_fault(steps: &[Step], is_wrong: bool) -> Option<Broken>
-    ensures { IsNamed (λ b. Any (λ step. (IsTrue is_wrong) × (b.number ≡ 307) × (b.line ≡ step.line) × (region : RegisterId) × (step.instruction ≡ StartRegion region)) steps.now) result }
+    ensures { IsEarliest (λ b. Any
+        (λ step. (IsTrue is_wrong) × (b.number ≡ 307) × (b.line ≡ step.line) × (region : RegisterId)
+        × (step.instruction ≡ StartRegion region)) steps.now) result }
 {
     let mut named: Option<Broken> = None;
     for step in steps {
@@ -130,7 +134,7 @@ fn start_fault(steps: &[Step], is_wrong: bool) -> Option<Broken>
 
 /// 307: the phis of a block where none may stand.
 fn phi_fault(phis: &[Phi], is_wrong: bool) -> Option<Broken>
-    ensures { IsNamed (λ b. Any (λ phi. (IsTrue is_wrong) × (b.number ≡ 307) × (b.line ≡ phi.line)) phis.now) result }
+    ensures { IsEarliest (λ b. Any (λ phi. (IsTrue is_wrong) × (b.number ≡ 307) × (b.line ≡ phi.line)) phis.now) result }
 {
     let mut named: Option<Broken> = None;
     for phi in phis {
@@ -141,7 +145,7 @@ fn phi_fault(phis: &[Phi], is_wrong: bool) -> Option<Broken>
 
 /// 307: the `foot` lines of a block where none may stand.
 fn foot_fault(foot: &[Zone], is_wrong: bool) -> Option<Broken>
-    ensures { IsNamed (λ b. Any (λ zone. (IsTrue is_wrong) × (b.number ≡ 307) × (b.line ≡ zone.line)) foot.now) result }
+    ensures { IsEarliest (λ b. Any (λ zone. (IsTrue is_wrong) × (b.number ≡ 307) × (b.line ≡ zone.line)) foot.now) result }
 {
     let mut named: Option<Broken> = None;
     for zone in foot {
@@ -152,7 +156,7 @@ fn foot_fault(foot: &[Zone], is_wrong: bool) -> Option<Broken>
 
 /// 307: what stands in a block where it may not, and a detached block with another predecessor.
 pub fn place_fault(blocks: &[BlockEdges], index: usize, block: &Block) -> Option<Broken>
-    ensures { IsNamed (IsPlaceBroken blocks.now index block.now) result }
+    ensures { IsEarliest (IsPlaceBroken blocks.now index block.now) result }
 {
     let is_detached = is_entered(blocks, index, Way::Detached);
     let is_continued = is_entered(blocks, index, Way::Continued);

@@ -5,14 +5,16 @@ ghost use Rattle.program.specs.declared.instruction.Ending.{Ending};
 ghost use Rattle.cfg.specs.Paths.{Leg, IsPath};
 ghost use Rattle.region_match.specs.Tasks.{AreTasks};
 ghost use Rattle.region_match.specs.Rules.{ending_at, IsDetach, IsSync, IsUnsynced, is_leave, IsOpenEnd};
-ghost use Rattle.region_match.specs.ByLabel.{IsNamed, IsOpenEndOf};
+ghost use Rattle.refusal.specs.Earliest.{IsEarliest};
+ghost use Rattle.region_match.specs.ByLabel.{IsOpenEndOf};
 
 use crate::clash::is_same;
 use crate::matching::ending_of;
 use crate::places::is_both;
 use crate::task::Task;
-use cfg::{BlockEdges, Broken, lower, one_mark, reached};
+use cfg::{BlockEdges, one_mark, reached};
 use program::{Block, BlockId, Ending, RegisterId, Terminator};
+use refusal::{Broken, lower};
 use std::alloc::{AllocError, Global};
 
 /// Whether a block ends with a sync within a region.
@@ -27,7 +29,8 @@ fn is_sync(bodies: &[Block], block: usize, region: RegisterId) -> bool
 
 /// The region and the continuation of the detach that a block ends with.
 fn detach_of(bodies: &[Block], block: usize) -> Option<(RegisterId, BlockId)>
-    ensures { MatchOption result ((region : RegisterId) (continuation : BlockId) → IsDetach (ending_at bodies.now block) region continuation → ⊥) (λ d. IsDetach (ending_at bodies.now block) d.0 d.1) }
+    ensures { MatchOption result ((region : RegisterId) (continuation : BlockId) → IsDetach (ending_at bodies.now block) region continuation → ⊥)
+        (λ d. IsDetach (ending_at bodies.now block) d.0 d.1) }
 {
     match ending_of(bodies, block) {
         Some(
@@ -44,7 +47,8 @@ fn detach_of(bodies: &[Block], block: usize) -> Option<(RegisterId, BlockId)>
 /// Marks the blocks that end with a sync within a region.
 fn sync_marks(alloc: Global, bodies: &[Block], region: RegisterId) -> Result<Vec<bool>, AllocError>
     ensures size { IfOk result (λ marks. length marks.items ≡ length bodies.now) }
-    ensures exact { IfOk result (λ marks. (b : ℕ) → b < length bodies.now → (slice_index_or marks.items b false ≡ true) ↔ IsSync (ending_at bodies.now b) region) }
+    ensures exact { IfOk result (λ marks. (b : ℕ) → b < length bodies.now
+        → (slice_index_or marks.items b false ≡ true) ↔ IsSync (ending_at bodies.now b) region) }
 {
     let mut marks = Vec::with_capacity(alloc, bodies.len())?;
     for block in 0..bodies.len() {
@@ -63,7 +67,9 @@ fn open_marks(
 ) -> Result<Vec<bool>, AllocError>
     requires { length blocks.now ≡ length bodies.now }
     ensures size { IfOk result (λ marks. length marks.items ≡ length blocks.now) }
-    ensures exact { IfOk result (λ marks. (b : ℕ) → b < length blocks.now → (slice_index_or marks.items b false ≡ true) ↔ ((legs : List Leg) × IsPath blocks.now continuation.0 legs b × IsUnsynced bodies.now region legs)) }
+    ensures exact { IfOk result (λ marks. (b : ℕ) → b < length blocks.now
+        → (slice_index_or marks.items b false ≡ true)
+        ↔ ((legs : List Leg) × IsPath blocks.now continuation.0 legs b × IsUnsynced bodies.now region legs)) }
 {
     let starts = one_mark(alloc, blocks.len(), continuation.0)?;
     let stops = sync_marks(alloc, bodies, region)?;
@@ -86,7 +92,8 @@ fn is_leaving(terminator: &Terminator) -> bool
 
 /// 304: an end that a detach is open at.
 fn end_fault(ending: &Option<Ending>, is_open: bool) -> Option<Broken>
-    ensures { IsNamed (λ b. (end : Ending) × (ending.now ≡ Some end) × (is_leave end.terminator ≡ true) × (b.number ≡ 304) × (b.line ≡ end.line) × (IsTrue is_open)) result }
+    ensures { IsEarliest (λ b. (end : Ending) × (ending.now ≡ Some end) × (is_leave end.terminator ≡ true) × (b.number ≡ 304) × (b.line ≡ end.line)
+        × (IsTrue is_open)) result }
 {
     let Some(ending) = ending else {
         return None;
@@ -115,7 +122,7 @@ fn open_ends(
     requires size { length blocks.now ≡ length bodies.now }
     requires within { detach < length bodies.now }
     requires detach { IsDetach (ending_at bodies.now detach) region continuation }
-    ensures { IfOk result (IsNamed (IsOpenEndOf bodies.now blocks.now detach)) }
+    ensures { IfOk result (IsEarliest (IsOpenEndOf bodies.now blocks.now detach)) }
 {
     let marks = open_marks(alloc, bodies, blocks, region, continuation)?;
     let task = tasks[detach];
@@ -138,7 +145,7 @@ pub fn unsynced_fault(
 ) -> Result<Option<Broken>, AllocError>
     requires tasks { AreTasks blocks.now tasks.now }
     requires size { length blocks.now ≡ length bodies.now }
-    ensures { IfOk result (IsNamed (IsOpenEnd bodies.now blocks.now)) }
+    ensures { IfOk result (IsEarliest (IsOpenEnd bodies.now blocks.now)) }
 {
     let mut named: Option<Broken> = None;
     for detach in 0..bodies.len() {

@@ -8,9 +8,9 @@ use Rattle.std.specs.declared.cmp.Ordering.{Ordering}
 use Rattle.std.specs.declared.cmp.Ordering.TheVariants.{Less, Equal, Greater}
 use Rattle.std.proofs.lemmas.List.{reverse-reverse}
 use Rattle.std.proofs.lemmas.Cmp.{nat_list_cmp_total}
-use Rattle.machine_core.specs.Frames as defined
-use Rattle.machine_core.specs.Events as running
-use Rattle.machine_core.specs.Tasks.{OnTask, is_lowest}
+use Rattle.running.specs.Frames as defined
+use Rattle.running.specs.Events as running
+use Rattle.running.specs.Tasks.{OnTask, is_lowest}
 use Rattle.program.specs.declared.function.Program.{Program}
 use Rattle.frame.specs.declared.path.Path.{Path}
 use Rattle.frame.specs.declared.frame.Wait.{Wait}

@@ -7,10 +7,10 @@ use Rattle.std.proofs.Math.Logic.{∥∥₁_elim}
 use Rattle.std.proofs.lemmas.List.{reverse-reverse}
 use Rattle.std.proofs.lemmas.List.Recursion.{is_count_by}
 use Rattle.std.proofs.lemmas.Map.Keys.{IsDistinct-prop}
-use Rattle.machine_core.specs.Paths.{Path, same_path}
-use Rattle.machine_core.specs.Replay.{CountsFrames}
-use Rattle.machine_core.proofs.Actions.{same_path_itself}
-use Rattle.machine_core.proofs.Places.{same_path_tells, same_path_apart}
+use Rattle.running.specs.Paths.{Path, same_path}
+use Rattle.running.specs.Replay.{CountsFrames}
+use Rattle.running.proofs.Actions.{same_path_itself}
+use Rattle.running.proofs.Places.{same_path_tells, same_path_apart}
 use Rattle.cactus.specs.declared.node.Node.{Node}
 use Rattle.cactus.specs.Frames.{Frames, node_at}
 use Rattle.cactus.specs.ByPath.{first_named, named, IsTree}

@@ -3,8 +3,8 @@ use Rattle.std.proofs.Common.{◌≡◌, ℕ, List, [], ◌∷◌, ◌++◌, app
 use Rattle.std.specs.Prelude.{IsTrue, Result, Ok, Err, IfOk, OnErr}
 use Rattle.std.proofs.Math.Logic.{∥∥₁_map}
 use Rattle.lists.specs.declared.memory.OutOfMemory.{OutOfMemory}
-use Rattle.machine_core.specs.Events as running
-use Rattle.machine_core.specs.Replay.{or_unchanged, replay}
+use Rattle.running.specs.Events as running
+use Rattle.running.specs.Replay.{or_unchanged, replay}
 use Rattle.program.specs.declared.function.Program.{Program}
 use Rattle.store.specs.Cells.{NamedCells}
 use Rattle.worker_steps.specs.declared.run.Run.{Run}
@@ -12,16 +12,17 @@ use Rattle.worker_steps.specs.declared.run.Phase.{Phase}
 use Rattle.worker_steps.specs.declared.run.Phase.TheVariants.{Going, Ended, Trapped}
 use Rattle.worker_steps.specs.Running.{IsGoing, IsTrapped}
 use Rattle.worker_steps.specs.Seen.{seen}
+use Rattle.worker_steps.specs.Slots.{HasSlots}
 use Rattle.worker_steps.specs.Stepping.{IsRun, IsEvent, DoesEvent, StartsAs}
 use Rattle.worker_steps.proofs.Reached.{replay_more}
 use Rattle.schedule_core.specs.declared.event.Event.{Event}
-use Rattle.schedule_core.specs.Replaying.{event_of, Happens, StopsOnly, AreEvents, StopsAt, DoesAll, Replays, Stops}
+use Rattle.schedule_core.specs.Replaying.{event_of, IsMachine, Happens, StopsOnly, AreEvents, StopsAt, DoesAll, Replays}
 
 pub not_going : (m : Run) → IsTrapped m → ¬ IsGoing m
 not_going m trapped going = let e : Trapped ≡ Going = sym trapped ∙ going in cc
 
 pub none_yet : (prog : Program) (old : Run) → IsRun prog old → DoesAll prog old old []
-none_yet prog old m = record { sound = λ fine. record { replayed = refl; run = m; workers = refl; program = refl }; trapped = λ trapped. absurd (m.sound trapped) }
+none_yet prog old m = record { sound = λ fine. record { replayed = refl; run = m; slots = λ s. s; workers = refl; program = refl }; trapped = λ trapped. absurd (m.sound trapped) }
 
 map_more : (events : List Event) (e : Event) → map event_of (events ++ e ∷ []) ≡ map event_of events ++ event_of e ∷ []
 map_more [] e = refl
@@ -36,6 +37,7 @@ module _ (prog : Program) (old mid new : Run) (events : List Event) (e : Event) 
       record {
         replayed = replay_more prog (length old.hands.items) (map event_of events) (event_of e) (seen old) ∙ (ap (λ x. or_unchanged (running.event prog (length old.hands.items) (event_of e) x) x) a.replayed ∙ (ap (λ n. or_unchanged (running.event prog n (event_of e) (seen mid)) (seen mid)) (sym a.workers) ∙ (ap (λ o. or_unchanged o (seen mid)) d.exact ∙ by done same)));
         run = d.machine;
+        slots = λ s. d.slots (a.slots s);
         workers = d.workers ∙ a.workers;
         program = d.program ∙ a.program;
       }
@@ -84,68 +86,27 @@ module _ (prog : Program) (old mid new : Run) (events : List Event) (e : Event) 
         }
 
 -- from a start
-module _ (prog : Program) (arguments : List ℤ) (globals : List NamedCells) (workers : ℕ) (first : Run) (s : StartsAs prog arguments globals first) (many : length first.hands.items ≡ workers) where
-  replays_from : (events : List Event) (m : Run) → AreEvents prog first m (map event_of events) → Replays prog arguments globals workers events m
+module _ (prog : Program) (arguments : List ℤ) (globals : List NamedCells) (workers : ℕ) (first : Run) (s : StartsAs prog arguments globals first) (slots : HasSlots prog first) (many : length first.hands.items ≡ workers) where
+  pub replays_from : (events : List Event) (m : Run) → AreEvents prog first m (map event_of events) → Replays prog arguments globals workers events m
   replays_from events m all =
       record {
         reads = sym all.replayed ∙ (ap (λ n. replay prog n (map event_of events) (seen first)) many ∙ ap (replay prog workers (map event_of events)) s.reads);
         run = all.run;
+        slots = all.slots slots;
       }
 
-  all_from : (m : Run) (events : List Event) → (IsRun first.verified.now first → DoesAll first.verified.now first m events) → DoesAll prog first m events
+  pub all_from : (m : Run) (events : List Event) → (IsRun first.verified.now first → DoesAll first.verified.now first m events) → DoesAll prog first m events
   all_from m events does = subst (λ (q : Program). IsRun q first → DoesAll q first m events) s.program does s.machine
 
   pub replays_all : (m : Run) (events : List Event) → (IsRun first.verified.now first → DoesAll first.verified.now first m events) → ¬ IsTrapped m → Replays prog arguments globals workers events m
   replays_all m events does fine = replays_from events m ((all_from m events does).sound fine)
 
-  pub stops_all : (m : Run) (events : List Event) → (IsRun first.verified.now first → DoesAll first.verified.now first m events) → IsTrapped m → Stops prog arguments globals workers events
-  stops_all m events does trapped =
-      let a : StopsAt prog first events = (all_from m events does).trapped trapped in
-      record {
-        before = a.before;
-        last = a.last;
-        after = a.after;
-        parts = a.parts;
-        stood = a.stood;
-        reached = replays_from a.before a.stood a.reached;
-        stops = a.stops;
-      }
-
--- the run of a start, under its own program
-pub start_kept : (prog : Program) (arguments : List ℤ) (globals : List NamedCells) (m : Run) → StartsAs prog arguments globals m → ∥ (¬ IsTrapped m → IsRun m.verified.now m) ∥₁
-start_kept prog arguments globals m s = ∣ (λ fine. subst (λ (q : Program). IsRun q m) (sym s.program) s.machine) ∣₁
+-- the run of a machine
+pub run_kept : (m : Run) → ∥ IsMachine m ∥₁ → ∥ (¬ IsTrapped m → IsRun m.verified.now m) ∥₁
+run_kept m kept = ∥∥₁_map kept (λ k fine. k.run)
 
 -- ---- where a run stops
 
 -- at no steal
 pub steal_goes_on : (old new : Run) → new ≡ record old { cactus = new.cactus; hands = new.hands } → IsGoing old → IsTrapped new → ⊥
 steal_goes_on old new kept going trapped = not_going old (sym (ap (λ (m : Run). m.phase) kept) ∙ trapped) going
-
--- ---- one event of a run that is kept
-
-module _ (old new : Run) (e : Event) (over : ¬ IsGoing old → new ≡ old) where
-  fine_before : ¬ IsTrapped new → ¬ IsTrapped old
-  fine_before fine trapped = fine (ap (λ (m : Run). m.phase) (over (not_going old trapped)) ∙ trapped)
-
-  happens : (done : Bool) → DoesEvent old.verified.now old new (event_of e) done → ¬ IsTrapped new → (¬ IsTrapped old → IsRun old.verified.now old) → Happens old new (event_of e) done
-  happens done does fine k = does (k (fine_before fine)) fine
-
-  kept_by : (done : Bool) → DoesEvent old.verified.now old new (event_of e) done → (¬ IsTrapped old → IsRun old.verified.now old) → ¬ IsTrapped new → IsRun new.verified.now new
-  kept_by done does k fine =
-      let ev : IsEvent old.verified.now old new (event_of e) done = happens done does fine k in
-      subst (λ (q : Program). IsRun q new) (sym (ap (λ v. v.now) ev.program)) ev.machine
-
-  pub happens_if : (r : Result Bool OutOfMemory) → IfOk r (DoesEvent old.verified.now old new (event_of e)) → ∥ (¬ IsTrapped old → IsRun old.verified.now old) ∥₁ → ¬ IsTrapped new → IfOk r (λ done. ∥ Happens old new (event_of e) done ∥₁)
-  happens_if (Err x) does kept fine = tt
-  happens_if (Ok done) does kept fine = ∥∥₁_map kept (happens done does fine)
-
-  pub kept_after : (r : Result Bool OutOfMemory) → OnErr r (new ≡ old) → IfOk r (DoesEvent old.verified.now old new (event_of e)) → ∥ (¬ IsTrapped old → IsRun old.verified.now old) ∥₁ → ∥ (¬ IsTrapped new → IsRun new.verified.now new) ∥₁
-  kept_after (Err x) same does kept = subst (λ (m : Run). ∥ (¬ IsTrapped m → IsRun m.verified.now m) ∥₁) (sym same) kept
-  kept_after (Ok done) same does kept = ∥∥₁_map kept (kept_by done does)
-
--- a run after a schedule
-pub replay_kept : (prog : Program) (arguments : List ℤ) (globals : List NamedCells) (first m : Run) (events : List Event) → StartsAs prog arguments globals first → (IsRun first.verified.now first → DoesAll first.verified.now first m events) → ∥ (¬ IsTrapped m → IsRun m.verified.now m) ∥₁
-replay_kept prog arguments globals first m events s does =
-    ∣ (λ fine.
-    let a : AreEvents first.verified.now first m (map event_of events) = (does (subst (λ (q : Program). IsRun q first) (sym s.program) s.machine)).sound fine in
-    subst (λ (q : Program). IsRun q m) (sym (ap (λ v. v.now) a.program)) a.run) ∣₁

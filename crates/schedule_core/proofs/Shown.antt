@@ -1,7 +1,7 @@
 -- A view of two slots shows a task of the definitions.
 use Rattle.std.proofs.Common.{◌≡◌, ◌≢◌, ℕ, length, reverse, Option, Some, None, Bool, true, false, cond, refl, sym, ap, ◌∙◌, subst}
 use Rattle.std.specs.Prelude.{IfNone, IfSome, IsSomeAnd}
-use Rattle.machine_core.specs.Events as running
+use Rattle.running.specs.Events as running
 use Rattle.program.specs.declared.function.Program.{Program}
 use Rattle.frame.specs.declared.path.Path.{Path}
 use Rattle.frame.specs.declared.frame.Wait.{Wait}

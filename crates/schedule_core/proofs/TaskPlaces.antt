@@ -2,13 +2,13 @@
 use Rattle.std.proofs.Common.{◌≡◌, ◌≢◌, ℕ, zero, suc, ◌<◌, ◌≤◌, List, [], ◌∷◌, ◌++◌, length, reverse, Option, Some, None, Bool, true, false, ◌⊎◌, inl, inr, refl, sym, ap, ◌∙◌, subst, arith}
 use Rattle.std.proofs.lemmas.List.{reverse-reverse}
 use Rattle.linear.specs.declared.form.RegisterId.{RegisterId}
-use Rattle.machine_core.specs.Paths.{Path, Under, itself, deeper}
-use Rattle.machine_core.specs.Frames.{Frame, Wait, OnCall, Body}
-use Rattle.machine_core.specs.State.{State}
-use Rattle.machine_core.specs.Tree.{Tree}
-use Rattle.machine_core.specs.Tasks.{OnTask, is_lowest, is_called, PartIntoTasks}
-use Rattle.machine_core.specs.Events as running
-use Rattle.machine_core.proofs.TaskLaws.{frames_on_tasks}
+use Rattle.running.specs.Paths.{Path, Under, itself, deeper}
+use Rattle.running.specs.Frames.{Frame, Wait, OnCall, Body}
+use Rattle.running.specs.State.{State}
+use Rattle.running.specs.Tree.{Tree}
+use Rattle.running.specs.Tasks.{OnTask, is_lowest, is_called, PartIntoTasks}
+use Rattle.running.specs.Events as running
+use Rattle.running.proofs.TaskLaws.{frames_on_tasks}
 use Rattle.program.specs.declared.function.Program.{Program}
 use Rattle.frame.specs.declared.frame.Wait.{Wait as Waits}
 use Rattle.frame.specs.declared.frame.Wait.TheVariants as waits

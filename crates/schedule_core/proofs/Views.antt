@@ -7,8 +7,8 @@ use Rattle.std.proofs.Math.Nat.{ℕ_set}
 use Rattle.std.proofs.Math.IntN.{ℤ_set}
 use mathlib.Core.Sum.{⊎_set}
 use Rattle.std.proofs.lemmas.List.{reverse-reverse}
-use Rattle.machine_core.specs.Frames.{Frame}
-use Rattle.machine_core.specs.Events as running
+use Rattle.running.specs.Frames.{Frame}
+use Rattle.running.specs.Events as running
 use Rattle.program.specs.declared.function.Program.{Program}
 use Rattle.frame.specs.declared.path.Path.{Path}
 use Rattle.frame.specs.declared.value.Cell.{Cell}

@@ -1,7 +1,7 @@
 -- The lines of a module at which frames stand.
 use Rattle.std.specs.Prelude.{ℕ, Option, Some, None, option_and_then, slice_get}
 use Rattle.std.specs.Option.{option_map, option_map_or}
-use Rattle.machine_core.specs.Frames.{block_at}
+use Rattle.running.specs.Frames.{block_at}
 use Rattle.program.specs.declared.function.Block.{Block}
 use Rattle.program.specs.declared.function.Program.{Program}
 use Rattle.program.specs.declared.identifier.BlockId.{BlockId}

@@ -1,14 +1,17 @@
 -- What events do to a run, one and many.
 use Rattle.std.specs.Prelude.{◌≡◌, ℕ, List, [], ◌∷◌, ◌++◌, length, reverse, map, Bool, ℤ}
-use Rattle.machine_core.specs.Events as running
-use Rattle.machine_core.specs.Replay.{replay}
+use Rattle.running.specs.Events as running
+use Rattle.running.specs.Replay.{replay}
+use Rattle.verifier.specs.Accepted.{IsAccepted}
 use Rattle.program.specs.declared.function.Program.{Program}
 use Rattle.store.specs.Cells.{NamedCells}
 use Rattle.worker_steps.specs.declared.run.Run.{Run}
 use Rattle.worker_steps.specs.Running.{IsTrapped}
 use Rattle.worker_steps.specs.Seen.{seen, given}
+use Rattle.worker_steps.specs.Slots.{HasSlots}
 use Rattle.worker_steps.specs.Stepping.{IsRun, IsEvent}
 use Rattle.worker_steps.specs.Stopping.{StopsAtStep}
+use Rattle.worker_promise.specs.Promise.{IsScheduled}
 use Rattle.schedule_core.specs.declared.event.Event.{Event}
 use Rattle.schedule_core.specs.declared.event.Event.TheVariants.{Step, Steal}
 
@@ -25,12 +28,20 @@ abbrev pub StopsOnly : Program → Run → Event → Type 0
 StopsOnly prog run (Step worker) = StopsAtStep prog run worker
 StopsOnly prog run (Steal worker path) = ⊥
 
+-- the run of a schedule, of a module that the verifier took, whose slots have a place for all that the text names
+pub record IsMachine (m : Run) : Type 0 where
+  pub accepted : IsAccepted m.verified.now
+  pub run : IsRun m.verified.now m
+  pub slots : HasSlots m.verified.now m
+  pub schedule : IsScheduled m.verified.now m
+
 -- the events, one after another, are those of the definitions' replay
 pub record AreEvents (prog : Program) (old new : Run) (events : List running.Event) : Type 0 where
   pub replayed : replay prog (length old.hands.items) events (seen old) ≡ seen new
   pub workers : length new.hands.items ≡ length old.hands.items
   pub program : new.verified ≡ old.verified
   pub run : IsRun prog new
+  pub slots : HasSlots prog old → HasSlots prog new
 
 -- the run got through these events, and stopped at the next
 pub record StopsAt (prog : Program) (old : Run) (events : List Event) : Type 0 where
@@ -51,14 +62,4 @@ pub record DoesAll (prog : Program) (old new : Run) (events : List Event) : Type
 pub record Replays (prog : Program) (arguments : List ℤ) (globals : List NamedCells) (workers : ℕ) (events : List Event) (m : Run) : Type 0 where
   pub reads : seen m ≡ replay prog workers (map event_of events) (running.start prog arguments (given globals))
   pub run : IsRun prog m
-
--- From the start the definitions' replay gets through some of the events, to a state where the next is a step at which the machine stops: its budget is
--- used up there, or the top of the worker's task goes no further.
-pub record Stops (prog : Program) (arguments : List ℤ) (globals : List NamedCells) (workers : ℕ) (events : List Event) : Type 0 where
-  pub before : List Event
-  pub last : Event
-  pub after : List Event
-  pub parts : events ≡ before ++ last ∷ after
-  pub stood : Run
-  pub reached : Replays prog arguments globals workers before stood
-  pub stops : StopsOnly prog stood last
+  pub slots : HasSlots prog m

@@ -3,8 +3,8 @@ use Rattle.std.specs.Prelude.{◌≡◌, ◌≢◌, ◌⊎◌, ℕ, ℤ, length,
 use Rattle.std.specs.Cmp.Lexicographic.{slice_cmp}
 use Rattle.std.specs.Ordering.{nat_cmp}
 use Rattle.std.specs.declared.cmp.Ordering.TheVariants.{Greater}
-use Rattle.machine_core.specs.Paths.{Path as RunningPath}
-use Rattle.machine_core.specs.Events as running
+use Rattle.running.specs.Paths.{Path as RunningPath}
+use Rattle.running.specs.Events as running
 use Rattle.frame.specs.declared.path.Path.{Path}
 use Rattle.frame.specs.declared.frame.Wait as frame_wait
 use Rattle.frame.specs.declared.frame.Wait.TheVariants as wait

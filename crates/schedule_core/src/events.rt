@@ -1,7 +1,10 @@
 ghost use Rattle.std.specs.Prelude.{◌≡◌, ◌≢◌, ℕ, Some, None, false, IfOk, OnOk, OnErr};
 ghost use Rattle.serial_machine.specs.Requirements.{unmet_in};
+ghost use Rattle.store.specs.Made.{HasGlobalCells};
 ghost use Rattle.store.specs.declared.memory.Memory.{Memory};
+ghost use Rattle.verifier.specs.Accepted.{IsAccepted};
 ghost use Rattle.worker_steps.specs.Running.{IsGoing, IsTrapped, IsStart, IsNumberOfWorkers, StepsWhere};
+ghost use Rattle.worker_steps.specs.Slots.{HasSlots};
 ghost use Rattle.worker_steps.specs.Stepping.{DoesEvent, IsRun, StartsAs};
 ghost use Rattle.schedule_core.specs.Replaying.{DoesAll, StopsOnly, event_of};
 
@@ -21,14 +24,17 @@ pub(crate) fn begin<'v>(
     memory: Memory,
     workers: usize,
 ) -> Result<Run<'v>, RunFault>
+    requires { HasGlobalCells verified.now memory }
     ensures started { IfOk result (λ m. IsStart m workers) }
     ensures state { IfOk result (λ m. StartsAs verified.now arguments.now memory m) }
+    ensures slots { IfOk result (λ m. HasSlots verified.now m) }
     ensures in_range { OnOk result (IsNumberOfWorkers workers) }
     ensures bad_workers { (m : Memory) → result ≡ Err (RunFault.BadWorkers m) → (m ≡ memory) × ¬ IsNumberOfWorkers workers }
     ensures bad_arguments { (requirement : ℕ) (m : Memory) → result ≡ Err (RunFault.BadArguments requirement m) → m ≡ memory }
     ensures unmet { (requirement : ℕ) (m : Memory) → result ≡ Err (RunFault.BadArguments requirement m) → unmet_in verified.now arguments.now ≡ Some requirement }
     ensures met { OnOk result (unmet_in verified.now arguments.now ≡ None) }
     ensures no_trap { result ≢ Err RunFault.Trapped }
+    ensures accepted { OnOk result (IsAccepted verified.now) }
 {
     if let Some(requirement) = unmet_requirement(verified.program(), arguments) {
         return Err(RunFault::BadArguments {

@@ -1,12 +1,13 @@
 ghost use Rattle.std.specs.Prelude.{◌↔◌, ◌≡◌, ◌≢◌, None, Some, IsSome, ℕ, IsTrue, IfOk, false, OnErr, OnOk};
-ghost use Rattle.machine_core.specs.Replay.{CountsFrames};
+ghost use Rattle.running.specs.Replay.{CountsFrames};
 ghost use Rattle.serial_machine.specs.Requirements.{unmet_in};
+ghost use Rattle.store.specs.Made.{HasGlobalCells};
 ghost use Rattle.store.specs.declared.memory.Memory.{Memory};
 ghost use Rattle.store.specs.Cells.{cell_named};
 ghost use Rattle.worker_steps.specs.Running.{IsGoing, IsTrapped, IsStart, IsNumberOfWorkers, StepsWhere};
 ghost use Rattle.worker_steps.specs.Seen.{seen};
-ghost use Rattle.worker_steps.specs.Stepping.{IsRun, StartsAs};
-ghost use Rattle.schedule_core.specs.Replaying.{Happens, StopsOnly, event_of};
+ghost use Rattle.worker_steps.specs.Stepping.{StartsAs};
+ghost use Rattle.schedule_core.specs.Replaying.{Happens, IsMachine, event_of};
 
 use crate::event::Event;
 use crate::events::{apply_to, begin};
@@ -21,11 +22,12 @@ use worker_steps::{Phase, Run};
 #[derive(Drop)]
 pub struct Machine<'v> {
     pub(crate) run: Run<'v>,
-    ghost kept: { ∥ (¬ IsTrapped run → IsRun run.verified.now run) ∥₁ },
+    ghost kept: { ∥ IsMachine run ∥₁ },
 }
 
 impl<'v> Machine<'v> {
-    /// The state before the first event: worker 0 runs the root at the entry of `main`, the other workers are idle.
+    /// The state before the first event: worker 0 runs the root at the entry of `main`, the other workers are idle. The
+    /// memory was made for this module.
     ///
     /// # Errors
     ///
@@ -38,6 +40,7 @@ impl<'v> Machine<'v> {
         memory: Memory,
         workers: usize,
     ) -> Result<Machine<'v>, RunFault>
+        requires { HasGlobalCells verified.now memory }
         ensures started { IfOk result (λ m. IsStart m.run workers) }
         ensures state { IfOk result (λ m. StartsAs verified.now arguments.now memory m.run) }
         ensures in_range { OnOk result (IsNumberOfWorkers workers) }
@@ -61,8 +64,8 @@ impl<'v> Machine<'v> {
         ensures not_enabled { result ≡ Ok false → self.new.run ≡ self.old.run }
         ensures over { ¬ IsGoing self.old.run → result ≡ Ok false }
         ensures step { (worker : ℕ) → event.now ≡ Event.Step worker → IfOk result (StepsWhere self.old.run self.new.run worker) }
-        ensures event { ¬ IsTrapped self.new.run → IfOk result (λ done. ∥ Happens self.old.run self.new.run (event_of event.now) done ∥₁) }
-        ensures stops { IsGoing self.old.run → IsTrapped self.new.run → StopsOnly self.old.run.verified.now self.old.run event.now }
+        ensures event { IfOk result (λ done. ∥ Happens self.old.run self.new.run (event_of event.now) done ∥₁) }
+        ensures never_stops { ¬ IsTrapped self.new.run }
     {
         apply_to(&mut self.run, event)
     }
@@ -72,13 +75,6 @@ impl<'v> Machine<'v> {
         ensures { IsTrue result ↔ IsSome (seen self.now.run).core.result }
     {
         matches!(self.run.phase, Phase::Ended { .. })
-    }
-
-    /// Whether an instruction had no effect; then no event is enabled any more.
-    pub fn is_trapped(&self) -> bool
-        ensures { IsTrue result ↔ IsTrapped self.now.run }
-    {
-        self.run.phase == Phase::Trapped
     }
 
     /// The number of living frames.

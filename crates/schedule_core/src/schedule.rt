@@ -1,8 +1,10 @@
-ghost use Rattle.std.specs.Prelude.{◌≡◌, ℕ, Some, None, IfOk, OnOk};
+ghost use Rattle.std.specs.Prelude.{◌≡◌, ◌≢◌, ℕ, Some, None, IfOk, OnOk};
 ghost use Rattle.serial_machine.specs.Requirements.{unmet_in};
+ghost use Rattle.store.specs.Made.{HasGlobalCells};
 ghost use Rattle.store.specs.declared.memory.Memory.{Memory};
 ghost use Rattle.worker_steps.specs.Running.{IsTrapped, IsNumberOfWorkers};
-ghost use Rattle.schedule_core.specs.Replaying.{Replays, Stops};
+ghost use Rattle.schedule_core.specs.Replaying.{Replays};
+ghost use Rattle.worker_promise.specs.Promise.{KeepsItsSchedule};
 
 use crate::event::Event;
 use crate::events::{apply_all, begin};
@@ -12,13 +14,12 @@ use serial_machine::RunFault;
 use std::alloc::Global;
 use store::Memory;
 use verifier::Verified;
-use worker_steps::Phase;
 
-/// The machine after a schedule; an event that is not enabled changes nothing.
+/// The machine after a schedule, from memory that was made for this module; an event that is not enabled changes nothing.
 ///
 /// # Errors
 ///
-/// Those of [`Machine::start`]; 803 too where an event is refused memory, and 804 where an instruction had no effect.
+/// Those of [`Machine::start`]; 803 too where an event is refused memory. No step stops it.
 pub fn replay<'v>(
     alloc: Global,
     verified: &'v Verified,
@@ -27,6 +28,7 @@ pub fn replay<'v>(
     workers: usize,
     events: &[Event],
 ) -> Result<Machine<'v>, RunFault>
+    requires { HasGlobalCells verified.now memory }
     ensures sound { IfOk result (λ m. ¬ IsTrapped m.run) }
     ensures replays { IfOk result (λ m. Replays verified.now arguments.now memory workers events.now m.run) }
     ensures in_range { OnOk result (IsNumberOfWorkers workers) }
@@ -34,12 +36,12 @@ pub fn replay<'v>(
     ensures bad_arguments { (requirement : ℕ) (m : Memory) → result ≡ Err (RunFault.BadArguments requirement m) → m ≡ memory }
     ensures unmet { (requirement : ℕ) (m : Memory) → result ≡ Err (RunFault.BadArguments requirement m) → unmet_in verified.now arguments.now ≡ Some requirement }
     ensures met { OnOk result (unmet_in verified.now arguments.now ≡ None) }
-    ensures trapped { result ≡ Err RunFault.Trapped → Stops verified.now arguments.now memory workers events.now }
+    ensures keeps { IfOk result (λ m. KeepsItsSchedule verified.now arguments.now memory workers m.run) }
+    ensures no_trap { result ≢ Err RunFault.Trapped }
 {
     let mut run = begin(alloc, verified, arguments, memory, workers)?;
     match apply_all(&mut run, events) {
         Err(OutOfMemory) => Err(RunFault::OutOfMemory),
-        Ok(()) if run.phase == Phase::Trapped => Err(RunFault::Trapped),
         Ok(()) => Ok(Machine { run }),
     }
 }

@@ -5,7 +5,7 @@ use Rattle.std.specs.List.{All}
 use Rattle.program.specs.declared.function.Function.{Function}
 use Rattle.program.specs.declared.function.Program.{Program}
 use Rattle.syntax.specs.declared.module.Module.{Module}
-use Rattle.ir_text.specs.Kept.{IsKept}
+use Rattle.ir_text.specs.Kept.{IsKeptModule}
 use Rattle.ir_text.proofs.Keeping.{answers_kept}
 use Rattle.types.specs.Apart.{CallsApart}
 use Rattle.types.specs.Definitions.{KeepsParameters}
@@ -13,18 +13,18 @@ use Rattle.types.specs.Meaning.{Means}
 use Rattle.types.proofs.Programs.{program_apart, program_kept}
 use Rattle.verifier.specs.Accepted.{IsRight, IsProgramOf, AreTasksOf}
 use Rattle.region_match.specs.declared.tables.Regions.{Regions}
-use Rattle.definedness_laws.proofs.Stable.{stable_by_rules}
-use Rattle.pointer_names.proofs.Anew.{read_anew}
-use Rattle.cost_laws.specs.Ends.{AreRulesRight}
-use Rattle.cost_laws.specs.Shown.{IsMeasured}
-use Rattle.typed_laws.specs.Accepted.{HasNamesAndTypes}
-use Rattle.typed_laws.proofs.Accepted.{accepted_programs_are_typed}
-use Rattle.typed_laws.proofs.Laws.{measures_name_parameters}
-use Rattle.typed_laws.proofs.Lists.{there}
-use Rattle.typed_laws.proofs.Parts.{function_from, all_count}
-use Rattle.typed_laws.proofs.Registers.{kept_function}
-use Rattle.zone_conditions.specs.Owed.{NamesZones, IsJudged}
-use Rattle.zone_conditions.proofs.ByRules.{judged_by_rules}
+use Rattle.phase_laws.proofs.defined.Stable.{stable_by_rules}
+use Rattle.schedule_theorem.proofs.pointers.Anew.{read_anew}
+use Rattle.phase_laws.specs.costs.Ends.{AreRulesRight}
+use Rattle.phase_laws.specs.costs.Shown.{IsMeasured}
+use Rattle.schedule_theorem.specs.typing.Accepted.{HasNamesAndTypes}
+use Rattle.schedule_theorem.proofs.typing.Accepted.{accepted_programs_are_typed}
+use Rattle.schedule_theorem.proofs.typing.Laws.{measures_name_parameters}
+use Rattle.schedule_theorem.proofs.typing.Lists.{there}
+use Rattle.schedule_theorem.proofs.typing.Parts.{function_from, all_count}
+use Rattle.schedule_theorem.proofs.typing.Registers.{kept_function}
+use Rattle.schedule_theorem.specs.zones.ByPhases.{NamesZones, IsJudged}
+use Rattle.schedule_theorem.proofs.zones.ByRules.{judged_by_rules}
 
 pub record IsTaken (program : Program) : Type 0 where
   pub names : HasNamesAndTypes program
@@ -33,7 +33,7 @@ pub record IsTaken (program : Program) : Type 0 where
   pub apart : CallsApart program.functions
   pub parameters : KeepsParameters program.functions
 
-module _ (whole : Module) (kept : IsKept whole) (program : Program) (m : Means whole (Ok program)) where
+module _ (whole : Module) (kept : IsKeptModule whole) (program : Program) (m : Means whole (Ok program)) where
   entry_there : (g : ℕ) (function : Function) → slice_get program.functions g ≡ Some function →
       is_some (slice_get function.blocks 0) ≡ true
   entry_there g function at =

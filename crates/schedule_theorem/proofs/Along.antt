@@ -1,15 +1,15 @@
 -- What is kept along the serial run of a program that the verifier takes, from its first frame on.
 use Rattle.std.proofs.Common.{ℕ, List, [], ℤ}
-use Rattle.machine_core.specs.Cells.{Memory, globals_of}
-use Rattle.machine_core.specs.SerialConditions.{Says, Nothing, KeptSerially}
-use Rattle.machine_core.specs.State.{root_frame}
+use Rattle.running.specs.Cells.{Memory, globals_of}
+use Rattle.conditions.specs.theorem.SerialConditions.{Says, Nothing, KeptSerially}
+use Rattle.running.specs.State.{root_frame}
 use Rattle.program.specs.declared.function.Program.{Program}
 use Rattle.verifier.specs.Accepted.{IsProgramOf}
-use Rattle.starting_laws.proofs.Starting.{starts_well}
-use Rattle.kind_laws.specs.Holding.{HasKindedRegisters}
-use Rattle.kind_laws.specs.Uses.{HasKindedUses}
-use Rattle.kind_laws.proofs.Kept.{kinds_are_kept, starts_kinded}
-use Rattle.kind_laws.proofs.Uses.{uses_are_kinded}
+use Rattle.phase_laws.proofs.defined.Starting.{starts_well}
+use Rattle.schedule_theorem.specs.kinds.Holding.{HasKindedRegisters}
+use Rattle.schedule_theorem.specs.kinds.Uses.{HasKindedUses}
+use Rattle.schedule_theorem.proofs.kinds.Kept.{kinds_are_kept, starts_kinded}
+use Rattle.schedule_theorem.proofs.kinds.Uses.{uses_are_kinded}
 use Rattle.schedule_theorem.specs.Promise.{AreTaken, HasGlobals}
 use Rattle.schedule_theorem.proofs.Accepted.{IsTaken, is_taken}
 use Rattle.schedule_theorem.proofs.Serially.{free_goes, Runs, Found, runs_kept}

@@ -1,56 +1,17 @@
 -- What is found of each outcome of the serial run that there is, where it is kept.
-use Rattle.std.proofs.Common.{◌≡◌, ℕ, zero, suc, ◌+◌, ◌≤◌, max, ◌∷◌, Option, Some, None, ℤ, refl, sym, subst, arith}
-use Rattle.machine_core.specs.Paths.{Path}
-use Rattle.machine_core.specs.Cells.{Memory}
-use Rattle.machine_core.specs.Arithmetic.{Trap}
-use Rattle.machine_core.specs.Frames.{Body, Frame}
-use Rattle.machine_core.specs.Effect.{Effect, Action, Plain, Detach, Reattach, Sync, Call, Return, action_of}
-use Rattle.machine_core.specs.State.{went, detached, continued, synced, called, waiting, resumed}
-use Rattle.machine_core.specs.SerialMeaning.{Ending, Left, Gave, Outcome, Rest, written, cleared, counted, meaning}
-use Rattle.machine_core.specs.SerialMeaning.{joined, last, after_effect, after_left, after_child, after_gave, after_call, by_action}
-use Rattle.machine_core.specs.SerialConditions.{Says, Finds, Nothing, one_more, both_outcomes, at_last, KeptSerially}
-use Rattle.machine_core.proofs.Actions.{return_is_body, reattach_is_child}
-use Rattle.machine_core.proofs.SerialExists.{Suits, body_gave}
-use Rattle.linear.specs.declared.form.RegisterId.{RegisterId}
+use Rattle.std.proofs.Common.{◌≡◌, ℕ, zero, suc, ◌+◌, ◌≤◌, max, ◌∷◌, Option, Some, ℤ, refl, sym, subst, arith}
+use Rattle.running.specs.Paths.{Path}
+use Rattle.running.specs.Cells.{Memory}
+use Rattle.running.specs.Frames.{Body, Frame}
+use Rattle.running.specs.Effect.{Action, Plain, Detach, Reattach, Sync, Call, Return, action_of}
+use Rattle.running.specs.State.{went, detached, continued, synced, called, waiting, resumed}
+use Rattle.running.specs.SerialMeaning.{Left, Gave, Outcome, written, cleared, meaning}
+use Rattle.running.specs.SerialMeaning.{by_action}
+use Rattle.conditions.specs.theorem.SerialConditions.{Says, Finds, Nothing, KeptSerially}
+use Rattle.running.proofs.Actions.{return_is_body, reattach_is_child}
+use Rattle.running.proofs.Outcomes.{counted_is, joined_is, from_effect, from_child, from_call, from_last}
+use Rattle.conditions.proofs.theorem.SerialExists.{Suits, body_gave}
 use Rattle.program.specs.declared.function.Program.{Program}
-
-from_counted : (o : Option Outcome) (u : Outcome) → counted o ≡ Some u → (v : Outcome) × (o ≡ Some v) × (one_more v ≡ u)
-from_counted None u e = absurd (cc)
-from_counted (Some v) u e = (v, refl, (let same : one_more v ≡ u = cc in same))
-
-from_joined : (first : Outcome) (o : Option Outcome) (u : Outcome) → joined first o ≡ Some u →
-    (v : Outcome) × (o ≡ Some v) × (both_outcomes first v ≡ u)
-from_joined first None u e = absurd (cc)
-from_joined first (Some v) u e = (v, refl, (let same : both_outcomes first v ≡ u = cc in same))
-
-module _ (rest : Rest) where
-  from_effect : (p : Path) (f : Frame) (m : Memory) (e : Effect) (t : Option Trap) (u : Outcome) → after_effect rest p f m e t ≡ Some u →
-      (t ≡ None) × (counted (rest p (went f e) (written e m)) ≡ Some u)
-  from_effect p f m e (Some t) u is = absurd (cc)
-  from_effect p f m e None u is = (refl, is)
-
-  from_left : (p : Path) (f : Frame) (o : Outcome) (e : Ending) (u : Outcome) → after_left rest p f o e ≡ Some u →
-      (e ≡ Left) × (joined o (rest p f o.memory) ≡ Some u)
-  from_left p f o Left u is = (refl, is)
-  from_left p f o (Gave v) u is = absurd (cc)
-
-  from_child : (p : Path) (f : Frame) (o : Option Outcome) (u : Outcome) → after_child rest p f o ≡ Some u →
-      (v : Outcome) × (o ≡ Some v) × (v.ending ≡ Left) × (joined v (rest p f v.memory) ≡ Some u)
-  from_child p f None u is = absurd (cc)
-  from_child p f (Some v) u is = let h = from_left p f v v.ending u is in (v, refl, h.0, h.1)
-
-  from_gave : (p : Path) (f : Frame) (d : Option RegisterId) (o : Outcome) (e : Ending) (u : Outcome) →
-      after_gave rest p f d o e ≡ Some u → (v : Option ℤ) × (e ≡ Gave v) × (joined o (rest p (resumed f d v) o.memory) ≡ Some u)
-  from_gave p f d o Left u is = absurd (cc)
-  from_gave p f d o (Gave v) u is = (v, refl, is)
-
-  from_call : (p : Path) (f : Frame) (d : Option RegisterId) (o : Option Outcome) (u : Outcome) → after_call rest p f d o ≡ Some u →
-      (w : Outcome) × (o ≡ Some w) × (v : Option ℤ) × (w.ending ≡ Gave v) × (joined w (rest p (resumed f d v) w.memory) ≡ Some u)
-  from_call p f d None u is = absurd (cc)
-  from_call p f d (Some w) u is = let h = from_gave p f d w w.ending u is in (w, refl, h.0, h.1, h.2)
-
-  from_last : (ending : Ending) (m : Memory) (u : Outcome) → last ending m ≡ Some u → at_last ending m ≡ u
-  from_last ending m u is = cc
 
 module _ (prog : Program) (good : Says) (post : Finds) (kept : KeptSerially prog Nothing good post) where
   module _ (n : ℕ) (before : (p : Path) (f : Frame) (m : Memory) (o : Outcome) → good p f m → meaning prog n p f m ≡ Some o → post p f m o)
@@ -59,17 +20,17 @@ module _ (prog : Program) (good : Says) (post : Finds) (kept : KeptSerially prog
       by_found : (a : Action) → action_of prog p f m ≡ a → by_action (meaning prog n) p f m a ≡ Some u → post p f m u
       by_found (Plain e) at is =
           let (fine, next) = from_effect (meaning prog n) p f m e e.trap u is in
-          let (v, there, same) = from_counted (meaning prog n p (went f e) (written e m)) u next in
+          let (v, there, same) = counted_is (meaning prog n p (went f e) (written e m)) u next in
           let on = kept.plain_kept p f m e tt g at fine tt in
           subst (λ o. post p f m o) same (on.finds v (before p (went f e) (written e m) v on.next there))
       by_found (Sync r b rs) at is =
-          let (v, there, same) = from_counted (meaning prog n p (synced f r b rs) m) u is in
+          let (v, there, same) = counted_is (meaning prog n p (synced f r b rs) m) u is in
           let on = kept.sync_kept p f m r b rs tt g at tt in
           subst (λ o. post p f m o) same (on.finds v (before p (synced f r b rs) m v on.next there))
       by_found (Detach r body next) at is =
           let (c, found, gone, rest) = from_child (meaning prog n) p (continued f next)
           (meaning prog n (f.made ∷ p) (detached f r body next) m) u is in
-          let (v, there, same) = from_joined c (meaning prog n p (continued f next) c.memory) u rest in
+          let (v, there, same) = joined_is c (meaning prog n p (continued f next) c.memory) u rest in
           let child = kept.child_kept p f m r body next tt g at tt in
           let on = kept.continued_kept p f m r body next tt g at tt c gone
           (before (f.made ∷ p) (detached f r body next) m c child found) tt in
@@ -77,12 +38,12 @@ module _ (prog : Program) (good : Says) (post : Finds) (kept : KeptSerially prog
       by_found (Call d h vs) at is =
           let (c, found, result, gave, rest) = from_call (meaning prog n) p (waiting f d) d
           (meaning prog n (f.made ∷ p) (called p f h vs) m) u is in
-          let (v, there, same) = from_joined c (meaning prog n p (resumed (waiting f d) d result) c.memory) u rest in
+          let (v, there, same) = joined_is c (meaning prog n p (resumed (waiting f d) d result) c.memory) u rest in
           let body = kept.callee_kept p f m d h vs tt g at tt in
           let on = kept.resumed_kept p f m d h vs tt g at tt c result gave (before (f.made ∷ p) (called p f h vs) m c body found) tt in
           subst (λ o. post p f m o) same (on.finds v (before p (resumed (waiting f d) d result) c.memory v on.next there))
-      by_found (Reattach r) at is = subst (λ o. post p f m o) (from_last (meaning prog n) Left m u is) (kept.reattach_finds p f m r tt g at)
-      by_found (Return v) at is = subst (λ o. post p f m o) (from_last (meaning prog n) (Gave v) (cleared p m) u is)
+      by_found (Reattach r) at is = subst (λ o. post p f m o) (from_last Left m u is) (kept.reattach_finds p f m r tt g at)
+      by_found (Return v) at is = subst (λ o. post p f m o) (from_last (Gave v) (cleared p m) u is)
           (kept.return_finds p f m v tt g at)
 
   pub found : (n : ℕ) (p : Path) (f : Frame) (m : Memory) (o : Outcome) → good p f m → meaning prog n p f m ≡ Some o → post p f m o

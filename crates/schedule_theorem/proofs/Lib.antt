@@ -1,3 +1,4 @@
+pub mod Waits
 pub mod Accepted
 pub mod Bounds
 pub mod Findings
@@ -7,3 +8,8 @@ pub mod Along
 pub mod Runs
 pub mod Schedules
 pub mod Promise
+pub mod kinds
+pub mod pointers
+pub mod typing
+pub mod zones
+pub mod safe

@@ -1,17 +1,17 @@
 -- The schedule theorem.
 use Rattle.std.proofs.Common.{◌≡◌, true}
-use Rattle.machine_core.specs.State.{root_frame}
-use Rattle.kind_laws.specs.Holding.{is_kinded}
-use Rattle.kind_laws.specs.Ready.{IsReadByRules}
-use Rattle.kind_laws.specs.Uses.{HasKindedUses}
-use Rattle.kind_laws.proofs.Given.{widths_are_given_by_tests}
-use Rattle.kind_laws.proofs.Kept.{starts_kinded}
-use Rattle.kind_laws.proofs.Ready.{frames_are_ready}
-use Rattle.kind_laws.proofs.Tested.{kinds_are_tested}
-use Rattle.kind_laws.proofs.Uses.{uses_are_kinded}
-use Rattle.region_laws.specs.Closed.{ClosesByPlace}
-use Rattle.region_laws.proofs.Closed.{regions_are_closed}
-use Rattle.zone_names.proofs.Named.{accepted_zones_are_named}
+use Rattle.running.specs.State.{root_frame}
+use Rattle.schedule_theorem.specs.kinds.Holding.{is_kinded}
+use Rattle.schedule_theorem.specs.kinds.Ready.{IsReadByRules}
+use Rattle.schedule_theorem.specs.kinds.Uses.{HasKindedUses}
+use Rattle.schedule_theorem.proofs.kinds.Given.{widths_are_given_by_tests}
+use Rattle.schedule_theorem.proofs.kinds.Kept.{starts_kinded}
+use Rattle.schedule_theorem.proofs.kinds.Ready.{frames_are_ready}
+use Rattle.schedule_theorem.proofs.kinds.Tested.{kinds_are_tested}
+use Rattle.schedule_theorem.proofs.kinds.Uses.{uses_are_kinded}
+use Rattle.phase_laws.specs.regions.Closed.{ClosesByPlace}
+use Rattle.phase_laws.proofs.regions.Closed.{regions_are_closed}
+use Rattle.schedule_theorem.proofs.zones.Named.{accepted_zones_are_named}
 use Rattle.program.specs.declared.function.Program.{Program}
 use Rattle.schedule_theorem.specs.Promise.{AcceptedProgramsKeepTheirPromise}
 use Rattle.schedule_theorem.proofs.Accepted.{IsTaken, is_taken}

@@ -1,30 +1,30 @@
 -- The serial run of a program that the verifier takes.
 use Rattle.std.proofs.Common.{◌≡◌, ◌∙◌, ◌≤◌, List, [], Option, Some, None, ℤ, true, is_some, refl, ap, subst}
 use Rattle.std.specs.Prelude.{slice_get}
-use Rattle.machine_core.specs.Paths.{Path}
-use Rattle.machine_core.specs.Cells.{Memory, globals_of}
-use Rattle.machine_core.specs.Frames.{Frame}
-use Rattle.machine_core.specs.State.{root_frame}
-use Rattle.machine_core.specs.SerialMeaning.{Gave, Outcome, IsSerialMeaning}
-use Rattle.machine_core.specs.SerialConditions.{Nothing, KeptSerially}
+use Rattle.running.specs.Paths.{Path}
+use Rattle.running.specs.Cells.{Memory, globals_of}
+use Rattle.running.specs.Frames.{Frame}
+use Rattle.running.specs.State.{root_frame}
+use Rattle.running.specs.SerialMeaning.{Gave, Outcome, IsSerialMeaning}
+use Rattle.conditions.specs.theorem.SerialConditions.{Nothing, KeptSerially}
 use Rattle.program.specs.declared.function.Program.{Program}
 use Rattle.region_match.specs.declared.tables.Regions.{Regions}
 use Rattle.verifier.specs.Accepted.{AreTasksOf}
 use Rattle.verifier.specs.Budgets.{budget_of, depth_of}
-use Rattle.bridge.specs.Registers.{Registered}
-use Rattle.definedness_laws.specs.Defined.{IsAlways}
-use Rattle.definedness_laws.specs.Placed.{IsPlaced}
-use Rattle.definedness_laws.specs.Regions.{UsesOwnRegions}
-use Rattle.definedness_laws.specs.Values.{ReadsValues}
-use Rattle.definedness_laws.proofs.Needed.{reads_have_values}
-use Rattle.definedness_laws.proofs.Regions.{regions_are_own}
-use Rattle.fact_laws.specs.Owing.{HasWidths}
-use Rattle.fact_laws.specs.Traps.{IsReady}
-use Rattle.starting_laws.specs.Starting.{IsFirst}
-use Rattle.starting_laws.proofs.Starting.{starts_well}
-use Rattle.cost_laws.specs.Ends.{EndsWithinBudget}
-use Rattle.cost_laws.proofs.Ends.{whole_run}
-use Rattle.zone_conditions.specs.Owed.{IsKept}
+use Rattle.conditions.specs.rules.Registers.{Registered}
+use Rattle.phase_laws.specs.defined.Defined.{IsAlways}
+use Rattle.phase_laws.specs.defined.Placed.{IsPlaced}
+use Rattle.phase_laws.specs.defined.Regions.{UsesOwnRegions}
+use Rattle.phase_laws.specs.defined.Values.{ReadsValues}
+use Rattle.phase_laws.proofs.defined.Needed.{reads_have_values}
+use Rattle.phase_laws.proofs.defined.Regions.{regions_are_own}
+use Rattle.phase_laws.specs.facts.Owing.{HasWidths}
+use Rattle.phase_laws.specs.facts.Traps.{IsReady}
+use Rattle.phase_laws.specs.defined.Starting.{IsFirst}
+use Rattle.phase_laws.proofs.defined.Starting.{starts_well}
+use Rattle.phase_laws.specs.costs.Ends.{EndsWithinBudget}
+use Rattle.phase_laws.proofs.costs.Ends.{whole_run}
+use Rattle.schedule_theorem.specs.zones.ByPhases.{IsKeptBySteps}
 use Rattle.schedule_theorem.specs.Promise.{AreTaken, HasGlobals}
 use Rattle.schedule_theorem.proofs.Accepted.{IsTaken, rules_right}
 use Rattle.schedule_theorem.proofs.Bounds.{budget_is, depth_within}
@@ -43,7 +43,7 @@ MakesReady program kinded =
     ReadsValues program f m →
     UsesOwnRegions program p f → IsReady program p f m
 
-module _ (program : Program) (t : IsTaken program) (kinded : Path → Frame → Type 0) (kept : IsKept program kinded)
+module _ (program : Program) (t : IsTaken program) (kinded : Path → Frame → Type 0) (kept : IsKeptBySteps program kinded)
     (widths : (p : Path) (f : Frame) → kinded p f → HasWidths program f) (ready : MakesReady program kinded)
   where
     kept_along : KeptSerially program Nothing (Runs program kinded) (Found program)

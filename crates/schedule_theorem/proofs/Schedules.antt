@@ -1,29 +1,29 @@
 -- Every schedule of a program that the verifier takes.
 use Rattle.std.proofs.Common.{◌≡◌, ℕ, ◌≤◌, List, [], ℤ, Bool, true, sym, subst}
-use Rattle.machine_core.specs.Paths.{Path}
-use Rattle.machine_core.specs.Cells.{Memory}
-use Rattle.machine_core.specs.Conditions.{ClosesRegions}
-use Rattle.machine_core.specs.Frames.{Frame}
-use Rattle.machine_core.specs.State.{root_frame}
-use Rattle.machine_core.specs.SerialMeaning.{Outcome, IsSerialMeaning}
-use Rattle.machine_core.specs.Events.{Event, start}
-use Rattle.machine_core.specs.Replay.{replay}
-use Rattle.machine_core.specs.Schedules.{KeepsSchedule}
-use Rattle.machine_core.proofs.EverySchedule.{kept_by_schedules}
-use Rattle.machine_core.proofs.SerialExists.{serial_alone}
+use Rattle.running.specs.Paths.{Path}
+use Rattle.running.specs.Cells.{Memory}
+use Rattle.conditions.specs.theorem.Conditions.{ClosesRegions}
+use Rattle.running.specs.Frames.{Frame}
+use Rattle.running.specs.State.{root_frame}
+use Rattle.running.specs.SerialMeaning.{Outcome, IsSerialMeaning}
+use Rattle.running.specs.Events.{Event, start}
+use Rattle.running.specs.Replay.{replay}
+use Rattle.conditions.specs.theorem.Schedules.{KeepsSchedule}
+use Rattle.conditions.proofs.theorem.EverySchedule.{kept_by_schedules}
+use Rattle.conditions.proofs.theorem.SerialExists.{serial_alone}
 use Rattle.program.specs.declared.function.Program.{Program}
 use Rattle.region_match.specs.declared.tables.Regions.{Regions}
 use Rattle.verifier.specs.Accepted.{AreTasksOf}
 use Rattle.verifier.specs.Budgets.{depth_of, IsDepthOf}
-use Rattle.definedness_laws.specs.Placed.{IsPlaced}
-use Rattle.fact_laws.proofs.Handed.{facts_at_start}
-use Rattle.zone_conditions.specs.Keeping.{Keeping, OfTask, cells_of, pending_at, Fits, Expects}
-use Rattle.zone_conditions.specs.Owed.{NamesZones, GivesWidths}
-use Rattle.zone_conditions.proofs.Law.{zones_are_met}
-use Rattle.zone_conditions.proofs.Starting.{zones_at_start}
-use Rattle.zone_conditions.specs.Law.{MeetsZones}
-use Rattle.zone_conditions.specs.Owed.{IsJudged}
-use Rattle.cost_laws.specs.Ends.{EndsWithinBudget}
+use Rattle.phase_laws.specs.defined.Placed.{IsPlaced}
+use Rattle.phase_laws.proofs.facts.Handed.{facts_at_start}
+use Rattle.schedule_theorem.specs.zones.Keeping.{Keeping, OfTask, cells_of, pending_at, Fits, Expects}
+use Rattle.schedule_theorem.specs.zones.ByPhases.{NamesZones, GivesWidths}
+use Rattle.schedule_theorem.proofs.zones.Conditions.{zones_are_met}
+use Rattle.schedule_theorem.proofs.zones.Starting.{zones_at_start}
+use Rattle.schedule_theorem.specs.zones.Conditions.{MeetsZones}
+use Rattle.schedule_theorem.specs.zones.ByPhases.{IsJudged}
+use Rattle.phase_laws.specs.costs.Ends.{EndsWithinBudget}
 use Rattle.schedule_theorem.specs.Promise.{AreTaken, HasGlobals, KeepsItsPromise}
 use Rattle.schedule_theorem.proofs.Accepted.{IsTaken, regions_of, judged}
 use Rattle.schedule_theorem.proofs.Runs.{MakesReady, first_placed, gives as gives_number, ends, within_budget, within_depth}

@@ -1,27 +1,28 @@
 -- What the laws keep of frames along the serial run, put together.
 use Rattle.std.proofs.Common.{◌≡◌, ◌≢◌, ℕ, Option, Some, None, refl}
-use Rattle.machine_core.specs.Paths.{Path}
-use Rattle.machine_core.specs.Cells.{Memory}
-use Rattle.machine_core.specs.Arithmetic.{Trap}
-use Rattle.machine_core.specs.Frames.{Free, OnRegion, OnCall, Frame}
-use Rattle.machine_core.specs.State.{wait_after, waiting}
-use Rattle.machine_core.specs.Conditions.{Going}
-use Rattle.machine_core.specs.SerialConditions.{Says, Finds, And, FindsBoth, Nothing, KeptSerially}
-use Rattle.machine_core.proofs.SerialExists.{kept_both}
+use Rattle.running.specs.Paths.{Path}
+use Rattle.running.specs.Cells.{Memory}
+use Rattle.running.specs.Arithmetic.{Trap}
+use Rattle.running.specs.Frames.{Free, OnRegion, OnCall, Frame}
+use Rattle.running.specs.State.{wait_after, waiting}
+use Rattle.conditions.specs.theorem.Conditions.{Going}
+use Rattle.conditions.specs.theorem.SerialConditions.{Says, Finds, Nothing, KeptSerially}
+use Rattle.conditions.specs.theorem.InProofs.{And, FindsBoth}
+use Rattle.conditions.proofs.theorem.SerialExists.{kept_both}
 use Rattle.linear.specs.declared.form.RegisterId.{RegisterId}
 use Rattle.program.specs.declared.function.Program.{Program}
 use Rattle.region_match.specs.Matched.{AreRegionsRight}
-use Rattle.bridge.specs.Registers.{Registered, GivesNumber}
-use Rattle.definedness_laws.specs.Defined.{IsAlways}
-use Rattle.definedness_laws.specs.Names.{IsNamed}
-use Rattle.definedness_laws.specs.Placed.{Placed, NoFinds}
-use Rattle.definedness_laws.specs.Regions.{Owns}
-use Rattle.definedness_laws.specs.Values.{NamesObjects, HasValues, KeepsValues, IsDefinednessRight}
-use Rattle.definedness_laws.proofs.Kept.{values_are_kept}
-use Rattle.definedness_laws.proofs.Placed.{tasks_kept_alone}
-use Rattle.definedness_laws.proofs.Regions.{regions_are_kept}
-use Rattle.definedness_laws.proofs.Registers.{defined_are_kept}
-use Rattle.zone_conditions.specs.Owed.{IsKept}
+use Rattle.conditions.specs.rules.Registers.{Registered, GivesNumber}
+use Rattle.phase_laws.specs.defined.Defined.{IsAlways}
+use Rattle.phase_laws.specs.defined.Names.{IsNamed}
+use Rattle.phase_laws.specs.defined.Placed.{Placed, NoFinds}
+use Rattle.phase_laws.specs.defined.Regions.{Owns}
+use Rattle.phase_laws.specs.defined.Values.{NamesObjects, HasValues, KeepsValues, IsDefinednessRight}
+use Rattle.phase_laws.proofs.defined.Kept.{values_are_kept}
+use Rattle.phase_laws.proofs.defined.Placed.{tasks_kept_alone}
+use Rattle.phase_laws.proofs.defined.Regions.{regions_are_kept}
+use Rattle.phase_laws.proofs.defined.Registers.{defined_are_kept}
+use Rattle.schedule_theorem.specs.zones.ByPhases.{IsKeptBySteps}
 
 -- ---- with more to rest on
 
@@ -71,7 +72,7 @@ goes_kept prog = record {
 abbrev pub Always : (Path → Frame → Type 0) → Says
 Always holds p f m = holds p f
 
-pub always_kept : (prog : Program) (holds : Path → Frame → Type 0) → IsKept prog holds → KeptSerially prog Goes (Always holds) NoFinds
+pub always_kept : (prog : Program) (holds : Path → Frame → Type 0) → IsKeptBySteps prog holds → KeptSerially prog Goes (Always holds) NoFinds
 always_kept prog holds k = record {
   plain_kept = λ p f m e b g at fine nb. record { next = k.plain p f m e g b at fine; finds = λ o h. tt };
   sync_kept = λ p f m r t rs b g at nb. record { next = k.syncs p f m r t rs g b at; finds = λ o h. tt };
@@ -101,7 +102,7 @@ StandsFound = FindsBoth (FindsBoth NoFinds NoFinds) NoFinds
 abbrev pub Found : Program → Finds
 Found prog = FindsBoth (FindsBoth (FindsBoth StandsFound (KeepsValues prog)) NoFinds) (GivesNumber prog)
 
-stands_kept : (prog : Program) → IsNamed prog → (kinded : Path → Frame → Type 0) → IsKept prog kinded →
+stands_kept : (prog : Program) → IsNamed prog → (kinded : Path → Frame → Type 0) → IsKeptBySteps prog kinded →
     KeptSerially prog Nothing (Stands prog kinded) StandsFound
 stands_kept prog named kinded kept =
     kept_both prog Nothing (And Goes (Always kinded)) (Placed prog) (FindsBoth NoFinds NoFinds) NoFinds
@@ -111,7 +112,7 @@ stands_kept prog named kinded kept =
 
 module _ (prog : Program) (named : IsNamed prog) (objects : NamesObjects prog) (matched : AreRegionsRight prog)
     (defined : IsDefinednessRight prog)
-    (kinded : Path → Frame → Type 0) (kept : IsKept prog kinded)
+    (kinded : Path → Frame → Type 0) (kept : IsKeptBySteps prog kinded)
   where
     stored_kept : KeptSerially prog Nothing (And (Stands prog kinded) (HasValues prog)) (FindsBoth StandsFound (KeepsValues prog))
     stored_kept =

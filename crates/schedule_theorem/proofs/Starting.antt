@@ -2,12 +2,12 @@
 use Rattle.std.proofs.Common.{◌≡◌, ◌∙◌, ℕ, zero, suc, List, [], ◌∷◌, length, map, Some, refl, sym, ap, subst, ℤ}
 use Rattle.std.specs.Prelude.{slice_get}
 use Rattle.std.specs.List.{All}
-use Rattle.machine_core.specs.Frames.{Word, word_of}
-use Rattle.machine_core.specs.State.{root_frame}
+use Rattle.running.specs.Frames.{Word, word_of}
+use Rattle.running.specs.State.{root_frame}
 use Rattle.program.specs.declared.function.Function.{Function}
 use Rattle.program.specs.declared.function.Program.{Program}
-use Rattle.bridge.specs.Costs.{or_zero, numbers, parameters_in, parameters_of}
-use Rattle.fact_laws.specs.Known.{IsMet}
+use Rattle.conditions.specs.rules.Costs.{or_zero, numbers, parameters_in, parameters_of}
+use Rattle.phase_laws.specs.facts.Known.{IsMet}
 use Rattle.schedule_theorem.specs.Promise.{argument_at, AreTaken}
 
 word_at : (zs : List ℤ) (r : ℕ) → word_of (slice_get (map (λ z. Word z) zs) r) ≡ slice_get zs r

@@ -1,18 +1,18 @@
 -- The schedule theorem of one program: what is asked of its arguments and its memory, and what every schedule keeps.
 use Rattle.std.specs.Prelude.{◌≡◌, ℕ, ◌≤◌, List, length, Some, All, slice_get, ℤ}
-use Rattle.machine_core.specs.Cells.{Shared, Memory}
-use Rattle.machine_core.specs.Frames.{global_cells}
-use Rattle.machine_core.specs.SerialMeaning.{Gave, Outcome, IsSerialMeaning}
-use Rattle.machine_core.specs.Events.{Event, start}
-use Rattle.machine_core.specs.Replay.{replay}
-use Rattle.machine_core.specs.Schedules.{KeepsSchedule}
+use Rattle.running.specs.Cells.{Shared, Memory}
+use Rattle.running.specs.Frames.{global_cells}
+use Rattle.running.specs.SerialMeaning.{Gave, Outcome, IsSerialMeaning}
+use Rattle.running.specs.Events.{Event, start}
+use Rattle.running.specs.Replay.{replay}
+use Rattle.conditions.specs.theorem.Schedules.{KeepsSchedule}
 use Rattle.program.specs.declared.function.Function.{Function}
 use Rattle.program.specs.declared.function.Program.{Program}
 use Rattle.verifier.specs.Accepted.{IsProgramOf}
 use Rattle.verifier.specs.Budgets.{budget_of, IsDepthOf}
-use Rattle.bridge.specs.Costs.{or_zero}
-use Rattle.fact_laws.specs.Known.{IsMet}
-use Rattle.definedness_laws.specs.Values.{Full}
+use Rattle.conditions.specs.rules.Costs.{or_zero}
+use Rattle.phase_laws.specs.facts.Known.{IsMet}
+use Rattle.phase_laws.specs.defined.Values.{Full}
 
 -- the parameters are the first registers
 abbrev pub argument_at : List ℤ → ℕ → ℤ

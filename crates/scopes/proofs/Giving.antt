@@ -2,8 +2,8 @@
 use Rattle.std.proofs.Common.{◌≡◌, ℕ, ◌+◌, ◌<◌, List, [], ◌∷◌, ◌++◌, length, get_or, take, refl, ap, ◌∙◌, sym, subst, arith, Result, Ok, Err}
 use Rattle.std.proofs.lemmas.List.{take_more}
 use lib.ListN.{length-take}
-use Rattle.scopes.specs.declared.fault.TypeFault.{TypeFault}
-use Rattle.scopes.specs.declared.fault.TypeFault.TheVariants.{Fault, Memory}
+use Rattle.refusal.specs.declared.refused.Refused.{Refused as TypeFault}
+use Rattle.refusal.specs.declared.refused.Refused.TheVariants.{Fault, Memory}
 use Rattle.scopes.specs.Fault.{earlier_of, both_of, and_then, made_of, joined_of, all_from, all_of, Gives}
 
 -- what takes no memory

@@ -6,8 +6,8 @@ use Rattle.program.specs.declared.instruction.Address.TheVariants as address
 use Rattle.syntax.specs.declared.instruction.Address.{Address as AddressText}
 use Rattle.syntax.specs.declared.instruction.Address.TheVariants as text
 use Rattle.scopes.specs.declared.address.WholeObject.{WholeObject}
-use Rattle.scopes.specs.declared.fault.TypeFault.{TypeFault}
-use Rattle.scopes.specs.declared.fault.TypeFault.TheVariants.{Fault}
+use Rattle.refusal.specs.declared.refused.Refused.{Refused as TypeFault}
+use Rattle.refusal.specs.declared.refused.Refused.TheVariants.{Fault}
 use Rattle.scopes.specs.declared.item.Item.{Item}
 use Rattle.scopes.specs.declared.item.Item.TheVariants as item
 use Rattle.scopes.specs.declared.scope.Holding.{Holding}

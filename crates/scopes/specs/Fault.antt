@@ -1,7 +1,7 @@
 -- Parts that are judged together: each rule stands alone, and of all faults the earliest is named.
 use Rattle.std.specs.Prelude.{◌≡◌, ℕ, ◌+◌, Bool, nat_lt, nat_le, nat_eq, ◌&&◌, ◌||◌, if◌then◌else◌, List, [], ◌∷◌, ◌++◌, Result, Ok, Err}
-use Rattle.scopes.specs.declared.fault.TypeFault.{TypeFault}
-use Rattle.scopes.specs.declared.fault.TypeFault.TheVariants.{Fault, Memory}
+use Rattle.refusal.specs.declared.refused.Refused.{Refused as TypeFault}
+use Rattle.refusal.specs.declared.refused.Refused.TheVariants.{Fault, Memory}
 
 -- the lower line comes first, and on one line the lower number
 abbrev pub is_earlier : ℕ → ℕ → ℕ → ℕ → Bool

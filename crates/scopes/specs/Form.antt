@@ -14,8 +14,8 @@ use Rattle.syntax.specs.declared.annotation.Relation.{Relation}
 use Rattle.syntax.specs.declared.annotation.Relation.TheVariants.{AtMost, AtLeast}
 use Rattle.syntax.specs.declared.annotation.Term.{Term as TermText}
 use Rattle.syntax.specs.declared.operator.Width.TheVariants.{Bits64}
-use Rattle.scopes.specs.declared.fault.TypeFault.{TypeFault}
-use Rattle.scopes.specs.declared.fault.TypeFault.TheVariants.{Fault}
+use Rattle.refusal.specs.declared.refused.Refused.{Refused as TypeFault}
+use Rattle.refusal.specs.declared.refused.Refused.TheVariants.{Fault}
 use Rattle.scopes.specs.declared.form.Place.{Place}
 use Rattle.scopes.specs.declared.form.Place.TheVariants as place
 use Rattle.scopes.specs.declared.scope.Named.{Named}

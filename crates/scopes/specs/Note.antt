@@ -13,8 +13,8 @@ use Rattle.syntax.specs.declared.annotation.Pending.{Pending as PendingText}
 use Rattle.syntax.specs.declared.annotation.Zone.{Zone as ZoneText}
 use Rattle.syntax.specs.declared.instruction.Address.{Address as AddressText}
 use Rattle.syntax.specs.declared.instruction.Address.TheVariants as text
-use Rattle.scopes.specs.declared.fault.TypeFault.{TypeFault}
-use Rattle.scopes.specs.declared.fault.TypeFault.TheVariants.{Fault}
+use Rattle.refusal.specs.declared.refused.Refused.{Refused as TypeFault}
+use Rattle.refusal.specs.declared.refused.Refused.TheVariants.{Fault}
 use Rattle.scopes.specs.declared.form.Place.{Place}
 use Rattle.scopes.specs.declared.form.Place.TheVariants as place
 use Rattle.scopes.specs.declared.item.Item.{Item}

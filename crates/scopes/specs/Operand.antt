@@ -8,8 +8,8 @@ use Rattle.syntax.specs.declared.instruction.Operand.{Operand as OperandText}
 use Rattle.syntax.specs.declared.instruction.Operand.TheVariants as text
 use Rattle.syntax.specs.declared.operator.Width.{Width}
 use Rattle.syntax.specs.declared.operator.Width.TheVariants.{Bits64, Bits32}
-use Rattle.scopes.specs.declared.fault.TypeFault.{TypeFault}
-use Rattle.scopes.specs.declared.fault.TypeFault.TheVariants.{Fault}
+use Rattle.refusal.specs.declared.refused.Refused.{Refused as TypeFault}
+use Rattle.refusal.specs.declared.refused.Refused.TheVariants.{Fault}
 use Rattle.scopes.specs.declared.scope.Holding.{Holding}
 use Rattle.scopes.specs.declared.scope.Named.{Named}
 use Rattle.scopes.specs.declared.scope.Named.TheVariants as named

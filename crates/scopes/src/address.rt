@@ -4,7 +4,8 @@ ghost use Rattle.std.specs.Prelude.{◌≡◌};
 ghost use Rattle.scopes.specs.Address as spec;
 ghost use Rattle.scopes.specs.Table.{look_up};
 
-use crate::fault::{TypeFault, pointer_misuse, type_mismatch, unknown_name, unless};
+use crate::TypeFault;
+use crate::fault::{pointer_misuse, type_mismatch, unknown_name, unless};
 use crate::item::{Item, Items};
 use crate::operand::resolve_register;
 use crate::scope::{Holding, Register, Scope, is_step_of};

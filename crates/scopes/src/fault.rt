@@ -1,35 +1,9 @@
 ghost use Rattle.std.specs.Prelude.{◌≡◌, Ok};
 ghost use Rattle.scopes.specs.Fault.{both_of, earlier_of, joined_of, unless_of, Gives};
-ghost use Rattle.scopes.specs.declared.fault.TypeFault.TheVariants.{Fault, Memory};
+ghost use Rattle.refusal.specs.declared.refused.Refused.TheVariants.{Fault, Memory};
 
+use crate::TypeFault;
 use lists::Seq;
-use std::alloc::{AllocError, AllocFailed};
-use thiserror::Error;
-
-/// Why a module has no program: a rule that it breaks, by its number, and the line; or memory was refused.
-#[derive(Clone, Copy, Debug, PartialEq, Eq, Error)]
-pub enum TypeFault {
-    #[error("{number} line {line}")]
-    Fault { number: u16, line: u32 },
-    #[error("memory")]
-    Memory,
-}
-
-impl From<AllocError> for TypeFault {
-    ghost from_gives = { λ _ e. e ≡ Memory };
-
-    fn from(_error: AllocError) -> TypeFault {
-        TypeFault::Memory
-    }
-}
-
-impl<T: Drop> From<AllocFailed<T>> for TypeFault {
-    ghost from_gives = { λ _ e. e ≡ Memory };
-
-    fn from(_error: AllocFailed<T>) -> TypeFault {
-        TypeFault::Memory
-    }
-}
 
 /// 201: nothing has this name.
 pub fn unknown_name(line: u32) -> TypeFault

@@ -5,7 +5,8 @@ ghost use Rattle.std.specs.List.{list_all};
 ghost use Rattle.scopes.specs.Fault.{Gives, all_of};
 ghost use Rattle.scopes.specs.Form as spec;
 
-use crate::fault::{TypeFault, both, form_limit, joined, type_mismatch, unknown_name, unless};
+use crate::TypeFault;
+use crate::fault::{both, form_limit, joined, type_mismatch, unknown_name, unless};
 use crate::operand::resolve_register;
 use crate::scope::{Named, Register, Scope, is_number, is_number_of, is_parameter, is_step_of};
 use linear::FormFault;

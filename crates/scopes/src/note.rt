@@ -5,8 +5,9 @@ ghost use Rattle.scopes.specs.Fault.{Gives};
 ghost use Rattle.scopes.specs.Note as spec;
 ghost use Rattle.scopes.specs.Table.{look_up};
 
+use crate::TypeFault;
 use crate::address::held_object;
-use crate::fault::{TypeFault, both, joined, unknown_name};
+use crate::fault::{both, joined, unknown_name};
 use crate::form::{Place, made_before, resolve_form, resolve_parameter};
 use crate::item::{Item, Items};
 use crate::operand::{resolve_region, resolve_register};

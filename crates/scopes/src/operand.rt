@@ -4,7 +4,8 @@ ghost use Rattle.std.specs.Prelude.{◌≡◌};
 ghost use Rattle.scopes.specs.Operand as spec;
 ghost use Rattle.scopes.specs.Scope.{is_number_of as number_of};
 
-use crate::fault::{TypeFault, type_mismatch, unknown_name, unless};
+use crate::TypeFault;
+use crate::fault::{type_mismatch, unknown_name, unless};
 use crate::scope::{Named, Register, Scope, is_number_of, is_region, is_truth};
 use lists::Name;
 use program::{BlockId, Operand, RegisterId, Width};

@@ -65,7 +65,8 @@ fn named_by(
     globals: usize,
 ) -> Result<Vec<bool>, AllocError>
     requires { length marked.now ≡ length mentions.now }
-    ensures { IfOk result (λ marks. (g : ℕ) → (slice_index_or marks.items g false ≡ true) ↔ ((g < globals) × ((f : ℕ) × (slice_index_or marked.now f false ≡ true) × Contains (spec.globals_at mentions.now f) g))) }
+    ensures { IfOk result (λ marks. (g : ℕ) → (slice_index_or marks.items g false ≡ true)
+        ↔ ((g < globals) × ((f : ℕ) × (slice_index_or marked.now f false ≡ true) × Contains (spec.globals_at mentions.now f) g))) }
 {
     let mut marks = no_marks(alloc, globals)?;
     let mut found: Vec<usize> = Vec::new(alloc);

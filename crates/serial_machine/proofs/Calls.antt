@@ -1,11 +1,11 @@
 -- Where a call is done, its arguments have values.
 use Rattle.std.proofs.Common.{◌≡◌, ℕ, List, [], Bool, true, false, cond, Option, Some, None, refl, subst, ℤ}
 use Rattle.std.specs.Prelude.{⊤, IsSome}
-use Rattle.machine_core.specs.Paths.{Path, same_path}
-use Rattle.machine_core.specs.Cells.{Memory}
-use Rattle.machine_core.specs.Frames.{Value, Registers, Role, Child, Body, Frame, Item, Does, Ends, region_of, word_at}
-use Rattle.machine_core.specs.Effect.{Action, Plain, Detach, Reattach, Sync, Call, Return, if_own, syncs, reattaches, calls, returns, returns_value, registers_along, argument_values, instruction_action, terminator_action, item_action, traps}
-use Rattle.machine_core.specs.Arithmetic.{Unmatched}
+use Rattle.running.specs.Paths.{Path, same_path}
+use Rattle.running.specs.Cells.{Memory}
+use Rattle.running.specs.Frames.{Value, Registers, Role, Child, Body, Frame, Item, Does, Ends, region_of, word_at}
+use Rattle.running.specs.Effect.{Action, Plain, Detach, Reattach, Sync, Call, Return, if_own, syncs, reattaches, calls, returns, returns_value, registers_along, argument_values, instruction_action, terminator_action, item_action, traps}
+use Rattle.running.specs.Arithmetic.{Unmatched}
 use Rattle.linear.specs.declared.form.RegisterId.{RegisterId}
 use Rattle.program.specs.declared.function.Program.{Program}
 use Rattle.program.specs.declared.instruction.Instruction.{Instruction}

@@ -6,15 +6,15 @@ use Rattle.std.specs.Option.{option_flatten}
 use Rattle.std.proofs.lemmas.Bool.Decides.{eqb_tells, nat_tests}
 use Rattle.std.proofs.lemmas.Option.{slice_get_past}
 use Rattle.std.proofs.lemmas.List.{length-reverse}
-use Rattle.machine_core.specs.Cells as cells
-use Rattle.machine_core.specs.Cells.{Shared, Local, same_object, same_cell}
-use Rattle.machine_core.specs.Arithmetic.{cell_sum}
-use Rattle.machine_core.specs.Effect as effects
-use Rattle.machine_core.specs.Frames as frames
-use Rattle.machine_core.specs.Effect.{goes_on}
-use Rattle.machine_core.specs.State.{override, added, sum_in}
-use Rattle.machine_core.specs.SerialMeaning.{written}
-use Rattle.machine_core.proofs.Places.{same_path_tells}
+use Rattle.running.specs.Cells as cells
+use Rattle.running.specs.Cells.{Shared, Local, same_object, same_cell}
+use Rattle.running.specs.Arithmetic.{cell_sum}
+use Rattle.running.specs.Effect as effects
+use Rattle.running.specs.Frames as frames
+use Rattle.running.specs.Effect.{goes_on}
+use Rattle.running.specs.State.{override, added, sum_in}
+use Rattle.running.specs.SerialMeaning.{written}
+use Rattle.running.proofs.Places.{same_path_tells}
 use Rattle.program.specs.declared.identifier.AllocaId.{AllocaId}
 use Rattle.program.specs.declared.identifier.GlobalId.{GlobalId}
 use Rattle.store.specs.Cells.{NamedCells, Sets, cell_at}

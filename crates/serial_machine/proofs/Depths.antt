@@ -3,11 +3,11 @@ use Rattle.std.proofs.Common.{◌≡◌, ◌≢◌, ℕ, zero, suc, ◌-◌, ◌
 use Rattle.std.specs.Prelude.{slice_get, slice_set}
 use Rattle.std.proofs.lemmas.Bool.Decides.{eqb_tells}
 use Rattle.std.proofs.lemmas.List.{reverse-append, reverse-reverse, length-reverse}
-use Rattle.machine_core.specs.Paths.{Path, same_path}
-use Rattle.machine_core.specs.Cells as cells
-use Rattle.machine_core.specs.Cells.{Shared, Local}
-use Rattle.machine_core.specs.State.{override}
-use Rattle.machine_core.proofs.Places.{same_path_apart, same_path_tells}
+use Rattle.running.specs.Paths.{Path, same_path}
+use Rattle.running.specs.Cells as cells
+use Rattle.running.specs.Cells.{Shared, Local}
+use Rattle.running.specs.State.{override}
+use Rattle.running.proofs.Places.{same_path_apart, same_path_tells}
 use Rattle.linear.specs.declared.form.RegisterId.{RegisterId}
 use Rattle.store.specs.Cells.{NamedCells, Sets, cell_at}
 use Rattle.frame.specs.declared.frame.Frame.{Frame}

@@ -1,17 +1,17 @@
 -- What the pieces of a step of the machine come to, as a step of the definitions.
 use Rattle.std.proofs.Common.{◌≡◌, ℕ, suc, ◌+◌, List, [], ◌∷◌, ◌++◌, length, max, reverse, refl, ap, sym, ◌∙◌, subst, arith, ℤ, Option, Some, None, Vec, Global}
 use Rattle.std.specs.Prelude.{IsSome, slice_get}
-use Rattle.machine_core.specs.Paths.{Path}
-use Rattle.machine_core.specs.Cells as cells
-use Rattle.machine_core.specs.Cells.{same_cell}
-use Rattle.machine_core.specs.Arithmetic.{Undefined}
-use Rattle.machine_core.specs.Frames as frames
-use Rattle.machine_core.specs.Frames.{Registers, Value, Word, Free, OnRegion, OnCall, Child}
-use Rattle.machine_core.specs.Effect as effects
-use Rattle.machine_core.specs.Effect.{Action, Plain, Detach, Reattach, Sync, Call, Return, action_of, goes_on, given, enters, syncs, registers_along, traps, stops}
-use Rattle.machine_core.specs.State.{override, added, went, detached, continued, synced, called, waiting, resumed}
-use Rattle.machine_core.specs.SerialMeaning.{written}
-use Rattle.machine_core.proofs.Actions.{reattach_is_child}
+use Rattle.running.specs.Paths.{Path}
+use Rattle.running.specs.Cells as cells
+use Rattle.running.specs.Cells.{same_cell}
+use Rattle.running.specs.Arithmetic.{Undefined}
+use Rattle.running.specs.Frames as frames
+use Rattle.running.specs.Frames.{Registers, Value, Word, Free, OnRegion, OnCall, Child}
+use Rattle.running.specs.Effect as effects
+use Rattle.running.specs.Effect.{Action, Plain, Detach, Reattach, Sync, Call, Return, action_of, goes_on, given, enters, syncs, registers_along, traps, stops}
+use Rattle.running.specs.State.{override, added, went, detached, continued, synced, called, waiting, resumed}
+use Rattle.running.specs.SerialMeaning.{written}
+use Rattle.running.proofs.Actions.{reattach_is_child}
 use Rattle.linear.specs.declared.form.RegisterId.{RegisterId}
 use Rattle.program.specs.declared.function.Program.{Program}
 use Rattle.store.specs.Cells.{NamedCells}

@@ -3,10 +3,10 @@ use Rattle.std.proofs.Common.{◌≡◌, ℕ, zero, suc, ◌+◌, ◌<◌, ◌�
 use Rattle.std.specs.Prelude.{⊤, map, slice_get}
 use Rattle.std.proofs.lemmas.Bool.Decides.{eqb_tells}
 use Rattle.std.proofs.lemmas.List.{length-replicate}
-use Rattle.machine_core.specs.Paths.{Path}
-use Rattle.machine_core.specs.Frames as frames
-use Rattle.machine_core.specs.Frames.{Value as ValueOf, alloca_cells}
-use Rattle.machine_core.specs.State.{root_frame, detached, called}
+use Rattle.running.specs.Paths.{Path}
+use Rattle.running.specs.Frames as frames
+use Rattle.running.specs.Frames.{Value as ValueOf, alloca_cells}
+use Rattle.running.specs.State.{root_frame, detached, called}
 use Rattle.program.specs.declared.function.Alloca.{Alloca}
 use Rattle.program.specs.declared.function.Function.{Function}
 use Rattle.program.specs.declared.function.Program.{Program}

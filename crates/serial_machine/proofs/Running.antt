@@ -1,12 +1,12 @@
 -- Cells of a stack of frames.
 use Rattle.std.proofs.Common.{◌≡◌, ℕ, suc, ◌-◌, ◌<◌, ◌≤◌, List, [], ◌∷◌, length, refl, ap, sym, ◌∙◌, arith, false, None, inl, inr, length-drop}
 use Rattle.std.proofs.lemmas.Bool.Decides.{eqb_tells}
-use Rattle.machine_core.specs.Paths.{Path, same_path}
-use Rattle.machine_core.specs.Cells.{Object, Shared, Local}
-use Rattle.machine_core.specs.SerialMeaning.{cleared}
-use Rattle.machine_core.specs.State.{override, clears}
-use Rattle.machine_core.proofs.Actions.{same_path_itself}
-use Rattle.machine_core.proofs.Places.{same_path_apart, same_path_tells}
+use Rattle.running.specs.Paths.{Path, same_path}
+use Rattle.running.specs.Cells.{Object, Shared, Local}
+use Rattle.running.specs.SerialMeaning.{cleared}
+use Rattle.running.specs.State.{override, clears}
+use Rattle.running.proofs.Actions.{same_path_itself}
+use Rattle.running.proofs.Places.{same_path_apart, same_path_tells}
 use Rattle.store.specs.Cells.{NamedCells}
 use Rattle.frame.specs.declared.frame.Frame.{Frame}
 use Rattle.frame.specs.Reading.{above}

@@ -1,10 +1,10 @@
 -- From the steps of the machine to the serial meaning.
 use Rattle.std.proofs.Common.{◌≡◌, ℕ, suc, ◌+◌, max, List, [], ◌∷◌, length, reverse, refl, ap, sym, ◌∙◌, subst, arith, inl, inr, ℤ, Some}
 use Rattle.std.specs.Prelude.{Result, Ok, Err, slice_get}
-use Rattle.machine_core.specs.Cells.{Object, Shared, Local, if_shared, globals_of}
-use Rattle.machine_core.specs.Frames as frames
-use Rattle.machine_core.specs.State.{root_frame}
-use Rattle.machine_core.specs.SerialMeaning.{Gave, Outcome, IsSerialMeaning, cleared}
+use Rattle.running.specs.Cells.{Object, Shared, Local, if_shared, globals_of}
+use Rattle.running.specs.Frames as frames
+use Rattle.running.specs.State.{root_frame}
+use Rattle.running.specs.SerialMeaning.{Gave, Outcome, IsSerialMeaning, cleared}
 use Rattle.program.specs.declared.function.Program.{Program}
 use Rattle.store.specs.Cells.{NamedCells}
 use Rattle.frame.specs.declared.effect.Effect.{Effect}
@@ -12,7 +12,7 @@ use Rattle.frame.specs.declared.frame.Frame.{Frame}
 use Rattle.frame.specs.Asked.{asked}
 use Rattle.frame.specs.Reading.{frame_of}
 use Rattle.frame.specs.Room.{CanDo, EffectWithin, HasPlaces, IsSound, IsUndefined, register_count}
-use Rattle.machine_core.specs.Effect.{action_of}
+use Rattle.running.specs.Effect.{action_of}
 use Rattle.serial_machine.specs.Running.{seen, object_cell, memory_of, run_of, AreSound}
 use Rattle.serial_machine.specs.Stack.{Run, Walk, begins, goes_on, starting, Goes}
 use Rattle.serial_machine.specs.Stepping.{below_of, frames_in, path_in, frame_in, memory_in, run_in, names_of, ArePlaced, HasRoomAt, HasSpace, ComesTo, Performs, HasEnded}

@@ -1,12 +1,12 @@
 -- What the machine's frames and cells come to in a step, as a step of the definitions.
 use Rattle.std.proofs.Common.{◌≡◌, ℕ, ◌+◌, ◌-◌, List, ◌∷◌, refl, ap, sym, ◌∙◌, subst, arith, cond, ℤ, Option, None}
 use Rattle.std.specs.Prelude.{map, slice_get}
-use Rattle.machine_core.specs.Paths.{same_path}
-use Rattle.machine_core.specs.Cells.{Object, Shared, Local}
-use Rattle.machine_core.specs.Frames.{Value, Registers}
-use Rattle.machine_core.specs.Effect.{Effect, Plain, Detach, Reattach, Sync, Call, Return, action_of}
-use Rattle.machine_core.specs.State.{went, detached, continued, synced, called, waiting, resumed}
-use Rattle.machine_core.specs.SerialMeaning.{written, cleared}
+use Rattle.running.specs.Paths.{same_path}
+use Rattle.running.specs.Cells.{Object, Shared, Local}
+use Rattle.running.specs.Frames.{Value, Registers}
+use Rattle.running.specs.Effect.{Effect, Plain, Detach, Reattach, Sync, Call, Return, action_of}
+use Rattle.running.specs.State.{went, detached, continued, synced, called, waiting, resumed}
+use Rattle.running.specs.SerialMeaning.{written, cleared}
 use Rattle.linear.specs.declared.form.RegisterId.{RegisterId}
 use Rattle.program.specs.declared.function.Program.{Program}
 use Rattle.store.specs.Cells.{NamedCells}

@@ -2,8 +2,8 @@
 use Rattle.std.specs.Prelude.{◌≡◌, ⊤, ℕ, ◌-◌, List, [], ◌∷◌, length, cond, eqb, Option, Some, None, ℤ}
 use Rattle.frame.specs.declared.frame.Wait.{Wait}
 use Rattle.frame.specs.declared.frame.Wait.TheVariants as wait
-use Rattle.machine_core.specs.Paths.{Path, same_path}
-use Rattle.machine_core.specs.Cells.{Object, Shared, Local, Memory}
+use Rattle.running.specs.Paths.{Path, same_path}
+use Rattle.running.specs.Cells.{Object, Shared, Local, Memory}
 use Rattle.store.specs.Cells.{NamedCells, cell_at}
 use Rattle.frame.specs.declared.frame.Frame.{Frame}
 use Rattle.frame.specs.Reading.{frame_of}

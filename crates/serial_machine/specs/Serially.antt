@@ -1,7 +1,7 @@
 -- What a serial run answers, by the serial meaning.
 use Rattle.std.specs.Prelude.{◌≡◌, ◌⊎◌, ⊤, ℕ, List, [], ◌∷◌, Some, ℤ, Result, Ok, Err}
-use Rattle.machine_core.specs.Cells.{Memory}
-use Rattle.machine_core.specs.SerialMeaning.{Gave, IsSerialMeaning}
+use Rattle.running.specs.Cells.{Memory}
+use Rattle.running.specs.SerialMeaning.{Gave, IsSerialMeaning}
 use Rattle.program.specs.declared.function.Program.{Program}
 use Rattle.store.specs.Cells.{NamedCells}
 use Rattle.frame.specs.declared.frame.Frame.{Frame}

@@ -1,12 +1,12 @@
 -- What a step of the machine comes to, as a step over a stack of frames.
 use Rattle.std.specs.Prelude.{◌≡◌, ⊤, ℕ, ◌<◌, ◌≤◌, List, [], ◌∷◌, length, map, reverse, cond, nat_lt, ◌&&◌, Option, Some, None, IsSome, Result, Ok, Err, ℤ, pos, slice_get}
-use Rattle.machine_core.specs.Paths.{Path}
-use Rattle.machine_core.specs.Cells as cells
-use Rattle.machine_core.specs.Cells.{same_cell, same_object}
-use Rattle.machine_core.specs.State.{override}
-use Rattle.machine_core.specs.Effect.{action_of}
-use Rattle.machine_core.specs.Frames as frames
-use Rattle.machine_core.specs.Frames.{alloca_cells, phis_at}
+use Rattle.running.specs.Paths.{Path}
+use Rattle.running.specs.Cells as cells
+use Rattle.running.specs.Cells.{same_cell, same_object}
+use Rattle.running.specs.State.{override}
+use Rattle.running.specs.Effect.{action_of}
+use Rattle.running.specs.Frames as frames
+use Rattle.running.specs.Frames.{alloca_cells, phis_at}
 use Rattle.program.specs.declared.function.Function.{Function}
 use Rattle.program.specs.declared.function.Program.{Program}
 use Rattle.store.specs.Cells.{NamedCells, cell_at}

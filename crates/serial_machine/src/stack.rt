@@ -1,7 +1,7 @@
 ghost use Rattle.std.specs.Prelude.{◌≡◌, ◌+◌, ◌++◌, ◌∷◌, [], IsTrue, length, OnOk, slice_get, slice_set};
 ghost use Rattle.std.specs.Option.{option_copied};
 ghost use Rattle.std.specs.Bool.{OnFalse, OnTrue};
-ghost use Rattle.machine_core.specs.Arithmetic.{cell_sum};
+ghost use Rattle.running.specs.Arithmetic.{cell_sum};
 ghost use Rattle.serial_machine.specs.Running.{frame_at as frame_of_depth};
 ghost use Rattle.serial_machine.specs.Stepping.{HasCellIn, HasCellOf, LacksCells, Loads, Stores, StoresIn, StoresZeros, frames_in};
 

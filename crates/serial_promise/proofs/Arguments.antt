@@ -11,13 +11,13 @@ use Rattle.std.proofs.lemmas.Option.{slice_get_past}
 use lib.Signed.{le_z_yes}
 use Rattle.linear.specs.declared.form.Term.{Term}
 use Rattle.linear.specs.Forms.{Combination, value, value_of}
-use Rattle.machine_core.specs.Frames.{and_then}
+use Rattle.running.specs.Frames.{and_then}
 use Rattle.program.specs.declared.annotation.Inequality.{Inequality}
 use Rattle.program.specs.declared.function.Function.{Function}
 use Rattle.program.specs.declared.function.Program.{Program}
 use Rattle.serial_machine.specs.Requirements.{size, wide, with_term, with_terms, value_at, at_most, is_met, unmet_of, unmet_in}
-use Rattle.bridge.specs.Costs.{or_zero}
-use Rattle.fact_laws.specs.Known.{IsMet}
+use Rattle.conditions.specs.rules.Costs.{or_zero}
+use Rattle.phase_laws.specs.facts.Known.{IsMet}
 use Rattle.schedule_theorem.specs.Promise.{argument_at, AreTaken}
 
 -- ---- forms

@@ -1,7 +1,7 @@
 -- What the machine answers is the serial run that the schedule theorem speaks of.
 use Rattle.std.proofs.Common.{◌≡◌, ℕ, ◌≤◌, List, Some, None, ℤ, sym, subst}
 use Rattle.std.specs.Prelude.{Result, Ok, Err}
-use Rattle.machine_core.specs.SerialMeaning.{Gave, Outcome}
+use Rattle.running.specs.SerialMeaning.{Gave, Outcome}
 use Rattle.program.specs.declared.function.Program.{Program}
 use Rattle.verifier.specs.Accepted.{IsAccepted, IsProgramOf}
 use Rattle.verifier.specs.Budgets.{budget_of}

@@ -4,7 +4,7 @@ use Rattle.std.specs.Prelude.{slice_get}
 use Rattle.std.specs.Option.{option_map}
 use Rattle.std.proofs.lemmas.Bool.Decides.{eqb_tells}
 use Rattle.std.proofs.lemmas.Option.{slice_get-map}
-use Rattle.machine_core.specs.Frames.{global_cells}
+use Rattle.running.specs.Frames.{global_cells}
 use Rattle.program.specs.declared.function.Global.{Global}
 use Rattle.store.specs.Cells.{zeros, cell_in, cell_at}
 use Rattle.serial_promise.specs.Promise.{GlobalsAreMade, GlobalsAreKept}

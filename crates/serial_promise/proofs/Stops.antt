@@ -1,13 +1,13 @@
 -- The machine stops nowhere: each frame that a serial run leads to has room for its next step, and the definitions never trap.
 use Rattle.std.proofs.Common.{◌≡◌, inl, inr, ℕ, ◌+◌, ◌<◌, ◌^◌, List, ◌∷◌, Option, Some, None, refl, sym, subst, arith, ℤ}
 use Rattle.std.specs.Prelude.{IsSome, slice_get}
-use Rattle.machine_core.specs.Arithmetic.{Trap}
-use Rattle.machine_core.specs.Cells.{Memory}
-use Rattle.machine_core.specs.Frames as frames
-use Rattle.machine_core.specs.Frames.{cells_in, phis_at}
-use Rattle.machine_core.specs.Effect as running
-use Rattle.machine_core.specs.Effect.{Plain, action_of}
-use Rattle.machine_core.specs.Paths.{Path}
+use Rattle.running.specs.Arithmetic.{Trap}
+use Rattle.running.specs.Cells.{Memory}
+use Rattle.running.specs.Frames as frames
+use Rattle.running.specs.Frames.{cells_in, phis_at}
+use Rattle.running.specs.Effect as running
+use Rattle.running.specs.Effect.{Plain, action_of}
+use Rattle.running.specs.Paths.{Path}
 use Rattle.program.specs.declared.function.Function.{Function}
 use Rattle.program.specs.declared.function.Program.{Program}
 use Rattle.program.specs.declared.identifier.AllocaId.{AllocaId}
@@ -19,12 +19,12 @@ use Rattle.frame.specs.declared.frame.Frame.{Frame}
 use Rattle.frame.specs.Asked.{HasRoom}
 use Rattle.frame.specs.Reading.{frame_of}
 use Rattle.frame.specs.Room.{HasChild, HasNext, FitsPhis}
-use Rattle.room_laws.specs.Cells.{HasAllocaCells}
-use Rattle.room_laws.specs.Room.{DoesNotTrap}
-use Rattle.room_laws.proofs.Doable.{frames_have_room}
-use Rattle.room_laws.proofs.Moves.{moves_fit}
-use Rattle.room_laws.proofs.Sizes.{uses_are_sized}
-use Rattle.room_laws.proofs.Space.{cells_are_there, has_space}
+use Rattle.serial_promise.specs.room.Cells.{HasAllocaCells}
+use Rattle.serial_promise.specs.room.Room.{DoesNotTrap}
+use Rattle.serial_promise.proofs.room.Doable.{frames_have_room}
+use Rattle.serial_promise.proofs.room.Moves.{moves_fit}
+use Rattle.schedule_theorem.proofs.safe.Sizes.{uses_are_sized}
+use Rattle.serial_promise.proofs.room.Space.{cells_are_there, has_space}
 use Rattle.schedule_theorem.specs.Promise.{AreTaken, KeepsItsPromise}
 use Rattle.schedule_theorem.proofs.Accepted.{IsTaken, is_taken}
 use Rattle.schedule_theorem.proofs.Along.{Along, kept_along, kept_at_root}
@@ -37,10 +37,10 @@ use Rattle.serial_machine.specs.Serially.{cells_of, StopsAt}
 use Rattle.serial_machine.specs.Stack.{Placed, HasNoStep}
 use Rattle.serial_machine.specs.Stepping.{HasPlacesIn, HasRoomAt, declared_in}
 use Rattle.serial_machine.proofs.Running.{seen_long}
-use Rattle.walk_laws.specs.Laws.{GoesOnTo, IsCounted}
-use Rattle.walk_laws.proofs.Ahead.{walks_go_on}
-use Rattle.walk_laws.proofs.Counted.{walks_count}
-use Rattle.walk_laws.proofs.Kept.{walks_keep}
+use Rattle.serial_promise.specs.walks.Along.{GoesOnTo, IsCounted}
+use Rattle.serial_promise.proofs.walks.Ahead.{walks_go_on}
+use Rattle.serial_promise.proofs.walks.Counted.{walks_count}
+use Rattle.serial_promise.proofs.walks.Kept.{walks_keep}
 use Rattle.serial_promise.specs.Promise.{AreGlobalsOf, RunsNeverStop}
 use Rattle.serial_promise.proofs.Arguments.{are_taken}
 

@@ -39,4 +39,5 @@ abbrev pub GlobalsAreMade : Type 0
 GlobalsAreMade = (program : Program) → AreGlobalsOf program (map zeros program.globals)
 
 abbrev pub GlobalsAreKept : Type 0
-GlobalsAreKept = (program : Program) (before after : List NamedCells) (g i : ℕ) (z : ℤ) → Sets before after g i z → AreGlobalsOf program before → AreGlobalsOf program after
+GlobalsAreKept = (program : Program) (before after : List NamedCells) (g i : ℕ) (z : ℤ) → Sets before after g i z → AreGlobalsOf program before →
+    AreGlobalsOf program after

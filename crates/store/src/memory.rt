@@ -1,6 +1,8 @@
 ghost use Rattle.std.specs.Prelude.{◌≡◌, ◌↔◌, ◌<◌, ℕ, Some, IfOk, IsSome, IsTrue, length, map, slice_set};
 ghost use Rattle.std.specs.Bool.{OnFalse, OnTrue};
+ghost use Rattle.program.specs.declared.function.Program.{Program};
 ghost use Rattle.store.specs.Cells.{NamedCells, Sets, cell_at, cell_named, number_of, zeros};
+ghost use Rattle.store.specs.Made.{HasGlobalCells};
 
 use lists::{Name, OutOfMemory};
 use program::{GlobalId, Program};
@@ -73,7 +75,8 @@ impl Model for Memory {
 impl Memory {
     /// The globals of the module, each cell 0.
     pub fn zeroed(alloc: Global, verified: &Verified) -> Result<Memory, OutOfMemory>
-        ensures { IfOk result (λ m. m ≡ map zeros verified.now.globals) }
+        ensures zeros { IfOk result (λ m. m ≡ map zeros verified.now.globals) }
+        ensures cells { IfOk result (λ m. HasGlobalCells verified.now m) }
     {
         Memory::of_program(alloc, verified.program())
     }
@@ -106,6 +109,7 @@ impl Memory {
         ensures there { IsTrue result ↔ IsSome (cell_named self.old name.now index) }
         ensures not_there { OnFalse result (self.new ≡ self.old) }
         ensures set { OnTrue result ((g : ℕ) → number_of self.old name.now ≡ Some g → Sets self.old self.new g index value) }
+        ensures cells { (program : Program) → HasGlobalCells program self.old → HasGlobalCells program self.new }
     {
         match self.find(name) {
             Some(found) => self.set_cell(GlobalId(found), index, value),

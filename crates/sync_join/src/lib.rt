@@ -4,7 +4,5 @@
 #![tactic(auto)]
 
 mod count;
-#[cfg(test)]
-mod tests;
 
 pub use count::{Outcome, Parent, Passage, RegionCount};

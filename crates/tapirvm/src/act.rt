@@ -1,11 +1,16 @@
 //! From a request and the bytes of its files to text and a status.
 
+ghost use Rattle.program.specs.declared.function.Program.{Program};
+ghost use Rattle.std.specs.Prelude.{IfOk};
+ghost use Rattle.store.specs.Made.{HasGlobalCells};
+
 use crate::request::{CellWord, Request, Setting, Verb};
 use crate::status::Status;
 use debugger::{ScheduleFault, read_schedule};
 use lists::OutOfMemory;
 use schedule_core::{Event, Machine, replay};
-use serial_machine::{Finished, RunFault, serial_run};
+use serial_machine::{Finished, RunFault};
+use serial_promise::run_serially;
 use std::alloc::Global;
 use std::hash::RandomState;
 use std::io;
@@ -134,7 +139,9 @@ fn run_verified<W: Write>(
 }
 
 /// The memory to begin with; else the status: an option names no cell, or memory was refused.
-fn prepared(alloc: Global, verified: &Verified, request: &Request) -> Result<Memory, Status> {
+fn prepared(alloc: Global, verified: &Verified, request: &Request) -> Result<Memory, Status>
+    ensures { IfOk result (λ memory. HasGlobalCells verified.now memory) }
+{
     let Ok(mut memory) = Memory::zeroed(alloc, verified) else {
         return Err(Status::Stopped);
     };
@@ -165,7 +172,7 @@ fn run_events<W: Write>(
     let workers = request.workers;
     match request.verb {
         Verb::Verify => print_verified(verified, request, output),
-        Verb::Serial => print_run(&serial_run(alloc, verified, args, memory), cells, output),
+        Verb::Serial => print_run(&run_serially(alloc, verified, args, memory), cells, output),
         Verb::Run => print_run(
             &run_by_one(alloc, verified, args, memory, workers),
             cells,
@@ -205,7 +212,9 @@ fn print_replayed<W: Write>(
 }
 
 /// Sets cells in order; false where one is not there.
-fn set_cells(memory: &mut Memory, settings: &[Setting]) -> bool {
+fn set_cells(memory: &mut Memory, settings: &[Setting]) -> bool
+    ensures { (program : Program) → HasGlobalCells program memory.old → HasGlobalCells program memory.new }
+{
     for setting in settings {
         if !memory.set_global(
             setting.cell.name.as_str(),
@@ -234,7 +243,9 @@ fn run_by_one(
     args: &[i64],
     memory: Memory,
     workers: usize,
-) -> Result<Finished, RunFault> {
+) -> Result<Finished, RunFault>
+    requires { HasGlobalCells verified.now memory }
+{
     let mut machine = Machine::start(alloc, verified, args, memory, workers)?;
     for _ in 0..verified.budget() {
         match machine.apply(&Event::Step(0)) {

@@ -1,13 +1,11 @@
 //! The program's texts and statuses over whole modules. Expected answers are worked by hand.
 
+mod commands;
+mod counts;
 mod machines;
-mod refusals;
-mod replays;
-mod runs;
 mod samples;
-mod statuses;
+mod transcripts;
 mod traps;
-mod verdicts;
 
 use crate::act::act;
 use crate::words::words;
@@ -52,38 +50,4 @@ fn verified(rt: &(impl Abort + AllocGlobal + RandomSource), text: &str) -> Resul
         Ok(verified) => Ok(verified),
         Err(_) => Err(Fail::from("refused")),
     }
-}
-
-/// Asserts what is told over a module.
-fn tells(
-    rt: &(impl Abort + AllocGlobal + RandomSource),
-    line: &str,
-    module: &str,
-    status: u8,
-    text: &str,
-) -> Result<(), Fail> {
-    let (code, output) = told(rt, line, Some(module.as_bytes()), None)?;
-    assert_eq!(rt; code, status, "{line}");
-    assert_eq!(rt; output.as_slice(), text.as_bytes(), "{line}");
-    Ok(())
-}
-
-/// A text with the line of this number, from 1, replaced; with no new text the line is taken away.
-fn with_line(
-    rt: &(impl Abort + AllocGlobal + RandomSource),
-    text: &str,
-    number: usize,
-    new: Option<&str>,
-) -> Result<String, Fail> {
-    let mut changed = String::new(rt.alloc());
-    let mut at = 0u64;
-    for line in text.lines() {
-        at = at.saturating_add(1);
-        let kept = if at == number as u64 { new } else { Some(line) };
-        if let Some(kept) = kept {
-            changed.push_str(kept)?;
-            changed.push_str("\n")?;
-        }
-    }
-    Ok(changed)
 }

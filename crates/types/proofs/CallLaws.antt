@@ -27,8 +27,8 @@ use Rattle.scopes.specs.declared.address.WholeObject.{WholeObject}
 use Rattle.types.specs.declared.block.Body.{Body}
 use Rattle.types.specs.declared.call.ResolvedCall.{ResolvedCall}
 use Rattle.program.specs.declared.function.Program.{Program}
-use Rattle.scopes.specs.declared.fault.TypeFault.{TypeFault}
-use Rattle.scopes.specs.declared.fault.TypeFault.TheVariants.{Fault}
+use Rattle.refusal.specs.declared.refused.Refused.{Refused as TypeFault}
+use Rattle.refusal.specs.declared.refused.Refused.TheVariants.{Fault}
 use Rattle.types.specs.declared.instruction.Spot.{Spot}
 use Rattle.scopes.specs.declared.mention.Mentions.{Mentions}
 use Rattle.scopes.specs.Address.{Items, object_of}

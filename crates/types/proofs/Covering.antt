@@ -28,8 +28,8 @@ use Rattle.syntax.specs.declared.module.Function.{Function as FunctionText}
 use Rattle.syntax.specs.declared.operator.Width.TheVariants.{Bits64}
 use Rattle.scopes.specs.declared.address.WholeObject.{WholeObject}
 use Rattle.types.specs.declared.call.ResolvedCall.{ResolvedCall}
-use Rattle.scopes.specs.declared.fault.TypeFault.{TypeFault}
-use Rattle.scopes.specs.declared.fault.TypeFault.TheVariants.{Fault}
+use Rattle.refusal.specs.declared.refused.Refused.{Refused as TypeFault}
+use Rattle.refusal.specs.declared.refused.Refused.TheVariants.{Fault}
 use Rattle.scopes.specs.declared.form.Place.{Place}
 use Rattle.scopes.specs.declared.form.Place.TheVariants as place
 use Rattle.types.specs.declared.instruction.Spot.{Spot}

@@ -13,8 +13,8 @@ use Rattle.syntax.specs.declared.instruction.Instruction.TheVariants as text
 use Rattle.syntax.specs.declared.instruction.Phi.{Phi as PhiText}
 use Rattle.syntax.specs.declared.module.Function.{Function as FunctionText}
 use Rattle.scopes.specs.declared.address.WholeObject.{WholeObject}
-use Rattle.scopes.specs.declared.fault.TypeFault.{TypeFault}
-use Rattle.scopes.specs.declared.fault.TypeFault.TheVariants.{Fault}
+use Rattle.refusal.specs.declared.refused.Refused.{Refused as TypeFault}
+use Rattle.refusal.specs.declared.refused.Refused.TheVariants.{Fault}
 use Rattle.types.specs.declared.instruction.Spot.{Spot}
 use Rattle.scopes.specs.declared.scope.Named.TheVariants as named_as
 use Rattle.scopes.specs.declared.scope.Register.{Register}

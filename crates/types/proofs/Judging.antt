@@ -2,8 +2,8 @@
 use Rattle.std.proofs.Common.{◌≡◌, ℕ, List, map, length, ap, ◌∙◌, subst, Result, Ok, Err}
 use Rattle.program.specs.declared.function.Program.{Program}
 use Rattle.syntax.specs.declared.module.Module.{Module}
-use Rattle.scopes.specs.declared.fault.TypeFault.{TypeFault}
-use Rattle.scopes.specs.declared.fault.TypeFault.TheVariants.{Fault, Memory}
+use Rattle.refusal.specs.declared.refused.Refused.{Refused as TypeFault}
+use Rattle.refusal.specs.declared.refused.Refused.TheVariants.{Fault, Memory}
 use Rattle.scopes.specs.declared.mention.Mentions.{Mentions}
 use Rattle.scopes.specs.Address.{Items}
 use Rattle.types.specs.Call.{Named}

@@ -31,7 +31,7 @@ use Rattle.syntax.specs.declared.module.Module.{Module}
 use Rattle.types.specs.declared.block.Body.{Body}
 use Rattle.types.specs.declared.block.Head.{Head}
 use Rattle.types.specs.declared.function.Head.{Head as FunctionHead}
-use Rattle.scopes.specs.declared.fault.TypeFault.{TypeFault}
+use Rattle.refusal.specs.declared.refused.Refused.{Refused as TypeFault}
 use Rattle.scopes.specs.declared.form.Place.TheVariants as place
 use Rattle.scopes.specs.declared.item.Item.{Item}
 use Rattle.scopes.specs.declared.item.Item.TheVariants as item

@@ -13,7 +13,7 @@ use Rattle.syntax.specs.declared.module.Block.{Block as BlockText}
 use Rattle.syntax.specs.declared.module.Function.{Function as FunctionText}
 use Rattle.syntax.specs.declared.module.Parameter.{Parameter as ParameterText}
 use Rattle.syntax.specs.declared.module.Parameter.TheVariants as parameter
-use Rattle.scopes.specs.declared.fault.TypeFault.TheVariants.{Fault}
+use Rattle.refusal.specs.declared.refused.Refused.TheVariants.{Fault}
 use Rattle.scopes.specs.declared.layout.Layout.{Layout}
 use Rattle.scopes.specs.declared.scope.Holding.{Holding}
 use Rattle.scopes.specs.declared.scope.Holding.TheVariants as holding

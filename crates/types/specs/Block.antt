@@ -7,7 +7,7 @@ use Rattle.syntax.specs.declared.module.Function.{Function as FunctionText}
 use Rattle.syntax.specs.declared.module.ResultType.{ResultType}
 use Rattle.types.specs.declared.block.Body.{Body}
 use Rattle.types.specs.declared.block.Head.{Head}
-use Rattle.scopes.specs.declared.fault.TypeFault.{TypeFault}
+use Rattle.refusal.specs.declared.refused.Refused.{Refused as TypeFault}
 use Rattle.scopes.specs.declared.form.Place.TheVariants as place
 use Rattle.scopes.specs.Address.{Items}
 use Rattle.types.specs.Call.{Named}
@@ -32,7 +32,17 @@ body_of items functions named scope function block result text =
     (both_of (phis_of scope text.phis) (both_of (steps_of items functions named scope function block text.steps) (ending_of scope result text.ending)))
 
 abbrev pub block_with : ℕ → Head → Body → Block
-block_with line head body = record { line = line; keeps = head.keeps; pending = head.pending; left = head.left; foot = head.foot; phis = body.phis; steps = body.steps; ending = body.ending }
+block_with line head body =
+    record {
+      line = line;
+      keeps = head.keeps;
+      pending = head.pending;
+      left = head.left;
+      foot = head.foot;
+      phis = body.phis;
+      steps = body.steps;
+      ending = body.ending;
+    }
 
 -- the block at this place of the function at that place
 abbrev pub block_of : Items → List FunctionText → Named → Scope → ℕ → ResultType → ℕ → BlockText → Result Block TypeFault

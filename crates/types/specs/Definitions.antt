@@ -37,7 +37,8 @@ DefinesFrom n (instruction.StartRegion register) = n ≤ register.0
 -- no phi and no instruction of the program defines a parameter, which are the first registers of a function
 pub record KeepsParameters (functions : List Function) : Type 0 where
   pub by_instructions : (f b s : ℕ) (what : Instruction) → IsInstructionAt functions f b s what → DefinesFrom (parameters_at functions f) what
-  pub by_phis : (f b i : ℕ) (block : Block) (phi : Phi) → IsBlockAt functions f b block → slice_get block.phis i ≡ Some phi → parameters_at functions f ≤ phi.register.0
+  pub by_phis : (f b i : ℕ) (block : Block) (phi : Phi) → IsBlockAt functions f b block → slice_get block.phis i ≡ Some phi
+      → parameters_at functions f ≤ phi.register.0
 
 -- ---- of a text
 
@@ -65,8 +66,10 @@ defined_name (text.StartRegion register) = Some register
 
 -- no phi and no instruction of the function defines the name of a parameter again
 pub record DefinesAnew (function : FunctionText) : Type 0 where
-  pub by_phis : (b i : ℕ) (block : BlockText) (phi : PhiText) → slice_get function.blocks b ≡ Some block → slice_get block.phis i ≡ Some phi → IsParameterName function.parameters phi.register → ⊥
-  pub by_instructions : (b s : ℕ) (block : BlockText) (step : StepText) (name : List ℕ) → slice_get function.blocks b ≡ Some block → slice_get block.steps s ≡ Some step →
+  pub by_phis : (b i : ℕ) (block : BlockText) (phi : PhiText) → slice_get function.blocks b ≡ Some block → slice_get block.phis i ≡ Some phi
+      → IsParameterName function.parameters phi.register → ⊥
+  pub by_instructions : (b s : ℕ) (block : BlockText) (step : StepText) (name : List ℕ) → slice_get function.blocks b ≡ Some block
+      → slice_get block.steps s ≡ Some step →
       defined_name step.instruction ≡ Some name → IsParameterName function.parameters name → ⊥
 
 abbrev pub EachDefinesAnew : List FunctionText → Type 0

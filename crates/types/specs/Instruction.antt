@@ -23,8 +23,9 @@ use Rattle.syntax.specs.declared.operator.Conversion.TheVariants.{Truncate, Sign
 use Rattle.syntax.specs.declared.operator.Predicate.{Predicate}
 use Rattle.syntax.specs.declared.operator.Width.{Width}
 use Rattle.syntax.specs.declared.operator.Width.TheVariants.{Bits64, Bits32}
-use Rattle.scopes.specs.declared.fault.TypeFault.{TypeFault}
-use Rattle.scopes.specs.declared.fault.TypeFault.TheVariants.{Fault}
+use Rattle.refusal.specs.declared.refused.Refused.{Refused as TypeFault}
+use Rattle.refusal.specs.declared.refused.Refused.TheVariants.{Fault}
+use Rattle.program.specs.Widths.{source_width}
 use Rattle.scopes.specs.declared.form.Place.TheVariants.{Body}
 use Rattle.types.specs.declared.instruction.Spot.{Spot}
 use Rattle.scopes.specs.declared.scope.Holding.{Holding}
@@ -66,12 +67,6 @@ abbrev pub compare_of : Scope → ℕ → List ℕ → Predicate → Width → O
 compare_of scope line register predicate width left right =
     made_of (λ p. instruction.Compare p.0 predicate width p.1.0 p.1.1)
     (both_of (defined_of scope line register) (both_of (operand_of scope line width left) (operand_of scope line width right)))
-
--- the width of what a conversion takes
-abbrev pub source_width : Conversion → Width
-source_width Truncate = Bits64
-source_width SignExtend = Bits32
-source_width ZeroExtend = Bits32
 
 abbrev pub convert_of : Scope → ℕ → List ℕ → Conversion → OperandText → Result Instruction TypeFault
 convert_of scope line register conversion value =
@@ -136,7 +131,8 @@ region_start_of scope line register = made_of instruction.StartRegion (defined_o
 -- an instruction of the function and the block at these places
 abbrev pub instruction_of : Items → List FunctionText → Named → Scope → Spot → InstructionText → Result Instruction TypeFault
 instruction_of items functions named scope spot (text.Binary register operator width left right) = binary_of scope spot.line register operator width left right
-instruction_of items functions named scope spot (text.Compare register predicate width left right) = compare_of scope spot.line register predicate width left right
+instruction_of items functions named scope spot (text.Compare register predicate width left right) =
+    compare_of scope spot.line register predicate width left right
 instruction_of items functions named scope spot (text.Convert register conversion value) = convert_of scope spot.line register conversion value
 instruction_of items functions named scope spot (text.Alloca register size) = alloca_of scope spot.block spot.line register
 instruction_of items functions named scope spot (text.ElementPointer register base index) = element_pointer_of items scope spot.line register base index
@@ -144,7 +140,8 @@ instruction_of items functions named scope spot (text.Load register address) = l
 instruction_of items functions named scope spot (text.Store value address) = store_of items scope spot.block spot.line value address
 instruction_of items functions named scope spot (text.StoreZeros cells address) = store_zeros_of items scope spot.line cells address
 instruction_of items functions named scope spot (text.AtomicAdd address value) = atomic_add_of items scope spot.block spot.line address value
-instruction_of items functions named scope spot (text.Call register callee arguments) = call_step_of items functions named scope spot.function spot.line register callee arguments
+instruction_of items functions named scope spot (text.Call register callee arguments) =
+    call_step_of items functions named scope spot.function spot.line register callee arguments
 instruction_of items functions named scope spot (text.StartRegion register) = region_start_of scope spot.line register
 
 -- an instruction with its `shows` lines

@@ -13,8 +13,8 @@ use Rattle.syntax.specs.declared.terminator.Case.{Case as CaseText}
 use Rattle.syntax.specs.declared.terminator.Ending.{Ending as EndingText}
 use Rattle.syntax.specs.declared.terminator.Terminator.{Terminator as TerminatorText}
 use Rattle.syntax.specs.declared.terminator.Terminator.TheVariants as text
-use Rattle.scopes.specs.declared.fault.TypeFault.{TypeFault}
-use Rattle.scopes.specs.declared.fault.TypeFault.TheVariants.{Fault}
+use Rattle.refusal.specs.declared.refused.Refused.{Refused as TypeFault}
+use Rattle.refusal.specs.declared.refused.Refused.TheVariants.{Fault}
 use Rattle.scopes.specs.declared.form.Place.TheVariants.{Body}
 use Rattle.scopes.specs.Fault.{all_of, and_then, both_of, made_of, unless_of}
 use Rattle.scopes.specs.Form.{inequalities_of}

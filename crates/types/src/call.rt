@@ -295,7 +295,9 @@ fn resolve_known(
     id: FunctionId,
     callee: &Function,
 ) -> Result<ResolvedCall, TypeFault>
-    ensures { Gives result (spec.known_call world.now.items.now world.now.named.now scope.now caller call.now.line call.now.has_result id callee.now call.now.arguments.now) }
+    ensures { Gives result
+        (spec.known_call world.now.items.now world.now.named.now scope.now caller
+        call.now.line call.now.has_result id callee.now call.now.arguments.now) }
 {
     let arguments = fitting_arguments(alloc, world.items, scope, call, callee)?;
     pass(world.named, caller, call.line, id, arguments)
@@ -328,7 +330,9 @@ pub fn resolve_call(
     caller: usize,
     call: &CallText,
 ) -> Result<ResolvedCall, TypeFault>
-    ensures { Gives result (spec.call_of world.now.items.now world.now.functions.now world.now.named.now scope.now caller call.now.line call.now.has_result call.now.callee.now call.now.arguments.now) }
+    ensures { Gives result
+        (spec.call_of world.now.items.now world.now.functions.now world.now.named.now scope.now caller
+        call.now.line call.now.has_result call.now.callee.now call.now.arguments.now) }
 {
     match resolve_function(world.items, call.line, call.callee) {
         Err(fault) => refuse_call(alloc, world.items, scope, call, fault),

@@ -2,6 +2,7 @@
 
 ghost use Rattle.std.specs.Prelude.{◌≡◌};
 ghost use Rattle.scopes.specs.Fault.{Gives};
+ghost use Rattle.program.specs.Widths.{source_width};
 ghost use Rattle.types.specs.Instruction as spec;
 
 use crate::call::{CallText, World, resolve_call};
@@ -144,7 +145,7 @@ fn resolve_compare(
 
 /// The width of what a conversion takes.
 fn source_width(conversion: Conversion) -> Width
-    ensures { result ≡ spec.source_width conversion }
+    ensures { result ≡ source_width conversion }
 {
     match conversion {
         Conversion::Truncate => Width::Bits64,
@@ -319,7 +320,9 @@ fn resolve_call_step(
     callee: &Name,
     arguments: &[syntax::Argument],
 ) -> Result<Instruction, TypeFault>
-    ensures { Gives result (spec.call_step_of world.now.items.now world.now.functions.now world.now.named.now scope.now spot.function spot.line register.now callee.now arguments.now) }
+    ensures { Gives result
+        (spec.call_step_of world.now.items.now world.now.functions.now world.now.named.now scope.now
+        spot.function spot.line register.now callee.now arguments.now) }
 {
     let line = spot.line;
     let text = CallText {

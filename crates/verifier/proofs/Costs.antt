@@ -4,7 +4,7 @@ use Rattle.std.specs.Prelude.{slice_get, nat_le, if◌then◌else◌}
 use Rattle.std.proofs.lemmas.Bool.{cases_lt}
 use Rattle.program.specs.declared.function.Function.{Function}
 use Rattle.program.specs.declared.function.Program.{Program}
-use Rattle.cfg.specs.declared.refusal.Broken.{Broken}
+use Rattle.refusal.specs.declared.broken.Broken.{Broken}
 use Rattle.region_match.specs.declared.tables.Regions.{Regions}
 use Rattle.cost_table.specs.Cost.{whole_cost}
 use Rattle.cost_table.specs.Depth.{depth}

@@ -34,7 +34,7 @@ abbrev pub IsDepthOf : Program → ℕ → Type 0
 IsDepthOf program n = (regions : Regions) × AreTasksOf program regions × (n ≡ depth_of program regions)
 
 -- what is kept of an accepted program
-pub record IsKept (program : Program) (table : Table) (budget depth : ℕ) : Type 0 where
+pub record IsVerified (program : Program) (table : Table) (budget depth : ℕ) : Type 0 where
   pub is_accepted : IsAccepted program
   pub is_table : IsTableOf program table
   pub is_budget : budget ≡ budget_of program

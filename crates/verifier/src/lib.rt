@@ -4,7 +4,6 @@
 #![tactic(auto)]
 
 mod cost;
-mod refusal;
 mod verified;
 
 pub use refusal::Refused;

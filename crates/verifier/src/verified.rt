@@ -3,7 +3,6 @@ ghost use Rattle.verifier.specs.Accepted.{IsAccepted, IsProgramOf, IsRefused};
 ghost use Rattle.verifier.specs.Budgets.{IsTableOf, IsDepthOf, budget_of};
 
 use crate::cost::{budget_of, depth_of};
-use crate::refusal::Refused;
 use cfg::{Graph, graph};
 use cost_table::{Table, check_cost};
 use definedness::defined;
@@ -11,6 +10,7 @@ use footprints::check_zones;
 use ir_text::read;
 use program::Program;
 use ranges::check_ranges;
+use refusal::Refused;
 use region_match::regions;
 use std::alloc::Global;
 use std::hash::RandomState;
@@ -28,13 +28,13 @@ pub struct Verified {
 
 impl Model for Verified {
     ghost use Rattle.program.specs.declared.function.Program.{Program};
-    ghost use Rattle.verifier.specs.Budgets.{IsKept};
+    ghost use Rattle.verifier.specs.Budgets.{IsVerified};
 
     ghost Value = { Program };
 
     ghost view = { λ v. v.graph.typed.program };
 
-    ghost invariant = { λ v. IsKept v.graph.typed.program v.table v.budget v.depth };
+    ghost invariant = { λ v. IsVerified v.graph.typed.program v.table v.budget v.depth };
 }
 
 impl Verified {

@@ -1,16 +1,16 @@
 -- What is known of the frame in a worker's hand, and the worker's step as the event of the definitions.
 use Rattle.std.proofs.Common.{◌≡◌, ◌≢◌, ℕ, zero, suc, ◌+◌, ◌<◌, ◌≤◌, ◌∷◌, length, reverse, Option, Some, None, Bool, true, false, not, ◌&&◌, eqb, eq-eqb, refl, sym, ap, ◌∙◌, subst, arith}
 use Rattle.std.specs.Prelude.{is_none}
-use Rattle.machine_core.specs.Paths.{Path}
-use Rattle.machine_core.specs.Frames.{Frame, Child, Body, Role, Wait, OnCall}
-use Rattle.machine_core.specs.Effect.{action_of}
-use Rattle.machine_core.specs.State.{Change, apply, may_go, change_of, all_below, childless, outside, none_within}
-use Rattle.machine_core.specs.Counts.{Counts, count_of, counts_after}
-use Rattle.machine_core.specs.Events as running
-use Rattle.machine_core.proofs.Diamond.{Goes}
-use Rattle.machine_core.proofs.Workers.{Manned}
-use Rattle.machine_core.proofs.Steps.{does}
-use Rattle.machine_core.proofs.ChildCounts.{step_counts, counted_none, count_at}
+use Rattle.running.specs.Paths.{Path}
+use Rattle.running.specs.Frames.{Frame, Child, Body, Role, Wait, OnCall}
+use Rattle.running.specs.Effect.{action_of}
+use Rattle.running.specs.State.{Change, apply, may_go, change_of, all_below, childless, outside, none_within}
+use Rattle.running.specs.Counts.{Counts, count_of, counts_after}
+use Rattle.running.specs.Events as running
+use Rattle.running.proofs.Diamond.{Goes}
+use Rattle.running.proofs.Workers.{Manned}
+use Rattle.running.proofs.Steps.{does}
+use Rattle.running.proofs.ChildCounts.{step_counts, counted_none, count_at}
 use Rattle.program.specs.declared.function.Program.{Program}
 use Rattle.frame.specs.declared.frame.Wait.{Wait as Waits}
 use Rattle.frame.specs.declared.frame.Wait.TheVariants as waits

@@ -4,16 +4,16 @@ use Rattle.std.specs.Prelude.{IsSome}
 use Rattle.std.specs.Vec.{with_item}
 use Rattle.std.specs.Option.{option_map}
 use Rattle.std.proofs.lemmas.List.{reverse-reverse, length-reverse, length-set}
-use Rattle.machine_core.specs.Paths.{Path}
-use Rattle.machine_core.specs.Frames.{Frame, Value, OnCall, Body}
-use Rattle.machine_core.specs.Effect.{Action, Call, Return, argument_values}
-use Rattle.machine_core.specs.State.{Change, override, override_result, both, apply, called, waiting, resumed, may_go, call_change, return_change, end_change, change_of, childless}
-use Rattle.machine_core.specs.Counts.{count_in, count_of, counts_after}
-use Rattle.machine_core.specs.Events as running
-use Rattle.machine_core.proofs.Actions.{return_is_body, same_path_itself}
-use Rattle.machine_core.proofs.Diamond.{Goes, next_free}
-use Rattle.machine_core.proofs.Steps.{change_is, call, ret, end}
-use Rattle.machine_core.proofs.Workers.{Manned}
+use Rattle.running.specs.Paths.{Path}
+use Rattle.running.specs.Frames.{Frame, Value, OnCall, Body}
+use Rattle.running.specs.Effect.{Action, Call, Return, argument_values}
+use Rattle.running.specs.State.{Change, override, override_result, both, apply, called, waiting, resumed, may_go, call_change, return_change, end_change, change_of, childless}
+use Rattle.running.specs.Counts.{count_in, count_of, counts_after}
+use Rattle.running.specs.Events as running
+use Rattle.running.proofs.Actions.{return_is_body, same_path_itself}
+use Rattle.running.proofs.Diamond.{Goes, next_free}
+use Rattle.running.proofs.Steps.{change_is, call, ret, end}
+use Rattle.running.proofs.Workers.{Manned}
 use Rattle.linear.specs.declared.form.RegisterId.{RegisterId}
 use Rattle.program.specs.declared.function.Program.{Program}
 use Rattle.frame.specs.declared.frame.Frame.{Frame as FrameOf}

@@ -5,12 +5,12 @@ use Rattle.std.specs.Option.{option_map_or}
 use Rattle.std.proofs.lemmas.Option.{slice_get_within}
 use Rattle.sync_join.specs.declared.count.RegionCount.{RegionCount}
 use Rattle.std.proofs.lemmas.Bool.Decides.{eqb_tells}
-use Rattle.machine_core.specs.Paths.{Path}
-use Rattle.machine_core.specs.Frames.{Frame}
-use Rattle.machine_core.specs.State.{State, outside, children_within}
-use Rattle.machine_core.specs.Counts.{count_in, count_of}
-use Rattle.machine_core.proofs.Places.{same_path_tells, same_path_apart}
-use Rattle.machine_core.proofs.Actions.{same_path_itself}
+use Rattle.running.specs.Paths.{Path}
+use Rattle.running.specs.Frames.{Frame}
+use Rattle.running.specs.State.{State, outside, children_within}
+use Rattle.running.specs.Counts.{count_in, count_of}
+use Rattle.running.proofs.Places.{same_path_tells, same_path_apart}
+use Rattle.running.proofs.Actions.{same_path_itself}
 use Rattle.frame.specs.declared.frame.Frame.{Frame as FrameOf}
 use Rattle.frame.specs.declared.frame.Role.{Role}
 use Rattle.frame.specs.Reading.{frame_of, role_of}

@@ -4,16 +4,16 @@ use Rattle.std.proofs.lemmas.Bool.Decides.{eqb_tells}
 use Rattle.std.specs.Prelude.{IsSome, ◌^◌}
 use Rattle.std.specs.Vec.{with_item}
 use Rattle.std.proofs.lemmas.List.{length-set, length-reverse, reverse-reverse}
-use Rattle.machine_core.specs.Paths.{Path, same_path}
-use Rattle.machine_core.specs.Frames.{Frame}
-use Rattle.machine_core.specs.Effect.{Action, Detach}
-use Rattle.machine_core.specs.State.{Change, override, both, continued, detached, detach_change, apply, change_of}
-use Rattle.machine_core.specs.Counts.{count_of, counts_after}
-use Rattle.machine_core.specs.Events as running
-use Rattle.machine_core.proofs.Places.{same_path_apart, no_own_child}
-use Rattle.machine_core.proofs.Actions.{same_path_itself}
-use Rattle.machine_core.proofs.Steps.{change_is, detach}
-use Rattle.machine_core.proofs.Diamond.{next_free}
+use Rattle.running.specs.Paths.{Path, same_path}
+use Rattle.running.specs.Frames.{Frame}
+use Rattle.running.specs.Effect.{Action, Detach}
+use Rattle.running.specs.State.{Change, override, both, continued, detached, detach_change, apply, change_of}
+use Rattle.running.specs.Counts.{count_of, counts_after}
+use Rattle.running.specs.Events as running
+use Rattle.running.proofs.Places.{same_path_apart, no_own_child}
+use Rattle.running.proofs.Actions.{same_path_itself}
+use Rattle.running.proofs.Steps.{change_is, detach}
+use Rattle.running.proofs.Diamond.{next_free}
 use Rattle.linear.specs.declared.form.RegisterId.{RegisterId}
 use Rattle.program.specs.declared.identifier.BlockId.{BlockId}
 use Rattle.program.specs.declared.function.Program.{Program}

@@ -4,13 +4,13 @@ use Rattle.std.specs.Prelude.{option_and_then}
 use Rattle.std.specs.Option.{option_map}
 use Rattle.std.proofs.lemmas.Bool.Decides.{eqb_tells}
 use Rattle.std.proofs.lemmas.List.{reverse-reverse, get_or-set_same, get_or-set_other, length-append}
-use Rattle.machine_core.specs.Paths.{Path, same_path}
-use Rattle.machine_core.specs.Cells.{Cell, Object, Shared, Local}
-use Rattle.machine_core.specs.Frames.{Frame}
-use Rattle.machine_core.specs.State.{override, only, both, frame_change}
-use Rattle.machine_core.specs.Events as running
-use Rattle.machine_core.proofs.Places.{same_path_tells, same_path_apart}
-use Rattle.machine_core.proofs.Actions.{same_path_itself}
+use Rattle.running.specs.Paths.{Path, same_path}
+use Rattle.running.specs.Cells.{Cell, Object, Shared, Local}
+use Rattle.running.specs.Frames.{Frame}
+use Rattle.running.specs.State.{override, only, both, frame_change}
+use Rattle.running.specs.Events as running
+use Rattle.running.proofs.Places.{same_path_tells, same_path_apart}
+use Rattle.running.proofs.Actions.{same_path_itself}
 use Rattle.store.specs.Cells.{NamedCells}
 use Rattle.frame.specs.declared.path.Path.{Path as Name}
 use Rattle.frame.specs.declared.frame.Wait.{Wait}
@@ -26,7 +26,7 @@ use Rattle.cactus.proofs.ByPathLemmas.{written_tree}
 use Rattle.worker_steps.specs.declared.activation.Activation.{Activation}
 use Rattle.worker_steps.specs.declared.run.Run.{Run}
 use Rattle.worker_steps.specs.Running.{result_of}
-use Rattle.machine_core.specs.Counts.{count_of}
+use Rattle.running.specs.Counts.{count_of}
 use Rattle.worker_steps.specs.Scheduling.{hand_of, counted_in}
 use Rattle.worker_steps.specs.Stepping.{counted}
 use Rattle.std.specs.Vec.{with_item}

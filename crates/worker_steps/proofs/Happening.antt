@@ -2,12 +2,12 @@
 use Rattle.std.proofs.Common.{◌≡◌, ℕ, ◌+◌, ◌<◌, ◌≤◌, [], ◌∷◌, length, Option, Some, None, Bool, true, false, cond, refl, sym, ap, ◌∙◌, subst, arith, ltb, is_none, ◌&&◌, ℤ}
 use Rattle.std.specs.Prelude.{IsTrue}
 use Rattle.std.proofs.lemmas.Bool.{ltb-true}
-use Rattle.machine_core.specs.Paths.{Path}
-use Rattle.machine_core.specs.Frames.{Frame}
-use Rattle.machine_core.specs.Effect.{Effect, Plain}
-use Rattle.machine_core.specs.State.{State}
-use Rattle.machine_core.specs.Tree.{Tree}
-use Rattle.machine_core.specs.Events as running
+use Rattle.running.specs.Paths.{Path}
+use Rattle.running.specs.Frames.{Frame}
+use Rattle.running.specs.Effect.{Effect, Plain}
+use Rattle.running.specs.State.{State}
+use Rattle.running.specs.Tree.{Tree}
+use Rattle.running.specs.Events as running
 use Rattle.program.specs.declared.function.Program.{Program}
 use Rattle.cactus.specs.declared.node.Node.{Node}
 use Rattle.worker_steps.specs.declared.activation.Activation.{Activation}
@@ -17,7 +17,8 @@ use Rattle.worker_steps.specs.declared.run.Phase.TheVariants.{Going, Ended, Trap
 use Rattle.worker_steps.specs.Running.{IsGoing, IsTrapped, result_of}
 use Rattle.worker_steps.specs.Scheduling.{hand_of}
 use Rattle.worker_steps.specs.Seen.{place_of, seen, Agrees, StealsIf}
-use Rattle.worker_steps.specs.Stepping.{counted, frame_in, PlainDone, DoesPlain, IsRun, IsStep, IsTurn, IsEvent, IsReached, DoesEvent, StepsAt, next_action}
+use Rattle.worker_steps.specs.Slots.{HasSlots, KeepsSlots}
+use Rattle.worker_steps.specs.Stepping.{counted, frame_in, PlainDone, DoesPlain, IsRun, IsStep, IsTurn, IsEvent, IsReached, DoesEvent, FillsSlotsAt, StepsAt, next_action}
 use Rattle.worker_steps.proofs.Views.{node_tells, frame_seen, hand_below}
 use Rattle.worker_steps.proofs.PlainSteps.{plain_event}
 use Rattle.worker_steps.proofs.Steals.{unless}
@@ -57,8 +58,8 @@ module _ (prog : Program) (old mid : Run) (w : ℕ) (m : IsRun prog old) (step :
   happens : running.event prog (length old.hands.items) (running.Step w) (seen old) ≡ Some (seen after_step)
   happens = step.event ∙ ap Some seen_after
 
-  pub step_done : ¬ IsTrapped mid → IsEvent prog old after_step (running.Step w) true
-  step_done sound =
+  pub step_done : ¬ IsTrapped mid → (HasSlots prog old → HasSlots prog after_step) → IsEvent prog old after_step (running.Step w) true
+  step_done sound slots =
       record {
         exact = happens;
         workers = step.workers;
@@ -70,13 +71,16 @@ module _ (prog : Program) (old mid : Run) (w : ℕ) (m : IsRun prog old) (step :
           manned = subst (λ n. 1 ≤ n) (sym step.workers) m.manned;
           reached = subst (λ n. IsReached prog n (seen after_step)) (sym step.workers) (reached_next prog (length old.hands.items) (seen old) (seen after_step) (running.Step w) m.reached happens);
         };
+        slots = slots;
       }
 
 -- the step of a worker that has a task
-pub turn_done : (prog : Program) (old mid : Run) (w slot : ℕ) → IsGoing old → hand_of old.hands.items w ≡ Some slot → StepsAt prog old mid w slot → DoesEvent prog old (record mid { instructions = old.instructions + 1 }) (running.Step w) true
-turn_done prog old mid w slot going has steps m sound =
+pub turn_done : (prog : Program) (old mid : Run) (w slot : ℕ) → IsGoing old → hand_of old.hands.items w ≡ Some slot → StepsAt prog old mid w slot → FillsSlotsAt prog old mid w slot → DoesEvent prog old (record mid { instructions = old.instructions + 1 }) (running.Step w) true
+turn_done prog old mid w slot going has steps fills m sound =
     let (node, stands) = node_tells old.cactus slot (m.agrees.held w slot has) in
-    step_done prog old mid w m (steps node (record { machine = m; going = going; hand = has; stands = stands })) sound
+    let turn : IsTurn prog old w slot node = record { machine = m; going = going; hand = has; stands = stands } in
+    let counted_slots : HasSlots prog old → HasSlots prog (record mid { instructions = old.instructions + 1 }) = λ s. subst (λ n. HasSlots prog (record mid { instructions = n + 1 })) (steps node turn).counts (fills node turn s) in
+    step_done prog old mid w m (steps node turn) sound counted_slots
 
 -- of a machine that has trapped nothing is said
 pub trapped_quiet : (prog : Program) (old new : Run) (e : running.Event) (done : Bool) → new.phase ≡ Trapped → DoesEvent prog old new e done
@@ -84,13 +88,13 @@ trapped_quiet prog old new e done trapped m sound = absurd (sound trapped)
 
 -- a worker without a task does nothing
 pub idle_step : (prog : Program) (old : Run) (w : ℕ) → hand_of old.hands.items w ≡ None → DoesEvent prog old old (running.Step w) false
-idle_step prog old w none m sound = record { exact = rw none refl; workers = refl; program = refl; machine = m }
+idle_step prog old w none m sound = record { exact = rw none refl; workers = refl; program = refl; machine = m; slots = λ s. s }
 
 -- ---- steals
 
-module _ (prog : Program) (old new : Run) (w : ℕ) (t : Path) (going : IsGoing old) (kept : new ≡ record old { cactus = new.cactus; hands = new.hands }) (workers : length new.hands.items ≡ length old.hands.items) (agrees : Agrees old.cactus old.hands.items → Agrees new.cactus new.hands.items) where
+module _ (prog : Program) (old new : Run) (w : ℕ) (t : Path) (going : IsGoing old) (kept : new ≡ record old { cactus = new.cactus; hands = new.hands }) (workers : length new.hands.items ≡ length old.hands.items) (agrees : Agrees old.cactus old.hands.items → Agrees new.cactus new.hands.items) (slots : KeepsSlots old new) where
   pub steal_done : (did : Bool) → (¬ IsTrue did → new ≡ old) → (Agrees old.cactus old.hands.items → StealsIf old new w t did) → DoesEvent prog old new (running.Steal w t) did
-  steal_done false same steals m sound = record { exact = steals m.agrees prog; workers = workers; program = ap (λ (x : Run). x.verified) kept; machine = subst (λ (x : Run). IsRun prog x) (sym (same (λ e. cc))) m }
+  steal_done false same steals m sound = record { exact = steals m.agrees prog; workers = workers; program = ap (λ (x : Run). x.verified) kept; machine = subst (λ (x : Run). IsRun prog x) (sym (same (λ e. cc))) m; slots = slots prog }
   steal_done true same steals m sound =
       record {
         exact = steals m.agrees prog;
@@ -103,6 +107,7 @@ module _ (prog : Program) (old new : Run) (w : ℕ) (t : Path) (going : IsGoing 
           manned = subst (λ n. 1 ≤ n) (sym workers) m.manned;
           reached = subst (λ n. IsReached prog n (seen new)) (sym workers) (reached_next prog (length old.hands.items) (seen old) (seen new) (running.Steal w t) m.reached (steals m.agrees prog));
         };
+        slots = slots prog;
       }
 
 -- ---- a run that has ended
@@ -149,5 +154,5 @@ module _ (prog : Program) (old : Run) (over : ¬ IsGoing old) where
 
   -- no event is enabled any more
   pub over_quiet : (e : running.Event) → DoesEvent prog old old e false
-  over_quiet (running.Step w) m sound = record { exact = rw (hand_none m w (hand_of old.hands.items w) refl) refl; workers = refl; program = refl; machine = m }
-  over_quiet (running.Steal w t) m sound = record { exact = steal_none m w t; workers = refl; program = refl; machine = m }
+  over_quiet (running.Step w) m sound = record { exact = rw (hand_none m w (hand_of old.hands.items w) refl) refl; workers = refl; program = refl; machine = m; slots = λ s. s }
+  over_quiet (running.Steal w t) m sound = record { exact = steal_none m w t; workers = refl; program = refl; machine = m; slots = λ s. s }

@@ -7,6 +7,8 @@ pub mod PlainSteps
 pub mod Reached
 pub mod Performed
 pub mod Missing
+pub mod Slots
+pub mod Filling
 pub mod Refusing
 pub mod Acting
 pub mod Synced

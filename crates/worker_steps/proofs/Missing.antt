@@ -3,7 +3,7 @@ use Rattle.std.proofs.Common.{◌≡◌, ℕ, ◌<◌, List, length, reverse, Op
 use Rattle.std.specs.Prelude.{IsSome, is_some, pos}
 use Rattle.std.specs.Option.{option_map}
 use Rattle.std.proofs.lemmas.Bool.Decides.{eqb_tells}
-use Rattle.machine_core.specs.Cells.{Object, Shared, Local}
+use Rattle.running.specs.Cells.{Object, Shared, Local}
 use Rattle.program.specs.declared.function.Program.{Program}
 use Rattle.program.specs.declared.identifier.AllocaId.{AllocaId}
 use Rattle.store.specs.Cells.{NamedCells, cell_at, Sets}

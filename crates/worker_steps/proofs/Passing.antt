@@ -1,10 +1,10 @@
 -- What a call passes.
 use Rattle.std.proofs.Common.{◌≡◌, ℕ, List, [], Option, Some, None, Bool, true, false, cond, ◌&&◌, eqb, refl, subst, ℤ}
-use Rattle.machine_core.specs.Paths.{Path, same_path}
-use Rattle.machine_core.specs.Cells.{Memory}
-use Rattle.machine_core.specs.Arithmetic.{Unmatched}
-use Rattle.machine_core.specs.Frames.{Frame, Value, Registers, Item, Does, Ends, Role, Child, Body, item_at, region_of, word_at}
-use Rattle.machine_core.specs.Effect.{Action, Plain, Detach, Reattach, Sync, Call, Return, action_of, item_action, instruction_action, terminator_action, argument_values, registers_along, if_own, syncs, reattaches, returns, returns_value, calls, traps}
+use Rattle.running.specs.Paths.{Path, same_path}
+use Rattle.running.specs.Cells.{Memory}
+use Rattle.running.specs.Arithmetic.{Unmatched}
+use Rattle.running.specs.Frames.{Frame, Value, Registers, Item, Does, Ends, Role, Child, Body, item_at, region_of, word_at}
+use Rattle.running.specs.Effect.{Action, Plain, Detach, Reattach, Sync, Call, Return, action_of, item_action, instruction_action, terminator_action, argument_values, registers_along, if_own, syncs, reattaches, returns, returns_value, calls, traps}
 use Rattle.linear.specs.declared.form.RegisterId.{RegisterId}
 use Rattle.program.specs.declared.function.Program.{Program}
 use Rattle.program.specs.declared.instruction.Instruction.{Instruction}

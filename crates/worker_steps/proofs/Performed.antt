@@ -4,14 +4,14 @@ use Rattle.std.specs.Prelude.{Result, Ok, Err, OnOk, IfNone, IfSome, IsSome, nat
 use Rattle.std.specs.Option.{option_map, option_flatten}
 use Rattle.std.proofs.lemmas.Bool.Decides.{eqb_tells, nat_tests}
 use Rattle.std.proofs.lemmas.List.{length-reverse}
-use Rattle.machine_core.specs.Paths.{Path, same_path}
-use Rattle.machine_core.specs.Cells.{Cell, Object, Memory, Shared, Local, same_object, same_cell}
-use Rattle.machine_core.specs.Arithmetic.{cell_sum}
-use Rattle.machine_core.specs.Frames.{Frame, Word, Registers}
-use Rattle.machine_core.specs.Effect.{Effect, Plain, action_of, sets, goes_on, loads, stores, adds_to, given, enters, jumps, registers_along}
-use Rattle.machine_core.specs.State.{override, added, only, went, sum_in}
-use Rattle.machine_core.specs.Events as running
-use Rattle.machine_core.proofs.Places.{same_path_tells}
+use Rattle.running.specs.Paths.{Path, same_path}
+use Rattle.running.specs.Cells.{Cell, Object, Memory, Shared, Local, same_object, same_cell}
+use Rattle.running.specs.Arithmetic.{cell_sum}
+use Rattle.running.specs.Frames.{Frame, Word, Registers}
+use Rattle.running.specs.Effect.{Effect, Plain, action_of, sets, goes_on, loads, stores, adds_to, given, enters, jumps, registers_along}
+use Rattle.running.specs.State.{override, added, only, went, sum_in}
+use Rattle.running.specs.Events as running
+use Rattle.running.proofs.Places.{same_path_tells}
 use Rattle.linear.specs.declared.form.RegisterId.{RegisterId}
 use Rattle.program.specs.declared.function.Program.{Program}
 use Rattle.program.specs.declared.identifier.AllocaId.{AllocaId}

@@ -2,13 +2,13 @@
 use Rattle.std.proofs.Common.{◌≡◌, ◌≢◌, ℕ, zero, suc, ◌+◌, List, ◌∷◌, length, reverse, drop, Option, Some, None, true, cond, ◌⊎◌, inl, inr, refl, sym, ap, ◌∙◌, subst, arith, eqb, ◌&&◌, max, ℤ}
 use Rattle.std.specs.Prelude.{option_and_then}
 use Rattle.std.proofs.lemmas.Bool.Decides.{eqb_tells}
-use Rattle.machine_core.specs.Paths.{Path}
-use Rattle.machine_core.specs.Cells.{Cell, Object, Shared, Local, same_object, same_cell}
-use Rattle.machine_core.specs.Frames.{Frame}
-use Rattle.machine_core.specs.Effect.{Effect, Plain, action_of}
-use Rattle.machine_core.specs.State.{Change, override, added, only, went, plain_change, may_go, apply, change_of}
-use Rattle.machine_core.proofs.Steps.{change_is, plain}
-use Rattle.machine_core.specs.Events as running
+use Rattle.running.specs.Paths.{Path}
+use Rattle.running.specs.Cells.{Cell, Object, Shared, Local, same_object, same_cell}
+use Rattle.running.specs.Frames.{Frame, Free}
+use Rattle.running.specs.Effect.{Effect, Plain, action_of}
+use Rattle.running.specs.State.{Change, override, added, only, went, plain_change, may_go, apply, change_of, wait_after}
+use Rattle.running.proofs.Steps.{change_is, plain}
+use Rattle.running.specs.Events as running
 use Rattle.program.specs.declared.function.Program.{Program}
 use Rattle.store.specs.Cells.{NamedCells, cell_at, Sets}
 use Rattle.frame.specs.declared.path.Path.{Path as Name}
@@ -17,9 +17,7 @@ use Rattle.frame.specs.declared.frame.Wait.TheVariants as wait
 use Rattle.frame.specs.Reading.{frame_of, wait_of}
 use Rattle.frame.specs.declared.frame.Frame as machine
 use Rattle.frame.specs.Room.{IsSound}
-use Rattle.machine_core.specs.Effect as effects
-use Rattle.machine_core.specs.Frames.{Free}
-use Rattle.machine_core.specs.State.{wait_after}
+use Rattle.running.specs.Effect as effects
 use Rattle.cactus.specs.declared.node.Node.{Node}
 use Rattle.cactus.specs.Frames.{Frames, node_at, Lives, slot_above}
 use Rattle.cactus.specs.ByPath.{IsTree, IsBelow}

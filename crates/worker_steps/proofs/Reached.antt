@@ -1,15 +1,15 @@
 -- What holds of every state that a schedule leads to where no step has trapped.
 use Rattle.std.proofs.Common.{◌≡◌, ℕ, ◌≤◌, List, [], ◌∷◌, ◌++◌, Option, Some, None, refl, sym, ap, ◌∙◌, subst}
-use Rattle.machine_core.specs.Paths.{Path}
-use Rattle.machine_core.specs.Arithmetic.{Trap}
-use Rattle.machine_core.specs.Frames.{Frame}
-use Rattle.machine_core.specs.State.{Change, change_of}
-use Rattle.machine_core.specs.Events.{Machine, Event, Step, Steal, event, sound_event, unless_trapped, by_hand, by_frame, by_change, start}
-use Rattle.machine_core.specs.Replay.{replay, or_unchanged}
-use Rattle.machine_core.proofs.Steps.{does}
-use Rattle.machine_core.proofs.Workers.{Manned}
-use Rattle.machine_core.proofs.Machines.{step_manned, found, stolen_manned}
-use Rattle.machine_core.proofs.Starting.{start_manned}
+use Rattle.running.specs.Paths.{Path}
+use Rattle.running.specs.Arithmetic.{Trap}
+use Rattle.running.specs.Frames.{Frame}
+use Rattle.running.specs.State.{Change, change_of}
+use Rattle.running.specs.Events.{Machine, Event, Step, Steal, event, sound_event, unless_trapped, by_hand, by_frame, by_change, start}
+use Rattle.running.specs.Replay.{replay, or_unchanged}
+use Rattle.running.proofs.Steps.{does}
+use Rattle.running.proofs.Workers.{Manned}
+use Rattle.running.proofs.Machines.{step_manned, found, stolen_manned}
+use Rattle.running.proofs.Starting.{start_manned}
 use Rattle.program.specs.declared.function.Program.{Program}
 use Rattle.worker_steps.specs.Stepping.{IsReached}
 

@@ -4,17 +4,17 @@ use Rattle.std.specs.Prelude.{slice_get, map, IsSome, ◌↔◌}
 use Rattle.std.specs.Vec.{with_item}
 use Rattle.std.proofs.lemmas.Bool.Decides.{eqb_tells}
 use Rattle.std.proofs.lemmas.List.{length-set, length-append}
-use Rattle.machine_core.specs.Paths.{Path, same_path}
-use Rattle.machine_core.specs.Cells.{Cell}
-use Rattle.machine_core.specs.Frames.{Frame, Wait, Child, Body}
-use Rattle.machine_core.specs.Effect.{Action, Reattach}
-use Rattle.machine_core.specs.State.{Change, override, only, both, reattach_change, apply, change_of, none_within}
-use Rattle.machine_core.specs.Counts.{count_of, counts_after, left_by, one_less}
-use Rattle.machine_core.specs.Events as running
-use Rattle.machine_core.proofs.Places.{same_path_tells, same_path_apart}
-use Rattle.machine_core.proofs.Actions.{same_path_itself, reattach_is_child}
-use Rattle.machine_core.proofs.Steps.{change_is, reattach}
-use Rattle.machine_core.proofs.ChildCounts.{none_counted, counted_none, count_at}
+use Rattle.running.specs.Paths.{Path, same_path}
+use Rattle.running.specs.Cells.{Cell}
+use Rattle.running.specs.Frames.{Frame, Wait, Child, Body}
+use Rattle.running.specs.Effect.{Action, Reattach}
+use Rattle.running.specs.State.{Change, override, only, both, reattach_change, apply, change_of, none_within}
+use Rattle.running.specs.Counts.{count_of, counts_after, left_by, lowered}
+use Rattle.running.specs.Events as running
+use Rattle.running.proofs.Places.{same_path_tells, same_path_apart}
+use Rattle.running.proofs.Actions.{same_path_itself, reattach_is_child}
+use Rattle.running.proofs.Steps.{change_is, reattach}
+use Rattle.running.proofs.ChildCounts.{none_counted, counted_none, count_at}
 use Rattle.linear.specs.declared.form.RegisterId.{RegisterId}
 use Rattle.program.specs.declared.function.Program.{Program}
 use Rattle.frame.specs.declared.frame.Frame.{Frame as FrameOf}
@@ -134,7 +134,7 @@ module _ (prog : Program) (old : Run) (w slot : ℕ) (node : Node Activation) (t
 
     -- ---- counts
 
-    follow : (q : Path) (r : ℕ) → count_of (tree_of after) q r ≡ cond (same_path (place_of above) q && eqb region.0 r) (one_less (count_of (tree_of old.cactus) q r)) (count_of (tree_of old.cactus) q r)
+    follow : (q : Path) (r : ℕ) → count_of (tree_of after) q r ≡ cond (same_path (place_of above) q && eqb region.0 r) (lowered (count_of (tree_of old.cactus) q r)) (count_of (tree_of old.cactus) q r)
     follow q r =
         counts_follow prog old w slot node turn.machine turn.stands turn.hand after change changes as_changed q r
         ∙ (ap (λ (x : Action). counts_after (place_of node) x (count_of (tree_of old.cactus)) q r) action ∙ ap (λ p. left_by p region.0 (count_of (tree_of old.cactus)) q r) place)
@@ -147,17 +147,17 @@ module _ (prog : Program) (old : Run) (w slot : ℕ) (node : Node Activation) (t
               own r
               ∙ (picked (eqb region.0 r) living (counted_in above.frame r) h.0
               ∙ (sym (less living)
-              ∙ (ap one_less (sym before)
-              ∙ sym (follow (place_of above) r ∙ picked (same_path (place_of above) (place_of above) && eqb region.0 r) (one_less (count_of (tree_of old.cactus) (place_of above) r)) (count_of (tree_of old.cactus) (place_of above) r) (both_tests (same_path (place_of above) (place_of above)) (eqb region.0 r) (same_path_itself (place_of above)) h.0)))))
+              ∙ (ap lowered (sym before)
+              ∙ sym (follow (place_of above) r ∙ picked (same_path (place_of above) (place_of above) && eqb region.0 r) (lowered (count_of (tree_of old.cactus) (place_of above) r)) (count_of (tree_of old.cactus) (place_of above) r) (both_tests (same_path (place_of above) (place_of above)) (eqb region.0 r) (same_path_itself (place_of above)) h.0)))))
           | inr h ↦
               own r
               ∙ (passed_over (eqb region.0 r) living (counted_in above.frame r) h.0
               ∙ (agrees.counts.same up r above up_stands
-              ∙ sym (follow (place_of above) r ∙ passed_over (same_path (place_of above) (place_of above) && eqb region.0 r) (one_less (count_of (tree_of old.cactus) (place_of above) r)) (count_of (tree_of old.cactus) (place_of above) r) (second_fails (same_path (place_of above) (place_of above)) (eqb region.0 r) (same_path_itself (place_of above)) h.0))))
+              ∙ sym (follow (place_of above) r ∙ passed_over (same_path (place_of above) (place_of above) && eqb region.0 r) (lowered (count_of (tree_of old.cactus) (place_of above) r)) (count_of (tree_of old.cactus) (place_of above) r) (second_fails (same_path (place_of above) (place_of above)) (eqb region.0 r) (same_path_itself (place_of above)) h.0))))
         ]
       where
-        less : (n : ℕ) → one_less (n + 1) ≡ n
-        less n = subst (λ k. one_less k ≡ n) (let one : suc n ≡ n + 1 = omega arith in one) refl
+        less : (n : ℕ) → lowered (n + 1) ≡ n
+        less n = subst (λ k. lowered k ≡ n) (let one : suc n ≡ n + 1 = omega arith in one) refl
 
     counts_stand : CountsStand after
     counts_stand =

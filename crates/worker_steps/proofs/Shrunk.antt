@@ -4,15 +4,15 @@ use Rattle.std.specs.Prelude.{option_and_then}
 use Rattle.std.specs.Option.{option_map}
 use Rattle.std.proofs.lemmas.Bool.Decides.{eqb_tells}
 use Rattle.std.proofs.lemmas.List.{reverse-reverse, get_or-set_same, get_or-set_other, length-append}
-use Rattle.machine_core.specs.Paths.{Path, same_path}
-use Rattle.machine_core.specs.Cells.{Cell, Object, Shared, Local, owns}
-use Rattle.machine_core.specs.Frames.{Frame}
-use Rattle.machine_core.specs.State.{State, override, only, both, all_below, childless, clears}
-use Rattle.machine_core.specs.Tree.{Tree}
-use Rattle.machine_core.specs.Events as running
-use Rattle.machine_core.proofs.Places.{same_path_tells, same_path_apart}
-use Rattle.machine_core.proofs.Actions.{same_path_itself}
-use Rattle.machine_core.proofs.Diamond.{same_frame}
+use Rattle.running.specs.Paths.{Path, same_path}
+use Rattle.running.specs.Cells.{Cell, Object, Shared, Local, owns}
+use Rattle.running.specs.Frames.{Frame}
+use Rattle.running.specs.State.{State, override, only, both, all_below, childless, clears}
+use Rattle.running.specs.Tree.{Tree}
+use Rattle.running.specs.Events as running
+use Rattle.running.proofs.Places.{same_path_tells, same_path_apart}
+use Rattle.running.proofs.Actions.{same_path_itself}
+use Rattle.running.proofs.Diamond.{same_frame}
 use Rattle.store.specs.Cells.{NamedCells}
 use Rattle.frame.specs.declared.path.Path.{Path as Name}
 use Rattle.frame.specs.declared.frame.Wait.{Wait}
@@ -26,7 +26,7 @@ use Rattle.cactus.specs.Lending.{with_frame}
 use Rattle.cactus.proofs.FramesLemmas.{node_at-with_frame, node_at-with_frame_other}
 use Rattle.cactus.proofs.ByPathLemmas.{named_is, written_tree}
 use Rattle.worker_steps.specs.declared.activation.Activation.{Activation}
-use Rattle.machine_core.specs.Counts.{count_of}
+use Rattle.running.specs.Counts.{count_of}
 use Rattle.worker_steps.specs.Scheduling.{hand_of, counted_in}
 use Rattle.worker_steps.specs.Seen.{place_of, seen_at, frames_of, tree_of, alloca_cell, held_in, memory_of, hands_of, CalleeStands, IsFit, CountsStand, Agrees}
 use Rattle.worker_steps.proofs.Views.{node_tells, reverse_last, frame_seen, frames_written, memory_stays}

@@ -3,12 +3,12 @@ use Rattle.std.proofs.Common.{◌≡◌, ◌≢◌, ℕ, zero, suc, ◌<◌, ◌
 use Rattle.std.specs.Prelude.{IsSomeAnd}
 use Rattle.std.proofs.lemmas.Bool.Decides.{eqb_tells}
 use Rattle.std.proofs.lemmas.List.{reverse-reverse, get_or-set_same, get_or-set_other, length-set, length-replicate}
-use Rattle.machine_core.specs.Paths.{Path, same_path}
-use Rattle.machine_core.specs.Cells.{Cell, Object, Shared, Local, globals_of}
-use Rattle.machine_core.specs.Frames.{Frame}
-use Rattle.machine_core.specs.State.{root_frame}
-use Rattle.machine_core.specs.Counts.{count_in, count_of}
-use Rattle.machine_core.specs.Events as running
+use Rattle.running.specs.Paths.{Path, same_path}
+use Rattle.running.specs.Cells.{Cell, Object, Shared, Local, globals_of}
+use Rattle.running.specs.Frames.{Frame}
+use Rattle.running.specs.State.{root_frame}
+use Rattle.running.specs.Counts.{count_in, count_of}
+use Rattle.running.specs.Events as running
 use Rattle.program.specs.declared.function.Program.{Program}
 use Rattle.frame.specs.declared.frame.Frame.{Frame as FrameOf}
 use Rattle.frame.specs.declared.frame.Wait.TheVariants as wait
@@ -27,7 +27,7 @@ use Rattle.worker_steps.specs.Seen.{place_of, seen, seen_at, frames_of, alloca_c
 use Rattle.worker_steps.specs.Stepping.{StartsAs}
 use Rattle.worker_steps.proofs.PlainSteps.{free_wait}
 
-no_item : (s : ℕ) → get_or {A = Option (Node Activation)} [] s None ≡ None
+pub no_item : (s : ℕ) → get_or {A = Option (Node Activation)} [] s None ≡ None
 no_item zero = refl
 no_item (suc s) = refl
 

@@ -5,10 +5,10 @@ use Rattle.std.specs.Option.{option_map}
 use Rattle.std.proofs.lemmas.Bool.{lt-ltb, ltb-true}
 use Rattle.std.proofs.lemmas.Bool.Decides.{eqb_tells}
 use Rattle.std.proofs.lemmas.List.{reverse-reverse, get_or-set_same, get_or-set_other}
-use Rattle.machine_core.specs.Paths.{Path}
-use Rattle.machine_core.specs.Frames.{Frame}
-use Rattle.machine_core.specs.Events as running
-use Rattle.machine_core.proofs.Machines.{holder_some}
+use Rattle.running.specs.Paths.{Path}
+use Rattle.running.specs.Frames.{Frame}
+use Rattle.running.specs.Events as running
+use Rattle.running.proofs.Machines.{holder_some}
 use Rattle.program.specs.declared.function.Program.{Program}
 use Rattle.frame.specs.declared.path.Path.{Path as Name}
 use Rattle.frame.specs.declared.frame.Wait.{Wait}

@@ -5,13 +5,13 @@ use Rattle.std.specs.Prelude.{option_and_then}
 use Rattle.std.specs.Vec.{with_item}
 use Rattle.std.proofs.lemmas.Bool.Decides.{eqb_tells}
 use Rattle.std.proofs.lemmas.List.{get_or-set_same, get_or-set_other, length-set}
-use Rattle.machine_core.specs.Paths.{Path}
-use Rattle.machine_core.specs.Frames.{Frame, Registers, OnRegion}
-use Rattle.machine_core.specs.Effect.{Sync, syncs, enters, registers_along}
-use Rattle.machine_core.specs.State.{Change, went, synced, sync_change, apply, change_of, none_within}
-use Rattle.machine_core.specs.Events as running
-use Rattle.machine_core.proofs.Steps.{change_is, sync}
-use Rattle.machine_core.proofs.ChildCounts.{none_counted, counted_none, count_at}
+use Rattle.running.specs.Paths.{Path}
+use Rattle.running.specs.Frames.{Frame, Registers, OnRegion}
+use Rattle.running.specs.Effect.{Sync, syncs, enters, registers_along}
+use Rattle.running.specs.State.{Change, went, synced, sync_change, apply, change_of, none_within}
+use Rattle.running.specs.Events as running
+use Rattle.running.proofs.Steps.{change_is, sync}
+use Rattle.running.proofs.ChildCounts.{none_counted, counted_none, count_at}
 use Rattle.linear.specs.declared.form.RegisterId.{RegisterId}
 use Rattle.program.specs.declared.identifier.BlockId.{BlockId}
 use Rattle.program.specs.declared.function.Program.{Program}

@@ -4,13 +4,13 @@ use Rattle.std.specs.Prelude.{IsSome, option_and_then}
 use Rattle.std.specs.Option.{option_map}
 use Rattle.std.proofs.lemmas.List.{reverse-reverse, reverse-append, get_or_past, get_or-set_same, get_or-set_other}
 use Rattle.std.proofs.lemmas.Bool.Decides.{eqb_tells}
-use Rattle.machine_core.specs.Paths.{Path, same_path}
-use Rattle.machine_core.specs.Cells.{Cell, Object, Shared, Local}
-use Rattle.machine_core.specs.State.{State, only, override}
-use Rattle.machine_core.specs.Events as running
-use Rattle.machine_core.proofs.Places.{same_path_tells, same_path_apart}
-use Rattle.machine_core.proofs.Actions.{same_path_itself}
-use Rattle.machine_core.proofs.Machines.{holder_some}
+use Rattle.running.specs.Paths.{Path, same_path}
+use Rattle.running.specs.Cells.{Cell, Object, Shared, Local}
+use Rattle.running.specs.State.{State, only, override}
+use Rattle.running.specs.Events as running
+use Rattle.running.proofs.Places.{same_path_tells, same_path_apart}
+use Rattle.running.proofs.Actions.{same_path_itself}
+use Rattle.running.proofs.Machines.{holder_some}
 use Rattle.store.specs.Cells.{NamedCells}
 use Rattle.frame.specs.declared.frame.Wait.{Wait}
 use Rattle.frame.specs.declared.frame.Wait.TheVariants as wait

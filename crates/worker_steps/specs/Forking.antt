@@ -1,6 +1,6 @@
 -- What the steps within a sync region do to the slots.
 use Rattle.std.specs.Prelude.{◌≡◌, ℕ, Option, Some, None}
-use Rattle.machine_core.specs.Paths.{Path}
+use Rattle.running.specs.Paths.{Path}
 use Rattle.program.specs.declared.function.Program.{Program}
 use Rattle.frame.specs.declared.frame.Frame.{Frame}
 use Rattle.frame.specs.Room.{Entered, IsSound}

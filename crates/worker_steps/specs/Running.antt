@@ -1,9 +1,9 @@
 -- What an event does to a machine.
-use Rattle.std.specs.Prelude.{◌≡◌, ◌↔◌, ℕ, ◌+◌, ◌^◌, ◌<◌, ◌≤◌, ℤ, Bool, IsTrue, Option, None, Some, IsSome, IsSomeAnd, [], vec_len}
+use Rattle.std.specs.Prelude.{◌≡◌, ◌↔◌, ℕ, ◌+◌, ◌^◌, ◌<◌, ◌≤◌, ℤ, Bool, IsTrue, Option, None, Some, IsSome, IsSomeAnd, [], length, vec_len}
 use Rattle.std.specs.Option.{option_map}
 use Rattle.linear.specs.declared.form.RegisterId.{RegisterId}
-use Rattle.machine_core.specs.Paths.{Path as RunningPath}
-use Rattle.machine_core.specs.State.{waiting, resumed}
+use Rattle.running.specs.Paths.{Path as RunningPath}
+use Rattle.running.specs.State.{waiting, resumed}
 use Rattle.frame.specs.declared.path.Path.{Path}
 use Rattle.frame.specs.declared.frame.Wait.TheVariants as wait
 use Rattle.frame.specs.Reading.{frame_of}
@@ -57,6 +57,7 @@ pub record ResumesWith (old new : Activation) (worker : ℕ) (value : Option ℤ
   pub is : new ≡ record old { frame = new.frame; callee = None; runner = Some worker }
   pub frame : (p : RunningPath) (child : ℕ) (register : Option RegisterId) → old.frame.waits ≡ wait.Call child register → HasResult old.frame register → frame_of p new.frame ≡ resumed (frame_of p old.frame) register value
   pub only : new.frame ≡ record old.frame { registers = new.frame.registers; waits = wait.Nothing }
+  pub as_many : length new.frame.registers.items ≡ length old.frame.registers.items
   pub sound : IsSound old.frame → IsSound new.frame
 
 -- worker 0 runs the root, the others are idle, and nothing is done

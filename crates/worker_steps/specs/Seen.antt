@@ -1,12 +1,12 @@
 -- How a machine reads in the definitions of running, and how its parts agree with each other.
 use Rattle.std.specs.Prelude.{◌≡◌, ◌↔◌, ℕ, zero, suc, ◌∷◌, ◌++◌, [], List, length, reverse, Option, Some, None, Bool, cond, option_and_then, ℤ}
 use Rattle.std.specs.Option.{option_map}
-use Rattle.machine_core.specs.Paths.{Path}
-use Rattle.machine_core.specs.Cells.{Object, Shared, Local, Memory}
-use Rattle.machine_core.specs.Frames.{Frame}
-use Rattle.machine_core.specs.State.{State}
-use Rattle.machine_core.specs.Counts.{count_of}
-use Rattle.machine_core.specs.Events as running
+use Rattle.running.specs.Paths.{Path}
+use Rattle.running.specs.Cells.{Object, Shared, Local, Memory}
+use Rattle.running.specs.Frames.{Frame}
+use Rattle.running.specs.State.{State}
+use Rattle.running.specs.Counts.{count_of}
+use Rattle.running.specs.Events as running
 use Rattle.program.specs.declared.function.Program.{Program}
 use Rattle.store.specs.Cells.{NamedCells, cell_at}
 use Rattle.frame.specs.declared.frame.Wait.{Wait}

@@ -1,12 +1,12 @@
 -- What a step of a frame does to a machine, as the definitions say it.
 use Rattle.std.specs.Prelude.{◌≡◌, ℕ, ◌+◌, ◌≤◌, List, [], length, Option, Some, None, Ok, Bool, cond, nat_lt, ◌&&◌, IsSome, ℤ, pos}
-use Rattle.machine_core.specs.Paths.{Path}
-use Rattle.machine_core.specs.Cells.{Cell, Object, Memory, same_cell, same_object}
-use Rattle.machine_core.specs.Frames.{Frame}
-use Rattle.machine_core.specs.Effect.{Effect, Action, Return, action_of, registers_along}
-use Rattle.machine_core.specs.State.{override, added, only, went}
-use Rattle.machine_core.specs.Events as running
-use Rattle.machine_core.specs.Replay.{replay}
+use Rattle.running.specs.Paths.{Path}
+use Rattle.running.specs.Cells.{Cell, Object, Memory, same_cell, same_object}
+use Rattle.running.specs.Frames.{Frame}
+use Rattle.running.specs.Effect.{Effect, Action, Return, action_of, registers_along}
+use Rattle.running.specs.State.{override, added, only, went}
+use Rattle.running.specs.Events as running
+use Rattle.running.specs.Replay.{replay}
 use Rattle.program.specs.declared.function.Program.{Program}
 use Rattle.store.specs.Cells.{NamedCells}
 use Rattle.frame.specs.Reading.{frame_of, cell_of}
@@ -26,6 +26,7 @@ use Rattle.worker_steps.specs.declared.run.Phase.TheVariants.{Ended}
 use Rattle.worker_steps.specs.Running.{IsGoing, IsTrapped}
 use Rattle.worker_steps.specs.Scheduling.{hand_of, counted_in}
 use Rattle.worker_steps.specs.Seen.{place_of, seen, given, Agrees}
+use Rattle.worker_steps.specs.Slots.{HasSlots, executed}
 
 -- a state after a plain step of the frame f at p, but for the count of instructions
 abbrev pub effected : running.Machine → Path → Frame → Effect → running.Machine
@@ -155,6 +156,16 @@ Performs prog old new worker slot effect = (node : Node Activation) → IsTurn p
 abbrev pub StepsAt : Program → Run → Run → ℕ → ℕ → Type 0
 StepsAt prog old new worker slot = (node : Node Activation) → IsTurn prog old worker slot node → IsStep prog old new worker
 
+-- what is asked of the slot's frame leaves a place for all that the text names, where the definitions ask for it
+abbrev pub FillsSlots : Program → Run → Run → ℕ → ℕ → Asked → Type 0
+FillsSlots prog old new worker slot effect =
+    (node : Node Activation) → IsTurn prog old worker slot node → asked prog (place_of node) (frame_in node) (seen old).core.memory (Ok effect) ≡ next_action prog old node →
+    HasSlots prog old → HasSlots prog (executed new)
+
+-- so does the next instruction of the slot's frame
+abbrev pub FillsSlotsAt : Program → Run → Run → ℕ → ℕ → Type 0
+FillsSlotsAt prog old new worker slot = (node : Node Activation) → IsTurn prog old worker slot node → HasSlots prog old → HasSlots prog (executed new)
+
 -- ---- events
 
 -- The event is done exactly where it is enabled, and then the machine is as the definitions say. Of a step that the machine's own tests refuse
@@ -164,6 +175,7 @@ pub record IsEvent (prog : Program) (old new : Run) (event : running.Event) (don
   pub workers : length new.hands.items ≡ length old.hands.items
   pub program : new.verified ≡ old.verified
   pub machine : IsRun prog new
+  pub slots : HasSlots prog old → HasSlots prog new
 
 abbrev pub DoesEvent : Program → Run → Run → running.Event → Bool → Type 0
 DoesEvent prog old new event done = IsRun prog old → ¬ IsTrapped new → IsEvent prog old new event done

@@ -1,8 +1,8 @@
 -- Where the machine's own tests stop a step of a worker.
 use Rattle.std.specs.Prelude.{◌≡◌, ⊤, ℕ, ◌+◌, ◌^◌, ◌<◌, ◌≤◌, ◌⊎◌, ℤ, List, length, reverse, Option, Some, None, Ok, IsSome}
-use Rattle.machine_core.specs.Cells.{Object, Shared, Local}
-use Rattle.machine_core.specs.Frames.{phis_at}
-use Rattle.machine_core.specs.Effect.{registers_along, traps}
+use Rattle.running.specs.Cells.{Object, Shared, Local}
+use Rattle.running.specs.Frames.{phis_at}
+use Rattle.running.specs.Effect.{registers_along, traps}
 use Rattle.program.specs.declared.function.Program.{Program}
 use Rattle.verifier.specs.Budgets.{budget_of}
 use Rattle.store.specs.Cells.{NamedCells, cell_at}

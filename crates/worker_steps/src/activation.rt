@@ -1,6 +1,6 @@
-ghost use Rattle.std.specs.Prelude.{◌≡◌, ◌↔◌, ◌+◌, ◌<◌, ◌^◌, ℕ, IsTrue, IsSome, Some, None, IfErr, IfOk, OnOk, cond, eqb};
-ghost use Rattle.machine_core.specs.Paths.{Path};
-ghost use Rattle.machine_core.specs.State.{continued};
+ghost use Rattle.std.specs.Prelude.{◌≡◌, ◌↔◌, ◌+◌, ◌<◌, ◌^◌, ℕ, IsTrue, IsSome, Some, None, IfErr, IfOk, OnOk, cond, eqb, length};
+ghost use Rattle.running.specs.Paths.{Path};
+ghost use Rattle.running.specs.State.{continued};
 ghost use Rattle.frame.specs.Reading.{frame_of};
 ghost use Rattle.frame.specs.Room.{IsSound};
 ghost use Rattle.frame.specs.declared.frame.Wait.TheVariants.{Nothing, Region};
@@ -36,6 +36,7 @@ impl Activation {
         ensures no_callee { IfOk result (λ a. a.callee ≡ None) }
         ensures none { IfOk result (λ a. (region : ℕ) → counted_in a region ≡ 0) }
         ensures unstalled { IfOk result (λ a. a.stalled_in ≡ None) }
+        ensures as_many { IfOk result (λ a. length a.counts.items ≡ length frame.registers.items) }
     {
         let counts = vec![in alloc; RegionCount::NONE; frame.registers.len()]?;
         Ok(Activation {
@@ -88,6 +89,7 @@ impl Activation {
     /// Sets the count of the children within a region that is counted.
     pub fn set_count(&mut self, region: RegisterId, count: RegionCount)
         ensures only { self.new ≡ record self.old { counts = self.new.counts } }
+        ensures as_many { length self.new.counts.items ≡ length self.old.counts.items }
         ensures counted { IsSome (count_in self.old region.0) → (other : ℕ) → counted_in self.new other ≡ cond (eqb region.0 other) count.living (counted_in self.old other) }
     {
         if region.0 < self.counts.len() {
@@ -101,6 +103,7 @@ impl Activation {
         ensures frame { self.new.frame ≡ record self.old.frame { block = continuation; index = 0; made = self.new.frame.made; waits = Nothing } }
         ensures continued { (p : Path) → self.old.frame.made + 1 < 2 ^ 64 → frame_of p self.new.frame ≡ continued (frame_of p self.old.frame) continuation.0 }
         ensures sound { IsSound self.old.frame → IsSound self.new.frame }
+        ensures as_many { length self.new.counts.items ≡ length self.old.counts.items }
         ensures counted { IsSome (count_in self.old region.0) → (other : ℕ) → counted_in self.new other ≡ cond (eqb region.0 other) count.living (counted_in self.old other) }
     {
         let _number = self.frame.go_on_behind(continuation);

@@ -3,9 +3,10 @@ ghost use Rattle.std.specs.Vec.{with_item};
 ghost use Rattle.worker_steps.specs.Scheduling.{hand_of, BeginsChild, EndsChild, GoesOnWith, StallsAt, living_within, waits_at};
 ghost use Rattle.worker_steps.specs.Running.{IsGoing, IsTrapped};
 ghost use Rattle.worker_steps.specs.Seen.{taken};
-ghost use Rattle.machine_core.specs.Effect.{jumps};
+ghost use Rattle.worker_steps.specs.Slots.{KeepsSlots};
+ghost use Rattle.running.specs.Effect.{jumps};
 ghost use Rattle.cactus.specs.Frames.{Lives, frame_at};
-ghost use Rattle.worker_steps.specs.Stepping.{CanDoAt, DoesPlain, HasEdge, Performs, ReturnsTo};
+ghost use Rattle.worker_steps.specs.Stepping.{CanDoAt, DoesPlain, FillsSlots, HasEdge, Performs, ReturnsTo};
 ghost use Rattle.worker_steps.specs.Forking.{Enters, with_change};
 ghost use Rattle.worker_steps.specs.Stopping.{HasRoomBelow, Refuses};
 ghost use Rattle.frame.specs.declared.effect.Effect.TheVariants as effect;
@@ -29,6 +30,7 @@ impl Run<'_> {
         ensures kept { self.new ≡ record self.old { cactus = self.new.cactus } }
         ensures enters { OnOk result (Enters self.old.verified.now self.old self.new slot target.0) }
         ensures jumps { OnOk result (DoesPlain self.old self.new slot (λ p f. jumps self.old.verified.now f target.0)) }
+        ensures slots { OnOk result (KeepsSlots self.old self.new) }
         ensures stopped { OnErr result (Refuses self.old.verified.now self.old slot (effect.Branch target)) }
     {
         let program = self.program();
@@ -69,6 +71,7 @@ impl Run<'_> {
         ensures child_first { OnOk result (BeginsChild self.old.cactus self.new.cactus self.new.hands.items worker slot) }
         ensures stopped { (trap : Trap) → result ≡ Err (Halt.Trapped trap) → Refuses self.old.verified.now self.old slot (effect.Detach region body continuation) }
         ensures phase { self.new.phase ≡ self.old.phase }
+        ensures slots { OnOk result (CanDoAt self.old.cactus slot (effect.Detach region body continuation) → FillsSlots self.old.verified.now self.old self.new worker slot (effect.Detach region body continuation)) }
         ensures detaches { OnOk result (CanDoAt self.old.cactus slot (effect.Detach region body continuation) → Performs self.old.verified.now self.old self.new worker slot (effect.Detach region body continuation)) }
     {
         let parent = self.activation(slot)?;
@@ -103,6 +106,7 @@ impl Run<'_> {
         ensures ends { OnOk result (EndsChild self.old.cactus self.new.cactus self.new.hands.items worker slot region.0) }
         ensures stopped { OnErr result (Refuses self.old.verified.now self.old slot (effect.Reattach region)) }
         ensures phase { self.new.phase ≡ self.old.phase }
+        ensures slots { OnOk result (KeepsSlots self.old self.new) }
         ensures reattaches { OnOk result (Performs self.old.verified.now self.old self.new worker slot (effect.Reattach region)) }
     {
         let Some(node) = self.cactus.node(slot) else {
@@ -182,6 +186,7 @@ impl Run<'_> {
         ensures edge { OnOk result (HasEdge self.old.verified.now self.old slot target.0) }
         ensures stopped { OnErr result (Refuses self.old.verified.now self.old slot (effect.Sync region target)) }
         ensures phase { self.new.phase ≡ self.old.phase }
+        ensures slots { OnOk result (KeepsSlots self.old self.new) }
         ensures syncs { OnOk result (Performs self.old.verified.now self.old self.new worker slot (effect.Sync region target)) }
     {
         let top = self.activation(slot)?;
@@ -235,6 +240,7 @@ impl Run<'_> {
         callee: FunctionId,
     ) -> Result<(), Halt>
         requires { worker < vec_len self.old.hands }
+        ensures slots { OnOk result (CanDoAt self.old.cactus slot (effect.Call register callee) → FillsSlots self.old.verified.now self.old self.new worker slot (effect.Call register callee)) }
         ensures calls { OnOk result (CanDoAt self.old.cactus slot (effect.Call register callee) → Performs self.old.verified.now self.old self.new worker slot (effect.Call register callee)) }
         ensures refused { result ≡ Err Halt.OutOfMemory → self.new ≡ self.old }
         ensures stopped { (trap : Trap) → result ≡ Err (Halt.Trapped trap) → Refuses self.old.verified.now self.old slot (effect.Call register callee) }
@@ -267,6 +273,7 @@ impl Run<'_> {
         value: Option<i64>,
     ) -> Result<(), Trap>
         requires { worker < vec_len self.old.hands }
+        ensures slots { OnOk result (KeepsSlots self.old self.new) }
         ensures returns { OnOk result (Performs self.old.verified.now self.old self.new worker slot (effect.Return value)) }
         ensures stopped { OnErr result (Refuses self.old.verified.now self.old slot (effect.Return value)) }
         ensures going { IsGoing self.old → ¬ IsTrapped self.new }
@@ -297,6 +304,7 @@ impl Run<'_> {
     ) -> Result<(), Trap>
         requires worker { worker < vec_len self.old.hands }
         requires lives { Lives self.old.cactus slot }
+        ensures slots { OnOk result (KeepsSlots self.old self.new) }
         ensures returns { OnOk result (ReturnsTo self.old.verified.now self.old self.new worker slot (Some caller) value) }
         ensures lost { OnErr result (caller ≢ slot → frame_at self.old.cactus caller ≡ None) }
         ensures phase { self.new.phase ≡ self.old.phase }
@@ -314,6 +322,7 @@ impl Run<'_> {
     fn end_with(&mut self, worker: u8, slot: usize, number: i64)
         requires worker { worker < vec_len self.old.hands }
         requires lives { Lives self.old.cactus slot }
+        ensures slots { KeepsSlots self.old self.new }
         ensures returns { ReturnsTo self.old.verified.now self.old self.new worker slot None (Some number) }
         ensures sound { ¬ IsTrapped self.new }
     {

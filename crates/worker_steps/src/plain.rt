@@ -1,7 +1,7 @@
 ghost use Rattle.std.specs.Prelude.{◌≡◌, ◌<◌, Some, None, vec_len, IfOk, IfNone, IfSome, OnErr, OnOk};
 ghost use Rattle.std.specs.Bool.{OnFalse, OnTrue};
-ghost use Rattle.machine_core.specs.Arithmetic.{cell_sum};
-ghost use Rattle.machine_core.specs.Effect.{sets, goes_on, loads, stores, stores_zeros, adds_to};
+ghost use Rattle.running.specs.Arithmetic.{cell_sum};
+ghost use Rattle.running.specs.Effect.{sets, goes_on, loads, stores, stores_zeros, adds_to};
 ghost use Rattle.frame.specs.Reading.{cell_of, object_of, value_of};
 ghost use Rattle.frame.specs.Room.{HasCell};
 ghost use Rattle.frame.specs.declared.effect.Trap.{Trap};
@@ -9,7 +9,8 @@ ghost use Rattle.cactus.specs.Frames.{frame_at};
 ghost use Rattle.worker_steps.specs.declared.activation.Activation.{Activation};
 ghost use Rattle.worker_steps.specs.Running.{IsGoing, IsTrapped};
 ghost use Rattle.worker_steps.specs.Seen.{seen};
-ghost use Rattle.worker_steps.specs.Stepping.{CanDoAt, DoesPlain, HasNextAt, HoldsAt, OwnerStands, Performs, StepsAt, StoresAt, WritesAlloca};
+ghost use Rattle.worker_steps.specs.Slots.{KeepsSlots};
+ghost use Rattle.worker_steps.specs.Stepping.{CanDoAt, DoesPlain, FillsSlots, FillsSlotsAt, HasNextAt, HoldsAt, OwnerStands, Performs, StepsAt, StoresAt, WritesAlloca};
 ghost use Rattle.worker_steps.specs.Stopping.{HaltsAt, KeepsCells, Refuses};
 
 use crate::halt::Halt;
@@ -30,6 +31,7 @@ impl Run<'_> {
         requires { worker < vec_len self.old.hands }
         ensures refused { result ≡ Err Halt.OutOfMemory → self.new ≡ self.old }
         ensures step { OnOk result (StepsAt self.old.verified.now self.old self.new worker top) }
+        ensures slots { OnOk result (FillsSlotsAt self.old.verified.now self.old self.new worker top) }
         ensures stopped { (trap : Trap) → result ≡ Err (Halt.Trapped trap) → HaltsAt self.old.verified.now self.old top }
         ensures going { IsGoing self.old → ¬ IsTrapped self.new }
     {
@@ -42,6 +44,7 @@ impl Run<'_> {
         requires { worker < vec_len self.old.hands }
         ensures refused { result ≡ Err Halt.OutOfMemory → self.new ≡ self.old }
         ensures step { OnOk result (CanDoAt self.old.cactus top effect → Performs self.old.verified.now self.old self.new worker top effect) }
+        ensures slots { OnOk result (CanDoAt self.old.cactus top effect → FillsSlots self.old.verified.now self.old self.new worker top effect) }
         ensures stopped { (trap : Trap) → result ≡ Err (Halt.Trapped trap) → Refuses self.old.verified.now self.old top effect }
         ensures going { IsGoing self.old → ¬ IsTrapped self.new }
     {
@@ -69,6 +72,7 @@ impl Run<'_> {
         ensures defines { OnOk result (CanDoAt self.old.cactus slot (Effect.Define register value)
             → DoesPlain self.old self.new slot (λ p f. sets f register (value_of p value))) }
         ensures lost { OnErr result (frame_at self.old.cactus slot ≡ None) }
+        ensures slots { OnOk result (KeepsSlots self.old self.new) }
         ensures phase { self.new.phase ≡ self.old.phase }
     {
         match self.cactus.frame_mut(slot) {
@@ -82,6 +86,7 @@ impl Run<'_> {
     fn pass(&mut self, slot: usize) -> Result<(), Trap>
         ensures passes { OnOk result (HasNextAt self.old.cactus slot → DoesPlain self.old self.new slot (λ p f. goes_on f)) }
         ensures lost { OnErr result (frame_at self.old.cactus slot ≡ None) }
+        ensures slots { OnOk result (KeepsSlots self.old self.new) }
         ensures phase { self.new.phase ≡ self.old.phase }
     {
         match self.cactus.frame_mut(slot) {
@@ -96,6 +101,7 @@ impl Run<'_> {
         ensures loads { OnOk result (CanDoAt self.old.cactus slot (Effect.Load register cell)
             → DoesPlain self.old self.new slot (λ p f. loads f register (cell_of p cell) ((seen self.old).core.memory (cell_of p cell)))) }
         ensures stopped { OnErr result (Refuses self.old.verified.now self.old slot (Effect.Load register cell)) }
+        ensures slots { OnOk result (KeepsSlots self.old self.new) }
         ensures phase { self.new.phase ≡ self.old.phase }
     {
         let number = self.load(slot, cell)?;
@@ -107,6 +113,7 @@ impl Run<'_> {
         ensures stores { OnOk result (HasNextAt self.old.cactus slot
             → DoesPlain self.old self.new slot (λ p f. stores f (cell_of p cell) number)) }
         ensures stopped { OnErr result (Refuses self.old.verified.now self.old slot (Effect.Store cell number)) }
+        ensures slots { OnOk result (KeepsSlots self.old self.new) }
         ensures phase { self.new.phase ≡ self.old.phase }
     {
         if self.store(slot, cell, number) {
@@ -121,6 +128,7 @@ impl Run<'_> {
         ensures adds { OnOk result (HasNextAt self.old.cactus slot
             → DoesPlain self.old self.new slot (λ p f. adds_to f (cell_of p cell) number ((seen self.old).core.memory (cell_of p cell)))) }
         ensures stopped { OnErr result (Refuses self.old.verified.now self.old slot (Effect.Add cell number)) }
+        ensures slots { OnOk result (KeepsSlots self.old self.new) }
         ensures phase { self.new.phase ≡ self.old.phase }
     {
         let held = self.load(slot, cell)?;
@@ -164,6 +172,7 @@ impl Run<'_> {
     /// Gives a cell a number; false where the cell is not there.
     fn store(&mut self, slot: usize, cell: Cell, number: i64) -> bool
         ensures stores { OnTrue result (StoresAt self.old self.new slot cell number) }
+        ensures slots { OnTrue result (KeepsSlots self.old self.new) }
         ensures kept { OnTrue result (KeepsCells self.old self.new) }
         ensures not_there { OnFalse result (Refuses self.old.verified.now self.old slot (Effect.Store cell number)) }
         ensures phase { self.new.phase ≡ self.old.phase }
@@ -180,6 +189,7 @@ impl Run<'_> {
     /// Gives a cell of an alloca of the frame in the slot a number; false where the cell is not there.
     fn store_in(&mut self, owner: usize, alloca: AllocaId, index: u64, number: i64) -> bool
         ensures writes { OnTrue result (WritesAlloca self.old self.new owner alloca.0 index number) }
+        ensures slots { OnTrue result (KeepsSlots self.old self.new) }
         ensures kept { OnTrue result (KeepsCells self.old self.new) }
         ensures not_there { OnFalse result ((above : Activation) → frame_at self.old.cactus owner ≡ Some above → ¬ HasCell above.frame alloca.0 index) }
         ensures phase { self.new.phase ≡ self.old.phase }
@@ -195,6 +205,7 @@ impl Run<'_> {
         ensures zeros { OnOk result (HasNextAt self.old.cactus slot
             → DoesPlain self.old self.new slot (λ p f. stores_zeros f cells (object_of p object))) }
         ensures stopped { OnErr result (Refuses self.old.verified.now self.old slot (Effect.StoreZeros object cells)) }
+        ensures slots { OnOk result (KeepsSlots self.old self.new) }
         ensures phase { self.new.phase ≡ self.old.phase }
     {
         for index in 0..cells {

@@ -1,10 +1,12 @@
 ghost use Rattle.std.specs.Prelude.{◌↔◌, ◌≡◌, ◌<◌, false, true, IsTrue, IsSomeAnd, IfOk, None, OnErr, OnOk, OnSome, length, reverse, vec_len};
 ghost use Rattle.std.specs.Vec.{with_item};
 ghost use Rattle.cactus.specs.Frames.{Lives, frame_at};
+ghost use Rattle.store.specs.Made.{HasGlobalCells};
 ghost use Rattle.worker_steps.specs.Scheduling.{hand_of, IsIdle, IsReady};
-ghost use Rattle.machine_core.specs.Events.{Step};
+ghost use Rattle.running.specs.Events.{Step};
 ghost use Rattle.worker_steps.specs.Stepping.{DoesEvent, StartsAs};
 ghost use Rattle.worker_steps.specs.Seen.{Agrees, StealsIf, taken};
+ghost use Rattle.worker_steps.specs.Slots.{HasSlots, KeepsSlots};
 ghost use Rattle.worker_steps.specs.Running.{IsGoing, IsTrapped, IsStart, StepsWhere, Takes, TakesAt};
 ghost use Rattle.worker_steps.specs.Stopping.{StopsAtStep};
 
@@ -59,6 +61,7 @@ impl<'v> Run<'v> {
         requires { 0 < workers }
         ensures started { IfOk result (λ m. IsStart m workers) }
         ensures state { IfOk result (λ m. StartsAs verified.now arguments.now memory m) }
+        ensures slots { HasGlobalCells verified.now memory → IfOk result (λ m. HasSlots verified.now m) }
     {
         let frame = Frame::root(alloc, verified.program(), arguments)?;
         let mut cactus = Cactus::new(alloc);
@@ -163,6 +166,7 @@ impl<'v> Run<'v> {
         ensures yes { IsTrue result → Takes self.old self.new worker path.now }
         ensures exact { Agrees self.old.cactus self.old.hands.items → StealsIf self.old self.new worker (reverse path.now.numbers) result }
         ensures agrees { Agrees self.old.cactus self.old.hands.items → Agrees self.new.cactus self.new.hands.items }
+        ensures slots { KeepsSlots self.old self.new }
         ensures kept { self.new ≡ record self.old { cactus = self.new.cactus; hands = self.new.hands } }
         ensures workers { length self.new.hands.items ≡ length self.old.hands.items }
     {

@@ -42,10 +42,11 @@ fn stands(machine: &Machine<'_>, path: &Path, status: Status, line: u32) -> bool
     }
 }
 
-#[test]
-fn a_stolen_root_stalls_at_its_sync(rt: HostRuntime) -> Result<(), Fail> {
-    let verified = verified(&rt, PAIR)?;
-    let machine = replayed(&rt, &verified, 7, "step 0 2\nsteal 1 root\nstep 1 3\n")?;
+fn a_stolen_root_stalls_at_its_sync(
+    rt: &(impl Abort + AllocGlobal + RandomSource),
+) -> Result<(), Fail> {
+    let verified = verified(rt, PAIR)?;
+    let machine = replayed(rt, &verified, 7, "step 0 2\nsteal 1 root\nstep 1 3\n")?;
     let root = Path::root(rt.alloc());
     let child = root.child(rt.alloc(), 0)?;
     assert!(rt; stands(&machine, &root, Status::Stalled(RegisterId(1)), 20));
@@ -54,31 +55,34 @@ fn a_stolen_root_stalls_at_its_sync(rt: HostRuntime) -> Result<(), Fail> {
     Ok(())
 }
 
-#[test]
-fn the_root_of_a_loop_stalls_at_its_sync(rt: HostRuntime) -> Result<(), Fail> {
+fn the_root_of_a_loop_stalls_at_its_sync(
+    rt: &(impl Abort + AllocGlobal + RandomSource),
+) -> Result<(), Fail> {
     let schedule = "step 0 5\nsteal 1 root\nstep 1 5\nstep 0 3\nsteal 0 root\nstep 0 5\n";
-    let verified = verified(&rt, PARALLEL_FOR)?;
-    let machine = replayed(&rt, &verified, 2, schedule)?;
+    let verified = verified(rt, PARALLEL_FOR)?;
+    let machine = replayed(rt, &verified, 2, schedule)?;
     let root = Path::root(rt.alloc());
     assert_eq!(rt; machine.instructions(), 18);
     assert!(rt; stands(&machine, &root, Status::Stalled(RegisterId(1)), 47));
     Ok(())
 }
 
-#[test]
-fn a_slot_is_used_again_with_a_new_generation(rt: HostRuntime) -> Result<(), Fail> {
-    let verified = verified(&rt, PARALLEL_FOR)?;
-    let machine = replayed(&rt, &verified, 2, "step 0 13\n")?;
+fn a_slot_is_used_again_with_a_new_generation(
+    rt: &(impl Abort + AllocGlobal + RandomSource),
+) -> Result<(), Fail> {
+    let verified = verified(rt, PARALLEL_FOR)?;
+    let machine = replayed(rt, &verified, 2, "step 0 13\n")?;
     let second = Path::root(rt.alloc()).child(rt.alloc(), 1)?;
     assert_eq!(rt; machine.spot(&second), Some((1, 2)));
     assert!(rt; machine.path_at(1, 1).is_none());
     Ok(())
 }
 
-#[test]
-fn a_copy_of_an_ended_memory_is_the_same(rt: HostRuntime) -> Result<(), Fail> {
-    let verified = verified(&rt, PAIR)?;
-    let memory = replayed(&rt, &verified, 7, "step 0 14\n")?.into_memory();
+fn a_copy_of_an_ended_memory_is_the_same(
+    rt: &(impl Abort + AllocGlobal + RandomSource),
+) -> Result<(), Fail> {
+    let verified = verified(rt, PAIR)?;
+    let memory = replayed(rt, &verified, 7, "step 0 14\n")?.into_memory();
     let copy = memory.copy()?;
     let zeroed = Memory::zeroed(rt.alloc(), &verified)?;
     assert!(rt; copy.same(&memory));
@@ -108,7 +112,7 @@ fn random_event(
     }
 }
 
-/// Makes 2,000 random events. The answer is the greatest number of living frames behind one.
+/// Makes 2,000 random events. The answer is the greatest number of living frames after one.
 fn most_frames(
     rt: &(impl Abort + AllocGlobal + RandomSource),
     machine: &mut Machine<'_>,
@@ -124,18 +128,29 @@ fn most_frames(
     Ok(most)
 }
 
-#[test]
-fn random_schedules_keep_to_the_bounds(rt: HostRuntime) -> Result<(), Fail> {
+fn random_schedules_keep_to_the_bounds(
+    rt: &(impl Abort + AllocGlobal + RandomSource),
+) -> Result<(), Fail> {
     let alloc = rt.alloc();
-    let verified = verified(&rt, PARALLEL_FOR)?;
+    let verified = verified(rt, PARALLEL_FOR)?;
     for seed in 0..200 {
         let memory = Memory::zeroed(alloc, &verified)?;
         let machine = Machine::start(alloc, &verified, [8].as_slice(), memory, 4);
         let mut machine = machine.ok().ok_or("stopped")?;
-        let most = most_frames(&rt, &mut machine, seed)?;
+        let most = most_frames(rt, &mut machine, seed)?;
         assert!(rt; most <= 8, "{seed}");
         assert!(rt; machine.instructions() <= 518, "{seed}");
         assert_eq!(rt; machine.result().unwrap_or(8), 8, "{seed}");
     }
+    Ok(())
+}
+
+#[test]
+fn machines(rt: HostRuntime) -> Result<(), Fail> {
+    a_stolen_root_stalls_at_its_sync(&rt)?;
+    the_root_of_a_loop_stalls_at_its_sync(&rt)?;
+    a_slot_is_used_again_with_a_new_generation(&rt)?;
+    a_copy_of_an_ended_memory_is_the_same(&rt)?;
+    random_schedules_keep_to_the_bounds(&rt)?;
     Ok(())
 }

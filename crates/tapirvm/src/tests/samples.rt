@@ -1,6 +1,6 @@
 //! The modules of `examples/`, as texts.
 
-pub static ADD_ONE: &str = "define i64 @main(i64 %n) {
+pub const ADD_ONE: &str = "define i64 @main(i64 %n) {
 ;! requires %n >= 0
 ;! requires %n <= 100
 ;! budget 0 2
@@ -11,7 +11,7 @@ ret i64 %r
 }
 ";
 
-pub static ADDING: &str = "@a = global [64 x i64] zeroinitializer
+pub const ADDING: &str = "@a = global [64 x i64] zeroinitializer
 define i64 @main(i64 %n) {
 ;! requires %n >= 0
 ;! requires %n <= 64
@@ -64,7 +64,7 @@ ret i64 %n
 }
 ";
 
-pub static ALIAS: &str = "@a = global [4 x i64] zeroinitializer
+pub const ALIAS: &str = "@a = global [4 x i64] zeroinitializer
 define void @put(ptr noalias dereferenceable(8) %p) {
 ;! writes %p 0 1
 ;! writes @a 0 4
@@ -85,7 +85,7 @@ ret i64 0
 }
 ";
 
-pub static DIVIDE: &str = "define i64 @main(i64 %a, i64 %b) {
+pub const DIVIDE: &str = "define i64 @main(i64 %a, i64 %b) {
 ;! requires %b >= -1
 ;! requires %b <= -1
 ;! budget 0 2
@@ -96,7 +96,7 @@ ret i64 %q
 }
 ";
 
-pub static FIB: &str = "define i64 @fib(i64 %n) {
+pub const FIB: &str = "define i64 @fib(i64 %n) {
 ;! requires %n >= 0
 ;! requires %n <= 20
 ;! measure %n max 20
@@ -150,7 +150,7 @@ ret i64 %r
 }
 ";
 
-pub static LOAD: &str = "@a = global [1 x i64] zeroinitializer
+pub const LOAD: &str = "@a = global [1 x i64] zeroinitializer
 define i64 @main() {
 ;! reads @a 0 1
 ;! budget 0 2
@@ -161,7 +161,7 @@ ret i64 %x
 }
 ";
 
-pub static LOOP: &str = "define i64 @main(i64 %n) {
+pub const LOOP: &str = "define i64 @main(i64 %n) {
 ;! requires %n >= 0
 ;! requires %n <= 100
 ;! budget 0 11
@@ -183,7 +183,7 @@ ret i64 %i
 }
 ";
 
-pub static PAIR: &str = "@a = global [2 x i64] zeroinitializer
+pub const PAIR: &str = "@a = global [2 x i64] zeroinitializer
 define i64 @main(i64 %n) {
 ;! writes @a 0 2
 ;! budget 0 14
@@ -214,7 +214,7 @@ ret i64 %t
 }
 ";
 
-pub static PARALLEL_FOR: &str = "@a = global [64 x i64] zeroinitializer
+pub const PARALLEL_FOR: &str = "@a = global [64 x i64] zeroinitializer
 define i64 @main(i64 %n) {
 ;! requires %n >= 0
 ;! requires %n <= 64
@@ -267,7 +267,7 @@ ret i64 %n
 }
 ";
 
-pub static SWITCH: &str = "define i64 @main(i64 %n) {
+pub const SWITCH: &str = "define i64 @main(i64 %n) {
 ;! requires %n >= 0
 ;! requires %n <= 100
 ;! budget 0 6
@@ -289,3 +289,61 @@ o:
 ret i64 %n
 }
 ";
+
+/// Prints the costs of measures 0 to 2.
+pub const FLAT: &str = "define i64 @main(i64 %n) {
+;! measure 0 max 2
+;! budget 1 2
+entry:
+;! left 0 2
+%r = add i64 %n, 1
+ret i64 %r
+}
+";
+
+/// `@main` adds its argument to a cell that its child stores.
+pub const STORED: &str = "@a = global [1 x i64] zeroinitializer
+define i64 @main(i64 %n) {
+;! requires 0 <= %n
+;! requires %n <= 100
+;! writes @a 0 1
+;! budget 0 9
+entry:
+;! left 0 9
+%s = call token @llvm.syncregion.start()
+detach within %s, label %d, label %c
+d:
+;! left 0 2
+;! foot writes @a 0 1
+store i64 5, ptr @a
+reattach within %s, label %c
+c:
+;! pending %s writes @a 0 1
+;! left 0 5
+sync within %s, label %j
+j:
+;! left 0 4
+%x = load i64, ptr @a
+%y = add i64 %x, %n
+ret i64 %y
+}
+";
+
+/// The module of this name; an empty one where there is none.
+pub fn sample(name: &str) -> &'static str {
+    match name {
+        "add-one" => ADD_ONE,
+        "adding" => ADDING,
+        "alias" => ALIAS,
+        "divide" => DIVIDE,
+        "fib" => FIB,
+        "flat" => FLAT,
+        "load" => LOAD,
+        "loop" => LOOP,
+        "pair" => PAIR,
+        "parallel-for" => PARALLEL_FOR,
+        "stored" => STORED,
+        "switch" => SWITCH,
+        _ => "",
+    }
+}

@@ -4,10 +4,11 @@ use super::samples::*;
 use super::verified;
 use frame::{Frame, Trap, Value, binary, next_effect};
 use program::{AllocaId, BinaryOperator, BlockId, FunctionId, RegisterId, Width};
+use std::process::Abort;
+use std::random::RandomSource;
 use std::test::Fail;
 
-#[test]
-fn a_divisor_of_0_traps(rt: HostRuntime) {
+fn a_divisor_of_0_traps(rt: &(impl Abort + AllocGlobal + RandomSource)) {
     for operator in [
         BinaryOperator::SignedDivide,
         BinaryOperator::UnsignedDivide,
@@ -21,8 +22,7 @@ fn a_divisor_of_0_traps(rt: HostRuntime) {
     }
 }
 
-#[test]
-fn the_least_number_by_minus_one_traps(rt: HostRuntime) {
+fn the_least_number_by_minus_one_traps(rt: &(impl Abort + AllocGlobal + RandomSource)) {
     for operator in [
         BinaryOperator::SignedDivide,
         BinaryOperator::SignedRemainder,
@@ -34,8 +34,7 @@ fn the_least_number_by_minus_one_traps(rt: HostRuntime) {
     }
 }
 
-#[test]
-fn a_shift_by_the_width_traps(rt: HostRuntime) {
+fn a_shift_by_the_width_traps(rt: &(impl Abort + AllocGlobal + RandomSource)) {
     for operator in [
         BinaryOperator::ShiftLeft,
         BinaryOperator::LogicalShiftRight,
@@ -48,8 +47,7 @@ fn a_shift_by_the_width_traps(rt: HostRuntime) {
     }
 }
 
-#[test]
-fn a_result_past_the_width_traps_under_nsw(rt: HostRuntime) {
+fn a_result_past_the_width_traps_under_nsw(rt: &(impl Abort + AllocGlobal + RandomSource)) {
     for (operator, width, left, right) in [
         (BinaryOperator::AddNoWrap, Width::Bits64, i64::MAX, 1),
         (BinaryOperator::SubtractNoWrap, Width::Bits64, i64::MIN, 1),
@@ -61,9 +59,10 @@ fn a_result_past_the_width_traps_under_nsw(rt: HostRuntime) {
     }
 }
 
-#[test]
-fn an_index_past_the_object_traps(rt: HostRuntime) -> Result<(), Fail> {
-    let verified = verified(&rt, PARALLEL_FOR)?;
+fn an_index_past_the_object_traps(
+    rt: &(impl Abort + AllocGlobal + RandomSource),
+) -> Result<(), Fail> {
+    let verified = verified(rt, PARALLEL_FOR)?;
     let mut frame = Frame::root(rt.alloc(), verified.program(), [8].as_slice())?;
     frame.continue_at(BlockId(3));
     for (index, trap) in [
@@ -81,12 +80,24 @@ fn an_index_past_the_object_traps(rt: HostRuntime) -> Result<(), Fail> {
     Ok(())
 }
 
-#[test]
-fn an_alloca_has_no_value_before_a_store(rt: HostRuntime) -> Result<(), Fail> {
-    let verified = verified(&rt, FIB)?;
+fn an_alloca_has_no_value_before_a_store(
+    rt: &(impl Abort + AllocGlobal + RandomSource),
+) -> Result<(), Fail> {
+    let verified = verified(rt, FIB)?;
     let main = Frame::root(rt.alloc(), verified.program(), [3].as_slice())?;
     let frame = Frame::called(rt.alloc(), verified.program(), &main, FunctionId(0))?;
     assert_eq!(rt; frame.alloca_cell(AllocaId(0), 0), Some(None));
     assert_eq!(rt; frame.alloca_cell(AllocaId(0), 1), None);
+    Ok(())
+}
+
+#[test]
+fn traps(rt: HostRuntime) -> Result<(), Fail> {
+    a_divisor_of_0_traps(&rt);
+    the_least_number_by_minus_one_traps(&rt);
+    a_shift_by_the_width_traps(&rt);
+    a_result_past_the_width_traps_under_nsw(&rt);
+    an_index_past_the_object_traps(&rt)?;
+    an_alloca_has_no_value_before_a_store(&rt)?;
     Ok(())
 }

@@ -1,5 +1,5 @@
 use Rattle.std.proofs.Common.{Some, None, ◌∙◌}
-use Rattle.cfg.specs.Faults.{IsJudged}
+use Rattle.refusal.specs.Earliest.{IsJudged}
 use Rattle.cfg.specs.Rules.{IsGraphRight, IsGraphBroken}
 use Rattle.cfg.proofs.Programs.{Judging-none, Judging-next, graphs_all, judged_all}
 use Rattle.cfg.proofs.build.graph.Goals as goal
@@ -30,7 +30,7 @@ returns-in-Some-clause-fault c =
     let program = c.args.typed.program in
     let all : IsJudged (IsGraphRight program) (IsGraphBroken program) c.loop-function.named = judged_all program _ _ _ (rw c.as_slice-function-items.ensures at c.loop-function-test.false) c.loop-function.invariant in
     let here : IsJudged (IsGraphRight program) (IsGraphBroken program) (Some c.in-Some.broken) = rw c.in-Some.is at all in
-    here
+    rw c.into.ensures here
 
 pub returns-in-None-clause-right : goal.returns-in-None-clause-right
 returns-in-None-clause-right c =

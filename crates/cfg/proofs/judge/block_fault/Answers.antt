@@ -1,8 +1,8 @@
 use Rattle.std.proofs.Common.{◌⊎◌}
 use Rattle.std.specs.Option.{IsSome}
-use Rattle.cfg.specs.declared.refusal.Broken.{Broken}
+use Rattle.refusal.specs.declared.broken.Broken.{Broken}
 use Rattle.cfg.specs.Rules.{ArePhisMatched, IsPhiBroken, IsLabelRight, IsLabelBroken, IsEndBroken}
-use Rattle.cfg.proofs.Judging.{judged_lower, judged_same}
+use Rattle.refusal.proofs.Judging.{judged_lower, judged_same}
 use Rattle.cfg.proofs.judge.block_fault.Goals as goal
 
 pub returns : goal.returns

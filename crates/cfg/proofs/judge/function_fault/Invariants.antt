@@ -1,4 +1,4 @@
-use Rattle.cfg.specs.Faults.{IsJudged}
+use Rattle.refusal.specs.Earliest.{IsJudged}
 use Rattle.cfg.proofs.Functions.{AreBlocksRight, AreBlocksBroken}
 use Rattle.cfg.proofs.judge.function_fault.Given as goal
 

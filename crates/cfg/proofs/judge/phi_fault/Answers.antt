@@ -1,7 +1,7 @@
 use Rattle.std.proofs.Common.{◌↔◌, IsTrue, take_all}
 use Rattle.program.specs.declared.instruction.Phi.{Phi}
 use Rattle.cfg.specs.Rules.{IsMatched, IsUnmatched}
-use Rattle.cfg.proofs.Judging.{judged_next}
+use Rattle.refusal.proofs.Judging.{judged_next}
 use Rattle.cfg.proofs.Matching.{phi_matched, phi_judged, phi_refused}
 use Rattle.cfg.proofs.judge.phi_fault.Goals.{then-branch, else-branch}
 use Rattle.cfg.proofs.judge.phi_fault.Goals as goal

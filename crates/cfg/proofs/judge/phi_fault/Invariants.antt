@@ -1,5 +1,5 @@
 use Rattle.std.proofs.Common.{take}
-use Rattle.cfg.specs.Faults.{IsJudged}
+use Rattle.refusal.specs.Earliest.{IsJudged}
 use Rattle.cfg.specs.Rules.{ArePhisMatched, IsPhiBroken}
 use Rattle.cfg.proofs.judge.phi_fault.Given as goal
 

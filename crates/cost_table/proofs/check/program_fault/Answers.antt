@@ -1,10 +1,9 @@
 use Rattle.std.proofs.Common.{◌<◌, ℕ, List, length, sym, ap, subst, arith}
 use Rattle.program.specs.declared.function.Function.{Function}
-use Rattle.region_match.specs.ByLabel.{IsNamed}
+use Rattle.refusal.specs.Earliest.{IsEarliest}
 use Rattle.ranges.specs.Places.{IsFunctionTable}
-use Rattle.ranges.proofs.Sweeps.{Within, below_next, below_all}
+use Rattle.refusal.proofs.Places.{Within, below_next, below_all, read_in}
 use Rattle.cost_table.specs.Rules.{IsFunctionBroken}
-use Rattle.cost_table.proofs.ByTables.{read_in}
 use Rattle.cost_table.proofs.check.program_fault.Goals as goal
 
 pub function_fault-requires : goal.function_fault-requires
@@ -22,10 +21,10 @@ loop-index-preserved c =
     let i = c.loop-index.index in
     let function = c.index-functions-index.result in
     below_next (λ (f : ℕ) (x : Function). IsFunctionBroken functions f x) c.as_slice-functions.result.now i function _ _ _ c.loop-index-test.true c.index-functions-index.is c.loop-index.invariant
-    (subst (λ (fs : List Function). IsNamed (IsFunctionBroken fs i function) c.in_ok-broken.broken) c.as_slice-functions.ensures c.in_ok-broken.ensures)
+    (subst (λ (fs : List Function). IsEarliest (IsFunctionBroken fs i function) c.in_ok-broken.broken) c.as_slice-functions.ensures c.in_ok-broken.ensures)
     c.lower-named.ensures
 
 pub returns : goal.returns
 returns c =
-    subst (λ (functions : List Function). IsNamed (Within (λ (f : ℕ) (x : Function). IsFunctionBroken c.args.program.now.functions f x) functions) c.loop-index.named) c.as_slice-functions.ensures
+    subst (λ (functions : List Function). IsEarliest (Within (λ (f : ℕ) (x : Function). IsFunctionBroken c.args.program.now.functions f x) functions) c.loop-index.named) c.as_slice-functions.ensures
     (below_all (λ (f : ℕ) (x : Function). IsFunctionBroken c.args.program.now.functions f x) c.as_slice-functions.result.now _ _ c.loop-index-test.false c.loop-index.invariant)

@@ -1,15 +1,15 @@
-use Rattle.cfg.specs.declared.refusal.Broken.{Broken}
-use Rattle.region_match.proofs.Lists.{named_none, named_next, named_all}
+use Rattle.refusal.specs.declared.broken.Broken.{Broken}
+use Rattle.refusal.proofs.Elements.{earliest_none, earliest_next, earliest_all}
 use Rattle.ranges.specs.declared.table.EdgeFacts.{EdgeFacts}
 use Rattle.cost_table.specs.Rules.{IsEdgeUncovered}
 use Rattle.cost_table.proofs.judge.edges_fault.Goals as goal
 
 pub loop-edge-init : goal.loop-edge-init
-loop-edge-init c = λ functions f is. named_none (λ (e : EdgeFacts) (b : Broken). IsEdgeUncovered functions c.args.function.now f c.args.block.now c.args.line e b) c.args.edges.now
+loop-edge-init c = λ functions f is. earliest_none (λ (e : EdgeFacts) (b : Broken). IsEdgeUncovered functions c.args.function.now f c.args.block.now c.args.line e b) c.args.edges.now
 
 pub loop-edge-preserved : goal.loop-edge-preserved
 loop-edge-preserved c = λ functions f is.
-    named_next (λ (e : EdgeFacts) (b : Broken). IsEdgeUncovered functions c.args.function.now f c.args.block.now c.args.line e b) c.args.edges.now _ c.edge-item.result _ _ _ c.loop-edge-test.true c.edge-item.is (c.loop-edge.invariant functions f is) (c.in_ok-broken.ensures functions f is) c.lower-named.ensures
+    earliest_next (λ (e : EdgeFacts) (b : Broken). IsEdgeUncovered functions c.args.function.now f c.args.block.now c.args.line e b) c.args.edges.now _ c.edge-item.result _ _ _ c.loop-edge-test.true c.edge-item.is (c.loop-edge.invariant functions f is) (c.in_ok-broken.ensures functions f is) c.lower-named.ensures
 
 pub returns : goal.returns
-returns c = λ functions f is. named_all (λ (e : EdgeFacts) (b : Broken). IsEdgeUncovered functions c.args.function.now f c.args.block.now c.args.line e b) c.args.edges.now _ _ c.loop-edge-test.false (c.loop-edge.invariant functions f is)
+returns c = λ functions f is. earliest_all (λ (e : EdgeFacts) (b : Broken). IsEdgeUncovered functions c.args.function.now f c.args.block.now c.args.line e b) c.args.edges.now _ _ c.loop-edge-test.false (c.loop-edge.invariant functions f is)

@@ -1,11 +1,12 @@
 use Rattle.std.proofs.Common.{ℕ, List, take}
 use Rattle.std.specs.List.{Any}
 use Rattle.program.specs.declared.function.Function.{Function}
-use Rattle.cfg.specs.declared.refusal.Broken.{Broken}
-use Rattle.region_match.specs.ByLabel.{IsNamed}
-use Rattle.cost_table.specs.Rules.{IsWork, IsEdgeUncovered}
+use Rattle.refusal.specs.declared.broken.Broken.{Broken}
+use Rattle.refusal.specs.Earliest.{IsEarliest}
+use Rattle.cost_table.specs.Doing.{IsWork}
+use Rattle.cost_table.specs.Rules.{IsEdgeUncovered}
 use Rattle.cost_table.proofs.judge.edges_fault.Given as goal
 
 abbrev pub invariant-loop-edge : goal.invariant-loop-edge
 invariant-loop-edge l =
-    (functions : List Function) (f : ℕ) → IsWork functions f l.block l.work → IsNamed (λ (b : Broken). Any (λ e. IsEdgeUncovered functions l.function f l.block l.line e b) (take l.edge-index l.edges)) l.named
+    (functions : List Function) (f : ℕ) → IsWork functions f l.block l.work → IsEarliest (λ (b : Broken). Any (λ e. IsEdgeUncovered functions l.function f l.block l.line e b) (take l.edge-index l.edges)) l.named

@@ -2,7 +2,7 @@ use Rattle.std.proofs.Common.{◌≡◌, ◌∙◌, ℕ, ◌++◌, ◌∷◌, []
 use Rattle.std.specs.Prelude.{slice_get}
 use Rattle.program.specs.declared.function.Function.{Function}
 use Rattle.ranges.proofs.Tabling.{tabled_start, tabled_next}
-use Rattle.ranges.proofs.Sweeps.{read_at}
+use Rattle.refusal.proofs.Places.{read_at}
 use Rattle.cost_table.specs.Tables.{IsEntry, IsEntryOver}
 use Rattle.cost_table.proofs.Rows.{over_depths, depths_next, whole_table}
 use Rattle.cost_table.proofs.table.make_table.Goals as goal

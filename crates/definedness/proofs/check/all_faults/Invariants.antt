@@ -1,8 +1,8 @@
 use Rattle.std.proofs.Common.{take}
 use Rattle.std.specs.List.{Any}
-use Rattle.region_match.specs.ByLabel.{IsNamed}
+use Rattle.refusal.specs.Earliest.{IsEarliest}
 use Rattle.definedness.specs.Definedness.{IsFunctionBroken}
 use Rattle.definedness.proofs.check.all_faults.Given as goal
 
 abbrev pub invariant-loop-index : goal.invariant-loop-index
-invariant-loop-index l = IsNamed (λ b. Any (λ f. IsFunctionBroken f b) (take l.index l.functions)) l.named
+invariant-loop-index l = IsEarliest (λ b. Any (λ f. IsFunctionBroken f b) (take l.index l.functions)) l.named

@@ -1,6 +1,6 @@
 use Rattle.definedness.specs.declared.act.Act.TheVariants.{Needs}
 use Rattle.definedness.proofs.Judged.{judging_none, judging_next, BrokenAt}
-use Rattle.definedness.proofs.Places.{same_read, below_all}
+use Rattle.refusal.proofs.Places.{same_read, below_all}
 use Rattle.definedness.proofs.judge.block_fault.Goals as goal
 
 pub loop-act-init : goal.loop-act-init

@@ -1,6 +1,6 @@
 use Rattle.std.proofs.Common.{arith}
 use Rattle.definedness.specs.declared.act.Act.TheVariants.{Needs}
-use Rattle.definedness.proofs.Places.{same_read}
+use Rattle.refusal.proofs.Places.{same_read}
 use Rattle.definedness.proofs.Tables.{needs_next}
 use Rattle.definedness.proofs.table.above.Goals as goal
 

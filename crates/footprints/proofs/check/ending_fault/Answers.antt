@@ -1,9 +1,9 @@
 use Rattle.std.proofs.Common.{◌∙◌, List, ap, subst}
 use Rattle.std.specs.List.{Any}
 use Rattle.program.specs.declared.function.Block.{Block}
-use Rattle.cfg.specs.declared.refusal.Broken.{Broken}
-use Rattle.region_match.specs.ByLabel.{IsNamed}
-use Rattle.region_match.proofs.Lists.{named_both}
+use Rattle.refusal.specs.declared.broken.Broken.{Broken}
+use Rattle.refusal.specs.Earliest.{IsEarliest}
+use Rattle.refusal.proofs.Elements.{earliest_both}
 use Rattle.ranges.specs.declared.table.EdgeFacts.{EdgeFacts}
 use Rattle.footprints.specs.declared.touch.Use.{Use}
 use Rattle.footprints.specs.Footprints.{Place, end_use}
@@ -19,7 +19,7 @@ returns c =
     c.in_ok-used.ensures
     ∙ ap (λ (p : Place). end_use p c.as_slice-blocks.result.now ending.terminator) c.place_in-place.ensures
     ∙ ap (λ (bs : List Block). end_use here bs ending.terminator) c.as_slice-blocks.ensures in
-    named_both (IsUseBroken ending.line (end_use here c.args.function.now.blocks ending.terminator)) (λ (b : Broken). Any (λ (e : EdgeFacts). IsEdgeBroken c.args.function.now.blocks block ending e b) c.args.edges.now) _ _ _
-    (subst (λ (u : Use). IsNamed (IsUseBroken ending.line u) c.use_fault-at_end.result) used c.use_fault-at_end.ensures)
-    (subst (λ (bs : List Block). IsNamed (λ (b : Broken). Any (λ (e : EdgeFacts). IsEdgeBroken bs block ending e b) c.args.edges.now) c.in_ok-on_edges.on_edges) c.as_slice-blocks.ensures c.in_ok-on_edges.ensures)
+    earliest_both (IsUseBroken ending.line (end_use here c.args.function.now.blocks ending.terminator)) (λ (b : Broken). Any (λ (e : EdgeFacts). IsEdgeBroken c.args.function.now.blocks block ending e b) c.args.edges.now) _ _ _
+    (subst (λ (u : Use). IsEarliest (IsUseBroken ending.line u) c.use_fault-at_end.result) used c.use_fault-at_end.ensures)
+    (subst (λ (bs : List Block). IsEarliest (λ (b : Broken). Any (λ (e : EdgeFacts). IsEdgeBroken bs block ending e b) c.args.edges.now) c.in_ok-on_edges.on_edges) c.as_slice-blocks.ensures c.in_ok-on_edges.ensures)
     c.lower.ensures

@@ -1,11 +1,12 @@
 use Rattle.std.proofs.Common.{◌<◌, ℕ, List, length, ap, subst, arith}
 use Rattle.program.specs.declared.function.Block.{Block}
 use Rattle.region_match.specs.declared.task.Task.{Task}
-use Rattle.region_match.specs.ByLabel.{IsNamed}
+use Rattle.refusal.specs.Earliest.{IsEarliest}
 use Rattle.region_match.specs.Tasks.{task_at}
-use Rattle.ranges.proofs.Sweeps.{Within, below_next, below_all}
-use Rattle.footprints.specs.Rules.{known_at, IsBlockBrokenBy, IsBlockBroken}
-use Rattle.footprints.proofs.ByTables.{read_in, block_by_table}
+use Rattle.refusal.proofs.Places.{Within, below_next, below_all, read_in}
+use Rattle.ranges.specs.Places.{facts_in_table}
+use Rattle.footprints.specs.Rules.{IsBlockBrokenBy, IsBlockBroken}
+use Rattle.footprints.proofs.ByTables.{block_by_table}
 use Rattle.footprints.proofs.check.function_fault.Goals as goal
 
 pub loop-index-preserved : goal.loop-index-preserved
@@ -20,10 +21,10 @@ loop-index-preserved c =
     below_next (λ (b : ℕ) (x : Block). IsBlockBroken functions function (task_at tasks b) b x) c.as_slice-blocks.result.now i block _ _ _ c.loop-index-test.true c.index-blocks-index.is c.loop-index.invariant
     (block_by_table functions function (task_at tasks i) i block table c.in_ok-broken.broken
     (c.requires.each i block table (read_in c.as_slice-blocks.result.now function.blocks i block c.as_slice-blocks.ensures c.loop-index-test.true c.index-blocks-index.is) (read_in c.as_slice-tables.result.now c.args.facts.now.blocks i table c.as_slice-tables.ensures within c.index-tables-index.is))
-    (subst (λ (task : Task). IsNamed (IsBlockBrokenBy functions function task block (known_at table) table.facts table.edges) c.in_ok-broken.broken) c.task_at-task.ensures c.in_ok-broken.ensures))
+    (subst (λ (task : Task). IsEarliest (IsBlockBrokenBy functions function task block (facts_in_table table) table.facts table.edges) c.in_ok-broken.broken) c.task_at-task.ensures c.in_ok-broken.ensures))
     c.lower-named.ensures
 
 pub returns : goal.returns
 returns c =
-    subst (λ (blocks : List Block). IsNamed (Within (λ (b : ℕ) (x : Block). IsBlockBroken c.args.functions.now c.args.function.now (task_at c.args.tasks.now b) b x) blocks) c.loop-index.named) c.as_slice-blocks.ensures
+    subst (λ (blocks : List Block). IsEarliest (Within (λ (b : ℕ) (x : Block). IsBlockBroken c.args.functions.now c.args.function.now (task_at c.args.tasks.now b) b x) blocks) c.loop-index.named) c.as_slice-blocks.ensures
     (below_all (λ (b : ℕ) (x : Block). IsBlockBroken c.args.functions.now c.args.function.now (task_at c.args.tasks.now b) b x) c.as_slice-blocks.result.now _ _ c.loop-index-test.false c.loop-index.invariant)

@@ -1,8 +1,8 @@
-use Rattle.region_match.specs.ByLabel.{IsNamed}
+use Rattle.refusal.specs.Earliest.{IsEarliest}
 use Rattle.region_match.specs.Tasks.{task_at}
-use Rattle.ranges.proofs.Sweeps.{Below}
+use Rattle.refusal.proofs.Places.{Below}
 use Rattle.footprints.specs.Rules.{IsBlockBroken}
 use Rattle.footprints.proofs.check.function_fault.Given as goal
 
 abbrev pub invariant-loop-index : goal.invariant-loop-index
-invariant-loop-index l = IsNamed (Below (λ b block. IsBlockBroken l.functions l.function (task_at l.tasks b) b block) l.blocks l.index) l.named
+invariant-loop-index l = IsEarliest (Below (λ b block. IsBlockBroken l.functions l.function (task_at l.tasks b) b block) l.blocks l.index) l.named

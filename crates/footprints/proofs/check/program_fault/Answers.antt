@@ -2,11 +2,10 @@ use Rattle.std.proofs.Common.{◌<◌, ℕ, List, length, sym, ap, subst, arith}
 use Rattle.std.specs.Prelude.{slice_get}
 use Rattle.program.specs.declared.function.Function.{Function}
 use Rattle.region_match.specs.declared.task.Task.{Task}
-use Rattle.region_match.specs.ByLabel.{IsNamed}
+use Rattle.refusal.specs.Earliest.{IsEarliest}
 use Rattle.ranges.specs.Places.{IsFunctionTable}
-use Rattle.ranges.proofs.Sweeps.{Within, below_next, below_all}
+use Rattle.refusal.proofs.Places.{Within, below_next, below_all, read_in}
 use Rattle.footprints.specs.Rules.{tasks_of, IsFunctionBroken}
-use Rattle.footprints.proofs.ByTables.{read_in}
 use Rattle.footprints.proofs.check.program_fault.Goals as goal
 
 pub function_fault-requires : goal.function_fault-requires
@@ -24,11 +23,11 @@ loop-index-preserved c =
     let i = c.loop-index.index in
     let function = c.index-functions-index.result in
     below_next (λ (f : ℕ) (x : Function). IsFunctionBroken functions x (tasks_of (slice_get c.args.regions.now.functions f))) c.as_slice-functions.result.now i function _ _ _ c.loop-index-test.true c.index-functions-index.is c.loop-index.invariant
-    (subst (λ (tasks : List Task). IsNamed (IsFunctionBroken functions function tasks) c.in_ok-broken.broken) c.tasks_of-tasks.ensures
-    (subst (λ (fs : List Function). IsNamed (IsFunctionBroken fs function c.tasks_of-tasks.result.now) c.in_ok-broken.broken) c.as_slice-functions.ensures c.in_ok-broken.ensures))
+    (subst (λ (tasks : List Task). IsEarliest (IsFunctionBroken functions function tasks) c.in_ok-broken.broken) c.tasks_of-tasks.ensures
+    (subst (λ (fs : List Function). IsEarliest (IsFunctionBroken fs function c.tasks_of-tasks.result.now) c.in_ok-broken.broken) c.as_slice-functions.ensures c.in_ok-broken.ensures))
     c.lower-named.ensures
 
 pub returns : goal.returns
 returns c =
-    subst (λ (functions : List Function). IsNamed (Within (λ (f : ℕ) (x : Function). IsFunctionBroken c.args.program.now.functions x (tasks_of (slice_get c.args.regions.now.functions f))) functions) c.loop-index.named) c.as_slice-functions.ensures
+    subst (λ (functions : List Function). IsEarliest (Within (λ (f : ℕ) (x : Function). IsFunctionBroken c.args.program.now.functions x (tasks_of (slice_get c.args.regions.now.functions f))) functions) c.loop-index.named) c.as_slice-functions.ensures
     (below_all (λ (f : ℕ) (x : Function). IsFunctionBroken c.args.program.now.functions x (tasks_of (slice_get c.args.regions.now.functions f))) c.as_slice-functions.result.now _ _ c.loop-index-test.false c.loop-index.invariant)

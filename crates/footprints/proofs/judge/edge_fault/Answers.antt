@@ -1,6 +1,6 @@
 use Rattle.std.proofs.Common.{◌≡◌, ◌∙◌, Bool, false, ap, subst}
-use Rattle.cfg.specs.declared.refusal.Broken.{Broken}
-use Rattle.region_match.specs.ByLabel.{IsNamed}
+use Rattle.refusal.specs.declared.broken.Broken.{Broken}
+use Rattle.refusal.specs.Earliest.{IsEarliest}
 use Rattle.footprints.specs.Footprints.{passes_on}
 use Rattle.footprints.proofs.judge.edge_fault.Goals as goal
 
@@ -8,4 +8,4 @@ pub returns : goal.returns
 returns c =
     let ending = c.args.ending.now in
     let passed = c.in_ok-passed.ensures ∙ ap (λ p. passes_on c.args.blocks.now p ending.terminator c.args.edge.now) c.as_slice-pending.ensures in
-    subst (λ (x : Bool). IsNamed (λ (b : Broken). (b.number ≡ 603) × (b.line ≡ ending.line) × (x ≡ false)) c.fault_unless.result) passed c.fault_unless.ensures
+    subst (λ (x : Bool). IsEarliest (λ (b : Broken). (b.number ≡ 603) × (b.line ≡ ending.line) × (x ≡ false)) c.fault_unless.result) passed c.fault_unless.ensures

@@ -1,8 +1,8 @@
 use Rattle.std.proofs.Common.{subst}
-use Rattle.region_match.specs.ByLabel.{IsNamed}
+use Rattle.refusal.specs.Earliest.{IsEarliest}
 use Rattle.footprints.specs.declared.touch.Use.{Use}
 use Rattle.footprints.specs.Rules.{IsUseBroken}
 use Rattle.footprints.proofs.judge.step_fault.Goals as goal
 
 pub returns : goal.returns
-returns c = subst (λ (u : Use). IsNamed (IsUseBroken c.args.step.now.line u) c.use_fault.result) c.in_ok-used.ensures c.use_fault.ensures
+returns c = subst (λ (u : Use). IsEarliest (IsUseBroken c.args.step.now.line u) c.use_fault.result) c.in_ok-used.ensures c.use_fault.ensures

@@ -1,5 +1,5 @@
 use mir.Val.{bits as bits_of}
-use Rattle.machine_core.specs.Arithmetic.{word}
+use Rattle.running.specs.Arithmetic.{word}
 use Rattle.std.proofs.Common.{◌∙◌, bit_and}
 use Rattle.std.specs.Int.Bits.{and_lt}
 use Rattle.frame.proofs.Words.{read_again, written, bits_are}

@@ -1,5 +1,5 @@
 use mir.Val.{bits as bits_of}
-use Rattle.machine_core.specs.Arithmetic.{word}
+use Rattle.running.specs.Arithmetic.{word}
 use Rattle.std.specs.Prelude.{bit_xor}
 use Rattle.std.proofs.Common.{◌∙◌}
 use Rattle.std.proofs.lemmas.Nat.{xor_lt}

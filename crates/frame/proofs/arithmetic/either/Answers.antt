@@ -1,5 +1,5 @@
 use mir.Val.{bits as bits_of}
-use Rattle.machine_core.specs.Arithmetic.{word}
+use Rattle.running.specs.Arithmetic.{word}
 use Rattle.std.proofs.Common.{◌∙◌, bit_or}
 use Rattle.std.proofs.lemmas.Nat.{or_lt}
 use Rattle.frame.proofs.Words.{read_again, written, bits_are}

@@ -1,5 +1,5 @@
 use mir.Val.{bits as bits_of}
-use Rattle.machine_core.specs.Arithmetic.{word, signed}
+use Rattle.running.specs.Arithmetic.{word, signed}
 use Rattle.std.proofs.Common.{◌∙◌, ◌*◌, ◌%◌, ◌^◌, ap}
 use Rattle.frame.proofs.Words.{read_again, amount_again, written, bits_are, gives_amount, amount_is, shifted_bits}
 use Rattle.frame.proofs.arithmetic.shifted_left.Goals as goal

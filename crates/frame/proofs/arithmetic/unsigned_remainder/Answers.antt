@@ -1,5 +1,5 @@
 use mir.Val.{bits as bits_of}
-use Rattle.machine_core.specs.Arithmetic.{word}
+use Rattle.running.specs.Arithmetic.{word}
 use Rattle.std.proofs.Common.{◌∙◌, ◌<◌, ◌^◌, ◌%◌, arith}
 use Rattle.std.proofs.Math.Nat.{mod-le}
 use Rattle.frame.proofs.Words.{read_again, written, bits_are, gives_divisor, divisor_is}

@@ -3,7 +3,7 @@ use Rattle.std.specs.Prelude.{map, pos}
 use Rattle.program.specs.declared.instruction.Argument.TheVariants as argument
 use Rattle.program.specs.declared.instruction.Operand.TheVariants as operand
 use Rattle.std.proofs.lemmas.Option.{slice_get-get_or}
-use Rattle.machine_core.specs.Effect.{argument_value}
+use Rattle.running.specs.Effect.{argument_value}
 use Rattle.frame.specs.Reading.{frame_of}
 use Rattle.frame.proofs.Makers.{pushed_values, pushed_within, take_all}
 use Rattle.frame.proofs.making.passed_registers.Goals as goal

@@ -1,7 +1,7 @@
 use Rattle.std.proofs.Common.{◌≡◌, ℕ, take}
 use Rattle.std.specs.Prelude.{map}
-use Rattle.machine_core.specs.Paths.{Path}
-use Rattle.machine_core.specs.Effect.{argument_value}
+use Rattle.running.specs.Paths.{Path}
+use Rattle.running.specs.Effect.{argument_value}
 use Rattle.frame.specs.Reading.{frame_of, held_of, register_in}
 use Rattle.frame.specs.Room.{HeldWithin, IsSound}
 use Rattle.frame.proofs.making.passed_registers.Given as goal

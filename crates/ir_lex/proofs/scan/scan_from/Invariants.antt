@@ -1,6 +1,6 @@
 use Rattle.std.proofs.Common.{◌≡◌, ◌≤◌, ◌-◌, length, drop}
 use Rattle.ir_lex.specs.Tokens.{tokens_from}
-use Rattle.ir_lex.specs.Faults.{prepend}
+use Rattle.ir_lex.specs.Scanning.{prepend}
 use Rattle.ir_lex.proofs.scan.scan_from.Given as goal
 
 -- the tokens so far and those to come are those from the start on

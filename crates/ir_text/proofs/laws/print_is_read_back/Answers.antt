@@ -1,4 +1,3 @@
-use Rattle.ir_text.proofs.Bridge.{module_same}
 use Rattle.ir_text.proofs.OneAnswer.{one_answer}
 use Rattle.ir_text.proofs.RoundTrip.{round_trip}
 use Rattle.ir_text.proofs.laws.print_is_read_back.Goals as goal
@@ -8,6 +7,3 @@ returns-clause-read c = round_trip
 
 pub returns-clause-one : goal.returns-clause-one
 returns-clause-one c = one_answer
-
-pub returns-clause-items : goal.returns-clause-items
-returns-clause-items c = module_same

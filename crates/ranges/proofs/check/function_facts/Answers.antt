@@ -1,8 +1,8 @@
 use Rattle.std.proofs.Common.{◌≡◌, length, subst, arith}
-use Rattle.region_match.specs.ByLabel.{IsNamed}
+use Rattle.refusal.specs.Earliest.{IsEarliest}
 use Rattle.ranges.specs.Places.{IsBlockTable}
 use Rattle.ranges.specs.Rules.{IsBlockBroken}
-use Rattle.ranges.proofs.Sweeps.{Within, below_nothing, below_next, below_all}
+use Rattle.refusal.proofs.Places.{Within, below_nothing, below_next, below_all}
 use Rattle.ranges.proofs.Tabling.{tabled_start, tabled_next, function_table}
 use Rattle.ranges.proofs.check.function_facts.Goals as goal
 
@@ -28,5 +28,5 @@ returns-clause-table c =
 
 pub returns-clause-named : goal.returns-clause-named
 returns-clause-named c =
-    subst (λ bs. IsNamed (Within (IsBlockBroken c.args.program.now c.args.function.now) bs) c.loop-index.named) c.as_slice-blocks.ensures
+    subst (λ bs. IsEarliest (Within (IsBlockBroken c.args.program.now c.args.function.now) bs) c.loop-index.named) c.as_slice-blocks.ensures
     (below_all (IsBlockBroken c.args.program.now c.args.function.now) c.as_slice-blocks.result.now _ _ c.loop-index-test.false c.loop-index.invariant.1)

@@ -1,11 +1,11 @@
-use Rattle.region_match.specs.ByLabel.{IsNamed}
+use Rattle.refusal.specs.Earliest.{IsEarliest}
 use Rattle.ranges.specs.Places.{IsBlockTable}
 use Rattle.ranges.specs.Rules.{IsBlockBroken}
-use Rattle.ranges.proofs.Sweeps.{Below}
+use Rattle.refusal.proofs.Places.{Below}
 use Rattle.ranges.proofs.Tabling.{Tabled}
 use Rattle.ranges.proofs.check.function_facts.Given as goal
 
 abbrev pub invariant-loop-index : goal.invariant-loop-index
 invariant-loop-index l =
     Tabled (IsBlockTable l.program.functions l.function) l.blocks l.index l.tables.items
-    × IsNamed (Below (IsBlockBroken l.program l.function) l.blocks l.index) l.named
+    × IsEarliest (Below (IsBlockBroken l.program l.function) l.blocks l.index) l.named

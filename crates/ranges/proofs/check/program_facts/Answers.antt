@@ -1,9 +1,9 @@
 use Rattle.std.proofs.Common.{◌≡◌, ℕ, length, subst, arith}
 use Rattle.std.specs.List.{Any}
 use Rattle.program.specs.declared.function.Function.{Function}
-use Rattle.cfg.specs.declared.refusal.Broken.{Broken}
-use Rattle.region_match.specs.ByLabel.{IsNamed}
-use Rattle.region_match.proofs.Lists.{named_none, named_next, named_all}
+use Rattle.refusal.specs.declared.broken.Broken.{Broken}
+use Rattle.refusal.specs.Earliest.{IsEarliest}
+use Rattle.refusal.proofs.Elements.{earliest_none, earliest_next, earliest_all}
 use Rattle.ranges.specs.Places.{IsFunctionTable}
 use Rattle.ranges.specs.Rules.{IsFunctionBroken}
 use Rattle.ranges.proofs.Tabling.{tabled_start, tabled_next, program_table}
@@ -12,7 +12,7 @@ use Rattle.ranges.proofs.check.program_facts.Goals as goal
 pub loop-function-init : goal.loop-function-init
 loop-function-init c = (
   tabled_start (λ (i : ℕ) (f : Function). IsFunctionTable c.args.program.now.functions f) c.as_slice-functions.result.now _ c.new-tables.ensures.items,
-  named_none (λ (f : Function) (b : Broken). IsFunctionBroken c.args.program.now f b) c.as_slice-functions.result.now,
+  earliest_none (λ (f : Function) (b : Broken). IsFunctionBroken c.args.program.now f b) c.as_slice-functions.result.now,
 )
 
 pub loop-function-preserved : goal.loop-function-preserved
@@ -21,7 +21,7 @@ loop-function-preserved c =
     let i = c.loop-function.function-index in
     let function = c.function-item.result in (
       tabled_next (λ (i : ℕ) (f : Function). IsFunctionTable c.args.program.now.functions f) functions i function c.in_ok-table.table c.loop-function.tables.items _ c.loop-function-test.true c.function-item.is c.loop-function.invariant.0 c.in_ok-table.ensures.table c.in_ok-push.ensures.items,
-      named_next (λ (f : Function) (b : Broken). IsFunctionBroken c.args.program.now f b) functions i function _ _ _ c.loop-function-test.true c.function-item.is c.loop-function.invariant.1 c.in_ok-table.ensures.named c.lower-named.ensures,
+      earliest_next (λ (f : Function) (b : Broken). IsFunctionBroken c.args.program.now f b) functions i function _ _ _ c.loop-function-test.true c.function-item.is c.loop-function.invariant.1 c.in_ok-table.ensures.named c.lower-named.ensures,
     )
 
 pub returns-clause-facts : goal.returns-clause-facts
@@ -31,5 +31,5 @@ returns-clause-facts c =
 
 pub returns-clause-named : goal.returns-clause-named
 returns-clause-named c =
-    subst (λ fs. IsNamed (λ b. Any (λ f. IsFunctionBroken c.args.program.now f b) fs) c.loop-function.named) c.as_slice-functions.ensures
-    (named_all (λ (f : Function) (b : Broken). IsFunctionBroken c.args.program.now f b) c.as_slice-functions.result.now _ _ c.loop-function-test.false c.loop-function.invariant.1)
+    subst (λ fs. IsEarliest (λ b. Any (λ f. IsFunctionBroken c.args.program.now f b) fs) c.loop-function.named) c.as_slice-functions.ensures
+    (earliest_all (λ (f : Function) (b : Broken). IsFunctionBroken c.args.program.now f b) c.as_slice-functions.result.now _ _ c.loop-function-test.false c.loop-function.invariant.1)

@@ -1,7 +1,7 @@
 use Rattle.std.proofs.Common.{take}
 use Rattle.std.specs.List.{Any}
 use Rattle.program.specs.declared.function.Function.{Function}
-use Rattle.region_match.specs.ByLabel.{IsNamed}
+use Rattle.refusal.specs.Earliest.{IsEarliest}
 use Rattle.ranges.specs.Places.{IsFunctionTable}
 use Rattle.ranges.specs.Rules.{IsFunctionBroken}
 use Rattle.ranges.proofs.Tabling.{Tabled}
@@ -10,4 +10,4 @@ use Rattle.ranges.proofs.check.program_facts.Given as goal
 abbrev pub invariant-loop-function : goal.invariant-loop-function
 invariant-loop-function l =
     Tabled (λ i (f : Function). IsFunctionTable l.program.functions f) l.functions l.function-index l.tables.items
-    × IsNamed (λ b. Any (λ f. IsFunctionBroken l.program f b) (take l.function-index l.functions)) l.named
+    × IsEarliest (λ b. Any (λ f. IsFunctionBroken l.program f b) (take l.function-index l.functions)) l.named

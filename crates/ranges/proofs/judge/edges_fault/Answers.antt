@@ -1,5 +1,5 @@
-use Rattle.cfg.specs.declared.refusal.Broken.{Broken}
-use Rattle.region_match.proofs.Lists.{named_next, named_all}
+use Rattle.refusal.specs.declared.broken.Broken.{Broken}
+use Rattle.refusal.proofs.Elements.{earliest_next, earliest_all}
 use Rattle.ranges.specs.declared.table.EdgeFacts.{EdgeFacts}
 use Rattle.ranges.specs.Edges.{edge_owed}
 use Rattle.ranges.specs.Rules.{AreUnmet}
@@ -7,7 +7,7 @@ use Rattle.ranges.proofs.judge.edges_fault.Goals as goal
 
 pub loop-edge-preserved : goal.loop-edge-preserved
 loop-edge-preserved c =
-    named_next (λ (e : EdgeFacts) (b : Broken). AreUnmet e.facts c.args.line (edge_owed c.args.blocks.now e) b) c.args.edges.now _ c.edge-item.result _ _ _ c.loop-edge-test.true c.edge-item.is c.loop-edge.invariant c.in_ok-broken.ensures c.lower-named.ensures
+    earliest_next (λ (e : EdgeFacts) (b : Broken). AreUnmet e.facts c.args.line (edge_owed c.args.blocks.now e) b) c.args.edges.now _ c.edge-item.result _ _ _ c.loop-edge-test.true c.edge-item.is c.loop-edge.invariant c.in_ok-broken.ensures c.lower-named.ensures
 
 pub returns : goal.returns
-returns c = named_all (λ (e : EdgeFacts) (b : Broken). AreUnmet e.facts c.args.line (edge_owed c.args.blocks.now e) b) c.args.edges.now _ _ c.loop-edge-test.false c.loop-edge.invariant
+returns c = earliest_all (λ (e : EdgeFacts) (b : Broken). AreUnmet e.facts c.args.line (edge_owed c.args.blocks.now e) b) c.args.edges.now _ _ c.loop-edge-test.false c.loop-edge.invariant

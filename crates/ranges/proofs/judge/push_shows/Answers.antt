@@ -1,12 +1,12 @@
 use Rattle.std.proofs.Common.{◌≡◌, ◌∙◌, [], sym, ap, subst, false, take_all}
 use Rattle.std.proofs.lemmas.List.{append-nil}
-use Rattle.cfg.specs.declared.refusal.Broken.{Broken}
-use Rattle.region_match.specs.ByLabel.{IsNamed}
+use Rattle.refusal.specs.declared.broken.Broken.{Broken}
+use Rattle.refusal.specs.Earliest.{IsEarliest}
 use Rattle.ranges.specs.Sums.{shows}
 use Rattle.ranges.specs.Inequalities.{difference_of}
 use Rattle.ranges.specs.Places.{with_shows}
 use Rattle.ranges.specs.Rules.{IsUnshown}
-use Rattle.ranges.proofs.Sweeps.{below_nothing, below_next, below_all}
+use Rattle.refusal.proofs.Places.{below_nothing, below_next, below_all}
 use Rattle.ranges.proofs.Walking.{shows_next}
 use Rattle.ranges.proofs.judge.push_shows.Goals as goal
 
@@ -20,7 +20,7 @@ loop-inequality-preserved c =
     let q = c.inequality-item.result in (
       shows_next c.args.facts.now.items c.loop-inequality.facts.items _ lines i q c.loop-inequality-test.true c.inequality-item.is c.loop-inequality.invariant.0 c.in_ok-broken.ensures.known,
       below_next (IsUnshown c.args.facts.now.items lines) lines i q _ _ _ c.loop-inequality-test.true c.inequality-item.is c.loop-inequality.invariant.1
-          (subst (λ k. IsNamed (λ (b : Broken). (b.number ≡ 508) × (b.line ≡ q.line) × (shows k (difference_of [] q) ≡ false)) c.in_ok-broken.broken) c.loop-inequality.invariant.0 c.in_ok-broken.ensures.named)
+          (subst (λ k. IsEarliest (λ (b : Broken). (b.number ≡ 508) × (b.line ≡ q.line) × (shows k (difference_of [] q) ≡ false)) c.in_ok-broken.broken) c.loop-inequality.invariant.0 c.in_ok-broken.ensures.named)
           c.lower-named.ensures,
     )
 

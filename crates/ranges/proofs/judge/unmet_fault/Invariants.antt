@@ -1,7 +1,7 @@
 use Rattle.std.proofs.Common.{take}
-use Rattle.region_match.specs.ByLabel.{IsNamed}
+use Rattle.refusal.specs.Earliest.{IsEarliest}
 use Rattle.ranges.specs.Rules.{AreUnmet}
 use Rattle.ranges.proofs.judge.unmet_fault.Given as goal
 
 abbrev pub invariant-loop-obligation : goal.invariant-loop-obligation
-invariant-loop-obligation l = IsNamed (AreUnmet l.known l.line (take l.obligation-index l.obligations)) l.named
+invariant-loop-obligation l = IsEarliest (AreUnmet l.known l.line (take l.obligation-index l.obligations)) l.named

@@ -1,7 +1,7 @@
 use Rattle.std.proofs.Common.{◌⊎◌}
 use Rattle.std.specs.List.{Any}
-use Rattle.cfg.specs.declared.refusal.Broken.{Broken}
-use Rattle.region_match.proofs.Lists.{named_both}
+use Rattle.refusal.specs.declared.broken.Broken.{Broken}
+use Rattle.refusal.proofs.Elements.{earliest_both}
 use Rattle.ranges.specs.declared.table.EdgeFacts.{EdgeFacts}
 use Rattle.ranges.specs.Owed.{owed_at_end}
 use Rattle.ranges.specs.Edges.{edge_owed}
@@ -15,9 +15,9 @@ returns-clause-named c =
     let ending = c.args.ending.now in
     let before = c.args.facts.now.items in
     let edges = c.in_ok-edges.edges.items in
-    named_both (AreUnshown before ending.shows) (λ (x : Broken). AreUnmet (with_shows before ending.shows) ending.line (owed_at_end function ending.terminator) x ⊎ Any (λ (e : EdgeFacts). AreUnmet e.facts ending.line (edge_owed function.blocks e) x) edges) _ _ _
+    earliest_both (AreUnshown before ending.shows) (λ (x : Broken). AreUnmet (with_shows before ending.shows) ending.line (owed_at_end function ending.terminator) x ⊎ Any (λ (e : EdgeFacts). AreUnmet e.facts ending.line (edge_owed function.blocks e) x) edges) _ _ _
     (rw c.as_slice.ensures at c.in_ok-unshown.ensures.named)
-    (named_both (AreUnmet (with_shows before ending.shows) ending.line (owed_at_end function ending.terminator)) (λ (x : Broken). Any (λ (e : EdgeFacts). AreUnmet e.facts ending.line (edge_owed function.blocks e) x) edges) _ _ _
+    (earliest_both (AreUnmet (with_shows before ending.shows) ending.line (owed_at_end function ending.terminator)) (λ (x : Broken). Any (λ (e : EdgeFacts). AreUnmet e.facts ending.line (edge_owed function.blocks e) x) edges) _ _ _
     (rw (c.as_slice-2.ensures.value, c.in_ok-unshown.ensures.known, c.as_slice.ensures, c.deref.ensures.value, c.in_ok-owed.ensures) at c.in_ok-unmet.ensures)
     (rw (c.as_slice-blocks.ensures, c.deref-3.ensures.value) at c.in_ok-unkept.ensures)
     c.lower.ensures)

@@ -1,4 +1,4 @@
-use Rattle.region_match.proofs.Lists.{named_both}
+use Rattle.refusal.proofs.Elements.{earliest_both}
 use Rattle.ranges.specs.Owed.{owed}
 use Rattle.ranges.specs.Places.{with_shows}
 use Rattle.ranges.specs.Rules.{AreUnmet, AreUnshown}
@@ -8,7 +8,7 @@ pub returns-clause-named : goal.returns-clause-named
 returns-clause-named c =
     let step = c.args.step.now in
     let before = c.args.facts.now.items in
-    named_both (AreUnshown before step.shows) (AreUnmet (with_shows before step.shows) step.line (owed c.args.program.now c.args.function.now step.instruction)) _ _ _
+    earliest_both (AreUnshown before step.shows) (AreUnmet (with_shows before step.shows) step.line (owed c.args.program.now c.args.function.now step.instruction)) _ _ _
     (rw c.as_slice.ensures at c.in_ok-unshown.ensures.named)
     (rw (c.as_slice-2.ensures.value, c.in_ok-unshown.ensures.known, c.as_slice.ensures, c.deref.ensures.value, c.in_ok-owed.ensures) at c.in_ok-unmet.ensures)
     c.lower.ensures

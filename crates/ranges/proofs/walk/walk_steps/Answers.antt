@@ -2,7 +2,7 @@ use Rattle.std.proofs.Common.{◌≡◌, length, arith}
 use Rattle.program.specs.declared.instruction.Step.{Step}
 use Rattle.ranges.specs.Places.{facts_before}
 use Rattle.ranges.specs.Rules.{IsStepBroken}
-use Rattle.ranges.proofs.Sweeps.{below_nothing, below_next, below_all}
+use Rattle.refusal.proofs.Places.{below_nothing, below_next, below_all}
 use Rattle.ranges.proofs.Walking.{walked_start, walked_next, walked_all}
 use Rattle.ranges.proofs.walk.walk_steps.Goals as goal
 

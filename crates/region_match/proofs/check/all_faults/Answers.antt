@@ -1,9 +1,9 @@
 use Rattle.std.proofs.Common.{◌≡◌, ◌<◌, length, ap, arith}
 use Rattle.program.specs.declared.function.Function.{Function}
-use Rattle.cfg.specs.declared.refusal.Broken.{Broken}
+use Rattle.refusal.specs.declared.broken.Broken.{Broken}
 use Rattle.region_match.specs.Matched.{IsFunctionBroken}
 use Rattle.region_match.proofs.AllTables.{graphs_length, all_length, all_at}
-use Rattle.region_match.proofs.Lists.{named_next, named_all}
+use Rattle.refusal.proofs.Elements.{earliest_next, earliest_all}
 use Rattle.region_match.proofs.check.all_faults.Goals as goal
 
 pub bounds-tables-index : goal.bounds-tables-index
@@ -23,7 +23,7 @@ function_fault-requires-clause-tasks c =
     rw (c.as_slice-blocks.ensures, c.as_slice.ensures, c.as_slice-graphs.ensures) (all_at c.args.graph.now.functions c.args.tables.now c.loop-index.index c.index-graphs-index.result c.index-tables-index.result c.requires within)
 
 pub loop-index-preserved : goal.loop-index-preserved
-loop-index-preserved c = named_next (λ (f : Function) (b : Broken). IsFunctionBroken f b) c.as_slice-functions.result.now _ c.index-functions-index.result _ _ _ c.loop-index-test.true c.index-functions-index.is c.loop-index.invariant c.in_ok-broken.ensures c.lower-named.ensures
+loop-index-preserved c = earliest_next (λ (f : Function) (b : Broken). IsFunctionBroken f b) c.as_slice-functions.result.now _ c.index-functions-index.result _ _ _ c.loop-index-test.true c.index-functions-index.is c.loop-index.invariant c.in_ok-broken.ensures c.lower-named.ensures
 
 pub returns : goal.returns
-returns c = rw c.as_slice-functions.ensures at (named_all (λ (f : Function) (b : Broken). IsFunctionBroken f b) c.as_slice-functions.result.now _ _ c.loop-index-test.false c.loop-index.invariant)
+returns c = rw c.as_slice-functions.ensures at (earliest_all (λ (f : Function) (b : Broken). IsFunctionBroken f b) c.as_slice-functions.result.now _ _ c.loop-index-test.false c.loop-index.invariant)

@@ -1,9 +1,9 @@
 use Rattle.std.proofs.Common.{◌⊎◌}
-use Rattle.cfg.specs.declared.refusal.Broken.{Broken}
+use Rattle.refusal.specs.declared.broken.Broken.{Broken}
 use Rattle.region_match.specs.Rules.{IsEndingBroken, IsPendingBroken}
 use Rattle.region_match.specs.ByLabel.{IsPlaceBroken, IsPendingBrokenBy, IsEndingBrokenBy}
 use Rattle.region_match.specs.Tasks.{task_at}
-use Rattle.region_match.proofs.Lists.{named_same, named_both}
+use Rattle.refusal.proofs.Elements.{earliest_same, earliest_both}
 use Rattle.region_match.proofs.Conversion.{ending_by, ending_from, pending_by, pending_from}
 use Rattle.region_match.proofs.check.block_fault.Goals as goal
 
@@ -14,13 +14,13 @@ returns c =
     let tasks = c.args.tasks.now in
     let b = c.args.index in
     let block = c.args.block.now in
-    named_both (IsEndingBroken bodies blocks b block.ending) (λ (x : Broken). IsPendingBroken bodies blocks b block.pending x ⊎ IsPlaceBroken blocks b block x) _ _ _
-    (named_same (IsEndingBrokenBy bodies tasks (task_at tasks b) block.ending) (IsEndingBroken bodies blocks b block.ending) _
+    earliest_both (IsEndingBroken bodies blocks b block.ending) (λ (x : Broken). IsPendingBroken bodies blocks b block.pending x ⊎ IsPlaceBroken blocks b block x) _ _ _
+    (earliest_same (IsEndingBrokenBy bodies tasks (task_at tasks b) block.ending) (IsEndingBroken bodies blocks b block.ending) _
     (λ x p. ending_from bodies blocks tasks c.requires.tasks c.requires.size b block.ending x c.requires.within p)
     (λ x p. ending_by bodies blocks tasks c.requires.tasks c.requires.size b block.ending x c.requires.within p)
     c.ending_fault-at_end.ensures)
-    (named_both (IsPendingBroken bodies blocks b block.pending) (IsPlaceBroken blocks b block) _ _ _
-    (named_same (IsPendingBrokenBy bodies tasks (task_at tasks b) block.pending) (IsPendingBroken bodies blocks b block.pending) _
+    (earliest_both (IsPendingBroken bodies blocks b block.pending) (IsPlaceBroken blocks b block) _ _ _
+    (earliest_same (IsPendingBrokenBy bodies tasks (task_at tasks b) block.pending) (IsPendingBroken bodies blocks b block.pending) _
     (λ x p. pending_from bodies blocks tasks c.requires.tasks c.requires.size b block.pending x c.requires.within p)
     (λ x p. pending_by bodies blocks tasks c.requires.tasks c.requires.size b block.pending x c.requires.within p)
     (rw c.as_slice.ensures at c.pending_fault-at_pending.ensures))

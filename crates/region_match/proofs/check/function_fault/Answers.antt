@@ -1,7 +1,7 @@
 use Rattle.std.proofs.Common.{◌≡◌, length, arith}
 use Rattle.region_match.specs.Matched.{IsBlockBroken}
 use Rattle.region_match.proofs.FunctionFacts.{blocks_size, function_named}
-use Rattle.region_match.proofs.Sweeps.{below_next}
+use Rattle.refusal.proofs.Places.{below_next}
 use Rattle.region_match.proofs.check.function_fault.Goals as goal
 
 pub block_fault-broken-requires-clause-size : goal.block_fault-broken-requires-clause-size

@@ -1,4 +1,4 @@
-use Rattle.cfg.specs.Faults.{IsJudged}
+use Rattle.refusal.specs.Earliest.{IsJudged}
 use Rattle.region_match.proofs.Mixing.{AreUnmixed, AreMixed}
 use Rattle.region_match.proofs.label.mixed_fault.Given as goal
 

@@ -1,7 +1,7 @@
 use Rattle.std.proofs.Common.{take}
-use Rattle.region_match.specs.ByLabel.{IsNamed}
+use Rattle.refusal.specs.Earliest.{IsEarliest}
 use Rattle.region_match.proofs.PlaceFacts.{IsFootWrong}
 use Rattle.region_match.proofs.places.foot_fault.Given as goal
 
 abbrev pub invariant-loop-zone : goal.invariant-loop-zone
-invariant-loop-zone l = IsNamed (IsFootWrong l.is_wrong (take l.zone-index l.foot)) l.named
+invariant-loop-zone l = IsEarliest (IsFootWrong l.is_wrong (take l.zone-index l.foot)) l.named

@@ -2,7 +2,7 @@ use Rattle.std.proofs.Common.{◌≡◌, ◌↔◌, ◌<◌, false, length, get_
 use Rattle.std.proofs.lemmas.List.{get_or_read}
 use Rattle.region_match.specs.Rules.{IsOpen}
 use Rattle.region_match.proofs.OpenEnds.{OpenAt, open_iff, end_open, open_within}
-use Rattle.region_match.proofs.Sweeps.{below_next, below_all}
+use Rattle.refusal.proofs.Places.{below_next, below_all}
 use Rattle.region_match.proofs.unsynced.open_ends.Goals as goal
 
 pub loop-to-preserved : goal.loop-to-preserved

@@ -1,5 +1,5 @@
-use Rattle.std.proofs.Common.{refl}
-use Rattle.verifier.proofs.Verdicts.{refused_by_graph, refused_by_regions, refused_by_definedness, refused_by_ranges, refused_by_zones, refused_by_cost, by_tasks, err_from, program_of}
+use Rattle.std.proofs.Common.{refl, inl, inr}
+use Rattle.verifier.proofs.Verdicts.{refused_by_text, refused_by_types, refused_after, by_tasks, err_from, program_of}
 use Rattle.verifier.proofs.verified.verify.Goals as goal
 
 pub budget_of-budget-requires : goal.budget_of-budget-requires
@@ -18,20 +18,39 @@ invariant_of-result c =
 pub returns-clause-accepted : goal.returns-clause-accepted
 returns-clause-accepted c = program_of _ _ _ _ c.in_ok-graph.ensures.same c.in_ok-module.ensures.exact c.in_ok-typed.ensures.judged c.in_ok-graph.ensures.right c.in_ok-regions.ensures.right c.in_ok-defined.ensures.right c.in_ok-facts.ensures.right (c.in_ok-regions.regions, by_tasks c.in_ok-graph.graph.typed.program c.in_ok-graph.graph.functions c.in_ok-regions.regions c.in_ok-graph.graph.edges c.in_ok-regions.ensures.tasks, c.in_ok-check_zones.ensures.right) c.in_ok-table.ensures.right
 
+pub returns-in_err-module-clause-refused : goal.returns-in_err-module-clause-refused
+returns-in_err-module-clause-refused c = err_from _ _ _ c.from_residual.ensures.1 (refused_by_text _ _ c.in_err-module.ensures.fault)
+
+pub returns-in_err-typed-clause-refused : goal.returns-in_err-typed-clause-refused
+returns-in_err-typed-clause-refused c = err_from _ _ _ c.from_residual-in_err-typed.ensures.1
+    (refused_by_types _ _ _ c.in_ok-module.ensures.exact c.in_err-typed.ensures.judged)
+
 pub returns-in_err-graph-clause-refused : goal.returns-in_err-graph-clause-refused
-returns-in_err-graph-clause-refused c = err_from _ _ _ c.from_residual-in_err-graph.ensures.1 (refused_by_graph _ _ c.in_ok-typed.typed _ _ refl c.in_ok-module.ensures.exact c.in_ok-typed.ensures.judged c.in_err-graph.ensures.fault)
+returns-in_err-graph-clause-refused c = err_from _ _ _ c.from_residual-in_err-graph.ensures.1
+    (refused_after _ _ c.in_ok-typed.typed _ _ refl c.in_ok-module.ensures.exact c.in_ok-typed.ensures.judged
+    (inl c.in_err-graph.ensures.fault))
 
 pub returns-in_err-regions-clause-refused : goal.returns-in_err-regions-clause-refused
-returns-in_err-regions-clause-refused c = err_from _ _ _ c.from_residual-in_err-regions.ensures.1 (refused_by_regions _ _ _ _ _ _ refl c.in_ok-graph.ensures.same c.in_ok-module.ensures.exact c.in_ok-typed.ensures.judged c.in_ok-graph.ensures.right c.in_err-regions.ensures.fault)
+returns-in_err-regions-clause-refused c = err_from _ _ _ c.from_residual-in_err-regions.ensures.1
+    (refused_after _ _ _ _ _ c.in_ok-graph.ensures.same c.in_ok-module.ensures.exact c.in_ok-typed.ensures.judged
+    (inr (rw c.in_ok-graph.ensures.same c.in_ok-graph.ensures.right, inl c.in_err-regions.ensures.fault)))
 
 pub returns-in_err-defined-clause-refused : goal.returns-in_err-defined-clause-refused
-returns-in_err-defined-clause-refused c = err_from _ _ _ c.from_residual-in_err-defined.ensures.1 (refused_by_definedness _ _ _ _ _ _ refl c.in_ok-graph.ensures.same c.in_ok-module.ensures.exact c.in_ok-typed.ensures.judged c.in_ok-graph.ensures.right c.in_ok-regions.ensures.right c.in_err-defined.ensures.fault)
+returns-in_err-defined-clause-refused c = err_from _ _ _ c.from_residual-in_err-defined.ensures.1
+    (refused_after _ _ _ _ _ c.in_ok-graph.ensures.same c.in_ok-module.ensures.exact c.in_ok-typed.ensures.judged
+    (inr (rw c.in_ok-graph.ensures.same c.in_ok-graph.ensures.right, inr (c.in_ok-regions.ensures.right, inl c.in_err-defined.ensures.fault))))
 
 pub returns-in_err-facts-clause-refused : goal.returns-in_err-facts-clause-refused
-returns-in_err-facts-clause-refused c = err_from _ _ _ c.from_residual-in_err-facts.ensures.1 (refused_by_ranges _ _ _ _ _ _ refl c.in_ok-graph.ensures.same c.in_ok-module.ensures.exact c.in_ok-typed.ensures.judged c.in_ok-graph.ensures.right c.in_ok-regions.ensures.right c.in_ok-defined.ensures.right c.in_err-facts.ensures.fault)
+returns-in_err-facts-clause-refused c = err_from _ _ _ c.from_residual-in_err-facts.ensures.1
+    (refused_after _ _ _ _ _ c.in_ok-graph.ensures.same c.in_ok-module.ensures.exact c.in_ok-typed.ensures.judged
+    (inr (rw c.in_ok-graph.ensures.same c.in_ok-graph.ensures.right, inr (c.in_ok-regions.ensures.right, inr (c.in_ok-defined.ensures.right, inl c.in_err-facts.ensures.fault)))))
 
 pub returns-in_err-check_zones-clause-refused : goal.returns-in_err-check_zones-clause-refused
-returns-in_err-check_zones-clause-refused c = err_from _ _ _ c.from_residual-in_err-check_zones.ensures.1 (refused_by_zones _ _ _ _ _ _ refl c.in_ok-graph.ensures.same c.in_ok-module.ensures.exact c.in_ok-typed.ensures.judged c.in_ok-graph.ensures.right c.in_ok-regions.ensures.right c.in_ok-defined.ensures.right c.in_ok-facts.ensures.right (c.in_ok-regions.regions, by_tasks c.in_ok-graph.graph.typed.program c.in_ok-graph.graph.functions c.in_ok-regions.regions c.in_ok-graph.graph.edges c.in_ok-regions.ensures.tasks, c.in_err-check_zones.ensures.fault))
+returns-in_err-check_zones-clause-refused c = err_from _ _ _ c.from_residual-in_err-check_zones.ensures.1
+    (refused_after _ _ _ _ _ c.in_ok-graph.ensures.same c.in_ok-module.ensures.exact c.in_ok-typed.ensures.judged
+    (inr (rw c.in_ok-graph.ensures.same c.in_ok-graph.ensures.right, inr (c.in_ok-regions.ensures.right, inr (c.in_ok-defined.ensures.right, inr (c.in_ok-facts.ensures.right, inl (c.in_ok-regions.regions, by_tasks c.in_ok-graph.graph.typed.program c.in_ok-graph.graph.functions c.in_ok-regions.regions c.in_ok-graph.graph.edges c.in_ok-regions.ensures.tasks, c.in_err-check_zones.ensures.fault)))))))
 
 pub returns-in_err-table-clause-refused : goal.returns-in_err-table-clause-refused
-returns-in_err-table-clause-refused c = err_from _ _ _ c.from_residual-in_err-table.ensures.1 (refused_by_cost _ _ _ _ _ _ refl c.in_ok-graph.ensures.same c.in_ok-module.ensures.exact c.in_ok-typed.ensures.judged c.in_ok-graph.ensures.right c.in_ok-regions.ensures.right c.in_ok-defined.ensures.right c.in_ok-facts.ensures.right (c.in_ok-regions.regions, by_tasks c.in_ok-graph.graph.typed.program c.in_ok-graph.graph.functions c.in_ok-regions.regions c.in_ok-graph.graph.edges c.in_ok-regions.ensures.tasks, c.in_ok-check_zones.ensures.right) c.in_err-table.ensures.fault)
+returns-in_err-table-clause-refused c = err_from _ _ _ c.from_residual-in_err-table.ensures.1
+    (refused_after _ _ _ _ _ c.in_ok-graph.ensures.same c.in_ok-module.ensures.exact c.in_ok-typed.ensures.judged
+    (inr (rw c.in_ok-graph.ensures.same c.in_ok-graph.ensures.right, inr (c.in_ok-regions.ensures.right, inr (c.in_ok-defined.ensures.right, inr (c.in_ok-facts.ensures.right, inr ((c.in_ok-regions.regions, by_tasks c.in_ok-graph.graph.typed.program c.in_ok-graph.graph.functions c.in_ok-regions.regions c.in_ok-graph.graph.edges c.in_ok-regions.ensures.tasks, c.in_ok-check_zones.ensures.right), c.in_err-table.ensures.fault)))))))

@@ -1,6 +1,6 @@
 use Rattle.std.proofs.Common.{◌≡◌, ◌∙◌, ◌+◌, ◌≤◌, ℕ, [], ap, arith, length, max, subst}
 use Rattle.std.specs.Prelude.{map, slice_get}
-use Rattle.machine_core.specs.Effect.{argument_value}
+use Rattle.running.specs.Effect.{argument_value}
 use Rattle.frame.specs.Asked.{call_arguments, place_of}
 use Rattle.frame.specs.Reading.{frame_of}
 use Rattle.frame.specs.Room.{AtEntry, HasPlaces, register_count}

@@ -12,7 +12,7 @@ returns-in-Ok-Some c =
 pub returns-in-Ok-None : goal.returns-in-Ok-None
 returns-in-Ok-None c =
     let said = rw c.in-Ok-None.field-0-is at c.in-Ok-None.ensures.found in
-    rw c.at_line.ensures (refl, Too-late None 104 said.0 said.1 refl)
+    (refl, Too-late None 104 said.0 said.1 refl)
 
 pub returns-in-Err : goal.returns-in-Err
 returns-in-Err c = rw c.or_too_late.ensures (overlong_line c.in-Err.fault c.args.self.draft c.args.number c.args.line.now c.in-Err.ensures.fault)

@@ -8,6 +8,7 @@ use Rattle.cactus.specs.ByPath.{IsTree}
 use Rattle.worker_steps.specs.declared.activation.Activation.{Activation}
 use Rattle.schedule_core.proofs.Firsts.{Covered, covered_next, found_next, listed_node}
 use Rattle.schedule_core.proofs.Views.{least_found, none_found}
+use Rattle.schedule_core.proofs.Replaying.{run_kept}
 use Rattle.schedule_core.proofs.machine.Machine.first_ready.Goals as goal
 
 pub loop-slot-init : goal.loop-slot-init
@@ -42,10 +43,10 @@ none_listed {X = X} x l empty there = let t : Contains [] x = subst (λ (m : Lis
 
 pub returns-clause-least : goal.returns-clause-least
 returns-clause-least c fine =
-    least_found c.args.self.now.run c.args.self.now.kept fine (option_copied c.loop-slot.first) c.loop-slot.invariant.found
+    least_found c.args.self.now.run (run_kept c.args.self.now.run c.args.self.now.kept) fine (option_copied c.loop-slot.first) c.loop-slot.invariant.found
     (λ tree slot node stands. elim (c.loop-slot.invariant.remains tree slot node stands) [ inl listed ↦ absurd (none_listed (slot, node) c.loop-slot.slot-iterator c.in-None.ensures.steps.0 listed) | inr covered ↦ covered ])
 
 pub returns-clause-none : goal.returns-clause-none
 returns-clause-none c fine =
-    none_found c.args.self.now.run c.args.self.now.kept fine (option_copied c.loop-slot.first)
+    none_found c.args.self.now.run (run_kept c.args.self.now.run c.args.self.now.kept) fine (option_copied c.loop-slot.first)
     (λ tree slot node stands. elim (c.loop-slot.invariant.remains tree slot node stands) [ inl listed ↦ absurd (none_listed (slot, node) c.loop-slot.slot-iterator c.in-None.ensures.steps.0 listed) | inr covered ↦ covered ])

@@ -6,8 +6,8 @@ use Rattle.frame.specs.declared.frame.Frame.{Frame}
 use Rattle.serial_machine.proofs.Performed.{wrote_gone}
 use Rattle.serial_machine.proofs.Places.{keeps_by}
 use Rattle.serial_machine.proofs.Cells.{from_true, from_false, held_there, sum_written}
-use Rattle.machine_core.specs.Arithmetic.{cell_sum}
-use Rattle.machine_core.specs.Effect.{Plain, adds_to}
+use Rattle.running.specs.Arithmetic.{cell_sum}
+use Rattle.running.specs.Effect.{Plain, adds_to}
 use Rattle.frame.specs.Reading.{cell_of}
 use Rattle.frame.specs.Room.{HasNext, ObjectWithin}
 use Rattle.serial_machine.specs.Stepping.{path_in, frame_in, memory_in, one_cell, Wrote}

@@ -3,7 +3,7 @@ use Rattle.frame.specs.declared.frame.Frame.{Frame}
 use Rattle.serial_machine.proofs.Performed.{wrote_gone}
 use Rattle.serial_machine.proofs.Places.{keeps_by}
 use Rattle.serial_machine.proofs.Cells.{from_true, from_false}
-use Rattle.machine_core.specs.Effect.{stores_zeros}
+use Rattle.running.specs.Effect.{stores_zeros}
 use Rattle.frame.specs.Reading.{object_of}
 use Rattle.frame.specs.Room.{HasNext, ObjectWithin}
 use Rattle.serial_machine.specs.Stepping.{path_in, frame_in, zeros_below}

@@ -2,7 +2,7 @@ use Rattle.std.proofs.Common.{refl, ap}
 use Rattle.frame.specs.declared.frame.Frame.{Frame}
 use Rattle.serial_machine.proofs.Performed.{top_gone}
 use Rattle.serial_machine.proofs.Places.{keeps_by}
-use Rattle.machine_core.specs.Effect.{sets}
+use Rattle.running.specs.Effect.{sets}
 use Rattle.frame.specs.Reading.{value_of}
 use Rattle.serial_machine.specs.Stepping.{path_in, frame_in}
 use Rattle.serial_machine.proofs.stack.Stack.define.Goals as goal

@@ -5,9 +5,9 @@ use Rattle.std.proofs.lemmas.Int.{to_z-of_z}
 use Rattle.frame.specs.declared.frame.Frame.{Frame}
 use Rattle.serial_machine.proofs.Performed.{top_gone}
 use Rattle.serial_machine.proofs.Places.{keeps_by}
-use Rattle.machine_core.specs.Effect.{Plain, loads, sets}
-use Rattle.machine_core.specs.Frames.{Word}
-use Rattle.machine_core.specs.State.{went}
+use Rattle.running.specs.Effect.{Plain, loads, sets}
+use Rattle.running.specs.Frames.{Word}
+use Rattle.running.specs.State.{went}
 use Rattle.frame.specs.Reading.{cell_of}
 use Rattle.frame.specs.Room.{ObjectWithin}
 use Rattle.serial_machine.specs.Stepping.{path_in, frame_in}

@@ -2,7 +2,7 @@ use Rattle.std.proofs.Common.{refl, sym, ◌∙◌}
 use Rattle.serial_machine.proofs.Serially.{stepped}
 use Rattle.serial_machine.proofs.Performed.{plain_stuck}
 use Rattle.serial_machine.proofs.Running.{path_long}
-use Rattle.machine_core.specs.Effect.{stops}
+use Rattle.running.specs.Effect.{stops}
 use Rattle.frame.specs.Answers.{trap_of}
 use Rattle.serial_machine.specs.Stepping.{below_of, path_in, frame_in, memory_in}
 use Rattle.serial_machine.proofs.stack.Stack.step.Goals as goal

@@ -5,7 +5,7 @@ use Rattle.frame.specs.declared.frame.Frame.{Frame}
 use Rattle.serial_machine.proofs.Performed.{wrote_gone}
 use Rattle.serial_machine.proofs.Places.{keeps_by}
 use Rattle.serial_machine.proofs.Cells.{from_true}
-use Rattle.machine_core.specs.Effect.{stores}
+use Rattle.running.specs.Effect.{stores}
 use Rattle.frame.specs.Reading.{cell_of}
 use Rattle.frame.specs.Room.{HasNext, ObjectWithin}
 use Rattle.serial_machine.specs.Stepping.{path_in, frame_in, one_cell, Wrote}

@@ -2,7 +2,7 @@ use Rattle.std.proofs.Common.{ap}
 use Rattle.frame.specs.declared.frame.Frame.{Frame}
 use Rattle.serial_machine.proofs.Performed.{sync_gone, sync_stuck}
 use Rattle.serial_machine.proofs.Places.{keeps_by}
-use Rattle.machine_core.specs.Effect.{registers_along}
+use Rattle.running.specs.Effect.{registers_along}
 use Rattle.serial_machine.specs.Stepping.{path_in, frame_in}
 use Rattle.serial_machine.proofs.stack.Stack.sync.Goals as goal
 

@@ -7,8 +7,9 @@ use mir.Val.{to_z, of_z}
 use Rattle.frame.specs.Reading.{cell_of}
 use Rattle.worker_steps.specs.Seen.{place_of}
 use Rattle.worker_steps.specs.Stepping.{one_cell, StoresAt}
-use Rattle.machine_core.specs.Arithmetic.{cell_sum}
+use Rattle.running.specs.Arithmetic.{cell_sum}
 use Rattle.worker_steps.proofs.Performed.{stored_done, next_still, added_done}
+use Rattle.worker_steps.specs.Slots.{KeepsSlots}
 use Rattle.worker_steps.proofs.run.Run.add_to.Goals as goal
 
 pub returns-then-store-clause-adds : goal.returns-then-store-clause-adds
@@ -26,3 +27,8 @@ returns-then-store-clause-adds c =
     added_done c.args.self.now c.pass.new.self node cell c.args.number c.in_ok-held.held (c.in_ok-held.ensures.held node stands agrees.tree)
     (stored_done c.args.self.now c.store.new.self c.pass.new.self c.args.slot node stands writes w (passes (next_still c.args.self.now c.store.new.self c.pass.new.self c.args.slot node stands writes w next)) none))
     c.pass.ensures.passes
+
+pub returns-then-store-clause-slots : goal.returns-then-store-clause-slots
+returns-then-store-clause-slots c =
+    let stored : KeepsSlots c.args.self.now c.store.new.self = OnTrue_at c.if-store.true c.store.ensures.slots in
+    on_ok_weaker c.pass.result (λ passed prog s. passed prog (stored prog s)) c.pass.ensures.slots

@@ -1,4 +1,4 @@
-use Rattle.std.proofs.Common.{rules, ◌+◌, ◌≡◌, ◌<◌, length, List, Option, ℕ, Some, subst, sym, ap, ◌∙◌, slice_set}
+use Rattle.std.proofs.Common.{rules, ◌+◌, ◌≡◌, ◌<◌, length, List, Option, ℕ, Some, subst, sym, ap, ◌∙◌, slice_set, refl}
 use Rattle.cactus.specs.Frames.{Frames, AddsChild}
 use Rattle.cactus.specs.Lending.{with_frame}
 use Rattle.worker_steps.specs.declared.activation.Activation.{Activation}
@@ -11,6 +11,9 @@ use Rattle.frame.specs.Room.{HasChild}
 use Rattle.worker_steps.specs.Stepping.{IsStep}
 use Rattle.worker_steps.proofs.Detached.{detaches_there}
 use Rattle.worker_steps.proofs.Moves.{begins}
+use Rattle.frame.specs.declared.frame.Wait.TheVariants as wait
+use Rattle.worker_steps.proofs.Slots.{keeps_by}
+use Rattle.worker_steps.proofs.Filling.{detach_filled}
 use Rattle.worker_steps.proofs.run.Run.detach.Goals as goal
 
 pub returns-clause-child_first : goal.returns-clause-child_first
@@ -35,3 +38,18 @@ returns-clause-detaches c can node turn asked_is =
     (sym c.frame_mut.ensures.value ∙ ap option_copied_mut c.in-Some.is) c.in_ok-child_slot.ensures.ok c.in_ok-child_slot.ensures.map room deeper c.in_ok-frame.frame c.in_ok-frame.ensures.detached c.in_ok-frame.ensures.sound c.in_ok-frame.ensures.depth c.in_ok-frame.ensures.undefined
     c.in_ok-child.ensures.runner c.in_ok-child.ensures.frame c.in_ok-child.ensures.no_callee c.in_ok-child.ensures.none c.in_ok-count.count c.opened.new.self c.in_ok-count.ensures.counted c.opened.ensures c.after_detach.ensures.unheld c.args.continuation c.after_detach.ensures.frame c.after_detach.ensures.continued c.after_detach.ensures.sound c.after_detach.ensures.counted
     c.count_depth.new.self.peak c.count_depth.ensures.peak node turn asked_is)
+
+pub returns-clause-slots : goal.returns-clause-slots
+returns-clause-slots c can node turn asked_is =
+    let prog = c.args.self.now.verified.now in
+    let old = c.args.self.now in
+    let new = c.set_hand.new.self in
+    let found = c.in-Some.parent.now in
+    let a = c.after_detach.new.self in
+    let room : HasChild c.in_ok-parent.parent.now.frame = (can c.in_ok-parent.parent.now c.in_ok-parent.ensures.value).can in
+    let globals = ap (λ (m : Run). m.memory) c.set_hand.ensures ∙ ap (λ (m : Run). m.memory) c.count_depth.ensures.kept in
+    let done = ap (λ (m : Run). m.instructions) c.set_hand.ensures ∙ ap (λ (m : Run). m.instructions) c.count_depth.ensures.kept in
+    let frames = ap (λ (m : Run). m.cactus) c.set_hand.ensures ∙ ap (λ (m : Run). m.cactus) c.count_depth.ensures.kept in
+    detach_filled prog old new c.args.worker c.args.slot c.args.region.0 c.args.body.0 c.args.continuation.0 c.add_child.new.self c.in_ok-child.child c.in_ok-parent.parent.now found a c.in_ok-child_slot.child_slot c.in_ok-frame.frame c.in_ok-parent.ensures.value
+    (sym c.frame_mut.ensures.value ∙ ap option_copied_mut c.in-Some.is) c.in_ok-child_slot.ensures.ok c.in_ok-child.ensures.frame c.in_ok-frame.ensures.detached (c.in_ok-frame.ensures.depth room) c.in_ok-frame.ensures.registers c.in_ok-frame.ensures.moves c.in_ok-child.ensures.as_many
+    (keeps_by found a found.frame.registers found.frame.moves c.args.continuation 0 a.frame.made wait.Nothing c.after_detach.ensures.frame refl refl c.after_detach.ensures.as_many) globals done frames node turn

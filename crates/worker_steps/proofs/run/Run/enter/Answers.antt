@@ -1,13 +1,15 @@
 use Rattle.std.proofs.Common.{◌≡◌, Some, refl, subst, sym, ap, ◌∙◌}
 use Rattle.std.proofs.lemmas.Result.{on_ok_weaker}
 use Rattle.std.specs.Option.{option_copied_mut}
-use Rattle.machine_core.specs.Effect.{jumps, registers_along}
+use Rattle.running.specs.Effect.{jumps, registers_along}
 use Rattle.program.specs.declared.function.Program.{Program}
 use Rattle.frame.specs.declared.frame.Frame.{Frame as FrameOf}
 use Rattle.frame.specs.Reading.{frame_of}
 use Rattle.frame.specs.Room.{Entered}
 use Rattle.cactus.specs.Frames.{frame_at}
 use Rattle.worker_steps.proofs.Performed.{went_at, jump_gone}
+use Rattle.cactus.specs.Lending.{with_frame}
+use Rattle.worker_steps.proofs.Slots.{keeps_by, written_kept}
 use Rattle.worker_steps.proofs.run.Run.enter.Goals as goal
 
 pub returns-in-Some-clause-jumps : goal.returns-in-Some-clause-jumps
@@ -31,4 +33,15 @@ returns-in-Some-clause-enters c =
       entered = λ p. subst (λ (q : Program). Entered q p c.in-Some.activation.now.frame c.args.target.0 c.enter.new.self) c.program-program.ensures (entered p);
       new_is = refl;
     })
+    c.enter.ensures.entered
+
+pub returns-in-Some-clause-slots : goal.returns-in-Some-clause-slots
+returns-in-Some-clause-slots c =
+    let stood : frame_at c.args.self.now.cactus c.args.slot ≡ Some c.in-Some.activation.now = sym c.frame_mut.ensures.value ∙ ap option_copied_mut c.in-Some.is in
+    let a = c.in-Some.activation.now in
+    let b = record c.in-Some.activation.now { frame = c.enter.new.self } in
+    let f = c.enter.new.self in
+    on_ok_weaker c.enter.result (λ entered.
+    written_kept c.args.self.now (record c.args.self.now { cactus = with_frame c.args.self.now.cactus c.args.slot b }) refl refl c.args.slot a b stood
+    (keeps_by a b f.registers f.moves f.block f.index a.frame.made f.waits c.enter.ensures.only c.enter.ensures.length c.enter.ensures.moves refl) refl)
     c.enter.ensures.entered

@@ -2,11 +2,12 @@ use Rattle.std.proofs.Common.{◌≡◌, subst, ap}
 use Rattle.std.proofs.lemmas.Result.{on_ok_weaker}
 use Rattle.program.specs.declared.function.Program.{Program}
 use Rattle.std.specs.Prelude.{Ok, is_err}
-use Rattle.machine_core.specs.Effect.{action_of}
+use Rattle.running.specs.Effect.{action_of}
 use Rattle.frame.specs.Asked.{asked, DoesNext}
 use Rattle.frame.specs.Reading.{frame_of}
 use Rattle.worker_steps.proofs.Performed.{executes}
 use Rattle.worker_steps.proofs.Refusing.{next_traps, not_let_there}
+use Rattle.worker_steps.proofs.Filling.{fills}
 use Rattle.worker_steps.proofs.run.Run.execute.Goals as goal
 
 pub returns-clause-step : goal.returns-clause-step
@@ -28,3 +29,11 @@ returns-clause-stopped c trap is =
     not_let_there c.args.self.now.verified.now c.args.self.now c.args.top c.in_ok-activation.field-0.now c.in_ok-effect.effect c.in_ok-activation.ensures.value
     (λ p memory depth. subst (λ (q : Program). asked q p (frame_of p c.in_ok-activation.field-0.now.frame) memory (Ok c.in_ok-effect.effect) ≡ action_of q p (frame_of p c.in_ok-activation.field-0.now.frame) memory) c.program.ensures (c.in_ok-effect.ensures.does p memory depth tt))
     c.in_ok-effect.ensures.within (c.perform.ensures.stopped trap is)
+
+pub returns-clause-slots : goal.returns-clause-slots
+returns-clause-slots c =
+    on_ok_weaker c.perform.result (λ filling.
+    fills c.args.self.now c.perform.new.self c.args.worker c.args.top c.in_ok-activation.field-0.now c.args.self.now.verified.now c.in_ok-effect.effect c.in_ok-activation.ensures.value (record { can = c.in_ok-effect.ensures.can; within = c.in_ok-effect.ensures.within })
+    (λ p memory depth. subst (λ (q : Program). asked q p (frame_of p c.in_ok-activation.field-0.now.frame) memory (Ok c.in_ok-effect.effect) ≡ action_of q p (frame_of p c.in_ok-activation.field-0.now.frame) memory) c.program.ensures (c.in_ok-effect.ensures.does p memory depth tt))
+    filling)
+    c.perform.ensures.slots

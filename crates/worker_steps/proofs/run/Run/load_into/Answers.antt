@@ -2,8 +2,8 @@ use Rattle.std.proofs.Common.{rules, w64, ℤ, subst}
 use Rattle.std.specs.Prelude.{FitsSigned}
 use Rattle.std.proofs.lemmas.Int.{to_z-of_z}
 use Rattle.std.proofs.lemmas.Result.{on_ok_weaker}
-use Rattle.machine_core.specs.Frames.{Word}
-use Rattle.machine_core.specs.Effect.{sets}
+use Rattle.running.specs.Frames.{Word}
+use Rattle.running.specs.Effect.{sets}
 use Rattle.frame.specs.Reading.{cell_of}
 use Rattle.worker_steps.specs.Seen.{place_of, seen}
 use Rattle.worker_steps.specs.Stepping.{PlainDone, frame_in}

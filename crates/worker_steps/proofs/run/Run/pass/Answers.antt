@@ -1,9 +1,12 @@
 use Rattle.std.proofs.Common.{◌≡◌, Some, refl, sym, ap, ◌∙◌}
 use Rattle.std.specs.Option.{option_copied_mut}
-use Rattle.machine_core.specs.Effect.{goes_on}
+use Rattle.running.specs.Effect.{goes_on}
 use Rattle.frame.specs.declared.frame.Frame.{Frame as FrameOf}
 use Rattle.cactus.specs.Frames.{frame_at}
 use Rattle.worker_steps.proofs.Performed.{went_at}
+use Rattle.cactus.specs.Lending.{with_frame}
+use Rattle.frame.specs.declared.frame.Wait.TheVariants as wait
+use Rattle.worker_steps.proofs.Slots.{keeps_by, written_kept}
 use Rattle.worker_steps.proofs.run.Run.pass.Goals as goal
 
 pub returns-clause-passes : goal.returns-clause-passes
@@ -11,3 +14,12 @@ returns-clause-passes c can =
     let stood : frame_at c.args.self.now.cactus c.args.slot ≡ Some c.in-Some.activation.now = sym c.frame_mut.ensures.value ∙ ap option_copied_mut c.in-Some.is in
     let room = can c.in-Some.activation.now stood in
     went_at c.args.self.now c.args.slot c.in-Some.activation.now c.pass.new.self (λ p f. goes_on f) stood (ap (λ (g : FrameOf). g.depth) c.pass.ensures.only) (ap (λ (g : FrameOf). g.allocas) c.pass.ensures.only) c.pass.ensures.sound (record { made = ap (λ (g : FrameOf). g.made) c.pass.ensures.only; role = ap (λ (g : FrameOf). g.role) c.pass.ensures.only }) (λ p. record { is = c.pass.ensures.goes_on p room; fine = refl; quiet = (refl, refl) })
+
+pub returns-clause-slots : goal.returns-clause-slots
+returns-clause-slots c =
+    let stood : frame_at c.args.self.now.cactus c.args.slot ≡ Some c.in-Some.activation.now = sym c.frame_mut.ensures.value ∙ ap option_copied_mut c.in-Some.is in
+    let a = c.in-Some.activation.now in
+    let f = c.pass.new.self in
+    let b = record c.in-Some.activation.now { frame = c.pass.new.self } in
+    written_kept c.args.self.now (record c.args.self.now { cactus = with_frame c.args.self.now.cactus c.args.slot b }) refl refl c.args.slot a b stood
+    (keeps_by a b a.frame.registers a.frame.moves a.frame.block f.index a.frame.made wait.Nothing c.pass.ensures.only refl refl refl) refl

@@ -2,11 +2,12 @@ use Rattle.std.proofs.Common.{rules, w64, ℤ, subst, sym}
 use Rattle.frame.specs.declared.effect.Effect.{Effect as Asked}
 use Rattle.std.specs.Prelude.{FitsSigned, OnOk}
 use Rattle.std.proofs.lemmas.Int.{to_z-of_z}
-use Rattle.machine_core.specs.Effect.{sets, loads, stores, stores_zeros, adds_to, jumps}
+use Rattle.running.specs.Effect.{sets, loads, stores, stores_zeros, adds_to, jumps}
 use Rattle.frame.specs.Reading.{cell_of, object_of, value_of}
 use Rattle.worker_steps.specs.Seen.{seen}
-use Rattle.worker_steps.specs.Stepping.{DoesPlain, CanDoAt, Performs}
+use Rattle.worker_steps.specs.Stepping.{DoesPlain, CanDoAt, Performs, FillsSlots}
 use Rattle.worker_steps.proofs.Happening.{plain_performed}
+use Rattle.worker_steps.proofs.Slots.{executed_still}
 use Rattle.worker_steps.proofs.run.Run.perform.Goals as goal
 
 pub returns-in_ok-define-in-Define-clause-step : goal.returns-in_ok-define-in-Define-clause-step
@@ -55,3 +56,36 @@ returns-in_ok-return_with-in-Return-clause-step c can = subst (λ (x : Asked). P
 
 pub returns-in_ok-sync-in-Sync-clause-step : goal.returns-in_ok-sync-in-Sync-clause-step
 returns-in_ok-sync-in-Sync-clause-step c can = subst (λ (x : Asked). Performs c.args.self.now.verified.now c.args.self.now c.sync.new.self c.args.worker c.args.top x) (sym c.in-Sync.is) c.in_ok-sync-in-Sync.ensures.syncs
+
+pub returns-in_ok-define-in-Define-clause-slots : goal.returns-in_ok-define-in-Define-clause-slots
+returns-in_ok-define-in-Define-clause-slots c can node turn is s = executed_still c.args.self.now.verified.now c.define.new.self (c.in_ok-define-in-Define.ensures.slots c.args.self.now.verified.now s)
+
+pub returns-in_ok-load_into-in-Load-clause-slots : goal.returns-in_ok-load_into-in-Load-clause-slots
+returns-in_ok-load_into-in-Load-clause-slots c can node turn is s = executed_still c.args.self.now.verified.now c.load_into.new.self (c.in_ok-load_into-in-Load.ensures.slots c.args.self.now.verified.now s)
+
+pub returns-in_ok-store_next-in-Store-clause-slots : goal.returns-in_ok-store_next-in-Store-clause-slots
+returns-in_ok-store_next-in-Store-clause-slots c can node turn is s = executed_still c.args.self.now.verified.now c.store_next.new.self (c.in_ok-store_next-in-Store.ensures.slots c.args.self.now.verified.now s)
+
+pub returns-in_ok-store_zeros-in-StoreZeros-clause-slots : goal.returns-in_ok-store_zeros-in-StoreZeros-clause-slots
+returns-in_ok-store_zeros-in-StoreZeros-clause-slots c can node turn is s = executed_still c.args.self.now.verified.now c.store_zeros.new.self (c.in_ok-store_zeros-in-StoreZeros.ensures.slots c.args.self.now.verified.now s)
+
+pub returns-in_ok-add_to-in-Add-clause-slots : goal.returns-in_ok-add_to-in-Add-clause-slots
+returns-in_ok-add_to-in-Add-clause-slots c can node turn is s = executed_still c.args.self.now.verified.now c.add_to.new.self (c.in_ok-add_to-in-Add.ensures.slots c.args.self.now.verified.now s)
+
+pub returns-in_ok-enter-in-Branch-clause-slots : goal.returns-in_ok-enter-in-Branch-clause-slots
+returns-in_ok-enter-in-Branch-clause-slots c can node turn is s = executed_still c.args.self.now.verified.now c.enter.new.self (c.in_ok-enter-in-Branch.ensures.slots c.args.self.now.verified.now s)
+
+pub returns-in_ok-reattach-in-Reattach-clause-slots : goal.returns-in_ok-reattach-in-Reattach-clause-slots
+returns-in_ok-reattach-in-Reattach-clause-slots c can node turn is s = executed_still c.args.self.now.verified.now c.reattach.new.self (c.in_ok-reattach-in-Reattach.ensures.slots c.args.self.now.verified.now s)
+
+pub returns-in_ok-sync-in-Sync-clause-slots : goal.returns-in_ok-sync-in-Sync-clause-slots
+returns-in_ok-sync-in-Sync-clause-slots c can node turn is s = executed_still c.args.self.now.verified.now c.sync.new.self (c.in_ok-sync-in-Sync.ensures.slots c.args.self.now.verified.now s)
+
+pub returns-in_ok-return_with-in-Return-clause-slots : goal.returns-in_ok-return_with-in-Return-clause-slots
+returns-in_ok-return_with-in-Return-clause-slots c can node turn is s = executed_still c.args.self.now.verified.now c.return_with.new.self (c.in_ok-return_with-in-Return.ensures.slots c.args.self.now.verified.now s)
+
+pub returns-in-Detach-clause-slots : goal.returns-in-Detach-clause-slots
+returns-in-Detach-clause-slots c = subst (λ (x : Asked). OnOk c.detach.result (CanDoAt c.args.self.now.cactus c.args.top x → FillsSlots c.args.self.now.verified.now c.args.self.now c.detach.new.self c.args.worker c.args.top x)) (sym c.in-Detach.is) c.detach.ensures.slots
+
+pub returns-in-Call-clause-slots : goal.returns-in-Call-clause-slots
+returns-in-Call-clause-slots c = subst (λ (x : Asked). OnOk c.call.result (CanDoAt c.args.self.now.cactus c.args.top x → FillsSlots c.args.self.now.verified.now c.args.self.now c.call.new.self c.args.worker c.args.top x)) (sym c.in-Call.is) c.call.ensures.slots

@@ -1,10 +1,9 @@
-use Rattle.std.proofs.Common.{◌≡◌, ℕ, ◌<◌, ◌-◌, ◌+◌, rules, List, length, Some, None, sym, ap, subst, ◌∙◌}
+use Rattle.std.proofs.Common.{◌≡◌, ℕ, ◌<◌, ◌-◌, ◌+◌, rules, List, length, Some, None, sym, ap, subst, ◌∙◌, refl}
 use Rattle.std.specs.Prelude.{slice_get}
-use Rattle.std.specs.Option.{option_copied}
+use Rattle.std.specs.Option.{option_copied, option_copied_mut}
 use Rattle.sync_join.specs.declared.count.Parent.{Parent}
 use Rattle.cactus.specs.Frames.{node_at, frame_at}
 use Rattle.worker_steps.specs.declared.run.Run.{Run}
-use Rattle.std.specs.Option.{option_copied_mut}
 use Rattle.worker_steps.proofs.Reattached.{reattaches_there}
 use Rattle.worker_steps.specs.Scheduling.{counted_in, standing_of, living_within, hand_of, TakesParent}
 use Rattle.worker_steps.proofs.Moves.{living_is, taken_goes_on, left_leaves, hand_of-set, both_ok}
@@ -15,6 +14,7 @@ use Rattle.cactus.proofs.FramesLemmas.{frame_at-with_frame, lives-from_frame}
 use Rattle.worker_steps.proofs.Missing.{same_node}
 use Rattle.worker_steps.proofs.Refusing.{has_last, parent_stays, stood_not}
 use Rattle.worker_steps.specs.declared.activation.Activation.{Activation}
+use Rattle.worker_steps.proofs.Slots.{ended_kept, keeps_frame, outcome_kept}
 use Rattle.worker_steps.proofs.run.Run.reattach.Goals as goal
 
 pub returns-clause-ends : goal.returns-clause-ends
@@ -73,3 +73,15 @@ returns-clause-stopped c =
     let (above, stood) = parent_stays c.args.self.now.cactus agrees.tree c.args.slot c.in-Some-Some.parent_slot node stands has c.remove-child.new.self c.remove-child.ensures.rest in
     stood_not (frame_at (with_frame c.remove-child.new.self c.in-Some-Some.parent_slot c.set_count.new.self) c.in-Some-Some.parent_slot) c.set_count.new.self (frame_at-with_frame c.remove-child.new.self c.in-Some-Some.parent_slot c.set_count.new.self (lives-from_frame c.remove-child.new.self c.in-Some-Some.parent_slot above stood)) lost)
     c.go_on.ensures.lost
+
+pub returns-clause-slots : goal.returns-clause-slots
+returns-clause-slots c =
+    let old = c.args.self.now in
+    let a = c.in-Some-frame_mut.parent.now in
+    let b = c.set_count.new.self in
+    let up = c.in-Some-Some.parent_slot in
+    let mid = record old { cactus = with_frame c.remove-child.new.self up b } in
+    both_ok c.go_on.result c.go_on.ensures.takes c.go_on.ensures.left (λ takes left prog s.
+    outcome_kept mid c.go_on.new.self c.closed-outcome.result c.args.worker up takes left prog
+    (ended_kept old mid c.remove-child.new.self c.args.slot up a b c.remove-child.ensures.rest (sym c.frame_mut.ensures.value ∙ ap option_copied_mut c.in-Some-frame_mut.is)
+    (keeps_frame a b (ap (λ (x : Activation). x.frame) c.set_count.ensures.only) c.set_count.ensures.as_many) refl refl refl prog s))

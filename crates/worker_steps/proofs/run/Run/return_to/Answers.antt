@@ -3,6 +3,7 @@ use Rattle.std.specs.Option.{option_copied_mut}
 use Rattle.worker_steps.specs.declared.run.Run.{Run}
 use Rattle.worker_steps.specs.Stepping.{IsStep}
 use Rattle.worker_steps.proofs.Calls.{returns_there}
+use Rattle.worker_steps.proofs.Slots.{ended_kept, keeps_resumed}
 use Rattle.worker_steps.proofs.run.Run.return_to.Goals as goal
 
 pub returns-clause-returns : goal.returns-clause-returns
@@ -11,3 +12,8 @@ returns-clause-returns c node turn parent none action =
     subst (λ (m : Run). IsStep prog c.args.self.now m c.args.worker) (sym c.set_hand.ensures)
     (returns_there prog c.args.self.now c.args.worker c.args.slot c.args.caller c.args.value c.pop_call-callee.new.self c.pop_call-callee.result c.in-Some.above.now c.after_call.new.self c.pop_call-callee.ensures.value c.pop_call-callee.ensures.rest c.pop_call-callee.ensures.map
     (sym c.frame_mut.ensures.value ∙ ap option_copied_mut c.in-Some.is) c.after_call.ensures node turn parent none action)
+
+pub returns-clause-slots : goal.returns-clause-slots
+returns-clause-slots c =
+    ended_kept c.args.self.now c.set_hand.new.self c.pop_call-callee.new.self c.args.slot c.args.caller c.in-Some.above.now c.after_call.new.self c.pop_call-callee.ensures.rest (sym c.frame_mut.ensures.value ∙ ap option_copied_mut c.in-Some.is)
+    (keeps_resumed c.in-Some.above.now c.after_call.new.self c.args.worker _ c.after_call.ensures) (ap (λ (m : Run). m.memory) c.set_hand.ensures) (ap (λ (m : Run). m.instructions) c.set_hand.ensures) (ap (λ (m : Run). m.cactus) c.set_hand.ensures)

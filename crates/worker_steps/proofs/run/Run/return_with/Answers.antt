@@ -3,7 +3,7 @@ use Rattle.std.specs.Prelude.{FitsSigned}
 use Rattle.std.specs.Option.{option_copied}
 use Rattle.std.proofs.lemmas.Int.{to_z-of_z}
 use Rattle.std.proofs.lemmas.Result.{on_ok_weaker, on_err_weaker}
-use Rattle.machine_core.specs.Effect.{Return}
+use Rattle.running.specs.Effect.{Return}
 use Rattle.cactus.specs.declared.node.Node.{Node}
 use Rattle.cactus.specs.Frames.{node_at, frame_at}
 use Rattle.worker_steps.specs.declared.activation.Activation.{Activation}

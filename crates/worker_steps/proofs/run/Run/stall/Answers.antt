@@ -1,10 +1,9 @@
 use Rattle.std.proofs.Common.{rules, ◌≡◌, ◌<◌, length, Option, Some, None, subst, sym, ap, ◌∙◌}
-use Rattle.std.specs.Option.{option_copied_mut}
+use Rattle.std.specs.Option.{option_copied_mut, option_map}
 use Rattle.std.specs.Vec.{with_item}
 use Rattle.cactus.specs.Lending.{with_frame}
 use Rattle.worker_steps.specs.Forking.{changed_in}
 use Rattle.cactus.specs.Frames.{frame_at}
-use Rattle.std.specs.Option.{option_map}
 use Rattle.frame.specs.declared.frame.Wait.TheVariants.{Region}
 use Rattle.worker_steps.specs.declared.activation.Activation.{Activation}
 use Rattle.worker_steps.specs.declared.run.Run.{Run}

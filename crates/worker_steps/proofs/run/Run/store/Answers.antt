@@ -7,6 +7,7 @@ use Rattle.cactus.specs.Frames.{owner_at}
 use Rattle.worker_steps.specs.Stepping.{WritesAlloca}
 use Rattle.worker_steps.proofs.Performed.{shared_stored, alloca_stored}
 use Rattle.worker_steps.proofs.Missing.{alloca_refused, owner_refused, shared_kept}
+use Rattle.worker_steps.proofs.Slots.{set_kept}
 use Rattle.worker_steps.proofs.run.Run.store.Goals as goal
 
 pub returns-in-Global-clause-stores : goal.returns-in-Global-clause-stores
@@ -37,3 +38,7 @@ pub returns-in-None-clause-not_there : goal.returns-in-None-clause-not_there
 returns-in-None-clause-not_there c =
     let none : owner_at c.args.self.now.cactus c.in-Alloca.depth c.args.slot ≡ None = sym c.ancestor.ensures ∙ c.in-None.is in
     owner_refused c.args.self.now.verified.now c.args.self.now c.args.slot c.args.cell c.in-Alloca.depth c.in-Alloca.alloca c.args.number c.in-Alloca.is none
+
+pub returns-in-Global-clause-slots : goal.returns-in-Global-clause-slots
+returns-in-Global-clause-slots c =
+    OnTrue_from c.set_cell.result _ (λ t. set_kept c.args.self.now c.set_cell.new.self c.in-Global.global.0 c.args.cell.index _ (OnTrue_at t c.set_cell.ensures.set))

@@ -6,6 +6,8 @@ use Rattle.std.proofs.lemmas.Bool.{OnTrue_at, OnTrue_from}
 use Rattle.cactus.specs.Frames.{frame_at}
 use Rattle.frame.specs.Room.{SetsAlloca}
 use Rattle.worker_steps.proofs.Missing.{alloca_kept}
+use Rattle.cactus.specs.Lending.{with_frame}
+use Rattle.worker_steps.proofs.Slots.{keeps_stored, written_kept}
 use Rattle.worker_steps.proofs.run.Run.store_in.Goals as goal
 
 pub returns-in-Some-clause-writes : goal.returns-in-Some-clause-writes
@@ -27,3 +29,12 @@ pub returns-in-Some-clause-kept : goal.returns-in-Some-clause-kept
 returns-in-Some-clause-kept c =
     let stood : frame_at c.args.self.now.cactus c.args.owner ≡ Some c.in-Some.activation.now = sym c.frame_mut.ensures.value ∙ ap option_copied_mut c.in-Some.is in
     OnTrue_from c.set_alloca_cell.result _ (λ t. alloca_kept c.args.self.now c.args.owner c.in-Some.activation.now c.set_alloca_cell.new.self stood c.set_alloca_cell.ensures.cells)
+
+pub returns-in-Some-clause-slots : goal.returns-in-Some-clause-slots
+returns-in-Some-clause-slots c =
+    let stood : frame_at c.args.self.now.cactus c.args.owner ≡ Some c.in-Some.activation.now = sym c.frame_mut.ensures.value ∙ ap option_copied_mut c.in-Some.is in
+    let a = c.in-Some.activation.now in
+    let b = record c.in-Some.activation.now { frame = c.set_alloca_cell.new.self } in
+    OnTrue_from c.set_alloca_cell.result _ (λ t.
+    written_kept c.args.self.now (record c.args.self.now { cactus = with_frame c.args.self.now.cactus c.args.owner b }) refl refl c.args.owner a b stood
+    (keeps_stored a c.set_alloca_cell.new.self c.set_alloca_cell.ensures.only c.set_alloca_cell.ensures.cells) refl)

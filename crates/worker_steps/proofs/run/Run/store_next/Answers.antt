@@ -7,6 +7,7 @@ use Rattle.frame.specs.Reading.{cell_of}
 use Rattle.worker_steps.specs.Seen.{place_of}
 use Rattle.worker_steps.specs.Stepping.{one_cell, StoresAt}
 use Rattle.worker_steps.proofs.Performed.{stored_done, next_still}
+use Rattle.worker_steps.specs.Slots.{KeepsSlots}
 use Rattle.worker_steps.proofs.run.Run.store_next.Goals as goal
 
 pub returns-then-store-clause-stores : goal.returns-then-store-clause-stores
@@ -17,3 +18,8 @@ returns-then-store-clause-stores c =
     let writes = one_cell (cell_of (place_of node) c.args.cell) c.args.number in
     stored_done c.args.self.now c.store.new.self c.pass.new.self c.args.slot node stands writes w (passes (next_still c.args.self.now c.store.new.self c.pass.new.self c.args.slot node stands writes w next)) none)
     c.pass.ensures.passes
+
+pub returns-then-store-clause-slots : goal.returns-then-store-clause-slots
+returns-then-store-clause-slots c =
+    let stored : KeepsSlots c.args.self.now c.store.new.self = OnTrue_at c.if-store.true c.store.ensures.slots in
+    on_ok_weaker c.pass.result (λ passed prog s. passed prog (stored prog s)) c.pass.ensures.slots

@@ -6,16 +6,19 @@ use Rattle.worker_steps.specs.Seen.{place_of}
 use Rattle.worker_steps.specs.Stepping.{Written, zeros_below}
 use Rattle.worker_steps.proofs.Performed.{written_none, written_more, stored_done, next_still}
 use Rattle.worker_steps.proofs.Missing.{kept_none, kept_more, zeros_refused}
+use Rattle.worker_steps.specs.Slots.{KeepsSlots}
 use Rattle.worker_steps.proofs.run.Run.store_zeros.Goals as goal
 
 pub loop-index-init : goal.loop-index-init
-loop-index-init c = record { written = λ node stands agrees. written_none c.args.self.now (object_of (place_of node) c.args.object) agrees; kept = kept_none c.args.self.now; phase = refl }
+loop-index-init c = record { written = λ node stands agrees. written_none c.args.self.now (object_of (place_of node) c.args.object) agrees; kept = kept_none c.args.self.now; slots = λ prog s. s; phase = refl }
 
 pub loop-index-preserved : goal.loop-index-preserved
 loop-index-preserved c =
+    let stored : KeepsSlots c.loop-index.self c.store.new.self = OnTrue_at c.if-not-store.false c.store.ensures.slots in
     record {
       written = λ node stands agrees. written_more c.args.self.now c.loop-index.self c.store.new.self c.args.slot node c.args.object c.loop-index.index stands (c.loop-index.invariant.written node stands agrees) (OnTrue_at c.if-not-store.false c.store.ensures.stores);
       kept = kept_more c.args.self.now c.loop-index.self c.store.new.self c.loop-index.invariant.kept (OnTrue_at c.if-not-store.false c.store.ensures.kept);
+      slots = λ prog s. stored prog (c.loop-index.invariant.slots prog s);
       phase = c.store.ensures.phase ∙ c.loop-index.invariant.phase;
     }
 
@@ -31,3 +34,6 @@ returns-clause-zeros c =
 pub returns-then-not-store-clause-stopped : goal.returns-then-not-store-clause-stopped
 returns-then-not-store-clause-stopped c =
     zeros_refused c.args.self.now.verified.now c.args.self.now c.loop-index.self c.args.slot c.args.object c.loop-index.index c.args.cells c.loop-index.invariant.written c.loop-index.invariant.kept (omega arith) (OnFalse_at c.if-not-store.true c.store.ensures.not_there)
+
+pub returns-clause-slots : goal.returns-clause-slots
+returns-clause-slots c = on_ok_weaker c.pass.result (λ passed prog s. passed prog (c.loop-index.invariant.slots prog s)) c.pass.ensures.slots

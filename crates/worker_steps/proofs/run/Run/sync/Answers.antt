@@ -6,6 +6,7 @@ use Rattle.worker_steps.proofs.Moves.{living_is}
 use Rattle.worker_steps.proofs.Synced.{passes_there, stalls_there}
 use Rattle.worker_steps.specs.Stepping.{frame_in}
 use Rattle.worker_steps.proofs.Performed.{edge_of}
+use Rattle.worker_steps.proofs.Slots.{waits_kept, stalls_kept}
 use Rattle.worker_steps.proofs.run.Run.sync.Goals as goal
 
 pub returns-in-Pass-clause-stalls : goal.returns-in-Pass-clause-stalls
@@ -41,4 +42,14 @@ returns-in-Stall-clause-syncs c =
     on_ok_weaker c.stall.result (λ becomes.
     stalls_there c.args.self.now.verified.now c.args.self.now c.enter.new.self c.wait_for_children.new.self c.args.worker c.args.slot c.args.region c.args.target.0 c.in_ok-enter.ensures.enters c.in_ok-wait_for_children.ensures.becomes c.stall.new.self c.in_ok-top.top.now.frame.block becomes
     (λ none. let passes : Stall ≡ Pass = some (sym living ∙ none) in cc))
+    c.stall.ensures.becomes
+
+pub returns-in-Pass-clause-slots : goal.returns-in-Pass-clause-slots
+returns-in-Pass-clause-slots c prog s = waits_kept c.enter.new.self c.wait_for_children.new.self c.args.slot c.args.region c.in_ok-wait_for_children.ensures.becomes prog (c.in_ok-enter.ensures.slots prog s)
+
+pub returns-in-Stall-clause-slots : goal.returns-in-Stall-clause-slots
+returns-in-Stall-clause-slots c =
+    on_ok_weaker c.stall.result (λ becomes prog s.
+    stalls_kept c.wait_for_children.new.self c.stall.new.self c.args.slot c.args.worker c.in_ok-top.top.now.frame.block becomes prog
+    (waits_kept c.enter.new.self c.wait_for_children.new.self c.args.slot c.args.region c.in_ok-wait_for_children.ensures.becomes prog (c.in_ok-enter.ensures.slots prog s)))
     c.stall.ensures.becomes

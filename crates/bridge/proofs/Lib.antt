@@ -1,8 +1,0 @@
-pub mod Moves
-pub mod Edges
-pub mod Costs
-pub mod Registers
-pub mod ShownCosts
-pub mod Depths
-pub mod Serially
-pub mod PairCosts

@@ -1,0 +1,3 @@
+pub mod theorem
+pub mod rules
+pub mod sample

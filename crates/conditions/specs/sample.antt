@@ -1,0 +1,3 @@
+-- A sample program.
+pub mod Pair
+pub mod PairCosts

@@ -1,8 +1,0 @@
-pub mod Depths
-pub mod Sums
-pub mod Moves
-pub mod Spent
-pub mod Entries
-pub mod Shown
-pub mod Levels
-pub mod Ends

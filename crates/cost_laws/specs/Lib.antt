@@ -1,4 +1,0 @@
-pub mod Depths
-pub mod Levels
-pub mod Shown
-pub mod Ends

@@ -1,8 +1,0 @@
-pub mod Leads
-pub mod Names
-pub mod Defined
-pub mod Placed
-pub mod Values
-pub mod Stable
-pub mod Known
-pub mod Regions

@@ -1,0 +1,2 @@
+pub mod TicketList
+pub mod Takes

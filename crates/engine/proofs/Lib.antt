@@ -1,0 +1,14 @@
+pub mod Shown
+pub mod PlainSteps
+pub mod Runs
+pub mod Moving
+pub mod Turns
+pub mod Edges
+pub mod Branches
+pub mod Joined
+pub mod Division
+pub mod Values
+pub mod Writes
+pub mod Activations
+pub mod FlatCells
+pub mod Passing

@@ -1,0 +1,14 @@
+pub mod Arithmetic
+pub mod Words
+pub mod Names
+pub mod Shows
+pub mod Did
+pub mod Fits
+pub mod Moves
+pub mod Border
+pub mod Pause
+pub mod Flat
+pub mod Activation
+pub mod Arguments
+pub mod Items
+pub mod Starts

@@ -1,0 +1,39 @@
+ghost use Rattle.std.specs.Prelude.{◌≡◌, Some};
+ghost use Rattle.engine.specs.Flat.{cell_in, is_cell};
+
+use crate::arithmetic::sum;
+use crate::cells::Cells;
+use crate::words::number_at;
+use std::convert::Infallible;
+
+/// The cells of the globals and, behind them, of the living frames' allocas. An address is an index.
+#[derive(Drop)]
+pub struct Flat {
+    pub cells: Vec<i64>,
+}
+
+impl Cells for Flat {
+    type Stop = Infallible;
+
+    ghost reaches = { λ f a. is_cell f.cells.items a };
+
+    ghost holds = { λ f a z. cell_in f.cells.items a ≡ Some z };
+
+    #[inline(always)]
+    fn load(&mut self, at: i64) -> Result<i64, Infallible> {
+        Ok(self.cells[at as usize])
+    }
+
+    #[inline(always)]
+    fn store(&mut self, at: i64, number: i64) -> Result<(), Infallible> {
+        self.cells[at as usize] = number;
+        Ok(())
+    }
+
+    #[inline(always)]
+    fn add(&mut self, at: i64, number: i64) -> Result<(), Infallible> {
+        let sum = sum(number_at(self.cells.as_slice(), at as usize), number);
+        self.cells[at as usize] = sum;
+        Ok(())
+    }
+}

@@ -1,0 +1,24 @@
+//! The inner loop of the machine over words, with no test: what it rests on is asked for.
+#![tactic(auto)]
+
+mod activation;
+mod arithmetic;
+mod borders;
+mod calls;
+mod cells;
+mod doing;
+mod ending;
+mod entering;
+mod flat;
+mod items;
+mod placing;
+mod stepping;
+mod turning;
+mod words;
+
+pub use activation::{Frame, Places};
+pub use cells::Cells;
+pub use doing::{Did, plain};
+pub use flat::Flat;
+pub use items::Item;
+pub use turning::{Pause, Place, advance};

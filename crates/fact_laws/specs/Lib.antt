@@ -1,5 +1,0 @@
-pub mod Known
-pub mod Owing
-pub mod Kept
-pub mod Traps
-pub mod Handed

@@ -1,0 +1,24 @@
+-- Only the scanner's own functions and its loop need these.
+use Rattle.std.specs.Prelude.{◌≡◌, ℕ, ◌<◌, ◌≤◌, List, ◌++◌, Option, Some, None}
+use Rattle.refusal.specs.declared.refused.Refused.{Refused}
+use Rattle.refusal.specs.declared.refused.Refused.TheVariants as faults
+use Rattle.ir_lex.specs.declared.token.Token.{Token}
+use Rattle.ir_lex.specs.declared.scan.Front.{Front}
+use Rattle.ir_lex.specs.declared.scan.Front.TheVariants.{Space, Comment, Begins, Wrong}
+
+-- a token at the front takes a byte and no more than there are
+abbrev pub IsWithin : ℕ → Front → Type 0
+IsWithin len Space = Unit {0}
+IsWithin len Comment = Unit {0}
+IsWithin len (Begins kind n) = (0 < n) × (n ≤ len)
+IsWithin len Wrong = Unit {0}
+
+-- tokens, and those that follow
+abbrev pub prepend : List Token → Option (List Token) → Option (List Token)
+prepend tokens None = None
+prepend tokens (Some more) = Some (tokens ++ more)
+
+-- 102, for there are no tokens, or memory ran out
+abbrev pub IsBadToken : ℕ → Option (List Token) → Refused → Type 0
+IsBadToken at tokens faults.Memory = Unit {0}
+IsBadToken at tokens (faults.Fault number found_at) = (number ≡ 102) × (found_at ≡ at) × (tokens ≡ None)

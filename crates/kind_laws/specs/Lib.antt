@@ -1,4 +1,0 @@
-pub mod Holding
-pub mod Uses
-pub mod Ready
-pub mod Law

@@ -1,0 +1,72 @@
+//! What is written of the cases.
+
+use std::alloc::{AllocError, Global};
+use std::io;
+use std::io::Write;
+use std::process::ExitCode;
+
+/// Writes a line of each case, and counts them.
+#[derive(Drop)]
+pub struct Report<W: Write + Drop> {
+    output: W,
+    title: String,
+    /// How many cases stood below the title.
+    below: u64,
+    cases: u64,
+    as_expected: u64,
+}
+
+impl<W: Write + Drop> Report<W> {
+    pub fn new(alloc: Global, output: W) -> Self {
+        Report {
+            output,
+            title: String::new(alloc),
+            below: 0,
+            cases: 0,
+            as_expected: 0,
+        }
+    }
+
+    pub fn file(&mut self, name: &str) -> io::Result<()> {
+        writeln!(self.output, "==== {name}")
+    }
+
+    pub fn title(&mut self, title: &str) -> Result<(), AllocError> {
+        self.title.clear();
+        self.below = 0;
+        self.title.push_str(title)
+    }
+
+    /// A case is told by its title and its place below it.
+    pub fn case(&mut self, wanted: &str, found: &str, is_expected: bool) -> io::Result<()> {
+        self.below = self.below.saturating_add(1);
+        self.cases = self.cases.saturating_add(1);
+        write!(self.output, "{}, {}: {found}", self.title, self.below)?;
+        if is_expected {
+            self.as_expected = self.as_expected.saturating_add(1);
+            writeln!(self.output)
+        } else {
+            writeln!(self.output, " -- NOT AS EXPECTED: {wanted}")
+        }
+    }
+
+    /// The case's answer is this text.
+    pub fn compare(&mut self, wanted: &str, found: &str) -> io::Result<()> {
+        self.case(wanted, found, found == wanted)
+    }
+
+    /// The number of cases, and the status: 0 where all are as expected.
+    pub fn finish(&mut self) -> io::Result<ExitCode> {
+        writeln!(
+            self.output,
+            "{} of {} cases are as expected",
+            self.as_expected, self.cases
+        )?;
+        self.output.flush()?;
+        if self.as_expected == self.cases && self.cases > 0 {
+            Ok(ExitCode::SUCCESS)
+        } else {
+            Ok(ExitCode::FAILURE)
+        }
+    }
+}

@@ -1,0 +1,20 @@
+-- Regions and definedness: roles, registers and cells that have values, registers that stay.
+pub mod Lists
+pub mod Items
+pub mod Placed
+pub mod Roles
+pub mod Defined
+pub mod Written
+pub mod Stored
+pub mod Values
+pub mod Ending
+pub mod Needed
+pub mod Kept
+pub mod Paths
+pub mod Registers
+pub mod RegionTests
+pub mod Visits
+pub mod Stable
+pub mod Known
+pub mod Regions
+pub mod Starting

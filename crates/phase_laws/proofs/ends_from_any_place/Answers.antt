@@ -1,0 +1,5 @@
+use Rattle.phase_laws.proofs.costs.Ends.{ends_from_any_place}
+use Rattle.phase_laws.proofs.ends_from_any_place.Goals as goal
+
+pub returns : goal.returns
+returns c = ends_from_any_place

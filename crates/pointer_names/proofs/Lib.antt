@@ -1,5 +1,0 @@
-pub mod Anew
-pub mod Given
-pub mod Kept
-pub mod Passed
-pub mod Runs

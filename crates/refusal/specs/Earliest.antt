@@ -1,0 +1,32 @@
+-- Which fault is named where several rules are broken: that of the lowest line, and there of the lowest number.
+use Rattle.std.specs.Prelude.{◌≡◌, ◌⊎◌, ◌<◌, ◌≤◌, Option, Some, None}
+use Rattle.refusal.specs.declared.broken.Broken.{Broken}
+use Rattle.refusal.specs.declared.refused.Refused.{Refused}
+use Rattle.refusal.specs.declared.refused.Refused.TheVariants.{Fault, Memory}
+
+-- on a lower line, or on the same line and of a lower number
+abbrev pub IsBefore : Broken → Broken → Type 0
+IsBefore a b = (a.line < b.line) ⊎ ((a.line ≡ b.line) × (a.number < b.number))
+
+abbrev pub IsAtOrBefore : Broken → Broken → Type 0
+IsAtOrBefore a b = (a.line ≤ b.line) × (a.line ≡ b.line → a.number ≤ b.number)
+
+-- what is named of two
+abbrev pub IsLowerOf : Option Broken → Option Broken → Option Broken → Type 0
+IsLowerOf None right named = named ≡ right
+IsLowerOf (Some a) None named = named ≡ Some a
+IsLowerOf (Some a) (Some b) named = ((named ≡ Some a) × IsAtOrBefore a b) ⊎ ((named ≡ Some b) × IsAtOrBefore b a)
+
+-- a judgement: the rules hold and none is broken, or a broken rule is named that no other stands before
+abbrev pub IsJudged : Type 0 → (Broken → Type 0) → Option Broken → Type 0
+IsJudged Holds IsBroken None = Holds × ((b : Broken) → IsBroken b → ⊥)
+IsJudged Holds IsBroken (Some a) = IsBroken a × ((b : Broken) → IsBroken b → IsAtOrBefore a b)
+
+-- what is named where these rules are broken: nothing where none is, else the earliest
+abbrev pub IsEarliest : (Broken → Type 0) → Option Broken → Type 0
+IsEarliest IsBroken named = IsJudged (Unit {0}) IsBroken named
+
+-- what a refusal says where these rules are broken: it names the earliest of them, or memory was refused
+abbrev pub NamesEarliest : (Broken → Type 0) → Refused → Type 0
+NamesEarliest IsBroken Memory = Unit {0}
+NamesEarliest IsBroken (Fault number line) = IsEarliest IsBroken (Some (record { line = line; number = number }))

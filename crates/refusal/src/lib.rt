@@ -1,0 +1,9 @@
+//! Why a phase refuses a module: a rule that it breaks and the line, or want of memory; and which rule is named where several
+//! are broken. Every phase answers a [`Refused`], under a name of its own.
+#![tactic(auto)]
+
+mod broken;
+mod refused;
+
+pub use broken::{Broken, lower};
+pub use refused::Refused;

@@ -1,4 +1,0 @@
-pub mod Search
-pub mod Tests
-pub mod Open
-pub mod Closed

@@ -1,0 +1,15 @@
+pub mod Actions
+pub mod Places
+pub mod Confluence
+pub mod Steps
+pub mod Diamond
+pub mod TreeKept
+pub mod Deep
+pub mod SerialRun
+pub mod Workers
+pub mod Machines
+pub mod Starting
+pub mod Outcomes
+pub mod Fuel
+pub mod ChildCounts
+pub mod TaskLaws

@@ -1,0 +1,12 @@
+pub mod Paths
+pub mod Cells
+pub mod Arithmetic
+pub mod Frames
+pub mod Effect
+pub mod State
+pub mod Tree
+pub mod SerialMeaning
+pub mod Events
+pub mod Replay
+pub mod Counts
+pub mod Tasks

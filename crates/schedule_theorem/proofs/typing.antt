@@ -1,0 +1,24 @@
+-- What the rules on names, types and pointers give of a program.
+pub mod Lists
+pub mod Parts
+pub mod Scoping
+pub mod Instructions
+pub mod Ends
+pub mod Calls
+pub mod Once
+pub mod Registers
+pub mod Entry
+pub mod Forms
+pub mod Named
+pub mod Typed
+pub mod Objects
+pub mod Sized
+pub mod Positive
+pub mod Elements
+pub mod Main
+pub mod Laws
+pub mod Kinding
+pub mod Passing
+pub mod Kinded
+pub mod Uses
+pub mod Accepted

@@ -1,0 +1,19 @@
+-- The schedule theorem's conditions on zones, from the rules.
+pub mod Paths
+pub mod Zones
+pub mod Tasks
+pub mod Clear
+pub mod Elements
+pub mod Edges
+pub mod Passing
+pub mod Stepping
+pub mod Meeting
+pub mod Children
+pub mod Calls
+pub mod Syncs
+pub mod Conditions
+pub mod Starting
+pub mod ByRules
+pub mod Schedules
+pub mod Texts
+pub mod Named

@@ -1,0 +1,82 @@
+-- What the phases give of a program, as far as the conditions on zones ask for it.
+use Rattle.std.specs.Prelude.{◌≡◌, ℕ, ◌<◌, List, ◌∷◌, length, Option, Some, None, ℤ, Contains, slice_get}
+use Rattle.linear.specs.declared.form.RegisterId.{RegisterId}
+use Rattle.running.specs.Paths.{Path}
+use Rattle.running.specs.Cells.{Memory}
+use Rattle.running.specs.Frames.{Value, Registers, OnCall, Frame}
+use Rattle.running.specs.Effect.{Effect, Plain, Detach, Sync, Call, action_of}
+use Rattle.running.specs.State.{went, detached, continued, synced, called, waiting, resumed}
+use Rattle.conditions.specs.theorem.Conditions.{Going}
+use Rattle.program.specs.declared.annotation.Zone.{Zone}
+use Rattle.program.specs.declared.identifier.ObjectName.TheVariants.{Parameter}
+use Rattle.program.specs.declared.function.Function.{Function}
+use Rattle.program.specs.declared.function.Program.{Program}
+use Rattle.types.specs.Apart.{IsNamedBy, parameters_at, CallsApart}
+use Rattle.types.specs.Definitions.{KeepsParameters}
+use Rattle.cfg.specs.Edges.{graphs_of}
+use Rattle.cfg.specs.Rules.{IsGraphRight}
+use Rattle.region_match.specs.declared.tables.Regions.{Regions}
+use Rattle.region_match.specs.Matched.{AreRegionsRight}
+use Rattle.region_match.specs.Tasks.{AreAllTasks}
+use Rattle.phase_laws.specs.defined.Defined.{AreUsesDefined}
+use Rattle.phase_laws.specs.defined.Names.{IsNamed}
+use Rattle.phase_laws.specs.defined.Stable.{IsStable as KeepsRegisters}
+use Rattle.phase_laws.specs.facts.Owing.{IsTyped, AreFactsStable, HasWidths}
+use Rattle.phase_laws.specs.facts.Kept.{AreRangesRight}
+use Rattle.phase_laws.specs.facts.Stable.{ArePhisApart}
+use Rattle.phase_laws.specs.zones.Accesses.{AreZonesRight}
+use Rattle.phase_laws.specs.zones.Callees.{IsOverParameters}
+
+-- what the rules on names give of zones: the parameters that a function's text names are its own, and its head's zones name parameters alone
+pub record NamesZones (prog : Program) : Type 0 where
+  pub own : (f : ℕ) (r : RegisterId) → IsNamedBy prog.functions f (Parameter r) → r.0 < parameters_at prog.functions f
+  pub over : (f : ℕ) (function : Function) → slice_get prog.functions f ≡ Some function → (z : Zone) → Contains function.zones z →
+      IsOverParameters (length function.parameters) z
+
+-- by all phases: no rule on ranges is broken, and none on zones by the table of the blocks' tasks
+pub record IsJudged (prog : Program) (regions : Regions) : Type 0 where
+  pub tasks : AreAllTasks (graphs_of prog) regions.functions
+  pub zones : AreZonesRight prog regions
+  pub ranges : AreRangesRight prog
+  pub typed : IsTyped prog
+  pub stable : AreFactsStable prog
+  pub named : IsNamed prog
+  pub registers : KeepsRegisters prog
+  pub apart : CallsApart prog.functions
+  pub parameters : KeepsParameters prog.functions
+  pub names : NamesZones prog
+
+-- base is kept of each frame by each step, whatever the other frames do
+pub record IsKeptBySteps (prog : Program) (base : Path → Frame → Type 0) : Type 0 where
+  pub plain : (p : Path) (f : Frame) (m : Memory) (e : Effect) → base p f → Going f → action_of prog p f m ≡ Plain e → e.trap ≡ None → base p (went f e)
+  pub child : (p : Path) (f : Frame) (m : Memory) (region body next : ℕ) → base p f → Going f → action_of prog p f m ≡ Detach region body next →
+      base (f.made ∷ p) (detached f region body next)
+  pub continues : (p : Path) (f : Frame) (m : Memory) (region body next : ℕ) → base p f → Going f → action_of prog p f m ≡ Detach region body next →
+      base p (continued f next)
+  pub syncs : (p : Path) (f : Frame) (m : Memory) (region block : ℕ) (registers : Registers) → base p f → Going f →
+      action_of prog p f m ≡ Sync region block registers → base p (synced f region block registers)
+  pub callee : (p : Path) (f : Frame) (m : Memory) (d : Option RegisterId) (callee : ℕ) (values : List Value) → base p f → Going f →
+      action_of prog p f m ≡ Call d callee values → base (f.made ∷ p) (called p f callee values)
+  pub waits : (p : Path) (f : Frame) (m : Memory) (d : Option RegisterId) (callee : ℕ) (values : List Value) → base p f → Going f →
+      action_of prog p f m ≡ Call d callee values → base p (waiting f d)
+  pub resumes : (p : Path) (f : Frame) (k : ℕ) (d : Option RegisterId) (result : Option ℤ) → base p f → f.waits ≡ OnCall k d → base p (resumed f d result)
+
+-- it says that numbers of i32 fit, so that the facts of arithmetic are true
+pub record GivesWidths (prog : Program) (base : Path → Frame → Type 0) : Type 0 where
+  pub kept : IsKeptBySteps prog base
+  pub widths : (p : Path) (f : Frame) → base p f → HasWidths prog f
+
+-- what the rules of the phases say of a program, each in the words of its own phase
+pub record IsByRules (prog : Program) (regions : Regions) : Type 0 where
+  pub tasks : AreAllTasks (graphs_of prog) regions.functions
+  pub zones : AreZonesRight prog regions
+  pub ranges : AreRangesRight prog
+  pub graph : IsGraphRight prog
+  pub matched : AreRegionsRight prog
+  pub uses : AreUsesDefined prog
+  pub typed : IsTyped prog
+  pub named : IsNamed prog
+  pub phis : ArePhisApart prog
+  pub apart : CallsApart prog.functions
+  pub parameters : KeepsParameters prog.functions
+  pub names : NamesZones prog

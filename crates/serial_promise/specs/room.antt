@@ -1,0 +1,3 @@
+-- The machine's frames have room for what their places ask for.
+pub mod Room
+pub mod Cells

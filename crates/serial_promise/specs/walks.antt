@@ -1,0 +1,2 @@
+-- What holds along the steps of a serial run.
+pub mod Along

@@ -1,0 +1,549 @@
+//! What the program tells, as transcripts. `of MODULE`; then `line 8 TEXT` for a text in place of its line 8 (` || ` ends a line in it), and
+//! `without 9` for one that is taken away; `events EVENT; EVENT ..`, or `events none`, for the schedule; command lines after `$`; what each of
+//! them writes; its `status`. `m.ll` and `s.txt` are the module and the schedule.
+
+pub const TRANSCRIPTS: &str = "\
+# refuses what has no main
+of empty
+$ tapirvm serial m.ll --arg 7
+refused 201 line 1
+status 1
+
+# refuses wrong text
+of add-one
+line 8 ret i64 %q
+$ tapirvm serial m.ll --arg 7
+refused 201 line 8
+status 1
+of add-one
+line 7 %n = add nsw i64 %n, 1
+$ tapirvm serial m.ll --arg 7
+refused 106 line 7
+status 1
+of add-one
+without 9
+$ tapirvm serial m.ll --arg 7
+refused 105 line 8
+status 1
+of switch
+line 10 switch i64 %n, label %o [ i64 0, label %a i64 0, label %b ]
+$ tapirvm serial m.ll --arg 7
+refused 103 line 10
+status 1
+of switch
+line 8 %d = add nsw i32 %t, 2147483648
+$ tapirvm serial m.ll --arg 7
+refused 202 line 8
+status 1
+of adding
+line 34 %o = atomicrmw add ptr %p, i64 %i seq_cst
+$ tapirvm serial m.ll --arg 7
+refused 103 line 34
+status 1
+
+# refuses an alias
+of alias
+$ tapirvm serial m.ll --arg 7
+refused 204 line 17
+status 1
+
+# tells budgets and depths
+of add-one
+$ tapirvm verify m.ll
+accepted
+budget 2
+depth 1
+status 0
+of load
+$ tapirvm verify m.ll
+accepted
+budget 2
+depth 1
+status 0
+of switch
+$ tapirvm verify m.ll
+accepted
+budget 6
+depth 1
+status 0
+of pair
+$ tapirvm verify m.ll
+accepted
+budget 14
+depth 2
+status 0
+of parallel-for
+$ tapirvm verify m.ll
+accepted
+budget 518
+depth 2
+status 0
+of adding
+$ tapirvm verify m.ll
+accepted
+budget 518
+depth 2
+status 0
+of fib
+$ tapirvm verify m.ll
+accepted
+budget 31457267
+depth 43
+status 0
+
+# tells what it refuses
+of loop
+$ tapirvm verify m.ll
+refused 701 line 12
+status 1
+of alias
+$ tapirvm verify m.ll
+refused 204 line 17
+status 1
+of divide
+$ tapirvm verify m.ll
+refused 502 line 7
+status 1
+
+# prints a table
+of fib
+line 4 ;! measure %n max 21
+$ tapirvm verify m.ll --table @main
+refused 702 line 51
+status 1
+of fib
+$ tapirvm verify m.ll --table @main
+accepted
+budget 31457267
+depth 43
+@main 0 cost 31457267 depth 43
+status 0
+of flat
+$ tapirvm verify m.ll --table @main
+accepted
+budget 6
+depth 1
+@main 0 cost 2 depth 1
+@main 1 cost 4 depth 1
+@main 2 cost 6 depth 1
+status 0
+
+# tells no table of what is not there
+of pair
+$ tapirvm verify m.ll --table @none
+status 2
+of pair
+$ tapirvm verify m.ll --table main
+status 2
+of pair
+$ tapirvm verify m.ll --arg 7
+status 2
+of loop
+$ tapirvm verify m.ll --table @none
+refused 701 line 12
+status 1
+
+# runs pair
+of pair
+$ tapirvm serial m.ll --arg 7 --show @a:0 --show @a:1
+$ tapirvm run --workers 1 m.ll --arg 7 --show @a:0 --show @a:1
+$ tapirvm run --workers 2 m.ll --arg 7 --show @a:0 --show @a:1
+$ tapirvm run --workers 64 m.ll --arg 7 --show @a:0 --show @a:1
+result 14
+instructions 14
+peak 2
+@a:0 7
+@a:1 7
+status 0
+of pair
+$ tapirvm serial m.ll --arg 9223372036854775807
+$ tapirvm run --workers 1 m.ll --arg 9223372036854775807
+$ tapirvm run --workers 2 m.ll --arg 9223372036854775807
+$ tapirvm run --workers 64 m.ll --arg 9223372036854775807
+result -2
+instructions 14
+peak 2
+status 0
+
+# runs a parallel loop
+of parallel-for
+$ tapirvm serial m.ll --arg 0
+$ tapirvm run --workers 1 m.ll --arg 0
+$ tapirvm run --workers 2 m.ll --arg 0
+$ tapirvm run --workers 64 m.ll --arg 0
+result 0
+instructions 6
+peak 1
+status 0
+of parallel-for
+$ tapirvm serial m.ll --arg 64 --show @a:63
+$ tapirvm run --workers 1 m.ll --arg 64 --show @a:63
+$ tapirvm run --workers 2 m.ll --arg 64 --show @a:63
+$ tapirvm run --workers 64 m.ll --arg 64 --show @a:63
+result 64
+instructions 518
+peak 2
+@a:63 63
+status 0
+of parallel-for
+$ tapirvm serial m.ll --arg 2 --set @a:5=9 --show @a:1 --show @a:5 --show @a:1
+$ tapirvm run --workers 1 m.ll --arg 2 --set @a:5=9 --show @a:1 --show @a:5 --show @a:1
+$ tapirvm run --workers 2 m.ll --arg 2 --set @a:5=9 --show @a:1 --show @a:5 --show @a:1
+$ tapirvm run --workers 64 m.ll --arg 2 --set @a:5=9 --show @a:1 --show @a:5 --show @a:1
+result 2
+instructions 22
+peak 2
+@a:1 1
+@a:5 9
+@a:1 1
+status 0
+
+# runs a recursion
+of fib
+$ tapirvm serial m.ll --arg 0
+$ tapirvm run --workers 1 m.ll --arg 0
+$ tapirvm run --workers 2 m.ll --arg 0
+$ tapirvm run --workers 64 m.ll --arg 0
+result 0
+instructions 7
+peak 2
+status 0
+of fib
+$ tapirvm serial m.ll --arg 1
+$ tapirvm run --workers 1 m.ll --arg 1
+$ tapirvm run --workers 2 m.ll --arg 1
+$ tapirvm run --workers 64 m.ll --arg 1
+result 1
+instructions 7
+peak 2
+status 0
+of fib
+$ tapirvm serial m.ll --arg 5
+$ tapirvm run --workers 1 m.ll --arg 5
+$ tapirvm run --workers 2 m.ll --arg 5
+$ tapirvm run --workers 64 m.ll --arg 5
+result 5
+instructions 147
+peak 10
+status 0
+of fib
+$ tapirvm serial m.ll --arg 10
+$ tapirvm run --workers 1 m.ll --arg 10
+$ tapirvm run --workers 2 m.ll --arg 10
+$ tapirvm run --workers 64 m.ll --arg 10
+result 55
+instructions 1767
+peak 20
+status 0
+
+# runs straight code
+of add-one
+$ tapirvm serial m.ll --arg 41
+$ tapirvm run --workers 1 m.ll --arg 41
+$ tapirvm run --workers 2 m.ll --arg 41
+$ tapirvm run --workers 64 m.ll --arg 41
+result 42
+instructions 2
+peak 1
+status 0
+of load
+$ tapirvm serial m.ll --set @a:0=6 --set @a:0=5
+$ tapirvm run --workers 1 m.ll --set @a:0=6 --set @a:0=5
+$ tapirvm run --workers 2 m.ll --set @a:0=6 --set @a:0=5
+$ tapirvm run --workers 64 m.ll --set @a:0=6 --set @a:0=5
+result 5
+instructions 2
+peak 1
+status 0
+of divide
+line 3 ;! requires %b <= -1 || ;! requires %a >= 0
+$ tapirvm serial m.ll --arg 7 --arg=-1
+$ tapirvm run --workers 1 m.ll --arg 7 --arg=-1
+$ tapirvm run --workers 2 m.ll --arg 7 --arg=-1
+$ tapirvm run --workers 64 m.ll --arg 7 --arg=-1
+result -7
+instructions 2
+peak 1
+status 0
+
+# runs two widths
+of switch
+$ tapirvm serial m.ll --arg 0
+$ tapirvm run --workers 1 m.ll --arg 0
+$ tapirvm run --workers 2 m.ll --arg 0
+$ tapirvm run --workers 64 m.ll --arg 0
+result 2147483547
+instructions 5
+peak 1
+status 0
+of switch
+$ tapirvm serial m.ll --arg 1
+$ tapirvm run --workers 1 m.ll --arg 1
+$ tapirvm run --workers 2 m.ll --arg 1
+$ tapirvm run --workers 64 m.ll --arg 1
+result 2147483548
+instructions 6
+peak 1
+status 0
+of switch
+$ tapirvm serial m.ll --arg 100
+$ tapirvm run --workers 1 m.ll --arg 100
+$ tapirvm run --workers 2 m.ll --arg 100
+$ tapirvm run --workers 64 m.ll --arg 100
+result 100
+instructions 5
+peak 1
+status 0
+of switch
+line 8 %d = add i32 %t, 2147483647
+$ tapirvm serial m.ll --arg 1
+$ tapirvm run --workers 1 m.ll --arg 1
+$ tapirvm run --workers 2 m.ll --arg 1
+$ tapirvm run --workers 64 m.ll --arg 1
+result 2147483648
+instructions 6
+peak 1
+status 0
+
+# adds at once
+of adding
+$ tapirvm serial m.ll --arg 64 --show @a:0 --show @a:63
+$ tapirvm run --workers 1 m.ll --arg 64 --show @a:0 --show @a:63
+$ tapirvm run --workers 2 m.ll --arg 64 --show @a:0 --show @a:63
+$ tapirvm run --workers 64 m.ll --arg 64 --show @a:0 --show @a:63
+result 64
+instructions 518
+peak 2
+@a:0 2016
+@a:63 0
+status 0
+of adding
+$ tapirvm serial m.ll --arg 2 --set @a:0=-1 --show @a:0
+$ tapirvm run --workers 1 m.ll --arg 2 --set @a:0=-1 --show @a:0
+$ tapirvm run --workers 2 m.ll --arg 2 --set @a:0=-1 --show @a:0
+$ tapirvm run --workers 64 m.ll --arg 2 --set @a:0=-1 --show @a:0
+result 2
+instructions 22
+peak 2
+@a:0 0
+status 0
+
+# stalls a stolen root
+of pair
+events step 0 2; steal 1 root; step 1 3
+$ tapirvm replay m.ll s.txt --workers 2 --arg 7 --show @a:0 --show @a:1
+not ended
+instructions 5
+frames 2
+@a:0 0
+@a:1 7
+status 0
+
+# resumes a stalled root
+of pair
+events step 0 2; steal 1 root; step 1 3; step 0 9
+$ tapirvm replay m.ll s.txt --workers 2 --arg 7 --show @a:0 --show @a:1
+result 14
+instructions 14
+peak 2
+@a:0 7
+@a:1 7
+status 0
+
+# ignores events that are not enabled
+of pair
+events step 0 14
+$ tapirvm replay m.ll s.txt --workers 1 --arg 7
+result 14
+instructions 14
+peak 2
+status 0
+of pair
+events step 5 1; step 0 5; steal 1 root.0; step 0 9
+$ tapirvm replay m.ll s.txt --workers 2 --arg 7
+result 14
+instructions 14
+peak 2
+status 0
+of pair
+events none
+$ tapirvm replay m.ll s.txt --workers 1 --arg 7
+not ended
+instructions 0
+frames 1
+status 0
+
+# steals the root twice
+of parallel-for
+events step 0 5; steal 1 root; step 1 5
+$ tapirvm replay m.ll s.txt --workers 2 --arg 2 --show @a:0 --show @a:1
+not ended
+instructions 10
+frames 3
+@a:0 0
+@a:1 0
+status 0
+of parallel-for
+events step 0 5; steal 1 root; step 1 5; step 0 3
+$ tapirvm replay m.ll s.txt --workers 2 --arg 2 --show @a:0 --show @a:1
+not ended
+instructions 13
+frames 2
+@a:0 0
+@a:1 0
+status 0
+of parallel-for
+events step 0 5; steal 1 root; step 1 5; step 0 3; steal 0 root; step 0 5; step 1 4
+$ tapirvm replay m.ll s.txt --workers 2 --arg 2 --show @a:0 --show @a:1
+result 2
+instructions 22
+peak 2
+@a:0 0
+@a:1 1
+status 0
+
+# adds of two workers meet
+of adding
+events step 0 5; steal 1 root; step 1 13
+$ tapirvm replay m.ll s.txt --workers 2 --arg 2 --set @a:0=10 --show @a:0
+not ended
+instructions 18
+frames 2
+@a:0 11
+status 0
+of adding
+events step 0 5; steal 1 root; step 1 13; step 0 4
+$ tapirvm replay m.ll s.txt --workers 2 --arg 2 --set @a:0=10 --show @a:0
+result 2
+instructions 22
+peak 2
+@a:0 11
+status 0
+
+# steps a recursion
+of fib
+events step 0 46
+$ tapirvm replay m.ll s.txt --workers 1 --arg 3
+not ended
+instructions 46
+frames 1
+status 0
+of fib
+events step 0 47
+$ tapirvm replay m.ll s.txt --workers 1 --arg 3
+result 2
+instructions 47
+peak 6
+status 0
+
+# refuses other texts
+of pair
+events step 0 1; step 0 1
+$ tapirvm replay m.ll s.txt --workers 2 --arg 7
+schedule 901 line 2
+status 5
+of pair
+events step 0 1048577
+$ tapirvm replay m.ll s.txt --workers 2 --arg 7
+schedule 902 line 1
+status 5
+of pair
+events step 0 1
+$ tapirvm replay m.ll s.txt --workers 0 --arg 7
+stopped 802
+status 3
+of pair
+events step 0 1
+$ tapirvm replay m.ll s.txt --workers 0
+stopped 801 requirement 0
+status 3
+
+# a schedule that cannot be read
+of pair
+$ tapirvm replay m.ll s.txt --workers 2 --arg 7
+unreadable s.txt
+status 4
+
+# stops at bad arguments
+of add-one
+$ tapirvm serial m.ll --arg 101
+stopped 801 requirement 2
+status 3
+of add-one
+$ tapirvm serial m.ll --arg=-1
+stopped 801 requirement 1
+status 3
+of add-one
+$ tapirvm serial m.ll
+stopped 801 requirement 0
+status 3
+of add-one
+$ tapirvm run m.ll --workers 0 --arg 101
+stopped 801 requirement 2
+status 3
+of add-one
+$ tapirvm run m.ll --workers 0 --arg 41
+stopped 802
+status 3
+of add-one
+$ tapirvm run m.ll --workers 65 --arg 41
+stopped 802
+status 3
+
+# shows only cells of the module
+of load
+$ tapirvm serial m.ll --show @b:0
+status 2
+of load
+$ tapirvm serial m.ll --show @a:1
+status 2
+of load
+$ tapirvm serial m.ll --set @a:1=5
+status 2
+of load
+$ tapirvm serial - --show @a:+0
+result 0
+instructions 2
+peak 1
+@a:0 0
+status 0
+
+# what cannot be read
+of nothing
+$ tapirvm serial m.ll
+unreadable m.ll
+status 4
+
+# no other words
+of load
+$ tapirvm
+$ tapirvm --help
+$ tapirvm serial
+$ tapirvm serial m.ll --arg -5
+$ tapirvm serial m.ll --arg x
+$ tapirvm serial m.ll --arg 9223372036854775808
+$ tapirvm serial m.ll --set a:0=1
+$ tapirvm serial m.ll --set @a:0
+$ tapirvm serial m.ll --show @a:-1
+$ tapirvm serial m.ll --show @:0
+$ tapirvm serial m.ll --show @1a:0
+$ tapirvm serial m.ll --workers 1
+$ tapirvm run m.ll
+$ tapirvm run m.ll --workers 1 --workers 2
+$ tapirvm run m.ll --workers x
+$ tapirvm verify m.ll --workers 1
+$ tapirvm debug m.ll
+status 2
+
+# a child stores what its parent adds
+of stored
+$ tapirvm serial m.ll --arg 37 --show @a:0
+result 42
+instructions 8
+peak 2
+@a:0 5
+status 0
+$ tapirvm serial m.ll --arg 101
+stopped 801 requirement 2
+status 3
+";

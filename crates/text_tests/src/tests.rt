@@ -1,4 +1,0 @@
-mod annotations;
-mod items;
-mod lexemes;
-mod texts;

@@ -1,3 +1,0 @@
-pub mod Typed
-pub mod Accepted
-pub mod Kinds

@@ -1,4 +1,0 @@
-pub mod Apart
-pub mod Ahead
-pub mod Kept
-pub mod Counted

@@ -1,0 +1,4 @@
+pub mod Owned
+pub mod Let
+pub mod Counts
+pub mod Steps

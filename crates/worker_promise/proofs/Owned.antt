@@ -1,0 +1,37 @@
+-- What slots hold, by the paths of owners.
+use Rattle.std.proofs.Common.{◌≡◌, ◌∙◌, ℕ, ◌-◌, ◌<◌, length, reverse, Option, Some, None, refl, sym, ap, arith, slice_get, List}
+use Rattle.std.specs.Prelude.{IsSome}
+use Rattle.std.proofs.lemmas.List.{length-drop, length-reverse}
+use Rattle.running.specs.Paths.{Path}
+use Rattle.running.specs.Frames.{global_cells, cells_of}
+use Rattle.program.specs.declared.function.Global.{Global}
+use Rattle.program.specs.declared.function.Program.{Program}
+use Rattle.program.specs.declared.identifier.ObjectName.TheVariants as object
+use Rattle.store.specs.Cells.{NamedCells, cell_at}
+use Rattle.store.specs.Made.{HasGlobalCells}
+use Rattle.frame.specs.Reading.{frame_of}
+use Rattle.frame.specs.Room.{HasCell}
+use Rattle.cactus.specs.declared.node.Node.{Node}
+use Rattle.cactus.specs.ByPath.{named}
+use Rattle.cactus.proofs.ByPathLemmas.{FoundAt, named_found}
+use Rattle.worker_steps.specs.declared.activation.Activation.{Activation}
+use Rattle.worker_steps.specs.declared.run.Run.{Run}
+use Rattle.worker_steps.specs.Seen.{Agrees}
+use Rattle.worker_steps.specs.Slots.{HasSlots}
+
+pub globals_there : (prog : Program) (memory : List NamedCells) → HasGlobalCells prog memory → (g i : ℕ) → i < global_cells (slice_get prog.globals g) → IsSome (cell_at memory g i)
+globals_there prog memory has g i = by (slice_get prog.globals g) refl
+  where
+    by : (o : Option Global) → slice_get prog.globals g ≡ o → i < global_cells o → IsSome (cell_at memory g i)
+    by None is low = absurd (omega (arith, low))
+    by (Some global) is low = has g i global is low
+
+-- a function's own frame has the cells of its allocas
+pub owner_has : (prog : Program) (m : Run) → HasSlots prog m → Agrees m.cactus m.hands.items → (owner : Path) (node : Node Activation) → named m.cactus (reverse owner) ≡ Some node → (frame_of owner node.frame.frame).home ≡ owner →
+    (a i : ℕ) → i < cells_of prog node.frame.frame.function.0 (object.Alloca (record { 0 = a })) → HasCell node.frame.frame a i
+owner_has prog m slots agrees owner node is own a i low =
+    let found : FoundAt m.cactus (reverse owner) node = named_found m.cactus (reverse owner) node is in
+    let depth : node.frame.frame.depth ≡ length owner = agrees.depths found.slot node found.stands ∙ (ap length found.is ∙ length-reverse owner) in
+    let within = (agrees.fits found.slot node found.stands).sound.home in
+    let whole : length owner - (length owner - node.frame.frame.home) ≡ length owner = sym (length-drop (length owner - node.frame.frame.home) owner) ∙ ap length own in
+    (slots.frames found.slot node found.stands).cells (omega (arith, depth, within, whole)) a i low

@@ -1,3 +1,0 @@
-pub mod Keeping
-pub mod Owed
-pub mod Law

@@ -1,9 +1,0 @@
-pub mod Places
-pub mod Spans
-pub mod Touching
-pub mod Accesses
-pub mod Children
-pub mod Edges
-pub mod Callees
-pub mod Stays
-pub mod Tables

@@ -1,7 +1,0 @@
-pub mod Uses
-pub mod Accesses
-pub mod Children
-pub mod Edges
-pub mod Callees
-pub mod Stays
-pub mod Tables

@@ -1,2 +1,0 @@
-pub mod Zones
-pub mod Named
