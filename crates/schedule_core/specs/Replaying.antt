@@ -8,6 +8,7 @@ use Rattle.store.specs.Cells.{NamedCells}
 use Rattle.worker_steps.specs.declared.run.Run.{Run}
 use Rattle.worker_steps.specs.Running.{IsTrapped}
 use Rattle.worker_steps.specs.Seen.{seen, given}
+use Rattle.worker_steps.specs.Growing.{GrowsAtStep}
 use Rattle.worker_steps.specs.Slots.{HasSlots}
 use Rattle.worker_steps.specs.Stepping.{IsRun, IsEvent}
 use Rattle.worker_steps.specs.Stopping.{StopsAtStep}
@@ -27,6 +28,11 @@ Happens old new event done = IsEvent old.verified.now old new event done
 abbrev pub StopsOnly : Program → Run → Event → Type 0
 StopsOnly prog run (Step worker) = StopsAtStep prog run worker
 StopsOnly prog run (Steal worker path) = ⊥
+
+-- the event is a step that makes a frame: a detach or a call
+abbrev pub GrowsOnly : Program → Run → Event → Type 0
+GrowsOnly prog run (Step worker) = GrowsAtStep prog run worker
+GrowsOnly prog run (Steal worker path) = ⊥
 
 -- the run of a schedule, of a module that the verifier took, whose slots have a place for all that the text names
 pub record IsMachine (m : Run) : Type 0 where

@@ -6,7 +6,7 @@ ghost use Rattle.verifier.specs.Accepted.{IsAccepted};
 ghost use Rattle.worker_steps.specs.Running.{IsGoing, IsTrapped, IsStart, IsNumberOfWorkers, StepsWhere};
 ghost use Rattle.worker_steps.specs.Slots.{HasSlots};
 ghost use Rattle.worker_steps.specs.Stepping.{DoesEvent, IsRun, StartsAs};
-ghost use Rattle.schedule_core.specs.Replaying.{DoesAll, StopsOnly, event_of};
+ghost use Rattle.schedule_core.specs.Replaying.{DoesAll, GrowsOnly, StopsOnly, event_of};
 
 use crate::event::Event;
 use lists::OutOfMemory;
@@ -55,6 +55,7 @@ pub(crate) fn begin<'v>(
 /// One event. The answer is whether it was enabled; where it was not, nothing changes.
 pub(crate) fn apply_to(run: &mut Run, event: &Event) -> Result<bool, OutOfMemory>
     ensures refused { OnErr result (run.new ≡ run.old) }
+    ensures grows { OnErr result (GrowsOnly run.old.verified.now run.old event.now) }
     ensures not_enabled { result ≡ Ok false → run.new ≡ run.old }
     ensures over { ¬ IsGoing run.old → result ≡ Ok false }
     ensures step { (worker : ℕ) → event.now ≡ Event.Step worker → IfOk result (StepsWhere run.old run.new worker) }

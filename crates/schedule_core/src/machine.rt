@@ -7,7 +7,7 @@ ghost use Rattle.store.specs.Cells.{cell_named};
 ghost use Rattle.worker_steps.specs.Running.{IsGoing, IsTrapped, IsStart, IsNumberOfWorkers, StepsWhere};
 ghost use Rattle.worker_steps.specs.Seen.{seen};
 ghost use Rattle.worker_steps.specs.Stepping.{StartsAs};
-ghost use Rattle.schedule_core.specs.Replaying.{Happens, IsMachine, event_of};
+ghost use Rattle.schedule_core.specs.Replaying.{GrowsOnly, Happens, IsMachine, event_of};
 
 use crate::event::Event;
 use crate::events::{apply_to, begin};
@@ -62,6 +62,7 @@ impl<'v> Machine<'v> {
     /// Memory was refused: nothing has changed. Only a step that makes a frame takes memory.
     pub fn apply(&mut self, event: &Event) -> Result<bool, OutOfMemory>
         ensures refused { OnErr result (self.new.run ≡ self.old.run) }
+        ensures grows { OnErr result (GrowsOnly self.old.run.verified.now self.old.run event.now) }
         ensures not_enabled { result ≡ Ok false → self.new.run ≡ self.old.run }
         ensures over { ¬ IsGoing self.old.run → result ≡ Ok false }
         ensures step { (worker : ℕ) → event.now ≡ Event.Step worker → IfOk result (StepsWhere self.old.run self.new.run worker) }

@@ -18,5 +18,6 @@ pub mod Detached
 pub mod Reattached
 pub mod Passing
 pub mod Calls
+pub mod Growing
 pub mod Happening
 pub mod Started

@@ -69,7 +69,7 @@ module _ (frames : Frames Activation) (tree : IsTree frames) (slot parent : ℕ)
 
 -- ---- the next instruction
 
-place_depth : (frames : Frames Activation) (hands : List (Option ℕ)) (slot : ℕ) (node : Node Activation) (a : Activation) → Agrees frames hands → node_at frames slot ≡ Some node → node.frame ≡ a → length (place_of node) ≡ a.frame.depth
+pub place_depth : (frames : Frames Activation) (hands : List (Option ℕ)) (slot : ℕ) (node : Node Activation) (a : Activation) → Agrees frames hands → node_at frames slot ≡ Some node → node.frame ≡ a → length (place_of node) ≡ a.frame.depth
 place_depth frames hands slot node a agrees stands same = length-reverse node.path.numbers ∙ (sym (agrees.depths slot node stands) ∙ ap (λ (b : Activation). b.frame.depth) same)
 
 -- the definitions trap, if the frame has room

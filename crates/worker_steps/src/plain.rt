@@ -7,6 +7,7 @@ ghost use Rattle.frame.specs.Room.{HasCell};
 ghost use Rattle.frame.specs.declared.effect.Trap.{Trap};
 ghost use Rattle.cactus.specs.Frames.{frame_at};
 ghost use Rattle.worker_steps.specs.declared.activation.Activation.{Activation};
+ghost use Rattle.worker_steps.specs.Growing.{AsksFrame, GrowsAt};
 ghost use Rattle.worker_steps.specs.Running.{IsGoing, IsTrapped};
 ghost use Rattle.worker_steps.specs.Seen.{seen};
 ghost use Rattle.worker_steps.specs.Slots.{KeepsSlots};
@@ -32,6 +33,7 @@ impl Run<'_> {
         ensures refused { result ≡ Err Halt.OutOfMemory → self.new ≡ self.old }
         ensures step { OnOk result (StepsAt self.old.verified.now self.old self.new worker top) }
         ensures slots { OnOk result (FillsSlotsAt self.old.verified.now self.old self.new worker top) }
+        ensures grows { result ≡ Err Halt.OutOfMemory → GrowsAt self.old.verified.now self.old top }
         ensures stopped { (trap : Trap) → result ≡ Err (Halt.Trapped trap) → HaltsAt self.old.verified.now self.old top }
         ensures going { IsGoing self.old → ¬ IsTrapped self.new }
     {
@@ -45,6 +47,7 @@ impl Run<'_> {
         ensures refused { result ≡ Err Halt.OutOfMemory → self.new ≡ self.old }
         ensures step { OnOk result (CanDoAt self.old.cactus top effect → Performs self.old.verified.now self.old self.new worker top effect) }
         ensures slots { OnOk result (CanDoAt self.old.cactus top effect → FillsSlots self.old.verified.now self.old self.new worker top effect) }
+        ensures grows { result ≡ Err Halt.OutOfMemory → AsksFrame effect }
         ensures stopped { (trap : Trap) → result ≡ Err (Halt.Trapped trap) → Refuses self.old.verified.now self.old top effect }
         ensures going { IsGoing self.old → ¬ IsTrapped self.new }
     {

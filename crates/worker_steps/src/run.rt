@@ -8,6 +8,7 @@ ghost use Rattle.worker_steps.specs.Stepping.{DoesEvent, StartsAs};
 ghost use Rattle.worker_steps.specs.Seen.{Agrees, StealsIf, taken};
 ghost use Rattle.worker_steps.specs.Slots.{HasSlots, KeepsSlots};
 ghost use Rattle.worker_steps.specs.Running.{IsGoing, IsTrapped, IsStart, StepsWhere, Takes, TakesAt};
+ghost use Rattle.worker_steps.specs.Growing.{GrowsAtStep};
 ghost use Rattle.worker_steps.specs.Stopping.{StopsAtStep};
 
 use crate::activation::Activation;
@@ -128,6 +129,7 @@ impl<'v> Run<'v> {
     pub fn step(&mut self, worker: u8) -> Result<bool, OutOfMemory>
         requires { IsGoing self.old }
         ensures refused { OnErr result (self.new ≡ self.old) }
+        ensures grows { OnErr result (GrowsAtStep self.old.verified.now self.old worker) }
         ensures not_enabled { result ≡ Ok false → self.new ≡ self.old }
         ensures enabled { IfOk result (StepsWhere self.old self.new worker) }
         ensures event { IfOk result (DoesEvent self.old.verified.now self.old self.new (Step worker)) }

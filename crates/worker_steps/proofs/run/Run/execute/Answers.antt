@@ -5,6 +5,7 @@ use Rattle.std.specs.Prelude.{Ok, is_err}
 use Rattle.running.specs.Effect.{action_of}
 use Rattle.frame.specs.Asked.{asked, DoesNext}
 use Rattle.frame.specs.Reading.{frame_of}
+use Rattle.worker_steps.proofs.Growing.{grows_there}
 use Rattle.worker_steps.proofs.Performed.{executes}
 use Rattle.worker_steps.proofs.Refusing.{next_traps, not_let_there}
 use Rattle.worker_steps.proofs.Filling.{fills}
@@ -37,3 +38,9 @@ returns-clause-slots c =
     (λ p memory depth. subst (λ (q : Program). asked q p (frame_of p c.in_ok-activation.field-0.now.frame) memory (Ok c.in_ok-effect.effect) ≡ action_of q p (frame_of p c.in_ok-activation.field-0.now.frame) memory) c.program.ensures (c.in_ok-effect.ensures.does p memory depth tt))
     filling)
     c.perform.ensures.slots
+
+pub returns-clause-grows : goal.returns-clause-grows
+returns-clause-grows c is =
+    grows_there c.args.self.now.verified.now c.args.self.now c.args.top c.in_ok-activation.field-0.now c.in_ok-effect.effect c.in_ok-activation.ensures.value
+    (λ p memory depth. subst (λ (q : Program). asked q p (frame_of p c.in_ok-activation.field-0.now.frame) memory (Ok c.in_ok-effect.effect) ≡ action_of q p (frame_of p c.in_ok-activation.field-0.now.frame) memory) c.program.ensures (c.in_ok-effect.ensures.does p memory depth tt))
+    (c.perform.ensures.grows is)

@@ -23,3 +23,11 @@ returns-in-Err-Trapped-clause-stopped c trapped =
       hand = sym c.hand.ensures.slot ∙ c.in-Some.is;
       why = inr (trapped_by (HaltsAt c.args.self.now.verified.now c.args.self.now c.in-Some.top) c.execute.result c.execute.ensures.stopped (search rules) (search rules));
     }
+
+pub returns-in-Err-OutOfMemory-clause-grows : goal.returns-in-Err-OutOfMemory-clause-grows
+returns-in-Err-OutOfMemory-clause-grows c =
+    record {
+      slot = c.in-Some.top;
+      hand = sym c.hand.ensures.slot ∙ c.in-Some.is;
+      grows = c.execute.ensures.grows (search rules);
+    }
