@@ -211,16 +211,23 @@ fn print_replayed<W: Write>(
     Ok(Status::Done)
 }
 
+/// Sets a cell; false where it is not there.
+fn set_cell(memory: &mut Memory, setting: &Setting) -> bool
+    ensures { (program : Program) → HasGlobalCells program memory.old → HasGlobalCells program memory.new }
+{
+    memory.set_global(
+        setting.cell.name.as_str(),
+        setting.cell.index,
+        setting.value,
+    )
+}
+
 /// Sets cells in order; false where one is not there.
 fn set_cells(memory: &mut Memory, settings: &[Setting]) -> bool
     ensures { (program : Program) → HasGlobalCells program memory.old → HasGlobalCells program memory.new }
 {
     for setting in settings {
-        if !memory.set_global(
-            setting.cell.name.as_str(),
-            setting.cell.index,
-            setting.value,
-        ) {
+        if !set_cell(memory, setting) {
             return false;
         }
     }

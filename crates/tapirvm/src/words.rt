@@ -134,38 +134,41 @@ fn fault_of(alloc: Global, error: Error) -> WordsFault {
     }
 }
 
-fn verify_command<'a>(alloc: Global) -> Result<Command<'a>, AllocError> {
-    let file = Arg::new(alloc, "file").value_name("FILE").required(true);
-    let table = Arg::new(alloc, "table")
+fn file_word<'a>(alloc: Global) -> Arg<'a> {
+    Arg::new(alloc, "file").value_name("FILE").required(true)
+}
+
+fn table_option<'a>(alloc: Global) -> Arg<'a> {
+    Arg::new(alloc, "table")
         .long("table")
         .value_name("@f")
         .action(ArgAction::Set)
-        .help("prints the costs and depths of a function");
+        .help("prints the costs and depths of a function")
+}
+
+fn verify_command<'a>(alloc: Global) -> Result<Command<'a>, AllocError> {
     Command::new(alloc, "verify")
         .about("verifies a module, and tells its budget and depth")
-        .arg(file)?
-        .arg(table)
+        .arg(file_word(alloc))?
+        .arg(table_option(alloc))
+}
+
+/// An option that may be given more than once.
+fn repeated<'a>(alloc: Global, name: &'a str, value: &'a str, help: &'a str) -> Arg<'a> {
+    Arg::new(alloc, name)
+        .long(name)
+        .value_name(value)
+        .action(ArgAction::Append)
+        .help(help)
 }
 
 /// The options of a verb that runs a module.
 fn running<'a>(alloc: Global, command: Command<'a>) -> Result<Command<'a>, AllocError> {
-    let file = Arg::new(alloc, "file").value_name("FILE").required(true);
-    let arg = Arg::new(alloc, "arg")
-        .long("arg")
-        .value_name("V")
-        .action(ArgAction::Append)
-        .help("an argument of @main, in order");
-    let set = Arg::new(alloc, "set")
-        .long("set")
-        .value_name("@a:I=V")
-        .action(ArgAction::Append)
-        .help("sets a cell before the run");
-    let show = Arg::new(alloc, "show")
-        .long("show")
-        .value_name("@a:I")
-        .action(ArgAction::Append)
-        .help("prints a cell after the run");
-    command.arg(file)?.arg(arg)?.arg(set)?.arg(show)
+    command
+        .arg(file_word(alloc))?
+        .arg(repeated(alloc, "arg", "V", "an argument of @main, in order"))?
+        .arg(repeated(alloc, "set", "@a:I=V", "sets a cell before the run"))?
+        .arg(repeated(alloc, "show", "@a:I", "prints a cell after the run"))
 }
 
 fn serial_command<'a>(alloc: Global) -> Result<Command<'a>, AllocError> {
