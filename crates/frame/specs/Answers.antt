@@ -26,9 +26,3 @@ Fits w z = FitsSigned (word w) z
 -- a shift amount, where it is below the width
 abbrev pub amount_of : Width → ℤ → Result ℕ Trap
 amount_of w z = cond (is_amount w z) (Ok (unsigned w z)) (Err Undefined)
-
--- of the number that is converted
-abbrev pub source_width : Conversion → Width
-source_width Truncate = Bits64
-source_width SignExtend = Bits32
-source_width ZeroExtend = Bits32

@@ -16,7 +16,8 @@ use Rattle.frame.specs.declared.frame.Frame as machine
 use Rattle.program.specs.declared.instruction.Terminator.{Terminator}
 use Rattle.syntax.specs.declared.operator.Width.{Width}
 use Rattle.syntax.specs.declared.operator.Width.TheVariants.{Bits64, Bits32}
-use Rattle.frame.specs.Answers.{trap_of, source_width, Fits}
+use Rattle.program.specs.Widths.{source_width}
+use Rattle.frame.specs.Answers.{trap_of, Fits}
 use Rattle.frame.specs.Room.{CanDo}
 use Rattle.frame.specs.Reading.{cell_of, frame_of, object_of, value_of}
 

@@ -13,12 +13,13 @@ ghost use Rattle.frame.specs.Answers.{answer_of};
 ghost use Rattle.program.specs.declared.function.Program.{Program};
 ghost use Rattle.running.specs.Cells.{Memory};
 
-use crate::arithmetic::{binary, compare, convert, source_width};
+use crate::arithmetic::{binary, compare, convert};
 use crate::frame::{Frame, Role, block_at, item_at};
 use crate::value::{Cell, Object, Value};
 use program::{
     Address, AllocaId, Argument, BinaryOperator, BlockId, Case, Conversion, FunctionId,
     Instruction, ObjectName, Operand, Parameter, Predicate, Program, RegisterId, Terminator, Width,
+    source_width,
 };
 
 /// Why an instruction has no effect.

@@ -4,7 +4,7 @@ use Rattle.running.specs.Cells.{Object, Shared, Local}
 use Rattle.running.specs.Frames.{phis_at}
 use Rattle.running.specs.Effect.{registers_along, traps}
 use Rattle.program.specs.declared.function.Program.{Program}
-use Rattle.verifier.specs.Budgets.{budget_of}
+use Rattle.store.specs.verifier.Budgets.{budget_of}
 use Rattle.store.specs.Cells.{NamedCells, cell_at}
 use Rattle.frame.specs.declared.effect.Effect.{Effect as Asked}
 use Rattle.frame.specs.declared.effect.Effect.TheVariants as effect
