@@ -3,9 +3,6 @@ use Rattle.std.specs.Prelude.{ℕ, ℤ, cond, Result, Ok, Err, FitsSigned}
 use Rattle.running.specs.Arithmetic.{Answer, Gives, Traps, word, is_amount, unsigned}
 use Rattle.running.specs.Arithmetic as running
 use Rattle.syntax.specs.declared.operator.Width.{Width}
-use Rattle.syntax.specs.declared.operator.Width.TheVariants.{Bits64, Bits32}
-use Rattle.syntax.specs.declared.operator.Conversion.{Conversion}
-use Rattle.syntax.specs.declared.operator.Conversion.TheVariants.{Truncate, SignExtend, ZeroExtend}
 use Rattle.frame.specs.declared.effect.Trap.{Trap}
 use Rattle.frame.specs.declared.effect.Trap.TheVariants.{Undefined, BadIndex, BadDivisor, Unmatched}
 
