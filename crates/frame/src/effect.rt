@@ -124,7 +124,8 @@ fn extent(program: &Program, function: FunctionId, name: ObjectName) -> u64
 
 /// Gives the register the answer of an operation.
 fn number_effect(register: RegisterId, answer: Result<i64, Trap>) -> Result<Effect, Trap>
-    ensures does { (prog : Program) (p : Path) (f : frames.Frame) (m : Memory) → asked prog p f m result ≡ effects.Plain (effects.answers f register (answer_of answer)) }
+    ensures does { (prog : Program) (p : Path) (f : frames.Frame) (m : Memory)
+        → asked prog p f m result ≡ effects.Plain (effects.answers f register (answer_of answer)) }
     ensures within { (depth : ℕ) → IfOk result (λ e. EffectWithin depth e) }
 {
     match answer {
@@ -444,7 +445,8 @@ fn return_effect(program: &Program, frame: &Frame, value: Option<Operand>) -> Re
 /// The effect, where the register holds a region that this frame started: a region's frame is the one that holds it, or
 /// is above that.
 fn within(frame: &Frame, region: RegisterId, effect: Effect) -> Result<Effect, Trap>
-    ensures does { (prog : Program) (p : Path) (m : Memory) → length p ≡ frame.now.depth → asked prog p (frame_of p frame.now) m result ≡ effects.within p (frame_of p frame.now) region (asked prog p (frame_of p frame.now) m (Ok effect)) }
+    ensures does { (prog : Program) (p : Path) (m : Memory) → length p ≡ frame.now.depth
+        → asked prog p (frame_of p frame.now) m result ≡ effects.within p (frame_of p frame.now) region (asked prog p (frame_of p frame.now) m (Ok effect)) }
     ensures same { IfOk result (λ e. e ≡ effect) }
 {
     match frame.register(region) {
