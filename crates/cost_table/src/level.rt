@@ -1,8 +1,8 @@
 ghost use Rattle.std.specs.Prelude.{◌≡◌, ◌≤◌, length};
-ghost use Rattle.region_match.specs.Tasks.{task_at};
+ghost use Rattle.ranges.specs.region_match.Tasks.{task_at};
 ghost use Rattle.cost_table.specs.Depth.{detaches_around};
 
-use region_match::Task;
+use ranges::regions::Task;
 
 /// The task of a block.
 fn task_at(tasks: &[Task], block: usize) -> Task

@@ -3,7 +3,7 @@ ghost use Rattle.ranges.specs.Sums.{shows};
 ghost use Rattle.cost_table.specs.Rules.{left_behind, less_form, put_in, number_less};
 ghost use Rattle.cost_table.specs.Tables.{as_u128};
 
-use cfg::Move;
+use ranges::graph::Move;
 use linear::{Fact, Form, side_of};
 use lists::{OutOfMemory, Seq};
 use ranges::{Sum, push_parts, shows};

@@ -5,7 +5,7 @@ use Rattle.linear.specs.declared.form.Fact.{Fact}
 use Rattle.program.specs.declared.function.Block.{Block}
 use Rattle.program.specs.declared.function.Function.{Function}
 use Rattle.refusal.specs.declared.broken.Broken.{Broken}
-use Rattle.region_match.specs.declared.task.Task.{Task}
+use Rattle.ranges.specs.region_match.declared.task.Task.{Task}
 use Rattle.refusal.specs.Earliest.{IsEarliest}
 use Rattle.refusal.proofs.Elements.{earliest_same}
 use Rattle.ranges.specs.declared.table.BlockFacts.{BlockFacts}

@@ -4,7 +4,7 @@ ghost use Rattle.footprints.specs.Footprints.{hands_on, pending_of, is_passed, a
 use crate::place::as_written;
 use crate::touch::child_foot;
 use crate::zone::{PlacedZone, covers, is_empty};
-use cfg::Way;
+use ranges::graph::Way;
 use lists::OutOfMemory;
 use program::{Block, BlockId, Pending, RegisterId, Terminator, Zone};
 use ranges::EdgeFacts;

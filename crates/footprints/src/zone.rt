@@ -1,7 +1,7 @@
 ghost use Rattle.std.specs.Prelude.{◌≡◌, ◌<◌, IfOk};
 ghost use Rattle.footprints.specs.Zones.{span, same_object, mode_covers, modes_agree, between, shows_order, is_empty, covers, is_apart, conflict, is_covered};
 
-use cfg::Move;
+use ranges::graph::Move;
 use linear::{Fact, Form, side_of};
 use lists::{OutOfMemory, Seq};
 use program::{Mode, ObjectName, Zone};

@@ -7,7 +7,7 @@ ghost use Rattle.ranges.specs.Rules.{IsFunctionBroken, IsRangeBroken};
 use crate::RangeFault;
 use crate::table::{BlockFacts, Facts, FunctionFacts};
 use crate::walk::block_facts;
-use cfg::Graph;
+use region_match::graph::Graph;
 use lists::{OutOfMemory, Seq};
 use program::{Function, Program};
 use refusal::{Broken, lower};

@@ -3,7 +3,7 @@ ghost use Rattle.linear.specs.Forms.{AreSmall};
 ghost use Rattle.ranges.specs.Inequalities.{operand_for, part_of, parts_of, difference_of, differences_of, argument_operand, argument_moves, result_of, result_moves, register_operand, call_moves};
 
 use crate::sum::{Part, Sum};
-use cfg::Move;
+use region_match::graph::Move;
 use linear::{RegisterId, Term, side_of};
 use lists::{OutOfMemory, Seq};
 use program::{Argument, Function, Inequality, Operand};

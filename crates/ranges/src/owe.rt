@@ -8,7 +8,7 @@ ghost use Rattle.program.specs.Cells.{object_cells};
 use crate::inequality::{argument_moves, difference_of, result_moves};
 use crate::learn::scale_of;
 use crate::sum::{Obligation, Part, Sum, opposite};
-use cfg::Move;
+use region_match::graph::Move;
 use lists::{OutOfMemory, Seq};
 use program::{
     Argument, BinaryOperator, Function, FunctionId, Inequality, Instruction, ObjectName, Operand,

@@ -44,9 +44,11 @@ impl<'v> Machine<'v> {
         ensures started { IfOk result (λ m. IsStart m.run workers) }
         ensures state { IfOk result (λ m. StartsAs verified.now arguments.now memory m.run) }
         ensures in_range { OnOk result (IsNumberOfWorkers workers) }
-        ensures bad_arguments { (requirement : ℕ) → unmet_in verified.now arguments.now ≡ Some requirement → result ≡ Err (RunFault.BadArguments requirement memory) }
+        ensures bad_arguments { (requirement : ℕ) → unmet_in verified.now arguments.now ≡ Some requirement
+            → result ≡ Err (RunFault.BadArguments requirement memory) }
         ensures bad_workers { unmet_in verified.now arguments.now ≡ None → ¬ IsNumberOfWorkers workers → result ≡ Err (RunFault.BadWorkers memory) }
-        ensures only_bad_arguments { (requirement : ℕ) (m : Memory) → result ≡ Err (RunFault.BadArguments requirement m) → unmet_in verified.now arguments.now ≡ Some requirement }
+        ensures only_bad_arguments { (requirement : ℕ) (m : Memory) → result ≡ Err (RunFault.BadArguments requirement m)
+            → unmet_in verified.now arguments.now ≡ Some requirement }
         ensures only_bad_workers { (m : Memory) → result ≡ Err (RunFault.BadWorkers m) → ¬ IsNumberOfWorkers workers }
         ensures met { OnOk result (unmet_in verified.now arguments.now ≡ None) }
         ensures no_trap { result ≢ Err RunFault.Trapped }

@@ -32,9 +32,11 @@ pub fn replay<'v>(
     ensures sound { IfOk result (λ m. ¬ IsTrapped m.run) }
     ensures replays { IfOk result (λ m. Replays verified.now arguments.now memory workers events.now m.run) }
     ensures in_range { OnOk result (IsNumberOfWorkers workers) }
-    ensures bad_arguments { (requirement : ℕ) → unmet_in verified.now arguments.now ≡ Some requirement → result ≡ Err (RunFault.BadArguments requirement memory) }
+    ensures bad_arguments { (requirement : ℕ) → unmet_in verified.now arguments.now ≡ Some requirement
+        → result ≡ Err (RunFault.BadArguments requirement memory) }
     ensures bad_workers { unmet_in verified.now arguments.now ≡ None → ¬ IsNumberOfWorkers workers → result ≡ Err (RunFault.BadWorkers memory) }
-    ensures only_bad_arguments { (requirement : ℕ) (m : Memory) → result ≡ Err (RunFault.BadArguments requirement m) → unmet_in verified.now arguments.now ≡ Some requirement }
+    ensures only_bad_arguments { (requirement : ℕ) (m : Memory) → result ≡ Err (RunFault.BadArguments requirement m)
+        → unmet_in verified.now arguments.now ≡ Some requirement }
     ensures only_bad_workers { (m : Memory) → result ≡ Err (RunFault.BadWorkers m) → ¬ IsNumberOfWorkers workers }
     ensures met { OnOk result (unmet_in verified.now arguments.now ≡ None) }
     ensures keeps { IfOk result (λ m. KeepsItsSchedule verified.now arguments.now memory workers m.run) }

@@ -12,7 +12,7 @@ use Rattle.conditions.specs.theorem.Schedules.{KeepsSchedule}
 use Rattle.conditions.proofs.theorem.EverySchedule.{kept_by_schedules}
 use Rattle.conditions.proofs.theorem.SerialExists.{serial_alone}
 use Rattle.program.specs.declared.function.Program.{Program}
-use Rattle.region_match.specs.declared.tables.Regions.{Regions}
+use Rattle.phase_laws.specs.region_match.declared.tables.Regions.{Regions}
 use Rattle.verifier.specs.Accepted.{AreTasksOf}
 use Rattle.verifier.specs.Budgets.{depth_of, IsDepthOf}
 use Rattle.phase_laws.specs.defined.Placed.{IsPlaced}

@@ -7,8 +7,8 @@ use Rattle.running.specs.Frames.{global_cells, cells_of}
 use Rattle.program.specs.declared.function.Global.{Global}
 use Rattle.program.specs.declared.function.Program.{Program}
 use Rattle.program.specs.declared.identifier.ObjectName.TheVariants as object
-use Rattle.store.specs.Cells.{NamedCells, cell_at}
-use Rattle.store.specs.Made.{HasGlobalCells}
+use Rattle.serial_promise.specs.store.Cells.{NamedCells, cell_at}
+use Rattle.serial_promise.specs.store.Made.{HasGlobalCells}
 use Rattle.frame.specs.Reading.{frame_of}
 use Rattle.frame.specs.Room.{HasCell}
 use Rattle.cactus.specs.declared.node.Node.{Node}

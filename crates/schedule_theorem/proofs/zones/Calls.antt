@@ -24,9 +24,9 @@ use Rattle.program.specs.declared.instruction.Instruction.TheVariants as instruc
 use Rattle.program.specs.declared.instruction.Operand.{Operand}
 use Rattle.types.specs.Apart.{parameters_at}
 use Rattle.types.specs.Definitions.{IsFrom}
-use Rattle.region_match.specs.declared.tables.Regions.{Regions}
-use Rattle.region_match.specs.Tasks.{innermost}
-use Rattle.footprints.specs.Rules.{covering_of}
+use Rattle.phase_laws.specs.region_match.declared.tables.Regions.{Regions}
+use Rattle.phase_laws.specs.region_match.Tasks.{innermost}
+use Rattle.phase_laws.specs.footprints.Rules.{covering_of}
 use Rattle.conditions.specs.rules.Costs.{parameters_in}
 use Rattle.conditions.specs.rules.Moves.{number_of, Calls}
 use Rattle.conditions.proofs.rules.Moves.{calls_here}

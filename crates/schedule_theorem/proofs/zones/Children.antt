@@ -19,19 +19,19 @@ use Rattle.program.specs.declared.function.Function.{Function}
 use Rattle.program.specs.declared.function.Program.{Program}
 use Rattle.program.specs.declared.instruction.Terminator.{Terminator}
 use Rattle.program.specs.declared.instruction.Terminator.TheVariants as terminator
-use Rattle.cfg.specs.declared.structure.Way.TheVariants as way
-use Rattle.ranges.specs.declared.edge.EdgeSums.{EdgeSums}
-use Rattle.ranges.specs.Edges.{edge_to}
+use Rattle.phase_laws.specs.cfg.declared.structure.Way.TheVariants as way
+use Rattle.phase_laws.specs.ranges.declared.edge.EdgeSums.{EdgeSums}
+use Rattle.phase_laws.specs.ranges.Edges.{edge_to}
 use Rattle.linear.specs.declared.form.Fact.{Fact}
 use Rattle.linear.specs.Forms.{Holds}
 use Rattle.std.proofs.lemmas.List.Elements.{All-nil}
-use Rattle.region_match.specs.declared.tables.Regions.{Regions}
-use Rattle.region_match.specs.Rules.{ending_at}
-use Rattle.region_match.specs.Tasks.{innermost}
-use Rattle.region_match.specs.declared.task.Task.{Task}
-use Rattle.footprints.specs.Zones.{mode_covers}
-use Rattle.footprints.specs.Footprints.{foot_of, pending_of}
-use Rattle.footprints.specs.Rules.{foot_at_end, covering_of, is_own_block}
+use Rattle.phase_laws.specs.region_match.declared.tables.Regions.{Regions}
+use Rattle.phase_laws.specs.region_match.Rules.{ending_at}
+use Rattle.phase_laws.specs.region_match.Tasks.{innermost}
+use Rattle.phase_laws.specs.region_match.declared.task.Task.{Task}
+use Rattle.phase_laws.specs.footprints.Zones.{mode_covers}
+use Rattle.phase_laws.specs.footprints.Footprints.{foot_of, pending_of}
+use Rattle.phase_laws.specs.footprints.Rules.{foot_at_end, covering_of, is_own_block}
 use Rattle.conditions.specs.rules.Costs.{numbers}
 use Rattle.conditions.specs.rules.Moves.{Forks}
 use Rattle.conditions.proofs.rules.Moves.{forks_here}

@@ -16,11 +16,11 @@ use Rattle.program.specs.declared.annotation.Zone.{Zone}
 use Rattle.program.specs.declared.identifier.ObjectName.TheVariants.{Alloca}
 use Rattle.program.specs.declared.function.Function.{Function}
 use Rattle.program.specs.declared.function.Program.{Program}
-use Rattle.region_match.specs.declared.tables.Regions.{Regions}
-use Rattle.region_match.specs.Tasks.{innermost}
-use Rattle.footprints.specs.Zones.{mode_covers, modes_agree}
-use Rattle.footprints.specs.Footprints.{pending_of}
-use Rattle.footprints.specs.Rules.{covering_of}
+use Rattle.phase_laws.specs.region_match.declared.tables.Regions.{Regions}
+use Rattle.phase_laws.specs.region_match.Tasks.{innermost}
+use Rattle.phase_laws.specs.footprints.Zones.{mode_covers, modes_agree}
+use Rattle.phase_laws.specs.footprints.Footprints.{pending_of}
+use Rattle.phase_laws.specs.footprints.Rules.{covering_of}
 use Rattle.phase_laws.specs.zones.Uses.{Uses, StandsIn, HoldsCell, IsInOne, task_of, MayUse}
 use Rattle.phase_laws.specs.zones.Edges.{IsPendingFor}
 use Rattle.schedule_theorem.specs.zones.Keeping.{Keeping, OfTask, MadeBelow, cells_of, pending_at, LetsUse, Fits}

@@ -4,7 +4,7 @@ use Rattle.running.specs.Paths.{Path}
 use Rattle.running.specs.Frames.{Frame}
 use Rattle.conditions.specs.theorem.Conditions.{StaysInZone, PassesZonesOn}
 use Rattle.program.specs.declared.function.Program.{Program}
-use Rattle.region_match.specs.declared.tables.Regions.{Regions}
+use Rattle.phase_laws.specs.region_match.declared.tables.Regions.{Regions}
 use Rattle.conditions.proofs.rules.Moves.{moves}
 use Rattle.phase_laws.proofs.zones.Accesses.{accesses_let}
 use Rattle.schedule_theorem.specs.zones.Keeping.{Keeping, cells_of, pending_at, Fits, Expects}

@@ -12,8 +12,8 @@ use Rattle.program.specs.declared.annotation.Pending.{Pending}
 use Rattle.program.specs.declared.annotation.Zone.{Zone}
 use Rattle.program.specs.declared.function.Program.{Program}
 use Rattle.types.specs.Apart.{IsNamedBy, in_pending}
-use Rattle.region_match.specs.declared.tables.Regions.{Regions}
-use Rattle.footprints.specs.Footprints.{pending_of}
+use Rattle.phase_laws.specs.region_match.declared.tables.Regions.{Regions}
+use Rattle.phase_laws.specs.footprints.Footprints.{pending_of}
 use Rattle.phase_laws.proofs.defined.Lists.{within_at}
 use Rattle.phase_laws.specs.zones.Uses.{HoldsCell, IsInOne, MayUse}
 use Rattle.phase_laws.specs.zones.Edges.{IsPendingFor}

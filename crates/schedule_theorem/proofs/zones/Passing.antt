@@ -14,12 +14,12 @@ use Rattle.program.specs.declared.function.Alloca.{Alloca as AllocaOf}
 use Rattle.program.specs.declared.function.Function.{Function}
 use Rattle.program.specs.declared.function.Program.{Program}
 use Rattle.program.specs.declared.instruction.Ending.{Ending}
-use Rattle.definedness.specs.declared.act.Act.TheVariants.{Needs}
-use Rattle.definedness.specs.RegisterActs.{register_needs, zone_needs, pending_needs}
-use Rattle.region_match.specs.declared.tables.Regions.{Regions}
-use Rattle.region_match.specs.Tasks.{innermost}
-use Rattle.footprints.specs.Footprints.{hands_on, pending_of}
-use Rattle.footprints.specs.Rules.{covering_of, is_own_block}
+use Rattle.phase_laws.specs.definedness.declared.act.Act.TheVariants.{Needs}
+use Rattle.phase_laws.specs.definedness.RegisterActs.{register_needs, zone_needs, pending_needs}
+use Rattle.phase_laws.specs.region_match.declared.tables.Regions.{Regions}
+use Rattle.phase_laws.specs.region_match.Tasks.{innermost}
+use Rattle.phase_laws.specs.footprints.Footprints.{hands_on, pending_of}
+use Rattle.phase_laws.specs.footprints.Rules.{covering_of, is_own_block}
 use Rattle.phase_laws.specs.defined.Placed.{IsPlaced}
 use Rattle.phase_laws.specs.defined.Stable.{Names}
 use Rattle.phase_laws.proofs.defined.Lists.{flat_within}

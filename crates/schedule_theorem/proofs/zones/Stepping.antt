@@ -26,16 +26,16 @@ use Rattle.program.specs.declared.instruction.Operand.{Operand}
 use Rattle.program.specs.declared.instruction.Terminator.{Terminator}
 use Rattle.types.specs.Apart.{parameters_at}
 use Rattle.types.specs.Definitions.{IsFrom}
-use Rattle.cfg.specs.declared.structure.Way.{Way}
-use Rattle.cfg.specs.declared.structure.Way.TheVariants as way
-use Rattle.cfg.specs.Edges.{graph_of}
-use Rattle.ranges.specs.declared.edge.EdgeSums.{EdgeSums}
-use Rattle.ranges.specs.Edges.{edges_out}
-use Rattle.ranges.specs.Truth.{operand_value}
-use Rattle.region_match.specs.declared.tables.Regions.{Regions}
-use Rattle.region_match.specs.Tasks.{HasTask, innermost, task_along}
-use Rattle.footprints.specs.Footprints.{hands_on, pending_of}
-use Rattle.footprints.specs.Rules.{covering_of}
+use Rattle.phase_laws.specs.cfg.declared.structure.Way.{Way}
+use Rattle.phase_laws.specs.cfg.declared.structure.Way.TheVariants as way
+use Rattle.phase_laws.specs.cfg.Edges.{graph_of}
+use Rattle.phase_laws.specs.ranges.declared.edge.EdgeSums.{EdgeSums}
+use Rattle.phase_laws.specs.ranges.Edges.{edges_out}
+use Rattle.phase_laws.specs.ranges.Truth.{operand_value}
+use Rattle.phase_laws.specs.region_match.declared.tables.Regions.{Regions}
+use Rattle.phase_laws.specs.region_match.Tasks.{HasTask, innermost, task_along}
+use Rattle.phase_laws.specs.footprints.Footprints.{hands_on, pending_of}
+use Rattle.phase_laws.specs.footprints.Rules.{covering_of}
 use Rattle.conditions.specs.rules.Costs.{numbers}
 use Rattle.conditions.specs.rules.Moves.{dest_of, GoesOn}
 use Rattle.conditions.specs.rules.InProofs.{Moves, is_next, is_along}

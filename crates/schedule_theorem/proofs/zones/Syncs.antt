@@ -13,11 +13,11 @@ use Rattle.conditions.specs.theorem.Conditions.{Covers, Going}
 use Rattle.program.specs.declared.function.Program.{Program}
 use Rattle.program.specs.declared.instruction.Terminator.{Terminator}
 use Rattle.types.specs.Apart.{parameters_at}
-use Rattle.cfg.specs.declared.structure.Way.{Way}
-use Rattle.cfg.specs.declared.structure.Way.TheVariants as way
-use Rattle.ranges.specs.Edges.{edges_out}
-use Rattle.region_match.specs.declared.tables.Regions.{Regions}
-use Rattle.footprints.specs.Footprints.{hands_on}
+use Rattle.phase_laws.specs.cfg.declared.structure.Way.{Way}
+use Rattle.phase_laws.specs.cfg.declared.structure.Way.TheVariants as way
+use Rattle.phase_laws.specs.ranges.Edges.{edges_out}
+use Rattle.phase_laws.specs.region_match.declared.tables.Regions.{Regions}
+use Rattle.phase_laws.specs.footprints.Footprints.{hands_on}
 use Rattle.conditions.specs.rules.Costs.{numbers}
 use Rattle.conditions.specs.rules.Moves.{SyncsTo}
 use Rattle.conditions.proofs.rules.Moves.{sync_here, syncs_along}

@@ -12,7 +12,7 @@ use Rattle.conditions.specs.theorem.Conditions.{StaysInZone, PassesZonesOn, Clos
 use Rattle.program.specs.declared.function.Block.{Block}
 use Rattle.program.specs.declared.function.Function.{Function}
 use Rattle.program.specs.declared.function.Program.{Program}
-use Rattle.region_match.specs.declared.tables.Regions.{Regions}
+use Rattle.phase_laws.specs.region_match.declared.tables.Regions.{Regions}
 use Rattle.phase_laws.specs.defined.Leads.{IsBlock}
 use Rattle.conditions.specs.rules.Costs.{numbers}
 use Rattle.phase_laws.specs.facts.Known.{IsMet, KnownHold}

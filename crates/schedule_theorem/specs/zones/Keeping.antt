@@ -17,10 +17,10 @@ use Rattle.program.specs.declared.function.Program.{Program}
 use Rattle.program.specs.declared.instruction.Argument.{Argument}
 use Rattle.program.specs.declared.instruction.Instruction.TheVariants as instruction
 use Rattle.program.specs.declared.instruction.Operand.{Operand}
-use Rattle.ranges.specs.Truth.{operand_value}
-use Rattle.region_match.specs.declared.tables.Regions.{Regions}
-use Rattle.footprints.specs.Footprints.{pending_of}
-use Rattle.footprints.specs.Rules.{covering_of, is_own_block}
+use Rattle.phase_laws.specs.ranges.Truth.{operand_value}
+use Rattle.phase_laws.specs.region_match.declared.tables.Regions.{Regions}
+use Rattle.phase_laws.specs.footprints.Footprints.{pending_of}
+use Rattle.phase_laws.specs.footprints.Rules.{covering_of, is_own_block}
 use Rattle.conditions.specs.rules.Costs.{numbers}
 use Rattle.phase_laws.specs.defined.Placed.{IsPlaced}
 use Rattle.phase_laws.specs.facts.Known.{KnownHold}
