@@ -20,3 +20,4 @@ pub mod Passing
 pub mod Calls
 pub mod Happening
 pub mod Started
+pub mod Copied

@@ -6,3 +6,4 @@ pub mod Slots
 pub mod Stepping
 pub mod Forking
 pub mod Stopping
+pub mod Copying
