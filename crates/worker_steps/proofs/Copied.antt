@@ -1,5 +1,5 @@
 -- A copy of a run reads as the run does, and keeps what it keeps.
-use Rattle.std.proofs.Common.{◌≡◌, ℕ, zero, suc, ◌<◌, ◌≤◌, List, [], ◌∷◌, length, map, reverse, Option, Some, None, Bool, true, false, cond, refl, sym, ap, ◌∙◌, subst, arith, get_or, slice_get, ℤ}
+use Rattle.std.proofs.Common.{◌≡◌, ℕ, zero, suc, ◌+◌, ◌<◌, ◌≤◌, List, [], ◌∷◌, ◌++◌, length, map, reverse, Option, Some, None, Bool, true, false, cond, refl, sym, ap, ◌∙◌, subst, arith, get_or, slice_get, ℤ}
 use Rattle.std.specs.Prelude.{IsSome, IsSomeAnd, option_and_then}
 use Rattle.std.specs.Option.{option_map, option_map_or}
 use Rattle.std.specs.List.{AllZip}
@@ -94,19 +94,19 @@ at_slot (n ∷ nodes) [] all slot = absurd all
 at_slot (n ∷ nodes) (c ∷ copies) all zero = all.0
 at_slot (n ∷ nodes) (c ∷ copies) all (suc slot) = at_slot nodes copies all.1 slot
 
+by_test : (b : Bool) (x y v w : Option (Node Activation)) → Copied x y → Copied v w → Copied (cond b x v) (cond b y w)
+by_test true x y v w c d = c
+by_test false x y v w c d = d
+
 first_copied : (nodes copies : List (Option (Node Activation))) → AllZip Copied nodes copies → (numbers : List ℕ) → Copied (first_named nodes numbers) (first_named copies numbers)
 first_copied [] [] all numbers = refl
 first_copied [] (c ∷ copies) all numbers = absurd all
 first_copied (n ∷ nodes) [] all numbers = absurd all
 first_copied (None ∷ nodes) (c ∷ copies) all numbers = subst (λ o. Copied (first_named nodes numbers) (first_named (o ∷ copies) numbers)) (sym all.0) (first_copied nodes copies all.1 numbers)
-first_copied (Some n ∷ nodes) (None ∷ copies) all numbers = absurd (cc)
+first_copied (Some n ∷ nodes) (None ∷ copies) all numbers = absurd all.0
 first_copied (Some n ∷ nodes) (Some c ∷ copies) all numbers =
     subst (λ (l : List ℕ). Copied (cond (same_path n.path.numbers numbers) (Some n) (first_named nodes numbers)) (cond (same_path l numbers) (Some c) (first_named copies numbers))) (sym (ap (λ q. q.numbers) (path_same n c all.0)))
-    (by (same_path n.path.numbers numbers))
-  where
-    by : (b : Bool) → Copied (cond b (Some n) (first_named nodes numbers)) (cond b (Some c) (first_named copies numbers))
-    by true = all.0
-    by false = first_copied nodes copies all.1 numbers
+    (by_test (same_path n.path.numbers numbers) (Some n) (Some c) (first_named nodes numbers) (first_named copies numbers) all.0 (first_copied nodes copies all.1 numbers))
 
 module _ (frames copies : Frames Activation) (are : AreCopies IsActivationCopy frames copies) where
   slot_copied : (slot : ℕ) → Copied (node_at frames slot) (node_at copies slot)
