@@ -1,3 +1,4 @@
 pub mod Frames
 pub mod ByPath
 pub mod Lending
+pub mod Copies

@@ -5,11 +5,11 @@ ghost use Rattle.slab.specs.Slab.{entries_from};
 ghost use Rattle.cactus.specs.Frames.{node_at, node_of_use, HasPath, HasNoPath, owner_at, slot_above, frame_at, Lives, IsAdded, AddsChild, IsRemoved};
 ghost use Rattle.cactus.specs.ByPath.{named, IsTree, Binds, GrowsMap, ShrinksMap};
 
-use crate::node::Node;
+use crate::node::{FrameData, Node};
 use frame::Path;
 use lists::{OutOfMemory, Seq};
 use slab::{Iter, Slab};
-use std::alloc::Global;
+use std::alloc::{AllocError, Global};
 use std::marker::Model;
 
 /// The path of a frame's child of this number.
@@ -228,5 +228,19 @@ impl<F: Drop> Cactus<F> {
         ensures map { ShrinksMap self.old self.new slot result }
     {
         self.nodes.remove(slot)
+    }
+}
+
+impl<F: FrameData> Clone for Cactus<F> {
+    ghost use Rattle.cactus.specs.Copies.{AreCopies};
+
+    ghost is_clone = { AreCopies F.is_clone };
+
+    fn clone(&self) -> Result<Cactus<F>, AllocError> {
+        Ok(Cactus {
+            alloc: self.alloc,
+            nodes: self.nodes.clone()?,
+            made: self.made,
+        })
     }
 }

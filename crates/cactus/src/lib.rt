@@ -7,4 +7,4 @@ mod cactus;
 mod node;
 
 pub use cactus::Cactus;
-pub use node::Node;
+pub use node::{FrameData, Node};

@@ -1,6 +1,7 @@
 ghost use Rattle.std.specs.Prelude.{◌≡◌, ◌↔◌, IsTrue};
 
 use frame::Path;
+use std::alloc::{AllocError, Global};
 
 /// One use of a slot.
 #[derive(Debug, Drop)]
@@ -19,5 +20,29 @@ impl<F> Node<F> {
         ensures { IsTrue result ↔ (self.now.path.numbers ≡ path.now.numbers) }
     {
         self.path.numbers.as_slice() == path.numbers.as_slice()
+    }
+}
+
+/// What is kept of a frame, where it can be copied.
+pub trait FrameData: Clone {
+    /// Where its lists are kept.
+    fn allocator(&self) -> Global;
+}
+
+impl<F: FrameData> Clone for Node<F> {
+    ghost use Rattle.cactus.specs.Copies.{IsNodeCopy};
+
+    ghost is_clone = { IsNodeCopy F.is_clone };
+
+    fn clone(&self) -> Result<Node<F>, AllocError> {
+        let Ok(path) = self.path.copy(self.frame.allocator()) else {
+            return Err(AllocError);
+        };
+        Ok(Node {
+            generation: self.generation,
+            path,
+            parent: self.parent,
+            frame: self.frame.clone()?,
+        })
     }
 }

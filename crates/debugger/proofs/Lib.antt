@@ -6,3 +6,4 @@ pub mod Parts
 pub mod Printed
 pub mod Progress
 pub mod Spelled
+pub mod Walking

@@ -39,6 +39,12 @@ pub record IsStealing (line : List ℕ) (worker : ℕ) (task : Path) : Type 0 wh
   pub within : worker ≤ 63
   pub is_task : AreChildren rest task.numbers
 
+-- `root` and the numbers of the frames on the way down
+pub record IsTaskName (name : List ℕ) (task : Path) : Type 0 where
+  pub rest : List ℕ
+  pub is_spelled : name ≡ codes "root" ++ rest
+  pub is_task : AreChildren rest task.numbers
+
 abbrev pub IsSpelled : List ℕ → Line → Type 0
 IsSpelled line (Steps worker count) = IsStepping line worker count
 IsSpelled line (Steals worker task) = IsStealing line worker task

@@ -4,16 +4,21 @@
 //! one spelling, and each text that is read is the spelling of its list.
 #![tactic(auto)]
 
+mod debugger;
 mod fault;
+mod going;
 pub mod laws;
 mod line;
+mod marks;
 mod numeral;
 mod print;
 mod read;
 #[cfg(test)]
 mod tests;
 
+pub use debugger::Debugger;
 pub use fault::ScheduleFault;
-pub use line::Line;
+pub use line::{Line, read_task};
+pub use numeral::read_number;
 pub use print::print_schedule;
 pub use read::read_schedule;

@@ -4,7 +4,7 @@ ghost use Rattle.std.specs.Prelude.{◌≡◌, ◌≢◌, ◌≤◌, ◌++◌, �
 ghost use Rattle.std.specs.List.{prefix_len, list_all};
 ghost use Rattle.frame.specs.declared.path.Path as path;
 ghost use Rattle.debugger.specs.declared.line.Line as line_type;
-ghost use Rattle.debugger.specs.ScheduleText.{IsSpelled, IsStepping, IsStealing, AreChildren};
+ghost use Rattle.debugger.specs.ScheduleText.{IsSpelled, IsStepping, IsStealing, IsTaskName, AreChildren};
 ghost use Rattle.debugger.specs.Reading.{cap, capped, is_not, CutAt, IsFirstChild, AreStealWords};
 
 use crate::numeral::{number_of, number_to};
@@ -153,5 +153,16 @@ pub fn read_line(alloc: Global, line: &[u8]) -> Result<Option<Line>, OutOfMemory
                 None => Ok(None),
             }
         }
+    }
+}
+
+/// The path that a task's name spells: `root`, and behind a dot each number on the way down, at most 1,000,000,000,000.
+pub fn read_task(alloc: Global, name: &[u8]) -> Result<Option<Path>, OutOfMemory>
+    ensures some { IfOk result (λ found. IfSome found (IsTaskName name.now)) }
+    ensures none { IfOk result (λ found. IfNone found ((task : path.Path) → IsTaskName name.now task → ⊥)) }
+{
+    match behind(b"root", name) {
+        None => Ok(None),
+        Some(children) => read_path(alloc, children),
     }
 }

@@ -63,3 +63,15 @@ pub fn number_to(most: u64, word: &[u8]) -> Option<u64>
         _ => None,
     }
 }
+
+/// The number that a word spells, where it is below 2^64.
+pub fn read_number(word: &[u8]) -> Option<u64>
+    ensures number { IfSome result (IsNumeral word.now) }
+    ensures none { IfNone result ((m : ℕ) → IsNumeral word.now m → m < 2 ^ 64 → ⊥) }
+{
+    if is_numeral(word) {
+        small_value(word)
+    } else {
+        None
+    }
+}

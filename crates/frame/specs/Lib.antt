@@ -3,3 +3,4 @@ pub mod Reading
 pub mod Asked
 pub mod Room
 pub mod Places
+pub mod Copies

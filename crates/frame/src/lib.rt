@@ -4,6 +4,7 @@
 
 mod alloca;
 mod arithmetic;
+mod copies;
 mod effect;
 mod entering;
 mod frame;

@@ -1,7 +1,9 @@
 -- The lines of a module at which frames stand.
-use Rattle.std.specs.Prelude.{ℕ, Option, Some, None, option_and_then, slice_get}
+use Rattle.std.specs.Prelude.{◌≡◌, ℕ, Option, Some, None, option_and_then, slice_get}
 use Rattle.std.specs.Option.{option_map, option_map_or}
 use Rattle.running.specs.Frames.{block_at}
+use Rattle.running.specs.Frames as running_frames
+use Rattle.running.specs.Events as running
 use Rattle.program.specs.declared.function.Block.{Block}
 use Rattle.program.specs.declared.function.Program.{Program}
 use Rattle.program.specs.declared.identifier.BlockId.{BlockId}
@@ -37,3 +39,15 @@ line_by prog f (Some block) = sync_line prog f.function block
 
 abbrev pub line_of : Program → Frame → Option BlockId → ℕ
 line_of prog f stalled_in = option_map_or (λ (line : ℕ). line) (line_by prog f stalled_in) 0
+
+-- the line of the next instruction of a frame of the definitions
+abbrev pub place_line : Program → running_frames.Frame → Option ℕ
+place_line prog f = option_and_then (λ (block : Block). line_in block f.index) (block_at prog f.function f.block)
+
+-- the line of the next instruction of the worker's task
+abbrev pub line_of_worker : Program → running.Machine → ℕ → Option ℕ
+line_of_worker prog c worker = option_and_then (λ p. option_and_then (place_line prog) (c.core.frames p)) (c.hands worker)
+
+-- some worker's next instruction stands on the line
+abbrev pub StandsAt : Program → running.Machine → ℕ → Type 0
+StandsAt prog c line = (worker : ℕ) × (line_of_worker prog c worker ≡ Some line)

@@ -7,6 +7,7 @@ mod event;
 mod events;
 mod machine;
 mod schedule;
+mod stands;
 mod task;
 mod view;
 

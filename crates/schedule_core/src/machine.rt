@@ -6,7 +6,9 @@ ghost use Rattle.store.specs.declared.memory.Memory.{Memory};
 ghost use Rattle.store.specs.Cells.{cell_named};
 ghost use Rattle.worker_steps.specs.Running.{IsGoing, IsTrapped, IsStart, IsNumberOfWorkers, StepsWhere};
 ghost use Rattle.worker_steps.specs.Seen.{seen};
-ghost use Rattle.worker_steps.specs.Stepping.{StartsAs};
+ghost use Rattle.worker_steps.specs.Slots.{HasSlots};
+ghost use Rattle.worker_steps.specs.Stepping.{DoesEvent, StartsAs};
+ghost use Rattle.worker_steps.specs.Copying.{IsCopy};
 ghost use Rattle.schedule_core.specs.Replaying.{GrowsOnly, Happens, IsMachine, event_of};
 
 use crate::event::Event;
@@ -43,6 +45,7 @@ impl<'v> Machine<'v> {
         requires { HasGlobalCells verified.now memory }
         ensures started { IfOk result (λ m. IsStart m.run workers) }
         ensures state { IfOk result (λ m. StartsAs verified.now arguments.now memory m.run) }
+        ensures slots { IfOk result (λ m. HasSlots verified.now m.run) }
         ensures in_range { OnOk result (IsNumberOfWorkers workers) }
         ensures bad_arguments { (requirement : ℕ) → unmet_in verified.now arguments.now ≡ Some requirement
             → result ≡ Err (RunFault.BadArguments requirement memory) }
@@ -69,9 +72,22 @@ impl<'v> Machine<'v> {
         ensures over { ¬ IsGoing self.old.run → result ≡ Ok false }
         ensures step { (worker : ℕ) → event.now ≡ Event.Step worker → IfOk result (StepsWhere self.old.run self.new.run worker) }
         ensures event { IfOk result (λ done. ∥ Happens self.old.run self.new.run (event_of event.now) done ∥₁) }
+        ensures does { IfOk result (DoesEvent self.old.run.verified.now self.old.run self.new.run (event_of event.now)) }
         ensures never_stops { ¬ IsTrapped self.new.run }
     {
         apply_to(&mut self.run, event)
+    }
+
+    /// The same machine again.
+    ///
+    /// # Errors
+    ///
+    /// Memory was refused.
+    pub fn copy(&self) -> Result<Machine<'v>, OutOfMemory>
+        ensures { IfOk result (λ m. IsCopy self.now.run m.run) }
+    {
+        let run = self.run.copy()?;
+        Ok(Machine { run })
     }
 
     /// Whether `main` has returned.

@@ -61,7 +61,7 @@ fn line_in(block: &Block, index: usize) -> Option<u32>
 }
 
 /// The line of the frame's next instruction.
-fn next_line(program: &Program, frame: &Frame) -> Option<u32>
+pub(crate) fn next_line(program: &Program, frame: &Frame) -> Option<u32>
     ensures { result ≡ lines.next_line program.now frame.now }
 {
     match block_at(program, frame.function, frame.block) {

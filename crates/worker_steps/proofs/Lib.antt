@@ -21,3 +21,4 @@ pub mod Calls
 pub mod Growing
 pub mod Happening
 pub mod Started
+pub mod Copied

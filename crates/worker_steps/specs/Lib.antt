@@ -7,3 +7,4 @@ pub mod Stepping
 pub mod Forking
 pub mod Stopping
 pub mod Growing
+pub mod Copying

@@ -7,10 +7,11 @@ ghost use Rattle.frame.specs.declared.frame.Wait.TheVariants.{Nothing, Region};
 ghost use Rattle.worker_steps.specs.Running.{WaitsForCall, ResumesWith};
 ghost use Rattle.worker_steps.specs.Scheduling.{IsReady, standing_of, count_in, counted_in};
 
+use cactus::FrameData;
 use frame::{Frame, Trap, Wait};
 use lists::OutOfMemory;
 use program::{BlockId, RegisterId};
-use std::alloc::Global;
+use std::alloc::{AllocError, Global};
 use sync_join::{Parent, RegionCount};
 
 /// A living frame with what the scheduler knows of it. A task is a frame that no call made, with the frames called on top
@@ -152,5 +153,27 @@ impl Activation {
     {
         self.stalled_in = None;
         self.runner = Some(worker);
+    }
+}
+
+impl Clone for Activation {
+    ghost use Rattle.worker_steps.specs.Copying.{IsActivationCopy};
+
+    ghost is_clone = { IsActivationCopy };
+
+    fn clone(&self) -> Result<Activation, AllocError> {
+        Ok(Activation {
+            frame: self.frame.clone()?,
+            counts: Vec::from_slice(self.allocator(), self.counts.as_slice())?,
+            callee: self.callee,
+            runner: self.runner,
+            stalled_in: self.stalled_in,
+        })
+    }
+}
+
+impl FrameData for Activation {
+    fn allocator(&self) -> Global {
+        *self.counts.allocator()
     }
 }

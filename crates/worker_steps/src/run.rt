@@ -9,6 +9,7 @@ ghost use Rattle.worker_steps.specs.Seen.{Agrees, StealsIf, taken};
 ghost use Rattle.worker_steps.specs.Slots.{HasSlots, KeepsSlots};
 ghost use Rattle.worker_steps.specs.Running.{IsGoing, IsTrapped, IsStart, StepsWhere, Takes, TakesAt};
 ghost use Rattle.worker_steps.specs.Growing.{GrowsAtStep};
+ghost use Rattle.worker_steps.specs.Copying.{IsCopy};
 ghost use Rattle.worker_steps.specs.Stopping.{StopsAtStep};
 
 use crate::activation::Activation;
@@ -78,6 +79,26 @@ impl<'v> Run<'v> {
             instructions: 0,
             peak: 1,
             phase: Phase::Going,
+        })
+    }
+
+    /// The same run again.
+    ///
+    /// # Errors
+    ///
+    /// Memory was refused.
+    pub fn copy(&self) -> Result<Run<'v>, OutOfMemory>
+        ensures { IfOk result (IsCopy self.now) }
+    {
+        Ok(Run {
+            alloc: self.alloc,
+            verified: self.verified,
+            cactus: self.cactus.clone()?,
+            memory: self.memory.copy()?,
+            hands: Vec::from_slice(self.alloc, self.hands.as_slice())?,
+            instructions: self.instructions,
+            peak: self.peak,
+            phase: self.phase,
         })
     }
 

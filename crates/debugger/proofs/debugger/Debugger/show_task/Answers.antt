@@ -1,0 +1,7 @@
+use Rattle.debugger.proofs.debugger.Debugger.show_task.Goals as goal
+
+pub returns-clause-shown : goal.returns-clause-shown
+returns-clause-shown c s d = c.task.ensures.shown d.at.replays.run.sound
+
+pub returns-clause-absent : goal.returns-clause-absent
+returns-clause-absent c s d = c.task.ensures.absent d.at.replays.run.sound
