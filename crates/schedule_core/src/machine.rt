@@ -6,7 +6,8 @@ ghost use Rattle.store.specs.declared.memory.Memory.{Memory};
 ghost use Rattle.store.specs.Cells.{cell_named};
 ghost use Rattle.worker_steps.specs.Running.{IsGoing, IsTrapped, IsStart, IsNumberOfWorkers, StepsWhere};
 ghost use Rattle.worker_steps.specs.Seen.{seen};
-ghost use Rattle.worker_steps.specs.Stepping.{StartsAs};
+ghost use Rattle.worker_steps.specs.Slots.{HasSlots};
+ghost use Rattle.worker_steps.specs.Stepping.{IsRun, StartsAs};
 ghost use Rattle.schedule_core.specs.Replaying.{Happens, IsMachine, event_of};
 
 use crate::event::Event;
@@ -43,6 +44,7 @@ impl<'v> Machine<'v> {
         requires { HasGlobalCells verified.now memory }
         ensures started { IfOk result (λ m. IsStart m.run workers) }
         ensures state { IfOk result (λ m. StartsAs verified.now arguments.now memory m.run) }
+        ensures slots { IfOk result (λ m. HasSlots verified.now m.run) }
         ensures in_range { OnOk result (IsNumberOfWorkers workers) }
         ensures bad_workers { (m : Memory) → result ≡ Err (RunFault.BadWorkers m) → (m ≡ memory) × ¬ IsNumberOfWorkers workers }
         ensures bad_arguments { (requirement : ℕ) (m : Memory) → result ≡ Err (RunFault.BadArguments requirement m) → m ≡ memory }
@@ -65,6 +67,7 @@ impl<'v> Machine<'v> {
         ensures over { ¬ IsGoing self.old.run → result ≡ Ok false }
         ensures step { (worker : ℕ) → event.now ≡ Event.Step worker → IfOk result (StepsWhere self.old.run self.new.run worker) }
         ensures event { IfOk result (λ done. ∥ Happens self.old.run self.new.run (event_of event.now) done ∥₁) }
+        ensures happens { IsRun self.old.run.verified.now self.old.run → IfOk result (Happens self.old.run self.new.run (event_of event.now)) }
         ensures never_stops { ¬ IsTrapped self.new.run }
     {
         apply_to(&mut self.run, event)
