@@ -126,3 +126,8 @@ module _ (old new : Run) (e : Event) (over : ¬ IsGoing old → new ≡ old) (st
   kept_after (Err x) same unless does kept = subst (λ (m : Run). ∥ IsMachine m ∥₁) (sym same) kept
   kept_after (Ok true) same unless does kept = ∥∥₁_map kept (λ k. next_machine k true does (λ off. absurd (off refl)))
   kept_after (Ok false) same unless does kept = ∥∥₁_map kept (λ k. next_machine k false does (λ off. unless refl))
+
+-- of a run that a schedule leads to, an event that does not trap is that of the definitions
+pub happens_from : (old new : Run) (e : Event) (r : Result Bool OutOfMemory) → IfOk r (DoesEvent old.verified.now old new (event_of e)) → ¬ IsTrapped new → IsRun old.verified.now old → IfOk r (Happens old new (event_of e))
+happens_from old new e (Err x) does fine run = tt
+happens_from old new e (Ok done) does fine run = does run fine

@@ -92,7 +92,7 @@ module _ (prog : Program) (m : Run) (k : IsRun prog m) where
   body_is (role.Child region continuation) e = absurd (cc)
 
   -- the path of a frame is its parent's with its own number
-  below_place : (slot parent : ℕ) (node : Node Activation) → node_at m.cactus slot ≡ Some node → node.parent ≡ Some parent → (above : Node Activation) × (number : ℕ) × (node_at m.cactus parent ≡ Some above) × (place_of node ≡ number ∷ place_of above)
+  pub below_place : (slot parent : ℕ) (node : Node Activation) → node_at m.cactus slot ≡ Some node → node.parent ≡ Some parent → (above : Node Activation) × (number : ℕ) × (node_at m.cactus parent ≡ Some above) × (place_of node ≡ number ∷ place_of above)
   below_place slot parent node stands has =
       let b : IsBelow m.cactus parent node.path.numbers = k.agrees.tree.below slot parent node stands has in
       (b.above, b.number, b.stands, ap reverse b.is ∙ reverse_last b.above.path.numbers b.number)

@@ -1,3 +1,4 @@
 pub mod Lines
 pub mod Viewed
 pub mod Replaying
+pub mod Parents

@@ -6,6 +6,7 @@
 mod event;
 mod events;
 mod machine;
+mod parent;
 mod schedule;
 mod stands;
 mod task;

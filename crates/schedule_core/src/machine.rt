@@ -7,7 +7,7 @@ ghost use Rattle.store.specs.Cells.{cell_named};
 ghost use Rattle.worker_steps.specs.Running.{IsGoing, IsTrapped, IsStart, IsNumberOfWorkers, StepsWhere};
 ghost use Rattle.worker_steps.specs.Seen.{seen};
 ghost use Rattle.worker_steps.specs.Slots.{HasSlots};
-ghost use Rattle.worker_steps.specs.Stepping.{DoesEvent, StartsAs};
+ghost use Rattle.worker_steps.specs.Stepping.{DoesEvent, IsRun, StartsAs};
 ghost use Rattle.worker_steps.specs.Copying.{IsCopy};
 ghost use Rattle.schedule_core.specs.Replaying.{GrowsOnly, Happens, IsMachine, event_of};
 
@@ -73,6 +73,7 @@ impl<'v> Machine<'v> {
         ensures step { (worker : ℕ) → event.now ≡ Event.Step worker → IfOk result (StepsWhere self.old.run self.new.run worker) }
         ensures event { IfOk result (λ done. ∥ Happens self.old.run self.new.run (event_of event.now) done ∥₁) }
         ensures does { IfOk result (DoesEvent self.old.run.verified.now self.old.run self.new.run (event_of event.now)) }
+        ensures happens { IsRun self.old.run.verified.now self.old.run → IfOk result (Happens self.old.run self.new.run (event_of event.now)) }
         ensures never_stops { ¬ IsTrapped self.new.run }
     {
         apply_to(&mut self.run, event)

@@ -78,7 +78,7 @@ impl Machine<'_> {
     }
 
     /// The path of the task of which the slot's frame is the top, where the task is ready.
-    fn ready_task(&self, slot: usize) -> Option<&Path>
+    pub(crate) fn ready_task(&self, slot: usize) -> Option<&Path>
         ensures shown { IfSome (option_copied result) (IsReadyAt self.now.run.cactus slot) }
         ensures absent { IsTree self.now.run.cactus → IfNone (option_copied result) (¬ IsSomeAnd (frame_at self.now.run.cactus slot) IsReady) }
     {

@@ -1,0 +1,6 @@
+pub mod Runs
+pub mod Starts
+pub mod Stories
+pub mod Bound
+pub mod Begun
+pub mod Calls

@@ -1,0 +1,4 @@
+pub mod Spelled
+pub mod Story
+pub mod Calls
+pub mod Answer

@@ -1,6 +1,28 @@
 //! One run that several threads do: the board, and the seats at which its workers make their moves.
+//!
+//! A board has the machine and the history of its events; contracts see the start, the events since then, and the run that they
+//! led to. Each call at a seat appends to the history exactly the events that it names, and does them, or it leaves board and
+//! seat as they were. So the machine is always the replay of the history, each event of which was enabled where it stands, and the
+//! schedule theorem holds of it (`Board::machine`). Tokens of `std::sync::ledger` count: the board's book counts all events, each
+//! seat's share those that its own calls appended.
+//!
+//! `Shared` is a board in a lock with a copy of its start beside it. No call here waits: a thread locks `Shared::board` itself.
 #![tactic(auto)]
 
+mod answers;
+mod bench;
+mod board;
+mod history;
+mod seat;
+mod shared;
+mod start;
 mod ticket;
 
+pub use answers::{Claimed, Stepped};
+pub use bench::Bench;
+pub use board::Board;
+pub use history::{Entry, History};
+pub use seat::Seat;
+pub use shared::Shared;
+pub use start::Start;
 pub use ticket::Ticket;

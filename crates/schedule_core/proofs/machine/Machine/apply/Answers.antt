@@ -1,4 +1,4 @@
-use Rattle.schedule_core.proofs.Promised.{happens_if, kept_after, never_trapped}
+use Rattle.schedule_core.proofs.Promised.{happens_from, happens_if, kept_after, never_trapped}
 use Rattle.schedule_core.proofs.machine.Machine.apply.Goals as goal
 
 pub returns-clause-event : goal.returns-clause-event
@@ -10,3 +10,6 @@ returns-clause-never_stops c = never_trapped c.args.self.now.run c.apply_to.new.
 
 pub invariant_of-self : goal.invariant_of-self
 invariant_of-self c = record { kept = kept_after c.args.self.now.run c.apply_to.new.run c.args.event.now (λ off. c.apply_to.ensures.not_enabled (c.apply_to.ensures.over off)) c.apply_to.ensures.stops c.apply_to.result c.apply_to.ensures.refused c.apply_to.ensures.not_enabled c.apply_to.ensures.event c.args.self.now.kept }
+
+pub returns-clause-happens : goal.returns-clause-happens
+returns-clause-happens c = happens_from c.args.self.now.run c.apply_to.new.run c.args.event.now c.apply_to.result c.apply_to.ensures.event (returns-clause-never_stops c)

@@ -1,0 +1,46 @@
+-- The parent of the child that a worker runs.
+use Rattle.std.specs.Prelude.{◌≡◌, ◌≢◌, ℕ, ◌∷◌, List, length, Option, Some, None, true}
+use Rattle.running.specs.Paths.{Path as RunningPath}
+use Rattle.running.specs.Frames as defined
+use Rattle.running.specs.Events as running
+use Rattle.frame.specs.declared.path.Path.{Path}
+use Rattle.frame.specs.declared.frame.Role.TheVariants.{Body}
+use Rattle.cactus.specs.declared.node.Node.{Node}
+use Rattle.cactus.specs.Frames.{node_at, HasPath}
+use Rattle.worker_steps.specs.declared.activation.Activation.{Activation}
+use Rattle.worker_steps.specs.declared.run.Run.{Run}
+use Rattle.worker_steps.specs.Scheduling.{hand_of}
+use Rattle.worker_steps.specs.Seen.{seen}
+use Rattle.schedule_core.specs.Viewed.{place_in, status_in}
+
+-- the top of the worker's task is a child of the frame in the slot
+pub record IsParentSlot (run : Run) (worker slot : ℕ) : Type 0 where
+  pub top : ℕ
+  pub hand : hand_of run.hands.items worker ≡ Some top
+  pub child : Node Activation
+  pub stands : node_at run.cactus top ≡ Some child
+  pub role : child.frame.frame.role ≢ Body
+  pub parent : child.parent ≡ Some slot
+
+-- it is no child, or has no parent
+abbrev pub HasNoParentSlot : Run → ℕ → Type 0
+HasNoParentSlot run worker =
+    (top : ℕ) (child : Node Activation) → hand_of run.hands.items worker ≡ Some top → node_at run.cactus top ≡ Some child → child.frame.frame.role ≢ Body →
+    child.parent ≡ None
+
+-- in this use of the slot stands the lowest frame of a ready task, whose top detached the child that the worker runs
+pub record IsReadyParent (run : Run) (worker slot generation : ℕ) : Type 0 where
+  pub path : Path
+  pub named : HasPath run.cactus slot generation path
+  pub ready : status_in run path ≡ Some running.Ready
+  pub number : ℕ
+  pub hand : (seen run).hands worker ≡ Some (number ∷ running.top_of (seen run).core (place_in path))
+  pub child : defined.Frame
+  pub stands : (seen run).core.frames (number ∷ running.top_of (seen run).core (place_in path)) ≡ Some child
+  pub is_child : running.is_child child.role ≡ true
+
+-- the worker runs no child whose parent is a ready top
+abbrev pub HasNoReadyParent : Run → ℕ → Type 0
+HasNoReadyParent run worker =
+    (number : ℕ) (above : RunningPath) (child : defined.Frame) → (seen run).hands worker ≡ Some (number ∷ above) →
+    (seen run).core.frames (number ∷ above) ≡ Some child → running.is_child child.role ≡ true → ¬ (running.top_status (length run.hands.items) (seen run) above ≡ Some running.Ready)

@@ -1,0 +1,34 @@
+-- An entry more.
+use Rattle.std.proofs.Common.{◌≡◌, ℕ, ◌+◌, ◌≤◌, List, [], ◌∷◌, ◌++◌, sym, ap, ◌∙◌, append_assoc, append-nil, length, length-append, replicate, arith}
+use Rattle.std.proofs.lemmas.List.{length-replicate, replicate-append-replicate}
+use Rattle.schedule_core.specs.declared.event.Event.TheVariants as event
+use Rattle.shared_run.specs.declared.history.Entry.{Entry}
+use Rattle.shared_run.specs.declared.history.Entry.TheVariants.{Steps}
+use Rattle.shared_run.specs.Spelled.{spelled, events_of}
+
+pub spelled_push : (es : List Entry) (e : Entry) → spelled (es ++ e ∷ []) ≡ spelled es ++ events_of e
+spelled_push [] e = append-nil (events_of e)
+spelled_push (x ∷ es) e = ap (λ l. events_of x ++ l) (spelled_push es e) ∙ sym (append_assoc (events_of x) (spelled es) (events_of e))
+
+pub length_push : (es : List Entry) (e : Entry) → length (spelled (es ++ e ∷ [])) ≡ length (spelled es) + length (events_of e)
+length_push es e = ap length (spelled_push es e) ∙ length-append (spelled es) (events_of e)
+
+-- steps that are taken off and put back with others behind them
+pub steps_again : (old new after : List Entry) (worker before count : ℕ) → spelled old ≡ spelled new ++ replicate before (event.Step worker) → after ≡ new ++ Steps worker (before + count) ∷ [] →
+    spelled after ≡ spelled old ++ replicate count (event.Step worker)
+steps_again old new after worker before count taken is =
+    ap spelled is ∙ (spelled_push new (Steps worker (before + count))
+    ∙ (ap (λ l. spelled new ++ l) (sym (replicate-append-replicate before count (event.Step worker)))
+    ∙ (sym (append_assoc (spelled new) (replicate before (event.Step worker)) (replicate count (event.Step worker)))
+    ∙ ap (λ l. l ++ replicate count (event.Step worker)) (sym taken))))
+
+-- no more steps are taken off than there were events
+pub taken_few : (old new : List Entry) (worker before : ℕ) → spelled old ≡ spelled new ++ replicate before (event.Step worker) → before ≤ length (spelled old)
+taken_few old new worker before taken =
+    let e = ap length taken in
+    omega (arith, e, length-append (spelled new) (replicate before (event.Step worker)), length-replicate before (event.Step worker))
+
+pub length_steps : (old after : List Entry) (worker count : ℕ) → spelled after ≡ spelled old ++ replicate count (event.Step worker) → length (spelled after) ≡ length (spelled old) + count
+length_steps old after worker count is =
+    let e = ap length is in
+    omega (arith, e, length-append (spelled old) (replicate count (event.Step worker)), length-replicate count (event.Step worker))

@@ -1,0 +1,111 @@
+-- What the calls of a board do.
+use Rattle.std.specs.Prelude.{◌≡◌, ◌↔◌, ℕ, ◌+◌, List, [], ◌∷◌, ◌++◌, length, Option, Some, None, Bool, true, false, is_none, is_some, IsSome, IfSome}
+use Rattle.std.specs.Option.{option_map}
+use Rattle.running.specs.Paths.{Path as RunningPath}
+use Rattle.running.specs.Frames.{Frame}
+use Rattle.running.specs.Effect.{Detach, action_of}
+use Rattle.running.specs.Events as running
+use Rattle.running.specs.Events.{Machine, event, top_of}
+use Rattle.program.specs.declared.function.Program.{Program}
+use Rattle.frame.specs.declared.path.Path.{Path}
+use Rattle.worker_steps.specs.declared.run.Run.{Run}
+use Rattle.worker_steps.specs.Seen.{seen}
+use Rattle.worker_steps.specs.Stepping.{StartsAs}
+use Rattle.schedule_core.specs.declared.event.Event.{Event}
+use Rattle.schedule_core.specs.declared.event.Event.TheVariants.{Step, Steal}
+use Rattle.schedule_core.specs.Replaying.{event_of}
+use Rattle.schedule_core.specs.Viewed.{place_in, status_in, IsFirstReady}
+use Rattle.shared_run.specs.declared.ticket.Ticket.{Ticket}
+use Rattle.shared_run.specs.declared.answers.Stepped.{Stepped}
+use Rattle.shared_run.specs.declared.answers.Stepped.TheVariants as stepped
+use Rattle.shared_run.specs.declared.answers.Claimed.{Claimed}
+use Rattle.shared_run.specs.declared.answers.Claimed.TheVariants as claimed
+use Rattle.shared_run.specs.Story.{Origin, Story, Place, place, named_by}
+
+-- nothing has happened yet
+pub record Begins (o : Origin) (s : Story) : Type 0 where
+  pub start : s.start ≡ o
+  pub events : s.events ≡ []
+  pub run : StartsAs o.program o.arguments o.memory s.run
+
+-- board and seat are as they were
+abbrev pub Same : Story → Story → Place → Place → Type 0
+Same s t p q = (t ≡ s) × (q ≡ p)
+
+-- just these events were appended, and counted in the seat's share
+pub record Appends (more : List Event) (s t : Story) (p q : Place) : Type 0 where
+  pub start : t.start ≡ s.start
+  pub events : t.events ≡ s.events ++ more
+  pub share : q ≡ place p.worker (p.share + length more)
+
+-- what the event makes of the run, where it is enabled
+abbrev pub outcome : Story → Event → Option Machine
+outcome s e = event s.start.program s.start.workers (event_of e) (seen s.run)
+
+-- the event was enabled and is done; or it was not, and nothing was done
+abbrev pub Tries : Event → Story → Story → Place → Place → Bool → Type 0
+Tries e s t p q true = Appends (e ∷ []) s t p q × (outcome s e ≡ Some (seen t.run))
+Tries e s t p q false = Same s t p q × (outcome s e ≡ None)
+
+-- ---- a step
+
+-- the next instruction of the worker is a detach
+pub record IsDetach (program : Program) (m : Machine) (worker : ℕ) : Type 0 where
+  pub path : RunningPath
+  pub frame : Frame
+  pub hand : m.hands worker ≡ Some path
+  pub stands : m.core.frames path ≡ Some frame
+  pub region : ℕ
+  pub body : ℕ
+  pub continuation : ℕ
+  pub action : action_of program path frame m.core.memory ≡ Detach region body continuation
+
+-- the ticket names the task, ready now, whose top the worker ran before
+pub record IsParents (s t : Story) (worker : ℕ) (ticket : Ticket) : Type 0 where
+  pub path : Path
+  pub named : named_by t.run ticket ≡ Some path
+  pub ready : status_in t.run path ≡ Some running.Ready
+  pub top : (seen s.run).hands worker ≡ Some (top_of (seen t.run).core (place_in path))
+
+-- how many frames stand below the one that the worker runs next
+abbrev pub depth_in : Run → ℕ → Option ℕ
+depth_in run worker = option_map (λ (p : RunningPath). length p) ((seen run).hands worker)
+
+-- the second depth is one more than the first
+abbrev pub IsOneBelow : Option ℕ → Option ℕ → Type 0
+IsOneBelow before now = (depth : ℕ) × (before ≡ Some depth) × (now ≡ Some (depth + 1))
+
+-- one step of the seat's worker, or nothing
+abbrev pub Steps : Story → Story → Place → Place → Stepped → Type 0
+Steps s t p q (stepped.Done ready idle ended) =
+    Appends (Step p.worker ∷ []) s t p q
+    × (IsSome ready ↔ IsDetach s.start.program (seen s.run) p.worker)
+    × IfSome ready (IsParents s t p.worker)
+    × (idle ≡ is_none ((seen t.run).hands p.worker))
+    × (ended ≡ is_some (seen t.run).core.result)
+Steps s t p q stepped.Idle = Same s t p q × ((seen s.run).hands p.worker ≡ None)
+Steps s t p q stepped.OutOfMemory = Same s t p q
+
+-- ---- a claim
+
+-- the worker is idle, and the task of the path is ready
+abbrev pub CanTake : Story → Place → Path → Type 0
+CanTake s p path = ((seen s.run).hands p.worker ≡ None) × (status_in s.run path ≡ Some running.Ready)
+
+-- one steal of the task of the path by the seat's worker, or nothing
+abbrev pub Takes : Path → Story → Story → Place → Place → Claimed → Type 0
+Takes path s t p q claimed.Taken = Appends (Steal p.worker path ∷ []) s t p q × CanTake s p path
+Takes path s t p q claimed.Gone = Same s t p q × ¬ CanTake s p path
+Takes path s t p q claimed.OutOfMemory = Same s t p q
+
+-- the same for the ticket's task
+abbrev pub Claims : Ticket → Story → Story → Place → Place → Claimed → Type 0
+Claims ticket s t p q claimed.Taken = (path : Path) × (named_by s.run ticket ≡ Some path) × Takes path s t p q claimed.Taken
+Claims ticket s t p q claimed.Gone = Same s t p q × ((path : Path) → named_by s.run ticket ≡ Some path → ¬ CanTake s p path)
+Claims ticket s t p q claimed.OutOfMemory = Same s t p q
+
+-- the same for the ready task of least path
+abbrev pub ClaimsFirst : Story → Story → Place → Place → Claimed → Type 0
+ClaimsFirst s t p q claimed.Taken = (path : Path) × IsFirstReady s.run path × Takes path s t p q claimed.Taken
+ClaimsFirst s t p q claimed.Gone = Same s t p q × ((path : Path) → ¬ CanTake s p path)
+ClaimsFirst s t p q claimed.OutOfMemory = Same s t p q

@@ -1,0 +1,19 @@
+-- The events that the entries of a history spell.
+use Rattle.std.specs.Prelude.{ℕ, List, [], ◌∷◌, ◌++◌, replicate}
+use Rattle.schedule_core.specs.declared.event.Event.{Event}
+use Rattle.schedule_core.specs.declared.event.Event.TheVariants as event
+use Rattle.shared_run.specs.declared.history.Entry.{Entry}
+use Rattle.shared_run.specs.declared.history.Entry.TheVariants.{Steps, Steal}
+
+-- a history as contracts see it: the events, and for how many more entries there is room
+pub record Log : Type 0 where
+  pub events : List Event
+  pub spare : ℕ
+
+abbrev pub events_of : Entry → List Event
+events_of (Steps worker count) = replicate count (event.Step worker)
+events_of (Steal worker path) = event.Steal worker path ∷ []
+
+abbrev pub spelled : List Entry → List Event
+spelled [] = []
+spelled (entry ∷ entries) = events_of entry ++ spelled entries

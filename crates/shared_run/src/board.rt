@@ -1,0 +1,322 @@
+ghost use Rattle.std.specs.Prelude.{◌≡◌, ◌≢◌, ◌⊎◌, ℕ, ◌+◌, ◌*◌, ◌<◌, ◌≤◌, None, Some, Err, is_some, length, vec_len, sum_by, IfOk, IfErr, IfNone, IfSome, OnErr, OnOk};
+ghost use Rattle.serial_machine.specs.Requirements.{unmet_in};
+ghost use Rattle.store.specs.Made.{HasGlobalCells};
+ghost use Rattle.store.specs.declared.memory.Memory.{Memory};
+ghost use Rattle.verifier.specs.Budgets.{budget_of};
+ghost use Rattle.worker_promise.specs.Promise.{KeepsItsSchedule};
+ghost use Rattle.worker_steps.specs.Running.{IsNumberOfWorkers};
+ghost use Rattle.worker_steps.specs.Seen.{seen};
+ghost use Rattle.schedule_core.specs.Parents.{HasNoReadyParent, IsReadyParent};
+ghost use Rattle.shared_run.specs.Answer.{IsSerialAnswer};
+ghost use Rattle.shared_run.specs.Calls.{Begins, Claims, ClaimsFirst, IsOneBelow, Same, Steps, Takes, Tries, depth_in};
+ghost use Rattle.shared_run.specs.Story.{AreSeats, IsLegal, origin};
+
+use crate::answers::{Claimed, Stepped};
+use crate::bench::Bench;
+use crate::history::History;
+use crate::seat::Seat;
+use crate::start::{Start, admitted};
+use crate::ticket::Ticket;
+use frame::Path;
+use lists::OutOfMemory;
+use schedule_core::{Event, Machine};
+use serial_machine::{Finished, RunFault};
+use std::alloc::Global;
+use std::marker::Model;
+use std::sync::ledger::{Blank, Book, Share};
+use store::Memory;
+use verifier::Verified;
+
+/// A machine with the history of its events. Contracts see the start, the events since then, and the run that they led to.
+#[derive(Drop)]
+pub struct Board<'a, L: Bench> {
+    alloc: Global,
+    start: Start<'a>,
+    history: History,
+    machine: Machine<'a>,
+    book: Book<L>,
+}
+
+impl<'a, L: Bench> Model for Board<'a, L> {
+    ghost use Rattle.std.specs.Prelude.{◌≡◌, length};
+    ghost use Rattle.shared_run.specs.Story.{IsLegal, Story};
+
+    ghost Value = { Story };
+
+    ghost view = { λ b. record { start = b.start; events = b.history.events; run = b.machine.run } };
+
+    ghost invariant = { λ b. IsLegal b.start b.history.events b.machine.run × (b.book.total ≡ length b.history.events) × (b.start.program ≡ L.code) × (b.start.workers ≡ L.crew) };
+}
+
+impl<'a, L: Bench> Board<'a, L> {
+    /// A board before the first event, and a seat for each worker. The memory was made for this module, and `blank` for this run:
+    /// it has a part for each worker.
+    ///
+    /// # Errors
+    ///
+    /// 801 where the arguments are not those of `main`, then 802 where there are not from 1 to 64 workers; both hand the memory
+    /// back. 803 where memory is refused.
+    pub fn new(
+        alloc: Global,
+        verified: &'a Verified,
+        arguments: &[i64],
+        memory: Memory,
+        workers: usize,
+        blank: Blank,
+    ) -> Result<(Board<'a, L>, Vec<Seat<L>>), RunFault>
+        requires made { HasGlobalCells verified.now memory }
+        requires code { verified.now ≡ L.code }
+        requires crew { workers ≡ L.crew }
+        requires name { blank.name ≡ L.name }
+        requires parts { blank.parts ≡ L.parts }
+        requires one_each { blank.parts ≡ workers }
+        ensures begins { IfOk result (λ made. Begins (origin verified.now arguments.now memory workers) made.0) }
+        ensures seats { IfOk result (λ made. AreSeats workers made.1.items) }
+        ensures in_range { OnOk result (IsNumberOfWorkers workers) }
+        ensures met { OnOk result (unmet_in verified.now arguments.now ≡ None) }
+        ensures bad_workers { (m : Memory) → result ≡ Err (RunFault.BadWorkers m) → (m ≡ memory) × ¬ IsNumberOfWorkers workers }
+        ensures bad_arguments { (requirement : ℕ) (m : Memory) → result ≡ Err (RunFault.BadArguments requirement m) → m ≡ memory }
+        ensures unmet { (requirement : ℕ) (m : Memory) → result ≡ Err (RunFault.BadArguments requirement m) → unmet_in verified.now arguments.now ≡ Some requirement }
+        ensures no_trap { result ≢ Err RunFault.Trapped }
+    {
+        // for what it says of the module: that it is accepted
+        let _accepted = verified.program();
+        let memory = admitted(verified, arguments, memory, workers)?;
+        let Ok(start) = Start::new(alloc, verified, arguments, &memory, workers) else {
+            return Err(RunFault::OutOfMemory);
+        };
+        let machine = Machine::start(alloc, verified, arguments, memory, workers)?;
+        let (book, all) = blank.open::<L>();
+        let Ok(seats) = seats(alloc, workers as u8, all) else {
+            return Err(RunFault::OutOfMemory);
+        };
+        let history = History::new(alloc);
+        Ok((
+            Board {
+                alloc,
+                start,
+                history,
+                machine,
+                book,
+            },
+            seats,
+        ))
+    }
+
+    /// Does the event in the seat's name where it is enabled, and answers whether it was.
+    fn append(&mut self, seat: &mut Seat<L>, event: Event) -> Result<bool, OutOfMemory>
+        ensures done { IfOk result (Tries event self.old self.new seat.old seat.new) }
+        ensures refused { OnErr result (Same self.old self.new seat.old seat.new) }
+    {
+        self.history.reserve()?;
+        match self.machine.apply(&event) {
+            Ok(true) => {
+                self.history.push(event);
+                self.book.add(&mut seat.share, 1);
+                Ok(true)
+            }
+            Ok(false) => {
+                drop(event);
+                Ok(false)
+            }
+            Err(refused) => {
+                drop(event);
+                Err(refused)
+            }
+        }
+    }
+
+    /// One step of the seat's worker.
+    pub fn step(&mut self, seat: &mut Seat<L>) -> Stepped
+        ensures { Steps self.old self.new seat.old seat.new result }
+    {
+        let worker = seat.worker();
+        let depth = self.machine().depth_of(worker);
+        match self.append(seat, Event::Step(worker)) {
+            Ok(true) => {
+                let machine = self.machine();
+                Stepped::Done {
+                    ready: self.parent_ticket(worker, depth),
+                    idle: machine.depth_of(worker).is_none(),
+                    ended: machine.ended(),
+                }
+            }
+            Ok(false) => Stepped::Idle,
+            Err(OutOfMemory) => Stepped::OutOfMemory,
+        }
+    }
+
+    /// One steal of the ticket's task by the seat's worker.
+    pub fn claim(&mut self, seat: &mut Seat<L>, ticket: Ticket) -> Claimed
+        ensures { Claims ticket self.old self.new seat.old seat.new result }
+    {
+        let Some(path) = self.machine().path_at(ticket.slot, ticket.generation) else {
+            return Claimed::Gone;
+        };
+        match path.copy(self.alloc) {
+            Ok(path) => self.take(seat, path),
+            Err(OutOfMemory) => Claimed::OutOfMemory,
+        }
+    }
+
+    /// One steal of the ready task of least path by the seat's worker: numbers are compared from the root on, and a beginning comes
+    /// first.
+    pub fn claim_first(&mut self, seat: &mut Seat<L>) -> Claimed
+        ensures { ClaimsFirst self.old self.new seat.old seat.new result }
+    {
+        let Some(path) = self.machine().first_ready() else {
+            return Claimed::Gone;
+        };
+        match path.copy(self.alloc) {
+            Ok(path) => self.take(seat, path),
+            Err(OutOfMemory) => Claimed::OutOfMemory,
+        }
+    }
+
+    /// One steal of the task of this path by the seat's worker.
+    fn take(&mut self, seat: &mut Seat<L>, path: Path) -> Claimed
+        ensures { Takes path self.old self.new seat.old seat.new result }
+    {
+        // for what it says of the run before
+        let _before = self.machine();
+        let worker = seat.worker();
+        match self.append(seat, Event::Steal(worker, path)) {
+            Ok(true) => Claimed::Taken,
+            Ok(false) => Claimed::Gone,
+            Err(OutOfMemory) => Claimed::OutOfMemory,
+        }
+    }
+
+    /// Whether `main` has returned.
+    pub fn end(&self) -> bool
+        ensures { result ≡ is_some (seen self.now.run).core.result }
+    {
+        self.machine.ended()
+    }
+
+    /// The machine: the replay of the history. Each event was enabled where it stands, and the schedule theorem holds.
+    pub fn machine(&self) -> &Machine<'a>
+        ensures run { result.now.run ≡ self.now.run }
+        ensures crew { self.now.start.workers ≡ L.crew }
+        ensures legal { IsLegal self.now.start self.now.events self.now.run }
+        ensures keeps { KeepsItsSchedule self.now.start.program self.now.start.arguments self.now.start.memory self.now.start.workers self.now.run }
+    {
+        &self.machine
+    }
+
+    /// The history of the events.
+    pub fn history(&self) -> &History
+        ensures { result.now.events ≡ self.now.events }
+    {
+        &self.history
+    }
+
+    /// The number of events: each step is an instruction within the budget, and each steal needs a worker that a step made idle or
+    /// that began idle.
+    pub fn total(&self) -> u64
+        ensures count { result ≡ length self.now.events }
+        ensures bound { result ≤ 2 * budget_of self.now.start.program + 63 }
+    {
+        self.history.total()
+    }
+
+    /// The answer of a run that has ended and that began at this start, which is of the same module, with the number of its events;
+    /// it takes all its seats. Else board and seats are given back.
+    pub fn finish(
+        self,
+        start: &Start<'a>,
+        seats: Vec<Seat<L>>,
+    ) -> Result<(Finished, u64), (Board<'a, L>, Vec<Seat<L>>)>
+        requires all { (vec_len seats ≡ L.parts) × (0 < L.parts) }
+        requires code { start.now.program ≡ L.code }
+        ensures answer { IfOk result (λ done. IsSerialAnswer start.now done.0) }
+        ensures count { IfOk result (λ done. done.1 ≡ length self.entry.events) }
+        ensures shares { IfOk result (λ done. done.1 ≡ sum_by (λ seat. seat.share) seats.items) }
+        ensures same { IfErr result (λ back. (back.0 ≡ self.entry) × (back.1 ≡ seats)) }
+        ensures refused { OnErr result (((seen self.entry.run).core.result ≡ None) ⊎ (self.entry.start ≢ start.now)) }
+    {
+        if !self.start.same(start) {
+            return Err((self, seats));
+        }
+        let Some(result) = self.machine().result() else {
+            return Err((self, seats));
+        };
+        let Board {
+            alloc: _,
+            start: _,
+            history,
+            machine,
+            mut book,
+        } = self;
+        let mut all = gather(seats);
+        book.audit(&mut all);
+        let instructions = machine.instructions();
+        let peak = machine.peak();
+        let memory = machine.into_memory();
+        Ok((
+            Finished {
+                result,
+                memory,
+                instructions,
+                peak,
+            },
+            history.total(),
+        ))
+    }
+}
+
+impl<L: Bench> Board<'_, L> {
+    /// The ticket of the ready task whose top detached the child that the worker runs, where the child stands one below this depth.
+    fn parent_ticket(&self, worker: u8, before: Option<usize>) -> Option<Ticket>
+        ensures shown { IfSome result (λ ticket. IsReadyParent self.now.run worker ticket.slot ticket.generation) }
+        ensures below { IfSome result (λ ticket. IsOneBelow before (depth_in self.now.run worker)) }
+        ensures none { IfNone result (IsOneBelow before (depth_in self.now.run worker) → HasNoReadyParent self.now.run worker) }
+    {
+        let machine = self.machine();
+        if machine.depth_of(worker)?.checked_sub(1)? != before? {
+            return None;
+        }
+        let (slot, generation) = machine.ready_parent(worker)?;
+        Some(Ticket { slot, generation })
+    }
+}
+
+/// A seat for each worker, with one part each.
+fn seats<L: Bench>(
+    alloc: Global,
+    workers: u8,
+    mut all: Share<L>,
+) -> Result<Vec<Seat<L>>, OutOfMemory>
+    requires crew { workers ≡ L.crew }
+    requires parts { all.parts ≡ workers }
+    requires none { all.amount ≡ 0 }
+    ensures { IfOk result (λ seats. AreSeats workers seats.items) }
+{
+    let mut seats = Vec::new(alloc);
+    for worker in 0..workers {
+        let share = all.split_off(1, 0);
+        seats.push(Seat { worker, share })?;
+    }
+    Ok(seats)
+}
+
+/// The shares of all seats together.
+fn gather<L: Bench>(mut seats: Vec<Seat<L>>) -> Share<L>
+    requires { 0 < vec_len seats }
+    ensures parts { result.parts ≡ vec_len seats }
+    ensures amount { result.amount ≡ sum_by (λ seat. seat.share) seats.items }
+{
+    let Some(
+        Seat {
+            worker: _,
+            share: mut all,
+        },
+    ) = seats.pop()
+    else {
+        unreachable!()
+    };
+    while let Some(Seat { worker: _, share }) = seats.pop() {
+        all.merge(share);
+    }
+    all
+}

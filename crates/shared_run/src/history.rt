@@ -1,0 +1,127 @@
+ghost use Rattle.std.specs.Prelude.{◌≡◌, ℕ, ◌+◌, ◌^◌, ◌<◌, ◌≤◌, [], ◌∷◌, ◌++◌, length, replicate, vec_len, vec_capacity, OnOk};
+ghost use Rattle.schedule_core.specs.declared.event.Event.TheVariants.{Step, Steal};
+ghost use Rattle.shared_run.specs.Spelled.{spelled};
+
+use frame::Path;
+use lists::OutOfMemory;
+use schedule_core::Event;
+use std::alloc::Global;
+use std::marker::Model;
+
+/// Steps of one worker, one after the other, or a steal.
+#[derive(Drop)]
+pub enum Entry {
+    Steps { worker: u8, count: u64 },
+    Steal { worker: u8, path: Path },
+}
+
+/// The events of a run. Contracts see them one by one, and for how many more entries there is room.
+#[derive(Drop)]
+pub struct History {
+    entries: Vec<Entry>,
+    total: u64,
+}
+
+impl Model for History {
+    ghost use Rattle.std.specs.Prelude.{◌≡◌, ◌-◌, length, vec_len, vec_capacity};
+    ghost use Rattle.shared_run.specs.Spelled.{Log, spelled};
+
+    ghost Value = { Log };
+
+    ghost view = { λ h. record { events = spelled h.entries.items; spare = vec_capacity h.entries - vec_len h.entries } };
+
+    ghost invariant = { λ h. h.total ≡ length (spelled h.entries.items) };
+}
+
+/// Takes the last entry off where it is steps of this worker, and answers how many.
+#[tactic(auto, using(crate::proofs::Runs::spelled_push))]
+fn take_steps(entries: &mut Vec<Entry>, worker: u8) -> u64
+    ensures taken { spelled entries.old.items ≡ spelled entries.new.items ++ replicate result (Step worker) }
+    ensures room { vec_len entries.new ≤ vec_len entries.old }
+    ensures as_large { vec_capacity entries.new ≡ vec_capacity entries.old }
+{
+    match entries.pop() {
+        Some(
+            Entry::Steps {
+                worker: last,
+                count,
+            },
+        ) if last == worker => count,
+        Some(entry) => {
+            entries.push_reserved(entry);
+            0
+        }
+        None => 0,
+    }
+}
+
+impl History {
+    /// No events yet; it takes no memory.
+    pub(crate) fn new(alloc: Global) -> History
+        ensures { result.events ≡ [] }
+    {
+        History {
+            entries: Vec::new(alloc),
+            total: 0,
+        }
+    }
+
+    /// Makes room for one more entry.
+    pub(crate) fn reserve(&mut self) -> Result<(), OutOfMemory>
+        ensures events { self.new.events ≡ self.old.events }
+        ensures room { OnOk result (0 < self.new.spare) }
+    {
+        self.entries.reserve(1)?;
+        Ok(())
+    }
+
+    /// Adds so many steps of the worker.
+    pub(crate) fn push_steps(&mut self, worker: u8, count: u64)
+        requires room { 0 < self.old.spare }
+        requires count { length self.old.events + count < 2 ^ 64 }
+        ensures { self.new.events ≡ self.old.events ++ replicate count (Step worker) }
+    {
+        let before = take_steps(&mut self.entries, worker);
+        self.entries.push_reserved(Entry::Steps {
+            worker,
+            count: before + count,
+        });
+        self.total += count;
+    }
+
+    /// Adds a steal of the task of this path.
+    pub(crate) fn push_steal(&mut self, worker: u8, path: Path)
+        requires room { 0 < self.old.spare }
+        requires count { length self.old.events + 1 < 2 ^ 64 }
+        ensures { self.new.events ≡ self.old.events ++ Steal worker path ∷ [] }
+    {
+        self.entries.push_reserved(Entry::Steal { worker, path });
+        self.total += 1;
+    }
+
+    /// Adds an event.
+    pub(crate) fn push(&mut self, event: Event)
+        requires room { 0 < self.old.spare }
+        requires count { length self.old.events + 1 < 2 ^ 64 }
+        ensures { self.new.events ≡ self.old.events ++ event ∷ [] }
+    {
+        match event {
+            Event::Step(worker) => self.push_steps(worker, 1),
+            Event::Steal(worker, path) => self.push_steal(worker, path),
+        }
+    }
+
+    /// The number of events.
+    pub fn total(&self) -> u64
+        ensures { result ≡ length self.now.events }
+    {
+        self.total
+    }
+
+    /// The events as they were appended, each run of steps of one worker as one entry.
+    pub fn entries(&self) -> &[Entry]
+        ensures { spelled result.now ≡ self.now.events }
+    {
+        self.entries.as_slice()
+    }
+}

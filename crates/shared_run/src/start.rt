@@ -1,0 +1,101 @@
+ghost use Rattle.std.specs.Prelude.{◌≡◌, ◌≢◌, ◌↔◌, ℕ, Some, None, Err, IfOk, IsTrue, OnOk};
+ghost use Rattle.serial_machine.specs.Requirements.{unmet_in};
+ghost use Rattle.store.specs.declared.memory.Memory.{Memory};
+ghost use Rattle.worker_steps.specs.Running.{IsNumberOfWorkers};
+ghost use Rattle.shared_run.specs.Story.{origin};
+
+use lists::OutOfMemory;
+use serial_machine::{RunFault, unmet_requirement};
+use std::alloc::Global;
+use std::marker::Model;
+use store::Memory;
+use verifier::Verified;
+
+/// Where a run begins: its module, the arguments of `main`, its memory and the number of its workers.
+#[derive(Drop)]
+pub struct Start<'a> {
+    verified: &'a Verified,
+    arguments: Vec<i64>,
+    memory: Memory,
+    workers: usize,
+}
+
+impl<'a> Model for Start<'a> {
+    ghost use Rattle.shared_run.specs.Story.{Origin};
+
+    ghost Value = { Origin };
+
+    ghost view = { λ s. record { program = s.verified.now; arguments = s.arguments.items; memory = s.memory; workers = s.workers } };
+}
+
+impl<'a> Start<'a> {
+    /// The start of a run, with copies of the arguments and the memory.
+    pub fn new(
+        alloc: Global,
+        verified: &'a Verified,
+        arguments: &[i64],
+        memory: &Memory,
+        workers: usize,
+    ) -> Result<Start<'a>, OutOfMemory>
+        ensures { IfOk result (λ s. s ≡ origin verified.now arguments.now memory.now workers) }
+    {
+        Ok(Start {
+            verified,
+            arguments: Vec::from_slice(alloc, arguments)?,
+            memory: memory.copy()?,
+            workers,
+        })
+    }
+
+    /// Whether both are starts of one module, with the same arguments, memory and number of workers.
+    pub fn same(&self, other: &Start<'a>) -> bool
+        requires { self.now.program ≡ other.now.program }
+        ensures { IsTrue result ↔ (self.now ≡ other.now) }
+    {
+        if self.workers != other.workers {
+            return false;
+        }
+        if same_numbers(self.arguments.as_slice(), other.arguments.as_slice()) {
+            self.memory.same(&other.memory)
+        } else {
+            false
+        }
+    }
+}
+
+fn same_numbers(one: &[i64], other: &[i64]) -> bool
+    ensures { IsTrue result ↔ (one.now ≡ other.now) }
+{
+    one == other
+}
+
+/// Gives the memory back where a run with these arguments and so many workers can begin. It takes no memory.
+///
+/// # Errors
+///
+/// 801 where the arguments are not those of `main`, then 802 where there are not from 1 to 64 workers; both hand the memory back.
+pub(crate) fn admitted(
+    verified: &Verified,
+    arguments: &[i64],
+    memory: Memory,
+    workers: usize,
+) -> Result<Memory, RunFault>
+    ensures same { IfOk result (λ m. m ≡ memory) }
+    ensures in_range { OnOk result (IsNumberOfWorkers workers) }
+    ensures met { OnOk result (unmet_in verified.now arguments.now ≡ None) }
+    ensures bad_workers { (m : Memory) → result ≡ Err (RunFault.BadWorkers m) → (m ≡ memory) × ¬ IsNumberOfWorkers workers }
+    ensures bad_arguments { (requirement : ℕ) (m : Memory) → result ≡ Err (RunFault.BadArguments requirement m) → m ≡ memory }
+    ensures unmet { (requirement : ℕ) (m : Memory) → result ≡ Err (RunFault.BadArguments requirement m) → unmet_in verified.now arguments.now ≡ Some requirement }
+    ensures no_trap { result ≢ Err RunFault.Trapped }
+{
+    if let Some(requirement) = unmet_requirement(verified.program(), arguments) {
+        return Err(RunFault::BadArguments {
+            requirement,
+            memory,
+        });
+    }
+    if workers == 0 || 64 < workers {
+        return Err(RunFault::BadWorkers { memory });
+    }
+    Ok(memory)
+}
