@@ -1,9 +1,10 @@
-ghost use Rattle.std.specs.Prelude.{◌≡◌, Some};
+ghost use Rattle.std.specs.Prelude.{◌≡◌, ◌++◌, Some, OnErr, OnOk, pos, replicate, take};
 ghost use Rattle.engine.specs.Flat.{cell_in, is_cell};
 
 use crate::arithmetic::sum;
 use crate::cells::Cells;
 use crate::words::number_at;
+use lists::OutOfMemory;
 use std::convert::Infallible;
 
 /// The cells of the globals and, behind them, of the living frames' allocas. An address is an index.
@@ -35,5 +36,25 @@ impl Cells for Flat {
         let sum = sum(number_at(self.cells.as_slice(), at as usize), number);
         self.cells[at as usize] = sum;
         Ok(())
+    }
+}
+
+impl Flat {
+    /// So many more cells at the end, for the allocas of a frame that begins; what they hold is of no account.
+    pub fn grow(&mut self, cells: usize) -> Result<(), OutOfMemory>
+        ensures grown { OnOk result (self.new.cells.items ≡ self.old.cells.items ++ replicate cells (pos 0)) }
+        ensures same { OnErr result (self.new.cells.items ≡ self.old.cells.items) }
+    {
+        match self.cells.len().checked_add(cells) {
+            Some(end) => Ok(self.cells.resize(end, 0)?),
+            None => Err(OutOfMemory),
+        }
+    }
+
+    /// No cell from this end on, once the frame that they were made for is gone.
+    pub fn shrink(&mut self, end: usize)
+        ensures { self.new.cells.items ≡ take end self.old.cells.items }
+    {
+        self.cells.truncate(end);
     }
 }
