@@ -1,0 +1,5 @@
+pub mod Walks
+pub mod Places
+pub mod Texts
+pub mod Detaching
+pub mod Joining
