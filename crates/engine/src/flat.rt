@@ -1,4 +1,4 @@
-ghost use Rattle.std.specs.Prelude.{◌≡◌, ◌++◌, Some, OnErr, OnOk, pos, replicate, take};
+ghost use Rattle.std.specs.Prelude.{◌≡◌, ◌++◌, Some, OnErr, OnOk, pos, replicate};
 ghost use Rattle.engine.specs.Flat.{cell_in, is_cell};
 
 use crate::arithmetic::sum;
@@ -40,7 +40,7 @@ impl Cells for Flat {
 }
 
 impl Flat {
-    /// So many more cells at the end, for the allocas of a frame that begins; what they hold is of no account.
+    /// So many more cells at the end, for the allocas of a frame that begins. What they hold counts for nothing.
     pub fn grow(&mut self, cells: usize) -> Result<(), OutOfMemory>
         ensures grown { OnOk result (self.new.cells.items ≡ self.old.cells.items ++ replicate cells (pos 0)) }
         ensures same { OnErr result (self.new.cells.items ≡ self.old.cells.items) }
@@ -49,12 +49,5 @@ impl Flat {
             Some(end) => Ok(self.cells.resize(end, 0)?),
             None => Err(OutOfMemory),
         }
-    }
-
-    /// No cell from this end on, once the frame that they were made for is gone.
-    pub fn shrink(&mut self, end: usize)
-        ensures { self.new.cells.items ≡ take end self.old.cells.items }
-    {
-        self.cells.truncate(end);
     }
 }

@@ -19,9 +19,9 @@ use Rattle.engine.specs.declared.activation.Frame.{Frame}
 use Rattle.engine.specs.declared.activation.Places.{Places}
 use Rattle.engine.specs.Activation.{FrameFits, ShowsFrame}
 use Rattle.engine.specs.Fits.{PlaceFits}
-use Rattle.engine.specs.Flat.{cell_in}
+use Rattle.engine.specs.Flat.{cell_in, is_cell}
 use Rattle.engine.specs.declared.flat.Flat.{Flat}
-use Rattle.engine.specs.Shows.{Layout, address}
+use Rattle.engine.specs.Shows.{Layout, ShowsCells}
 use Rattle.serial_steps.specs.Layouts.{end_of, frames_of, layout_of}
 use Rattle.serial_steps.specs.Stack.{Placed, Run, Goes, plain, sync, detach, call, reattach, ret}
 use Rattle.serial_steps.specs.Shown.{BeginsAt, CanGo, HasTaker, ShowsBelow, ShowsOn, ShowsRun, TextFits, place_of}
@@ -34,7 +34,7 @@ reverse_push l f = reverse-append l (f ∷ [])
 
 -- spare frames are not shown
 pub spared : (globals : List ℕ) (prog : Program) (places : Places) (s : Run) (k j : Stack) → j ≡ record k { spare = j.spare } → ShowsRun globals prog places s k → ShowsRun globals prog places s j
-spared globals prog places s k j e h = subst (ShowsRun globals prog places s) (sym e) (record { top = h.top; below = h.below; values = h.values; inside = h.inside; end = h.end })
+spared globals prog places s k j e h = subst (ShowsRun globals prog places s) (sym e) (record { top = h.top; below = h.below; cells = h.cells; end = h.end })
 
 -- the frame below, made by its parts
 record Waits (globals : List ℕ) (prog : Program) (places : Places) (g : Placed) (below : List Placed) (f : Frame) : Type 0 where
@@ -85,8 +85,8 @@ module _ (globals : List ℕ) (prog : Program) (places : Places) (moves : ℕ) (
           taker = subst (λ (x : Frame). HasTaker x x.waits) (sym parent_is) tt;
         }
 
-    pub detach_shown : (j : Stack) → j.top ≡ child → j.below.items ≡ k.below.items ++ parent ∷ [] → j.cells ≡ k.cells → (t : Run) × Goes prog s t × ShowsRun globals prog places t j
-    detach_shown j top pushed cells =
+    pub detach_shown : (j : Stack) → j.top ≡ child → j.below.items ≡ k.below.items ++ parent ∷ [] → j.cells ≡ k.cells → j.end ≡ k.end → (t : Run) × Goes prog s t × ShowsRun globals prog places t j
+    detach_shown j top pushed cells end =
         let act : action_of prog s.path s.frame s.memory ≡ Detach r.0 b.0 c.0 = detach_here prog s can.goes r b c place in
         let now : reverse j.below.items ≡ parent ∷ reverse k.below.items = ap reverse pushed ∙ reverse_push k.below.items parent in
         let t : Run = record { path = s.frame.made ∷ s.path; frame = detached s.frame r.0 b.0 c.0; below = record { path = s.path; frame = continued s.frame c.0 } ∷ s.below; memory = s.memory } in
@@ -102,8 +102,7 @@ module _ (globals : List ℕ) (prog : Program) (places : Places) (moves : ℕ) (
           record {
             top = subst (ShowsOn globals prog places (record { path = t.path; frame = t.frame }) t.below) (sym top) on;
             below = subst (ShowsBelow globals prog places t.below) (sym now) (parent_waits.on, parent_waits.waits, parent_waits.taker, h.below);
-            values = λ x z v. ap (λ (q : Flat). cell_in q.cells.items (address layout x)) cells ∙ h.values x z v;
-            inside = h.inside;
-            end = ap (λ (q : Flat). length q.cells.items) cells ∙ h.end;
+            cells = subst (λ (q : Flat). ShowsCells layout (is_cell q.cells.items) (λ a z. cell_in q.cells.items a ≡ Some z) s.memory) (sym cells) h.cells;
+            end = end ∙ h.end;
           },
         )

@@ -3,3 +3,5 @@ pub mod Places
 pub mod Texts
 pub mod Detaching
 pub mod Joining
+pub mod Rows
+pub mod Owners

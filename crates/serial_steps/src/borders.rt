@@ -131,8 +131,11 @@ impl Stack {
         let Some(room) = frame_cells(called.allocas.as_slice()) else {
             return Err(OutOfMemory);
         };
-        let home = self.cells.cells.len() as u64;
-        self.cells.grow(room)?;
+        let Some(end) = self.end.checked_add(room) else {
+            return Err(OutOfMemory);
+        };
+        let missing = end.saturating_sub(self.cells.cells.len());
+        self.cells.grow(missing)?;
         let mut frame = self.fresh();
         self.top.call_into(
             places,
@@ -140,9 +143,10 @@ impl Stack {
             callee,
             called.registers.len(),
             arguments,
-            home.cast_signed(),
+            (self.end as u64).cast_signed(),
         )?;
         self.top.wait_for_call(register);
+        self.end = end;
         self.push(frame)?;
         Ok(())
     }
@@ -166,7 +170,7 @@ impl Stack {
             Some(mut caller) => {
                 let register = taker(caller.waits);
                 caller.resume(register, result);
-                self.cells.shrink(self.top.home as usize);
+                self.end = self.top.home as usize;
                 self.go_back_to(caller)?;
                 Ok(None)
             }

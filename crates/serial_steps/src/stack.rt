@@ -16,6 +16,8 @@ pub(crate) struct Stack {
     pub(crate) below: Vec<Frame>,
     pub(crate) spare: Vec<Frame>,
     pub(crate) cells: Flat,
+    /// The cells behind it belong to no frame, and are used again.
+    pub(crate) end: usize,
     /// Room for the phi moves of an edge.
     pub(crate) moves: Vec<i64>,
 }

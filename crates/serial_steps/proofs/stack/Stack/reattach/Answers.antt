@@ -15,4 +15,4 @@ pub returns-clause-goes : goal.returns-clause-goes
 returns-clause-goes c = λ globals s h can.
     let only = c.in_ok-go_back_to-in-Some.ensures.only in
     reattach_shown globals c.args.program.now c.args.places.now s c.args.self.now h can c.args.region c.args.continuation (placed globals c.args.program.now c.args.places.now s c.args.self.now _ h c.requires.item)
-    c.go_back_to.new.self c.in-Some.parent c.pop.new.self.items c.in-Some.ensures.items (ap (λ (x : Stack). x.top) only) (ap (λ (x : Stack). x.below.items) only) (ap (λ (x : Stack). x.cells) only)
+    c.go_back_to.new.self c.in-Some.parent c.pop.new.self.items c.in-Some.ensures.items (ap (λ (x : Stack). x.top) only) (ap (λ (x : Stack). x.below.items) only) (ap (λ (x : Stack). x.cells) only) (ap (λ (x : Stack). x.end) only)

@@ -14,4 +14,4 @@ returns-clause-goes c = λ globals s h can.
     let only = c.sync.ensures.only in
     sync_shown globals c.args.program.now c.args.places.now s c.args.self.now h can _ c.requires.text c.args.region c.args.target (placed globals c.args.program.now c.args.places.now s c.args.self.now _ h c.requires.item)
     (record c.args.self.now { top = c.sync.new.self; moves = with_items c.args.self.now.moves c.sync.new.moves })
-    (ap (λ (x : Frame). x.function) only) (ap (λ (x : Frame). x.home) only) c.sync.ensures.registers c.sync.ensures.shown refl refl
+    (ap (λ (x : Frame). x.function) only) (ap (λ (x : Frame). x.home) only) c.sync.ensures.registers c.sync.ensures.shown refl refl refl
