@@ -1,22 +1,24 @@
-ghost use Rattle.std.specs.Prelude.{◌≡◌, ◌+◌, ◌<◌, ◌∷◌, ℕ, ℤ, OnOk, Some, length, slice_get};
+ghost use Rattle.std.specs.Prelude.{◌≡◌, ◌+◌, ◌<◌, ◌∷◌, ℕ, ℤ, Option, OnOk, Some, length, slice_get};
 ghost use Rattle.running.specs.Paths.{Path};
 ghost use Rattle.running.specs.Frames as frames;
-ghost use Rattle.running.specs.Effect.{registers_along};
+ghost use Rattle.running.specs.Effect.{Return, registers_along, terminator_action};
 ghost use Rattle.running.specs.State.{continued, detached, resumed, synced, waiting};
 ghost use Rattle.program.specs.declared.function.Function.{Function};
+ghost use Rattle.program.specs.declared.function.Program.{Program};
+ghost use Rattle.program.specs.declared.instruction.Terminator.TheVariants as terminator;
 ghost use Rattle.engine.specs.declared.activation.Places.{Places};
 ghost use Rattle.engine.specs.Activation.{ShowsFrame};
-ghost use Rattle.engine.specs.Fits.{EdgeFits};
+ghost use Rattle.engine.specs.Fits.{EdgeFits, HasReturned};
 ghost use Rattle.engine.specs.Names.{HasResult, sizes};
 ghost use Rattle.engine.specs.Shows.{Layout};
 
 use crate::activation::Frame;
 use crate::entering::enter;
 use crate::turning::Place;
-use crate::words::define;
+use crate::words::{define, word};
 use frame::{Role, Wait};
 use lists::OutOfMemory;
-use program::{BlockId, Program, RegisterId};
+use program::{BlockId, Operand, Program, RegisterId};
 
 impl Frame {
     /// Goes along the edge to the target of its sync, to wait there for its children within the region.
@@ -76,6 +78,17 @@ impl Frame {
         };
         self.place.index += 1;
         self.made += 1;
+    }
+
+    /// What it returns.
+    pub fn returned(&self, value: Option<Operand>) -> Option<i64>
+        requires { HasReturned (sizes (length self.now.registers.items) 0 0) value }
+        ensures { (prog : Program) (l : Layout) (places : Places) (p : Path) (g : frames.Frame) (v : Option ℤ) → ShowsFrame l places p g self.now → terminator_action prog p g (terminator.Return value) ≡ Return v → result ≡ v }
+    {
+        match value {
+            Some(operand) => Some(word(self.registers.as_slice(), operand)),
+            None => None,
+        }
     }
 
     /// Goes on with what its call returned, which the register takes.

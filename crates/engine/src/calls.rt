@@ -8,7 +8,7 @@ ghost use Rattle.program.specs.declared.instruction.Argument.{Argument};
 ghost use Rattle.engine.specs.Activation.{ShowsFrame, allocas_of, bases_in};
 ghost use Rattle.engine.specs.Arguments.{ArgumentsAreWhole, IsArgument};
 ghost use Rattle.engine.specs.Names.{HasArgument, sizes};
-ghost use Rattle.engine.specs.Shows.{Layout, ShowsBases, ShowsRegisters};
+ghost use Rattle.engine.specs.Shows.{Layout, PointsAlike, ShowsBases, ShowsRegisters};
 ghost use Rattle.engine.specs.Words.{bases};
 
 use crate::activation::{Frame, Places};
@@ -67,7 +67,8 @@ impl Frame {
         requires room { length arguments.now ≤ registers }
         ensures registers { OnOk result (length callee.new.registers.items ≡ registers) }
         ensures function { OnOk result (callee.new.function ≡ function) }
-        ensures shown { OnOk result ((l : Layout) (p : Path) (g : frames.Frame) (values : List Value) → ShowsFrame l places.now p g self.now → ArgumentsAreWhole g arguments.now → argument_values g arguments.now ≡ Some values → ShowsBases l (bases places.now.globals (allocas_of places.now function.0) home) (g.made ∷ p) → ShowsFrame l places.now (g.made ∷ p) (called p g function.0 values) callee.new) }
+        ensures home { OnOk result (callee.new.home ≡ home) }
+        ensures shown { OnOk result ((l k : Layout) (p : Path) (g : frames.Frame) (values : List Value) → ShowsFrame l places.now p g self.now → ArgumentsAreWhole g arguments.now → argument_values g arguments.now ≡ Some values → PointsAlike l k values → ShowsBases k (bases places.now.globals (allocas_of places.now function.0) home) (g.made ∷ p) → ShowsFrame k places.now (g.made ∷ p) (called p g function.0 values) callee.new) }
     {
         callee.registers.clear();
         callee.registers.resize(registers, 0)?;

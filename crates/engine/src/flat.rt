@@ -1,9 +1,10 @@
-ghost use Rattle.std.specs.Prelude.{◌≡◌, Some};
+ghost use Rattle.std.specs.Prelude.{◌≡◌, ◌++◌, Some, OnErr, OnOk, pos, replicate};
 ghost use Rattle.engine.specs.Flat.{cell_in, is_cell};
 
 use crate::arithmetic::sum;
 use crate::cells::Cells;
 use crate::words::number_at;
+use lists::OutOfMemory;
 use std::convert::Infallible;
 
 /// The cells of the globals and, behind them, of the living frames' allocas. An address is an index.
@@ -35,5 +36,18 @@ impl Cells for Flat {
         let sum = sum(number_at(self.cells.as_slice(), at as usize), number);
         self.cells[at as usize] = sum;
         Ok(())
+    }
+}
+
+impl Flat {
+    /// So many more cells at the end, for the allocas of a frame that begins. What they hold counts for nothing.
+    pub fn grow(&mut self, cells: usize) -> Result<(), OutOfMemory>
+        ensures grown { OnOk result (self.new.cells.items ≡ self.old.cells.items ++ replicate cells (pos 0)) }
+        ensures same { OnErr result (self.new.cells.items ≡ self.old.cells.items) }
+    {
+        match self.cells.len().checked_add(cells) {
+            Some(end) => Ok(self.cells.resize(end, 0)?),
+            None => Err(OutOfMemory),
+        }
     }
 }

@@ -6,6 +6,7 @@ mod arithmetic;
 mod borders;
 mod calls;
 mod cells;
+mod clearing;
 mod doing;
 mod ending;
 mod entering;

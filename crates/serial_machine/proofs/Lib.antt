@@ -7,5 +7,4 @@ pub mod Running
 pub mod Serially
 pub mod Steps
 pub mod Unmet
-pub mod Walks
 pub mod Wide

@@ -1,5 +1,4 @@
 pub mod Requirements
 pub mod Running
 pub mod Serially
-pub mod Stack
 pub mod Stepping

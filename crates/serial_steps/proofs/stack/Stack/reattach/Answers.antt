@@ -1,0 +1,18 @@
+use Rattle.std.proofs.Common.{ap}
+use Rattle.std.proofs.Math.Logic.{∥∥₁_elim}
+use Rattle.std.proofs.Props.{props}
+use Rattle.serial_steps.specs.declared.stack.Stack.{Stack}
+use Rattle.serial_steps.proofs.Joining.{emptied, reattach_has, reattach_shown}
+use Rattle.serial_steps.proofs.Texts.{placed}
+use Rattle.serial_steps.proofs.stack.Stack.reattach.Goals as goal
+
+pub unreachable-requires : goal.unreachable-requires
+unreachable-requires c = ∥∥₁_elim c.requires.safe (hlevel props) (λ w.
+    reattach_has w.globals c.args.program.now c.args.places.now w.run c.args.self.now w.shown w.can c.args.region c.args.continuation (placed w.globals c.args.program.now c.args.places.now w.run c.args.self.now _ w.shown c.requires.item)
+    (emptied c.args.self.now.below c.in-None.ensures.cases.0))
+
+pub returns-clause-goes : goal.returns-clause-goes
+returns-clause-goes c = λ globals s h can.
+    let only = c.in_ok-go_back_to-in-Some.ensures.only in
+    reattach_shown globals c.args.program.now c.args.places.now s c.args.self.now h can c.args.region c.args.continuation (placed globals c.args.program.now c.args.places.now s c.args.self.now _ h c.requires.item)
+    c.go_back_to.new.self c.in-Some.parent c.pop.new.self.items c.in-Some.ensures.items (ap (λ (x : Stack). x.top) only) (ap (λ (x : Stack). x.below.items) only) (ap (λ (x : Stack). x.cells) only) (ap (λ (x : Stack). x.end) only)

@@ -1,0 +1,10 @@
+//! The serial run on the engine: steps over a stack of frames, of which the one on top goes on (Tapir, "serial elision"). Its callers
+//! show that it may go on wherever it comes, so nothing is tested.
+#![tactic(auto)]
+
+mod borders;
+mod law;
+mod stack;
+mod text;
+
+pub use law::steps_mean;
