@@ -12,3 +12,4 @@ pub mod Writes
 pub mod Activations
 pub mod FlatCells
 pub mod Passing
+pub mod Touches
