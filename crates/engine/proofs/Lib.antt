@@ -13,3 +13,4 @@ pub mod Activations
 pub mod FlatCells
 pub mod Passing
 pub mod Zeroing
+pub mod Touches

@@ -12,3 +12,5 @@ pub mod Activation
 pub mod Arguments
 pub mod Items
 pub mod Starts
+pub mod Access
+pub mod Accesses

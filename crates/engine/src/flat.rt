@@ -1,4 +1,4 @@
-ghost use Rattle.std.specs.Prelude.{◌≡◌, ◌++◌, Some, OnErr, OnOk, pos, replicate};
+ghost use Rattle.std.specs.Prelude.{◌≡◌, ◌++◌, ⊤, Some, OnErr, OnOk, pos, replicate};
 ghost use Rattle.engine.specs.Flat.{cell_in, is_cell};
 
 use crate::arithmetic::sum;
@@ -19,6 +19,10 @@ impl Cells for Flat {
     ghost reaches = { λ f a. is_cell f.cells.items a };
 
     ghost holds = { λ f a z. cell_in f.cells.items a ≡ Some z };
+
+    ghost does = { λ f a g. ⊤ };
+
+    ghost refuses = { λ f a s. ⊥ };
 
     #[inline(always)]
     fn load(&mut self, at: i64) -> Result<i64, Infallible> {

@@ -18,6 +18,7 @@ mod turning;
 mod words;
 
 pub use activation::{Frame, Places};
+pub use arithmetic::sum;
 pub use cells::Cells;
 pub use doing::{Did, plain};
 pub use flat::Flat;

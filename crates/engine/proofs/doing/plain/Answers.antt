@@ -3,11 +3,15 @@ use Rattle.std.proofs.Common.{◌≡◌, FitsSigned}
 use Rattle.running.specs.Arithmetic.{Gives, binary}
 use Rattle.std.specs.Int.{w64}
 use Rattle.std.proofs.lemmas.Int.{to_z-of_z}
+use mir.Val.{to_z, of_z}
 use Rattle.frame.proofs.Words.{written}
 use Rattle.engine.proofs.PlainSteps.{binary_ready, binary_stepped, compare_stepped, bool_word, load_stepped, load_reached}
 use Rattle.engine.specs.Words.{bases}
 use Rattle.engine.proofs.Values.{convert_stepped, alloca_stepped, pointer_stepped}
 use Rattle.engine.proofs.Writes.{store_stepped, store_reached, add_stepped, add_reached}
+use Rattle.std.proofs.Common.{ℤ, subst}
+use Rattle.engine.specs.Access.{Loads, Stores, Adds}
+use Rattle.engine.proofs.Touches.{load_cell, store_cell, add_cell}
 use Rattle.engine.proofs.doing.plain.Goals as goal
 
 pub load-requires : goal.load-requires
@@ -85,3 +89,45 @@ returns-in-Ok-add-clause-stepped g c = λ prog l p f m shown safe.
     let n = c.word-in-AtomicAdd.result in
     let done = c.in-Ok-add.ensures in
     rw i.is (add_stepped prog l (bases c.args.globals.now c.args.allocas.now c.args.home.now) p f m (g.C.Cells.reaches c.args.cells.now) _ (g.C.Cells.holds c.args.cells.now) _ c.args.regs.now i.at i.value at.result _ n _ shown (rw i.is at safe) at.ensures (written at.result at.type_inv) c.word-in-AtomicAdd.ensures (written n c.word-in-AtomicAdd.type_inv) done.here done.others done.reaches)
+
+pub returns-in-Ok-clause-touched : goal.returns-in-Ok-clause-touched
+returns-in-Ok-clause-touched g c = λ prog l p f m shown safe.
+    let t = load_cell prog l _ p f m _ _ c.args.regs.now shown c.in-Load.register c.in-Load.at c.address.result _ (rw c.in-Load.is at safe) c.address.ensures (written c.address.result c.address.type_inv) in
+    rw c.in-Load.is (t.0, t.1, t.2, subst (λ (a : ℤ). g.C.Cells.does c.args.cells.now (Loads a) c.load.new.self) t.3 c.in-Ok.ensures.does)
+
+pub returns-in-Err-clause-refused : goal.returns-in-Err-clause-refused
+returns-in-Err-clause-refused g c = λ prog l p f m shown safe.
+    let t = load_cell prog l _ p f m _ _ c.args.regs.now shown c.in-Load.register c.in-Load.at c.address.result _ (rw c.in-Load.is at safe) c.address.ensures (written c.address.result c.address.type_inv) in
+    rw c.in-Load.is (t.0, t.1, t.2, subst (λ (a : ℤ). g.C.Cells.refuses c.args.cells.now (Loads a) c.in-Err.stop) t.3 c.in-Err.ensures.refused)
+
+pub returns-in-Ok-store-clause-touched : goal.returns-in-Ok-store-clause-touched
+returns-in-Ok-store-clause-touched g c = λ prog l p f m shown safe.
+    let i = c.in-Store in
+    let at = c.address-cell in
+    let n = c.word-in-Store in
+    let t = store_cell prog l _ p f m _ _ c.args.regs.now shown i.value i.at at.result _ n.result _ (rw i.is at safe) at.ensures (written at.result at.type_inv) n.ensures (written n.result n.type_inv) in
+    rw i.is (t.0, t.1, t.2, t.3, t.4, subst (λ (a : ℤ). g.C.Cells.does c.args.cells.now (Stores a t.1) c.store.new.self) t.5 (subst (λ (z : ℤ). g.C.Cells.does c.args.cells.now (Stores (to_z w64 (of_z w64 at.result)) z) c.store.new.self) t.6 c.in-Ok-store.ensures.does))
+
+pub returns-in-Err-store-clause-refused : goal.returns-in-Err-store-clause-refused
+returns-in-Err-store-clause-refused g c = λ prog l p f m shown safe.
+    let i = c.in-Store in
+    let at = c.address-cell in
+    let n = c.word-in-Store in
+    let t = store_cell prog l _ p f m _ _ c.args.regs.now shown i.value i.at at.result _ n.result _ (rw i.is at safe) at.ensures (written at.result at.type_inv) n.ensures (written n.result n.type_inv) in
+    rw i.is (t.0, t.1, t.2, t.3, t.4, subst (λ (a : ℤ). g.C.Cells.refuses c.args.cells.now (Stores a t.1) c.in-Err-store.stop) t.5 (subst (λ (z : ℤ). g.C.Cells.refuses c.args.cells.now (Stores (to_z w64 (of_z w64 at.result)) z) c.in-Err-store.stop) t.6 c.in-Err-store.ensures.refused))
+
+pub returns-in-Ok-add-clause-touched : goal.returns-in-Ok-add-clause-touched
+returns-in-Ok-add-clause-touched g c = λ prog l p f m shown safe.
+    let i = c.in-AtomicAdd in
+    let at = c.address-cell-in-AtomicAdd in
+    let n = c.word-in-AtomicAdd in
+    let t = add_cell prog l _ p f m _ _ c.args.regs.now shown i.at i.value at.result _ n.result _ (rw i.is at safe) at.ensures (written at.result at.type_inv) n.ensures (written n.result n.type_inv) in
+    rw i.is (t.0, t.1, t.2, t.3, t.4, subst (λ (a : ℤ). g.C.Cells.does c.args.cells.now (Adds a t.1) c.add.new.self) t.5 (subst (λ (z : ℤ). g.C.Cells.does c.args.cells.now (Adds (to_z w64 (of_z w64 at.result)) z) c.add.new.self) t.6 c.in-Ok-add.ensures.does))
+
+pub returns-in-Err-add-clause-refused : goal.returns-in-Err-add-clause-refused
+returns-in-Err-add-clause-refused g c = λ prog l p f m shown safe.
+    let i = c.in-AtomicAdd in
+    let at = c.address-cell-in-AtomicAdd in
+    let n = c.word-in-AtomicAdd in
+    let t = add_cell prog l _ p f m _ _ c.args.regs.now shown i.at i.value at.result _ n.result _ (rw i.is at safe) at.ensures (written at.result at.type_inv) n.ensures (written n.result n.type_inv) in
+    rw i.is (t.0, t.1, t.2, t.3, t.4, subst (λ (a : ℤ). g.C.Cells.refuses c.args.cells.now (Adds a t.1) c.in-Err-add.stop) t.5 (subst (λ (z : ℤ). g.C.Cells.refuses c.args.cells.now (Adds (to_z w64 (of_z w64 at.result)) z) c.in-Err-add.stop) t.6 c.in-Err-add.ensures.refused))

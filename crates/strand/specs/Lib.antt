@@ -1,0 +1,6 @@
+pub mod Chains
+pub mod Indexing
+pub mod Buffers
+pub mod Keeping
+pub mod Showing
+pub mod Advancing

@@ -1,0 +1,12 @@
+//! What a worker does outside of the machine, on a copy of a frame: plain instructions over the cells that it has read and written itself.
+//!
+//! - `StrandCells`: the cells that a strand read, with what they held, and those that it wrote. No call but `new` takes memory.
+#![tactic(auto)]
+
+mod access;
+mod cells;
+mod finding;
+mod law;
+
+pub use law::accesses_are_strands;
+pub use cells::{Change, Read, Stop, StrandCells, Written};
