@@ -169,10 +169,13 @@ impl Known<'_> {
         let Some(form) = sum_form(alloc, sum)? else {
             return Ok(out.push_str("a number past the bounds of a form")?);
         };
-        push_inequality(alloc, self.scene, &form, out)?;
+        if !form.terms.is_empty() {
+            push_inequality(alloc, self.scene, &form, out)?;
+            out.push_str(" is ")?;
+        }
         match shortfall(alloc, self.facts, &form)? {
-            Some(short) => write!(out, " is short by {short}")?,
-            None => out.push_str(" follows from nothing that is known")?,
+            Some(short) => write!(out, "short by {short}")?,
+            None => out.push_str("shown by no one or two facts")?,
         }
         Ok(())
     }

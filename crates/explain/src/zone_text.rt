@@ -91,7 +91,7 @@ pub fn between(
 /// The annotation's line as the text has it.
 fn push_candidate(text: &str, line: u32, out: &mut String) -> Result<(), OutOfMemory> {
     let words = line_at(text, line).unwrap_or("").trim();
-    write!(out, "    line {line}, {words}: ")?;
+    writeln!(out, "    line {line}, {words}")?;
     Ok(())
 }
 
@@ -106,9 +106,9 @@ fn push_end(
     if shows(alloc, known.facts, sum)? {
         return Ok(false);
     }
-    write!(out, "its {end} end, ")?;
+    write!(out, "      its {end} end: ")?;
     known.push_gap(alloc, sum, out)?;
-    out.push_str("; ")?;
+    out.push_str("\n")?;
     Ok(true)
 }
 
@@ -127,13 +127,12 @@ pub fn push_why_not(
     push_candidate(text, z.zone.line, out)?;
     if !mode_covers(z.zone.mode, y.zone.mode) {
         let mode = mode_word(y.zone.mode);
-        write!(out, "its mode does not let {mode}; ")?;
+        writeln!(out, "      its mode does not let {mode}")?;
     }
     let low = between(alloc, y.moves, &y.zone.low, z.moves, &z.zone.low)?;
     push_end(alloc, known, &low, "low", out)?;
     let high = between(alloc, z.moves, &z.zone.high, y.moves, &y.zone.high)?;
     push_end(alloc, known, &high, "high", out)?;
-    out.push_str("\n")?;
     Ok(true)
 }
 
@@ -147,10 +146,10 @@ pub fn push_why_beside(
     out: &mut String,
 ) -> Result<(), OutOfMemory> {
     push_candidate(text, z.zone.line, out)?;
-    out.push_str("to end before it ")?;
+    out.push_str("      to end before it: ")?;
     let before = between(alloc, z.moves, &z.zone.low, y.moves, &y.zone.high)?;
     known.push_gap(alloc, &before, out)?;
-    out.push_str(", to begin after it ")?;
+    out.push_str("\n      to begin after it: ")?;
     let after = between(alloc, y.moves, &y.zone.low, z.moves, &z.zone.high)?;
     known.push_gap(alloc, &after, out)?;
     out.push_str("\n")?;
