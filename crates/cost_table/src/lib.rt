@@ -27,3 +27,4 @@ pub use check::check_cost;
 pub use entry::Entry;
 pub use refusal::Refused as CostFault;
 pub use table::{Table, make_table};
+pub use work::{Work, work_of};

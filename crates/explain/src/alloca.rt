@@ -1,0 +1,165 @@
+//! What is to be stored before the cells of an alloca are read.
+
+use crate::lines::with_line_before;
+use crate::report::Source;
+use crate::scene::Scene;
+use crate::trial::match_text;
+use footprints::address_cell;
+use lists::OutOfMemory;
+use program::{Address, AllocaId, Argument, Block, Instruction, ObjectName, Step};
+use std::alloc::Global;
+use verifier::{Refused, verify};
+
+fn alloca_of(object: ObjectName) -> Option<AllocaId> {
+    match object {
+        ObjectName::Alloca(alloca) => Some(alloca),
+        ObjectName::Global(_) | ObjectName::Parameter(_) => None,
+    }
+}
+
+/// The alloca whose cell an address of a block of these steps is.
+fn alloca_at(steps: &[Step], address: Address) -> Option<AllocaId> {
+    match address_cell(steps, address) {
+        Some(cell) => alloca_of(cell.object),
+        None => None,
+    }
+}
+
+fn push_argument_notes(
+    alloc: Global,
+    source: Source<'_>,
+    scene: &Scene<'_>,
+    line: u32,
+    arguments: &[Argument],
+    notes: &mut String,
+) -> Result<(), OutOfMemory> {
+    for argument in arguments {
+        if let Argument::Object(object) = argument {
+            push_alloca_notes(alloc, source, scene, line, alloca_of(*object), notes)?;
+        }
+    }
+    Ok(())
+}
+
+/// Whether the text with this line is refused no more by 402 at the next one.
+fn is_better(
+    alloc: Global,
+    source: Source<'_>,
+    line: u32,
+    after: u32,
+    new: &str,
+) -> Result<bool, OutOfMemory> {
+    let changed = with_line_before(alloc, source.text, after.saturating_add(1), new)?;
+    match verify(alloc, source.state, changed.as_bytes()) {
+        Ok(_) => Ok(true),
+        Err(Refused::Fault { number, line: at }) => {
+            Ok(number > 402 || (number == 402 && at > line.saturating_add(1)))
+        }
+        Err(Refused::Memory) => Err(OutOfMemory),
+    }
+}
+
+/// What would have to be stored, and where.
+fn push_alloca_notes(
+    alloc: Global,
+    source: Source<'_>,
+    scene: &Scene<'_>,
+    line: u32,
+    alloca: Option<AllocaId>,
+    notes: &mut String,
+) -> Result<(), OutOfMemory> {
+    let Some(id) = alloca else {
+        return Ok(());
+    };
+    let Some(found) = scene.function.allocas.as_slice().get(id.0) else {
+        return Ok(());
+    };
+    let name = scene.register(found.register);
+    let after = found.line;
+    let cells = found.cells;
+    let new = if cells == 1 {
+        format!(in alloc; "store i64 0, ptr %{name}")?
+    } else {
+        format!(in alloc; "store [{cells} x i64] zeroinitializer, ptr %{name}")?
+    };
+    writeln!(
+        notes,
+        "  read: %{name}, of {cells} cells, made in line {after}; each path from there to line {line} has to store it whole"
+    )?;
+    if cells > 1 {
+        notes.push_str("    a store to one of several cells does not count\n")?;
+    }
+    if is_better(alloc, source, line, after, new.as_str())? {
+        writeln!(notes, "    try: {new}, after line {after}")?;
+    }
+    Ok(())
+}
+
+fn push_step_notes(
+    alloc: Global,
+    source: Source<'_>,
+    scene: &Scene<'_>,
+    block: &Block,
+    step: &Step,
+    notes: &mut String,
+) -> Result<(), OutOfMemory> {
+    let steps = block.steps.as_slice();
+    match &step.instruction {
+        Instruction::Load { address, .. } => {
+            let read = alloca_at(steps, *address);
+            push_alloca_notes(alloc, source, scene, step.line, read, notes)
+        }
+        Instruction::AtomicAdd { address, .. } => {
+            let read = alloca_at(steps, *address);
+            push_alloca_notes(alloc, source, scene, step.line, read, notes)
+        }
+        Instruction::Call { arguments, .. } => {
+            push_argument_notes(alloc, source, scene, step.line, arguments.as_slice(), notes)
+        }
+        _ => Ok(()),
+    }
+}
+
+fn push_block_notes(
+    alloc: Global,
+    source: Source<'_>,
+    scene: &Scene<'_>,
+    line: u32,
+    block: &Block,
+    notes: &mut String,
+) -> Result<(), OutOfMemory> {
+    for step in block.steps.as_slice() {
+        if step.line == line {
+            push_step_notes(alloc, source, scene, block, step, notes)?;
+        }
+    }
+    Ok(())
+}
+
+fn push_scene_notes(
+    alloc: Global,
+    source: Source<'_>,
+    scene: &Scene<'_>,
+    line: u32,
+    notes: &mut String,
+) -> Result<(), OutOfMemory> {
+    for block in scene.function.blocks.as_slice() {
+        push_block_notes(alloc, source, scene, line, block, notes)?;
+    }
+    Ok(())
+}
+
+/// What there is to say of a line that reads cells without values.
+pub fn alloca_notes(alloc: Global, source: Source<'_>, line: u32) -> Result<String, OutOfMemory> {
+    let mut notes = String::new(alloc);
+    let Some(whole) = match_text(alloc, source.state, source.text.as_bytes(), false)? else {
+        return Ok(notes);
+    };
+    let program = &whole.graph.typed.program;
+    for index in 0..program.functions.len() {
+        if let Some(scene) = Scene::of(alloc, program, &whole.whole, index)? {
+            push_scene_notes(alloc, source, &scene, line, &mut notes)?;
+        }
+    }
+    Ok(notes)
+}

@@ -1,0 +1,181 @@
+//! By how much facts fall short of a form, and which of them come nearest. All is asked of `shown`.
+
+use linear::{Fact, Form, FormFault, shown};
+use lists::OutOfMemory;
+use std::alloc::Global;
+
+/// The sizes of numbers that a form may be raised by: 2^125.
+const TOO_MUCH: u128 = 42_535_295_865_117_307_932_921_825_928_971_026_432;
+
+/// A form and so many more, unless it would pass the bounds of a form.
+pub fn raised(alloc: Global, form: &Form, amount: i128) -> Result<Option<Form>, OutOfMemory> {
+    if amount.unsigned_abs() >= TOO_MUCH {
+        return Ok(None);
+    }
+    match form.copy(alloc)?.plus_constant(amount) {
+        Ok(form) => Ok(Some(form)),
+        Err(FormFault::Bounds) => Ok(None),
+        Err(FormFault::Memory) => Err(OutOfMemory),
+    }
+}
+
+/// Whether the facts show a form and so many more.
+fn is_shown_with(
+    alloc: Global,
+    facts: &[Fact],
+    form: &Form,
+    amount: i128,
+) -> Result<bool, OutOfMemory> {
+    match raised(alloc, form, amount)? {
+        Some(form) => Ok(shown(facts, &form)),
+        None => Ok(false),
+    }
+}
+
+/// A power of 2 with which the form is shown.
+fn amount_enough(alloc: Global, facts: &[Fact], form: &Form) -> Result<Option<i128>, OutOfMemory> {
+    let mut amount: i128 = 1;
+    for _step in 0..101 {
+        if is_shown_with(alloc, facts, form, amount)? {
+            return Ok(Some(amount));
+        }
+        amount = amount.saturating_mul(2);
+    }
+    Ok(None)
+}
+
+/// The least amount with which the form is shown, where there is one; the form itself is not.
+pub fn shortfall(alloc: Global, facts: &[Fact], form: &Form) -> Result<Option<i128>, OutOfMemory> {
+    let Some(mut least) = amount_enough(alloc, facts, form)? else {
+        return Ok(None);
+    };
+    let mut step = least / 2;
+    for _half in 0..101 {
+        let trial = least.saturating_sub(step);
+        if step > 0 && is_shown_with(alloc, facts, form, trial)? {
+            least = trial;
+        }
+        step = step / 2;
+    }
+    Ok(Some(least))
+}
+
+/// The first facts, so many of them.
+pub fn first_facts(facts: &[Fact], count: usize) -> &[Fact] {
+    if count < facts.len() {
+        &facts[..count]
+    } else {
+        facts
+    }
+}
+
+/// How many of the first facts are enough to show the form.
+fn count_enough(facts: &[Fact], form: &Form) -> usize {
+    for count in 0..facts.len() {
+        if shown(first_facts(facts, count), form) {
+            return count;
+        }
+    }
+    facts.len()
+}
+
+/// Adds the fact at a place once more.
+fn push_copy(
+    alloc: Global,
+    facts: &[Fact],
+    place: usize,
+    copies: &mut Vec<Fact>,
+) -> Result<(), OutOfMemory> {
+    if let Some(fact) = facts.get(place) {
+        copies.push(Fact {
+            form: fact.form.copy(alloc)?,
+        })?;
+    }
+    Ok(())
+}
+
+/// Whether the facts at two places show the form.
+fn is_shown_by(
+    alloc: Global,
+    facts: &[Fact],
+    left: usize,
+    right: usize,
+    form: &Form,
+) -> Result<bool, OutOfMemory> {
+    let mut pair: Vec<Fact> = Vec::new(alloc);
+    push_copy(alloc, facts, left, &mut pair)?;
+    push_copy(alloc, facts, right, &mut pair)?;
+    Ok(shown(&pair, form))
+}
+
+/// The place of a fact that shows the form with the one at `last`; `last` itself where it needs no other.
+fn partner(alloc: Global, facts: &[Fact], last: usize, form: &Form) -> Result<usize, OutOfMemory> {
+    if is_shown_by(alloc, facts, last, last, form)? {
+        return Ok(last);
+    }
+    for place in 0..last {
+        if is_shown_by(alloc, facts, place, last, form)? {
+            return Ok(place);
+        }
+    }
+    Ok(last)
+}
+
+/// The places of the one or two facts that show the form; none where it needs no fact.
+pub fn facts_used(
+    alloc: Global,
+    facts: &[Fact],
+    form: &Form,
+) -> Result<Option<(usize, usize)>, OutOfMemory> {
+    match count_enough(facts, form).checked_sub(1) {
+        Some(last) => Ok(Some((partner(alloc, facts, last, form)?, last))),
+        None => Ok(None),
+    }
+}
+
+/// A form without a fact's, unless it would pass the bounds of a form.
+fn rest_of(alloc: Global, form: &Form, fact: &Fact) -> Result<Option<Form>, OutOfMemory> {
+    match form.difference(alloc, &fact.form) {
+        Ok(rest) => Ok(Some(rest)),
+        Err(FormFault::Bounds) => Ok(None),
+        Err(FormFault::Memory) => Err(OutOfMemory),
+    }
+}
+
+/// Whether the facts show a rest, and the form where the rest is a fact too.
+fn is_step(
+    alloc: Global,
+    stated: &[Fact],
+    facts: &[Fact],
+    rest: &Form,
+    form: &Form,
+) -> Result<bool, OutOfMemory> {
+    if !shown(stated, rest) {
+        return Ok(false);
+    }
+    let mut more: Vec<Fact> = Vec::new(alloc);
+    for place in 0..facts.len() {
+        push_copy(alloc, facts, place, &mut more)?;
+    }
+    more.push(Fact {
+        form: rest.copy(alloc)?,
+    })?;
+    Ok(shown(&more, form))
+}
+
+/// What the facts that are `stated` show and what makes all facts show the form: a line to write before it.
+pub fn step_between(
+    alloc: Global,
+    stated: &[Fact],
+    facts: &[Fact],
+    form: &Form,
+) -> Result<Option<Form>, OutOfMemory> {
+    for fact in facts {
+        if let Some(rest) = rest_of(alloc, form, fact)? {
+            if is_step(alloc, stated, facts, &rest, form)? {
+                return Ok(Some(rest));
+            }
+        }
+    }
+    Ok(None)
+}

@@ -1,0 +1,29 @@
+//! Why a module is refused, in words: each fault of the first phase that has one, with the line, the rule, what was to be shown and what is
+//! known there; and of a module that is accepted what it could do without.
+//!
+//! What is a fault is asked of the phases alone. [`explain`] promises that its first fault is the one that the verifier names.
+#![tactic(auto)]
+
+mod accepted;
+mod access;
+mod alloca;
+mod cost;
+mod explaining;
+mod gap;
+mod known;
+mod left_out;
+mod lines;
+mod number;
+mod number_notes;
+mod report;
+mod rule;
+mod rule_texts;
+mod scene;
+mod spelling;
+mod trial;
+mod word;
+mod zone_text;
+
+pub use explaining::explain;
+pub use report::{Explanation, Finding};
+pub use rule::{rule_text, told};

@@ -1,0 +1,68 @@
+//! The lines of a text, counted from 1.
+
+use lists::OutOfMemory;
+use std::alloc::Global;
+
+/// The line of this number, without its LF.
+pub fn line_at(text: &str, number: u32) -> Option<&str> {
+    let mut at: u32 = 0;
+    for line in text.split('\n') {
+        at = at.saturating_add(1);
+        if at == number {
+            return Some(line);
+        }
+    }
+    None
+}
+
+/// The text with a line more, which stands before the line of this number.
+pub fn with_line_before(
+    alloc: Global,
+    text: &str,
+    number: u32,
+    new: &str,
+) -> Result<String, OutOfMemory> {
+    let mut changed = String::new(alloc);
+    let mut at: u32 = 0;
+    for line in text.split('\n') {
+        at = at.saturating_add(1);
+        if at == number {
+            writeln!(changed, "{new}")?;
+        }
+        writeln!(changed, "{line}")?;
+    }
+    Ok(changed)
+}
+
+/// The text with this in place of the line of this number.
+pub fn with_line_at(
+    alloc: Global,
+    text: &str,
+    number: u32,
+    new: &str,
+) -> Result<String, OutOfMemory> {
+    let mut changed = String::new(alloc);
+    let mut at: u32 = 0;
+    for line in text.split('\n') {
+        at = at.saturating_add(1);
+        if at == number {
+            writeln!(changed, "{new}")?;
+        } else {
+            writeln!(changed, "{line}")?;
+        }
+    }
+    Ok(changed)
+}
+
+/// The text before the line of this number.
+pub fn lines_before(alloc: Global, text: &str, number: u32) -> Result<String, OutOfMemory> {
+    let mut before = String::new(alloc);
+    let mut at: u32 = 0;
+    for line in text.split('\n') {
+        at = at.saturating_add(1);
+        if at < number {
+            writeln!(before, "{line}")?;
+        }
+    }
+    Ok(before)
+}

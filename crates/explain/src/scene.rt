@@ -1,0 +1,129 @@
+//! A function beside the names of its text.
+
+use lists::{Name, OutOfMemory};
+use program::{BlockId, Function, ObjectName, Program, RegisterId};
+use std::alloc::Global;
+use syntax::{Instruction, Module, Parameter};
+
+/// A function of a program, and the names that its text gives to registers, in their order.
+#[derive(Drop)]
+pub struct Scene<'a> {
+    pub program: &'a Program,
+    pub index: usize,
+    pub function: &'a Function,
+    pub written: &'a syntax::Function,
+    registers: Vec<&'a Name>,
+}
+
+fn parameter_name(parameter: &Parameter) -> &Name {
+    match parameter {
+        Parameter::Number { name } => name,
+        Parameter::Pointer { name, .. } => name,
+    }
+}
+
+/// The register that an instruction defines.
+fn register_of(instruction: &Instruction) -> Option<&Name> {
+    match instruction {
+        Instruction::Binary { register, .. } => Some(register),
+        Instruction::Compare { register, .. } => Some(register),
+        Instruction::Convert { register, .. } => Some(register),
+        Instruction::Alloca { register, .. } => Some(register),
+        Instruction::ElementPointer { register, .. } => Some(register),
+        Instruction::Load { register, .. } => Some(register),
+        Instruction::StartRegion { register } => Some(register),
+        Instruction::Call { register, .. } => register.as_ref(),
+        Instruction::Store { .. }
+        | Instruction::StoreZeros { .. }
+        | Instruction::AtomicAdd { .. } => None,
+    }
+}
+
+fn push_block<'a>(names: &mut Vec<&'a Name>, block: &'a syntax::Block) -> Result<(), OutOfMemory> {
+    for phi in block.phis.as_slice() {
+        names.push(&phi.register)?;
+    }
+    for step in block.steps.as_slice() {
+        if let Some(name) = register_of(&step.instruction) {
+            names.push(name)?;
+        }
+    }
+    Ok(())
+}
+
+/// The names of the registers: parameters first, then in the order of the text.
+fn register_names<'a>(
+    alloc: Global,
+    function: &'a syntax::Function,
+) -> Result<Vec<&'a Name>, OutOfMemory> {
+    let mut names: Vec<&'a Name> = Vec::new(alloc);
+    for parameter in function.parameters.as_slice() {
+        names.push(parameter_name(parameter))?;
+    }
+    for block in function.blocks.as_slice() {
+        push_block(&mut names, block)?;
+    }
+    Ok(names)
+}
+
+impl<'a> Scene<'a> {
+    /// The function of this number.
+    pub fn of(
+        alloc: Global,
+        program: &'a Program,
+        whole: &'a Module,
+        index: usize,
+    ) -> Result<Option<Scene<'a>>, OutOfMemory> {
+        let function = program.functions.as_slice().get(index);
+        let written = whole.functions.as_slice().get(index);
+        match (function, written) {
+            (Some(function), Some(written)) => Ok(Some(Scene {
+                program,
+                index,
+                function,
+                written,
+                registers: register_names(alloc, written)?,
+            })),
+            _ => Ok(None),
+        }
+    }
+
+    /// The name of a register without its sigil. The result of the function stands after the last one.
+    pub fn register(&self, register: RegisterId) -> &str {
+        match self.registers.get(register.0) {
+            Some(name) => name.as_str(),
+            None => ".ret",
+        }
+    }
+
+    /// The label of a block.
+    pub fn label(&self, block: BlockId) -> &str {
+        match self.written.blocks.as_slice().get(block.0) {
+            Some(block) => block.label.as_str(),
+            None => "?",
+        }
+    }
+
+    /// The line of a block's label.
+    pub fn label_line(&self, block: BlockId) -> u32 {
+        match self.written.blocks.as_slice().get(block.0) {
+            Some(block) => block.line,
+            None => 0,
+        }
+    }
+
+    /// The sigil and the name of an object.
+    pub fn object(&self, object: ObjectName) -> (&str, &str) {
+        match object {
+            ObjectName::Global(global) => match self.program.globals.as_slice().get(global.0) {
+                Some(global) => ("@", global.name.as_str()),
+                None => ("@", "?"),
+            },
+            ObjectName::Alloca(alloca) => match self.function.allocas.as_slice().get(alloca.0) {
+                Some(alloca) => ("%", self.register(alloca.register)),
+                None => ("%", "?"),
+            },
+            ObjectName::Parameter(register) => ("%", self.register(register)),
+        }
+    }
+}

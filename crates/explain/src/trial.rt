@@ -1,0 +1,55 @@
+//! A text as the phases before those of numbers, zones and costs take it.
+
+use cfg::{Graph, graph};
+use definedness::defined;
+use ir_text::read;
+use lists::OutOfMemory;
+use refusal::Refused;
+use region_match::{Regions, regions};
+use std::alloc::Global;
+use std::hash::RandomState;
+use syntax::Module;
+use types::check_types;
+
+/// A module whose graph and regions are right, beside its tree, which has the names.
+#[derive(Drop)]
+pub struct Matched {
+    pub whole: Module,
+    pub graph: Graph,
+    pub regions: Regions,
+}
+
+fn judged(
+    alloc: Global,
+    state: RandomState,
+    text: &[u8],
+    is_defined: bool,
+) -> Result<Matched, Refused> {
+    let whole = read(alloc, state, text)?;
+    let again = read(alloc, state, text)?;
+    let typed = check_types(alloc, state, again)?;
+    let graph = graph(alloc, typed)?;
+    let regions = regions(alloc, &graph)?;
+    if is_defined {
+        defined(alloc, &graph, &regions)?;
+    }
+    Ok(Matched {
+        whole,
+        graph,
+        regions,
+    })
+}
+
+/// The module of a text, unless a phase up to that of regions refuses it, or up to that of uses where `is_defined` asks for it.
+pub fn match_text(
+    alloc: Global,
+    state: RandomState,
+    text: &[u8],
+    is_defined: bool,
+) -> Result<Option<Matched>, OutOfMemory> {
+    match judged(alloc, state, text, is_defined) {
+        Ok(matched) => Ok(Some(matched)),
+        Err(Refused::Fault { .. }) => Ok(None),
+        Err(Refused::Memory) => Err(OutOfMemory),
+    }
+}
