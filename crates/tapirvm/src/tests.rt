@@ -16,7 +16,7 @@ use std::test::Fail;
 use verifier::{Verified, verify};
 
 /// What the program writes on a command line, its words parted by one space, over a module and a
-/// schedule; and its status.
+/// schedule, and behind it what a file is to hold; and its status.
 fn told(
     rt: &(impl Abort + AllocGlobal + RandomSource),
     line: &str,
@@ -31,6 +31,7 @@ fn told(
     };
     let mut output: Vec<u8> = Vec::new(alloc);
     let mut input: &[u8] = &[];
+    let mut written = String::new(alloc);
     let state = RandomState::new(rt)?;
     let status = act(
         alloc,
@@ -40,7 +41,9 @@ fn told(
         schedule,
         &mut input,
         &mut output,
+        &mut written,
     );
+    write!(output, "{written}")?;
     Ok((status, output))
 }
 
