@@ -8,6 +8,7 @@ use crate::draw::run_drawn;
 use crate::request::{CellWord, Request, Setting, Verb};
 use crate::status::Status;
 use crate::tell::tell_replay;
+use annotate::annotated;
 use debugger::{ScheduleFault, read_schedule};
 use lists::OutOfMemory;
 use schedule_core::{Event, Machine, replay};
@@ -54,8 +55,10 @@ fn answer<W: Write>(
         writeln!(output, "unreadable {}", request.file)?;
         return Ok(Status::Unreadable);
     };
-    if request.verb == Verb::Print {
-        return print_text(printed(alloc, state, text), output);
+    match request.verb {
+        Verb::Print => return print_text(printed(alloc, state, text), output),
+        Verb::Annotate => return print_text(annotated(alloc, state, text), output),
+        _ => {}
     }
     match verify(alloc, state, text) {
         Ok(verified) => match request.verb {
@@ -194,7 +197,7 @@ fn run_events<W: Write>(
     let cells = request.show.as_slice();
     let workers = request.workers;
     match request.verb {
-        Verb::Verify | Verb::Print | Verb::Show => print_verified(verified, request, output),
+        Verb::Verify | Verb::Print | Verb::Show | Verb::Annotate => print_verified(verified, request, output),
         Verb::Serial => print_run(&run_serially(alloc, verified, args, memory), cells, output),
         Verb::Run => print_run(
             &run_by_one(alloc, verified, args, memory, workers),

@@ -10,7 +10,7 @@ use std::io::Write;
 use traces::random_schedule;
 use verifier::Verified;
 
-/// Draws a schedule, adds its text to `written`, and answers as a replay of that text does.
+/// Draws a schedule, adds its text to `written` where a file is asked for, and answers as a replay of that text does.
 pub fn run_drawn<W: Write>(
     alloc: Global,
     verified: &Verified,
@@ -32,7 +32,9 @@ pub fn run_drawn<W: Write>(
         Ok(text) => text,
         Err(fault) => return print_run_fault(&fault, output),
     };
-    written.push_str(text.as_str())?;
+    if request.telling.file.is_some() {
+        written.push_str(text.as_str())?;
+    }
     match read_schedule(alloc, text.as_bytes()) {
         Ok(events) => run_replay(alloc, verified, request, second, events.as_slice(), output),
         Err(fault) => print_schedule_fault(&fault, output),

@@ -15,6 +15,8 @@ pub enum Verb {
     Print,
     /// Tell what the verifier knows of each block.
     Show,
+    /// Put in the annotations that follow from others.
+    Annotate,
 }
 
 /// A cell of a global, as `@a:5` names it.

@@ -2,6 +2,7 @@
 
 mod commands;
 mod counts;
+mod drawn;
 mod machines;
 mod samples;
 mod transcripts;
@@ -10,6 +11,7 @@ mod traps;
 use crate::act::act;
 use crate::words::words;
 use std::hash::RandomState;
+use std::io::Write;
 use std::process::Abort;
 use std::random::RandomSource;
 use std::test::Fail;

@@ -147,18 +147,38 @@ fn verify_command<'a>(alloc: Global) -> Result<Command<'a>, AllocError> {
         .arg(table)
 }
 
-fn print_command<'a>(alloc: Global) -> Result<Command<'a>, AllocError> {
-    let file = Arg::new(alloc, "file").value_name("FILE").required(true);
-    Command::new(alloc, "print")
-        .about("prints the canonical text of a module")
+/// What the help of each command tells last.
+const STATUSES: &str = "Statuses: 0 done, 1 refused module, 2 command line, 3 stopped, 4 unreadable file, 5 bad schedule, 6 a failed write";
+
+/// A command that takes a module alone.
+fn module_command<'a>(
+    alloc: Global,
+    name: &'a str,
+    about: &'a str,
+) -> Result<Command<'a>, AllocError> {
+    let file = Arg::new(alloc, "file")
+        .value_name("FILE")
+        .required(true)
+        .help("the text of the module");
+    Command::new(alloc, name)
+        .about(about)
+        .after_help(STATUSES)
         .arg(file)
 }
 
+fn print_command<'a>(alloc: Global) -> Result<Command<'a>, AllocError> {
+    let about = "prints the canonical text of a module";
+    module_command(alloc, "print", about)
+}
+
 fn show_command<'a>(alloc: Global) -> Result<Command<'a>, AllocError> {
-    let file = Arg::new(alloc, "file").value_name("FILE").required(true);
-    Command::new(alloc, "show")
-        .about("tells what the verifier knows of each block of a module")
-        .arg(file)
+    let about = "tells what the verifier knows of each block of a module";
+    module_command(alloc, "show", about)
+}
+
+fn annotate_command<'a>(alloc: Global) -> Result<Command<'a>, AllocError> {
+    let about = "prints a module with annotations put in that follow from others";
+    module_command(alloc, "annotate", about)
 }
 
 /// The options of a verb that runs a module.
@@ -212,7 +232,9 @@ fn run_command<'a>(alloc: Global) -> Result<Command<'a>, AllocError> {
         .help("writes the events to a file, as replay takes them");
     running(
         alloc,
-        Command::new(alloc, "run").about("runs a module on workers"),
+        Command::new(alloc, "run")
+            .about("runs a module on workers")
+            .after_help(STATUSES),
     )?
     .arg(workers(alloc))?
     .arg(seed)?
@@ -234,7 +256,9 @@ fn replay_command<'a>(alloc: Global) -> Result<Command<'a>, AllocError> {
         .help("writes a picture of the run to a file, as SVG");
     running(
         alloc,
-        Command::new(alloc, "replay").about("runs a module by a schedule"),
+        Command::new(alloc, "replay")
+            .about("runs a module by a schedule")
+            .after_help(STATUSES),
     )?
     .arg(schedule)?
     .arg(workers(alloc))?
@@ -251,7 +275,8 @@ fn command<'a>(alloc: Global) -> Result<Command<'a>, AllocError> {
         .subcommand(run_command(alloc)?)?
         .subcommand(replay_command(alloc)?)?
         .subcommand(print_command(alloc)?)?
-        .subcommand(show_command(alloc)?)
+        .subcommand(show_command(alloc)?)?
+        .subcommand(annotate_command(alloc)?)
 }
 
 fn schedule_of(alloc: Global, matches: &ArgMatches<'_>) -> Result<String, WordsFault> {
@@ -367,6 +392,7 @@ pub fn words<'a>(alloc: Global, words: &'a [&'a str]) -> Result<Request, WordsFa
         Some(("replay", matches)) => replay_request(alloc, matches),
         Some(("print", matches)) => module_request(alloc, Verb::Print, matches),
         Some(("show", matches)) => module_request(alloc, Verb::Show, matches),
+        Some(("annotate", matches)) => module_request(alloc, Verb::Annotate, matches),
         _ => Err(wrong_value(alloc, "<COMMAND>", "")),
     }
 }
