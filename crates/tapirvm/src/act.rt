@@ -4,8 +4,11 @@ ghost use Rattle.program.specs.declared.function.Program.{Program};
 ghost use Rattle.std.specs.Prelude.{IfOk};
 ghost use Rattle.store.specs.Made.{HasGlobalCells};
 
+use crate::draw::run_drawn;
 use crate::request::{CellWord, Request, Setting, Verb};
 use crate::status::Status;
+use crate::tell::tell_replay;
+use annotate::annotated;
 use debugger::{ScheduleFault, read_schedule};
 use lists::OutOfMemory;
 use schedule_core::{Event, Machine, replay};
@@ -17,10 +20,12 @@ use std::io;
 use std::io::{Read, Write};
 use store::Memory;
 use verifier::{Refused, Verified, verify};
+use views::{printed, show};
 
 /// Does what is asked and answers the status.
 ///
-/// `module` and `schedule` are the bytes of the files, `None` where one could not be read.
+/// `module` and `schedule` are the bytes of the files, `None` where one could not be read. What a file that is to be written holds is added
+/// to `written`.
 pub fn act<R: Read, W: Write>(
     alloc: Global,
     state: RandomState,
@@ -29,8 +34,9 @@ pub fn act<R: Read, W: Write>(
     schedule: Option<&[u8]>,
     _input: &mut R,
     output: &mut W,
+    written: &mut String,
 ) -> u8 {
-    match answer(alloc, state, request, module, schedule, output) {
+    match answer(alloc, state, request, module, schedule, output, written) {
         Ok(status) => status as u8,
         Err(_) => Status::Stream as u8,
     }
@@ -43,18 +49,27 @@ fn answer<W: Write>(
     module: Option<&[u8]>,
     schedule: Option<&[u8]>,
     output: &mut W,
+    written: &mut String,
 ) -> io::Result<Status> {
     let Some(text) = module else {
         writeln!(output, "unreadable {}", request.file)?;
         return Ok(Status::Unreadable);
     };
+    match request.verb {
+        Verb::Print => return print_text(printed(alloc, state, text), output),
+        Verb::Annotate => return print_text(annotated(alloc, state, text), output),
+        _ => {}
+    }
     match verify(alloc, state, text) {
-        Ok(verified) => run_verified(alloc, &verified, request, schedule, output),
-        Err(Refused::Fault { number, line }) => {
-            writeln!(output, "refused {number} line {line}")?;
-            Ok(Status::Refused)
-        }
-        Err(Refused::Memory) => stop_for_memory(output),
+        Ok(verified) => match request.verb {
+            Verb::Show => print_text(show(alloc, state, text, &verified), output),
+            Verb::Replay => tell_replay(alloc, &verified, request, text, schedule, output, written),
+            Verb::Run if request.telling.seed.is_some() => {
+                run_drawn(alloc, &verified, request, output, written)
+            }
+            _ => run_verified(alloc, &verified, request, schedule, output),
+        },
+        Err(refused) => print_refused(&refused, output),
     }
 }
 
@@ -109,12 +124,12 @@ fn print_table<W: Write>(
     Ok(())
 }
 
-fn stop_for_memory<W: Write>(output: &mut W) -> io::Result<Status> {
+pub(crate) fn stop_for_memory<W: Write>(output: &mut W) -> io::Result<Status> {
     writeln!(output, "stopped 803")?;
     Ok(Status::Stopped)
 }
 
-fn run_verified<W: Write>(
+pub(crate) fn run_verified<W: Write>(
     alloc: Global,
     verified: &Verified,
     request: &Request,
@@ -130,16 +145,27 @@ fn run_verified<W: Write>(
     };
     match read_schedule(alloc, text) {
         Ok(events) => run_events(alloc, verified, request, events.as_slice(), output),
-        Err(ScheduleFault::Memory) => stop_for_memory(output),
-        Err(fault) => {
-            writeln!(output, "schedule {fault}")?;
-            Ok(Status::Schedule)
-        }
+        Err(fault) => print_schedule_fault(&fault, output),
     }
 }
 
+pub(crate) fn print_schedule_fault<W: Write>(
+    fault: &ScheduleFault,
+    output: &mut W,
+) -> io::Result<Status> {
+    if matches!(fault, ScheduleFault::Memory) {
+        return stop_for_memory(output);
+    }
+    writeln!(output, "schedule {fault}")?;
+    Ok(Status::Schedule)
+}
+
 /// The memory to begin with; else the status: an option names no cell, or memory was refused.
-fn prepared(alloc: Global, verified: &Verified, request: &Request) -> Result<Memory, Status>
+pub(crate) fn prepared(
+    alloc: Global,
+    verified: &Verified,
+    request: &Request,
+) -> Result<Memory, Status>
     ensures { IfOk result (λ memory. HasGlobalCells verified.now memory) }
 {
     let Ok(mut memory) = Memory::zeroed(alloc, verified) else {
@@ -171,17 +197,53 @@ fn run_events<W: Write>(
     let cells = request.show.as_slice();
     let workers = request.workers;
     match request.verb {
-        Verb::Verify => print_verified(verified, request, output),
+        Verb::Verify | Verb::Print | Verb::Show | Verb::Annotate => print_verified(verified, request, output),
         Verb::Serial => print_run(&run_serially(alloc, verified, args, memory), cells, output),
         Verb::Run => print_run(
             &run_by_one(alloc, verified, args, memory, workers),
             cells,
             output,
         ),
-        Verb::Replay => match replay(alloc, verified, args, memory, workers, events) {
-            Ok(machine) => print_replayed(machine, cells, output),
-            Err(fault) => print_run_fault(&fault, output),
-        },
+        Verb::Replay => run_replay(alloc, verified, request, memory, events, output),
+    }
+}
+
+/// The answer of a run by these events.
+pub(crate) fn run_replay<W: Write>(
+    alloc: Global,
+    verified: &Verified,
+    request: &Request,
+    memory: Memory,
+    events: &[Event],
+    output: &mut W,
+) -> io::Result<Status>
+    requires { HasGlobalCells verified.now memory }
+{
+    let args = request.args.as_slice();
+    match replay(alloc, verified, args, memory, request.workers, events) {
+        Ok(machine) => print_replayed(machine, request.show.as_slice(), output),
+        Err(fault) => print_run_fault(&fault, output),
+    }
+}
+
+fn print_refused<W: Write>(refused: &Refused, output: &mut W) -> io::Result<Status> {
+    match refused {
+        Refused::Fault { number, line } => {
+            writeln!(output, "refused {number} line {line}")?;
+            Ok(Status::Refused)
+        }
+        Refused::Memory => stop_for_memory(output),
+    }
+}
+
+/// Prints a text that a module was shown as.
+fn print_text<W: Write>(text: Result<String, Refused>, output: &mut W) -> io::Result<Status> {
+    match text {
+        Ok(text) => {
+            write!(output, "{text}")?;
+            Ok(Status::Done)
+        }
+        Err(refused) => print_refused(&refused, output),
     }
 }
 
@@ -300,7 +362,7 @@ fn print_cells<W: Write>(memory: &Memory, cells: &[CellWord], output: &mut W) ->
     Ok(())
 }
 
-fn print_run_fault<W: Write>(fault: &RunFault, output: &mut W) -> io::Result<Status> {
+pub(crate) fn print_run_fault<W: Write>(fault: &RunFault, output: &mut W) -> io::Result<Status> {
     match fault {
         RunFault::BadArguments { requirement, .. } => {
             writeln!(output, "stopped 801 requirement {requirement}")?

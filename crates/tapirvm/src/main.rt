@@ -2,8 +2,10 @@
 #![tactic(auto)]
 
 mod act;
+mod draw;
 mod request;
 mod status;
+mod tell;
 #[cfg(test)]
 mod tests;
 mod words;
@@ -13,6 +15,7 @@ use status::Status;
 use std::hash::RandomState;
 use std::io::{BufWriter, Write};
 use std::process::ExitCode;
+use std::rt::Files;
 use std::{env, fs, io};
 
 /// Prints why words are no request, and answers the status.
@@ -42,6 +45,7 @@ fn obey(rt: &HostRuntime, request: &Request) -> io::Result<u8> {
     let state = RandomState::new(rt)?;
     let mut output = BufWriter::new(alloc, io::writer(rt))?;
     let mut input = rt.reader();
+    let mut written = String::new(alloc);
     let status = act::act(
         alloc,
         state,
@@ -50,6 +54,7 @@ fn obey(rt: &HostRuntime, request: &Request) -> io::Result<u8> {
         events,
         &mut input,
         &mut output,
+        &mut written,
     );
     if output.flush().is_err() {
         return Ok(Status::Stream as u8);
@@ -57,7 +62,18 @@ fn obey(rt: &HostRuntime, request: &Request) -> io::Result<u8> {
     if status == Status::Words as u8 {
         rt.eprintln("error: an option names a cell that the module does not have")?;
     }
+    if status == Status::Done as u8 {
+        return Ok(write_file(rt, request, written.as_str()) as u8);
+    }
     Ok(status)
+}
+
+/// Writes the file that is asked for, if one is.
+fn write_file(rt: &impl Files, request: &Request, text: &str) -> Status {
+    match &request.telling.file {
+        Some(file) if fs::write(rt, file.as_str(), text).is_err() => Status::Stream,
+        _ => Status::Done,
+    }
 }
 
 fn main(rt: HostRuntime) -> anyhow::Result<ExitCode> {

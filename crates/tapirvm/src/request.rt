@@ -11,6 +11,12 @@ pub enum Verb {
     Run,
     /// Run by a schedule.
     Replay,
+    /// Print the module's canonical text.
+    Print,
+    /// Tell what the verifier knows of each block.
+    Show,
+    /// Put in the annotations that follow from others.
+    Annotate,
 }
 
 /// A cell of a global, as `@a:5` names it.
@@ -46,6 +52,29 @@ pub struct Request {
     pub show: Vec<CellWord>,
     /// The name, without `@`, of the function whose costs to print, for the verb that takes one.
     pub table: Option<String>,
+    /// How the verb tells of the run, and where to.
+    pub telling: Telling,
+}
+
+/// What is told of a run beside its answer.
+#[derive(Debug, Drop)]
+pub struct Telling {
+    /// A line for each event of a replay.
+    pub trace: bool,
+    /// Draws the events of a run by this seed; without one worker 0 takes every step.
+    pub seed: Option<u64>,
+    /// The file to write: the picture of a replay, or the schedule of a run that is drawn.
+    pub file: Option<String>,
+}
+
+impl Telling {
+    pub fn nothing() -> Telling {
+        Telling {
+            trace: false,
+            seed: None,
+            file: None,
+        }
+    }
 }
 
 /// Why words are no request: a text for the user, or that memory was refused.

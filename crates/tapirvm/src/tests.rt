@@ -2,6 +2,7 @@
 
 mod commands;
 mod counts;
+mod drawn;
 mod machines;
 mod samples;
 mod transcripts;
@@ -10,13 +11,14 @@ mod traps;
 use crate::act::act;
 use crate::words::words;
 use std::hash::RandomState;
+use std::io::Write;
 use std::process::Abort;
 use std::random::RandomSource;
 use std::test::Fail;
 use verifier::{Verified, verify};
 
 /// What the program writes on a command line, its words parted by one space, over a module and a
-/// schedule; and its status.
+/// schedule, and behind it what a file is to hold; and its status.
 fn told(
     rt: &(impl Abort + AllocGlobal + RandomSource),
     line: &str,
@@ -31,6 +33,7 @@ fn told(
     };
     let mut output: Vec<u8> = Vec::new(alloc);
     let mut input: &[u8] = &[];
+    let mut written = String::new(alloc);
     let state = RandomState::new(rt)?;
     let status = act(
         alloc,
@@ -40,7 +43,9 @@ fn told(
         schedule,
         &mut input,
         &mut output,
+        &mut written,
     );
+    write!(output, "{written}")?;
     Ok((status, output))
 }
 

@@ -1,6 +1,6 @@
 //! From words to a request.
 
-use crate::request::{CellWord, Request, Setting, Verb, WordsFault};
+use crate::request::{CellWord, Request, Setting, Telling, Verb, WordsFault};
 use clap::error::ErrorKind;
 use clap::{Arg, ArgAction, ArgMatches, Command, Error};
 use std::alloc::{AllocError, Global};
@@ -162,6 +162,40 @@ fn repeated<'a>(alloc: Global, name: &'a str, value: &'a str, help: &'a str) -> 
         .help(help)
 }
 
+/// What the help of each command tells last.
+const STATUSES: &str = "Statuses: 0 done, 1 refused module, 2 command line, 3 stopped, 4 unreadable file, 5 bad schedule, 6 a failed write";
+
+/// A command that takes a module alone.
+fn module_command<'a>(
+    alloc: Global,
+    name: &'a str,
+    about: &'a str,
+) -> Result<Command<'a>, AllocError> {
+    let file = Arg::new(alloc, "file")
+        .value_name("FILE")
+        .required(true)
+        .help("the text of the module");
+    Command::new(alloc, name)
+        .about(about)
+        .after_help(STATUSES)
+        .arg(file)
+}
+
+fn print_command<'a>(alloc: Global) -> Result<Command<'a>, AllocError> {
+    let about = "prints the canonical text of a module";
+    module_command(alloc, "print", about)
+}
+
+fn show_command<'a>(alloc: Global) -> Result<Command<'a>, AllocError> {
+    let about = "tells what the verifier knows of each block of a module";
+    module_command(alloc, "show", about)
+}
+
+fn annotate_command<'a>(alloc: Global) -> Result<Command<'a>, AllocError> {
+    let about = "prints a module with annotations put in that follow from others";
+    module_command(alloc, "annotate", about)
+}
+
 /// The options of a verb that runs a module.
 fn running<'a>(alloc: Global, command: Command<'a>) -> Result<Command<'a>, AllocError> {
     command
@@ -188,23 +222,51 @@ fn workers<'a>(alloc: Global) -> Arg<'a> {
 }
 
 fn run_command<'a>(alloc: Global) -> Result<Command<'a>, AllocError> {
+    let seed = Arg::new(alloc, "seed")
+        .long("seed")
+        .value_name("S")
+        .action(ArgAction::Set)
+        .help("draws the events at random by this number; at most 1048576");
+    let schedule = Arg::new(alloc, "schedule")
+        .long("schedule")
+        .value_name("OUT")
+        .action(ArgAction::Set)
+        .requires_arg("seed")?
+        .help("writes the events to a file, as replay takes them");
     running(
         alloc,
-        Command::new(alloc, "run").about("runs a module on workers"),
+        Command::new(alloc, "run")
+            .about("runs a module on workers")
+            .after_help(STATUSES),
     )?
-    .arg(workers(alloc))
+    .arg(workers(alloc))?
+    .arg(seed)?
+    .arg(schedule)
 }
 
 fn replay_command<'a>(alloc: Global) -> Result<Command<'a>, AllocError> {
     let schedule = Arg::new(alloc, "schedule")
         .value_name("SCHEDULE")
         .required(true);
+    let trace = Arg::new(alloc, "trace")
+        .long("trace")
+        .action(ArgAction::SetTrue)
+        .help("prints a line for each event before the answer");
+    let picture = Arg::new(alloc, "picture")
+        .long("picture")
+        .value_name("OUT")
+        .action(ArgAction::Set)
+        .help("writes a picture of the run to a file, as SVG");
     running(
         alloc,
-        Command::new(alloc, "replay").about("runs a module by a schedule"),
+        Command::new(alloc, "replay")
+            .about("runs a module by a schedule")
+            .after_help(STATUSES),
     )?
     .arg(schedule)?
-    .arg(workers(alloc))
+    .arg(workers(alloc))?
+    .arg(trace)?
+    .arg(picture)
 }
 
 fn command<'a>(alloc: Global) -> Result<Command<'a>, AllocError> {
@@ -214,7 +276,10 @@ fn command<'a>(alloc: Global) -> Result<Command<'a>, AllocError> {
         .subcommand(verify_command(alloc)?)?
         .subcommand(serial_command(alloc)?)?
         .subcommand(run_command(alloc)?)?
-        .subcommand(replay_command(alloc)?)
+        .subcommand(replay_command(alloc)?)?
+        .subcommand(print_command(alloc)?)?
+        .subcommand(show_command(alloc)?)?
+        .subcommand(annotate_command(alloc)?)
 }
 
 fn schedule_of(alloc: Global, matches: &ArgMatches<'_>) -> Result<String, WordsFault> {
@@ -231,17 +296,29 @@ fn file_of(alloc: Global, matches: &ArgMatches<'_>) -> Result<String, WordsFault
     }
 }
 
-fn verify_request(alloc: Global, matches: &ArgMatches<'_>) -> Result<Request, WordsFault> {
+/// A request for a module that is not run.
+fn module_request(
+    alloc: Global,
+    verb: Verb,
+    matches: &ArgMatches<'_>,
+) -> Result<Request, WordsFault> {
     Ok(Request {
-        verb: Verb::Verify,
+        verb,
         file: file_of(alloc, matches)?,
         schedule: None,
         workers: 1,
         args: Vec::new(alloc),
         set: Vec::new(alloc),
         show: Vec::new(alloc),
-        table: table_of(alloc, matches)?,
+        table: None,
+        telling: Telling::nothing(),
     })
+}
+
+fn verify_request(alloc: Global, matches: &ArgMatches<'_>) -> Result<Request, WordsFault> {
+    let request = module_request(alloc, Verb::Verify, matches)?;
+    let table = table_of(alloc, matches)?;
+    Ok(Request { table, ..request })
 }
 
 fn request_of(alloc: Global, verb: Verb, matches: &ArgMatches<'_>) -> Result<Request, WordsFault> {
@@ -254,6 +331,54 @@ fn request_of(alloc: Global, verb: Verb, matches: &ArgMatches<'_>) -> Result<Req
         set: settings_of(alloc, matches)?,
         show: cells_of(alloc, matches)?,
         table: None,
+        telling: Telling::nothing(),
+    })
+}
+
+fn seed_of(alloc: Global, matches: &ArgMatches<'_>) -> Result<Option<u64>, WordsFault> {
+    match matches.get_str("seed") {
+        None => Ok(None),
+        Some(text) => match text.parse::<u64>() {
+            Ok(seed) => Ok(Some(seed)),
+            Err(_) => Err(wrong_value(alloc, "--seed <S>", text)),
+        },
+    }
+}
+
+/// The file that an option names.
+fn written_file(
+    alloc: Global,
+    matches: &ArgMatches<'_>,
+    option: &str,
+) -> Result<Option<String>, AllocError> {
+    match matches.get_str(option) {
+        Some(file) => Ok(Some(String::from_str(alloc, file)?)),
+        None => Ok(None),
+    }
+}
+
+fn run_request(alloc: Global, matches: &ArgMatches<'_>) -> Result<Request, WordsFault> {
+    let request = request_of(alloc, Verb::Run, matches)?;
+    let telling = Telling {
+        trace: false,
+        seed: seed_of(alloc, matches)?,
+        file: written_file(alloc, matches, "schedule")?,
+    };
+    Ok(Request { telling, ..request })
+}
+
+fn replay_request(alloc: Global, matches: &ArgMatches<'_>) -> Result<Request, WordsFault> {
+    let request = request_of(alloc, Verb::Replay, matches)?;
+    let schedule = schedule_of(alloc, matches)?;
+    let telling = Telling {
+        trace: matches.get_flag("trace"),
+        seed: None,
+        file: written_file(alloc, matches, "picture")?,
+    };
+    Ok(Request {
+        schedule: Some(schedule),
+        telling,
+        ..request
     })
 }
 
@@ -266,15 +391,11 @@ pub fn words<'a>(alloc: Global, words: &'a [&'a str]) -> Result<Request, WordsFa
     match parsed.subcommand() {
         Some(("verify", matches)) => verify_request(alloc, matches),
         Some(("serial", matches)) => request_of(alloc, Verb::Serial, matches),
-        Some(("run", matches)) => request_of(alloc, Verb::Run, matches),
-        Some(("replay", matches)) => {
-            let request = request_of(alloc, Verb::Replay, matches)?;
-            let schedule = schedule_of(alloc, matches)?;
-            Ok(Request {
-                schedule: Some(schedule),
-                ..request
-            })
-        }
+        Some(("run", matches)) => run_request(alloc, matches),
+        Some(("replay", matches)) => replay_request(alloc, matches),
+        Some(("print", matches)) => module_request(alloc, Verb::Print, matches),
+        Some(("show", matches)) => module_request(alloc, Verb::Show, matches),
+        Some(("annotate", matches)) => module_request(alloc, Verb::Annotate, matches),
         _ => Err(wrong_value(alloc, "<COMMAND>", "")),
     }
 }

@@ -546,4 +546,206 @@ status 0
 $ tapirvm serial m.ll --arg 101
 stopped 801 requirement 2
 status 3
+
+# prints canonical texts
+of pair
+$ tapirvm print m.ll
+@a = global [2 x i64] zeroinitializer
+define i64 @main(i64 %n) {
+  ;! writes @a 0 2
+  ;! measure 0 max 0
+  ;! budget 0 14
+entry:
+  ;! left 0 14
+  %s = call token @llvm.syncregion.start()
+  detach within %s, label %d, label %c
+d:
+  ;! left 0 3
+  ;! foot writes @a 0 1
+  %p = getelementptr inbounds i64, ptr @a, i64 0
+  store i64 %n, ptr %p
+  reattach within %s, label %c
+c:
+  ;! pending %s writes @a 0 1
+  ;! left 0 9
+  %q = getelementptr inbounds i64, ptr @a, i64 1
+  store i64 %n, ptr %q
+  sync within %s, label %j
+j:
+  ;! left 0 6
+  %u = getelementptr inbounds i64, ptr @a, i64 0
+  %x = load i64, ptr %u
+  %v = getelementptr inbounds i64, ptr @a, i64 1
+  %y = load i64, ptr %v
+  %t = add i64 %x, %y
+  ret i64 %t
+}
+status 0
+of add-one
+without 9
+$ tapirvm print m.ll
+refused 105 line 8
+status 1
+of divide
+$ tapirvm print m.ll
+define i64 @main(i64 %a, i64 %b) {
+  ;! requires %b >= -1
+  ;! requires %b <= -1
+  ;! measure 0 max 0
+  ;! budget 0 2
+entry:
+  ;! left 0 2
+  %q = sdiv i64 %a, %b
+  ret i64 %q
+}
+status 0
+of nothing
+$ tapirvm print m.ll
+$ tapirvm show m.ll
+unreadable m.ll
+status 4
+
+# shows what is known
+of pair
+$ tapirvm show m.ll
+budget 14
+depth 2
+cells of frames 0 for each worker
+global @a cells 2
+argument %n from -9223372036854775808 to 9223372036854775807
+function @main line 2
+  block %entry line 5
+    task body
+    left 0 14
+    uses 0 2
+  block %d line 9
+    task child of %entry
+    foot writes @a 0 1
+    left 0 3
+    uses 0 3
+  block %c line 15
+    task body
+    open %s
+    pending %s writes @a 0 1
+    left 0 9
+    uses 0 3
+  block %j line 21
+    task body
+    left 0 6
+    uses 0 6
+status 0
+of add-one
+$ tapirvm show m.ll
+budget 2
+depth 1
+cells of frames 0 for each worker
+argument %n from 0 to 100
+function @main line 1
+  block %entry line 5
+    task body
+    knows %n >= 0
+    knows -%n+100 >= 0
+    left 0 2
+    uses 0 2
+status 0
+of divide
+$ tapirvm show m.ll
+refused 502 line 7
+status 1
+
+# traces a replay
+of pair
+events step 0 2; steal 1 root; step 1 3; step 0 9
+$ tapirvm replay m.ll s.txt --workers 2 --arg 7 --trace
+1 step 0 root line 7: %s = call token @llvm.syncregion.start()
+2 step 0 root line 8: detach within %s, label %d, label %c -> begins root.0
+3 steal 1 root line 18: %q = getelementptr inbounds i64, ptr @a, i64 1
+4 step 1 root line 18: %q = getelementptr inbounds i64, ptr @a, i64 1
+5 step 1 root line 19: store i64 %n, ptr %q
+6 step 1 root line 20: sync within %s, label %j -> waits, and the worker is idle
+7 step 0 root.0 line 12: %p = getelementptr inbounds i64, ptr @a, i64 0
+8 step 0 root.0 line 13: store i64 %n, ptr %p
+9 step 0 root.0 line 14: reattach within %s, label %c -> goes on with root
+10 step 0 root line 23: %u = getelementptr inbounds i64, ptr @a, i64 0
+11 step 0 root line 24: %x = load i64, ptr %u
+12 step 0 root line 25: %v = getelementptr inbounds i64, ptr @a, i64 1
+13 step 0 root line 26: %y = load i64, ptr %v
+14 step 0 root line 27: %t = add i64 %x, %y
+15 step 0 root line 28: ret i64 %t -> ends the run
+result 14
+instructions 14
+peak 2
+status 0
+of pair
+events step 0 2; step 1 1; steal 1 root.0; steal 0 root; steal 2 root; steal 1 root.5
+$ tapirvm replay m.ll s.txt --workers 2 --arg 7 --trace
+1 step 0 root line 7: %s = call token @llvm.syncregion.start()
+2 step 0 root line 8: detach within %s, label %d, label %c -> begins root.0
+3 step 1 -> not enabled: the worker is idle
+4 steal 1 root.0 line 12: %p = getelementptr inbounds i64, ptr @a, i64 0 -> not enabled: worker 0 runs the task
+5 steal 0 root line 18: %q = getelementptr inbounds i64, ptr @a, i64 1 -> not enabled: the worker runs a task
+6 steal 2 root line 18: %q = getelementptr inbounds i64, ptr @a, i64 1 -> not enabled: there is no such worker
+7 steal 1 root.5 -> not enabled: no such task lives
+not ended
+instructions 2
+frames 2
+status 0
+of load
+events step 0 3
+$ tapirvm replay m.ll s.txt --workers 1 --trace
+1 step 0 root line 7: %x = load i64, ptr @a
+2 step 0 root line 8: ret i64 %x -> ends the run
+3 step 0 -> not enabled: the run has ended
+result 0
+instructions 2
+peak 1
+status 0
+of pair
+events step 0 1
+$ tapirvm replay m.ll s.txt --workers 2 --trace
+$ tapirvm replay m.ll s.txt --workers 2 --picture p.svg
+stopped 801 requirement 0
+status 3
+of pair
+events step 0 1; step 0 1
+$ tapirvm replay m.ll s.txt --workers 2 --arg 7 --trace
+schedule 901 line 2
+status 5
+
+# no other words of telling
+of pair
+events none
+$ tapirvm print
+$ tapirvm print m.ll --arg 7
+$ tapirvm print m.ll s.txt
+$ tapirvm show m.ll --show @a:0
+$ tapirvm replay m.ll s.txt --workers 2 --arg 7 --trace yes
+$ tapirvm replay m.ll s.txt --workers 2 --arg 7 --picture
+$ tapirvm replay m.ll s.txt --workers 2 --arg 7 --seed 1
+$ tapirvm run m.ll --workers 2 --arg 7 --trace
+$ tapirvm run m.ll --workers 2 --arg 7 --seed x
+$ tapirvm run m.ll --workers 2 --arg 7 --seed -1
+$ tapirvm run m.ll --workers 2 --arg 7 --schedule s.txt
+status 2
+
+# draws events
+of parallel-for
+$ tapirvm run m.ll --workers 0 --arg 2 --seed 1
+stopped 802
+status 3
+$ tapirvm run m.ll --workers 1 --arg 2 --seed 1
+$ tapirvm run m.ll --workers 3 --arg 2 --seed 2
+$ tapirvm run m.ll --workers 64 --arg 2 --seed 3
+result 2
+instructions 22
+peak 2
+status 0
+of pair
+$ tapirvm run m.ll --workers 1 --arg 7 --seed 0
+$ tapirvm run m.ll --workers 2 --arg 7 --seed 1
+$ tapirvm run m.ll --workers 64 --arg 7 --seed 18446744073709551615
+result 14
+instructions 14
+peak 2
+status 0
 ";

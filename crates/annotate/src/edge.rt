@@ -1,0 +1,142 @@
+//! The ways from block to block, by the labels of the text.
+
+use lists::Name;
+use std::alloc::{AllocError, Global};
+use syntax::{Block, Function, Instruction, Operand, Terminator};
+
+/// How a path goes along an edge. None goes along a reattach.
+#[derive(Clone, Copy)]
+pub enum Way<'a> {
+    Branch,
+    /// Where the condition of the branch holds, and where it does not.
+    WhenTrue(&'a str),
+    WhenFalse(&'a str),
+    /// To a detached block.
+    Detached,
+    /// To the block that goes on beside it, from a detach within this region.
+    Continued(&'a str),
+    /// Behind a sync of this region.
+    Synced(&'a str),
+}
+
+/// An edge, by the numbers of its blocks.
+#[derive(Clone, Copy)]
+pub struct Edge<'a> {
+    pub from: usize,
+    pub to: usize,
+    pub way: Way<'a>,
+}
+
+/// The number of the block of this label.
+fn block_of(blocks: &[Block], label: &Name) -> Option<usize> {
+    blocks.iter().position(|block| block.label.is_same(label))
+}
+
+/// The edges of one function, while they are found.
+#[derive(Drop)]
+struct Finder<'a> {
+    blocks: &'a [Block],
+    edges: Vec<Edge<'a>>,
+}
+
+impl<'a> Finder<'a> {
+    fn add(&mut self, from: usize, to: &Name, way: Way<'a>) -> Result<(), AllocError> {
+        if let Some(to) = block_of(self.blocks, to) {
+            self.edges.push(Edge { from, to, way })?;
+        }
+        Ok(())
+    }
+
+    fn add_ending(&mut self, from: usize, terminator: &'a Terminator) -> Result<(), AllocError> {
+        match terminator {
+            Terminator::Jump { target } => self.add(from, target, Way::Branch),
+            Terminator::Branch {
+                condition,
+                when_true,
+                when_false,
+            } => {
+                self.add(from, when_true, Way::WhenTrue(condition.as_str()))?;
+                self.add(from, when_false, Way::WhenFalse(condition.as_str()))
+            }
+            Terminator::Switch { default, cases, .. } => {
+                self.add(from, default, Way::Branch)?;
+                for case in cases.as_slice() {
+                    self.add(from, &case.target, Way::Branch)?;
+                }
+                Ok(())
+            }
+            Terminator::Detach {
+                region,
+                body,
+                continuation,
+            } => {
+                self.add(from, body, Way::Detached)?;
+                self.add(from, continuation, Way::Continued(region.as_str()))
+            }
+            Terminator::Sync { region, target } => {
+                self.add(from, target, Way::Synced(region.as_str()))
+            }
+            Terminator::Return { .. } | Terminator::Reattach { .. } => Ok(()),
+        }
+    }
+}
+
+/// The edges of a function, in the order of its blocks and terminators.
+pub fn edges_of<'a>(alloc: Global, function: &'a Function) -> Result<Vec<Edge<'a>>, AllocError> {
+    let blocks = function.blocks.as_slice();
+    let mut finder = Finder {
+        blocks,
+        edges: Vec::new(alloc),
+    };
+    for (from, block) in blocks.iter().enumerate() {
+        if let Some(ending) = &block.ending {
+            finder.add_ending(from, &ending.terminator)?;
+        }
+    }
+    Ok(finder.edges)
+}
+
+/// The register that an instruction defines.
+pub fn register_of(instruction: &Instruction) -> Option<&str> {
+    match instruction {
+        Instruction::Binary { register, .. }
+        | Instruction::Compare { register, .. }
+        | Instruction::Convert { register, .. }
+        | Instruction::Alloca { register, .. }
+        | Instruction::ElementPointer { register, .. }
+        | Instruction::Load { register, .. }
+        | Instruction::StartRegion { register } => Some(register.as_str()),
+        Instruction::Call { register, .. } => match register {
+            Some(register) => Some(register.as_str()),
+            None => None,
+        },
+        Instruction::Store { .. }
+        | Instruction::StoreZeros { .. }
+        | Instruction::AtomicAdd { .. } => None,
+    }
+}
+
+/// Whether a block's own instructions, no phis, define the register.
+pub fn defines(block: &Block, name: &str) -> bool {
+    let steps = block.steps.as_slice();
+    steps
+        .iter()
+        .any(|step| register_of(&step.instruction) == Some(name))
+}
+
+/// Whether a phi of the block defines the register.
+pub fn is_phi(block: &Block, name: &str) -> bool {
+    let phis = block.phis.as_slice();
+    phis.iter().any(|phi| phi.register.as_str() == name)
+}
+
+/// What a phi of a block takes where the run comes from a block of this label.
+pub fn phi_value<'a>(block: &'a Block, name: &str, predecessor: &Name) -> Option<&'a Operand> {
+    let phis = block.phis.as_slice();
+    let phi = phis.iter().find(|phi| phi.register.as_str() == name)?;
+    let entries = phi.entries.as_slice();
+    let entry = entries
+        .iter()
+        .find(|entry| entry.predecessor.is_same(predecessor))?;
+    Some(&entry.value)
+}

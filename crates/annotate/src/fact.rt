@@ -1,0 +1,161 @@
+//! What inequalities, and the conditions of branches, say.
+
+use crate::edge::{Edge, Way};
+use crate::sum::Sum;
+use std::alloc::{AllocError, Global};
+use syntax::{Block, Function, Inequality, Instruction, Predicate};
+
+/// The facts that a function's text states anywhere, each once.
+#[derive(Drop)]
+pub struct Facts<'a> {
+    alloc: Global,
+    /// Sums that are at least 0.
+    pub sums: Vec<Sum<'a>>,
+}
+
+impl<'a> Facts<'a> {
+    pub fn new(alloc: Global) -> Facts<'a> {
+        Facts {
+            alloc,
+            sums: Vec::new(alloc),
+        }
+    }
+
+    /// The number of a fact; a new one where it has none.
+    pub fn number(&mut self, sum: Sum<'a>) -> Result<usize, AllocError> {
+        for (number, other) in self.sums.iter().enumerate() {
+            if other.is_same(&sum)? {
+                return Ok(number);
+            }
+        }
+        let number = self.sums.len();
+        self.sums.push(sum)?;
+        Ok(number)
+    }
+
+    /// Adds the numbers of what these inequalities say.
+    pub fn state(
+        &mut self,
+        stated: &mut Vec<usize>,
+        inequalities: &'a [Inequality],
+    ) -> Result<(), AllocError> {
+        for inequality in inequalities {
+            let sum = Sum::of_inequality(self.alloc, inequality)?;
+            let number = self.number(sum)?;
+            stated.push(number)?;
+        }
+        Ok(())
+    }
+
+    /// Adds the number of `low + less <= high`.
+    fn order(
+        &mut self,
+        stated: &mut Vec<usize>,
+        low: &Sum<'a>,
+        high: &Sum<'a>,
+        less: i128,
+    ) -> Result<(), AllocError> {
+        let mut sum = high.copy()?.less(low)?;
+        sum.add_number(0i128.saturating_sub(less));
+        let number = self.number(sum)?;
+        stated.push(number)?;
+        Ok(())
+    }
+
+    /// Adds what a comparison says of signed numbers where it holds.
+    fn compare(
+        &mut self,
+        stated: &mut Vec<usize>,
+        predicate: Predicate,
+        left: &Sum<'a>,
+        right: &Sum<'a>,
+    ) -> Result<(), AllocError> {
+        match predicate {
+            Predicate::SignedLess => self.order(stated, left, right, 1),
+            Predicate::SignedAtMost => self.order(stated, left, right, 0),
+            Predicate::SignedGreater => self.order(stated, right, left, 1),
+            Predicate::SignedAtLeast => self.order(stated, right, left, 0),
+            Predicate::Equal => {
+                self.order(stated, left, right, 0)?;
+                self.order(stated, right, left, 0)
+            }
+            Predicate::NotEqual
+            | Predicate::UnsignedGreater
+            | Predicate::UnsignedAtLeast
+            | Predicate::UnsignedLess
+            | Predicate::UnsignedAtMost => Ok(()),
+        }
+    }
+
+    /// Adds what the comparison of this register says where it has this outcome.
+    fn decide(
+        &mut self,
+        stated: &mut Vec<usize>,
+        block: &'a Block,
+        condition: &str,
+        holds: bool,
+    ) -> Result<(), AllocError> {
+        for step in block.steps.as_slice() {
+            if let Instruction::Compare {
+                register,
+                predicate,
+                left,
+                right,
+                ..
+            } = &step.instruction
+            {
+                if register.as_str() == condition {
+                    let left = Sum::of_operand(self.alloc, left)?;
+                    let right = Sum::of_operand(self.alloc, right)?;
+                    let predicate = if holds {
+                        *predicate
+                    } else {
+                        opposite(*predicate)
+                    };
+                    self.compare(stated, predicate, &left, &right)?;
+                }
+            }
+        }
+        Ok(())
+    }
+
+    /// The facts that a block adds on one of its edges: its `shows`, and the outcome of its branch.
+    pub fn on_edge(
+        &mut self,
+        function: &'a Function,
+        edge: Edge<'a>,
+    ) -> Result<Vec<usize>, AllocError> {
+        let mut stated = Vec::new(self.alloc);
+        let Some(block) = function.blocks.as_slice().get(edge.from) else {
+            return Ok(stated);
+        };
+        for step in block.steps.as_slice() {
+            self.state(&mut stated, step.shows.as_slice())?;
+        }
+        if let Some(ending) = &block.ending {
+            self.state(&mut stated, ending.shows.as_slice())?;
+        }
+        match edge.way {
+            Way::WhenTrue(condition) => self.decide(&mut stated, block, condition, true)?,
+            Way::WhenFalse(condition) => self.decide(&mut stated, block, condition, false)?,
+            Way::Branch | Way::Detached | Way::Continued(_) | Way::Synced(_) => {}
+        }
+        Ok(stated)
+    }
+}
+
+/// The comparison that holds just where this one does not.
+fn opposite(predicate: Predicate) -> Predicate {
+    match predicate {
+        Predicate::Equal => Predicate::NotEqual,
+        Predicate::NotEqual => Predicate::Equal,
+        Predicate::UnsignedGreater => Predicate::UnsignedAtMost,
+        Predicate::UnsignedAtLeast => Predicate::UnsignedLess,
+        Predicate::UnsignedLess => Predicate::UnsignedAtLeast,
+        Predicate::UnsignedAtMost => Predicate::UnsignedGreater,
+        Predicate::SignedGreater => Predicate::SignedAtMost,
+        Predicate::SignedAtLeast => Predicate::SignedLess,
+        Predicate::SignedLess => Predicate::SignedAtLeast,
+        Predicate::SignedAtMost => Predicate::SignedGreater,
+    }
+}

@@ -1,0 +1,171 @@
+//! What is known wherever a block begins, because all ways to it bring it along.
+
+use crate::edge::{Edge, defines, is_phi};
+use crate::fact::Facts;
+use crate::sum::Sum;
+use std::alloc::{AllocError, Global};
+use syntax::{Block, Function};
+
+/// The facts of a function, and which of them hold where.
+#[derive(Drop)]
+pub struct Known<'a> {
+    pub facts: Facts<'a>,
+    /// For each block the numbers of the facts that its head states.
+    given: Vec<Vec<usize>>,
+    /// For each edge the numbers of the facts that its source adds.
+    pub added: Vec<Vec<usize>>,
+    /// For each block whether each fact is brought along to it; no fact that is not is marked.
+    marks: Vec<Vec<bool>>,
+}
+
+fn has(numbers: &[usize], number: usize) -> bool {
+    numbers.iter().any(|other| *other == number)
+}
+
+impl<'a> Known<'a> {
+    fn new(
+        alloc: Global,
+        function: &'a Function,
+        edges: &[Edge<'a>],
+    ) -> Result<Known<'a>, AllocError> {
+        let mut facts = Facts::new(alloc);
+        let mut given = Vec::new(alloc);
+        for (index, block) in function.blocks.as_slice().iter().enumerate() {
+            let mut stated = Vec::new(alloc);
+            if index == 0 {
+                facts.state(&mut stated, function.notes.requirements.as_slice())?;
+            }
+            facts.state(&mut stated, block.notes.keeps.as_slice())?;
+            given.push(stated)?;
+        }
+        let mut added = Vec::new(alloc);
+        for edge in edges {
+            added.push(facts.on_edge(function, *edge)?)?;
+        }
+        Ok(Known {
+            facts,
+            given,
+            added,
+            marks: Vec::new(alloc),
+        })
+    }
+
+    pub fn is_given(&self, block: usize, fact: usize) -> bool {
+        match self.given.as_slice().get(block) {
+            Some(given) => has(given.as_slice(), fact),
+            None => false,
+        }
+    }
+
+    /// Whether the fact is marked at the block.
+    pub fn is_known(&self, block: usize, fact: usize) -> bool {
+        match self.marks.as_slice().get(block) {
+            Some(marks) => marks.as_slice().get(fact).copied().unwrap_or(false),
+            None => false,
+        }
+    }
+
+    fn is_added(&self, edge: usize, fact: usize) -> bool {
+        match self.added.as_slice().get(edge) {
+            Some(added) => has(added.as_slice(), fact),
+            None => false,
+        }
+    }
+
+    /// Marks each fact at each block, but at the entry only what it states.
+    fn mark_all(&mut self, alloc: Global, blocks: usize) -> Result<(), AllocError> {
+        for block in 0..blocks {
+            let mut marks = Vec::new(alloc);
+            for fact in 0..self.facts.sums.len() {
+                marks.push(block != 0 || self.is_given(block, fact))?;
+            }
+            self.marks.push(marks)?;
+        }
+        Ok(())
+    }
+
+    /// Whether some way leads to the block and each of them brings the fact.
+    fn is_brought(&self, edges: &[Edge<'a>], block: usize, fact: usize) -> bool {
+        let mut is_reached = false;
+        for (number, edge) in edges.iter().enumerate() {
+            if edge.to == block {
+                is_reached = true;
+                if !self.is_known(edge.from, fact) && !self.is_added(number, fact) {
+                    return false;
+                }
+            }
+        }
+        is_reached
+    }
+
+    fn unmark(&mut self, block: usize, fact: usize) {
+        if block < self.marks.len() {
+            let marks = &mut self.marks[block];
+            if fact < marks.len() {
+                marks[fact] = false;
+            }
+        }
+    }
+
+    /// Takes away the marks of a block that no longer stand; whether there were some.
+    fn settle(
+        &mut self,
+        edges: &[Edge<'a>],
+        index: usize,
+        block: &Block,
+    ) -> Result<bool, AllocError> {
+        let mut is_changed = false;
+        for fact in 0..self.facts.sums.len() {
+            if self.is_known(index, fact) && !self.is_given(index, fact) {
+                let stands = self.is_brought(edges, index, fact) && !self.is_renamed(block, fact)?;
+                if !stands {
+                    self.unmark(index, fact);
+                    is_changed = true;
+                }
+            }
+        }
+        Ok(is_changed)
+    }
+
+    /// Whether the fact names a register that the block defines.
+    fn is_renamed(&self, block: &Block, fact: usize) -> Result<bool, AllocError> {
+        match self.facts.sums.as_slice().get(fact) {
+            Some(sum) => names_own(block, sum),
+            None => Ok(true),
+        }
+    }
+}
+
+/// Whether a sum names a register that the block defines.
+pub fn names_own(block: &Block, sum: &Sum<'_>) -> Result<bool, AllocError> {
+    for (name, _coefficient) in &sum.terms()? {
+        if is_phi(block, name) || defines(block, name) {
+            return Ok(true);
+        }
+    }
+    Ok(false)
+}
+
+/// What is known at each block, by what heads state, `shows` and the outcomes of branches. A fact about registers that the block defines
+/// anew is not brought along to it.
+pub fn known_of<'a>(
+    alloc: Global,
+    function: &'a Function,
+    edges: &[Edge<'a>],
+) -> Result<Known<'a>, AllocError> {
+    let blocks = function.blocks.as_slice();
+    let mut known = Known::new(alloc, function, edges)?;
+    known.mark_all(alloc, blocks.len())?;
+    for _round in 0..blocks.len() {
+        let mut is_changed = false;
+        for (index, block) in blocks.iter().enumerate() {
+            if known.settle(edges, index, block)? {
+                is_changed = true;
+            }
+        }
+        if !is_changed {
+            break;
+        }
+    }
+    Ok(known)
+}

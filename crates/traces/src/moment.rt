@@ -1,0 +1,84 @@
+use frame::Path;
+use std::fmt;
+
+/// A task's path, as schedules spell it.
+#[derive(Clone, Copy)]
+pub struct TaskName<'a>(pub &'a Path);
+
+impl fmt::Display for TaskName<'_> {
+    fn fmt<W: fmt::Write>(&self, f: &mut fmt::Formatter<W>) -> fmt::Result {
+        write!(f, "root")?;
+        for number in self.0.numbers.as_slice() {
+            write!(f, ".{number}")?;
+        }
+        Ok(())
+    }
+}
+
+/// Where a task stands between two events.
+#[derive(Drop)]
+pub struct Place {
+    pub task: Path,
+    /// The line of its next instruction, or of the sync at which it waits; from 1.
+    pub line: u32,
+}
+
+/// Why an event was not enabled.
+#[derive(Clone, Copy)]
+pub enum Hindrance {
+    /// `main` had returned.
+    Ended,
+    /// No worker has this number.
+    NoWorker,
+    /// A worker without a task cannot step.
+    Idle,
+    /// A worker with a task cannot steal.
+    Busy,
+    /// No task of this path lives.
+    NoTask,
+    /// The task is in this worker's hand.
+    Running(u8),
+    /// The task waits at a sync.
+    Stalled,
+}
+
+impl fmt::Display for Hindrance {
+    fn fmt<W: fmt::Write>(&self, f: &mut fmt::Formatter<W>) -> fmt::Result {
+        match self {
+            Hindrance::Ended => write!(f, "the run has ended"),
+            Hindrance::NoWorker => write!(f, "there is no such worker"),
+            Hindrance::Idle => write!(f, "the worker is idle"),
+            Hindrance::Busy => write!(f, "the worker runs a task"),
+            Hindrance::NoTask => write!(f, "no such task lives"),
+            Hindrance::Running(worker) => write!(f, "worker {worker} runs the task"),
+            Hindrance::Stalled => write!(f, "the task waits at a sync"),
+        }
+    }
+}
+
+/// What an event came to.
+#[derive(Drop)]
+pub enum Outcome {
+    /// The worker goes on with the task, after a steal with the one that it took.
+    GoesOn,
+    /// The task has detached this child, which the worker runs now.
+    Begins(Path),
+    /// The child has ended, and the worker goes on with this task.
+    TakesOn(Path),
+    /// The task waits at a sync; the worker is idle.
+    Waits,
+    /// The child has ended, and nothing is left for the worker.
+    Ends,
+    /// `main` has returned.
+    Returns,
+    /// Nothing has changed.
+    NotEnabled(Hindrance),
+}
+
+/// One event of a run.
+#[derive(Drop)]
+pub struct Moment {
+    /// Where the event found the task that it is about: the worker's own, or the one to be taken. None where there is none.
+    pub place: Option<Place>,
+    pub outcome: Outcome,
+}

@@ -1,0 +1,103 @@
+//! A line for each event.
+
+use crate::moment::{Moment, Outcome, Place, TaskName};
+use schedule_core::Event;
+use std::alloc::Global;
+use std::io;
+use std::io::Write;
+
+/// A line of the module without its comment.
+fn instruction_of(line: &str) -> &str {
+    match line.split_once(";") {
+        Some((instruction, _comment)) => instruction.trim(),
+        None => line.trim(),
+    }
+}
+
+/// The instruction on a line of the module, counted from 1.
+fn instruction_at<'a>(lines: &[&'a str], line: u32) -> &'a str {
+    let index = (line as usize).saturating_sub(1);
+    match lines.get(index) {
+        Some(text) => instruction_of(text),
+        None => "",
+    }
+}
+
+fn write_event<W: Write>(output: &mut W, event: &Event) -> io::Result<()> {
+    match event {
+        Event::Step(worker) => write!(output, "step {worker}"),
+        Event::Steal(worker, task) => {
+            let task = TaskName(task);
+            write!(output, "steal {worker} {task}")
+        }
+    }
+}
+
+/// The task of a step, which the event itself does not name, and the line with its instruction.
+fn write_place<W: Write>(
+    output: &mut W,
+    event: &Event,
+    place: &Place,
+    lines: &[&str],
+) -> io::Result<()> {
+    if matches!(event, Event::Step(_)) {
+        let task = TaskName(&place.task);
+        write!(output, " {task}")?;
+    }
+    let line = place.line;
+    let instruction = instruction_at(lines, line);
+    write!(output, " line {line}: {instruction}")
+}
+
+fn write_outcome<W: Write>(output: &mut W, outcome: &Outcome) -> io::Result<()> {
+    match outcome {
+        Outcome::GoesOn => Ok(()),
+        Outcome::Begins(child) => {
+            let child = TaskName(child);
+            write!(output, " -> begins {child}")
+        }
+        Outcome::TakesOn(task) => {
+            let task = TaskName(task);
+            write!(output, " -> goes on with {task}")
+        }
+        Outcome::Waits => write!(output, " -> waits, and the worker is idle"),
+        Outcome::Ends => write!(output, " -> ends, and the worker is idle"),
+        Outcome::Returns => write!(output, " -> ends the run"),
+        Outcome::NotEnabled(hindrance) => write!(output, " -> not enabled: {hindrance}"),
+    }
+}
+
+fn write_moment<W: Write>(
+    output: &mut W,
+    number: usize,
+    event: &Event,
+    moment: &Moment,
+    lines: &[&str],
+) -> io::Result<()> {
+    write!(output, "{number} ")?;
+    write_event(output, event)?;
+    if let Some(place) = &moment.place {
+        write_place(output, event, place, lines)?;
+    }
+    write_outcome(output, &moment.outcome)?;
+    writeln!(output)
+}
+
+/// Writes a line for each event, numbered from 1, with the task that the event found, the line of its next instruction and that
+/// instruction as the module's text has it. What follows is told after an arrow, where it is more than that the worker goes on with
+/// its task.
+pub fn write_trace<W: Write>(
+    alloc: Global,
+    output: &mut W,
+    source: &str,
+    events: &[Event],
+    moments: &[Moment],
+) -> io::Result<()> {
+    let lines: Vec<&str> = source.lines().collect(alloc)?;
+    let mut number = 0usize;
+    for (event, moment) in events.iter().zip(moments) {
+        number = number.saturating_add(1);
+        write_moment(output, number, event, moment, lines.as_slice())?;
+    }
+    Ok(())
+}

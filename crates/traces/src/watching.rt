@@ -1,0 +1,175 @@
+//! A run by a schedule, event for event.
+
+ghost use Rattle.store.specs.Made.{HasGlobalCells};
+
+use crate::moment::{Hindrance, Moment, Outcome, Place};
+use frame::Path;
+use lists::OutOfMemory;
+use schedule_core::{Event, Machine, Status, TaskView};
+use serial_machine::RunFault;
+use std::alloc::Global;
+use store::Memory;
+use verifier::Verified;
+
+fn place_of(alloc: Global, view: &TaskView<'_>) -> Result<Place, OutOfMemory> {
+    Ok(Place {
+        task: view.path.copy(alloc)?,
+        line: view.line,
+    })
+}
+
+/// Where the worker's task stands.
+fn worker_place(
+    alloc: Global,
+    machine: &Machine<'_>,
+    worker: u8,
+) -> Result<Option<Place>, OutOfMemory> {
+    match machine.task_of(worker) {
+        Some(view) => Ok(Some(place_of(alloc, &view)?)),
+        None => Ok(None),
+    }
+}
+
+/// Where the task of this path stands.
+fn task_place(
+    alloc: Global,
+    machine: &Machine<'_>,
+    task: &Path,
+) -> Result<Option<Place>, OutOfMemory> {
+    match machine.task(task) {
+        Some(view) => Ok(Some(place_of(alloc, &view)?)),
+        None => Ok(None),
+    }
+}
+
+/// What the worker does after a step for a task.
+fn after_step(
+    alloc: Global,
+    machine: &Machine<'_>,
+    worker: u8,
+    task: &Path,
+) -> Result<Outcome, OutOfMemory> {
+    if machine.ended() {
+        return Ok(Outcome::Returns);
+    }
+    match machine.task_of(worker) {
+        Some(view) if view.path.is_same(task) => Ok(Outcome::GoesOn),
+        Some(view) if view.path.numbers.len() > task.numbers.len() => {
+            Ok(Outcome::Begins(view.path.copy(alloc)?))
+        }
+        Some(view) => Ok(Outcome::TakesOn(view.path.copy(alloc)?)),
+        None if machine.task(task).is_some() => Ok(Outcome::Waits),
+        None => Ok(Outcome::Ends),
+    }
+}
+
+/// What hinders every event of the worker.
+fn worker_hindrance(machine: &Machine<'_>, workers: usize, worker: u8) -> Option<Hindrance> {
+    if machine.ended() {
+        Some(Hindrance::Ended)
+    } else if usize::from(worker) >= workers {
+        Some(Hindrance::NoWorker)
+    } else {
+        None
+    }
+}
+
+fn step_hindrance(machine: &Machine<'_>, workers: usize, worker: u8) -> Hindrance {
+    worker_hindrance(machine, workers, worker).unwrap_or(Hindrance::Idle)
+}
+
+/// What hinders a steal of the task.
+fn task_hindrance(machine: &Machine<'_>, task: &Path) -> Hindrance {
+    match machine.task(task) {
+        None => Hindrance::NoTask,
+        Some(view) => match view.status {
+            Status::Running(runner) => Hindrance::Running(runner),
+            Status::Stalled(_) => Hindrance::Stalled,
+            Status::Ready => Hindrance::Busy,
+        },
+    }
+}
+
+fn steal_hindrance(machine: &Machine<'_>, workers: usize, worker: u8, task: &Path) -> Hindrance {
+    match worker_hindrance(machine, workers, worker) {
+        Some(hindrance) => hindrance,
+        None if machine.task_of(worker).is_some() => Hindrance::Busy,
+        None => task_hindrance(machine, task),
+    }
+}
+
+fn watch_step(
+    alloc: Global,
+    machine: &mut Machine<'_>,
+    workers: usize,
+    event: &Event,
+    worker: u8,
+) -> Result<Moment, OutOfMemory> {
+    let place = worker_place(alloc, machine, worker)?;
+    let hindrance = step_hindrance(machine, workers, worker);
+    let done = machine.apply(event)?;
+    let outcome = match &place {
+        Some(before) if done => after_step(alloc, machine, worker, &before.task)?,
+        _ => Outcome::NotEnabled(hindrance),
+    };
+    Ok(Moment { place, outcome })
+}
+
+fn watch_steal(
+    alloc: Global,
+    machine: &mut Machine<'_>,
+    workers: usize,
+    event: &Event,
+    worker: u8,
+    task: &Path,
+) -> Result<Moment, OutOfMemory> {
+    let place = task_place(alloc, machine, task)?;
+    let hindrance = steal_hindrance(machine, workers, worker, task);
+    let outcome = if machine.apply(event)? {
+        Outcome::GoesOn
+    } else {
+        Outcome::NotEnabled(hindrance)
+    };
+    Ok(Moment { place, outcome })
+}
+
+/// One event, done and seen. Where memory is refused the event may be done.
+fn watch_event(
+    alloc: Global,
+    machine: &mut Machine<'_>,
+    workers: usize,
+    event: &Event,
+) -> Result<Moment, OutOfMemory> {
+    match event {
+        Event::Step(worker) => watch_step(alloc, machine, workers, event, *worker),
+        Event::Steal(worker, task) => watch_steal(alloc, machine, workers, event, *worker, task),
+    }
+}
+
+/// The moments of a run by a schedule, one for each event, in their order.
+///
+/// # Errors
+///
+/// Those of [`Machine::start`]; 803 too where an event is refused memory.
+pub fn watch(
+    alloc: Global,
+    verified: &Verified,
+    arguments: &[i64],
+    memory: Memory,
+    workers: usize,
+    events: &[Event],
+) -> Result<Vec<Moment>, RunFault>
+    requires { HasGlobalCells verified.now memory }
+{
+    let mut machine = Machine::start(alloc, verified, arguments, memory, workers)?;
+    let mut moments = Vec::new(alloc);
+    for event in events {
+        let Ok(moment) = watch_event(alloc, &mut machine, workers, event) else {
+            return Err(RunFault::OutOfMemory);
+        };
+        if moments.push(moment).is_err() {
+            return Err(RunFault::OutOfMemory);
+        }
+    }
+    Ok(moments)
+}

@@ -1,0 +1,71 @@
+//! Facts, spelled as annotations spell them.
+
+use program::{Fact, RegisterId, Term};
+use std::alloc::{AllocError, Global};
+
+/// A name by the register's number; `?` where there is none.
+pub fn name_of<'a>(names: &[&'a str], register: RegisterId) -> &'a str {
+    names.get(register.0).copied().unwrap_or("?")
+}
+
+fn sign_of(is_first: bool, is_negative: bool) -> &'static str {
+    if is_negative {
+        "-"
+    } else if is_first {
+        ""
+    } else {
+        "+"
+    }
+}
+
+/// A coefficient, unless it is 1 or -1, and the register.
+fn push_term(
+    out: &mut String,
+    is_first: bool,
+    name: &str,
+    coefficient: i64,
+) -> Result<(), AllocError> {
+    let sign = sign_of(is_first, coefficient < 0);
+    let size = coefficient.unsigned_abs();
+    if size == 1 {
+        write!(out, "{sign}%{name}")
+    } else {
+        write!(out, "{sign}{size}*%{name}")
+    }
+}
+
+/// The terms in the order of their names' bytes.
+fn sorted_terms<'a>(
+    alloc: Global,
+    names: &[&'a str],
+    terms: &[Term],
+) -> Result<Vec<(&'a str, i64)>, AllocError> {
+    let mut sorted = Vec::with_capacity(alloc, terms.len())?;
+    for term in terms {
+        sorted.push((name_of(names, term.register), term.coefficient))?;
+    }
+    sorted.sort()?;
+    Ok(sorted)
+}
+
+/// `F >= 0`: what a fact says.
+pub fn push_fact(
+    alloc: Global,
+    out: &mut String,
+    names: &[&str],
+    fact: &Fact,
+) -> Result<(), AllocError> {
+    let terms = sorted_terms(alloc, names, fact.form.terms.as_slice())?;
+    let mut is_first = true;
+    for (name, coefficient) in &terms {
+        push_term(out, is_first, name, *coefficient)?;
+        is_first = false;
+    }
+    let constant = fact.form.constant;
+    if is_first || constant != 0 {
+        let sign = sign_of(is_first, constant < 0);
+        let size = constant.unsigned_abs();
+        write!(out, "{sign}{size}")?;
+    }
+    write!(out, " >= 0")
+}

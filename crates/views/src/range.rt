@@ -1,0 +1,57 @@
+//! The ranges of parameters.
+
+use program::{Fact, RegisterId};
+
+/// Whole numbers from one to another, both of them in it.
+#[derive(Clone, Copy)]
+pub struct Range {
+    pub low: i128,
+    pub high: i128,
+}
+
+impl Range {
+    /// What an `i64` may be.
+    fn whole() -> Range {
+        Range {
+            low: i128::from(i64::MIN),
+            high: i128::from(i64::MAX),
+        }
+    }
+
+    /// The range in which `coefficient * x + constant >= 0` too.
+    fn narrowed(self, coefficient: i64, constant: i128) -> Range {
+        let size = i128::from(coefficient.unsigned_abs());
+        let Some(floor) = constant.checked_div_euclid(size) else {
+            return self;
+        };
+        if coefficient > 0 {
+            Range {
+                low: self.low.max(0i128.saturating_sub(floor)),
+                high: self.high,
+            }
+        } else {
+            Range {
+                low: self.low,
+                high: self.high.min(floor),
+            }
+        }
+    }
+
+    fn narrowed_by(self, register: RegisterId, fact: &Fact) -> Range {
+        match fact.form.terms.as_slice() {
+            [term] if term.register == register => {
+                self.narrowed(term.coefficient, fact.form.constant)
+            }
+            _ => self,
+        }
+    }
+}
+
+/// The numbers that a register of type `i64` may hold by the facts that name it alone. The range is empty where `high` is below `low`.
+pub fn range_of(register: RegisterId, facts: &[Fact]) -> Range {
+    let mut range = Range::whole();
+    for fact in facts {
+        range = range.narrowed_by(register, fact);
+    }
+    range
+}
