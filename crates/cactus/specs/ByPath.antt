@@ -24,7 +24,8 @@ module _ {F : Type 0} where
 
   -- living frames have different paths, and each but the root has a living parent
   pub record IsTree (frames : Frames F) : Type 0 where
-    pub distinct : (slot other : ℕ) (node twin : Node F) → node_at frames slot ≡ Some node → node_at frames other ≡ Some twin → node.path.numbers ≡ twin.path.numbers → slot ≡ other
+    pub distinct : (slot other : ℕ) (node twin : Node F) → node_at frames slot ≡ Some node → node_at frames other ≡ Some twin →
+        node.path.numbers ≡ twin.path.numbers → slot ≡ other
     pub root : (slot : ℕ) (node : Node F) → node_at frames slot ≡ Some node → node.parent ≡ None → node.path.numbers ≡ []
     pub below : (slot parent : ℕ) (node : Node F) → node_at frames slot ≡ Some node → node.parent ≡ Some parent → IsBelow frames parent node.path.numbers
 
@@ -39,11 +40,14 @@ module _ {F : Type 0} where
     pub elsewhere : (other : List ℕ) → other ≢ numbers → named new other ≡ named old other
 
   abbrev pub child_node : Frames F → Node F → ℕ → ℕ → F → Node F
-  child_node frames above parent number frame = record { generation = frames.made; path = record { numbers = above.path.numbers ++ number ∷ [] }; parent = Some parent; frame = frame }
+  child_node frames above parent number frame =
+      record { generation = frames.made; path = record { numbers = above.path.numbers ++ number ∷ [] }; parent = Some parent; frame = frame }
 
   -- the child that the map did not have yet is in it
   abbrev pub GrowsMap : Frames F → Frames F → ℕ → ℕ → F → Type 0
-  GrowsMap old new parent number frame = (above : Node F) → IsTree old → node_at old parent ≡ Some above → named old (above.path.numbers ++ number ∷ []) ≡ None → Binds old new (above.path.numbers ++ number ∷ []) (Some (child_node old above parent number frame))
+  GrowsMap old new parent number frame =
+      (above : Node F) → IsTree old → node_at old parent ≡ Some above → named old (above.path.numbers ++ number ∷ []) ≡ None →
+      Binds old new (above.path.numbers ++ number ∷ []) (Some (child_node old above parent number frame))
 
   -- the frame, if it has no child, is in the map no more
   abbrev pub ShrinksMap : Frames F → Frames F → ℕ → Node F → Type 0

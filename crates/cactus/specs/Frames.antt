@@ -69,4 +69,7 @@ module _ {F : Type 0} where
 
   -- the slot of the frame whose path is the first depth numbers of the slot's frame's path
   abbrev pub owner_at : Frames F → ℕ → ℕ → Option ℕ
-  owner_at frames depth slot = option_and_then (λ (node : Node F). if nat_le depth (length node.path.numbers) then slot_above frames (length node.path.numbers - depth) slot else None) (node_at frames slot)
+  owner_at frames depth slot =
+      option_and_then
+      (λ (node : Node F). if nat_le depth (length node.path.numbers) then slot_above frames (length node.path.numbers - depth) slot else None)
+      (node_at frames slot)

@@ -175,7 +175,8 @@ impl<F: Drop> Cactus<F> {
     pub fn add_root(&mut self, frame: F) -> Result<usize, OutOfMemory>
         requires { self.old.made + 1 < 2 ^ 63 }
         ensures ok { IfOk result (λ slot. IsAdded self.old self.new (record { numbers = [] }) None frame slot) }
-        ensures map { IfOk result (λ slot. IsTree self.old → named self.old [] ≡ None → IsSomeAnd (node_at self.new slot) (λ node. Binds self.old self.new [] (Some node))) }
+        ensures map { IfOk result (λ slot. IsTree self.old → named self.old [] ≡ None
+            → IsSomeAnd (node_at self.new slot) (λ node. Binds self.old self.new [] (Some node))) }
         ensures err { OnErr result (self.new ≡ self.old) }
     {
         let path = Path {

@@ -7,7 +7,7 @@ use lists::Seq;
 use types::Typed;
 
 /// A program with the edges of its functions, which breaks none of the rules 211 to 213.
-#[derive(Debug, Drop)]
+#[derive(Drop)]
 pub struct Graph {
     pub typed: Typed,
     pub functions: Seq<FunctionGraph>,

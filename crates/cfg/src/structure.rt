@@ -2,7 +2,7 @@ use lists::Seq;
 use program::{BlockId, Operand, RegisterId};
 
 /// How a path goes along an edge. No path goes along a reattach.
-#[derive(Clone, Copy, Debug, PartialEq, Eq)]
+#[derive(Clone, Copy, PartialEq, Eq)]
 pub enum Way {
     /// Along `br` or `switch`.
     Branch,
@@ -15,14 +15,14 @@ pub enum Way {
 }
 
 /// The value that a phi takes on an edge.
-#[derive(Clone, Copy, Debug, PartialEq, Eq)]
+#[derive(Clone, Copy)]
 pub struct Move {
     pub register: RegisterId,
     pub value: Operand,
 }
 
 /// An edge to a block, with the phi moves that are made at once on it.
-#[derive(Debug, Drop)]
+#[derive(Drop)]
 pub struct Edge {
     pub to: BlockId,
     pub way: Way,
@@ -30,13 +30,13 @@ pub struct Edge {
 }
 
 /// The edges that leave a block, in the order of its terminator.
-#[derive(Debug, Drop)]
+#[derive(Drop)]
 pub struct BlockEdges {
     pub edges: Seq<Edge>,
 }
 
 /// The edges of a function, a block each.
-#[derive(Debug, Drop)]
+#[derive(Drop)]
 pub struct FunctionGraph {
     pub blocks: Seq<BlockEdges>,
 }

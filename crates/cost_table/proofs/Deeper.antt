@@ -4,7 +4,7 @@ use Rattle.std.specs.Prelude.{◌==◌, if◌then◌else◌, slice_index_or}
 use Rattle.std.proofs.Math.ListN.{get_or-map}
 use Rattle.program.specs.declared.function.Block.{Block}
 use Rattle.program.specs.declared.instruction.Step.{Step}
-use Rattle.region_match.specs.declared.task.Task.{Task}
+use Rattle.ranges.specs.region_match.declared.task.Task.{Task}
 use Rattle.cost_table.specs.Cost.{callee_of}
 use Rattle.cost_table.specs.Depth.{greatest, greatest_block, callee_depth, block_depth, self_depth, self_call_depth, flat_depth, self_calls_depth, detaches_around}
 use Rattle.cost_table.specs.Tables.{as_u64, above_self_call}

@@ -4,7 +4,7 @@ use Rattle.std.specs.Prelude.{IfOk}
 use Rattle.linear.specs.Forms.{Combination}
 use Rattle.linear.specs.declared.form.Fact.{Fact}
 use Rattle.refusal.specs.declared.broken.Broken.{Broken}
-use Rattle.cfg.specs.declared.structure.Move.{Move}
+use Rattle.ranges.specs.cfg.declared.structure.Move.{Move}
 use Rattle.refusal.specs.Earliest.{IsEarliest}
 use Rattle.ranges.specs.Sums.{shows}
 use Rattle.cost_table.specs.Rules.{left_behind, less_form, IsPairBroken}

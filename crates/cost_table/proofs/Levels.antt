@@ -1,7 +1,7 @@
 -- The detaches around a block.
 use Rattle.std.proofs.Common.{◌≡◌, refl, ◌⊎◌, inl, inr, ℕ, zero, suc, List}
-use Rattle.region_match.specs.declared.task.Task.{Task}
-use Rattle.region_match.specs.declared.task.Task.TheVariants.{Unreached, Body}
+use Rattle.ranges.specs.region_match.declared.task.Task.{Task}
+use Rattle.ranges.specs.region_match.declared.task.Task.TheVariants.{Unreached, Body}
 use Rattle.cost_table.specs.Depth.{detaches_within}
 
 pub outermost : (tasks : List Task) (n : ℕ) (task : Task) → (task ≡ Unreached) ⊎ (task ≡ Body) → detaches_within tasks n task ≡ 0

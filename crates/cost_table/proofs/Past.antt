@@ -5,7 +5,7 @@ use Rattle.std.proofs.lemmas.Bool.{le-ltb}
 use Rattle.std.proofs.lemmas.Int.{ints}
 use Rattle.linear.specs.Forms.{Combination, constant_form}
 use Rattle.linear.specs.declared.form.Fact.{Fact}
-use Rattle.cfg.specs.declared.structure.Move.{Move}
+use Rattle.ranges.specs.cfg.declared.structure.Move.{Move}
 use Rattle.ranges.specs.declared.sum.Part.{Part}
 use Rattle.ranges.specs.declared.sum.Sum.{Sum}
 use Rattle.ranges.specs.Sums.{with_parts, start_of, sum_form, shows_form, shows}

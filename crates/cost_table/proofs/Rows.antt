@@ -7,8 +7,8 @@ use Rattle.program.specs.declared.annotation.Budget.{Budget}
 use Rattle.program.specs.declared.function.Block.{Block}
 use Rattle.program.specs.declared.function.Function.{Function}
 use Rattle.program.specs.declared.function.Program.{Program}
-use Rattle.region_match.specs.declared.task.Task.{Task}
-use Rattle.region_match.specs.declared.tables.Regions.{Regions}
+use Rattle.ranges.specs.region_match.declared.task.Task.{Task}
+use Rattle.ranges.specs.region_match.declared.tables.Regions.{Regions}
 use Rattle.ranges.proofs.Tabling.{Tabled}
 use Rattle.cost_table.specs.declared.entry.Entry.{Entry}
 use Rattle.cost_table.specs.declared.table.Table.{Table}

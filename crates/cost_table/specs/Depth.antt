@@ -4,11 +4,11 @@ use Rattle.program.specs.declared.function.Block.{Block}
 use Rattle.program.specs.declared.function.Function.{Function}
 use Rattle.program.specs.declared.function.Program.{Program}
 use Rattle.program.specs.declared.instruction.Step.{Step}
-use Rattle.region_match.specs.declared.task.Task.{Task}
-use Rattle.region_match.specs.declared.task.Task.TheVariants.{Unreached, Body, Child}
-use Rattle.region_match.specs.declared.tables.FunctionTasks.{FunctionTasks}
-use Rattle.region_match.specs.declared.tables.Regions.{Regions}
-use Rattle.region_match.specs.Tasks.{task_at}
+use Rattle.ranges.specs.region_match.declared.task.Task.{Task}
+use Rattle.ranges.specs.region_match.declared.task.Task.TheVariants.{Unreached, Body, Child}
+use Rattle.ranges.specs.region_match.declared.tables.FunctionTasks.{FunctionTasks}
+use Rattle.ranges.specs.region_match.declared.tables.Regions.{Regions}
+use Rattle.ranges.specs.region_match.Tasks.{task_at}
 use Rattle.cost_table.specs.Cost.{callee_of}
 
 -- ---- detaches

@@ -13,7 +13,7 @@ use Rattle.program.specs.declared.instruction.Step.{Step}
 use Rattle.program.specs.declared.instruction.Terminator.{Terminator}
 use Rattle.program.specs.declared.instruction.Terminator.TheVariants as terminator
 use Rattle.refusal.specs.declared.broken.Broken.{Broken}
-use Rattle.cfg.specs.declared.structure.Move.{Move}
+use Rattle.ranges.specs.cfg.declared.structure.Move.{Move}
 use Rattle.ranges.specs.declared.sum.Sum.{Sum}
 use Rattle.ranges.specs.declared.table.EdgeFacts.{EdgeFacts}
 use Rattle.ranges.specs.Sums.{shows}

@@ -2,8 +2,8 @@
 use Rattle.std.specs.Prelude.{◌≡◌, ℕ, zero, suc, ◌+◌, ◌-◌, ◌^◌, min, max, nat_le, List, length, Option, Some, None, slice_get, if◌then◌else◌}
 use Rattle.program.specs.declared.function.Function.{Function}
 use Rattle.program.specs.declared.function.Program.{Program}
-use Rattle.region_match.specs.declared.task.Task.{Task}
-use Rattle.region_match.specs.declared.tables.Regions.{Regions}
+use Rattle.ranges.specs.region_match.declared.task.Task.{Task}
+use Rattle.ranges.specs.region_match.declared.tables.Regions.{Regions}
 use Rattle.cost_table.specs.declared.entry.Entry.{Entry}
 use Rattle.cost_table.specs.declared.table.Table.{Table}
 use Rattle.cost_table.specs.Cost.{cost}

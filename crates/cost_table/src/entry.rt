@@ -6,7 +6,7 @@ ghost use Rattle.cost_table.specs.Tables.{as_u64, as_u128, above_self_call, boun
 use program::Budget;
 
 /// What the table keeps of a function.
-#[derive(Debug, Drop)]
+#[derive(Drop)]
 pub struct Entry {
     /// The greatest measure.
     pub bound: u64,

@@ -1,8 +1,6 @@
 ghost use Rattle.std.specs.Prelude.{◌≡◌, ◌≤◌, length};
-ghost use Rattle.region_match.specs.Tasks.{task_at};
+ghost use Rattle.ranges.specs.region_match.Tasks.{task_at};
 ghost use Rattle.cost_table.specs.Depth.{detaches_around};
-
-use region_match::Task;
 
 /// The task of a block.
 fn task_at(tasks: &[Task], block: usize) -> Task
@@ -29,3 +27,5 @@ pub fn detaches_around(tasks: &[Task], block: usize) -> usize
     }
     level
 }
+
+use ranges::Task;

@@ -1,7 +1,7 @@
 ghost use Rattle.std.specs.Prelude.{◌≡◌, IfOk, slice_get};
 ghost use Rattle.std.specs.Option.{option_copied};
 ghost use Rattle.program.specs.declared.function.Program.{Program};
-ghost use Rattle.region_match.specs.declared.tables.Regions.{Regions};
+ghost use Rattle.ranges.specs.region_match.declared.tables.Regions.{Regions};
 ghost use Rattle.cost_table.specs.Depth.{tasks_of};
 ghost use Rattle.cost_table.specs.Tables.{IsEntryOver, IsTable, cost_at, depth_at};
 
@@ -9,11 +9,11 @@ use crate::depth::{flat_depth, self_calls_depth};
 use crate::entry::Entry;
 use lists::{OutOfMemory, Seq};
 use program::{Budget, Function, Program};
-use region_match::{Regions, Task};
+use ranges::{Regions, Task};
 use std::alloc::Global;
 
 /// The costs and depths of all functions' calls.
-#[derive(Debug, Drop)]
+#[derive(Drop)]
 pub struct Table {
     pub functions: Seq<Entry>,
 }

@@ -8,7 +8,7 @@ use crate::entry::cost_of;
 use program::{Block, Function};
 
 /// What a block does, `u128::MAX` standing for more: its self calls, and its instructions with those of the other functions that it calls.
-#[derive(Clone, Copy, Debug)]
+#[derive(Clone, Copy)]
 pub struct Work {
     pub calls: u128,
     pub instructions: u128,

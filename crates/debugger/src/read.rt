@@ -41,7 +41,8 @@ fn next_line(
     text: &[u8],
 ) -> Result<Option<(Line, &[u8])>, OutOfMemory>
     ensures some { IfOk result (λ found. IfSome found (λ r. IsNext before text.now r.0 r.1.now)) }
-    ensures none { IfOk result (λ found. IfNone found ((l : line_type.Line) (line after : List ℕ) → text.now ≡ line ++ 10 ∷ after → IsSpelled line l → Differs before (stepper l) → ⊥)) }
+    ensures none { IfOk result (λ found. IfNone found ((l : line_type.Line) (line after : List ℕ) → text.now ≡ line ++ 10 ∷ after → IsSpelled line l
+        → Differs before (stepper l) → ⊥)) }
 {
     match cut_at(b'\n', text) {
         None => Ok(None),

@@ -4,7 +4,7 @@ ghost use Rattle.definedness.specs.Acts.{given};
 use lists::Seq;
 
 /// What a block does with registers, or with allocas, each by its number.
-#[derive(Clone, Copy, Debug, PartialEq, Eq)]
+#[derive(Clone, Copy)]
 pub enum Act {
     /// Must be defined where this stands; the line is that of the use.
     Needs { number: usize, line: u32 },
@@ -25,7 +25,7 @@ impl Act {
 }
 
 /// What a block does, in the order in which it runs.
-#[derive(Debug, Drop)]
+#[derive(Drop)]
 pub struct BlockActs {
     pub acts: Seq<Act>,
 }

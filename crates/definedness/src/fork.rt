@@ -14,7 +14,7 @@ use region_match::Task;
 use std::alloc::{AllocError, Global};
 
 /// What the terminator of a block does to children: the region of its detach, and the detach whose child it ends.
-#[derive(Debug, Drop)]
+#[derive(Drop)]
 pub struct Fork {
     pub region: Option<RegisterId>,
     pub ended: Option<usize>,

@@ -8,7 +8,7 @@ use program::RegisterId;
 use std::alloc::{AllocError, Global};
 
 /// Of one alloca, at the start of a block.
-#[derive(Debug, Drop)]
+#[derive(Drop)]
 pub enum Label {
     /// It has a value, whatever children are running.
     Sure,
@@ -17,7 +17,7 @@ pub enum Label {
 }
 
 /// Of one alloca: a label for each block, and a mark for each detach whose child ends somewhere without a value.
-#[derive(Debug, Drop)]
+#[derive(Drop)]
 pub struct Sets {
     pub labels: Vec<Label>,
     pub lacking: Vec<bool>,

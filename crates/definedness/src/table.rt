@@ -6,13 +6,13 @@ use lists::Seq;
 use std::alloc::{AllocError, Global};
 
 /// What a block defines, by its numbers.
-#[derive(Debug, Drop)]
+#[derive(Drop)]
 pub struct Given {
     pub numbers: Seq<usize>,
 }
 
 /// A mark for each block.
-#[derive(Debug, Drop)]
+#[derive(Drop)]
 pub struct Row {
     pub marks: Seq<bool>,
 }

@@ -28,7 +28,7 @@ fn unsure(alloc: Global, sets: &Sets, blocks: usize) -> Result<Vec<bool>, AllocE
 }
 
 /// The blocks that store an alloca, and those at whose start it is never sure.
-#[derive(Debug, Drop)]
+#[derive(Drop)]
 struct Settled {
     stops: Vec<bool>,
     marks: Vec<bool>,

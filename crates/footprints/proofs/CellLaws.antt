@@ -12,7 +12,7 @@ use Rattle.linear.proofs.Values.{distributes, associates}
 use Rattle.program.specs.declared.annotation.Zone.{Zone}
 use Rattle.program.specs.declared.identifier.ObjectName.{ObjectName}
 use Rattle.program.specs.declared.identifier.ObjectName.TheVariants.{Global, Alloca, Parameter}
-use Rattle.cfg.specs.declared.structure.Move.{Move}
+use Rattle.ranges.specs.cfg.declared.structure.Move.{Move}
 use Rattle.ranges.specs.declared.sum.Part.{Part}
 use Rattle.ranges.specs.Inequalities.{parts_of}
 use Rattle.ranges.specs.Truth.{parts_value}

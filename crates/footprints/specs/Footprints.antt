@@ -26,8 +26,8 @@ use Rattle.program.specs.declared.instruction.Terminator.TheVariants as terminat
 use Rattle.program.specs.declared.function.Block.{Block}
 use Rattle.program.specs.declared.function.Function.{Function}
 use Rattle.program.specs.Steps.{first_said}
-use Rattle.cfg.specs.declared.structure.Way.{Way}
-use Rattle.cfg.specs.declared.structure.Way.TheVariants.{Branch, Detached, Continued, Synced}
+use Rattle.ranges.specs.cfg.declared.structure.Way.{Way}
+use Rattle.ranges.specs.cfg.declared.structure.Way.TheVariants.{Branch, Detached, Continued, Synced}
 use Rattle.ranges.specs.declared.table.EdgeFacts.{EdgeFacts}
 use Rattle.ranges.specs.Inequalities.{argument_moves}
 use Rattle.footprints.specs.declared.access.Cell.{Cell}

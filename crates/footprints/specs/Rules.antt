@@ -9,12 +9,12 @@ use Rattle.program.specs.declared.function.Block.{Block}
 use Rattle.program.specs.declared.function.Function.{Function}
 use Rattle.program.specs.declared.function.Program.{Program}
 use Rattle.refusal.specs.declared.broken.Broken.{Broken}
-use Rattle.region_match.specs.declared.task.Task.{Task}
-use Rattle.region_match.specs.declared.task.Task.TheVariants.{Unreached, Body, Child}
-use Rattle.region_match.specs.declared.tables.FunctionTasks.{FunctionTasks}
-use Rattle.region_match.specs.declared.tables.Regions.{Regions}
-use Rattle.region_match.specs.Tasks.{task_at}
-use Rattle.region_match.specs.Rules.{ending_at}
+use Rattle.ranges.specs.region_match.declared.task.Task.{Task}
+use Rattle.ranges.specs.region_match.declared.task.Task.TheVariants.{Unreached, Body, Child}
+use Rattle.ranges.specs.region_match.declared.tables.FunctionTasks.{FunctionTasks}
+use Rattle.ranges.specs.region_match.declared.tables.Regions.{Regions}
+use Rattle.ranges.specs.region_match.Tasks.{task_at}
+use Rattle.ranges.specs.region_match.Rules.{ending_at}
 use Rattle.ranges.specs.declared.table.EdgeFacts.{EdgeFacts}
 use Rattle.ranges.specs.Places.{facts_at_step, facts_at_end, edges_known}
 use Rattle.footprints.specs.declared.touch.Use.{Use}

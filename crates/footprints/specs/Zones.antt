@@ -8,7 +8,7 @@ use Rattle.linear.specs.Forms.{Combination}
 use Rattle.program.specs.declared.annotation.Zone.{Zone}
 use Rattle.program.specs.declared.identifier.ObjectName.{ObjectName}
 use Rattle.program.specs.declared.identifier.ObjectName.TheVariants.{Global, Alloca, Parameter}
-use Rattle.cfg.specs.declared.structure.Move.{Move}
+use Rattle.ranges.specs.cfg.declared.structure.Move.{Move}
 use Rattle.ranges.specs.declared.sum.Sum.{Sum}
 use Rattle.ranges.specs.Sums.{shows}
 use Rattle.ranges.specs.Inequalities.{parts_of}

@@ -7,7 +7,7 @@ use program::{Address, Instruction, Mode, ObjectName, Operand, Step, Zone};
 use std::alloc::Global;
 
 /// A cell of an object.
-#[derive(Clone, Copy, Debug, PartialEq, Eq)]
+#[derive(Clone, Copy)]
 pub struct Cell {
     pub object: ObjectName,
     pub index: Operand,

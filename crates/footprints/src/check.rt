@@ -1,8 +1,8 @@
 ghost use Rattle.std.specs.Prelude.{◌≡◌, ℕ, Some, IfOk, IfErr, OnOk, slice_get};
 ghost use Rattle.refusal.specs.declared.broken.Broken.{Broken};
 ghost use Rattle.refusal.specs.Earliest.{IsEarliest, NamesEarliest};
-ghost use Rattle.region_match.specs.Rules.{ending_at};
-ghost use Rattle.region_match.specs.Tasks.{task_at};
+ghost use Rattle.ranges.specs.region_match.Rules.{ending_at};
+ghost use Rattle.ranges.specs.region_match.Tasks.{task_at};
 ghost use Rattle.ranges.specs.Places.{IsBlockTable, IsFunctionTable, AreFacts, facts_in_table};
 ghost use Rattle.footprints.specs.Footprints.{place_of};
 ghost use Rattle.footprints.specs.Rules.{foot_at_end, covering_of, is_own_block, place_in, tasks_of, IsStepBroken, AreStepsBroken, IsEndBroken, IsBlockBrokenBy, IsBlockBroken, IsFunctionBroken, IsZoneBroken};
@@ -11,13 +11,11 @@ use crate::ZoneFault;
 use crate::judge::{edges_fault, step_fault, use_fault};
 use crate::place::Place;
 use crate::touch::{child_foot, end_use};
-use cfg::Graph;
 use linear::Fact;
 use lists::OutOfMemory;
 use program::{Block, BlockId, Ending, Function, Program, Step, Zone};
-use ranges::{BlockFacts, EdgeFacts, Facts, FunctionFacts};
+use ranges::{BlockFacts, EdgeFacts, Facts, FunctionFacts, Graph, Regions, Task};
 use refusal::{Broken, lower};
-use region_match::{Regions, Task};
 use std::alloc::Global;
 
 /// The task of a block.

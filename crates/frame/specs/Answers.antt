@@ -3,9 +3,6 @@ use Rattle.std.specs.Prelude.{ℕ, ℤ, cond, Result, Ok, Err, FitsSigned}
 use Rattle.running.specs.Arithmetic.{Answer, Gives, Traps, word, is_amount, unsigned}
 use Rattle.running.specs.Arithmetic as running
 use Rattle.syntax.specs.declared.operator.Width.{Width}
-use Rattle.syntax.specs.declared.operator.Width.TheVariants.{Bits64, Bits32}
-use Rattle.syntax.specs.declared.operator.Conversion.{Conversion}
-use Rattle.syntax.specs.declared.operator.Conversion.TheVariants.{Truncate, SignExtend, ZeroExtend}
 use Rattle.frame.specs.declared.effect.Trap.{Trap}
 use Rattle.frame.specs.declared.effect.Trap.TheVariants.{Undefined, BadIndex, BadDivisor, Unmatched}
 
@@ -26,9 +23,3 @@ Fits w z = FitsSigned (word w) z
 -- a shift amount, where it is below the width
 abbrev pub amount_of : Width → ℤ → Result ℕ Trap
 amount_of w z = cond (is_amount w z) (Ok (unsigned w z)) (Err Undefined)
-
--- of the number that is converted
-abbrev pub source_width : Conversion → Width
-source_width Truncate = Bits64
-source_width SignExtend = Bits32
-source_width ZeroExtend = Bits32

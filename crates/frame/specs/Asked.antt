@@ -16,7 +16,8 @@ use Rattle.frame.specs.declared.frame.Frame as machine
 use Rattle.program.specs.declared.instruction.Terminator.{Terminator}
 use Rattle.syntax.specs.declared.operator.Width.{Width}
 use Rattle.syntax.specs.declared.operator.Width.TheVariants.{Bits64, Bits32}
-use Rattle.frame.specs.Answers.{trap_of, source_width, Fits}
+use Rattle.program.specs.Widths.{source_width}
+use Rattle.frame.specs.Answers.{trap_of, Fits}
 use Rattle.frame.specs.Room.{CanDo}
 use Rattle.frame.specs.Reading.{cell_of, frame_of, object_of, value_of}
 
@@ -98,13 +99,17 @@ Unless (Ok a) P = ⊤
 Unless (Err t) P = P
 
 abbrev pub DoesInstruction : Program → machine.Frame → Instruction → Result Effect Trap → Type 0
-DoesInstruction prog f i r = (p : Path) (m : Memory) → length p ≡ f.depth → place_of prog f ≡ Some (Does i) → Unless r (OperandsFit (frame_of p f) i) → asked prog p (frame_of p f) m r ≡ instruction_action prog p (frame_of p f) m i
+DoesInstruction prog f i r =
+    (p : Path) (m : Memory) → length p ≡ f.depth → place_of prog f ≡ Some (Does i) → Unless r (OperandsFit (frame_of p f) i) →
+    asked prog p (frame_of p f) m r ≡ instruction_action prog p (frame_of p f) m i
 
 abbrev pub DoesTerminator : Program → machine.Frame → Terminator → Result Effect Trap → Type 0
 DoesTerminator prog f t r = (p : Path) (m : Memory) → length p ≡ f.depth → asked prog p (frame_of p f) m r ≡ terminator_action prog p (frame_of p f) t
 
 abbrev pub DoesPlace : Program → machine.Frame → Result Effect Trap → Type 0
-DoesPlace prog f r = (p : Path) (m : Memory) → length p ≡ f.depth → Unless r (ItemFits (frame_of p f) (place_of prog f)) → asked prog p (frame_of p f) m r ≡ action_of prog p (frame_of p f) m
+DoesPlace prog f r =
+    (p : Path) (m : Memory) → length p ≡ f.depth → Unless r (ItemFits (frame_of p f) (place_of prog f)) →
+    asked prog p (frame_of p f) m r ≡ action_of prog p (frame_of p f) m
 
 -- the frame has room for what its place asks for, and numbers of type i32 there are numbers of that type
 pub record HasRoom (prog : Program) (p : Path) (f : machine.Frame) (m : Memory) : Type 0 where
@@ -113,4 +118,5 @@ pub record HasRoom (prog : Program) (p : Path) (f : machine.Frame) (m : Memory) 
 
 -- An answer is what the definitions say of the frame's place. A trap is theirs where the frame has room.
 abbrev pub DoesNext : Program → machine.Frame → Result Effect Trap → Type 0
-DoesNext prog f r = (p : Path) (m : Memory) → length p ≡ f.depth → Unless r (HasRoom prog p f m) → asked prog p (frame_of p f) m r ≡ action_of prog p (frame_of p f) m
+DoesNext prog f r =
+    (p : Path) (m : Memory) → length p ≡ f.depth → Unless r (HasRoom prog p f m) → asked prog p (frame_of p f) m r ≡ action_of prog p (frame_of p f) m

@@ -4,7 +4,8 @@ ghost use Rattle.std.specs.Option.{SomeIff};
 ghost use Rattle.running.specs.Arithmetic as running;
 ghost use Rattle.running.specs.Arithmetic.{word};
 ghost use Rattle.syntax.specs.declared.operator.BinaryOperator.TheVariants.{SignedDivide, UnsignedDivide, SignedRemainder, UnsignedRemainder, ShiftLeft, LogicalShiftRight, ArithmeticShiftRight};
-ghost use Rattle.frame.specs.Answers.{answer_of, amount_of, source_width, Fits};
+ghost use Rattle.program.specs.Widths.{source_width};
+ghost use Rattle.frame.specs.Answers.{answer_of, amount_of, Fits};
 ghost use mir.Val.{bits as bits_of};
 
 use crate::effect::Trap;
@@ -217,16 +218,5 @@ pub fn convert(conversion: Conversion, number: i64) -> i64
         Conversion::Truncate => wrapped(Width::Bits32, number),
         Conversion::SignExtend => number,
         Conversion::ZeroExtend => signed(Width::Bits64, unsigned(Width::Bits32, number)),
-    }
-}
-
-/// The width of the number that is converted.
-pub fn source_width(conversion: Conversion) -> Width
-    ensures { result ≡ source_width conversion }
-{
-    match conversion {
-        Conversion::Truncate => Width::Bits64,
-        Conversion::SignExtend => Width::Bits32,
-        Conversion::ZeroExtend => Width::Bits32,
     }
 }

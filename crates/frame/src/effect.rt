@@ -13,12 +13,13 @@ ghost use Rattle.frame.specs.Answers.{answer_of};
 ghost use Rattle.program.specs.declared.function.Program.{Program};
 ghost use Rattle.running.specs.Cells.{Memory};
 
-use crate::arithmetic::{binary, compare, convert, source_width};
+use crate::arithmetic::{binary, compare, convert};
 use crate::frame::{Frame, Role, block_at, item_at};
 use crate::value::{Cell, Object, Value};
 use program::{
     Address, AllocaId, Argument, BinaryOperator, BlockId, Case, Conversion, FunctionId,
     Instruction, ObjectName, Operand, Parameter, Predicate, Program, RegisterId, Terminator, Width,
+    source_width,
 };
 
 /// Why an instruction has no effect.
@@ -123,7 +124,8 @@ fn extent(program: &Program, function: FunctionId, name: ObjectName) -> u64
 
 /// Gives the register the answer of an operation.
 fn number_effect(register: RegisterId, answer: Result<i64, Trap>) -> Result<Effect, Trap>
-    ensures does { (prog : Program) (p : Path) (f : frames.Frame) (m : Memory) → asked prog p f m result ≡ effects.Plain (effects.answers f register (answer_of answer)) }
+    ensures does { (prog : Program) (p : Path) (f : frames.Frame) (m : Memory)
+        → asked prog p f m result ≡ effects.Plain (effects.answers f register (answer_of answer)) }
     ensures within { (depth : ℕ) → IfOk result (λ e. EffectWithin depth e) }
 {
     match answer {
@@ -443,7 +445,8 @@ fn return_effect(program: &Program, frame: &Frame, value: Option<Operand>) -> Re
 /// The effect, where the register holds a region that this frame started: a region's frame is the one that holds it, or
 /// is above that.
 fn within(frame: &Frame, region: RegisterId, effect: Effect) -> Result<Effect, Trap>
-    ensures does { (prog : Program) (p : Path) (m : Memory) → length p ≡ frame.now.depth → asked prog p (frame_of p frame.now) m result ≡ effects.within p (frame_of p frame.now) region (asked prog p (frame_of p frame.now) m (Ok effect)) }
+    ensures does { (prog : Program) (p : Path) (m : Memory) → length p ≡ frame.now.depth
+        → asked prog p (frame_of p frame.now) m result ≡ effects.within p (frame_of p frame.now) region (asked prog p (frame_of p frame.now) m (Ok effect)) }
     ensures same { IfOk result (λ e. e ≡ effect) }
 {
     match frame.register(region) {

@@ -51,7 +51,8 @@ impl Frame {
     fn read_move(&mut self, place: usize, phi: &Phi) -> Result<(), Trap>
         ensures read { OnOk result (IsMoved self.old place phi.now self.new) }
         ensures trap { IfErr result (λ t. t ≡ Trap.Undefined) }
-        ensures missing { OnErr result ((p : Path) → place < length self.old.moves.items → phi.now.register.0 < length self.old.registers.items → effects.phi_value (registers_of p self.old.registers.items) self.old.block.0 phi.now ≡ None) }
+        ensures missing { OnErr result ((p : Path) → place < length self.old.moves.items → phi.now.register.0 < length self.old.registers.items
+            → effects.phi_value (registers_of p self.old.registers.items) self.old.block.0 phi.now ≡ None) }
         ensures only { self.new ≡ record self.old { moves = self.new.moves } }
         ensures length { length self.new.moves.items ≡ length self.old.moves.items }
     {
@@ -73,7 +74,8 @@ impl Frame {
         ensures read { OnOk result ((p : Path) → AreRead (registers_of p self.old.registers.items) self.old.block.0 phis.now self.new.moves.items) }
         ensures fits { OnOk result (FitsPhis self.old phis.now) }
         ensures trap { IfErr result (λ t. t ≡ Trap.Undefined) }
-        ensures missing { OnErr result ((p : Path) → FitsPhis self.old phis.now → (r : frames.Registers) → effects.with_phis (registers_of p self.old.registers.items) self.old.block.0 phis.now r ≡ None) }
+        ensures missing { OnErr result ((p : Path) → FitsPhis self.old phis.now → (r : frames.Registers)
+            → effects.with_phis (registers_of p self.old.registers.items) self.old.block.0 phis.now r ≡ None) }
         ensures only { self.new ≡ record self.old { moves = self.new.moves } }
         ensures length { length self.new.moves.items ≡ length self.old.moves.items }
     {
@@ -88,7 +90,9 @@ impl Frame {
 
     /// Gives the phis the values that were read.
     fn write_moves(&mut self, phis: &[Phi])
-        ensures written { (p : Path) (before : frames.Registers) (from : ℕ) → AreRead before from phis.now self.old.moves.items → FitsPhis self.old phis.now → effects.with_phis before from phis.now (registers_of p self.old.registers.items) ≡ Some (registers_of p self.new.registers.items) }
+        ensures written { (p : Path) (before : frames.Registers) (from : ℕ) → AreRead before from phis.now self.old.moves.items
+            → FitsPhis self.old phis.now
+            → effects.with_phis before from phis.now (registers_of p self.old.registers.items) ≡ Some (registers_of p self.new.registers.items) }
         ensures only { self.new ≡ record self.old { registers = self.new.registers } }
         ensures length { length self.new.registers.items ≡ length self.old.registers.items }
         ensures sound { IsSound self.old → IsSound self.new }
@@ -104,10 +108,17 @@ impl Frame {
     /// a value is missing, no register has changed.
     pub fn enter(&mut self, program: &Program, target: BlockId) -> Result<(), Trap>
         ensures entered { OnOk result ((p : Path) → Entered program.now p self.old target.0 self.new) }
-        ensures missing { OnErr result ((p : Path) → FitsPhis self.old (frames.phis_at program.now self.old.function.0 target.0) → effects.registers_along program.now (frame_of p self.old) target.0 ≡ None) }
+        ensures missing { OnErr result ((p : Path) → FitsPhis self.old (frames.phis_at program.now self.old.function.0 target.0)
+            → effects.registers_along program.now (frame_of p self.old) target.0 ≡ None) }
         ensures trap { IfErr result (λ t. t ≡ Trap.Undefined) }
         ensures unchanged { OnErr result (self.new ≡ record self.old { moves = self.new.moves }) }
-        ensures only { self.new ≡ record self.old { registers = self.new.registers; moves = self.new.moves; block = self.new.block; index = self.new.index; waits = self.new.waits } }
+        ensures only { self.new ≡ record self.old {
+          registers = self.new.registers;
+          moves = self.new.moves;
+          block = self.new.block;
+          index = self.new.index;
+          waits = self.new.waits;
+        } }
         ensures length { length self.new.registers.items ≡ length self.old.registers.items }
         ensures moves { length self.new.moves.items ≡ length self.old.moves.items }
         ensures sound { IsSound self.old → IsSound self.new }

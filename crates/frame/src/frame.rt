@@ -115,7 +115,8 @@ impl Frame {
 
     /// The number, where the width has it: a number of type `i32` is always one of that type in an accepted program.
     pub fn number_of(&self, width: Width, operand: Operand) -> Result<i64, Trap>
-        ensures value { (p : Path) → Unless result (FitsIn width (frames.word_at (registers_of p self.now.registers.items) operand)) → result ≡ found (frames.word_at (registers_of p self.now.registers.items) operand) }
+        ensures value { (p : Path) → Unless result (FitsIn width (frames.word_at (registers_of p self.now.registers.items) operand))
+            → result ≡ found (frames.word_at (registers_of p self.now.registers.items) operand) }
         ensures fits { IfOk result (λ z. Fits width z) }
     {
         let number = self.number(operand)?;

@@ -35,7 +35,8 @@ impl Frame {
 
     /// Goes on behind an instruction that defines the register.
     pub fn define(&mut self, register: RegisterId, value: Value)
-        ensures goes_on { (p : Path) → HasRegister self.old register → HasNext self.old → frame_of p self.new ≡ states.went (frame_of p self.old) (effects.sets (frame_of p self.old) register (value_of p value)) }
+        ensures goes_on { (p : Path) → HasRegister self.old register → HasNext self.old
+            → frame_of p self.new ≡ states.went (frame_of p self.old) (effects.sets (frame_of p self.old) register (value_of p value)) }
         ensures only { self.new ≡ record self.old { registers = self.new.registers; index = self.new.index; waits = wait.Nothing } }
         ensures length { length self.new.registers.items ≡ length self.old.registers.items }
         ensures sound { IsSound self.old → ValueWithin self.old.depth value → IsSound self.new }
@@ -91,7 +92,8 @@ impl Frame {
 
     /// Takes the result of the call that the frame waits for.
     pub fn resume(&mut self, returned: Option<i64>)
-        ensures resumed { (p : Path) (child : ℕ) (register : Option RegisterId) → self.old.waits ≡ wait.Call child register → HasResult self.old register → frame_of p self.new ≡ states.resumed (frame_of p self.old) register returned }
+        ensures resumed { (p : Path) (child : ℕ) (register : Option RegisterId) → self.old.waits ≡ wait.Call child register → HasResult self.old register
+            → frame_of p self.new ≡ states.resumed (frame_of p self.old) register returned }
         ensures only { self.new ≡ record self.old { registers = self.new.registers; waits = wait.Nothing } }
         ensures length { length self.new.registers.items ≡ length self.old.registers.items }
         ensures sound { IsSound self.old → IsSound self.new }

@@ -54,7 +54,8 @@ fn passed_registers(
     room: usize,
     arguments: &[Argument],
 ) -> Result<Vec<Option<Value>>, OutOfMemory>
-    ensures values { IfOk result (λ registers. (p : Path) → map (held_of p) registers.items ≡ map (effects.argument_value (frame_of p caller.now)) arguments.now) }
+    ensures values { IfOk result (λ registers. (p : Path)
+        → map (held_of p) registers.items ≡ map (effects.argument_value (frame_of p caller.now)) arguments.now) }
     ensures within { IfOk result (λ registers. IsSound caller.now → (r : ℕ) → HeldWithin caller.now.depth (register_in registers.items r)) }
 {
     let mut registers = Vec::with_capacity(alloc, room)?;
@@ -133,7 +134,8 @@ impl Frame {
     ) -> Result<Frame, OutOfMemory>
         ensures place { IfOk result (λ f. AtEntry f function depth) }
         ensures registers { IfOk result (λ f. (k : ℕ) × (f.registers.items ≡ registers.items ++ replicate k None)) }
-        ensures places { IfOk result (λ f. HasPlaces program.now f (max (register_count (slice_get program.now.functions function.0)) (length registers.items))) }
+        ensures places { IfOk result (λ f. HasPlaces program.now f
+            (max (register_count (slice_get program.now.functions function.0)) (length registers.items))) }
     {
         let count = register_count(program, function).max(registers.len());
         registers.resize(count, None)?;
@@ -157,7 +159,8 @@ impl Frame {
     /// The root frame: `main` at its entry, with the arguments in its first registers.
     pub fn root(alloc: Global, program: &Program, arguments: &[i64]) -> Result<Frame, OutOfMemory>
         ensures root { IfOk result (λ f. frame_of [] f ≡ states.root_frame program.now arguments.now) }
-        ensures places { IfOk result (λ f. HasPlaces program.now f (max (register_count (slice_get program.now.functions program.now.main.0)) (length arguments.now))) }
+        ensures places { IfOk result (λ f. HasPlaces program.now f
+            (max (register_count (slice_get program.now.functions program.now.main.0)) (length arguments.now))) }
         ensures sound { IfOk result (λ f. IsSound f) }
         ensures depth { IfOk result (λ f. f.depth ≡ 0) }
         ensures undefined { IfOk result (λ f. IsUndefined f) }
@@ -187,8 +190,11 @@ impl Frame {
         caller: &Frame,
         callee: FunctionId,
     ) -> Result<Frame, OutOfMemory>
-        ensures called { IfOk result (λ f. (p : Path) → length p ≡ caller.now.depth → IsSound caller.now → HasChild caller.now → IsSome (effects.argument_values (frame_of p caller.now) (call_arguments (place_of program.now caller.now))) → frame_of (caller.now.made ∷ p) f ≡ states.called p (frame_of p caller.now) callee.0 (passed program.now (frame_of p caller.now))) }
-        ensures places { IfOk result (λ f. HasPlaces program.now f (max (register_count (slice_get program.now.functions callee.0)) (length (call_arguments (place_of program.now caller.now))))) }
+        ensures called { IfOk result (λ f. (p : Path) → length p ≡ caller.now.depth → IsSound caller.now → HasChild caller.now
+            → IsSome (effects.argument_values (frame_of p caller.now) (call_arguments (place_of program.now caller.now)))
+            → frame_of (caller.now.made ∷ p) f ≡ states.called p (frame_of p caller.now) callee.0 (passed program.now (frame_of p caller.now))) }
+        ensures places { IfOk result (λ f. HasPlaces program.now f
+            (max (register_count (slice_get program.now.functions callee.0)) (length (call_arguments (place_of program.now caller.now))))) }
         ensures sound { IfOk result (λ f. IsSound caller.now → IsSound f) }
         ensures depth { IfOk result (λ f. HasChild caller.now → f.depth ≡ caller.now.depth + 1) }
         ensures undefined { IfOk result (λ f. IsUndefined f) }
@@ -210,7 +216,8 @@ impl Frame {
         body: BlockId,
         continuation: BlockId,
     ) -> Result<Frame, OutOfMemory>
-        ensures detached { IfOk result (λ f. (p : Path) (k : ℕ) → length p ≡ parent.now.depth → IsSound parent.now → frame_of (k ∷ p) f ≡ states.detached (frame_of p parent.now) region.0 body.0 continuation.0) }
+        ensures detached { IfOk result (λ f. (p : Path) (k : ℕ) → length p ≡ parent.now.depth → IsSound parent.now
+            → frame_of (k ∷ p) f ≡ states.detached (frame_of p parent.now) region.0 body.0 continuation.0) }
         ensures registers { IfOk result (λ f. length f.registers.items ≡ length parent.now.registers.items) }
         ensures moves { IfOk result (λ f. length f.moves.items ≡ length parent.now.registers.items) }
         ensures cells { IfOk result (λ f. f.allocas.items ≡ []) }

@@ -8,7 +8,7 @@ ghost use Rattle.ir_text.specs.Limits.{instruction_cells, are_function_notes_wit
 use crate::draft::{Draft, Place};
 use crate::scope::defined_register;
 use ir_item::Item;
-use syntax::{AllocaSize, Block, BlockNotes, Function, FunctionNotes, Instruction, Module};
+use syntax::{Block, BlockNotes, Function, FunctionNotes, Instruction, Module};
 
 /// Of a text.
 pub const MAX_BYTES: usize = 1_048_576;
@@ -49,14 +49,7 @@ fn instruction_cells(instruction: &Instruction) -> u64
     ensures { result ≡ instruction_cells instruction.now }
 {
     match instruction {
-        Instruction::Alloca {
-            size: AllocaSize::One,
-            ..
-        } => 1,
-        Instruction::Alloca {
-            size: AllocaSize::Array(cells),
-            ..
-        } => *cells,
+        Instruction::Alloca { size, .. } => size.cells(),
         _ => 0,
     }
 }

@@ -6,6 +6,7 @@ mod annotation;
 mod function;
 mod identifier;
 mod instruction;
+mod width;
 
 pub use annotation::{Budget, Inequality, Left, Measure, Pending, Zone};
 pub use function::{Alloca, Block, Function, Global, Parameter, Program, RegisterKind};
@@ -15,3 +16,4 @@ pub use instruction::{
 };
 pub use linear::{Fact, Form, RegisterId, Term};
 pub use syntax::{BinaryOperator, Conversion, Mode, Predicate, ResultType, Width};
+pub use width::source_width;

@@ -16,9 +16,9 @@ use Rattle.program.specs.declared.instruction.Terminator.{Terminator}
 use Rattle.program.specs.declared.instruction.Terminator.TheVariants as terminator
 use Rattle.program.specs.declared.function.Block.{Block}
 use Rattle.program.specs.Steps.{first_said}
-use Rattle.cfg.specs.declared.structure.Way.{Way}
-use Rattle.cfg.specs.declared.structure.Way.TheVariants.{Branch, Detached, Continued, Synced}
-use Rattle.cfg.specs.Edges.{moves_from}
+use Rattle.region_match.specs.cfg.declared.structure.Way.{Way}
+use Rattle.region_match.specs.cfg.declared.structure.Way.TheVariants.{Branch, Detached, Continued, Synced}
+use Rattle.region_match.specs.cfg.Edges.{moves_from}
 use Rattle.ranges.specs.declared.sum.Sum.{Sum}
 use Rattle.ranges.specs.declared.sum.Obligation.{Obligation}
 use Rattle.ranges.specs.declared.edge.Comparison.{Comparison}

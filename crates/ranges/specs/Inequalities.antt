@@ -8,7 +8,7 @@ use Rattle.program.specs.declared.instruction.Argument.TheVariants as argument
 use Rattle.program.specs.declared.instruction.Operand.{Operand}
 use Rattle.program.specs.declared.instruction.Operand.TheVariants.{Number, Register}
 use Rattle.program.specs.declared.function.Function.{Function}
-use Rattle.cfg.specs.declared.structure.Move.{Move}
+use Rattle.region_match.specs.cfg.declared.structure.Move.{Move}
 use Rattle.ranges.specs.declared.sum.Part.{Part}
 use Rattle.ranges.specs.declared.sum.Sum.{Sum}
 

@@ -7,3 +7,6 @@ pub mod Places
 pub mod Rules
 pub mod Walks
 pub mod Truth
+-- for the crates above
+pub use Rattle.region_match.specs.cfg as cfg
+pub use Rattle.region_match.specs as region_match

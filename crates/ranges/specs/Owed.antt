@@ -14,7 +14,7 @@ use Rattle.program.specs.declared.instruction.Terminator.TheVariants as terminat
 use Rattle.program.specs.declared.function.Function.{Function}
 use Rattle.program.specs.declared.function.Program.{Program}
 use Rattle.program.specs.Cells.{object_cells}
-use Rattle.cfg.specs.declared.structure.Move.{Move}
+use Rattle.region_match.specs.cfg.declared.structure.Move.{Move}
 use Rattle.ranges.specs.declared.sum.Part.{Part}
 use Rattle.ranges.specs.declared.sum.Sum.{Sum}
 use Rattle.ranges.specs.declared.sum.Obligation.{Obligation}

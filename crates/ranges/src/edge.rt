@@ -1,6 +1,6 @@
 ghost use Rattle.std.specs.Prelude.{◌≡◌, ◌++◌, ◌∷◌, [], true, false, negsuc, ◌*ℤ◌, map, IfOk, OnOk};
 ghost use Rattle.syntax.specs.declared.operator.Predicate.TheVariants.{Equal};
-ghost use Rattle.cfg.specs.declared.structure.Way.TheVariants.{Branch};
+ghost use Rattle.region_match.specs.cfg.declared.structure.Way.TheVariants.{Branch};
 ghost use Rattle.program.specs.declared.instruction.Case.{Case};
 ghost use Rattle.ranges.specs.Sums.{facts_of};
 ghost use Rattle.ranges.specs.Edges.{compare_of, compared, at_least, above, compare_sums, branch_sums, case_sums, edge_to, edges_out, phis_of, keeps_of, edge_facts, all_edge_facts};
@@ -8,16 +8,16 @@ ghost use Rattle.ranges.specs.Edges.{compare_of, compared, at_least, above, comp
 use crate::know::push_facts;
 use crate::sum::Sum;
 use crate::table::EdgeFacts;
-use cfg::{Way, make_moves};
 use linear::Fact;
 use lists::{OutOfMemory, Seq};
 use program::{
     Block, BlockId, Case, Instruction, Operand, Predicate, RegisterId, Step, Terminator,
 };
+use region_match::{Way, make_moves};
 use std::alloc::Global;
 
 /// What an `icmp` compares.
-#[derive(Clone, Copy, Debug, PartialEq, Eq)]
+#[derive(Clone, Copy)]
 pub struct Comparison {
     pub predicate: Predicate,
     pub left: Operand,
@@ -25,7 +25,7 @@ pub struct Comparison {
 }
 
 /// An edge with the sums that are at least 0 where it is taken.
-#[derive(Debug, Drop)]
+#[derive(Drop)]
 pub struct EdgeSums {
     pub to: BlockId,
     pub way: Way,

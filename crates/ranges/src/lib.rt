@@ -30,6 +30,7 @@ pub use inequality::{argument_moves, call_moves, difference_of, push_parts, resu
 pub use know::{is_met, push_facts, shows};
 pub use owe::inequalities_owed;
 pub use refusal::Refused as RangeFault;
+pub use region_match::{Graph, Move, Regions, Task, Way};
 pub use sum::{Obligation, Part, Sum, sum_form};
 pub use table::{BlockFacts, EdgeFacts, Facts, FunctionFacts};
 pub use walk::{start_facts, stated};

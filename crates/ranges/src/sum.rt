@@ -10,21 +10,21 @@ use program::Operand;
 use std::alloc::Global;
 
 /// An operand times a number.
-#[derive(Clone, Copy, Debug, PartialEq, Eq)]
+#[derive(Clone, Copy)]
 pub struct Part {
     pub factor: i64,
     pub operand: Operand,
 }
 
 /// A sum of operands times numbers, and a number.
-#[derive(Debug, Drop)]
+#[derive(Drop)]
 pub struct Sum {
     pub constant: i128,
     pub parts: Seq<Part>,
 }
 
 /// What the rule of this number asks: one of the choices is shown to be at least 0.
-#[derive(Debug, Drop)]
+#[derive(Drop)]
 pub struct Obligation {
     pub number: u16,
     pub choices: Seq<Sum>,

@@ -1,12 +1,12 @@
 ghost use Rattle.std.specs.Prelude.{◌≡◌, take, slice_index_or};
 
-use cfg::{Move, Way};
 use linear::Fact;
 use lists::Seq;
 use program::BlockId;
+use region_match::{Move, Way};
 
 /// An edge with what is known on it, and what its target's phis take.
-#[derive(Debug, Drop)]
+#[derive(Drop)]
 pub struct EdgeFacts {
     pub to: BlockId,
     pub way: Way,
@@ -16,7 +16,7 @@ pub struct EdgeFacts {
 
 /// What is known at the end of a block, how many of these facts are known at each of its steps (the first ones), and its edges in the
 /// order of its terminator.
-#[derive(Debug, Drop)]
+#[derive(Drop)]
 pub struct BlockFacts {
     pub facts: Seq<Fact>,
     pub counts: Seq<usize>,
@@ -39,13 +39,13 @@ impl BlockFacts {
 }
 
 /// What is known in each block of a function.
-#[derive(Debug, Drop)]
+#[derive(Drop)]
 pub struct FunctionFacts {
     pub blocks: Seq<BlockFacts>,
 }
 
 /// What is known at each place of a program.
-#[derive(Debug, Drop)]
+#[derive(Drop)]
 pub struct Facts {
     pub functions: Seq<FunctionFacts>,
 }

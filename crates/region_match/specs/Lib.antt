@@ -4,3 +4,5 @@ pub mod Matched
 pub mod Mixed
 pub mod Rules
 pub mod Tasks
+-- for the crates above
+pub use Rattle.cfg.specs as cfg

@@ -6,7 +6,7 @@ use program::BlockId;
 use std::alloc::{AllocError, Global};
 
 /// The task of a block, by the innermost detach that leads to it.
-#[derive(Clone, Copy, Debug, PartialEq, Eq)]
+#[derive(Clone, Copy, PartialEq, Eq)]
 pub enum Task {
     /// No path leads to the block.
     Unreached,

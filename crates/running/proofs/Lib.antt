@@ -1,5 +1,6 @@
 pub mod Actions
 pub mod Places
+pub mod SameCells
 pub mod Confluence
 pub mod Steps
 pub mod Diamond

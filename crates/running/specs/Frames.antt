@@ -5,12 +5,9 @@ use Rattle.running.specs.Cells.{Object, Shared, Local, Cell}
 use Rattle.linear.specs.declared.form.RegisterId.{RegisterId}
 use Rattle.program.specs.declared.identifier.ObjectName.{ObjectName}
 use Rattle.program.specs.declared.identifier.ObjectName.TheVariants.{Global, Alloca, Parameter}
-use Rattle.program.specs.declared.function.Parameter.TheVariants as parameter
-use Rattle.program.specs.declared.function.Parameter.{Parameter as ParameterKind}
-use Rattle.program.specs.declared.function.Alloca.{Alloca as AllocaKind}
+pub use Rattle.program.specs.Cells.{parameter_cells, alloca_cells, global_cells}
 use Rattle.program.specs.declared.function.Block.{Block}
 use Rattle.program.specs.declared.function.Function.{Function}
-use Rattle.program.specs.declared.function.Global.{Global as GlobalKind}
 use Rattle.program.specs.declared.function.Program.{Program}
 use Rattle.program.specs.declared.instruction.Instruction.{Instruction}
 use Rattle.program.specs.declared.instruction.Terminator.{Terminator}
@@ -94,19 +91,6 @@ abbrev pub phis_at : Program → ℕ → ℕ → List Phi
 phis_at prog function block = block_phis (block_at prog function block)
 
 -- ---- objects
-
-abbrev pub parameter_cells : Option ParameterKind → ℕ
-parameter_cells None = 0
-parameter_cells (Some parameter.Number) = 0
-parameter_cells (Some (parameter.Pointer cells)) = cells
-
-abbrev pub alloca_cells : Option AllocaKind → ℕ
-alloca_cells None = 0
-alloca_cells (Some a) = a.cells
-
-abbrev pub global_cells : Option GlobalKind → ℕ
-global_cells None = 0
-global_cells (Some g) = g.cells
 
 abbrev pub cells_in : Program → Option Function → ObjectName → ℕ
 cells_in prog f (Global g) = global_cells (slice_get prog.globals g.0)

@@ -12,7 +12,7 @@ use Rattle.types.specs.Definitions.{KeepsParameters}
 use Rattle.types.specs.Meaning.{Means}
 use Rattle.types.proofs.Programs.{program_apart, program_kept}
 use Rattle.verifier.specs.Accepted.{IsRight, IsProgramOf, AreTasksOf}
-use Rattle.region_match.specs.declared.tables.Regions.{Regions}
+use Rattle.phase_laws.specs.region_match.declared.tables.Regions.{Regions}
 use Rattle.phase_laws.proofs.defined.Stable.{stable_by_rules}
 use Rattle.schedule_theorem.proofs.pointers.Anew.{read_anew}
 use Rattle.phase_laws.specs.costs.Ends.{AreRulesRight}

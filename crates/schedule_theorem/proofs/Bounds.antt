@@ -5,11 +5,11 @@ use Rattle.std.proofs.lemmas.Bool.{cases_lt}
 use Rattle.program.specs.declared.function.Function.{Function}
 use Rattle.program.specs.declared.function.Program.{Program}
 use Rattle.refusal.specs.declared.broken.Broken.{Broken}
-use Rattle.region_match.specs.declared.tables.Regions.{Regions}
+use Rattle.phase_laws.specs.region_match.declared.tables.Regions.{Regions}
 use Rattle.verifier.specs.Budgets.{budget_in, budget_of, depth_in, depth_of}
 use Rattle.conditions.specs.rules.Costs.{bound_in, bound_of}
-use Rattle.cost_table.specs.Cost.{whole_cost, whole_cost_of}
-use Rattle.cost_table.specs.Depth.{first_depths, tasks_of}
+use Rattle.phase_laws.specs.cost_table.Cost.{whole_cost, whole_cost_of}
+use Rattle.phase_laws.specs.cost_table.Depth.{first_depths, tasks_of}
 use Rattle.phase_laws.specs.costs.Depths.{depth_in as depth_over, depth_of as depth_at}
 use Rattle.phase_laws.specs.costs.Shown.{AreCostsRight}
 

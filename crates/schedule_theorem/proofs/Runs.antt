@@ -8,7 +8,7 @@ use Rattle.running.specs.State.{root_frame}
 use Rattle.running.specs.SerialMeaning.{Gave, Outcome, IsSerialMeaning}
 use Rattle.conditions.specs.theorem.SerialConditions.{Nothing, KeptSerially}
 use Rattle.program.specs.declared.function.Program.{Program}
-use Rattle.region_match.specs.declared.tables.Regions.{Regions}
+use Rattle.phase_laws.specs.region_match.declared.tables.Regions.{Regions}
 use Rattle.verifier.specs.Accepted.{AreTasksOf}
 use Rattle.verifier.specs.Budgets.{budget_of, depth_of}
 use Rattle.conditions.specs.rules.Registers.{Registered}

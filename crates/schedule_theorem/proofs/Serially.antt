@@ -11,7 +11,7 @@ use Rattle.conditions.specs.theorem.InProofs.{And, FindsBoth}
 use Rattle.conditions.proofs.theorem.SerialExists.{kept_both}
 use Rattle.linear.specs.declared.form.RegisterId.{RegisterId}
 use Rattle.program.specs.declared.function.Program.{Program}
-use Rattle.region_match.specs.Matched.{AreRegionsRight}
+use Rattle.phase_laws.specs.region_match.Matched.{AreRegionsRight}
 use Rattle.conditions.specs.rules.Registers.{Registered, GivesNumber}
 use Rattle.phase_laws.specs.defined.Defined.{IsAlways}
 use Rattle.phase_laws.specs.defined.Names.{IsNamed}

@@ -3,8 +3,7 @@ use Rattle.std.specs.Prelude.{ℕ, ◌+◌, List, [], ◌∷◌, ◌++◌, lengt
 use Rattle.program.specs.declared.function.RegisterKind.{RegisterKind}
 use Rattle.program.specs.declared.function.RegisterKind.TheVariants as kind
 use Rattle.program.specs.declared.identifier.ObjectName.TheVariants as object
-use Rattle.syntax.specs.declared.instruction.AllocaSize.{AllocaSize}
-use Rattle.syntax.specs.declared.instruction.AllocaSize.TheVariants.{One, Array}
+use Rattle.syntax.specs.Cells.{size_cells}
 use Rattle.syntax.specs.declared.instruction.Instruction.{Instruction as InstructionText}
 use Rattle.syntax.specs.declared.instruction.Instruction.TheVariants as text
 use Rattle.syntax.specs.declared.instruction.Phi.{Phi as PhiText}
@@ -31,10 +30,6 @@ kind_of holding.Truth = kind.Truth
 kind_of (holding.Object name cells) = kind.Object
 kind_of holding.Element = kind.Element
 kind_of holding.Region = kind.Region
-
-abbrev pub cells_of : AllocaSize → ℕ
-cells_of One = 1
-cells_of (Array cells) = cells
 
 -- the width of what a conversion gives
 abbrev pub target_width : Conversion → Width
@@ -73,7 +68,7 @@ abbrev pub with_instruction : Layout → ℕ → Origin → InstructionText → 
 with_instruction layout line from (text.Binary register operator width left right) = with_register layout register (holding.Number width) from
 with_instruction layout line from (text.Compare register predicate width left right) = with_register layout register holding.Truth from
 with_instruction layout line from (text.Convert register conversion value) = with_register layout register (holding.Number (target_width conversion)) from
-with_instruction layout line from (text.Alloca register size) = with_alloca layout line register (cells_of size) from
+with_instruction layout line from (text.Alloca register size) = with_alloca layout line register (size_cells size) from
 with_instruction layout line from (text.ElementPointer register base index) = with_register layout register holding.Element from
 with_instruction layout line from (text.Load register address) = with_register layout register (holding.Number Bits64) from
 with_instruction layout line from (text.Store value address) = layout

@@ -13,7 +13,7 @@ use lists::Name;
 use program::{Address, ObjectName};
 
 /// A whole object with its number of cells.
-#[derive(Clone, Copy, Debug, PartialEq, Eq)]
+#[derive(Clone, Copy)]
 pub struct WholeObject {
     pub name: ObjectName,
     pub cells: u64,

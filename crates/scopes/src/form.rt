@@ -16,7 +16,7 @@ use std::alloc::Global;
 use syntax::Relation;
 
 /// Where an annotation stands, which says what it may name.
-#[derive(Clone, Copy, Debug, PartialEq, Eq)]
+#[derive(Clone, Copy)]
 pub enum Place {
     /// At a function's head: parameters.
     Head,

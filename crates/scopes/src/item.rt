@@ -8,7 +8,7 @@ use std::hash::RandomState;
 use syntax::{Function, Module};
 
 /// What a name behind `@` stands for; of a global its number of cells too.
-#[derive(Clone, Copy, Debug, PartialEq, Eq)]
+#[derive(Clone, Copy)]
 pub enum Item {
     Global { id: GlobalId, cells: u64 },
     Function(FunctionId),

@@ -9,7 +9,7 @@ use lists::{Name, Seq};
 use program::{Alloca, AllocaId, BlockId, ObjectName, RegisterId, RegisterKind, Width};
 use std::alloc::{AllocError, Global};
 use std::hash::RandomState;
-use syntax::{AllocaSize, Block, Conversion, Function, Instruction, Parameter, Phi, Step};
+use syntax::{Block, Conversion, Function, Instruction, Parameter, Phi, Step};
 
 /// The names of a function with its registers and its allocas, each in the order of the text.
 #[derive(Drop)]
@@ -28,16 +28,6 @@ fn kind_of(holding: Holding) -> RegisterKind
         Holding::Object { .. } => RegisterKind::Object,
         Holding::Element => RegisterKind::Element,
         Holding::Region => RegisterKind::Region,
-    }
-}
-
-/// The number of cells of an `alloca`.
-fn cells_of(size: AllocaSize) -> u64
-    ensures { result ≡ spec.cells_of size }
-{
-    match size {
-        AllocaSize::One => 1,
-        AllocaSize::Array(cells) => cells,
     }
 }
 
@@ -176,7 +166,7 @@ impl Layout {
                 self.add(alloc, register, holding, origin)
             }
             Instruction::Alloca { register, size } => {
-                self.add_alloca(alloc, line, register, cells_of(*size), origin)
+                self.add_alloca(alloc, line, register, size.cells(), origin)
             }
             Instruction::ElementPointer { register, .. } => {
                 self.add(alloc, register, Holding::Element, origin)

@@ -5,7 +5,7 @@ use crate::table::NameTable;
 use program::{BlockId, ObjectName, RegisterId, Width};
 
 /// What a register holds; of an object its name and its number of cells too.
-#[derive(Clone, Copy, Debug, PartialEq, Eq)]
+#[derive(Clone, Copy)]
 pub enum Holding {
     Number(Width),
     /// `i1`
@@ -19,7 +19,7 @@ pub enum Holding {
 }
 
 /// What defines a register.
-#[derive(Clone, Copy, Debug, PartialEq, Eq)]
+#[derive(Clone, Copy)]
 pub enum Origin {
     Parameter,
     Phi,
@@ -28,7 +28,7 @@ pub enum Origin {
 }
 
 /// A register with what it holds.
-#[derive(Clone, Copy, Debug, PartialEq, Eq)]
+#[derive(Clone, Copy)]
 pub struct Register {
     pub id: RegisterId,
     pub holding: Holding,
@@ -36,7 +36,7 @@ pub struct Register {
 }
 
 /// What a name of a function stands for.
-#[derive(Clone, Copy, Debug, PartialEq, Eq)]
+#[derive(Clone, Copy)]
 pub enum Named {
     Label(BlockId),
     Register(Register),

@@ -14,7 +14,7 @@ use Rattle.running.specs.Frames as frames
 use Rattle.running.specs.Effect.{goes_on}
 use Rattle.running.specs.State.{override, added, sum_in}
 use Rattle.running.specs.SerialMeaning.{written}
-use Rattle.running.proofs.Places.{same_path_tells}
+use Rattle.running.proofs.SameCells.{same_cell_is}
 use Rattle.program.specs.declared.identifier.AllocaId.{AllocaId}
 use Rattle.program.specs.declared.identifier.GlobalId.{GlobalId}
 use Rattle.store.specs.Cells.{NamedCells, Sets, cell_at}
@@ -212,30 +212,6 @@ wrote_more s m t o i w within stores =
         by false ea false eb (inr h) = rw h.0 refl
 
 -- ---- a number is added
-
-same_object_is : (o q : cells.Object) → same_object o q ≡ true → o ≡ q
-same_object_is (Shared g) (Shared h) e = elim (eqb_tells g h) [ inl a ↦ ap Shared a.1 | inr a ↦ absurd (let f = a.0 in cc) ]
-same_object_is (Shared g) (Local p n) e = absurd (cc)
-same_object_is (Local p n) (Shared g) e = absurd (cc)
-same_object_is (Local p n) (Local q k) e =
-    elim (same_path_tells p q) [
-      | inl a ↦ elim (eqb_tells n k) [
-        | inl b ↦ ap (λ x. Local x n) a.1 ∙ ap (Local q) b.1
-        | inr b ↦ absurd (let f : false ≡ true = rw (a.0, b.0) at e in cc)
-      ]
-      | inr a ↦ absurd (let f : false ≡ true = rw a.0 at e in cc)
-    ]
-
-same_cell_is : (c x : cells.Cell) → same_cell c x ≡ true → c ≡ x
-same_cell_is c x e = from (same_object c.object x.object) refl e
-  where
-    from : (b : Bool) → same_object c.object x.object ≡ b → b && eqb c.index x.index ≡ true → c ≡ x
-    from true is e2 =
-        elim (eqb_tells c.index x.index) [
-          | inl a ↦ ap (λ o. record { object = o; index = c.index }) (same_object_is c.object x.object is) ∙ ap (λ i. record { object = x.object; index = i }) a.1
-          | inr a ↦ absurd (let f = a.0 in cc)
-        ]
-    from false is e2 = absurd (cc)
 
 -- the sum that is stored is the number added
 pub sum_written : (f : frames.Frame) (m : cells.Memory) (c : cells.Cell) (z held : ℤ) → m c ≡ Some held → (x : cells.Cell) → written (effects.adds_to f c z (Some held)) m x ≡ override (one_cell c (cell_sum held z) x) (m x)

@@ -1,13 +1,11 @@
 -- The places of frames: what keeps them, and new frames that have them.
-use Rattle.std.proofs.Common.{◌≡◌, ℕ, zero, suc, ◌+◌, ◌<◌, ◌≤◌, max, List, [], ◌∷◌, length, refl, ap, sym, ◌∙◌, subst, arith, Bool, true, false, cond, eqb, inl, inr, ℤ, Option, Some, None, Vec, Global}
-use Rattle.std.specs.Prelude.{⊤, map, slice_get}
+use Rattle.std.proofs.Common.{◌≡◌, ℕ, suc, ◌+◌, ◌<◌, ◌≤◌, max, List, [], ◌∷◌, length, refl, ap, sym, ◌∙◌, subst, arith, Bool, true, false, cond, eqb, inl, inr, ℤ, Option, Some, None, Vec, Global}
+use Rattle.std.specs.Prelude.{⊤, slice_get}
 use Rattle.std.proofs.lemmas.Bool.Decides.{eqb_tells}
-use Rattle.std.proofs.lemmas.List.{length-replicate}
 use Rattle.running.specs.Paths.{Path}
 use Rattle.running.specs.Frames as frames
 use Rattle.running.specs.Frames.{Value as ValueOf, alloca_cells}
 use Rattle.running.specs.State.{root_frame, detached, called}
-use Rattle.program.specs.declared.function.Alloca.{Alloca}
 use Rattle.program.specs.declared.function.Function.{Function}
 use Rattle.program.specs.declared.function.Program.{Program}
 use Rattle.program.specs.declared.identifier.BlockId.{BlockId}
@@ -16,7 +14,8 @@ use Rattle.frame.specs.declared.frame.Frame.{Frame}
 use Rattle.frame.specs.declared.frame.Wait.{Wait}
 use Rattle.frame.specs.declared.value.Value.{Value}
 use Rattle.frame.specs.Reading.{above, frame_of}
-use Rattle.frame.specs.Room.{HasCell, HasPlaces, IsCellIn, IsSound, entry_cells, register_count, undefined_cells}
+use Rattle.frame.specs.Room.{HasCell, HasPlaces, IsCellIn, IsSound, entry_cells, register_count}
+use Rattle.frame.proofs.Declared.{cells_declared}
 use Rattle.serial_machine.specs.Running.{frame_at}
 use Rattle.serial_machine.specs.Stepping.{declared_in, HasCellIn, HasPlacesIn, ArePlaced}
 use Rattle.serial_machine.proofs.Depths.{Changed, replaced}
@@ -162,11 +161,6 @@ child_placed prog f h c below p region body continuation long depth deeper sound
     )
 
 -- ---- a function's own frame
-
-cells_declared : (allocas : List Alloca) (n i : ℕ) → i < alloca_cells (slice_get allocas n) → IsCellIn (slice_get (map undefined_cells allocas) n) i
-cells_declared [] n i h = absurd (omega (arith, h))
-cells_declared (a ∷ allocas) zero i h = let e : length (undefined_cells a) ≡ a.cells = length-replicate a.cells None in omega (arith, e, h)
-cells_declared (a ∷ allocas) (suc n) i h = cells_declared allocas n i h
 
 entry_declared : (o : Option Function) (n i : ℕ) → i < declared_in o n → IsCellIn (slice_get (entry_cells o) n) i
 entry_declared None n i h = absurd (omega (arith, h))

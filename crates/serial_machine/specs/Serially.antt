@@ -20,18 +20,27 @@ cells_of globals = memory_of [] globals
 
 -- the serial meaning, in full: its result, memory, count of instructions and depth
 pub record IsMeant (prog : Program) (arguments : List ℤ) (memory : List NamedCells) (done : Finished) : Type 0 where
-  pub meant : IsSerialMeaning prog arguments (cells_of memory) (record { ending = Gave (Some done.result); memory = cells_of done.memory; count = done.instructions; depth = done.peak })
+  pub meant : IsSerialMeaning prog arguments (cells_of memory) (record {
+    ending = Gave (Some done.result);
+    memory = cells_of done.memory;
+    count = done.instructions;
+    depth = done.peak;
+  })
   pub names : names_of done.memory ≡ names_of memory
 
--- The run gets this far, its frames keep their places, and it gets no further: it has done the whole budget, or its next step traps, where the machine has room for it.
-pub record StopsAt (prog : Program) (arguments : List ℤ) (memory : List NamedCells) (budget done peak : ℕ) (f : Frame) (below : List Frame) (globals : List NamedCells) : Type 0 where
+-- The run gets this far, its frames keep their places, and it gets no further: it has done the whole budget, or its next step
+-- traps, where the machine has room for it.
+pub record StopsAt (prog : Program) (arguments : List ℤ) (memory : List NamedCells) (budget done peak : ℕ) (f : Frame) (below : List Frame)
+    (globals : List NamedCells) : Type 0 where
   pub reached : Walk prog (starting prog arguments (cells_of memory)) done peak (run_of f below globals)
   pub sound : AreSound (f ∷ below)
   pub placed : ArePlaced prog (f ∷ below)
   pub stops : (done ≡ budget) ⊎ (HasRoomAt prog f below globals → IsStuck prog (run_of f below globals))
 
 abbrev pub Stops : Program → List ℤ → List NamedCells → ℕ → Type 0
-Stops prog arguments memory budget = (done : ℕ) × (peak : ℕ) × (f : Frame) × (below : List Frame) × (globals : List NamedCells) × StopsAt prog arguments memory budget done peak f below globals
+Stops prog arguments memory budget =
+    (done : ℕ) × (peak : ℕ) × (f : Frame) × (below : List Frame) × (globals : List NamedCells) ×
+    StopsAt prog arguments memory budget done peak f below globals
 
 -- what a run of arguments that the program takes comes to
 abbrev pub RunsTo : Program → List ℤ → List NamedCells → ℕ → Result Finished Halt → Type 0

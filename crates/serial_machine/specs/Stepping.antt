@@ -79,7 +79,10 @@ HasSpace prog f below globals (effect.Return v) = ⊤
 -- the frame has room for what its place asks for, and the machine has it too
 pub record HasRoomAt (prog : Program) (f : Frame) (below : List Frame) (globals : List NamedCells) : Type 0 where
   pub frame : HasRoom prog (path_on below) f (memory_of (f ∷ below) globals)
-  pub space : (e : Effect) → EffectWithin f.depth e → asked prog (path_on below) (frame_of (path_on below) f) (memory_of (f ∷ below) globals) (Ok e) ≡ action_of prog (path_on below) (frame_of (path_on below) f) (memory_of (f ∷ below) globals) → HasSpace prog f below globals e
+  pub space : (e : Effect) → EffectWithin f.depth e →
+      asked prog (path_on below) (frame_of (path_on below) f) (memory_of (f ∷ below) globals) (Ok e) ≡
+      action_of prog (path_on below) (frame_of (path_on below) f) (memory_of (f ∷ below) globals) →
+      HasSpace prog f below globals e
 
 -- ---- places
 
@@ -124,7 +127,8 @@ abbrev pub Loads : Stack → Cell → Option ℤ → Type 0
 Loads s c held = ObjectWithin (length (below_of s)) c.object → held ≡ memory_in s (cell_of (path_in s) c)
 
 abbrev pub StoresIn : Stack → Stack → ℕ → ℕ → ℕ → ℤ → Type 0
-StoresIn old new depth n i z = depth ≤ length (below_of old) → Wrote old new (one_cell (record { object = cells.Local (above (path_in old) depth) n; index = i }) z)
+StoresIn old new depth n i z =
+    depth ≤ length (below_of old) → Wrote old new (one_cell (record { object = cells.Local (above (path_in old) depth) n; index = i }) z)
 
 abbrev pub Stores : Stack → Stack → Cell → ℤ → Type 0
 Stores old new c z = ObjectWithin (length (below_of old)) c.object → Wrote old new (one_cell (cell_of (path_in old) c) z)
@@ -159,7 +163,8 @@ ComesTo prog old new room (Err Trapped) = room → IsStuck prog (run_in old)
 -- what comes of doing what is asked for, where that is what the definitions say of the place
 abbrev pub Performs : Program → Stack → Stack → Effect → Result Progress Halt → Type 0
 Performs prog old new e result =
-    AreSound (frames_in old) → CanDo old.top e → EffectWithin old.top.depth e → asked prog (path_in old) (frame_in old) (memory_in old) (Ok e) ≡ action_of prog (path_in old) (frame_in old) (memory_in old) →
+    AreSound (frames_in old) → CanDo old.top e → EffectWithin old.top.depth e →
+    asked prog (path_in old) (frame_in old) (memory_in old) (Ok e) ≡ action_of prog (path_in old) (frame_in old) (memory_in old) →
     ComesTo prog old new (HasSpace prog old.top (below_of old) old.memory e) result
 
 -- what comes of the next instruction

@@ -1,7 +1,7 @@
 ghost use Rattle.std.specs.Prelude.{◌≡◌, Err, MatchOption};
 ghost use Rattle.serial_machine.specs.Requirements.{unmet_in};
 ghost use Rattle.serial_machine.specs.Serially.{Answers, RunsTo};
-ghost use Rattle.verifier.specs.Budgets.{budget_of};
+ghost use Rattle.store.specs.verifier.Budgets.{budget_of};
 
 use crate::arguments::unmet_requirement;
 use crate::outcome::{Finished, Halt, RunFault};
@@ -9,8 +9,7 @@ use crate::stack::{Progress, Stack};
 use frame::Frame;
 use program::Program;
 use std::alloc::Global;
-use store::Memory;
-use verifier::Verified;
+use store::{Memory, Verified};
 
 /// Runs `main` to its end, within so many instructions.
 fn run_within(

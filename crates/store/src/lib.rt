@@ -4,3 +4,4 @@
 mod memory;
 
 pub use memory::Memory;
+pub use verifier::Verified;

@@ -1,41 +1,10 @@
 -- What look-ups find in a footprint that grows.
-use Rattle.std.proofs.Common.{◌≡◌, List, [], ◌∷◌, ◌++◌, Option, Some, None, Bool, true, false, cond, ◌&&◌, ◌⊎◌, inl, inr, refl, sym, ap, ◌∙◌, subst, eqb-true}
+use Rattle.std.proofs.Common.{◌≡◌, List, [], ◌∷◌, ◌++◌, Option, Some, None, Bool, true, false, cond, refl, sym, ap, ◌∙◌, subst}
 use Rattle.std.specs.Map.{lookup}
-use Rattle.running.specs.Cells.{Object, Shared, Local, Cell, same_object, same_cell}
+use Rattle.running.specs.Cells.{Cell, same_cell}
 use Rattle.running.proofs.Actions.{same_cell_itself}
-use Rattle.running.proofs.Places.{same_path_is}
+use Rattle.running.proofs.SameCells.{same_cell_is}
 use Rattle.strands.specs.Footprint.{Write, with_write}
-
--- ---- cells are told apart
-
-both_true : (a b : Bool) → a && b ≡ true → (a ≡ true) × (b ≡ true)
-both_true true b e = (refl, e)
-both_true false b e = absurd (cc)
-
-same_object_is : (o q : Object) → same_object o q ≡ true → o ≡ q
-same_object_is (Shared g) (Shared h) e = ap Shared (eqb-true g h e)
-same_object_is (Shared g) (Local p n) e = absurd (cc)
-same_object_is (Local p n) (Shared g) e = absurd (cc)
-same_object_is (Local p n) (Local q k) e = let (path, alloca) = both_true _ _ e in λ i. Local (same_path_is p q path i) (eqb-true n k alloca i)
-
-pub same_cell_is : (c x : Cell) → same_cell c x ≡ true → c ≡ x
-same_cell_is c x e = let (object, index) = both_true _ _ e in λ i. record { object = same_object_is c.object x.object object i; index = eqb-true c.index x.index index i }
-
-pub same_cell_tells : (c x : Cell) → ((same_cell c x ≡ true) × (c ≡ x)) ⊎ (same_cell c x ≡ false)
-same_cell_tells c x = from (same_cell c x) refl
-  where
-    from : (b : Bool) → same_cell c x ≡ b → ((same_cell c x ≡ true) × (c ≡ x)) ⊎ (same_cell c x ≡ false)
-    from true e = inl (e, same_cell_is c x e)
-    from false e = inr e
-
-pub same_cell_back : (c x : Cell) → same_cell c x ≡ same_cell x c
-same_cell_back c x =
-    elim (same_cell_tells c x) [
-      | inl h ↦ let e = h.1 in h.0 ∙ sym (subst (λ z. same_cell z c ≡ true) e (same_cell_itself c))
-      | inr h ↦ elim (same_cell_tells x c) [ inl k ↦ absurd (let e : same_cell c x ≡ true = subst (λ z. same_cell z x ≡ true) k.1 (same_cell_itself x) in cc) | inr k ↦ h ∙ sym k ]
-    ]
-
--- ---- look-ups
 
 pub lookup_with_write : (writes : List (Cell × Write)) (c : Cell) (u : Write) (x : Cell) → lookup (same_cell x) (with_write writes c u) ≡ cond (same_cell x c) (Some u) (lookup (same_cell x) writes)
 lookup_with_write [] c u x = refl

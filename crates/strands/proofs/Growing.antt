@@ -12,7 +12,8 @@ use Rattle.running.specs.State.{override, sum_in, added}
 use Rattle.running.proofs.Actions.{same_cell_itself}
 use Rattle.strands.specs.Footprint.{Write, Stored, Delta, Footprint, read_at, write_at, known, held, raised, settled, with_read, put}
 use Rattle.strands.specs.Strands.{Access, Nowhere, Loads, Stores, Adds, footprint_after}
-use Rattle.strands.proofs.Footprints.{same_cell_is, same_cell_tells, same_cell_back, lookup_with_write}
+use Rattle.running.proofs.SameCells.{same_cell_is, same_cell_tells, same_cell_back}
+use Rattle.strands.proofs.Footprints.{lookup_with_write}
 use Rattle.strands.proofs.Items.{Touches}
 
 -- the memory holds what was read

@@ -15,7 +15,8 @@ use Rattle.running.proofs.Steps.{plain, change_is}
 use Rattle.strands.specs.Footprint.{Write, Stored, Delta, Footprint, read_at, write_at, held, memory_of, or_zero, with_write, stored, raised, added_to, settled, with_read, put}
 use Rattle.strands.specs.Strands.{Strand, Access, Nowhere, Loads, Stores, Adds, is_border, next_of, access_of, most_done, Border, Limit, Full, Need, is_full, need, pause_at, pause_of, loaded, filled, footprint_after, advanced, next_action, IsStrand, is_loaded, is_filled, is_advanced}
 use Rattle.strands.specs.Law.{steps_by, Happen, Fits, absorbed, NeverTraps, IsSteps, StrandsAreSteps, HasValues, StrandsAreStepsWhereDefined, StrandsGoOverBorders}
-use Rattle.strands.proofs.Footprints.{same_cell_is, lookup_with_write}
+use Rattle.running.proofs.SameCells.{same_cell_is}
+use Rattle.strands.proofs.Footprints.{lookup_with_write}
 use Rattle.strands.proofs.Items.{Touches, touches, add_traps_at}
 use Rattle.strands.proofs.Growing.{held_put, put_read, put_after, put_some, raised_some}
 use Rattle.strands.proofs.Happening.{steps_more, happen_more, never_later, sound_next}

@@ -47,7 +47,9 @@ pub record IsSteps (prog : Program) (workers : ℕ) (m : Machine) (w : ℕ) (s :
   pub deltas : (x : Cell) (z : ℤ) → write_at s.footprint x ≡ Some (Delta z) → is_some (m.core.memory x) ≡ true
 
 abbrev pub StrandsAreSteps : Type 0
-StrandsAreSteps = (prog : Program) (workers : ℕ) (m : Machine) (w : ℕ) (s : Strand) → IsStrand prog s → Fits m w s → NeverTraps prog workers m → IsSteps prog workers m w s
+StrandsAreSteps =
+    (prog : Program) (workers : ℕ) (m : Machine) (w : ℕ) (s : Strand) → IsStrand prog s → Fits m w s → NeverTraps prog workers m →
+    IsSteps prog workers m w s
 
 -- ---- of any machine
 
@@ -59,7 +61,8 @@ pub record HasValues (m : Machine) (s : Strand) : Type 0 where
 
 abbrev pub StrandsAreStepsWhereDefined : Type 0
 StrandsAreStepsWhereDefined =
-    (prog : Program) (workers : ℕ) (m : Machine) (w : ℕ) (s : Strand) → IsStrand prog s → Fits m w s → HasValues m s → Happen prog workers (steps_by w s.done) m (absorbed m s)
+    (prog : Program) (workers : ℕ) (m : Machine) (w : ℕ) (s : Strand) → IsStrand prog s → Fits m w s → HasValues m s →
+    Happen prog workers (steps_by w s.done) m (absorbed m s)
 
 -- ---- with the border's instruction
 
@@ -71,10 +74,14 @@ pub record IsStepsWithBorder (prog : Program) (workers : ℕ) (m : Machine) (w :
   pub sound : after.trapped ≡ None
 
 abbrev pub StrandsGoOverBorders : Type 0
-StrandsGoOverBorders = (prog : Program) (workers : ℕ) (m : Machine) (w : ℕ) (s : Strand) → IsStrand prog s → Fits m w s → NeverTraps prog workers m → IsStepsWithBorder prog workers m w s
+StrandsGoOverBorders =
+    (prog : Program) (workers : ℕ) (m : Machine) (w : ℕ) (s : Strand) → IsStrand prog s → Fits m w s → NeverTraps prog workers m →
+    IsStepsWithBorder prog workers m w s
 
 -- ---- where a schedule leads
 
 -- where no schedule traps, no machine that one leads to ever traps
 abbrev pub ReachedNeverTraps : Type 0
-ReachedNeverTraps = (prog : Program) (workers : ℕ) (first : Machine) (events : List Event) → NeverTraps prog workers first → NeverTraps prog workers (replay prog workers events first)
+ReachedNeverTraps =
+    (prog : Program) (workers : ℕ) (first : Machine) (events : List Event) → NeverTraps prog workers first →
+    NeverTraps prog workers (replay prog workers events first)

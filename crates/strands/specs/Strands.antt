@@ -99,7 +99,8 @@ need f (Adds c) = None
 
 -- None where it can go on
 abbrev pub pause_at : Footprint → ℕ → Option Item → Access → Option Pause
-pause_at f done next access = cond (is_border next) (Some Border) (cond (nat_le most_done done) (Some Limit) (cond (is_full f access) (Some Full) (need f access)))
+pause_at f done next access =
+    cond (is_border next) (Some Border) (cond (nat_le most_done done) (Some Limit) (cond (is_full f access) (Some Full) (need f access)))
 
 abbrev pub pause_of : Program → Strand → Option Pause
 pause_of prog s = pause_at s.footprint s.done (next_of prog s.present) (access_of prog s.present)
@@ -137,4 +138,5 @@ next_action prog s = action_of prog s.path s.present (memory_of s.footprint)
 pub data IsStrand (prog : Program) : Strand → Type 0 where
   is_loaded : (p : Path) (f : Frame) → IsStrand prog (loaded p f)
   is_filled : (s : Strand) (c : Cell) (v : ℤ) → IsStrand prog s → pause_of prog s ≡ Some (Need c) → IsStrand prog (filled s c v)
-  is_advanced : (s : Strand) (e : Effect) → IsStrand prog s → pause_of prog s ≡ None → next_action prog s ≡ Plain e → e.trap ≡ None → IsStrand prog (advanced prog s e)
+  is_advanced : (s : Strand) (e : Effect) → IsStrand prog s → pause_of prog s ≡ None → next_action prog s ≡ Plain e → e.trap ≡ None →
+      IsStrand prog (advanced prog s e)

@@ -1,3 +1,6 @@
+ghost use Rattle.std.specs.Prelude.{◌≡◌};
+ghost use Rattle.syntax.specs.Cells.{size_cells};
+
 use crate::annotation::Inequality;
 use crate::operator::{BinaryOperator, Conversion, Predicate, Width};
 use lists::{Name, Seq};
@@ -28,6 +31,18 @@ pub enum Argument {
 pub enum AllocaSize {
     One,
     Array(u64),
+}
+
+impl AllocaSize {
+    /// The number of cells that it makes.
+    pub fn cells(self) -> u64
+        ensures { result ≡ size_cells self }
+    {
+        match self {
+            AllocaSize::One => 1,
+            AllocaSize::Array(cells) => cells,
+        }
+    }
 }
 
 /// `[ V, %l ]` of a phi.

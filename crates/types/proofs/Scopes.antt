@@ -5,6 +5,7 @@ use Rattle.std.specs.Str.{bytes_eq}
 use Rattle.std.proofs.lemmas.List.{length_push}
 use Rattle.program.specs.declared.identifier.ObjectName.{ObjectName}
 use Rattle.program.specs.declared.identifier.ObjectName.TheVariants as object
+use Rattle.syntax.specs.Cells.{size_cells}
 use Rattle.syntax.specs.declared.instruction.Instruction.{Instruction as InstructionText}
 use Rattle.syntax.specs.declared.instruction.Instruction.TheVariants as text
 use Rattle.syntax.specs.declared.instruction.Phi.{Phi as PhiText}
@@ -23,7 +24,7 @@ use Rattle.scopes.specs.declared.scope.Origin.{Origin}
 use Rattle.scopes.specs.declared.scope.Origin.TheVariants as origin
 use Rattle.scopes.specs.declared.scope.Register.{Register}
 use Rattle.types.specs.Definitions.{parameter_name, IsParameterName}
-use Rattle.scopes.specs.Layout.{with_register, with_parameter, with_phi, with_alloca, with_call, with_instruction, with_step, with_phis, with_steps, with_block, with_parameters, with_blocks, with_label, with_labels, no_layout, layout_of, cells_of, target_width}
+use Rattle.scopes.specs.Layout.{with_register, with_parameter, with_phi, with_alloca, with_call, with_instruction, with_step, with_phis, with_steps, with_block, with_parameters, with_blocks, with_label, with_labels, no_layout, layout_of, target_width}
 use Rattle.scopes.specs.Fault.{unless_of}
 use Rattle.scopes.specs.Form.{as_parameter, parameter_of}
 use Rattle.scopes.specs.Operand.{as_register, register_of}
@@ -126,7 +127,7 @@ module _ (n : ℕ) (IsParameter : List ℕ → Type 0) where
   behind_instruction layout line from (text.Binary register operator width left right) b = behind_register layout register (holding.Number width) from b tt
   behind_instruction layout line from (text.Compare register predicate width left right) b = behind_register layout register holding.Truth from b tt
   behind_instruction layout line from (text.Convert register conversion value) b = behind_register layout register (holding.Number (target_width conversion)) from b tt
-  behind_instruction layout line from (text.Alloca register size) b = behind_alloca layout line register (cells_of size) from b
+  behind_instruction layout line from (text.Alloca register size) b = behind_alloca layout line register (size_cells size) from b
   behind_instruction layout line from (text.ElementPointer register base index) b = behind_register layout register holding.Element from b tt
   behind_instruction layout line from (text.Load register address) b = behind_register layout register _ from b tt
   behind_instruction layout line from (text.Store value address) b = b

@@ -19,10 +19,9 @@ use Rattle.syntax.specs.declared.instruction.Step.{Step as StepText}
 use Rattle.syntax.specs.declared.module.Function.{Function as FunctionText}
 use Rattle.syntax.specs.declared.operator.BinaryOperator.{BinaryOperator}
 use Rattle.syntax.specs.declared.operator.Conversion.{Conversion}
-use Rattle.syntax.specs.declared.operator.Conversion.TheVariants.{Truncate, SignExtend, ZeroExtend}
 use Rattle.syntax.specs.declared.operator.Predicate.{Predicate}
 use Rattle.syntax.specs.declared.operator.Width.{Width}
-use Rattle.syntax.specs.declared.operator.Width.TheVariants.{Bits64, Bits32}
+use Rattle.syntax.specs.declared.operator.Width.TheVariants.{Bits64}
 use Rattle.refusal.specs.declared.refused.Refused.{Refused as TypeFault}
 use Rattle.refusal.specs.declared.refused.Refused.TheVariants.{Fault}
 use Rattle.program.specs.Widths.{source_width}

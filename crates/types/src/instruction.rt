@@ -9,7 +9,7 @@ use crate::call::{CallText, World, resolve_call};
 use lists::{Name, Seq};
 use program::{
     AllocaId, BinaryOperator, Conversion, Instruction, ObjectName, Phi, PhiEntry, Predicate,
-    RegisterId, Step, Width,
+    RegisterId, Step, Width, source_width,
 };
 use scopes::{
     Holding, Place, Scope, TypeFault, both, joined, pointer_misuse, resolve_address,
@@ -19,7 +19,7 @@ use scopes::{
 use std::alloc::Global;
 
 /// Where an instruction stands: its function and its block, by their places in the text, and its line.
-#[derive(Clone, Copy, Debug, PartialEq, Eq)]
+#[derive(Clone, Copy)]
 pub struct Spot {
     pub function: usize,
     pub block: usize,
@@ -141,17 +141,6 @@ fn resolve_compare(
         left,
         right,
     })
-}
-
-/// The width of what a conversion takes.
-fn source_width(conversion: Conversion) -> Width
-    ensures { result ≡ source_width conversion }
-{
-    match conversion {
-        Conversion::Truncate => Width::Bits64,
-        Conversion::SignExtend => Width::Bits32,
-        Conversion::ZeroExtend => Width::Bits32,
-    }
 }
 
 fn resolve_convert(

@@ -18,7 +18,7 @@ use std::marker::Model;
 use types::check_types;
 
 /// A module that the verifier took. Contracts see it as its program.
-#[derive(Debug, Drop)]
+#[derive(Drop)]
 pub struct Verified {
     graph: Graph,
     table: Table,

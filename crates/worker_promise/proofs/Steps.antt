@@ -1,5 +1,5 @@
 -- A worker's frame that is safe by the definitions is not stopped by the machine's own tests.
-use Rattle.std.proofs.Common.{◌≡◌, ◌∙◌, inl, inr, ℕ, ◌<◌, length, List, Option, Some, None, refl, sym, subst, arith, slice_get}
+use Rattle.std.proofs.Common.{◌≡◌, ◌∙◌, inl, inr, ℕ, ◌<◌, length, Option, Some, None, refl, sym, subst, arith, slice_get}
 use Rattle.std.specs.Prelude.{IsSome}
 use Rattle.std.proofs.lemmas.Option.{slice_get_within}
 use Rattle.std.proofs.lemmas.List.{length-reverse}
@@ -13,7 +13,7 @@ use Rattle.program.specs.declared.function.Function.{Function}
 use Rattle.program.specs.declared.function.Program.{Program}
 use Rattle.program.specs.declared.instruction.Terminator.{Terminator}
 use Rattle.program.specs.declared.instruction.Terminator.TheVariants as terminator
-use Rattle.verifier.specs.Budgets.{budget_of}
+use Rattle.serial_promise.specs.verifier.Budgets.{budget_of}
 use Rattle.conditions.specs.rules.Moves.{SyncsTo}
 use Rattle.conditions.proofs.rules.Moves.{forks_here, sync_here}
 use Rattle.frame.specs.Answers.{trap_of}
@@ -22,29 +22,26 @@ use Rattle.frame.specs.Room.{HasChild, HasNext, register_count}
 use Rattle.cactus.specs.declared.node.Node.{Node}
 use Rattle.cactus.specs.Frames.{node_at}
 use Rattle.serial_promise.proofs.room.Doable.{frames_have_room}
-use Rattle.schedule_theorem.specs.Promise.{HasGlobals}
-use Rattle.schedule_theorem.proofs.Accepted.{IsTaken, is_taken}
+use Rattle.serial_promise.proofs.schedule_theorem.Accepted.{IsTaken, is_taken}
 use Rattle.worker_steps.specs.declared.activation.Activation.{Activation}
 use Rattle.worker_steps.specs.declared.run.Run.{Run}
 use Rattle.worker_steps.specs.Scheduling.{hand_of}
 use Rattle.worker_steps.specs.Seen.{place_of, seen, given, Agrees}
-use Rattle.store.specs.Cells.{NamedCells}
-use Rattle.store.specs.Made.{HasGlobalCells}
-use Rattle.worker_promise.proofs.Owned.{globals_there}
+use Rattle.serial_promise.proofs.Globals.{globals_given}
 use Rattle.worker_steps.specs.Stepping.{frame_in}
 use Rattle.worker_steps.specs.Stopping.{Halts, no_effect, not_let}
 use Rattle.worker_steps.proofs.Views.{frame_seen}
-use Rattle.schedule_theorem.specs.safe.Steps.{Does}
-use Rattle.schedule_theorem.specs.safe.Promise.{IsSafeRun}
-use Rattle.schedule_theorem.specs.safe.Reads.{TerminatorReads, ItemReads}
-use Rattle.schedule_theorem.specs.safe.Safe.{CanStep, IsSafe}
-use Rattle.schedule_theorem.proofs.safe.Safe.{schedules_are_safe}
+use Rattle.serial_promise.specs.schedule_theorem.safe.Steps.{Does}
+use Rattle.serial_promise.specs.schedule_theorem.safe.Promise.{IsSafeRun}
+use Rattle.serial_promise.specs.schedule_theorem.safe.Reads.{TerminatorReads, ItemReads}
+use Rattle.serial_promise.specs.schedule_theorem.safe.Safe.{CanStep, IsSafe}
+use Rattle.serial_promise.proofs.schedule_theorem.safe.Safe.{schedules_are_safe}
 use Rattle.worker_steps.specs.Slots.{HasSlots}
 use Rattle.worker_promise.specs.Let.{IsFine, NamesRegister, IsSteadyAt}
 use Rattle.worker_promise.proofs.Counts.{steps_are_let}
 use Rattle.serial_promise.proofs.Arguments.{are_taken}
-use Rattle.schedule_theorem.specs.Promise.{KeepsItsPromise}
-use Rattle.schedule_theorem.proofs.Promise.{accepted_programs_keep_their_promise}
+use Rattle.serial_promise.specs.schedule_theorem.Promise.{KeepsItsPromise}
+use Rattle.serial_promise.proofs.schedule_theorem.Promise.{accepted_programs_keep_their_promise}
 use Rattle.conditions.specs.theorem.Schedules.{KeepsSchedule}
 use Rattle.worker_promise.specs.Promise.{RunsKeepTheirSchedules, StepsNeverStop}
 
@@ -144,10 +141,6 @@ module _ (program : Program) (taken : IsTaken program) (m : Run) (run : IsSafeRu
     pub goes_on : Halts program m node → ⊥
     goes_on (no_effect t h) = let fails : (stops (trap_of t) frame).trap ≡ None = no_trap (stops (trap_of t) frame) (sym (h room)) in cc
     goes_on (not_let e is refuses) = refuses (steps_are_let program taken.names.kinds taken.names.stable m slots agrees slot node stands fine steady e is)
-
--- memory that was made for the program has values in its globals' cells
-globals_given : (program : Program) (memory : List NamedCells) → HasGlobalCells program memory → HasGlobals program (given memory)
-globals_given program memory made g i low = globals_there program memory made g i low
 
 pub steps_never_stop : StepsNeverStop
 steps_never_stop program accepted m at agrees slots worker stops_there =

@@ -12,6 +12,7 @@ use Rattle.running.specs.Effect.{Effect, Plain, action_of, sets, goes_on, loads,
 use Rattle.running.specs.State.{override, added, only, went, sum_in}
 use Rattle.running.specs.Events as running
 use Rattle.running.proofs.Places.{same_path_tells}
+use Rattle.running.proofs.SameCells.{same_cell_is}
 use Rattle.linear.specs.declared.form.RegisterId.{RegisterId}
 use Rattle.program.specs.declared.function.Program.{Program}
 use Rattle.program.specs.declared.identifier.AllocaId.{AllocaId}
@@ -68,30 +69,6 @@ pub load_done : (old new : Run) (node : Node Activation) (register : RegisterId)
 load_done old new node register c z o is d = subst (λ x. PlainDone old new node (loads (frame_in node) register c x)) (sym is) (record { sound = refl; becomes = d.becomes; agrees = d.agrees; workers = d.workers; program = d.program })
 
 -- ---- cells
-
-same_object_is : (o q : Object) → same_object o q ≡ true → o ≡ q
-same_object_is (Shared g) (Shared h) e = elim (eqb_tells g h) [ inl a ↦ ap Shared a.1 | inr a ↦ absurd (let f = a.0 in cc) ]
-same_object_is (Shared g) (Local p n) e = absurd (cc)
-same_object_is (Local p n) (Shared g) e = absurd (cc)
-same_object_is (Local p n) (Local q k) e =
-    elim (same_path_tells p q) [
-      | inl a ↦ elim (eqb_tells n k) [
-        | inl b ↦ ap (λ x. Local x n) a.1 ∙ ap (Local q) b.1
-        | inr b ↦ absurd (let f : false ≡ true = rw (a.0, b.0) at e in cc)
-      ]
-      | inr a ↦ absurd (let f : false ≡ true = rw a.0 at e in cc)
-    ]
-
-pub same_cell_is : (c x : Cell) → same_cell c x ≡ true → c ≡ x
-same_cell_is c x e = from (same_object c.object x.object) refl e
-  where
-    from : (b : Bool) → same_object c.object x.object ≡ b → b && eqb c.index x.index ≡ true → c ≡ x
-    from true is e2 =
-        elim (eqb_tells c.index x.index) [
-          | inl a ↦ ap (λ o. record { object = o; index = c.index }) (same_object_is c.object x.object is) ∙ ap (λ i. record { object = x.object; index = i }) a.1
-          | inr a ↦ absurd (let f = a.0 in cc)
-        ]
-    from false is e2 = absurd (cc)
 
 pub shared_held : (m : Run) (slot : ℕ) (cell : CellName) (g : GlobalId) (held : ℤ) → cell.object ≡ Global g → cell_at m.memory g.0 cell.index ≡ Some held → HoldsAt m slot cell (Some held)
 shared_held m slot cell g held is there node stands tree = ap (λ o. held_in m.cactus m.memory (object_of (place_of node) o) cell.index) is ∙ there

@@ -7,7 +7,7 @@ use Rattle.running.specs.Paths.{Path}
 use Rattle.running.specs.Cells.{Memory}
 use Rattle.running.specs.Effect.{action_of, traps}
 use Rattle.program.specs.declared.function.Program.{Program}
-use Rattle.verifier.specs.Budgets.{budget_of}
+use Rattle.store.specs.verifier.Budgets.{budget_of}
 use Rattle.frame.specs.declared.effect.Effect.{Effect as Asked}
 use Rattle.frame.specs.declared.effect.Trap.{Trap}
 use Rattle.frame.specs.Answers.{trap_of}

@@ -55,7 +55,8 @@ pub record WaitsForCall (old new : Activation) (register : Option RegisterId) (c
 -- the frame takes the value of its call, and the worker goes on with it
 pub record ResumesWith (old new : Activation) (worker : ℕ) (value : Option ℤ) : Type 0 where
   pub is : new ≡ record old { frame = new.frame; callee = None; runner = Some worker }
-  pub frame : (p : RunningPath) (child : ℕ) (register : Option RegisterId) → old.frame.waits ≡ wait.Call child register → HasResult old.frame register → frame_of p new.frame ≡ resumed (frame_of p old.frame) register value
+  pub frame : (p : RunningPath) (child : ℕ) (register : Option RegisterId) → old.frame.waits ≡ wait.Call child register → HasResult old.frame register →
+      frame_of p new.frame ≡ resumed (frame_of p old.frame) register value
   pub only : new.frame ≡ record old.frame { registers = new.frame.registers; waits = wait.Nothing }
   pub as_many : length new.frame.registers.items ≡ length old.frame.registers.items
   pub sound : IsSound old.frame → IsSound new.frame

@@ -75,7 +75,8 @@ pub record StallsAt (new : Frames Activation) (hands : List (Option ℕ)) (worke
 
 -- the living children that the slot's frame detached within a region
 abbrev pub living_within : Frames Activation → ℕ → ℕ → ℕ
-living_within frames slot region = option_map_or (λ (count : RegionCount). count.living) (option_and_then (λ (a : Activation). count_in a region) (frame_at frames slot)) 0
+living_within frames slot region =
+    option_map_or (λ (count : RegionCount). count.living) (option_and_then (λ (a : Activation). count_in a region) (frame_at frames slot)) 0
 
 -- The worker of this child goes on with its parent: no thief took the parent since the child was detached, or the parent is stalled on the region and
 -- this is its last child there.

@@ -88,7 +88,9 @@ tree_of frames = record { frames = frames_of frames; memory = λ x. None; done =
 abbrev pub CalleeStands : Frames Activation → Node Activation → Wait → Option ℕ → Type 0
 CalleeStands frames node wait.Nothing callee = callee ≡ None
 CalleeStands frames node (wait.Region region) callee = callee ≡ None
-CalleeStands frames node (wait.Call child register) callee = (slot : ℕ) × (called : Node Activation) × (callee ≡ Some slot) × (node_at frames slot ≡ Some called) × (called.path.numbers ≡ node.path.numbers ++ child ∷ [])
+CalleeStands frames node (wait.Call child register) callee =
+    (slot : ℕ) × (called : Node Activation) × (callee ≡ Some slot) × (node_at frames slot ≡ Some called) ×
+    (called.path.numbers ≡ node.path.numbers ++ child ∷ [])
 
 -- the frame's values name owners above it, and it has the register that the result of its call goes into
 pub record IsFit (f : FrameOf) : Type 0 where
@@ -97,13 +99,15 @@ pub record IsFit (f : FrameOf) : Type 0 where
 
 -- what a frame counts within a region is the number of its living children there
 pub record CountsStand (frames : Frames Activation) : Type 0 where
-  pub same : (slot region : ℕ) (node : Node Activation) → node_at frames slot ≡ Some node → counted_in node.frame region ≡ count_of (tree_of frames) (place_of node) region
+  pub same : (slot region : ℕ) (node : Node Activation) → node_at frames slot ≡ Some node →
+      counted_in node.frame region ≡ count_of (tree_of frames) (place_of node) region
 
 pub record Agrees (frames : Frames Activation) (hands : List (Option ℕ)) : Type 0 where
   pub tree : IsTree frames
   pub depths : (slot : ℕ) (node : Node Activation) → node_at frames slot ≡ Some node → node.frame.frame.depth ≡ length node.path.numbers
   pub held : (worker slot : ℕ) → hand_of hands worker ≡ Some slot → Lives frames slot
-  pub runners : (slot worker : ℕ) (node : Node Activation) → node_at frames slot ≡ Some node → (node.frame.runner ≡ Some worker) ↔ (hand_of hands worker ≡ Some slot)
+  pub runners : (slot worker : ℕ) (node : Node Activation) → node_at frames slot ≡ Some node →
+      (node.frame.runner ≡ Some worker) ↔ (hand_of hands worker ≡ Some slot)
   pub callees : (slot : ℕ) (node : Node Activation) → node_at frames slot ≡ Some node → CalleeStands frames node node.frame.frame.waits node.frame.callee
   pub fits : (slot : ℕ) (node : Node Activation) → node_at frames slot ≡ Some node → IsFit node.frame.frame
   pub counts : CountsStand frames
@@ -127,7 +131,8 @@ top_within frames (suc n) slot = by_callee (top_within frames n) slot (node_at f
 pub data FindsTop (frames : Frames Activation) (peak : ℕ) (path : Name) : Option ℕ → Type 0 where
   nobody : HasNoPath frames path → FindsTop frames peak path None
   no_task : (slot : ℕ) (node : Node Activation) → node_at frames slot ≡ Some node → node.path ≡ path → ¬ IsLowest node → FindsTop frames peak path None
-  task : (slot : ℕ) (node : Node Activation) (found : Option ℕ) → node_at frames slot ≡ Some node → node.path ≡ path → IsLowest node → found ≡ top_within frames peak slot → FindsTop frames peak path found
+  task : (slot : ℕ) (node : Node Activation) (found : Option ℕ) → node_at frames slot ≡ Some node → node.path ≡ path → IsLowest node →
+      found ≡ top_within frames peak slot → FindsTop frames peak path found
 
 abbrev pub run_by : ℕ → Activation → Activation
 run_by worker a = record a { runner = Some worker; stalled_in = None }
@@ -142,4 +147,5 @@ taken m worker slot = record m { cactus = run_at m.cactus slot worker (frame_at 
 
 -- a steal is done exactly where it is enabled
 abbrev pub StealsIf : Run → Run → ℕ → Path → Bool → Type 0
-StealsIf old new worker path done = (prog : Program) → running.event prog (length old.hands.items) (running.Steal worker path) (seen old) ≡ cond done (Some (seen new)) None
+StealsIf old new worker path done =
+    (prog : Program) → running.event prog (length old.hands.items) (running.Steal worker path) (seen old) ≡ cond done (Some (seen new)) None

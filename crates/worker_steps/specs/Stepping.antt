@@ -30,7 +30,13 @@ use Rattle.worker_steps.specs.Slots.{HasSlots, executed}
 
 -- a state after a plain step of the frame f at p, but for the count of instructions
 abbrev pub effected : running.Machine → Path → Frame → Effect → running.Machine
-effected m p f e = record m { core = record m.core { frames = λ x. override (only p (Some (went f e)) x) (m.core.frames x); memory = λ x. added (e.adds x) (override (e.writes x) (m.core.memory x)) } }
+effected m p f e =
+    record m {
+      core = record m.core {
+        frames = λ x. override (only p (Some (went f e)) x) (m.core.frames x);
+        memory = λ x. added (e.adds x) (override (e.writes x) (m.core.memory x));
+      };
+    }
 
 abbrev pub counted : running.Machine → running.Machine
 counted m = record m { core = record m.core { done = m.core.done + 1 } }
@@ -48,7 +54,9 @@ pub record PlainDone (old new : Run) (node : Node Activation) (e : Effect) : Typ
 
 -- of the slot's frame, which waits for no call
 abbrev pub DoesPlain : Run → Run → ℕ → (Path → Frame → Effect) → Type 0
-DoesPlain old new slot effect = (node : Node Activation) → node_at old.cactus slot ≡ Some node → Agrees old.cactus old.hands.items → node.frame.callee ≡ None → PlainDone old new node (effect (place_of node) (frame_in node))
+DoesPlain old new slot effect =
+    (node : Node Activation) → node_at old.cactus slot ≡ Some node → Agrees old.cactus old.hands.items → node.frame.callee ≡ None →
+    PlainDone old new node (effect (place_of node) (frame_in node))
 
 -- the frame has room for the effect, which names owners above it
 pub record IsDoable (f : FrameOf) (effect : Asked) : Type 0 where
@@ -64,7 +72,8 @@ HasNextAt frames slot = (a : Activation) → frame_at frames slot ≡ Some a →
 
 -- the cell that the slot's frame names holds this
 abbrev pub HoldsAt : Run → ℕ → CellName → Option ℤ → Type 0
-HoldsAt m slot cell held = (node : Node Activation) → node_at m.cactus slot ≡ Some node → IsTree m.cactus → (seen m).core.memory (cell_of (place_of node) cell) ≡ held
+HoldsAt m slot cell held =
+    (node : Node Activation) → node_at m.cactus slot ≡ Some node → IsTree m.cactus → (seen m).core.memory (cell_of (place_of node) cell) ≡ held
 
 -- the slot's frame stands at the object's owner or below it
 abbrev pub OwnerStands : Frames Activation → ℕ → ObjectName → Type 0
@@ -76,7 +85,9 @@ pub record Written (old new : Run) (writes : Cell → Option (Option ℤ)) : Typ
   pub agrees : Agrees new.cactus new.hands.items
   pub workers : length new.hands.items ≡ length old.hands.items
   pub program : new.verified ≡ old.verified
-  pub stays : (slot : ℕ) (node : Node Activation) → node_at old.cactus slot ≡ Some node → (later : Node Activation) × (node_at new.cactus slot ≡ Some later) × (later.path ≡ node.path) × (later.frame ≡ record node.frame { frame = record node.frame.frame { allocas = later.frame.frame.allocas } })
+  pub stays : (slot : ℕ) (node : Node Activation) → node_at old.cactus slot ≡ Some node → (later : Node Activation) ×
+      (node_at new.cactus slot ≡ Some later) × (later.path ≡ node.path) ×
+      (later.frame ≡ record node.frame { frame = record node.frame.frame { allocas = later.frame.frame.allocas } })
 
 -- the cell of an alloca of the owner's frame takes the number
 pub record WritesAlloca (old new : Run) (owner n i : ℕ) (z : ℤ) : Type 0 where
@@ -96,11 +107,15 @@ abbrev pub zeros_below : Object → ℕ → Cell → Option (Option ℤ)
 zeros_below o n x = cond (same_object o x.object && nat_lt x.index n) (Some (Some (pos 0))) None
 
 abbrev pub StoresAt : Run → Run → ℕ → CellName → ℤ → Type 0
-StoresAt old new slot cell z = (node : Node Activation) → node_at old.cactus slot ≡ Some node → Agrees old.cactus old.hands.items → Written old new (one_cell (cell_of (place_of node) cell) z)
+StoresAt old new slot cell z =
+    (node : Node Activation) → node_at old.cactus slot ≡ Some node → Agrees old.cactus old.hands.items →
+    Written old new (one_cell (cell_of (place_of node) cell) z)
 
 -- the slot's frame has the registers of the edge to the target
 abbrev pub HasEdge : Program → Run → ℕ → ℕ → Type 0
-HasEdge prog m slot target = (node : Node Activation) → node_at m.cactus slot ≡ Some node → Agrees m.cactus m.hands.items → node.frame.callee ≡ None → IsSome (registers_along prog (frame_in node) target)
+HasEdge prog m slot target =
+    (node : Node Activation) → node_at m.cactus slot ≡ Some node → Agrees m.cactus m.hands.items → node.frame.callee ≡ None →
+    IsSome (registers_along prog (frame_in node) target)
 
 -- ---- machines that a schedule leads to
 
@@ -146,11 +161,15 @@ next_action prog m node = action_of prog (place_of node) (frame_in node) (seen m
 
 -- the slot's frame, which has this parent and no children, returns the value
 abbrev pub ReturnsTo : Program → Run → Run → ℕ → ℕ → Option ℕ → Option ℤ → Type 0
-ReturnsTo prog old new worker slot parent value = (node : Node Activation) → IsTurn prog old worker slot node → node.parent ≡ parent → ((region : ℕ) → counted_in node.frame region ≡ 0) → next_action prog old node ≡ Return value → IsStep prog old new worker
+ReturnsTo prog old new worker slot parent value =
+    (node : Node Activation) → IsTurn prog old worker slot node → node.parent ≡ parent → ((region : ℕ) → counted_in node.frame region ≡ 0) →
+    next_action prog old node ≡ Return value → IsStep prog old new worker
 
 -- what is asked of the slot's frame is done, where the definitions ask for it
 abbrev pub Performs : Program → Run → Run → ℕ → ℕ → Asked → Type 0
-Performs prog old new worker slot effect = (node : Node Activation) → IsTurn prog old worker slot node → asked prog (place_of node) (frame_in node) (seen old).core.memory (Ok effect) ≡ next_action prog old node → IsStep prog old new worker
+Performs prog old new worker slot effect =
+    (node : Node Activation) → IsTurn prog old worker slot node →
+    asked prog (place_of node) (frame_in node) (seen old).core.memory (Ok effect) ≡ next_action prog old node → IsStep prog old new worker
 
 -- the slot's frame has done its next instruction
 abbrev pub StepsAt : Program → Run → Run → ℕ → ℕ → Type 0
@@ -159,7 +178,8 @@ StepsAt prog old new worker slot = (node : Node Activation) → IsTurn prog old 
 -- what is asked of the slot's frame leaves a place for all that the text names, where the definitions ask for it
 abbrev pub FillsSlots : Program → Run → Run → ℕ → ℕ → Asked → Type 0
 FillsSlots prog old new worker slot effect =
-    (node : Node Activation) → IsTurn prog old worker slot node → asked prog (place_of node) (frame_in node) (seen old).core.memory (Ok effect) ≡ next_action prog old node →
+    (node : Node Activation) → IsTurn prog old worker slot node →
+    asked prog (place_of node) (frame_in node) (seen old).core.memory (Ok effect) ≡ next_action prog old node →
     HasSlots prog old → HasSlots prog (executed new)
 
 -- so does the next instruction of the slot's frame

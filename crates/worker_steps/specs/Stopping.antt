@@ -4,7 +4,7 @@ use Rattle.running.specs.Cells.{Object, Shared, Local}
 use Rattle.running.specs.Frames.{phis_at}
 use Rattle.running.specs.Effect.{registers_along, traps}
 use Rattle.program.specs.declared.function.Program.{Program}
-use Rattle.verifier.specs.Budgets.{budget_of}
+use Rattle.store.specs.verifier.Budgets.{budget_of}
 use Rattle.store.specs.Cells.{NamedCells, cell_at}
 use Rattle.frame.specs.declared.effect.Effect.{Effect as Asked}
 use Rattle.frame.specs.declared.effect.Effect.TheVariants as effect
@@ -37,7 +37,8 @@ HasCellIn frames globals (Local owner n) i = HasCellAt (named frames (reverse ow
 -- each global and each living frame has the cells that it had
 pub record KeepsCells (old new : Run) : Type 0 where
   pub globals : (g i : ℕ) → IsSome (cell_at old.memory g i) → IsSome (cell_at new.memory g i)
-  pub frames : (slot : ℕ) (node : Node Activation) → node_at old.cactus slot ≡ Some node → (later : Node Activation) × (node_at new.cactus slot ≡ Some later) × (later.path ≡ node.path) × ((n i : ℕ) → HasCell node.frame.frame n i → HasCell later.frame.frame n i)
+  pub frames : (slot : ℕ) (node : Node Activation) → node_at old.cactus slot ≡ Some node → (later : Node Activation) ×
+      (node_at new.cactus slot ≡ Some later) × (later.path ≡ node.path) × ((n i : ℕ) → HasCell node.frame.frame n i → HasCell later.frame.frame n i)
 
 -- one more frame, below one of this depth, can be counted
 pub record HasRoomBelow (frames : Frames Activation) (depth : ℕ) : Type 0 where
@@ -88,13 +89,17 @@ IsLet prog m node (effect.Return v) = CanReturn node v
 
 -- the slot's frame is not let do what is asked, where that names owners above it
 abbrev pub Refuses : Program → Run → ℕ → Asked → Type 0
-Refuses prog m slot effect = (node : Node Activation) → node_at m.cactus slot ≡ Some node → Agrees m.cactus m.hands.items → EffectWithin (length node.path.numbers) effect → ¬ IsLet prog m node effect
+Refuses prog m slot effect =
+    (node : Node Activation) → node_at m.cactus slot ≡ Some node → Agrees m.cactus m.hands.items → EffectWithin (length node.path.numbers) effect →
+    ¬ IsLet prog m node effect
 
 -- The node's frame goes no further: its next instruction traps by the definitions, if the frame has room for it, or the machine's own tests do not let
 -- it do what the definitions ask for.
 pub data Halts (prog : Program) (m : Run) (node : Node Activation) : Type 0 where
-  no_effect : (trap : Trap) → (HasRoom prog (place_of node) node.frame.frame (seen m).core.memory → traps (trap_of trap) (frame_in node) ≡ next_action prog m node) → Halts prog m node
-  not_let : (e : Asked) → asked prog (place_of node) (frame_in node) (seen m).core.memory (Ok e) ≡ next_action prog m node → ¬ IsLet prog m node e → Halts prog m node
+  no_effect : (trap : Trap) → (HasRoom prog (place_of node) node.frame.frame (seen m).core.memory →
+      traps (trap_of trap) (frame_in node) ≡ next_action prog m node) → Halts prog m node
+  not_let : (e : Asked) → asked prog (place_of node) (frame_in node) (seen m).core.memory (Ok e) ≡ next_action prog m node → ¬ IsLet prog m node e →
+      Halts prog m node
 
 -- the node that stands in the slot goes no further, if slots and hands agree
 abbrev pub HaltsAt : Program → Run → ℕ → Type 0

@@ -90,7 +90,8 @@ impl Activation {
     pub fn set_count(&mut self, region: RegisterId, count: RegionCount)
         ensures only { self.new ≡ record self.old { counts = self.new.counts } }
         ensures as_many { length self.new.counts.items ≡ length self.old.counts.items }
-        ensures counted { IsSome (count_in self.old region.0) → (other : ℕ) → counted_in self.new other ≡ cond (eqb region.0 other) count.living (counted_in self.old other) }
+        ensures counted { IsSome (count_in self.old region.0) → (other : ℕ)
+            → counted_in self.new other ≡ cond (eqb region.0 other) count.living (counted_in self.old other) }
     {
         if region.0 < self.counts.len() {
             self.counts[region.0] = count;
@@ -104,7 +105,8 @@ impl Activation {
         ensures continued { (p : Path) → self.old.frame.made + 1 < 2 ^ 64 → frame_of p self.new.frame ≡ continued (frame_of p self.old.frame) continuation.0 }
         ensures sound { IsSound self.old.frame → IsSound self.new.frame }
         ensures as_many { length self.new.counts.items ≡ length self.old.counts.items }
-        ensures counted { IsSome (count_in self.old region.0) → (other : ℕ) → counted_in self.new other ≡ cond (eqb region.0 other) count.living (counted_in self.old other) }
+        ensures counted { IsSome (count_in self.old region.0) → (other : ℕ)
+            → counted_in self.new other ≡ cond (eqb region.0 other) count.living (counted_in self.old other) }
     {
         let _number = self.frame.go_on_behind(continuation);
         self.set_count(region, count);

@@ -69,10 +69,13 @@ impl Run<'_> {
         requires { worker < vec_len self.old.hands }
         ensures refused { result ≡ Err Halt.OutOfMemory → self.new ≡ self.old }
         ensures child_first { OnOk result (BeginsChild self.old.cactus self.new.cactus self.new.hands.items worker slot) }
-        ensures stopped { (trap : Trap) → result ≡ Err (Halt.Trapped trap) → Refuses self.old.verified.now self.old slot (effect.Detach region body continuation) }
+        ensures stopped { (trap : Trap) → result ≡ Err (Halt.Trapped trap)
+            → Refuses self.old.verified.now self.old slot (effect.Detach region body continuation) }
         ensures phase { self.new.phase ≡ self.old.phase }
-        ensures slots { OnOk result (CanDoAt self.old.cactus slot (effect.Detach region body continuation) → FillsSlots self.old.verified.now self.old self.new worker slot (effect.Detach region body continuation)) }
-        ensures detaches { OnOk result (CanDoAt self.old.cactus slot (effect.Detach region body continuation) → Performs self.old.verified.now self.old self.new worker slot (effect.Detach region body continuation)) }
+        ensures slots { OnOk result (CanDoAt self.old.cactus slot (effect.Detach region body continuation)
+            → FillsSlots self.old.verified.now self.old self.new worker slot (effect.Detach region body continuation)) }
+        ensures detaches { OnOk result (CanDoAt self.old.cactus slot (effect.Detach region body continuation)
+            → Performs self.old.verified.now self.old self.new worker slot (effect.Detach region body continuation)) }
     {
         let parent = self.activation(slot)?;
         let mut count = parent.count(region)?;
@@ -219,7 +222,10 @@ impl Run<'_> {
         requires { worker < vec_len self.old.hands }
         ensures stalls { (region : RegisterId) → waits_at self.old.cactus slot ≡ Some (Region region)
             → OnOk result (StallsAt self.new.cactus self.new.hands.items worker slot region) }
-        ensures becomes { OnOk result (self.new ≡ record (with_change self.old slot (λ a. record a { runner = None; stalled_in = Some block })) { hands = with_item self.old.hands worker None }) }
+        ensures becomes { OnOk result (self.new ≡ record (with_change self.old slot (λ a. record a {
+          runner = None;
+          stalled_in = Some block;
+        })) { hands = with_item self.old.hands worker None }) }
         ensures lost { OnErr result (frame_at self.old.cactus slot ≡ None) }
         ensures phase { self.new.phase ≡ self.old.phase }
     {
@@ -240,8 +246,10 @@ impl Run<'_> {
         callee: FunctionId,
     ) -> Result<(), Halt>
         requires { worker < vec_len self.old.hands }
-        ensures slots { OnOk result (CanDoAt self.old.cactus slot (effect.Call register callee) → FillsSlots self.old.verified.now self.old self.new worker slot (effect.Call register callee)) }
-        ensures calls { OnOk result (CanDoAt self.old.cactus slot (effect.Call register callee) → Performs self.old.verified.now self.old self.new worker slot (effect.Call register callee)) }
+        ensures slots { OnOk result (CanDoAt self.old.cactus slot (effect.Call register callee)
+            → FillsSlots self.old.verified.now self.old self.new worker slot (effect.Call register callee)) }
+        ensures calls { OnOk result (CanDoAt self.old.cactus slot (effect.Call register callee)
+            → Performs self.old.verified.now self.old self.new worker slot (effect.Call register callee)) }
         ensures refused { result ≡ Err Halt.OutOfMemory → self.new ≡ self.old }
         ensures stopped { (trap : Trap) → result ≡ Err (Halt.Trapped trap) → Refuses self.old.verified.now self.old slot (effect.Call register callee) }
         ensures phase { self.new.phase ≡ self.old.phase }

@@ -17,8 +17,7 @@ use frame::{Frame, Path, Trap};
 use lists::OutOfMemory;
 use program::Program;
 use std::alloc::Global;
-use store::Memory;
-use verifier::Verified;
+use store::{Memory, Verified};
 
 /// Whether a run goes on.
 #[derive(Clone, Copy, Debug, PartialEq, Eq)]

@@ -17,13 +17,13 @@ use Rattle.program.specs.declared.instruction.Operand.TheVariants as operand
 use Rattle.program.specs.declared.instruction.Phi.{Phi}
 use Rattle.program.specs.declared.instruction.PhiEntry.{PhiEntry}
 use Rattle.program.specs.declared.instruction.Terminator.{Terminator}
-use Rattle.cfg.specs.declared.structure.Edge.{Edge}
-use Rattle.cfg.specs.declared.structure.Way.{Way}
-use Rattle.cfg.specs.Edges.{graph_of}
-use Rattle.cfg.specs.Paths.{edges_of}
-use Rattle.cfg.specs.Rules.{leads_to, IsMatched, IsFunctionRight, IsGraphRight}
-use Rattle.definedness.specs.declared.act.Act.TheVariants.{Needs}
-use Rattle.definedness.specs.RegisterActs.{register_acts, inequality_needs, terminator_needs, ending_needs, entry_needs, phi_needs, value_needs}
+use Rattle.phase_laws.specs.cfg.declared.structure.Edge.{Edge}
+use Rattle.phase_laws.specs.cfg.declared.structure.Way.{Way}
+use Rattle.phase_laws.specs.cfg.Edges.{graph_of}
+use Rattle.phase_laws.specs.cfg.Paths.{edges_of}
+use Rattle.phase_laws.specs.cfg.Rules.{leads_to, IsMatched, IsFunctionRight, IsGraphRight}
+use Rattle.phase_laws.specs.definedness.declared.act.Act.TheVariants.{Needs}
+use Rattle.phase_laws.specs.definedness.RegisterActs.{register_acts, inequality_needs, terminator_needs, ending_needs, entry_needs, phi_needs, value_needs}
 use Rattle.phase_laws.specs.defined.Defined.{AreUsesDefined, IsAlways, defined_before}
 use Rattle.phase_laws.specs.defined.Leads.{IsBlock, LeadsTo}
 use Rattle.phase_laws.proofs.defined.Defined.{need_defined, end_found, value_found, Found}

@@ -31,10 +31,10 @@ use Rattle.program.specs.declared.instruction.Phi.{Phi}
 use Rattle.program.specs.declared.instruction.Terminator.{Terminator}
 use Rattle.program.specs.declared.instruction.Terminator.TheVariants as terminator
 use Rattle.types.specs.Apart.{InstructionNames}
-use Rattle.cfg.specs.declared.structure.Way.{Way}
-use Rattle.cfg.specs.declared.structure.Way.TheVariants as way
-use Rattle.definedness.specs.declared.act.Act.TheVariants.{Needs}
-use Rattle.definedness.specs.RegisterActs.{operand_needs, object_needs, address_needs, argument_needs, instruction_needs, terminator_needs}
+use Rattle.phase_laws.specs.cfg.declared.structure.Way.{Way}
+use Rattle.phase_laws.specs.cfg.declared.structure.Way.TheVariants as way
+use Rattle.phase_laws.specs.definedness.declared.act.Act.TheVariants.{Needs}
+use Rattle.phase_laws.specs.definedness.RegisterActs.{operand_needs, object_needs, address_needs, argument_needs, instruction_needs, terminator_needs}
 use Rattle.phase_laws.specs.defined.Leads.{LeadsTo}
 use Rattle.phase_laws.specs.defined.Placed.{RolesFit}
 use Rattle.phase_laws.specs.defined.Values.{Reads}

@@ -23,7 +23,7 @@ use Rattle.program.specs.declared.instruction.Argument.TheVariants as argument
 use Rattle.program.specs.declared.instruction.Instruction.{Instruction}
 use Rattle.program.specs.declared.instruction.Instruction.TheVariants as instruction
 use Rattle.program.specs.declared.instruction.Operand.{Operand}
-use Rattle.cfg.specs.declared.structure.Way.TheVariants as way
+use Rattle.phase_laws.specs.cfg.declared.structure.Way.TheVariants as way
 use Rattle.conditions.specs.rules.Costs.{parameters_of}
 use Rattle.conditions.specs.rules.Moves.{number_of, dest_of, Calls}
 use Rattle.conditions.specs.rules.InProofs.{Moves, is_next, is_along}

@@ -25,8 +25,8 @@ use Rattle.syntax.specs.declared.instruction.Operand.{Operand as OperandText}
 use Rattle.syntax.specs.declared.module.Block.{Block as BlockText}
 use Rattle.syntax.specs.declared.module.Function.{Function as FunctionText}
 use Rattle.syntax.specs.declared.module.Module.{Module}
-use Rattle.definedness.specs.declared.act.Act.TheVariants.{Needs}
-use Rattle.definedness.specs.RegisterActs.{operand_needs, address_needs, instruction_needs}
+use Rattle.phase_laws.specs.definedness.declared.act.Act.TheVariants.{Needs}
+use Rattle.phase_laws.specs.definedness.RegisterActs.{operand_needs, address_needs, instruction_needs}
 use Rattle.ir_text.specs.Kept.{IsKeptModule}
 use Rattle.scopes.specs.declared.scope.Named.{Named as Meaning}
 use Rattle.scopes.specs.declared.scope.Named.TheVariants as named_as

@@ -27,16 +27,16 @@ use Rattle.syntax.specs.declared.module.Function.{Function as FunctionText}
 use Rattle.syntax.specs.declared.module.Module.{Module}
 use Rattle.ir_item.specs.Fits.{is_some_list}
 use Rattle.ir_text.specs.Kept.{IsBlockWritten, IsPhiWritten, IsKeptFunction, IsKeptModule}
-use Rattle.cfg.specs.declared.structure.BlockEdges.{BlockEdges}
-use Rattle.cfg.specs.declared.structure.Edge.{Edge}
-use Rattle.cfg.specs.declared.structure.Way.{Way}
-use Rattle.cfg.specs.declared.structure.Way.TheVariants as way
-use Rattle.cfg.specs.Edges.{graph_of}
-use Rattle.cfg.specs.Paths.{edges_of}
-use Rattle.cfg.specs.Rules.{leads_to, HasPredecessor, IsMatched, IsBlockRight, IsFunctionRight, IsGraphRight}
-use Rattle.region_match.specs.Matched.{AreRegionsRight}
-use Rattle.ranges.specs.declared.edge.EdgeSums.{EdgeSums}
-use Rattle.ranges.specs.Edges.{edges_out, edge_to, compared, branch_sums, case_sums}
+use Rattle.phase_laws.specs.cfg.declared.structure.BlockEdges.{BlockEdges}
+use Rattle.phase_laws.specs.cfg.declared.structure.Edge.{Edge}
+use Rattle.phase_laws.specs.cfg.declared.structure.Way.{Way}
+use Rattle.phase_laws.specs.cfg.declared.structure.Way.TheVariants as way
+use Rattle.phase_laws.specs.cfg.Edges.{graph_of}
+use Rattle.phase_laws.specs.cfg.Paths.{edges_of}
+use Rattle.phase_laws.specs.cfg.Rules.{leads_to, HasPredecessor, IsMatched, IsBlockRight, IsFunctionRight, IsGraphRight}
+use Rattle.phase_laws.specs.region_match.Matched.{AreRegionsRight}
+use Rattle.phase_laws.specs.ranges.declared.edge.EdgeSums.{EdgeSums}
+use Rattle.phase_laws.specs.ranges.Edges.{edges_out, edge_to, compared, branch_sums, case_sums}
 use Rattle.scopes.specs.Layout.{layout_of}
 use Rattle.scopes.specs.Scope.{Scope}
 use Rattle.scopes.proofs.Inversion.{made_ok, both_ok}

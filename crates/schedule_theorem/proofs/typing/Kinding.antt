@@ -22,7 +22,8 @@ use Rattle.scopes.specs.declared.scope.Named.TheVariants as named
 use Rattle.scopes.specs.declared.scope.Origin.{Origin}
 use Rattle.scopes.specs.declared.scope.Origin.TheVariants as origin
 use Rattle.scopes.specs.declared.scope.Register.{Register}
-use Rattle.scopes.specs.Layout.{kind_of, with_register, with_parameter, with_phi, with_call, with_instruction, with_step, with_phis, with_steps, with_block, with_parameters, with_blocks, with_label, with_labels, no_layout, layout_of, cells_of, target_width}
+use Rattle.syntax.specs.Cells.{size_cells}
+use Rattle.scopes.specs.Layout.{kind_of, with_register, with_parameter, with_phi, with_call, with_instruction, with_step, with_phis, with_steps, with_block, with_parameters, with_blocks, with_label, with_labels, no_layout, layout_of, target_width}
 use Rattle.scopes.specs.Table.{look_up}
 use Rattle.types.specs.Definitions.{parameter_name, IsParameterName, defined_name}
 use Rattle.types.proofs.Scopes.{Entries, entries_with}
@@ -106,7 +107,7 @@ module _ (function : FunctionText) where
   kinds_instruction layout b s step (text.Convert register conversion value) at is h =
       kinds_register layout register (holding.Number (target_width conversion)) (origin.Step b) (step_kind b s step (text.Convert register conversion value) register (kind.Number (target_width conversion)) at is refl refl) h
   kinds_instruction layout b s step (text.Alloca register size) at is h =
-      kinds_register layout register (holding.Object (object.Alloca (record { 0 = length layout.allocas })) (cells_of size)) (origin.Step b) (step_kind b s step (text.Alloca register size) register kind.Object at is refl refl) h
+      kinds_register layout register (holding.Object (object.Alloca (record { 0 = length layout.allocas })) (size_cells size)) (origin.Step b) (step_kind b s step (text.Alloca register size) register kind.Object at is refl refl) h
   kinds_instruction layout b s step (text.ElementPointer register base index) at is h =
       kinds_register layout register holding.Element (origin.Step b) (step_kind b s step (text.ElementPointer register base index) register kind.Element at is refl refl) h
   kinds_instruction layout b s step (text.Load register address) at is h =

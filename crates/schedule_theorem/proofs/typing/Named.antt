@@ -12,7 +12,7 @@ use Rattle.program.specs.declared.instruction.Instruction.TheVariants as instruc
 use Rattle.program.specs.declared.instruction.Phi.{Phi}
 use Rattle.syntax.specs.declared.module.Module.{Module}
 use Rattle.ir_text.specs.Kept.{IsKeptModule}
-use Rattle.cfg.specs.Rules.{IsGraphRight}
+use Rattle.phase_laws.specs.cfg.Rules.{IsGraphRight}
 use Rattle.types.specs.Meaning.{Means}
 use Rattle.phase_laws.specs.defined.Leads.{IsBlock}
 use Rattle.phase_laws.specs.defined.Names.{IsNamed}

@@ -24,7 +24,8 @@ use Rattle.ir_text.specs.Kept.{IsStepWritten, IsBlockWritten, IsGlobalWritten, I
 use Rattle.scopes.specs.declared.layout.Layout.{Layout}
 use Rattle.scopes.specs.declared.scope.Origin.{Origin}
 use Rattle.scopes.specs.declared.scope.Origin.TheVariants as origin
-use Rattle.scopes.specs.Layout.{cells_of, with_parameter, with_phi, with_call, with_instruction, with_step, with_phis, with_steps, with_block, with_parameters, with_blocks, with_label, with_labels, no_layout, layout_of}
+use Rattle.syntax.specs.Cells.{size_cells}
+use Rattle.scopes.specs.Layout.{with_parameter, with_phi, with_call, with_instruction, with_step, with_phis, with_steps, with_block, with_parameters, with_blocks, with_label, with_labels, no_layout, layout_of}
 use Rattle.phase_laws.proofs.defined.Lists.{at_within}
 use Rattle.schedule_theorem.proofs.typing.Lists.{at_push}
 use Rattle.schedule_theorem.proofs.typing.Objects.{IsObject}
@@ -43,7 +44,7 @@ positive_push allocas new h l a one e = elim (at_push allocas new a one e) [
   | inr same ↦ (let P : Alloca → Type 0 = λ x. 0 < x.cells in subst P same l)
 ]
 
-size_positive : (name : List ℕ) (size : AllocaSize) → instruction_fits (text.Alloca name size) ≡ true → 0 < cells_of size
+size_positive : (name : List ℕ) (size : AllocaSize) → instruction_fits (text.Alloca name size) ≡ true → 0 < size_cells size
 size_positive name One h = omega arith
 size_positive name (Array n) h = above_zero n h
 
@@ -56,7 +57,7 @@ positive_instruction layout line from (text.Binary register operator width left 
 positive_instruction layout line from (text.Compare register predicate width left right) fits h = h
 positive_instruction layout line from (text.Convert register conversion value) fits h = h
 positive_instruction layout line from (text.Alloca register size) fits h =
-    positive_push layout.allocas (record { line = line; register = record { 0 = length layout.registers }; cells = cells_of size }) h (size_positive register size fits)
+    positive_push layout.allocas (record { line = line; register = record { 0 = length layout.registers }; cells = size_cells size }) h (size_positive register size fits)
 positive_instruction layout line from (text.ElementPointer register base index) fits h = h
 positive_instruction layout line from (text.Load register address) fits h = h
 positive_instruction layout line from (text.Store value address) fits h = h

@@ -26,7 +26,8 @@ use Rattle.scopes.specs.declared.scope.Named.TheVariants as named
 use Rattle.scopes.specs.declared.scope.Origin.{Origin}
 use Rattle.scopes.specs.declared.scope.Origin.TheVariants as origin
 use Rattle.scopes.specs.declared.scope.Register.{Register}
-use Rattle.scopes.specs.Layout.{with_register, with_parameter, with_phi, with_alloca, with_call, with_instruction, with_step, with_phis, with_steps, with_block, with_parameters, with_blocks, with_label, with_labels, no_layout, layout_of, cells_of, target_width}
+use Rattle.syntax.specs.Cells.{size_cells}
+use Rattle.scopes.specs.Layout.{with_register, with_parameter, with_phi, with_alloca, with_call, with_instruction, with_step, with_phis, with_steps, with_block, with_parameters, with_blocks, with_label, with_labels, no_layout, layout_of, target_width}
 use Rattle.scopes.specs.Scope.{Scope, is_parameter}
 use Rattle.scopes.specs.Table.{look_up, with_name}
 use Rattle.types.proofs.Scopes.{Entries, entries_with, entries_found}
@@ -235,7 +236,7 @@ module _ (function : FunctionText) where
   right_instruction base layout b s step (text.Binary register operator width left right) at is r = right_register base layout register (holding.Number width) (origin.Step b) (λ e. absurd (cc)) tt r
   right_instruction base layout b s step (text.Compare register predicate width left right) at is r = right_register base layout register holding.Truth (origin.Step b) (λ e. absurd (cc)) tt r
   right_instruction base layout b s step (text.Convert register conversion value) at is r = right_register base layout register (holding.Number (target_width conversion)) (origin.Step b) (λ e. absurd (cc)) tt r
-  right_instruction base layout b s step (text.Alloca register size) at is r = right_alloca base layout step.line register (cells_of size) b r
+  right_instruction base layout b s step (text.Alloca register size) at is r = right_alloca base layout step.line register (size_cells size) b r
   right_instruction base layout b s step (text.ElementPointer register at_base index) at is r =
       right_register base layout register holding.Element (origin.Step b) (λ e. absurd (cc))
       (record { place = b; step = s; block = at.block; line = step; base = at_base; index = index; at_block = at.at_block; at_step = at.at_step; is = is; from_there = refl }) r

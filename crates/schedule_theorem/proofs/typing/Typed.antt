@@ -16,8 +16,8 @@ use Rattle.program.specs.declared.instruction.Instruction.TheVariants as instruc
 use Rattle.syntax.specs.declared.module.Module.{Module}
 use Rattle.syntax.specs.declared.module.ResultType.{ResultType}
 use Rattle.syntax.specs.declared.module.ResultType.TheVariants.{Number, Void}
-use Rattle.cfg.specs.Rules.{IsGraphRight}
-use Rattle.region_match.specs.Matched.{AreRegionsRight}
+use Rattle.phase_laws.specs.cfg.Rules.{IsGraphRight}
+use Rattle.phase_laws.specs.region_match.Matched.{AreRegionsRight}
 use Rattle.scopes.specs.Layout.{layout_of}
 use Rattle.types.specs.Call.{parameter_of}
 use Rattle.types.specs.Function.{result_register}

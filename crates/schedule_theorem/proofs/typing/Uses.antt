@@ -6,10 +6,10 @@ use Rattle.std.proofs.lemmas.List.Elements.{Contains-append_left, Contains-appen
 use Rattle.program.specs.declared.function.Function.{Function}
 use Rattle.program.specs.declared.function.Program.{Program}
 use Rattle.refusal.specs.declared.broken.Broken.{Broken}
-use Rattle.definedness.specs.declared.act.Act.TheVariants.{Needs}
-use Rattle.definedness.specs.Definedness.{register_table, AreRegistersDefined, IsUndefined, IsFunctionBroken, IsDefinednessBroken}
-use Rattle.definedness.specs.Missing.{defined_along}
-use Rattle.definedness.specs.Needs.{gives, given_of}
+use Rattle.phase_laws.specs.definedness.declared.act.Act.TheVariants.{Needs}
+use Rattle.phase_laws.specs.definedness.Definedness.{register_table, AreRegistersDefined, IsUndefined, IsFunctionBroken, IsDefinednessBroken}
+use Rattle.phase_laws.specs.definedness.Missing.{defined_along}
+use Rattle.phase_laws.specs.definedness.Needs.{gives, given_of}
 use Rattle.phase_laws.specs.defined.Defined.{AreUsesDefined}
 use Rattle.phase_laws.proofs.defined.Lists.{none_within, first_within, later_within, within_cases}
 use Rattle.phase_laws.proofs.defined.Roles.{any_function}

@@ -22,17 +22,17 @@ use Rattle.program.specs.declared.instruction.Step.{Step}
 use Rattle.program.specs.declared.instruction.Terminator.{Terminator}
 use Rattle.program.specs.declared.instruction.Terminator.TheVariants as terminator
 use Rattle.types.specs.Apart.{parameters_at}
-use Rattle.cfg.specs.declared.structure.Move.{Move}
-use Rattle.cfg.specs.declared.structure.Way.TheVariants as way
-use Rattle.cfg.specs.Edges.{moves_from}
-use Rattle.ranges.specs.declared.edge.EdgeSums.{EdgeSums}
-use Rattle.ranges.specs.declared.table.EdgeFacts.{EdgeFacts}
-use Rattle.ranges.specs.Edges.{compared, branch_sums, edges_out, edge_to, phis_of, edge_facts, case_sums}
-use Rattle.ranges.specs.Inequalities.{operand_for}
-use Rattle.ranges.specs.Places.{facts_at_end, edges_known}
-use Rattle.ranges.specs.Sums.{facts_of}
-use Rattle.ranges.specs.Truth.{operand_value}
-use Rattle.ranges.proofs.Truth.{facts_true}
+use Rattle.phase_laws.specs.cfg.declared.structure.Move.{Move}
+use Rattle.phase_laws.specs.cfg.declared.structure.Way.TheVariants as way
+use Rattle.phase_laws.specs.cfg.Edges.{moves_from}
+use Rattle.phase_laws.specs.ranges.declared.edge.EdgeSums.{EdgeSums}
+use Rattle.phase_laws.specs.ranges.declared.table.EdgeFacts.{EdgeFacts}
+use Rattle.phase_laws.specs.ranges.Edges.{compared, branch_sums, edges_out, edge_to, phis_of, edge_facts, case_sums}
+use Rattle.phase_laws.specs.ranges.Inequalities.{operand_for}
+use Rattle.phase_laws.specs.ranges.Places.{facts_at_end, edges_known}
+use Rattle.phase_laws.specs.ranges.Sums.{facts_of}
+use Rattle.phase_laws.specs.ranges.Truth.{operand_value}
+use Rattle.phase_laws.proofs.ranges.Truth.{facts_true}
 use Rattle.conditions.specs.rules.Costs.{numbers}
 use Rattle.conditions.specs.rules.Moves.{JumpsTo, SyncsTo}
 use Rattle.phase_laws.specs.defined.Names.{PhiDefines}
@@ -46,7 +46,7 @@ use Rattle.phase_laws.proofs.zones.Places.{ending_here}
 use Rattle.phase_laws.proofs.defined.Values.{set_other}
 use Rattle.schedule_theorem.specs.zones.ByPhases.{IsJudged}
 use Rattle.schedule_theorem.proofs.zones.Elements.{known_holds}
-use Rattle.region_match.specs.declared.tables.Regions.{Regions}
+use Rattle.phase_laws.specs.region_match.declared.tables.Regions.{Regions}
 
 -- ---- ways
 

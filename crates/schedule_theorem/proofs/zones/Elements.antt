@@ -22,10 +22,10 @@ use Rattle.program.specs.declared.instruction.Instruction.{Instruction}
 use Rattle.program.specs.declared.instruction.Instruction.TheVariants as instruction
 use Rattle.program.specs.declared.instruction.Operand.{Operand}
 use Rattle.program.specs.declared.instruction.Step.{Step}
-use Rattle.definedness.specs.declared.act.Act.TheVariants.{Needs}
-use Rattle.definedness.specs.RegisterActs.{operand_needs, object_needs, address_needs, instruction_needs}
-use Rattle.ranges.specs.Truth.{operand_value}
-use Rattle.region_match.specs.declared.tables.Regions.{Regions}
+use Rattle.phase_laws.specs.definedness.declared.act.Act.TheVariants.{Needs}
+use Rattle.phase_laws.specs.definedness.RegisterActs.{operand_needs, object_needs, address_needs, instruction_needs}
+use Rattle.phase_laws.specs.ranges.Truth.{operand_value}
+use Rattle.phase_laws.specs.region_match.declared.tables.Regions.{Regions}
 use Rattle.conditions.specs.rules.Costs.{numbers}
 use Rattle.conditions.specs.rules.Moves.{dest_of}
 use Rattle.conditions.proofs.rules.Moves.{given_case}

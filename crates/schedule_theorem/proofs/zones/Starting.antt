@@ -7,8 +7,8 @@ use Rattle.running.specs.State.{root_frame}
 use Rattle.program.specs.declared.function.Block.{Block}
 use Rattle.program.specs.declared.function.Function.{Function}
 use Rattle.program.specs.declared.function.Program.{Program}
-use Rattle.region_match.specs.declared.tables.Regions.{Regions}
-use Rattle.footprints.specs.Rules.{covering_of}
+use Rattle.phase_laws.specs.region_match.declared.tables.Regions.{Regions}
+use Rattle.phase_laws.specs.footprints.Rules.{covering_of}
 use Rattle.phase_laws.specs.defined.Leads.{IsBlock}
 use Rattle.phase_laws.specs.facts.Known.{KnownHold}
 use Rattle.schedule_theorem.proofs.pointers.Runs.{root_known}

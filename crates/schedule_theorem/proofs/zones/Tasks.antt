@@ -13,16 +13,16 @@ use Rattle.program.specs.declared.function.Program.{Program}
 use Rattle.program.specs.declared.instruction.Terminator.{Terminator}
 use Rattle.program.specs.declared.instruction.Terminator.TheVariants as terminator
 use Rattle.types.specs.Apart.{IsNamedBy, in_zone, in_foot, parameters_in, parameters_at}
-use Rattle.cfg.specs.Edges.{graph_of, graphs_of}
-use Rattle.cfg.proofs.EdgeLists.{length-edges_from}
-use Rattle.definedness.specs.declared.act.Act.TheVariants.{Needs}
-use Rattle.definedness.specs.RegisterActs.{zone_needs}
-use Rattle.region_match.specs.declared.tables.FunctionTasks.{FunctionTasks}
-use Rattle.region_match.specs.declared.tables.Regions.{Regions}
-use Rattle.region_match.specs.Rules.{ending_at}
-use Rattle.region_match.specs.Tasks.{HasTask, innermost, task_at, AreTasks, AreAllTasks}
-use Rattle.footprints.specs.Footprints.{foot_of, child_foot}
-use Rattle.footprints.specs.Rules.{tasks_of, foot_at_end, covering_of}
+use Rattle.phase_laws.specs.cfg.Edges.{graph_of, graphs_of}
+use Rattle.phase_laws.proofs.cfg.EdgeLists.{length-edges_from}
+use Rattle.phase_laws.specs.definedness.declared.act.Act.TheVariants.{Needs}
+use Rattle.phase_laws.specs.definedness.RegisterActs.{zone_needs}
+use Rattle.phase_laws.specs.region_match.declared.tables.FunctionTasks.{FunctionTasks}
+use Rattle.phase_laws.specs.region_match.declared.tables.Regions.{Regions}
+use Rattle.phase_laws.specs.region_match.Rules.{ending_at}
+use Rattle.phase_laws.specs.region_match.Tasks.{HasTask, innermost, task_at, AreTasks, AreAllTasks}
+use Rattle.phase_laws.specs.footprints.Footprints.{foot_of, child_foot}
+use Rattle.phase_laws.specs.footprints.Rules.{tasks_of, foot_at_end, covering_of}
 use Rattle.phase_laws.specs.defined.Leads.{IsBlock}
 use Rattle.phase_laws.specs.defined.Stable.{IsOffFoot}
 use Rattle.phase_laws.proofs.defined.Lists.{none_within, flat_within, within_at}

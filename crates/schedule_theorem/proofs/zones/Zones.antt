@@ -14,10 +14,10 @@ use Rattle.program.specs.declared.identifier.ObjectName.{ObjectName}
 use Rattle.program.specs.declared.identifier.ObjectName.TheVariants.{Global, Alloca, Parameter}
 use Rattle.program.specs.declared.instruction.Operand.{Operand}
 use Rattle.program.specs.declared.instruction.Operand.TheVariants.{Number, Register}
-use Rattle.definedness.specs.declared.act.Act.{Act}
-use Rattle.definedness.specs.declared.act.Act.TheVariants.{Needs}
-use Rattle.definedness.specs.RegisterActs.{register_needs, form_needs, object_needs, operand_needs, zone_needs}
-use Rattle.ranges.specs.Truth.{operand_value}
+use Rattle.phase_laws.specs.definedness.declared.act.Act.{Act}
+use Rattle.phase_laws.specs.definedness.declared.act.Act.TheVariants.{Needs}
+use Rattle.phase_laws.specs.definedness.RegisterActs.{register_needs, form_needs, object_needs, operand_needs, zone_needs}
+use Rattle.phase_laws.specs.ranges.Truth.{operand_value}
 use Rattle.conditions.specs.rules.Costs.{or_zero, numbers}
 use Rattle.phase_laws.specs.defined.Stable.{Names}
 use Rattle.phase_laws.proofs.defined.Lists.{first_within, flat_within}

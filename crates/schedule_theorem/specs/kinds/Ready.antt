@@ -3,8 +3,8 @@ use Rattle.running.specs.Paths.{Path}
 use Rattle.running.specs.Cells.{Memory}
 use Rattle.running.specs.Frames.{Frame}
 use Rattle.program.specs.declared.function.Program.{Program}
-use Rattle.cfg.specs.Rules.{IsGraphRight}
-use Rattle.region_match.specs.Matched.{AreRegionsRight}
+use Rattle.phase_laws.specs.cfg.Rules.{IsGraphRight}
+use Rattle.phase_laws.specs.region_match.Matched.{AreRegionsRight}
 use Rattle.conditions.specs.rules.Registers.{Registered}
 use Rattle.phase_laws.specs.defined.Defined.{AreUsesDefined, IsAlways}
 use Rattle.phase_laws.specs.defined.Placed.{IsPlaced}

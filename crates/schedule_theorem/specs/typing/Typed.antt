@@ -4,9 +4,9 @@ use Rattle.std.specs.Prelude.{ℕ, ◌<◌, All, Ok}
 use Rattle.linear.specs.declared.form.Term.{Term}
 use Rattle.program.specs.declared.function.Program.{Program}
 use Rattle.syntax.specs.declared.module.Module.{Module}
-use Rattle.cfg.specs.Rules.{IsGraphRight}
+use Rattle.phase_laws.specs.cfg.Rules.{IsGraphRight}
 use Rattle.ir_text.specs.Kept.{IsKeptModule}
-use Rattle.region_match.specs.Matched.{AreRegionsRight}
+use Rattle.phase_laws.specs.region_match.Matched.{AreRegionsRight}
 use Rattle.types.specs.Meaning.{Means}
 use Rattle.conditions.specs.rules.Costs.{parameters_of, measure_of}
 use Rattle.phase_laws.specs.defined.Defined.{AreUsesDefined}

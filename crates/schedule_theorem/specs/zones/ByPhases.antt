@@ -13,11 +13,11 @@ use Rattle.program.specs.declared.function.Function.{Function}
 use Rattle.program.specs.declared.function.Program.{Program}
 use Rattle.types.specs.Apart.{IsNamedBy, parameters_at, CallsApart}
 use Rattle.types.specs.Definitions.{KeepsParameters}
-use Rattle.cfg.specs.Edges.{graphs_of}
-use Rattle.cfg.specs.Rules.{IsGraphRight}
-use Rattle.region_match.specs.declared.tables.Regions.{Regions}
-use Rattle.region_match.specs.Matched.{AreRegionsRight}
-use Rattle.region_match.specs.Tasks.{AreAllTasks}
+use Rattle.phase_laws.specs.cfg.Edges.{graphs_of}
+use Rattle.phase_laws.specs.cfg.Rules.{IsGraphRight}
+use Rattle.phase_laws.specs.region_match.declared.tables.Regions.{Regions}
+use Rattle.phase_laws.specs.region_match.Matched.{AreRegionsRight}
+use Rattle.phase_laws.specs.region_match.Tasks.{AreAllTasks}
 use Rattle.phase_laws.specs.defined.Defined.{AreUsesDefined}
 use Rattle.phase_laws.specs.defined.Names.{IsNamed}
 use Rattle.phase_laws.specs.defined.Stable.{IsStable as KeepsRegisters}

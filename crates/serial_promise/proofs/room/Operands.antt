@@ -1,5 +1,5 @@
 -- Numbers of i32 that an instruction reads are numbers of that type.
-use Rattle.std.proofs.Common.{◌≡◌, ℕ, List, Option, Some, None, true, refl, subst, slice_get}
+use Rattle.std.proofs.Common.{◌≡◌, ℕ, List, Option, Some, None, true, refl, slice_get}
 use Rattle.running.specs.Frames.{Value, Word, Truth, Pointer, Region, Registers, Frame, Item, Does, Ends, and_then, item_of, item_at, word_of, word_at}
 use Rattle.program.specs.declared.function.Block.{Block}
 use Rattle.program.specs.declared.function.Function.{Function}
@@ -10,12 +10,9 @@ use Rattle.program.specs.declared.instruction.Instruction.{Instruction}
 use Rattle.program.specs.declared.instruction.Instruction.TheVariants as instruction
 use Rattle.program.specs.declared.instruction.Operand.{Operand}
 use Rattle.program.specs.declared.instruction.Operand.TheVariants as operand
-use Rattle.syntax.specs.declared.operator.Conversion.{Conversion}
-use Rattle.syntax.specs.declared.operator.Conversion.TheVariants.{Truncate, SignExtend, ZeroExtend}
 use Rattle.syntax.specs.declared.operator.Width.{Width}
 use Rattle.syntax.specs.declared.operator.Width.TheVariants.{Bits64, Bits32}
-use Rattle.program.specs.Widths as widths
-use Rattle.frame.specs.Answers.{source_width}
+use Rattle.program.specs.Widths.{source_width}
 use Rattle.frame.specs.Asked.{FitsIn, ItemFits, place_of}
 use Rattle.frame.specs.Asked as asked
 use Rattle.frame.specs.Reading.{frame_of}
@@ -40,16 +37,10 @@ number_fits kinds r Bits32 (operand.Register x) holds is = held_fits (r x.0) (ho
 
 -- ---- an instruction
 
--- both say the same of what is converted
-same_source : (c : Conversion) → widths.source_width c ≡ source_width c
-same_source Truncate = refl
-same_source SignExtend = refl
-same_source ZeroExtend = refl
-
 instruction_fits : (kinds : List RegisterKind) (f : Frame) (i : Instruction) → HoldKinds kinds f.registers → IsKinded kinds i → asked.OperandsFit f i
 instruction_fits kinds f (instruction.Binary d op w a b) holds is = (number_fits kinds f.registers w a holds is.1, number_fits kinds f.registers w b holds is.2)
 instruction_fits kinds f (instruction.Compare d by w a b) holds is = (number_fits kinds f.registers w a holds is.1, number_fits kinds f.registers w b holds is.2)
-instruction_fits kinds f (instruction.Convert d by a) holds is = subst (λ (w : Width). FitsIn w (word_at f.registers a)) (same_source by) (number_fits kinds f.registers (widths.source_width by) a holds is.1)
+instruction_fits kinds f (instruction.Convert d by a) holds is = number_fits kinds f.registers (source_width by) a holds is.1
 instruction_fits kinds f (instruction.Alloca d a) holds is = tt
 instruction_fits kinds f (instruction.ElementPointer d name i) holds is = tt
 instruction_fits kinds f (instruction.Load d address) holds is = tt

@@ -1,5 +1,5 @@
 use Rattle.std.proofs.Common.{◌∙◌, List, ap, arith}
-use Rattle.cfg.specs.declared.structure.Move.{Move}
+use Rattle.ranges.specs.cfg.declared.structure.Move.{Move}
 use Rattle.ranges.specs.Inequalities.{argument_moves}
 use Rattle.ranges.specs.Sums.{shows}
 use Rattle.cost_table.specs.Rules.{left_behind, less_form, put_in}

@@ -1,8 +1,8 @@
 use Rattle.std.proofs.Common.{◌<◌, ℕ, List, length, ap, subst, arith}
 use Rattle.program.specs.declared.function.Block.{Block}
-use Rattle.region_match.specs.declared.task.Task.{Task}
+use Rattle.ranges.specs.region_match.declared.task.Task.{Task}
 use Rattle.refusal.specs.Earliest.{IsEarliest}
-use Rattle.region_match.specs.Tasks.{task_at}
+use Rattle.ranges.specs.region_match.Tasks.{task_at}
 use Rattle.refusal.proofs.Places.{Within, below_next, below_all, read_in}
 use Rattle.ranges.specs.Places.{facts_in_table}
 use Rattle.footprints.specs.Rules.{IsBlockBrokenBy, IsBlockBroken}

@@ -1,5 +1,5 @@
 use Rattle.refusal.specs.Earliest.{IsEarliest}
-use Rattle.region_match.specs.Tasks.{task_at}
+use Rattle.ranges.specs.region_match.Tasks.{task_at}
 use Rattle.refusal.proofs.Places.{Below}
 use Rattle.footprints.specs.Rules.{IsBlockBroken}
 use Rattle.footprints.proofs.check.function_fault.Given as goal

@@ -1,7 +1,7 @@
 use Rattle.std.proofs.Common.{◌<◌, ℕ, List, length, sym, ap, subst, arith}
 use Rattle.std.specs.Prelude.{slice_get}
 use Rattle.program.specs.declared.function.Function.{Function}
-use Rattle.region_match.specs.declared.task.Task.{Task}
+use Rattle.ranges.specs.region_match.declared.task.Task.{Task}
 use Rattle.refusal.specs.Earliest.{IsEarliest}
 use Rattle.ranges.specs.Places.{IsFunctionTable}
 use Rattle.refusal.proofs.Places.{Within, below_next, below_all, read_in}
