@@ -11,13 +11,11 @@ use crate::judge::{
 };
 use crate::table::{Table, make_table};
 use crate::work::work_of;
-use ranges::graph::Graph;
 use linear::Fact;
 use lists::OutOfMemory;
 use program::{Block, Function, Program};
-use ranges::{BlockFacts, Facts, FunctionFacts, start_facts, stated};
+use ranges::{BlockFacts, Facts, FunctionFacts, Graph, Regions, start_facts, stated};
 use refusal::{Broken, lower};
-use ranges::regions::Regions;
 use std::alloc::Global;
 
 /// What is broken at the end of a block.

@@ -7,7 +7,7 @@ ghost use Rattle.cost_table.specs.Tables.{as_u64};
 use crate::callee::callee_of;
 use crate::level::detaches_around;
 use program::{Block, Step};
-use ranges::regions::Task;
+use ranges::Task;
 
 /// What a call of another function adds.
 fn callee_depth(before: &[u64], function: usize, callee: Option<usize>) -> u64

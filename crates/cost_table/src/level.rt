@@ -2,8 +2,6 @@ ghost use Rattle.std.specs.Prelude.{◌≡◌, ◌≤◌, length};
 ghost use Rattle.ranges.specs.region_match.Tasks.{task_at};
 ghost use Rattle.cost_table.specs.Depth.{detaches_around};
 
-use ranges::regions::Task;
-
 /// The task of a block.
 fn task_at(tasks: &[Task], block: usize) -> Task
     ensures { result ≡ task_at tasks.now block }
@@ -29,3 +27,5 @@ pub fn detaches_around(tasks: &[Task], block: usize) -> usize
     }
     level
 }
+
+use ranges::Task;

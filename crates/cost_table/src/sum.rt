@@ -3,10 +3,9 @@ ghost use Rattle.ranges.specs.Sums.{shows};
 ghost use Rattle.cost_table.specs.Rules.{left_behind, less_form, put_in, number_less};
 ghost use Rattle.cost_table.specs.Tables.{as_u128};
 
-use ranges::graph::Move;
 use linear::{Fact, Form, side_of};
 use lists::{OutOfMemory, Seq};
-use ranges::{Sum, push_parts, shows};
+use ranges::{Move, Sum, push_parts, shows};
 use std::alloc::Global;
 
 /// With so much done nothing is left, whatever the forms are: their constants are below 2^100, and this is 2^104.

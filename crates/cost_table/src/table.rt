@@ -9,7 +9,7 @@ use crate::depth::{flat_depth, self_calls_depth};
 use crate::entry::Entry;
 use lists::{OutOfMemory, Seq};
 use program::{Budget, Function, Program};
-use ranges::regions::{Regions, Task};
+use ranges::{Regions, Task};
 use std::alloc::Global;
 
 /// The costs and depths of all functions' calls.

@@ -117,7 +117,7 @@ pub record Lowers (stops : List Bool) (forks : List Fork) (blocks : List BlockEd
   pub waiting : (a : ℕ) → Contains work a → Contains work' a
   pub woken : (a : ℕ) → a < length blocks
       → Contains work' a ⊎ ((k : Option RegisterId) (way : Way) → EdgeGives stops forks (label_of before) k a way →
-          EdgeGives stops forks (label_of after) k a way)
+      EdgeGives stops forks (label_of after) k a way)
   pub less : load (length blocks) after work' ≤ load (length blocks) before work
 
 -- an edge gives what its target has, or is gone through again

@@ -1,6 +1,5 @@
 -- What is broken, by the tables of facts.
-use Rattle.std.proofs.Common.{◌≡◌, ◌∙◌, ℕ, ◌<◌, List, length, get_or, Option, Some, inl, inr, sym, ap, subst, ⊎_elim}
-use Rattle.std.specs.Prelude.{slice_get}
+use Rattle.std.proofs.Common.{ℕ, List, Option, inl, inr, sym, subst, ⊎_elim}
 use Rattle.linear.specs.declared.form.Fact.{Fact}
 use Rattle.program.specs.declared.function.Block.{Block}
 use Rattle.program.specs.declared.function.Function.{Function}
@@ -10,7 +9,6 @@ use Rattle.refusal.specs.Earliest.{IsEarliest}
 use Rattle.refusal.proofs.Elements.{earliest_same}
 use Rattle.ranges.specs.declared.table.BlockFacts.{BlockFacts}
 use Rattle.ranges.specs.declared.table.EdgeFacts.{EdgeFacts}
-use Rattle.refusal.proofs.Places.{read_at}
 use Rattle.ranges.specs.Places.{facts_at_step, facts_at_end, edges_known, IsBlockTable, facts_in_table}
 use Rattle.footprints.specs.Rules.{IsStepBroken, AreStepsBroken, IsEndBroken, IsBlockBrokenBy, IsBlockBroken}
 

@@ -11,13 +11,11 @@ use crate::ZoneFault;
 use crate::judge::{edges_fault, step_fault, use_fault};
 use crate::place::Place;
 use crate::touch::{child_foot, end_use};
-use ranges::graph::Graph;
 use linear::Fact;
 use lists::OutOfMemory;
 use program::{Block, BlockId, Ending, Function, Program, Step, Zone};
-use ranges::{BlockFacts, EdgeFacts, Facts, FunctionFacts};
+use ranges::{BlockFacts, EdgeFacts, Facts, FunctionFacts, Graph, Regions, Task};
 use refusal::{Broken, lower};
-use ranges::regions::{Regions, Task};
 use std::alloc::Global;
 
 /// The task of a block.

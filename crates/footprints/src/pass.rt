@@ -4,10 +4,9 @@ ghost use Rattle.footprints.specs.Footprints.{hands_on, pending_of, is_passed, a
 use crate::place::as_written;
 use crate::touch::child_foot;
 use crate::zone::{PlacedZone, covers, is_empty};
-use ranges::graph::Way;
 use lists::OutOfMemory;
 use program::{Block, BlockId, Pending, RegisterId, Terminator, Zone};
-use ranges::EdgeFacts;
+use ranges::{EdgeFacts, Way};
 use std::alloc::Global;
 
 /// Whether what is pending of a region goes on along an edge: not into a detached block, and not where the region was synced.

@@ -9,13 +9,12 @@ ghost use Rattle.footprints.specs.Footprints.{place_of, address_cell, first_cell
 use crate::access::{Cell, address_cell, cells_zone, first_cell};
 use crate::place::{Place, as_written, is_allowed, is_clear};
 use crate::zone::PlacedZone;
-use ranges::graph::Move;
 use lists::OutOfMemory;
 use program::{
     Address, Argument, Block, Function, FunctionId, Instruction, Mode, ObjectName, Step,
     Terminator, Zone,
 };
-use ranges::argument_moves;
+use ranges::{Move, argument_moves};
 use std::alloc::Global;
 
 /// Whether what a step or a terminator touches is covered, by the rule of this number, and clear of what is pending.

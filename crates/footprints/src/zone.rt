@@ -1,11 +1,10 @@
 ghost use Rattle.std.specs.Prelude.{◌≡◌, ◌<◌, IfOk};
 ghost use Rattle.footprints.specs.Zones.{span, same_object, mode_covers, modes_agree, between, shows_order, is_empty, covers, is_apart, conflict, is_covered};
 
-use ranges::graph::Move;
 use linear::{Fact, Form, side_of};
 use lists::{OutOfMemory, Seq};
 use program::{Mode, ObjectName, Zone};
-use ranges::{Sum, push_parts, shows};
+use ranges::{Move, Sum, push_parts, shows};
 use std::alloc::Global;
 
 /// A zone at a place: the object that it is of there, and the operands that stand for its registers there.

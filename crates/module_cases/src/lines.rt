@@ -90,32 +90,20 @@ pub fn annotation(alloc: Global, text: &str) -> Result<String, AllocError> {
     }
 }
 
-fn item_word(line: &Option<Line>) -> &'static str {
+fn said(alloc: Global, line: &Option<Line>, with_parts: bool) -> Result<String, AllocError> {
     match line {
-        None => "nothing",
-        Some(line) => {
-            if line.is_within_limits {
-                "an item"
-            } else {
-                "past a limit"
-            }
-        }
+        Some(line) if with_parts => format!(in alloc; "{line:?}"),
+        Some(line) if line.is_within_limits => String::from_str(alloc, "an item"),
+        Some(_) => String::from_str(alloc, "past a limit"),
+        None => String::from_str(alloc, "nothing"),
     }
 }
 
-/// Whether a line, the third, is an item, and one within the limits.
-pub fn item(alloc: Global, line: &[u8]) -> Result<String, AllocError> {
+/// Whether a line, the third, is an item, and one within the limits; or the parts of its item.
+pub fn item(alloc: Global, line: &[u8], with_parts: bool) -> Result<String, AllocError> {
     match read_line(alloc, line, 3) {
-        Ok(line) => String::from_str(alloc, item_word(&line)),
+        Ok(line) => said(alloc, &line, with_parts),
         Err(TextFault::Fault { number, line: _ }) => format!(in alloc; "{number}"),
         Err(TextFault::Memory) => Err(AllocError),
-    }
-}
-
-/// The parts of a line's item.
-pub fn parts(alloc: Global, line: &[u8]) -> Result<String, AllocError> {
-    match read_line(alloc, line, 3) {
-        Ok(Some(line)) => format!(in alloc; "{line:?}"),
-        _ => String::from_str(alloc, "no item"),
     }
 }

@@ -49,8 +49,8 @@ impl Question {
         match self {
             Question::Tokens => lines::tokens(alloc, bytes.as_slice()),
             Question::Annotation => lines::annotation(alloc, text),
-            Question::Item => lines::item(alloc, bytes.as_slice()),
-            Question::Parts => lines::parts(alloc, bytes.as_slice()),
+            Question::Item => lines::item(alloc, bytes.as_slice(), false),
+            Question::Parts => lines::item(alloc, bytes.as_slice(), true),
             Question::Text => texts::reading(alloc, state, bytes.as_slice()),
             Question::Sum => texts::sum(alloc, state, text),
             Question::Fault => lines::fault(alloc, text),

@@ -4,7 +4,7 @@ use lists::Seq;
 use syntax::Mode;
 
 /// `low` is at most `high`; `F >= G` stands here as `G <= F`.
-#[derive(Debug, Drop)]
+#[derive(Drop)]
 pub struct Inequality {
     pub line: u32,
     pub low: Form,
@@ -12,7 +12,7 @@ pub struct Inequality {
 }
 
 /// The cells of an object from `low` to before `high`, and what they may be used for.
-#[derive(Debug, Drop)]
+#[derive(Drop)]
 pub struct Zone {
     pub line: u32,
     pub mode: Mode,
@@ -22,14 +22,14 @@ pub struct Zone {
 }
 
 /// What children of a region that may still run may touch.
-#[derive(Debug, Drop)]
+#[derive(Drop)]
 pub struct Pending {
     pub region: RegisterId,
     pub zone: Zone,
 }
 
 /// What falls with each self call, and its greatest value.
-#[derive(Debug, Drop)]
+#[derive(Drop)]
 pub struct Measure {
     pub line: u32,
     pub form: Form,
@@ -37,7 +37,7 @@ pub struct Measure {
 }
 
 /// What a call may use: self calls, and instructions of its own and of the other functions that it calls.
-#[derive(Debug, Drop)]
+#[derive(Drop)]
 pub struct Budget {
     pub line: u32,
     pub self_calls: u64,
@@ -45,7 +45,7 @@ pub struct Budget {
 }
 
 /// What may still be used from a block's start on.
-#[derive(Debug, Drop)]
+#[derive(Drop)]
 pub struct Left {
     pub line: u32,
     pub self_calls: Form,

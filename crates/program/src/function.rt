@@ -6,7 +6,7 @@ use lists::{Name, Seq};
 use syntax::{ResultType, Width};
 
 /// A global array; its cells begin at 0.
-#[derive(Debug, Drop)]
+#[derive(Drop)]
 pub struct Global {
     pub line: u32,
     pub name: Name,
@@ -14,14 +14,14 @@ pub struct Global {
 }
 
 /// A parameter: an `i64`, or a whole object of at least so many cells.
-#[derive(Clone, Copy, Debug, PartialEq, Eq)]
+#[derive(Clone, Copy, PartialEq, Eq)]
 pub enum Parameter {
     Number,
     Pointer { cells: u64 },
 }
 
 /// What a register holds.
-#[derive(Clone, Copy, Debug, PartialEq, Eq)]
+#[derive(Clone, Copy, PartialEq, Eq)]
 pub enum RegisterKind {
     Number(Width),
     /// `i1`
@@ -35,7 +35,7 @@ pub enum RegisterKind {
 }
 
 /// An array of a frame; its cells begin undefined (LLVM Language Reference, "alloca").
-#[derive(Clone, Copy, Debug, PartialEq, Eq)]
+#[derive(Clone, Copy, PartialEq, Eq)]
 pub struct Alloca {
     pub line: u32,
     pub register: RegisterId,
@@ -43,7 +43,7 @@ pub struct Alloca {
 }
 
 /// A block with its annotations. A block without an ending is refused by the layer of the graph.
-#[derive(Debug, Drop)]
+#[derive(Drop)]
 pub struct Block {
     pub line: u32,
     pub keeps: Seq<Inequality>,
@@ -57,7 +57,7 @@ pub struct Block {
 
 /// A function with its annotations. The parameters are the registers from 0 on, in their order; the other
 /// registers follow in the order of the text. In `guarantees` the register behind the last one is the result.
-#[derive(Debug, Drop)]
+#[derive(Drop)]
 pub struct Function {
     pub line: u32,
     pub name: Name,
@@ -75,7 +75,7 @@ pub struct Function {
 }
 
 /// A whole module. The run begins at `main`.
-#[derive(Debug, Drop)]
+#[derive(Drop)]
 pub struct Program {
     pub globals: Seq<Global>,
     pub functions: Seq<Function>,

@@ -5,35 +5,35 @@ use lists::Seq;
 use syntax::{BinaryOperator, Conversion, Predicate, Width};
 
 /// A number, or the value of a register.
-#[derive(Clone, Copy, Debug, PartialEq, Eq)]
+#[derive(Clone, Copy, PartialEq, Eq)]
 pub enum Operand {
     Number(i64),
     Register(RegisterId),
 }
 
 /// A cell: the first of an object, or the one that a `getelementptr` of the same block gave.
-#[derive(Clone, Copy, Debug, PartialEq, Eq)]
+#[derive(Clone, Copy, PartialEq, Eq)]
 pub enum Address {
     First(ObjectName),
     Element(RegisterId),
 }
 
 /// An argument of a call: a number or a whole object.
-#[derive(Clone, Copy, Debug, PartialEq, Eq)]
+#[derive(Clone, Copy, PartialEq, Eq)]
 pub enum Argument {
     Number(Operand),
     Object(ObjectName),
 }
 
 /// What a phi takes where the run comes from `predecessor`.
-#[derive(Clone, Copy, Debug, PartialEq, Eq)]
+#[derive(Clone, Copy, PartialEq, Eq)]
 pub struct PhiEntry {
     pub value: Operand,
     pub predecessor: BlockId,
 }
 
 /// A phi (LLVM Language Reference, "phi").
-#[derive(Debug, Drop)]
+#[derive(Drop)]
 pub struct Phi {
     pub line: u32,
     pub register: RegisterId,
@@ -42,7 +42,7 @@ pub struct Phi {
 }
 
 /// An instruction that is neither a phi nor a terminator. `register` is the register that it defines.
-#[derive(Debug, Drop)]
+#[derive(Drop)]
 pub enum Instruction {
     Binary {
         register: RegisterId,
@@ -103,7 +103,7 @@ pub enum Instruction {
 }
 
 /// An instruction with the `shows` lines directly before it.
-#[derive(Debug, Drop)]
+#[derive(Drop)]
 pub struct Step {
     pub line: u32,
     pub shows: Seq<Inequality>,
@@ -111,14 +111,14 @@ pub struct Step {
 }
 
 /// A case of a switch.
-#[derive(Clone, Copy, Debug, PartialEq, Eq)]
+#[derive(Clone, Copy, PartialEq, Eq)]
 pub struct Case {
     pub number: i64,
     pub target: BlockId,
 }
 
 /// What ends a block (LLVM Language Reference, "Terminator Instructions"; Tapir for the last three).
-#[derive(Debug, Drop)]
+#[derive(Drop)]
 pub enum Terminator {
     Jump {
         target: BlockId,
@@ -153,7 +153,7 @@ pub enum Terminator {
 }
 
 /// A terminator with the `shows` lines directly before it.
-#[derive(Debug, Drop)]
+#[derive(Drop)]
 pub struct Ending {
     pub line: u32,
     pub shows: Seq<Inequality>,

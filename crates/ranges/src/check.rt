@@ -7,11 +7,10 @@ ghost use Rattle.ranges.specs.Rules.{IsFunctionBroken, IsRangeBroken};
 use crate::RangeFault;
 use crate::table::{BlockFacts, Facts, FunctionFacts};
 use crate::walk::block_facts;
-use region_match::graph::Graph;
 use lists::{OutOfMemory, Seq};
 use program::{Function, Program};
 use refusal::{Broken, lower};
-use region_match::Regions;
+use region_match::{Graph, Regions};
 use std::alloc::Global;
 
 /// What is known in a function, and what is broken there.

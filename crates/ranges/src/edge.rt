@@ -8,12 +8,12 @@ ghost use Rattle.ranges.specs.Edges.{compare_of, compared, at_least, above, comp
 use crate::know::push_facts;
 use crate::sum::Sum;
 use crate::table::EdgeFacts;
-use region_match::graph::{Way, make_moves};
 use linear::Fact;
 use lists::{OutOfMemory, Seq};
 use program::{
     Block, BlockId, Case, Instruction, Operand, Predicate, RegisterId, Step, Terminator,
 };
+use region_match::{Way, make_moves};
 use std::alloc::Global;
 
 /// What an `icmp` compares.

@@ -3,10 +3,10 @@ ghost use Rattle.linear.specs.Forms.{AreSmall};
 ghost use Rattle.ranges.specs.Inequalities.{operand_for, part_of, parts_of, difference_of, differences_of, argument_operand, argument_moves, result_of, result_moves, register_operand, call_moves};
 
 use crate::sum::{Part, Sum};
-use region_match::graph::Move;
 use linear::{RegisterId, Term, side_of};
 use lists::{OutOfMemory, Seq};
 use program::{Argument, Function, Inequality, Operand};
+use region_match::Move;
 use std::alloc::Global;
 
 /// What the moves put in for a register; a register that they do not name stays.

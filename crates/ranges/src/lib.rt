@@ -30,8 +30,7 @@ pub use inequality::{argument_moves, call_moves, difference_of, push_parts, resu
 pub use know::{is_met, push_facts, shows};
 pub use owe::{inequalities_owed, owed, owed_at_end};
 pub use refusal::Refused as RangeFault;
-pub use region_match as regions;
-pub use region_match::graph;
+pub use region_match::{Graph, Move, Regions, Task, Way};
 pub use sum::{Obligation, Part, Sum, sum_form};
 pub use table::{BlockFacts, EdgeFacts, Facts, FunctionFacts};
 pub use walk::{block_facts, start_facts, stated};

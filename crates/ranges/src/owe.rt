@@ -8,12 +8,12 @@ ghost use Rattle.program.specs.Cells.{object_cells};
 use crate::inequality::{argument_moves, difference_of, result_moves};
 use crate::learn::scale_of;
 use crate::sum::{Obligation, Part, Sum, opposite};
-use region_match::graph::Move;
 use lists::{OutOfMemory, Seq};
 use program::{
     Argument, BinaryOperator, Function, FunctionId, Inequality, Instruction, ObjectName, Operand,
     Parameter, Program, Terminator, Width,
 };
+use region_match::Move;
 use std::alloc::Global;
 
 /// The size of the least value.

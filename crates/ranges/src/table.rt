@@ -1,9 +1,9 @@
 ghost use Rattle.std.specs.Prelude.{◌≡◌, take, slice_index_or};
 
-use region_match::graph::{Move, Way};
 use linear::Fact;
 use lists::Seq;
 use program::BlockId;
+use region_match::{Move, Way};
 
 /// An edge with what is known on it, and what its target's phis take.
 #[derive(Drop)]

@@ -19,7 +19,7 @@ mod tables;
 mod task;
 mod unsynced;
 
-pub use cfg as graph;
+pub use cfg::{Graph, Move, Way, make_moves};
 pub use check::regions;
 pub use refusal::Refused as RegionFault;
 pub use tables::{FunctionTasks, Regions};

@@ -24,7 +24,7 @@ use Rattle.slab.proofs.SlabLemmas.{Contains-entries}
 use Rattle.worker_steps.specs.declared.activation.Activation.{Activation}
 use Rattle.worker_steps.specs.declared.run.Run.{Run}
 use Rattle.worker_steps.specs.Scheduling.{IsReady}
-use Rattle.worker_steps.specs.Seen.{place_of, seen, hands_of, CalleeStands}
+use Rattle.worker_steps.specs.Seen.{place_of, seen, CalleeStands}
 use Rattle.worker_steps.specs.Stepping.{IsRun}
 use Rattle.worker_steps.specs.Tasks.{IsLowest, IsLowestBelow, lowest, under}
 use Rattle.worker_steps.proofs.Steals.{holder_is}

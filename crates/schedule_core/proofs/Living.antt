@@ -1,6 +1,6 @@
 -- The slots that are not free, counted, are the frames of the state.
-use Rattle.std.proofs.Common.{◌≡◌, ◌≢◌, ℕ, zero, suc, ◌+◌, List, [], ◌∷◌, length, reverse, get_or, Option, Some, None, Bool, true, false, cond, ◌⊎◌, inl, inr, refl, sym, ap, ◌∙◌, subst, arith}
-use Rattle.std.specs.Prelude.{count_by, is_some, ◌||◌}
+use Rattle.std.proofs.Common.{◌≡◌, ◌≢◌, ℕ, suc, ◌+◌, List, [], ◌∷◌, length, reverse, get_or, Option, Some, None, true, false, cond, ◌⊎◌, inl, inr, refl, sym, ap, ◌∙◌, subst, arith}
+use Rattle.std.specs.Prelude.{count_by, is_some}
 use Rattle.std.specs.List.{AllByRecursion, IsDistinct}
 use Rattle.std.specs.Set.{is_member}
 use Rattle.std.proofs.Math.Logic.{∥∥₁_elim}
@@ -12,8 +12,8 @@ use Rattle.running.specs.Replay.{CountsFrames}
 use Rattle.running.proofs.Actions.{same_path_itself}
 use Rattle.running.proofs.Places.{same_path_tells, same_path_apart}
 use Rattle.cactus.specs.declared.node.Node.{Node}
-use Rattle.cactus.specs.Frames.{Frames, node_at}
-use Rattle.cactus.specs.ByPath.{first_named, named, IsTree}
+use Rattle.cactus.specs.Frames.{Frames}
+use Rattle.cactus.specs.ByPath.{first_named, named}
 use Rattle.program.specs.declared.function.Program.{Program}
 use Rattle.worker_steps.specs.declared.activation.Activation.{Activation}
 use Rattle.worker_steps.specs.declared.run.Run.{Run}

@@ -1,5 +1,5 @@
 -- No run of a module that the verifier took stops, and each keeps the schedule theorem.
-use Rattle.std.proofs.Common.{◌≡◌, ℕ, ◌<◌, ◌≤◌, List, [], ◌∷◌, ◌++◌, length, map, Option, Some, None, Bool, true, false, cond, refl, sym, ap, ◌∙◌, subst, arith, ℤ}
+use Rattle.std.proofs.Common.{◌≡◌, ℕ, ◌≤◌, List, [], ◌∷◌, ◌++◌, length, map, None, Bool, true, false, refl, sym, ap, ◌∙◌, subst, ℤ}
 use Rattle.std.specs.Prelude.{IsTrue, Result, Ok, Err, IfOk, OnErr}
 use Rattle.std.proofs.Math.Logic.{∥∥₁_elim, ∥∥₁_map}
 use Rattle.lists.specs.declared.memory.OutOfMemory.{OutOfMemory}
@@ -22,8 +22,8 @@ use Rattle.worker_steps.specs.Stepping.{IsRun, IsEvent, DoesEvent, StartsAs}
 use Rattle.worker_steps.proofs.Reached.{replay_more}
 use Rattle.schedule_core.specs.declared.event.Event.{Event}
 use Rattle.schedule_core.specs.declared.event.Event.TheVariants.{Step, Steal}
-use Rattle.schedule_core.specs.Replaying.{event_of, IsMachine, Happens, StopsOnly, AreEvents, StopsAt, DoesAll, Replays}
-use Rattle.schedule_core.proofs.Replaying.{not_going, replays_from}
+use Rattle.schedule_core.specs.Replaying.{event_of, IsMachine, Happens, StopsOnly, AreEvents, StopsAt, DoesAll}
+use Rattle.schedule_core.proofs.Replaying.{replays_from}
 
 never_at : (prog : Program) → IsAccepted prog → (m : Run) → IsScheduled prog m → IsRun prog m → HasSlots prog m → (e : Event) → StopsOnly prog m e → ⊥
 never_at prog accepted m at run slots (Step worker) stops = steps_never_stop prog accepted m at run.agrees slots worker stops

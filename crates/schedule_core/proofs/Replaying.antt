@@ -1,8 +1,7 @@
 -- One event after another.
-use Rattle.std.proofs.Common.{◌≡◌, ℕ, List, [], ◌∷◌, ◌++◌, append_assoc, length, map, Option, Some, None, Bool, true, false, cond, refl, sym, ap, ◌∙◌, subst, ℤ}
-use Rattle.std.specs.Prelude.{IsTrue, Result, Ok, Err, IfOk, OnErr}
+use Rattle.std.proofs.Common.{◌≡◌, ℕ, List, [], ◌∷◌, ◌++◌, append_assoc, length, map, Some, None, Bool, true, false, cond, refl, sym, ap, ◌∙◌, subst, ℤ}
+use Rattle.std.specs.Prelude.{IsTrue}
 use Rattle.std.proofs.Math.Logic.{∥∥₁_map}
-use Rattle.lists.specs.declared.memory.OutOfMemory.{OutOfMemory}
 use Rattle.running.specs.Events as running
 use Rattle.running.specs.Replay.{or_unchanged, replay}
 use Rattle.program.specs.declared.function.Program.{Program}
@@ -16,7 +15,7 @@ use Rattle.worker_steps.specs.Slots.{HasSlots}
 use Rattle.worker_steps.specs.Stepping.{IsRun, IsEvent, DoesEvent, StartsAs}
 use Rattle.worker_steps.proofs.Reached.{replay_more}
 use Rattle.schedule_core.specs.declared.event.Event.{Event}
-use Rattle.schedule_core.specs.Replaying.{event_of, IsMachine, Happens, StopsOnly, AreEvents, StopsAt, DoesAll, Replays}
+use Rattle.schedule_core.specs.Replaying.{event_of, IsMachine, StopsOnly, AreEvents, StopsAt, DoesAll, Replays}
 
 pub not_going : (m : Run) → IsTrapped m → ¬ IsGoing m
 not_going m trapped going = let e : Trapped ≡ Going = sym trapped ∙ going in cc

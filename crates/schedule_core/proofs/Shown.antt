@@ -1,6 +1,6 @@
 -- A view of two slots shows a task of the definitions.
-use Rattle.std.proofs.Common.{◌≡◌, ◌≢◌, ℕ, length, reverse, Option, Some, None, Bool, true, false, cond, refl, sym, ap, ◌∙◌, subst}
-use Rattle.std.specs.Prelude.{IfNone, IfSome, IsSomeAnd}
+use Rattle.std.proofs.Common.{◌≡◌, ℕ, length, reverse, Option, Some, None, true, refl, sym, ap, ◌∙◌, subst}
+use Rattle.std.specs.Prelude.{IsSomeAnd}
 use Rattle.running.specs.Events as running
 use Rattle.program.specs.declared.function.Program.{Program}
 use Rattle.frame.specs.declared.path.Path.{Path}
@@ -18,7 +18,7 @@ use Rattle.worker_steps.specs.Seen.{place_of, seen, frames_of, CalleeStands, Agr
 use Rattle.worker_steps.specs.Stepping.{IsRun}
 use Rattle.worker_steps.specs.Tasks.{IsLowest, IsLowestBelow, lowest, under, IsTopAbove, itself, over}
 use Rattle.worker_steps.proofs.Acting as acting
-use Rattle.worker_steps.proofs.Views.{node_tells, frame_seen, hand_seen, TopIs, ended_at}
+use Rattle.worker_steps.proofs.Views.{frame_seen, hand_seen, TopIs, ended_at}
 use Rattle.worker_steps.proofs.Steals.{standing, standing_is, holder_is, top_place, status_of_top, status_of_no_task, status_of_nobody}
 use Rattle.schedule_core.specs.declared.task.TaskView.{TaskView}
 use Rattle.schedule_core.specs.Viewed.{status_by, seen_status, status_in, Shows, IsTask, ShowsTop, IsRunBy}

@@ -1,9 +1,9 @@
 -- Tasks by slots are the tasks of the definitions.
-use Rattle.std.proofs.Common.{◌≡◌, ◌≢◌, ℕ, zero, suc, ◌<◌, ◌≤◌, List, [], ◌∷◌, ◌++◌, length, reverse, Option, Some, None, Bool, true, false, ◌⊎◌, inl, inr, refl, sym, ap, ◌∙◌, subst, arith}
+use Rattle.std.proofs.Common.{◌≡◌, ◌≢◌, ℕ, suc, ◌≤◌, List, [], ◌∷◌, length, reverse, Option, Some, None, true, false, ◌⊎◌, inl, inr, refl, sym, ap, ◌∙◌, subst, arith}
 use Rattle.std.proofs.lemmas.List.{reverse-reverse}
 use Rattle.linear.specs.declared.form.RegisterId.{RegisterId}
 use Rattle.running.specs.Paths.{Path, Under, itself, deeper}
-use Rattle.running.specs.Frames.{Frame, Wait, OnCall, Body}
+use Rattle.running.specs.Frames.{Frame, OnCall, Body}
 use Rattle.running.specs.State.{State}
 use Rattle.running.specs.Tree.{Tree}
 use Rattle.running.specs.Tasks.{OnTask, is_lowest, is_called, PartIntoTasks}
@@ -16,17 +16,17 @@ use Rattle.frame.specs.declared.frame.Role.{Role}
 use Rattle.frame.specs.declared.frame.Role.TheVariants as role
 use Rattle.frame.specs.Reading.{frame_of, role_of, wait_of}
 use Rattle.cactus.specs.declared.node.Node.{Node}
-use Rattle.cactus.specs.Frames.{Frames, node_at}
-use Rattle.cactus.specs.ByPath.{named, IsBelow, IsTree}
+use Rattle.cactus.specs.Frames.{node_at}
+use Rattle.cactus.specs.ByPath.{named, IsBelow}
 use Rattle.cactus.proofs.ByPathLemmas.{FoundAt, named_found}
 use Rattle.worker_steps.specs.declared.activation.Activation.{Activation}
 use Rattle.worker_steps.specs.declared.run.Run.{Run}
-use Rattle.worker_steps.specs.Seen.{place_of, seen, seen_at, frames_of, CalleeStands, Agrees}
+use Rattle.worker_steps.specs.Seen.{place_of, seen, seen_at, CalleeStands}
 use Rattle.worker_steps.specs.Stepping.{IsRun}
 use Rattle.worker_steps.specs.Tasks.{IsLowest, IsLowestBelow, lowest, under}
 use Rattle.worker_steps.proofs.Views.{frame_seen, same_place, reverse_last}
 use Rattle.worker_steps.proofs.Reached.{reached_manned}
-use Rattle.worker_steps.proofs.Steals.{task_tells, no_child_empty}
+use Rattle.worker_steps.proofs.Steals.{task_tells}
 
 pub same_node : (o : Option (Node Activation)) (n k : Node Activation) → o ≡ Some n → o ≡ Some k → n ≡ k
 same_node o n k a b = let e : Some n ≡ Some k = sym a ∙ b in cc

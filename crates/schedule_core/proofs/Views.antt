@@ -1,6 +1,6 @@
 -- What is shown of a run that is kept, and that has not trapped.
-use Rattle.std.proofs.Common.{◌≡◌, ◌≢◌, ◌↔◌, ℕ, ℤ, List, length, reverse, Option, Some, None, refl, sym, ap, ◌∙◌, subst}
-use Rattle.std.specs.Prelude.{IfNone, IfSome, IsSome, IsSomeAnd}
+use Rattle.std.proofs.Common.{◌≡◌, ◌↔◌, ℕ, ℤ, List, length, reverse, Option, Some, None, refl, sym, ap, ◌∙◌, subst}
+use Rattle.std.specs.Prelude.{IfNone, IfSome, IsSome}
 use Rattle.std.proofs.Math.Logic.{∥∥₁_elim}
 use Rattle.std.proofs.Props.{props}
 use Rattle.std.proofs.Math.Nat.{ℕ_set}
@@ -8,24 +8,20 @@ use Rattle.std.proofs.Math.IntN.{ℤ_set}
 use mathlib.Core.Sum.{⊎_set}
 use Rattle.std.proofs.lemmas.List.{reverse-reverse}
 use Rattle.running.specs.Frames.{Frame}
-use Rattle.running.specs.Events as running
-use Rattle.program.specs.declared.function.Program.{Program}
 use Rattle.frame.specs.declared.path.Path.{Path}
 use Rattle.frame.specs.declared.value.Cell.{Cell}
-use Rattle.frame.specs.Reading.{cell_of}
 use Rattle.frame.specs.Room.{ObjectWithin}
 use Rattle.cactus.specs.declared.node.Node.{Node}
-use Rattle.cactus.specs.Frames.{Frames, node_at, node_of_use, HasPath, HasNoPath, Lives}
+use Rattle.cactus.specs.Frames.{Frames, node_at, HasPath, HasNoPath, Lives}
 use Rattle.cactus.specs.ByPath.{named, IsTree}
-use Rattle.cactus.proofs.ByPathLemmas.{named_is, named_none, not_named}
+use Rattle.cactus.proofs.ByPathLemmas.{named_none, not_named}
 use Rattle.worker_steps.specs.declared.activation.Activation.{Activation}
 use Rattle.worker_steps.specs.declared.run.Run.{Run}
 use Rattle.worker_steps.specs.Running.{IsTrapped}
 use Rattle.worker_steps.specs.Scheduling.{hand_of}
-use Rattle.worker_steps.specs.Seen.{place_of, seen, seen_at, hands_of, FindsTop}
+use Rattle.worker_steps.specs.Seen.{seen, seen_at, FindsTop}
 use Rattle.worker_steps.specs.Stepping.{HoldsAt, IsRun, OwnerStands}
 use Rattle.worker_steps.specs.Tasks.{IsLowestBelow}
-use Rattle.worker_steps.proofs.Views.{node_tells}
 use Rattle.schedule_core.specs.declared.task.TaskView.{TaskView}
 use Rattle.schedule_core.specs.Viewed.{HoldsNothing, IsAtMost, IsFirstReady, IsNoneReady, IsReadyAt, IsRunBy, IsTask, Shows, held_at, place_in, status_in}
 use Rattle.schedule_core.proofs.Shown.{has_node, low_lives, no_top, run_shown, task_shown}

@@ -1,5 +1,5 @@
 -- What events do to a run, one and many.
-use Rattle.std.specs.Prelude.{◌≡◌, ℕ, List, [], ◌∷◌, ◌++◌, length, reverse, map, Bool, ℤ}
+use Rattle.std.specs.Prelude.{◌≡◌, ℕ, List, ◌∷◌, ◌++◌, length, reverse, map, Bool, ℤ}
 use Rattle.running.specs.Events as running
 use Rattle.running.specs.Replay.{replay}
 use Rattle.verifier.specs.Accepted.{IsAccepted}

@@ -17,7 +17,7 @@ use Rattle.cactus.specs.ByPath.{IsTree}
 use Rattle.worker_steps.specs.declared.activation.Activation.{Activation}
 use Rattle.worker_steps.specs.declared.run.Run.{Run}
 use Rattle.worker_steps.specs.Scheduling.{IsReady}
-use Rattle.worker_steps.specs.Seen.{seen, frames_of}
+use Rattle.worker_steps.specs.Seen.{seen}
 use Rattle.worker_steps.specs.Tasks.{IsLowestBelow}
 use Rattle.schedule_core.specs.declared.task.Status.{Status}
 use Rattle.schedule_core.specs.declared.task.Status.TheVariants.{Running, Ready, Stalled}

@@ -17,7 +17,7 @@ use Rattle.verifier.specs.Accepted.{AreTasksOf}
 use Rattle.verifier.specs.Budgets.{depth_of, IsDepthOf}
 use Rattle.phase_laws.specs.defined.Placed.{IsPlaced}
 use Rattle.phase_laws.proofs.facts.Handed.{facts_at_start}
-use Rattle.schedule_theorem.specs.zones.Keeping.{Keeping, OfTask, cells_of, pending_at, Fits, Expects}
+use Rattle.schedule_theorem.specs.zones.Keeping.{Keeping, OfTask, kept_cells, pending_at, Fits, Expects}
 use Rattle.schedule_theorem.specs.zones.ByPhases.{NamesZones, GivesWidths}
 use Rattle.schedule_theorem.proofs.zones.Conditions.{zones_are_met}
 use Rattle.schedule_theorem.proofs.zones.Starting.{zones_at_start}
@@ -58,7 +58,7 @@ module _ (program : Program) (t : IsTaken program) (zones : NamesZones program) 
     by_schedules : (o : Outcome) → IsSerialMeaning program arguments memory o → (workers : ℕ) → 1 ≤ workers → (events : List Event) →
         KeepsSchedule program workers o (replay program workers events (start program arguments memory))
     by_schedules o meant workers some events =
-        kept_by_schedules Keeping (cells_of program) program (Fits program (regions_of program t) base) (pending_at program)
+        kept_by_schedules Keeping (kept_cells program) program (Fits program (regions_of program t) base) (pending_at program)
         (Expects program)
         (λ p f. IsPlaced program f) opens zoned.stays zoned.passes closes arguments memory root_zone root_fits placed
         o meant workers some events

@@ -106,8 +106,8 @@ abbrev pub IsReached : List Mentions → ℕ → ℕ → Type 0
 IsReached mentions from to = (from < length mentions) × (callers : List ℕ) × IsChain mentions from callers to
 
 -- the function names the global, itself or by those that it calls
-abbrev pub IsNamed : List Mentions → ℕ → ℕ → Type 0
-IsNamed mentions from global = (to : ℕ) × IsReached mentions from to × Contains (globals_at mentions to) global
+abbrev pub ReachesGlobal : List Mentions → ℕ → ℕ → Type 0
+ReachesGlobal mentions from global = (to : ℕ) × IsReached mentions from to × Contains (globals_at mentions to) global
 
 -- a step of the search: the places in the list are marked, and those that were not marked before are work
 pub record MarksPlaces (places : List ℕ) (marks : List Bool) (work : List ℕ) (marks' : List Bool) (work' : List ℕ) : Type 0 where
@@ -124,7 +124,7 @@ is_unmarked marks place = nat_lt place (length marks) && not (slice_index_or mar
 
 -- the marks are just the globals that the function names, itself or by those that it calls
 abbrev pub NamesExactly : List Mentions → ℕ → ℕ → List Bool → Type 0
-NamesExactly mentions globals from marks = (global : ℕ) → (slice_index_or marks global false ≡ true) ↔ ((global < globals) × IsNamed mentions from global)
+NamesExactly mentions globals from marks = (global : ℕ) → (slice_index_or marks global false ≡ true) ↔ ((global < globals) × ReachesGlobal mentions from global)
 
 -- for each function just the globals that it names, itself or by those that it calls
 pub record IsNamedTable (mentions : List Mentions) (globals : ℕ) (named : List (List Bool)) : Type 0 where

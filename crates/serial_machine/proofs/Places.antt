@@ -1,13 +1,11 @@
 -- The places of frames: what keeps them, and new frames that have them.
-use Rattle.std.proofs.Common.{◌≡◌, ℕ, zero, suc, ◌+◌, ◌<◌, ◌≤◌, max, List, [], ◌∷◌, length, refl, ap, sym, ◌∙◌, subst, arith, Bool, true, false, cond, eqb, inl, inr, ℤ, Option, Some, None, Vec, Global}
-use Rattle.std.specs.Prelude.{⊤, map, slice_get}
+use Rattle.std.proofs.Common.{◌≡◌, ℕ, suc, ◌+◌, ◌<◌, ◌≤◌, max, List, [], ◌∷◌, length, refl, ap, sym, ◌∙◌, subst, arith, Bool, true, false, cond, eqb, inl, inr, ℤ, Option, Some, None, Vec, Global}
+use Rattle.std.specs.Prelude.{⊤, slice_get}
 use Rattle.std.proofs.lemmas.Bool.Decides.{eqb_tells}
-use Rattle.std.proofs.lemmas.List.{length-replicate}
 use Rattle.running.specs.Paths.{Path}
 use Rattle.running.specs.Frames as frames
 use Rattle.running.specs.Frames.{Value as ValueOf, alloca_cells}
 use Rattle.running.specs.State.{root_frame, detached, called}
-use Rattle.program.specs.declared.function.Alloca.{Alloca}
 use Rattle.program.specs.declared.function.Function.{Function}
 use Rattle.program.specs.declared.function.Program.{Program}
 use Rattle.program.specs.declared.identifier.BlockId.{BlockId}

@@ -20,8 +20,12 @@ cells_of globals = memory_of [] globals
 
 -- the serial meaning, in full: its result, memory, count of instructions and depth
 pub record IsMeant (prog : Program) (arguments : List ℤ) (memory : List NamedCells) (done : Finished) : Type 0 where
-  pub meant : IsSerialMeaning prog arguments (cells_of memory) (record { ending = Gave (Some done.result); memory = cells_of done.memory;
-      count = done.instructions; depth = done.peak })
+  pub meant : IsSerialMeaning prog arguments (cells_of memory) (record {
+    ending = Gave (Some done.result);
+    memory = cells_of done.memory;
+    count = done.instructions;
+    depth = done.peak;
+  })
   pub names : names_of done.memory ≡ names_of memory
 
 -- The run gets this far, its frames keep their places, and it gets no further: it has done the whole budget, or its next step

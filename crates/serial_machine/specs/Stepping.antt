@@ -81,7 +81,7 @@ pub record HasRoomAt (prog : Program) (f : Frame) (below : List Frame) (globals 
   pub frame : HasRoom prog (path_on below) f (memory_of (f ∷ below) globals)
   pub space : (e : Effect) → EffectWithin f.depth e →
       asked prog (path_on below) (frame_of (path_on below) f) (memory_of (f ∷ below) globals) (Ok e) ≡
-        action_of prog (path_on below) (frame_of (path_on below) f) (memory_of (f ∷ below) globals) →
+      action_of prog (path_on below) (frame_of (path_on below) f) (memory_of (f ∷ below) globals) →
       HasSpace prog f below globals e
 
 -- ---- places
@@ -164,7 +164,7 @@ ComesTo prog old new room (Err Trapped) = room → IsStuck prog (run_in old)
 abbrev pub Performs : Program → Stack → Stack → Effect → Result Progress Halt → Type 0
 Performs prog old new e result =
     AreSound (frames_in old) → CanDo old.top e → EffectWithin old.top.depth e →
-        asked prog (path_in old) (frame_in old) (memory_in old) (Ok e) ≡ action_of prog (path_in old) (frame_in old) (memory_in old) →
+    asked prog (path_in old) (frame_in old) (memory_in old) (Ok e) ≡ action_of prog (path_in old) (frame_in old) (memory_in old) →
     ComesTo prog old new (HasSpace prog old.top (below_of old) old.memory e) result
 
 -- what comes of the next instruction

@@ -6,6 +6,7 @@ use Rattle.program.specs.declared.function.Program.{Program}
 use Rattle.verifier.specs.Accepted.{IsAccepted, IsProgramOf}
 use Rattle.verifier.specs.Budgets.{budget_of}
 use Rattle.store.specs.Cells.{NamedCells}
+use Rattle.store.specs.Made.{HasGlobalCells}
 use Rattle.schedule_theorem.specs.Promise.{KeepsItsPromise}
 use Rattle.schedule_theorem.proofs.Promise.{accepted_programs_keep_their_promise}
 use Rattle.serial_machine.specs.Requirements.{unmet_in}
@@ -13,15 +14,16 @@ use Rattle.serial_machine.specs.Serially.{cells_of, IsMeant, Answers}
 use Rattle.serial_machine.specs.declared.outcome.Finished.{Finished}
 use Rattle.serial_machine.specs.declared.outcome.RunFault.{RunFault}
 use Rattle.serial_machine.specs.declared.outcome.RunFault.TheVariants.{BadArguments, BadWorkers, OutOfMemory, Trapped}
-use Rattle.serial_promise.specs.Promise.{AreGlobalsOf, EndsWithinBudget, EndsOrLacksMemory}
+use Rattle.serial_promise.specs.Promise.{EndsWithinBudget, EndsOrLacksMemory}
+use Rattle.serial_promise.proofs.Globals.{globals_given}
 use Rattle.serial_promise.proofs.Arguments.{are_taken}
 use Rattle.serial_promise.proofs.Stops.{runs_never_stop}
 
 module _ (text : List ℕ) (program : Program) (accepted : IsProgramOf text program) (arguments : List ℤ) (memory : List NamedCells)
-    (none : unmet_in program arguments ≡ None) (globals : AreGlobalsOf program memory)
+    (none : unmet_in program arguments ≡ None) (globals : HasGlobalCells program memory)
   where
     promise : KeepsItsPromise program arguments (cells_of memory)
-    promise = accepted_programs_keep_their_promise text program accepted arguments (cells_of memory) (are_taken program arguments none) globals
+    promise = accepted_programs_keep_their_promise text program accepted arguments (cells_of memory) (are_taken program arguments none) (globals_given program memory globals)
 
     ended : (done : Finished) → IsMeant program arguments memory done → EndsWithinBudget program arguments memory done
     ended done m =
@@ -40,6 +42,6 @@ module _ (text : List ℕ) (program : Program) (accepted : IsProgramOf text prog
     answered (Err OutOfMemory) h = h
     answered (Err Trapped) h = runs_never_stop text program accepted arguments memory none globals h
 
-pub accepted_run : (program : Program) → IsAccepted program → (arguments : List ℤ) (memory : List NamedCells) → unmet_in program arguments ≡ None → AreGlobalsOf program memory →
+pub accepted_run : (program : Program) → IsAccepted program → (arguments : List ℤ) (memory : List NamedCells) → unmet_in program arguments ≡ None → HasGlobalCells program memory →
     (r : Result Finished RunFault) → Answers program arguments memory (budget_of program) r → EndsOrLacksMemory program arguments memory r
 accepted_run program a arguments memory none globals r h = answered a.text program a.means arguments memory none globals r h

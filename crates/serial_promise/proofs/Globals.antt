@@ -1,32 +1,20 @@
--- Memory that was made for a program has its globals' cells.
-use Rattle.std.proofs.Common.{◌≡◌, ◌∙◌, inl, inr, ℕ, zero, suc, ◌<◌, replicate, Option, Some, None, true, is_some, refl, ap, arith, pos}
-use Rattle.std.specs.Prelude.{slice_get}
-use Rattle.std.specs.Option.{option_map}
-use Rattle.std.proofs.lemmas.Bool.Decides.{eqb_tells}
-use Rattle.std.proofs.lemmas.Option.{slice_get-map}
+-- Memory that was made for a program has values in its globals' cells.
+use Rattle.std.proofs.Common.{◌≡◌, ℕ, ◌<◌, List, Option, Some, None, refl, arith, slice_get}
+use Rattle.std.specs.Prelude.{IsSome}
 use Rattle.running.specs.Frames.{global_cells}
 use Rattle.program.specs.declared.function.Global.{Global}
-use Rattle.store.specs.Cells.{zeros, cell_in, cell_at}
-use Rattle.serial_promise.specs.Promise.{GlobalsAreMade, GlobalsAreKept}
+use Rattle.program.specs.declared.function.Program.{Program}
+use Rattle.store.specs.Cells.{NamedCells, cell_at}
+use Rattle.store.specs.Made.{HasGlobalCells}
+use Rattle.schedule_theorem.specs.Promise.{HasGlobals}
+use Rattle.serial_machine.specs.Serially.{cells_of}
 
-replicated : {A : Type 0} (n i : ℕ) (a : A) → i < n → is_some (slice_get (replicate n a) i) ≡ true
-replicated zero i a within = absurd (omega (arith, within))
-replicated (suc n) zero a within = refl
-replicated (suc n) (suc i) a within = replicated n i a (omega (arith, within))
+pub globals_there : (program : Program) (memory : List NamedCells) → HasGlobalCells program memory → (g i : ℕ) → i < global_cells (slice_get program.globals g) → IsSome (cell_at memory g i)
+globals_there program memory has g i = by (slice_get program.globals g) refl
+  where
+    by : (o : Option Global) → slice_get program.globals g ≡ o → i < global_cells o → IsSome (cell_at memory g i)
+    by None is low = absurd (omega (arith, low))
+    by (Some global) is low = has g i global is low
 
-made_at : (o : Option Global) (i : ℕ) → i < global_cells o → is_some (cell_in (option_map zeros o) i) ≡ true
-made_at None i within = absurd (omega (arith, within))
-made_at (Some g) i within = replicated g.cells i (pos 0) within
-
-pub globals_are_made : GlobalsAreMade
-globals_are_made program g i within =
-    ap (λ o. is_some (cell_in o i)) (slice_get-map zeros program.globals g) ∙ made_at (slice_get program.globals g) i within
-
-pub globals_are_kept : GlobalsAreKept
-globals_are_kept program before after h j z sets there g i within = elim (eqb_tells g h) [
-  | inl a ↦ elim (eqb_tells i j) [
-    | inl b ↦ ap (λ k. is_some (cell_at after k i)) a.1 ∙ ap (λ k. is_some (cell_at after h k)) b.1 ∙ ap is_some sets.there
-    | inr b ↦ ap is_some (sets.others g i (λ e. b.1)) ∙ there g i within
-  ]
-  | inr a ↦ ap is_some (sets.others g i (λ e. absurd (a.1 e))) ∙ there g i within
-]
+pub globals_given : (program : Program) (memory : List NamedCells) → HasGlobalCells program memory → HasGlobals program (cells_of memory)
+globals_given program memory has g i low = globals_there program memory has g i low

@@ -15,17 +15,19 @@ use Rattle.program.specs.declared.identifier.ObjectName.TheVariants as object
 use Rattle.verifier.specs.Accepted.{IsProgramOf}
 use Rattle.verifier.specs.Budgets.{budget_of}
 use Rattle.store.specs.Cells.{NamedCells}
+use Rattle.store.specs.Made.{HasGlobalCells}
 use Rattle.frame.specs.declared.frame.Frame.{Frame}
 use Rattle.frame.specs.Asked.{HasRoom}
 use Rattle.frame.specs.Reading.{frame_of}
 use Rattle.frame.specs.Room.{HasChild, HasNext, FitsPhis}
+use Rattle.serial_promise.proofs.Globals.{globals_given}
 use Rattle.serial_promise.specs.room.Cells.{HasAllocaCells}
 use Rattle.serial_promise.specs.room.Room.{DoesNotTrap}
 use Rattle.serial_promise.proofs.room.Doable.{frames_have_room}
 use Rattle.serial_promise.proofs.room.Moves.{moves_fit}
 use Rattle.schedule_theorem.proofs.safe.Sizes.{uses_are_sized}
 use Rattle.serial_promise.proofs.room.Space.{cells_are_there, has_space}
-use Rattle.schedule_theorem.specs.Promise.{AreTaken, KeepsItsPromise}
+use Rattle.schedule_theorem.specs.Promise.{AreTaken, HasGlobals, KeepsItsPromise}
 use Rattle.schedule_theorem.proofs.Accepted.{IsTaken, is_taken}
 use Rattle.schedule_theorem.proofs.Along.{Along, kept_along, kept_at_root}
 use Rattle.schedule_theorem.proofs.Bounds.{budget_bounded}
@@ -41,7 +43,7 @@ use Rattle.serial_promise.specs.walks.Along.{GoesOnTo, IsCounted}
 use Rattle.serial_promise.proofs.walks.Ahead.{walks_go_on}
 use Rattle.serial_promise.proofs.walks.Counted.{walks_count}
 use Rattle.serial_promise.proofs.walks.Kept.{walks_keep}
-use Rattle.serial_promise.specs.Promise.{AreGlobalsOf, RunsNeverStop}
+use Rattle.serial_promise.specs.Promise.{RunsNeverStop}
 use Rattle.serial_promise.proofs.Arguments.{are_taken}
 
 -- an action that is not stuck is no trap
@@ -60,7 +62,7 @@ owned_cells : (prog : Program) (f : Frame) (below : List Frame) → HasPlacesIn 
 owned_cells prog f below h a i within = h.cells a.0 i (subst (λ n. i < n) (declared_is prog (slice_get prog.functions f.function.0) a) within)
 
 module _ (text : List ℕ) (program : Program) (accepted : IsProgramOf text program) (arguments : List ℤ) (memory : List NamedCells)
-    (none : unmet_in program arguments ≡ None) (globals : AreGlobalsOf program memory)
+    (none : unmet_in program arguments ≡ None) (globals : HasGlobalCells program memory)
   where
     given : AreTaken program arguments
     given = are_taken program arguments none
@@ -68,8 +70,11 @@ module _ (text : List ℕ) (program : Program) (accepted : IsProgramOf text prog
     taken : IsTaken program
     taken = is_taken text program accepted
 
+    valued : HasGlobals program (cells_of memory)
+    valued = globals_given program memory globals
+
     promise : KeepsItsPromise program arguments (cells_of memory)
-    promise = accepted_programs_keep_their_promise text program accepted arguments (cells_of memory) given globals
+    promise = accepted_programs_keep_their_promise text program accepted arguments (cells_of memory) given valued
 
     module _ (done peak : ℕ) (f : Frame) (below : List Frame) (cells : List NamedCells)
         (s : StopsAt program arguments memory (budget_of program) done peak f below cells)
@@ -89,7 +94,7 @@ module _ (text : List ℕ) (program : Program) (accepted : IsProgramOf text prog
         good : Along program path place held
         good =
             walks_keep program (Along program) (Found program) (kept_along text program accepted) arguments (cells_of memory)
-            (kept_at_root text program accepted arguments (cells_of memory) given globals) done peak (run_of f below cells) s.reached
+            (kept_at_root text program accepted arguments (cells_of memory) given valued) done peak (run_of f below cells) s.reached
 
         counted : IsCounted done (run_of f below cells)
         counted = walks_count program arguments (cells_of memory) done peak (run_of f below cells) s.reached

@@ -1,6 +1,6 @@
 //! The laws below the promise: of walks, of room, and of globals.
 
-ghost use Rattle.serial_promise.specs.Promise.{GlobalsAreKept, GlobalsAreMade, RunsNeverStop};
+ghost use Rattle.serial_promise.specs.Promise.{RunsNeverStop};
 ghost use Rattle.serial_promise.specs.room.Cells.{CellsAreThere};
 ghost use Rattle.serial_promise.specs.room.Room.{EffectsFit, FramesHaveRoom, ItemsFit, MovesFit};
 ghost use Rattle.serial_promise.specs.walks.Along.{WalksCount, WalksGoOn, WalksKeepTests};
@@ -53,14 +53,4 @@ pub fn cells_are_there()
 /// that is not there, a frame without room, or the end of its budget.
 pub fn runs_never_stop()
     ensures { RunsNeverStop }
-{}
-
-/// Memory that is made for a program has its globals' cells.
-pub fn zeroed_globals_are_there()
-    ensures { GlobalsAreMade }
-{}
-
-/// Setting a cell leaves them there.
-pub fn sets_keep_globals()
-    ensures { GlobalsAreKept }
 {}

@@ -1,13 +1,13 @@
 //! The serial run of a program that the verifier took never stops: it ends with the serial meaning, or memory is refused.
 //!
-//! `run_serially` is the machine's serial run with that promise. `specs/Promise.antt` says it (`runs_never_stop`, `zeroed_globals_are_there`,
-//! `sets_keep_globals`); the proof puts the schedule theorem together with what the machine is sure of where it stops:
+//! `run_serially` is the machine's serial run with that promise. `specs/Promise.antt` says it (`runs_never_stop`);
+//! the proof puts the schedule theorem together with what the machine is sure of where it stops:
 //!
 //! - `walks`: what holds along the steps of a serial run, from its start on (`walks_go_on`, `walks_keep`, `walks_count`).
 //! - `room`: the machine's own tests stop no frame of it: a frame has room for what its place asks for (`frames_have_room` ..), and the
 //!   cells that are to be stored are there (`cells_are_there`).
 //! - `Arguments`: arguments that the machine's test takes are those that the theorem asks for. `Globals`: memory that was made for a program
-//!   has its cells. `Stops`: so the machine stops nowhere. `Ends`: what it answers is the run that the theorem speaks of.
+//!   has values in its cells. `Stops`: so the machine stops nowhere. `Ends`: what it answers is the run that the theorem speaks of.
 #![tactic(auto)]
 
 mod law;
@@ -15,6 +15,6 @@ mod run;
 
 pub use law::{
     cells_are_there, effects_fit, frames_have_room, moves_fit, operands_fit, runs_never_stop,
-    sets_keep_globals, walks_count, walks_go_on, walks_keep, zeroed_globals_are_there,
+    walks_count, walks_go_on, walks_keep,
 };
 pub use run::run_serially;

@@ -1,6 +1,7 @@
 ghost use Rattle.std.specs.Prelude.{◌≡◌, ℕ, Some, None, Err};
 ghost use Rattle.serial_machine.specs.Requirements.{unmet_in};
-ghost use Rattle.serial_promise.specs.Promise.{AreGlobalsOf, EndsOrLacksMemory};
+ghost use Rattle.store.specs.Made.{HasGlobalCells};
+ghost use Rattle.serial_promise.specs.Promise.{EndsOrLacksMemory};
 
 use serial_machine::{Finished, RunFault, serial_run};
 use std::alloc::Global;
@@ -20,7 +21,7 @@ pub fn run_serially(
     memory: Memory,
 ) -> Result<Finished, RunFault>
     ensures refused { (requirement : ℕ) → unmet_in verified.now arguments.now ≡ Some requirement → result ≡ Err (RunFault.BadArguments requirement memory) }
-    ensures ends { unmet_in verified.now arguments.now ≡ None → AreGlobalsOf verified.now memory → EndsOrLacksMemory verified.now arguments.now memory result }
+    ensures ends { unmet_in verified.now arguments.now ≡ None → HasGlobalCells verified.now memory → EndsOrLacksMemory verified.now arguments.now memory result }
 {
     // for what it says of the module: that it is accepted
     let _accepted = verified.program();

@@ -1,5 +1,5 @@
 -- Memory that is made for a program has the cells of its globals, and setting a cell leaves them there.
-use Rattle.std.proofs.Common.{◌≡◌, ◌∙◌, inl, inr, ℕ, zero, suc, ◌<◌, List, replicate, Option, Some, None, is_some, refl, sym, ap, subst, arith, pos, ℤ}
+use Rattle.std.proofs.Common.{◌≡◌, ◌∙◌, inl, inr, ℕ, zero, suc, ◌<◌, List, replicate, Option, is_some, refl, sym, ap, subst, arith, pos, ℤ}
 use Rattle.std.specs.Prelude.{Bool, true, false, IfOk, IsSome, Result, Ok, Err, map, slice_get}
 use Rattle.std.specs.Bool.{OnTrue, OnFalse}
 use Rattle.std.proofs.lemmas.Bool.{OnTrue_at, OnFalse_at}
@@ -7,7 +7,6 @@ use Rattle.std.specs.Option.{option_map}
 use Rattle.std.proofs.lemmas.Bool.Decides.{eqb_tells}
 use Rattle.std.proofs.lemmas.Option.{slice_get-map}
 use Rattle.lists.specs.declared.memory.OutOfMemory.{OutOfMemory}
-use Rattle.program.specs.declared.function.Global.{Global}
 use Rattle.program.specs.declared.function.Program.{Program}
 use Rattle.store.specs.Cells.{NamedCells, Sets, zeros, cell_in, cell_at}
 use Rattle.store.specs.Made.{HasGlobalCells}

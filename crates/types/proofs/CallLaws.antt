@@ -41,7 +41,7 @@ use Rattle.types.specs.Function.{function_of, functions_of}
 use Rattle.types.specs.Block.{block_of}
 use Rattle.scopes.specs.Item.{items_of}
 use Rattle.types.specs.Meaning.{Means}
-use Rattle.scopes.specs.Mention.{IsNamed, IsNamedTable, mentions_of}
+use Rattle.scopes.specs.Mention.{ReachesGlobal, IsNamedTable, mentions_of}
 use Rattle.scopes.specs.Scope.{Scope}
 use Rattle.scopes.specs.Table.{look_up}
 use Rattle.scopes.proofs.Inversion.{made_ok, then_ok, both_ok, unless_ok, all_ok, err_not_ok}
@@ -61,7 +61,7 @@ contained {X} test xs x h c = let P : X → Type 0 = λ y. test y ≡ false in s
 
 module _ (mentions : List Mentions) (globals : ℕ) (named : Named) (table : IsNamedTable mentions globals named) where
   clear_by : (callee : ℕ) (arguments : List Argument) → callee < length mentions → is_any_named (slice_get named callee) arguments ≡ false →
-      (global : GlobalId) → global.0 < globals → Contains arguments (argument.Object (object.Global global)) → IsNamed mentions callee global.0 → ⊥
+      (global : GlobalId) → global.0 < globals → Contains arguments (argument.Object (object.Global global)) → ReachesGlobal mentions callee global.0 → ⊥
   clear_by callee arguments within h global small passed names =
       let row = get_or named callee [] in
       let here : slice_get named callee ≡ Some row = slice_get-get_or named callee [] (let s = table.size in omega (arith, within, s)) in

@@ -45,7 +45,7 @@ use Rattle.types.specs.Function.{head_of as function_head_of, head_zones_of, fun
 use Rattle.types.specs.Instruction.{phi_of, phis_of, instruction_of, step_of, steps_of}
 use Rattle.scopes.specs.Item.{with_globals, with_functions, items_of}
 use Rattle.scopes.specs.Layout.{layout_of}
-use Rattle.scopes.specs.Mention.{with_address, with_instruction, mentions_of, globals_at, callees_at, IsChain, IsNamed}
+use Rattle.scopes.specs.Mention.{with_address, with_instruction, mentions_of, globals_at, callees_at, IsChain, ReachesGlobal}
 use Rattle.scopes.specs.Note.{zone_of, zones_of, more_zones, pending_of, all_pending_of}
 use Rattle.scopes.specs.Scope.{Scope}
 use Rattle.scopes.specs.Table.{with_name}
@@ -356,7 +356,7 @@ module _ (items : Items) (globals : ℕ) (functions : List FunctionText) (named 
         let rest = chain_of from caller before in
         (caller ∷ rest.0, (call_held caller b s d id arguments (step_from caller b s (instruction.Call d id arguments) k), within caller b s d id arguments k, rest.1))
 
-    is_named : (from : ℕ) (id : GlobalId) → from < length mentions → NamesGlobal meant from id → IsNamed mentions from id.0
+    is_named : (from : ℕ) (id : GlobalId) → from < length mentions → NamesGlobal meant from id → ReachesGlobal mentions from id.0
     is_named from id l (to, reaches, named_there) =
         let chain = chain_of from to reaches in
         (to, (l, chain.0, chain.1), (named_held to id named_there).1)

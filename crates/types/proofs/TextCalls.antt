@@ -11,13 +11,13 @@ use Rattle.program.specs.declared.instruction.Instruction.TheVariants as instruc
 use Rattle.program.specs.declared.instruction.Step.{Step}
 use Rattle.scopes.specs.declared.mention.Mentions.{Mentions}
 use Rattle.types.specs.Call.{are_distinct}
-use Rattle.scopes.specs.Mention.{IsNamed}
+use Rattle.scopes.specs.Mention.{ReachesGlobal}
 
 -- a call goes to its own function or one above, passes each object once, and no global that the callee can reach by its name
 pub record IsCallApart (mentions : List Mentions) (globals caller callee : ℕ) (arguments : List Argument) : Type 0 where
   pub upward : callee ≤ caller
   pub distinct : are_distinct arguments ≡ true
-  pub clear : (global : GlobalId) → global.0 < globals → Contains arguments (argument.Object (object.Global global)) → IsNamed mentions callee global.0 → ⊥
+  pub clear : (global : GlobalId) → global.0 < globals → Contains arguments (argument.Object (object.Global global)) → ReachesGlobal mentions callee global.0 → ⊥
 
 abbrev pub IsApart : List Mentions → ℕ → ℕ → Instruction → Type 0
 IsApart mentions globals caller (instruction.Binary register operator width left right) = Unit {0}

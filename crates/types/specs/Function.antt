@@ -42,8 +42,8 @@ head_of items layout result notes =
     (inequalities_of layout.scope (place.Guarantee (result_register result (length layout.registers))) notes.guarantees))
     (both_of (head_zones_of items layout.scope notes) (measure_of layout.scope notes.measure)))
 
-abbrev pub budget_of : BudgetText → Budget
-budget_of budget = record { line = budget.line; self_calls = budget.self_calls; instructions = budget.instructions }
+abbrev pub resolved_budget : BudgetText → Budget
+resolved_budget budget = record { line = budget.line; self_calls = budget.self_calls; instructions = budget.instructions }
 
 abbrev pub function_with : FunctionText → Layout → Head → List Block → Function
 function_with text layout head blocks = record {
@@ -57,7 +57,7 @@ function_with text layout head blocks = record {
   guarantees = head.guarantees;
   zones = head.zones;
   measure = head.measure;
-  budget = budget_of text.notes.budget;
+  budget = resolved_budget text.notes.budget;
   blocks = blocks;
 }
 

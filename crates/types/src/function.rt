@@ -93,8 +93,8 @@ fn parameters_of(
     Ok(found)
 }
 
-fn budget_of(budget: &syntax::Budget) -> Budget
-    ensures { result ≡ spec.budget_of budget.now }
+fn resolved_budget(budget: &syntax::Budget) -> Budget
+    ensures { result ≡ spec.resolved_budget budget.now }
 {
     Budget {
         line: budget.line,
@@ -129,7 +129,7 @@ fn resolve_function(
         guarantees: head.guarantees,
         zones: head.zones,
         measure: head.measure,
-        budget: budget_of(&function.notes.budget),
+        budget: resolved_budget(&function.notes.budget),
         blocks,
     })
 }

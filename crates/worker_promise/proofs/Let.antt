@@ -31,7 +31,8 @@ use Rattle.worker_steps.specs.Stopping.{HasCellAt, HasCellIn, CanGoAlong}
 use Rattle.serial_promise.specs.schedule_theorem.safe.Objects.{OwnsCells, HasCells}
 use Rattle.worker_steps.specs.Slots.{HasSlots}
 use Rattle.worker_promise.specs.Let.{IsFine, IsLetOnCells, CellsAreLet}
-use Rattle.worker_promise.proofs.Owned.{globals_there, owner_has}
+use Rattle.serial_promise.proofs.Globals.{globals_there}
+use Rattle.worker_promise.proofs.Owned.{owner_has}
 
 -- ---- a cell that is there by the definitions is there in a slot
 

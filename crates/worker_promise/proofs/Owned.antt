@@ -1,14 +1,10 @@
 -- What slots hold, by the paths of owners.
-use Rattle.std.proofs.Common.{◌≡◌, ◌∙◌, ℕ, ◌-◌, ◌<◌, length, reverse, Option, Some, None, refl, sym, ap, arith, slice_get, List}
-use Rattle.std.specs.Prelude.{IsSome}
+use Rattle.std.proofs.Common.{◌≡◌, ◌∙◌, ℕ, ◌-◌, ◌<◌, length, reverse, Some, sym, ap, arith}
 use Rattle.std.proofs.lemmas.List.{length-drop, length-reverse}
 use Rattle.running.specs.Paths.{Path}
-use Rattle.running.specs.Frames.{global_cells, cells_of}
-use Rattle.program.specs.declared.function.Global.{Global}
+use Rattle.running.specs.Frames.{cells_of}
 use Rattle.program.specs.declared.function.Program.{Program}
 use Rattle.program.specs.declared.identifier.ObjectName.TheVariants as object
-use Rattle.serial_promise.specs.store.Cells.{NamedCells, cell_at}
-use Rattle.serial_promise.specs.store.Made.{HasGlobalCells}
 use Rattle.frame.specs.Reading.{frame_of}
 use Rattle.frame.specs.Room.{HasCell}
 use Rattle.cactus.specs.declared.node.Node.{Node}
@@ -18,13 +14,6 @@ use Rattle.worker_steps.specs.declared.activation.Activation.{Activation}
 use Rattle.worker_steps.specs.declared.run.Run.{Run}
 use Rattle.worker_steps.specs.Seen.{Agrees}
 use Rattle.worker_steps.specs.Slots.{HasSlots}
-
-pub globals_there : (prog : Program) (memory : List NamedCells) → HasGlobalCells prog memory → (g i : ℕ) → i < global_cells (slice_get prog.globals g) → IsSome (cell_at memory g i)
-globals_there prog memory has g i = by (slice_get prog.globals g) refl
-  where
-    by : (o : Option Global) → slice_get prog.globals g ≡ o → i < global_cells o → IsSome (cell_at memory g i)
-    by None is low = absurd (omega (arith, low))
-    by (Some global) is low = has g i global is low
 
 -- a function's own frame has the cells of its allocas
 pub owner_has : (prog : Program) (m : Run) → HasSlots prog m → Agrees m.cactus m.hands.items → (owner : Path) (node : Node Activation) → named m.cactus (reverse owner) ≡ Some node → (frame_of owner node.frame.frame).home ≡ owner →

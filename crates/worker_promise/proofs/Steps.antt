@@ -1,5 +1,5 @@
 -- A worker's frame that is safe by the definitions is not stopped by the machine's own tests.
-use Rattle.std.proofs.Common.{◌≡◌, ◌∙◌, inl, inr, ℕ, ◌<◌, length, List, Option, Some, None, refl, sym, subst, arith, slice_get}
+use Rattle.std.proofs.Common.{◌≡◌, ◌∙◌, inl, inr, ℕ, ◌<◌, length, Option, Some, None, refl, sym, subst, arith, slice_get}
 use Rattle.std.specs.Prelude.{IsSome}
 use Rattle.std.proofs.lemmas.Option.{slice_get_within}
 use Rattle.std.proofs.lemmas.List.{length-reverse}
@@ -22,15 +22,12 @@ use Rattle.frame.specs.Room.{HasChild, HasNext, register_count}
 use Rattle.cactus.specs.declared.node.Node.{Node}
 use Rattle.cactus.specs.Frames.{node_at}
 use Rattle.serial_promise.proofs.room.Doable.{frames_have_room}
-use Rattle.serial_promise.specs.schedule_theorem.Promise.{HasGlobals}
 use Rattle.serial_promise.proofs.schedule_theorem.Accepted.{IsTaken, is_taken}
 use Rattle.worker_steps.specs.declared.activation.Activation.{Activation}
 use Rattle.worker_steps.specs.declared.run.Run.{Run}
 use Rattle.worker_steps.specs.Scheduling.{hand_of}
 use Rattle.worker_steps.specs.Seen.{place_of, seen, given, Agrees}
-use Rattle.serial_promise.specs.store.Cells.{NamedCells}
-use Rattle.serial_promise.specs.store.Made.{HasGlobalCells}
-use Rattle.worker_promise.proofs.Owned.{globals_there}
+use Rattle.serial_promise.proofs.Globals.{globals_given}
 use Rattle.worker_steps.specs.Stepping.{frame_in}
 use Rattle.worker_steps.specs.Stopping.{Halts, no_effect, not_let}
 use Rattle.worker_steps.proofs.Views.{frame_seen}
@@ -144,10 +141,6 @@ module _ (program : Program) (taken : IsTaken program) (m : Run) (run : IsSafeRu
     pub goes_on : Halts program m node → ⊥
     goes_on (no_effect t h) = let fails : (stops (trap_of t) frame).trap ≡ None = no_trap (stops (trap_of t) frame) (sym (h room)) in cc
     goes_on (not_let e is refuses) = refuses (steps_are_let program taken.names.kinds taken.names.stable m slots agrees slot node stands fine steady e is)
-
--- memory that was made for the program has values in its globals' cells
-globals_given : (program : Program) (memory : List NamedCells) → HasGlobalCells program memory → HasGlobals program (given memory)
-globals_given program memory made g i low = globals_there program memory made g i low
 
 pub steps_never_stop : StepsNeverStop
 steps_never_stop program accepted m at agrees slots worker stops_there =

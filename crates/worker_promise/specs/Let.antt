@@ -44,7 +44,7 @@ pub record IsSteadyAt (prog : Program) (m : Run) (node : Node Activation) : Type
   pub does : Does (seen m).core (place_of node) (frame_in node) (action_of prog (place_of node) (frame_in node) (seen m).core.memory)
   pub region :
       NamesRegister (register_count (slice_get prog.functions node.frame.frame.function.0))
-        (action_of prog (place_of node) (frame_in node) (seen m).core.memory)
+      (action_of prog (place_of node) (frame_in node) (seen m).core.memory)
   pub counted : IsWithin m.instructions (place_of node) (frame_in node)
   pub small : m.instructions < 2 ^ 62
   pub gives : place_of node ≡ [] → (result : Option ℤ) → action_of prog (place_of node) (frame_in node) (seen m).core.memory ≡ Return result → IsSome result

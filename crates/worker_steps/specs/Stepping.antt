@@ -31,8 +31,12 @@ use Rattle.worker_steps.specs.Slots.{HasSlots, executed}
 -- a state after a plain step of the frame f at p, but for the count of instructions
 abbrev pub effected : running.Machine → Path → Frame → Effect → running.Machine
 effected m p f e =
-    record m { core = record m.core { frames = λ x. override (only p (Some (went f e)) x) (m.core.frames x);
-        memory = λ x. added (e.adds x) (override (e.writes x) (m.core.memory x)) } }
+    record m {
+      core = record m.core {
+        frames = λ x. override (only p (Some (went f e)) x) (m.core.frames x);
+        memory = λ x. added (e.adds x) (override (e.writes x) (m.core.memory x));
+      };
+    }
 
 abbrev pub counted : running.Machine → running.Machine
 counted m = record m { core = record m.core { done = m.core.done + 1 } }
@@ -175,7 +179,7 @@ StepsAt prog old new worker slot = (node : Node Activation) → IsTurn prog old 
 abbrev pub FillsSlots : Program → Run → Run → ℕ → ℕ → Asked → Type 0
 FillsSlots prog old new worker slot effect =
     (node : Node Activation) → IsTurn prog old worker slot node →
-        asked prog (place_of node) (frame_in node) (seen old).core.memory (Ok effect) ≡ next_action prog old node →
+    asked prog (place_of node) (frame_in node) (seen old).core.memory (Ok effect) ≡ next_action prog old node →
     HasSlots prog old → HasSlots prog (executed new)
 
 -- so does the next instruction of the slot's frame

@@ -222,8 +222,10 @@ impl Run<'_> {
         requires { worker < vec_len self.old.hands }
         ensures stalls { (region : RegisterId) → waits_at self.old.cactus slot ≡ Some (Region region)
             → OnOk result (StallsAt self.new.cactus self.new.hands.items worker slot region) }
-        ensures becomes { OnOk result (self.new ≡ record (with_change self.old slot (λ a. record a { runner = None;
-            stalled_in = Some block })) { hands = with_item self.old.hands worker None }) }
+        ensures becomes { OnOk result (self.new ≡ record (with_change self.old slot (λ a. record a {
+          runner = None;
+          stalled_in = Some block;
+        })) { hands = with_item self.old.hands worker None }) }
         ensures lost { OnErr result (frame_at self.old.cactus slot ≡ None) }
         ensures phase { self.new.phase ≡ self.old.phase }
     {

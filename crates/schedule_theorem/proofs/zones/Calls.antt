@@ -39,7 +39,7 @@ use Rattle.schedule_theorem.proofs.pointers.Passed.{called_knows}
 use Rattle.phase_laws.specs.zones.Uses.{StandsIn, HoldsCell, task_of, MayUse}
 use Rattle.phase_laws.specs.zones.Callees.{IsOverParameters}
 use Rattle.phase_laws.proofs.zones.Callees.{callees_let}
-use Rattle.schedule_theorem.specs.zones.Keeping.{Keeping, OfTask, cells_of, pending_at, ElementsAreKept, IsBehindCall, Fits, Expects}
+use Rattle.schedule_theorem.specs.zones.Keeping.{Keeping, OfTask, kept_cells, pending_at, ElementsAreKept, IsBehindCall, Fits, Expects}
 use Rattle.schedule_theorem.specs.zones.ByPhases.{IsJudged, GivesWidths}
 use Rattle.schedule_theorem.proofs.zones.Zones.{IsOutside, IsOff}
 use Rattle.schedule_theorem.proofs.zones.Tasks.{task_is}
@@ -124,10 +124,10 @@ module _ (prog : Program) (regions : Regions) (judged : IsJudged prog regions) (
     abbrev pub keeping : Keeping
     keeping = OfTask child zones (f.made ∷ p)
 
-    pub callee_covered : Covers (cells_of prog z) (cells_of prog keeping)
+    pub callee_covered : Covers (kept_cells prog z) (kept_cells prog keeping)
     callee_covered = new_covered prog regions judged base p f z fits child zones may
 
-    pub callee_clear : (r : ℕ) → Clear (cells_of prog keeping) (cells_of prog (pending_at prog p f r))
+    pub callee_clear : (r : ℕ) → Clear (kept_cells prog keeping) (kept_cells prog (pending_at prog p f r))
     callee_clear = new_clear prog regions judged base p f z fits child zones may
 
     child_task : task_of regions child ≡ innermost []
@@ -194,7 +194,7 @@ module _ (prog : Program) (regions : Regions) (judged : IsJudged prog regions) (
         next_fits prog regions judged base p f z fits pause (λ x. ⊥) refl refl none_outside refl (λ y within. none_off y) placed_pause (gives.kept.waits p f m d callee values fits.based going act)
         (λ g. absurd (g f.made d refl)) pause_elements (names_on prog regions judged base gives p f z fits pause refl refl (λ x l. refl) awaiting) (λ v h. record { number = h.number; holds = h.holds }) behind
 
-    pub pause_pending : (r : ℕ) → Covers (cells_of prog (pending_at prog p pause r)) (cells_of prog (pending_at prog p f r))
+    pub pause_pending : (r : ℕ) → Covers (kept_cells prog (pending_at prog p pause r)) (kept_cells prog (pending_at prog p f r))
     pause_pending r = region_covers prog f pause p r (omega arith) (pending_stays prog (λ x. ⊥) f pause (record { 0 = r }) refl refl none_outside (λ q within. none_off q.zone))
 
     -- what it relies on of the callee
@@ -214,7 +214,7 @@ module _ (prog : Program) (regions : Regions) (judged : IsJudged prog regions) (
 
   -- ---- it goes on
 
-  module _ (y : Keeping) (k : ℕ) (d : Option RegisterId) (result : Option ℤ) (waits : f.waits ≡ OnCall k d) (expects : Expects prog f y) (promised : (cells_of prog y).gives result) where
+  module _ (y : Keeping) (k : ℕ) (d : Option RegisterId) (result : Option ℤ) (waits : f.waits ≡ OnCall k d) (expects : Expects prog f y) (promised : (kept_cells prog y).gives result) where
     abbrev next : Frame
     next = resumed f d result
 
@@ -245,7 +245,7 @@ module _ (prog : Program) (regions : Regions) (judged : IsJudged prog regions) (
         (names_on prog regions judged base gives p f z fits next refl refl (result_agrees (parameters_at prog.functions f.function) f d result (fits.names.awaits k d waits)) (λ j e w. absurd (free_never j e w)))
         relied.1 (never_waits prog regions judged base gives p f z fits next free_never)
 
-    pub next_pending : (r : ℕ) → Covers (cells_of prog (pending_at prog p next r)) (cells_of prog (pending_at prog p f r))
+    pub next_pending : (r : ℕ) → Covers (kept_cells prog (pending_at prog p next r)) (kept_cells prog (pending_at prog p f r))
     next_pending r =
         region_covers prog f next p r (omega arith)
         (pending_stays prog (Sets made) f next (record { 0 = r }) refl refl next_outside (waiting_stays prog regions judged base gives p f z fits place.before made place.is))

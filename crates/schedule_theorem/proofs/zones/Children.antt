@@ -43,7 +43,7 @@ use Rattle.phase_laws.specs.zones.Uses.{StandsIn, HoldsCell, IsInOne, task_of, M
 use Rattle.phase_laws.specs.zones.Edges.{GoesAlong, IsPendingFor}
 use Rattle.phase_laws.proofs.zones.Children.{from_child, feet_let}
 use Rattle.phase_laws.proofs.zones.Edges.{feet_go_on}
-use Rattle.schedule_theorem.specs.zones.Keeping.{Keeping, OfTask, cells_of, pending_at, Fits}
+use Rattle.schedule_theorem.specs.zones.Keeping.{Keeping, OfTask, kept_cells, pending_at, Fits}
 use Rattle.schedule_theorem.specs.zones.ByPhases.{IsJudged, GivesWidths}
 use Rattle.schedule_theorem.proofs.zones.Zones.{IsOutside, IsOff}
 use Rattle.schedule_theorem.proofs.zones.Clear.{covers_trans, lets_zones, task_here}
@@ -97,10 +97,10 @@ module _ (prog : Program) (regions : Regions) (judged : IsJudged prog regions) (
   abbrev pub keeping : Keeping
   keeping = OfTask child foot (f.made ∷ p)
 
-  pub child_covered : Covers (cells_of prog z) (cells_of prog keeping)
+  pub child_covered : Covers (kept_cells prog z) (kept_cells prog keeping)
   child_covered = new_covered prog regions judged base p f z fits child foot may
 
-  pub child_clear : (r : ℕ) → Clear (cells_of prog keeping) (cells_of prog (pending_at prog p f r))
+  pub child_clear : (r : ℕ) → Clear (kept_cells prog keeping) (kept_cells prog (pending_at prog p f r))
   child_clear = new_clear prog regions judged base p f z fits child foot may
 
   based_child : base (f.made ∷ p) child
@@ -188,7 +188,7 @@ module _ (prog : Program) (regions : Regions) (judged : IsJudged prog regions) (
       let none : phis_at prog f.function next ≡ [] = subst (λ n. phis_at prog f.function n ≡ []) fork.continuation_is (judged.typed.forks f.function f.block f.index fork.region fork.body fork.continuation fork.is).1 in
       goes_straight prog f function block (ending_of prog f function block in_block t fork.is).0 next taken regions judged on k there.at_block (no_phis prog f.function next function k fits.placed.is.at_function there.at_block none) refl refl
 
-  pub on_pending : (r : ℕ) → Covers (cells_of prog (pending_at prog p on r)) (cells_of prog (pending_at prog p f r))
+  pub on_pending : (r : ℕ) → Covers (kept_cells prog (pending_at prog p on r)) (kept_cells prog (pending_at prog p f r))
   on_pending r =
       let e = ending_of prog f function block in_block t fork.is in
       region_covers prog f on p r (omega arith) (pending_along prog regions judged base p f z fits on e.0 next (record { 0 = r }) e.1 taken refl refl goes (λ q same. refl))
@@ -208,7 +208,7 @@ module _ (prog : Program) (regions : Regions) (judged : IsJudged prog regions) (
       fork.region fork.body fork.continuation e.3 refl any.1 within c (from_child f region body next any.1 c any.4.0)) in
       for_region any.1.mode mode c (pending_of (block_at prog f.function next)) found any.4.1
 
-  pub foot_covered : Covers (cells_of prog (pending_at prog p on region)) (cells_of prog keeping)
+  pub foot_covered : Covers (kept_cells prog (pending_at prog p on region)) (kept_cells prog keeping)
   foot_covered = record {
     reads = λ c h. elim h [ inl any ↦ inl (foot_pending Reads c any) | inr below ↦ inr (f.made, omega arith, below) ];
     adds = λ c h. elim h [ inl any ↦ inl (foot_pending Adds c any) | inr below ↦ inr (f.made, omega arith, below) ];

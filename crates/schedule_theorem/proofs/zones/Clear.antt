@@ -23,7 +23,7 @@ use Rattle.phase_laws.specs.footprints.Footprints.{pending_of}
 use Rattle.phase_laws.specs.footprints.Rules.{covering_of}
 use Rattle.phase_laws.specs.zones.Uses.{Uses, StandsIn, HoldsCell, IsInOne, task_of, MayUse}
 use Rattle.phase_laws.specs.zones.Edges.{IsPendingFor}
-use Rattle.schedule_theorem.specs.zones.Keeping.{Keeping, OfTask, MadeBelow, cells_of, pending_at, LetsUse, Fits}
+use Rattle.schedule_theorem.specs.zones.Keeping.{Keeping, OfTask, MadeBelow, kept_cells, pending_at, LetsUse, Fits}
 use Rattle.schedule_theorem.specs.zones.ByPhases.{IsJudged}
 use Rattle.schedule_theorem.proofs.zones.Paths.{not_below}
 use Rattle.schedule_theorem.proofs.zones.Tasks.{task_is, own_name, covering_named}
@@ -109,13 +109,13 @@ covers_own Writes = refl
 covers_own Adds = refl
 
 -- the cells of the zones that a frame keeps to are let
-pub lets_zones : (prog : Program) (f : Frame) (zones : List Zone) (p : Path) (y : Zone) → Contains zones y → (c : Cell) → HoldsCell f y c → LetsUse (cells_of prog (OfTask f zones p)) y.mode c
-lets_zones prog f zones p y within c holds = lets_own (cells_of prog (OfTask f zones p)) y.mode c by
+pub lets_zones : (prog : Program) (f : Frame) (zones : List Zone) (p : Path) (y : Zone) → Contains zones y → (c : Cell) → HoldsCell f y c → LetsUse (kept_cells prog (OfTask f zones p)) y.mode c
+lets_zones prog f zones p y within c holds = lets_own (kept_cells prog (OfTask f zones p)) y.mode c by
   where
     in_one : (other : Mode) → mode_covers y.mode other ≡ true → IsInOne f zones other c
     in_one other covers = (within.0, y, within.1, within.2, (holds, covers))
 
-    by : (other : Mode) → mode_covers y.mode other ≡ true → LetsUse (cells_of prog (OfTask f zones p)) other c
+    by : (other : Mode) → mode_covers y.mode other ≡ true → LetsUse (kept_cells prog (OfTask f zones p)) other c
     by Reads covers = inl (in_one Reads covers)
     by Writes covers = (inl (in_one Reads (covers_trans y.mode Writes Reads covers refl)), inl (in_one Adds (covers_trans y.mode Writes Adds covers refl)))
     by Adds covers = inl (in_one Adds covers)
@@ -137,15 +137,15 @@ module _ (prog : Program) (regions : Regions) (judged : IsJudged prog regions) (
 
   module _ (mode : Mode) (c : Cell) (may : MayUse regions f fits.placed.function fits.placed.block mode c) where
     -- it lies in what the frame keeps to
-    pub lets : LetsUse (cells_of prog z) mode c
+    pub lets : LetsUse (kept_cells prog z) mode c
     lets = elim may.covered [
       | inl own ↦
           let at : f.home ≡ p = fits.own own.0 in
           let object : Local f.home own.1.0 ≡ c.object = (let e = own.2 in cc) in
           let mine : OwnedBelow p (Local f.home own.1.0) = subst (Under p) (sym at) itself in
-          lets_both (cells_of prog z) mode c (fits.owns c (subst (OwnedBelow p) object mine))
+          lets_both (kept_cells prog z) mode c (fits.owns c (subst (OwnedBelow p) object mine))
       | inr any ↦
-          lets_covered (cells_of prog z) any.1.mode mode c any.4.1
+          lets_covered (kept_cells prog z) any.1.mode mode c any.4.1
           (fits.covers fits.placed.function fits.placed.is.at_function any.1 (any.0, any.2, any.3) c any.4.0)
     ]
 
@@ -170,13 +170,13 @@ module _ (prog : Program) (regions : Regions) (judged : IsJudged prog regions) (
   -- ---- what an effect touches
 
   module _ (e : Effect) (may : (mode : Mode) (c : Cell) → Uses e mode c → MayUse regions f fits.placed.function fits.placed.block mode c) where
-    pub touched_covered : Covers (cells_of prog z) (touched e)
+    pub touched_covered : Covers (kept_cells prog z) (touched e)
     touched_covered = record {
       reads = λ c u. elim u [ inl r ↦ lets Reads c (may Reads c r) | inr w ↦ (lets Writes c (may Writes c w)).0 ];
       adds = λ c u. elim u [ inl w ↦ (lets Writes c (may Writes c w)).1 | inr a ↦ lets Adds c (may Adds c a) ];
     }
 
-    pub touched_clear : (region : ℕ) → Clear (touched e) (cells_of prog (pending_at prog p f region))
+    pub touched_clear : (region : ℕ) → Clear (touched e) (kept_cells prog (pending_at prog p f region))
     touched_clear region = record {
       first = λ c u h. elim u [
         | inl r ↦ none_pending Reads c (may Reads c r) (record { 0 = region }) Adds read_add h

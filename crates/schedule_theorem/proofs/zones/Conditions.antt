@@ -7,7 +7,7 @@ use Rattle.program.specs.declared.function.Program.{Program}
 use Rattle.phase_laws.specs.region_match.declared.tables.Regions.{Regions}
 use Rattle.conditions.proofs.rules.Moves.{moves}
 use Rattle.phase_laws.proofs.zones.Accesses.{accesses_let}
-use Rattle.schedule_theorem.specs.zones.Keeping.{Keeping, cells_of, pending_at, Fits, Expects}
+use Rattle.schedule_theorem.specs.zones.Keeping.{Keeping, kept_cells, pending_at, Fits, Expects}
 use Rattle.schedule_theorem.specs.zones.ByPhases.{IsJudged, GivesWidths}
 use Rattle.schedule_theorem.specs.zones.Conditions.{ZonesAreMet}
 use Rattle.schedule_theorem.proofs.zones.Clear.{touched_covered, touched_clear}
@@ -18,7 +18,7 @@ use Rattle.schedule_theorem.proofs.zones.Syncs.{sync_fits, sync_pending}
 use Rattle.schedule_theorem.proofs.zones.Calls as call
 
 module _ (prog : Program) (regions : Regions) (judged : IsJudged prog regions) (base : Path → Frame → Type 0) (gives : GivesWidths prog base) where
-  stays : StaysInZone Keeping (cells_of prog) prog (Fits prog regions base) (pending_at prog)
+  stays : StaysInZone Keeping (kept_cells prog) prog (Fits prog regions base) (pending_at prog)
   stays = record {
     keeps = λ p f z m e fits going act.
         let stands = here prog regions judged base gives p f z fits in
@@ -28,7 +28,7 @@ module _ (prog : Program) (regions : Regions) (judged : IsJudged prog regions) (
     owns = λ p f z c fits below. fits.owns c below;
   }
 
-  passes : PassesZonesOn Keeping (cells_of prog) prog (Fits prog regions base) (pending_at prog) (Expects prog)
+  passes : PassesZonesOn Keeping (kept_cells prog) prog (Fits prog regions base) (pending_at prog) (Expects prog)
   passes = record {
     plain_ok = λ p f z m e fits going act fine.
         let way = moves prog p f m e act fine in

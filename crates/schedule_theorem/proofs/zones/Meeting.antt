@@ -17,7 +17,7 @@ use Rattle.phase_laws.specs.footprints.Footprints.{pending_of}
 use Rattle.phase_laws.proofs.defined.Lists.{within_at}
 use Rattle.phase_laws.specs.zones.Uses.{HoldsCell, IsInOne, MayUse}
 use Rattle.phase_laws.specs.zones.Edges.{IsPendingFor}
-use Rattle.schedule_theorem.specs.zones.Keeping.{Keeping, OfTask, MadeBelow, cells_of, pending_at, LetsUse, Fits}
+use Rattle.schedule_theorem.specs.zones.Keeping.{Keeping, OfTask, MadeBelow, kept_cells, pending_at, LetsUse, Fits}
 use Rattle.schedule_theorem.specs.zones.ByPhases.{IsJudged}
 use Rattle.schedule_theorem.proofs.zones.Paths.{owned_up, same_child, not_below}
 use Rattle.schedule_theorem.proofs.zones.Tasks.{own_name}
@@ -37,10 +37,10 @@ module _ (prog : Program) (regions : Regions) (judged : IsJudged prog regions) (
     abbrev new : Keeping
     new = OfTask g zones (f.made ∷ p)
 
-    new_lets : (mode : Mode) (c : Cell) → IsInOne g zones mode c → LetsUse (cells_of prog z) mode c
-    new_lets mode c any = lets_covered (cells_of prog z) any.1.mode mode c any.4.1 (lets prog regions judged base p f z fits any.1.mode c (may any.1 (any.0, any.2, any.3) c any.4.0))
+    new_lets : (mode : Mode) (c : Cell) → IsInOne g zones mode c → LetsUse (kept_cells prog z) mode c
+    new_lets mode c any = lets_covered (kept_cells prog z) any.1.mode mode c any.4.1 (lets prog regions judged base p f z fits any.1.mode c (may any.1 (any.0, any.2, any.3) c any.4.0))
 
-    pub new_covered : Covers (cells_of prog z) (cells_of prog new)
+    pub new_covered : Covers (kept_cells prog z) (kept_cells prog new)
     new_covered = record {
       reads = λ c h. elim h [ inl any ↦ new_lets Reads c any | inr below ↦ (fits.owns c (owned_up f.made p c.object below)).0 ];
       adds = λ c h. elim h [ inl any ↦ new_lets Adds c any | inr below ↦ (fits.owns c (owned_up f.made p c.object below)).1 ];
@@ -55,7 +55,7 @@ module _ (prog : Program) (regions : Regions) (judged : IsJudged prog regions) (
         let less : made.0 < f.made = made.1 in
         omega (arith, less, same)
 
-    pub new_clear : (region : ℕ) → Clear (cells_of prog new) (cells_of prog (pending_at prog p f region))
+    pub new_clear : (region : ℕ) → Clear (kept_cells prog new) (kept_cells prog (pending_at prog p f region))
     new_clear region = record {
       first = λ c h k. apart Reads Adds (record { 0 = region }) c read_add h k;
       second = λ c h k. apart Adds Reads (record { 0 = region }) c add_read h k;

@@ -30,7 +30,7 @@ use Rattle.schedule_theorem.specs.pointers.Given.{KnowsGiven}
 use Rattle.phase_laws.specs.zones.Uses.{HoldsCell, task_of}
 use Rattle.phase_laws.specs.zones.Edges.{GoesAlong, IsPendingFor}
 use Rattle.phase_laws.proofs.zones.Edges.{pending_goes_on}
-use Rattle.schedule_theorem.specs.zones.Keeping.{Keeping, MadeBelow, cells_of, pending_at, ElementsAreKept, IsBehindCall, Fits}
+use Rattle.schedule_theorem.specs.zones.Keeping.{Keeping, MadeBelow, kept_cells, pending_at, ElementsAreKept, IsBehindCall, Fits}
 use Rattle.schedule_theorem.specs.zones.ByPhases.{IsJudged}
 use Rattle.schedule_theorem.proofs.zones.Zones.{IsOutside, IsOff, zone_stays, zone_back, needs_off}
 use Rattle.schedule_theorem.proofs.zones.Clear.{covers_trans, covers_own, stands, pending_here, task_here}
@@ -51,7 +51,7 @@ module _ (prog : Program) (f g : Frame) where
   made_on : (p : Path) (o : Object) → f.made ≤ g.made → MadeBelow p f.made o → MadeBelow p g.made o
   made_on p o more h = (h.0, (let l = h.1 in omega (arith, more, l)), h.2)
 
-  pub region_covers : (p : Path) (region : ℕ) → f.made ≤ g.made → GoOn (record { 0 = region }) → Covers (cells_of prog (pending_at prog p g region)) (cells_of prog (pending_at prog p f region))
+  pub region_covers : (p : Path) (region : ℕ) → f.made ≤ g.made → GoOn (record { 0 = region }) → Covers (kept_cells prog (pending_at prog p g region)) (kept_cells prog (pending_at prog p f region))
   region_covers p region more on = record {
     reads = λ c h. elim h [ inl any ↦ inl (pending_for (record { 0 = region }) Reads c on any) | inr made ↦ inr (made_on p c.object more made) ];
     adds = λ c h. elim h [ inl any ↦ inl (pending_for (record { 0 = region }) Adds c on any) | inr made ↦ inr (made_on p c.object more made) ];

@@ -7,7 +7,7 @@ use Rattle.program.specs.declared.function.Function.{Function}
 use Rattle.conditions.specs.rules.Costs.{numbers}
 use Rattle.phase_laws.specs.facts.Known.{IsMet}
 use Rattle.phase_laws.proofs.facts.Handed.{facts_at_start}
-use Rattle.schedule_theorem.specs.zones.Keeping.{Keeping, OfTask, cells_of, pending_at, Fits, Expects}
+use Rattle.schedule_theorem.specs.zones.Keeping.{Keeping, OfTask, kept_cells, pending_at, Fits, Expects}
 use Rattle.schedule_theorem.specs.zones.Conditions.{SchedulesAgree}
 use Rattle.schedule_theorem.proofs.zones.Conditions.{zones_are_met}
 use Rattle.schedule_theorem.proofs.zones.Starting.{zones_at_start}
@@ -18,6 +18,6 @@ schedules_agree prog regions base holds opens judged gives closes arguments memo
     let at_main : (other : Function) → slice_get prog.functions prog.main.0 ≡ Some other → All (IsMet (numbers (root_frame prog arguments).registers)) other.requirements =
     λ other at. (let both : Some function ≡ Some other = sym is.at_function ∙ at in let same : function ≡ other = cc in
     subst (λ (f : Function). All (IsMet (numbers (root_frame prog arguments).registers)) f.requirements) same met) in
-    kept_by_schedules Keeping (cells_of prog) prog (Fits prog regions (λ p f. base p f ≡ true)) (pending_at prog) (Expects prog) (λ p f. holds p f ≡ true) opens meets.stays meets.passes closes arguments memory
+    kept_by_schedules Keeping (kept_cells prog) prog (Fits prog regions (λ p f. base p f ≡ true)) (pending_at prog) (Expects prog) (λ p f. holds p f ≡ true) opens meets.stays meets.passes closes arguments memory
     (OfTask (root_frame prog arguments) function.zones [])
     (zones_at_start prog regions base judged arguments function block is based (facts_at_start prog judged.ranges arguments at_main)) held o meant workers some events

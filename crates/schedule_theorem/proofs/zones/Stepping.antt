@@ -51,7 +51,7 @@ use Rattle.schedule_theorem.specs.pointers.Given.{KnowsGiven}
 use Rattle.schedule_theorem.proofs.pointers.Kept.{Agrees, Passes, action_passes}
 use Rattle.schedule_theorem.proofs.pointers.Runs.{carried}
 use Rattle.phase_laws.specs.zones.Uses.{StandsIn, task_of}
-use Rattle.schedule_theorem.specs.zones.Keeping.{Keeping, cells_of, pending_at, IsBehindCall, Fits}
+use Rattle.schedule_theorem.specs.zones.Keeping.{Keeping, kept_cells, pending_at, IsBehindCall, Fits}
 use Rattle.schedule_theorem.specs.zones.ByPhases.{IsJudged, GivesWidths}
 use Rattle.schedule_theorem.proofs.zones.Zones.{IsOutside, IsOff}
 use Rattle.schedule_theorem.proofs.zones.Tasks.{task_is, covering_off}
@@ -146,7 +146,7 @@ module _ (prog : Program) (regions : Regions) (judged : IsJudged prog regions) (
           (λ j d name index c less there cell. absurd (omega (arith, less, start))) (names_on g fn home agrees (λ k d e. absurd (never k d e))) returns (never_waits g never)
 
       pub edge_pending : (taken : Taken prog f function block (ending_of prog f function block here t at).0 target) →
-          (region : ℕ) → f.made ≤ g.made → ((q : RegisterId) → q.0 ≡ region → hands_on taken.edge.way q ≡ true) → Covers (cells_of prog (pending_at prog p g region)) (cells_of prog (pending_at prog p f region))
+          (region : ℕ) → f.made ≤ g.made → ((q : RegisterId) → q.0 ≡ region → hands_on taken.edge.way q ≡ true) → Covers (kept_cells prog (pending_at prog p g region)) (kept_cells prog (pending_at prog p f region))
       edge_pending taken region more hands =
           let e = ending_of prog f function block here t at in
           region_covers prog f g p region more
@@ -193,7 +193,7 @@ module _ (prog : Program) (regions : Regions) (judged : IsJudged prog regions) (
           (names_on (went f e) refl refl agrees_next (λ k d h. absurd (never k d h))) returns_next (never_waits (went f e) never)
       plain_fits (is_along t at to on) = edge_fits t way.Branch e.block at to refl (went f e) refl refl on.index refl on.along agrees_next never placed_next based_next known_next returns_next
 
-      pub plain_pending : Moves prog f e → (region : ℕ) → Covers (cells_of prog (pending_at prog p (went f e) region)) (cells_of prog (pending_at prog p f region))
+      pub plain_pending : Moves prog f e → (region : ℕ) → Covers (kept_cells prog (pending_at prog p (went f e) region)) (kept_cells prog (pending_at prog p f region))
       plain_pending (is_next i at on) region = region_covers prog f (went f e) p region (no_less f.made) (pending_stays prog (Sets i) f (went f e) (record { 0 = region }) refl on.block (step_outside i on) (waiting_stays f.index i at))
       plain_pending (is_along t at to on) region =
           let acts : terminator_action prog p f t ≡ Plain e = same_action prog judged.ranges judged.typed judged.stable p f m (Ends t) e act at in

@@ -26,7 +26,7 @@ use Rattle.phase_laws.specs.facts.Known.{KnownHold}
 use Rattle.phase_laws.proofs.facts.Edges.{IsTaken, sync_taken, tests_here}
 use Rattle.schedule_theorem.proofs.pointers.Kept.{Agrees, Passes, action_passes}
 use Rattle.phase_laws.specs.zones.Uses.{StandsIn}
-use Rattle.schedule_theorem.specs.zones.Keeping.{Keeping, cells_of, pending_at, Fits}
+use Rattle.schedule_theorem.specs.zones.Keeping.{Keeping, kept_cells, pending_at, Fits}
 use Rattle.schedule_theorem.specs.zones.ByPhases.{IsJudged, GivesWidths}
 use Rattle.schedule_theorem.proofs.zones.Edges.{IsSyncWay, sync_ways, end_place, takes_way}
 use Rattle.schedule_theorem.proofs.zones.Stepping.{facts, tasks, ensured_from, here, edge_fits, edge_pending}
@@ -74,7 +74,7 @@ module _ (prog : Program) (regions : Regions) (judged : IsJudged prog regions) (
       ((tasks prog regions judged base gives).sync_kept p f m region target registers tt fits.placed act tt).next based kept.next
       (ensured_from prog regions judged base gives p p f next m m one_more kept.finds (λ v. refl))
 
-  pub sync_pending : (r : ℕ) → r ≢ region → Covers (cells_of prog (pending_at prog p next r)) (cells_of prog (pending_at prog p f r))
+  pub sync_pending : (r : ℕ) → r ≢ region → Covers (kept_cells prog (pending_at prog p next r)) (kept_cells prog (pending_at prog p f r))
   sync_pending r apart =
       let place = end_place prog f fits.placed.function fits.placed.block in_block stop.0 stop.1 in
       let way_taken : IsTaken fits.placed.block.steps stop.0 (numbers f.registers) target = sync_taken prog f fits.placed.block.steps (tests_here prog judged.ranges f stop.0 place known) stop.0 region target stop.2 in

@@ -16,14 +16,14 @@ use Rattle.phase_laws.specs.region_match.declared.tables.Regions.{Regions}
 use Rattle.phase_laws.specs.defined.Leads.{IsBlock}
 use Rattle.conditions.specs.rules.Costs.{numbers}
 use Rattle.phase_laws.specs.facts.Known.{IsMet, KnownHold}
-use Rattle.schedule_theorem.specs.zones.Keeping.{Keeping, OfTask, cells_of, pending_at, Fits, Expects}
+use Rattle.schedule_theorem.specs.zones.Keeping.{Keeping, OfTask, kept_cells, pending_at, Fits, Expects}
 use Rattle.schedule_theorem.specs.zones.ByPhases.{IsJudged, GivesWidths, IsByRules}
 
 -- each instruction of a frame stays in the frame's zone and clear of what is pending, and zones and what is pending are passed on; for conditions
 -- that are given by tests
 pub record MeetsZones (prog : Program) (regions : Regions) (base : Path → Frame → Type 0) : Type 0 where
-  pub stays : StaysInZone Keeping (cells_of prog) prog (Fits prog regions base) (pending_at prog)
-  pub passes : PassesZonesOn Keeping (cells_of prog) prog (Fits prog regions base) (pending_at prog) (Expects prog)
+  pub stays : StaysInZone Keeping (kept_cells prog) prog (Fits prog regions base) (pending_at prog)
+  pub passes : PassesZonesOn Keeping (kept_cells prog) prog (Fits prog regions base) (pending_at prog) (Expects prog)
 
 abbrev pub ZonesAreMet : Type 0
 ZonesAreMet =

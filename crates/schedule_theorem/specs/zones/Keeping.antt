@@ -41,13 +41,13 @@ pub data Keeping : Type 0 where
 abbrev pub MadeBelow : Path → ℕ → Object → Type 0
 MadeBelow p made o = (k : ℕ) × (k < made) × OwnedBelow (k ∷ p) o
 
-abbrev pub cells_of : Program → Keeping → Cells
-cells_of prog (OfTask f zones p) = record {
+abbrev pub kept_cells : Program → Keeping → Cells
+kept_cells prog (OfTask f zones p) = record {
   reads = λ c. IsInOne f zones Reads c ⊎ OwnedBelow p c.object;
   adds = λ c. IsInOne f zones Adds c ⊎ OwnedBelow p c.object;
   gives = λ v. f.role ≡ Body → IsEnsured prog f v;
 }
-cells_of prog (OfRegion f pending region p) = record {
+kept_cells prog (OfRegion f pending region p) = record {
   reads = λ c. IsPendingFor f pending region Reads c ⊎ MadeBelow p f.made c.object;
   adds = λ c. IsPendingFor f pending region Adds c ⊎ MadeBelow p f.made c.object;
   gives = λ v. Unit {0};
@@ -91,14 +91,14 @@ pub record Fits (prog : Program) (regions : Regions) (base : Path → Frame → 
   pub own : is_own_block (task_of regions f) ≡ true → f.home ≡ p
   -- the zones that cover its block lie within
   pub covers : (function : Function) → slice_get prog.functions f.function ≡ Some function → (y : Zone) →
-      Contains (covering_of function (task_of regions f)) y → (c : Cell) → HoldsCell f y c → LetsUse (cells_of prog z) y.mode c
-  pub owns : (c : Cell) → OwnedBelow p c.object → (cells_of prog z).reads c × (cells_of prog z).adds c
+      Contains (covering_of function (task_of regions f)) y → (c : Cell) → HoldsCell f y c → LetsUse (kept_cells prog z) y.mode c
+  pub owns : (c : Cell) → OwnedBelow p c.object → (kept_cells prog z).reads c × (kept_cells prog z).adds c
   -- what is true of its result is what was promised
-  pub returns : (v : Option ℤ) → IsEnsured prog f v → (cells_of prog z).gives v
+  pub returns : (v : Option ℤ) → IsEnsured prog f v → (kept_cells prog z).gives v
   pub awaits : (k : ℕ) (d : Option RegisterId) → f.waits ≡ OnCall k d → IsBehindCall prog f d
 
 -- a frame that waits for a call knows, with any result that the callee promised, what its place knows; and what holds then of its own result holds now
 abbrev pub Expects : Program → Frame → Keeping → Type 0
 Expects prog f z =
-    (k : ℕ) (d : Option RegisterId) (result : Option ℤ) → f.waits ≡ OnCall k d → (cells_of prog z).gives result →
+    (k : ℕ) (d : Option RegisterId) (result : Option ℤ) → f.waits ≡ OnCall k d → (kept_cells prog z).gives result →
     KnownHold prog (resumed f d result) × ((v : Option ℤ) → IsEnsured prog (resumed f d result) v → IsEnsured prog f v)

@@ -12,8 +12,6 @@ use Rattle.running.specs.Effect as running
 use Rattle.linear.specs.declared.form.RegisterId.{RegisterId}
 use Rattle.program.specs.declared.function.Function.{Function}
 use Rattle.program.specs.declared.function.Program.{Program}
-use Rattle.program.specs.declared.function.RegisterKind.{RegisterKind}
-use Rattle.program.specs.declared.instruction.Instruction.{Instruction}
 use Rattle.program.specs.declared.instruction.Instruction.TheVariants as instruction
 use Rattle.frame.specs.declared.effect.Effect.{Effect}
 use Rattle.frame.specs.declared.frame.Frame.{Frame}
@@ -22,9 +20,9 @@ use Rattle.frame.specs.declared.value.Cell.{Cell}
 use Rattle.frame.specs.Asked.{asked, passed}
 use Rattle.frame.specs.Reading.{cell_of, frame_of, held_of, registers_of, value_of}
 use Rattle.frame.specs.Room.{CanDo, HasChild, HasNext, HasRegister, HasResult, register_count}
-use Rattle.conditions.specs.rules.Moves.{dest_of, number_of}
+use Rattle.conditions.specs.rules.Moves.{dest_of}
 use Rattle.conditions.specs.rules.InProofs.{Moves, is_next, is_along}
-use Rattle.schedule_theorem.specs.typing.Kinds.{IsOfKind, IsResult, IsKinded, HasKinds}
+use Rattle.schedule_theorem.specs.typing.Kinds.{IsResult, HasKinds}
 use Rattle.serial_promise.specs.room.Room.{DoesNotTrap, EffectsFit, FramesHaveRoom}
 use Rattle.conditions.proofs.rules.Moves.{moves, calls_here}
 use Rattle.serial_promise.proofs.room.Operands.{function_there, operands_fit}

@@ -3,7 +3,6 @@ use Rattle.std.proofs.Common.{◌≡◌, ℕ, ◌≤◌, ◌<◌, Option, Some, 
 use Rattle.running.specs.Frames.{and_then, block_phis, phis_at}
 use Rattle.program.specs.declared.function.Function.{Function}
 use Rattle.program.specs.declared.function.Program.{Program}
-use Rattle.program.specs.declared.instruction.Phi.{Phi}
 use Rattle.frame.specs.Room.{register_count}
 use Rattle.schedule_theorem.specs.typing.Kinds.{HasKinds}
 use Rattle.serial_promise.specs.room.Room.{MovesFit}

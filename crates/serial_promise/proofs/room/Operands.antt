@@ -1,5 +1,5 @@
 -- Numbers of i32 that an instruction reads are numbers of that type.
-use Rattle.std.proofs.Common.{◌≡◌, ℕ, List, Option, Some, None, true, refl, subst, slice_get}
+use Rattle.std.proofs.Common.{◌≡◌, ℕ, List, Option, Some, None, true, refl, slice_get}
 use Rattle.running.specs.Frames.{Value, Word, Truth, Pointer, Region, Registers, Frame, Item, Does, Ends, and_then, item_of, item_at, word_of, word_at}
 use Rattle.program.specs.declared.function.Block.{Block}
 use Rattle.program.specs.declared.function.Function.{Function}

@@ -1,5 +1,5 @@
 -- A frame of the machine has room for what its place asks for.
-use Rattle.std.specs.Prelude.{◌≡◌, ℕ, ◌≤◌, length, None, Ok, slice_get}
+use Rattle.std.specs.Prelude.{◌≡◌, ℕ, None, Ok}
 use Rattle.running.specs.Paths.{Path}
 use Rattle.running.specs.Cells.{Memory}
 use Rattle.running.specs.Frames.{phis_at}

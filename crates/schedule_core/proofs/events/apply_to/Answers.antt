@@ -1,4 +1,4 @@
-use Rattle.std.proofs.Common.{rules, ◌≡◌, reverse, subst, sym}
+use Rattle.std.proofs.Common.{rules, reverse, subst, sym}
 use Rattle.worker_steps.specs.Running.{IsGoing}
 use Rattle.worker_steps.specs.Stepping.{DoesEvent}
 use Rattle.worker_steps.proofs.Happening.{over_quiet, steal_done}

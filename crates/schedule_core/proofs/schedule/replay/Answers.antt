@@ -1,5 +1,4 @@
 use Rattle.std.proofs.Common.{rules, ◌≡◌, length}
-use Rattle.schedule_core.specs.Replaying.{DoesAll}
 use Rattle.schedule_core.proofs.Promised.{keeps_schedule, machine_after, never_stops}
 use Rattle.schedule_core.proofs.Replaying.{all_from, replays_all}
 use Rattle.schedule_core.proofs.schedule.replay.Goals as goal

@@ -1,10 +1,8 @@
-use Rattle.std.proofs.Common.{◌≡◌, ◌⊎◌, ℕ, List, [], Some, Contains, arith, inl, inr, sym, ap, subst, ◌∙◌}
+use Rattle.std.proofs.Common.{◌≡◌, ℕ, List, [], Contains, arith, inl, inr, sym, ap, subst, ◌∙◌}
 use Rattle.std.specs.Option.{option_copied}
 use Rattle.slab.specs.Slab.{entries_from}
 use Rattle.slab.proofs.SlabLemmas.{Contains-cons_cases}
 use Rattle.cactus.specs.declared.node.Node.{Node}
-use Rattle.cactus.specs.Frames.{node_at}
-use Rattle.cactus.specs.ByPath.{IsTree}
 use Rattle.worker_steps.specs.declared.activation.Activation.{Activation}
 use Rattle.schedule_core.proofs.Firsts.{Covered, covered_next, found_next, listed_node}
 use Rattle.schedule_core.proofs.Views.{least_found, none_found}

@@ -1,4 +1,4 @@
-use Rattle.std.proofs.Common.{ℕ, Option, Some, None, sym, ap, ◌∙◌, subst}
+use Rattle.std.proofs.Common.{ℕ, Option, Some, subst}
 use Rattle.worker_steps.specs.Seen.{FindsTop}
 use Rattle.worker_steps.specs.Tasks.{IsTaskTop}
 use Rattle.std.specs.Prelude.{IfSome}

@@ -1,4 +1,4 @@
-use Rattle.std.proofs.Common.{◌≡◌, Some, None, sym, ap, ◌∙◌}
+use Rattle.std.proofs.Common.{◌≡◌, Some, None, sym, ◌∙◌}
 use Rattle.worker_steps.specs.Scheduling.{hand_of}
 use Rattle.schedule_core.proofs.Views.{idle_hand, low_found, run_if, run_never_none}
 use Rattle.schedule_core.proofs.Replaying.{run_kept}
