@@ -197,7 +197,9 @@ fn run_events<W: Write>(
     let cells = request.show.as_slice();
     let workers = request.workers;
     match request.verb {
-        Verb::Verify | Verb::Print | Verb::Show | Verb::Annotate => print_verified(verified, request, output),
+        Verb::Verify | Verb::Print | Verb::Show | Verb::Annotate => print_verified(
+            verified, request, output,
+        ),
         Verb::Serial => print_run(&run_serially(alloc, verified, args, memory), cells, output),
         Verb::Run => print_run(
             &run_by_one(alloc, verified, args, memory, workers),

@@ -163,7 +163,8 @@ fn repeated<'a>(alloc: Global, name: &'a str, value: &'a str, help: &'a str) -> 
 }
 
 /// What the help of each command tells last.
-const STATUSES: &str = "Statuses: 0 done, 1 refused module, 2 command line, 3 stopped, 4 unreadable file, 5 bad schedule, 6 a failed write";
+const STATUSES: &str =
+    "Statuses: 0 done, 1 refused module, 2 command line, 3 stopped, 4 unreadable file, 5 bad schedule, 6 a failed write";
 
 /// A command that takes a module alone.
 fn module_command<'a>(

@@ -17,7 +17,9 @@ fn answers_as_serial(
     let serial = format!(in alloc; "tapirvm serial m.ll --arg 3")?;
     let (status, wanted) = told(rt, serial.as_str(), module, None)?;
     assert_eq!(rt; status, 0);
-    let drawn = format!(in alloc; "tapirvm run m.ll --workers 4 --arg 3 --seed {seed} --schedule o")?;
+    let drawn = format!(in alloc;
+        "tapirvm run m.ll --workers 4 --arg 3 --seed {seed} --schedule o"
+    )?;
     let (status, output) = told(rt, drawn.as_str(), module, None)?;
     assert_eq!(rt; status, 0, "{name} {seed}");
     let Some(events) = output.as_slice().strip_prefix(wanted.as_slice()) else {

@@ -748,4 +748,57 @@ result 14
 instructions 14
 peak 2
 status 0
+
+# puts in what follows
+of pair
+without 22
+without 17
+without 16
+without 10
+without 6
+without 4
+$ tapirvm annotate m.ll
+@a = global [2 x i64] zeroinitializer
+define i64 @main(i64 %n) {
+  ;! budget 0 14
+;! writes @a 0 2
+entry:
+  ;! left 0 14
+%s = call token @llvm.syncregion.start()
+detach within %s, label %d, label %c
+d:
+  ;! left 0 3
+;! foot writes @a 0 1
+%p = getelementptr inbounds i64, ptr @a, i64 0
+store i64 %n, ptr %p
+reattach within %s, label %c
+c:
+  ;! pending %s writes @a 0 1
+  ;! left 0 9
+%q = getelementptr inbounds i64, ptr @a, i64 1
+store i64 %n, ptr %q
+sync within %s, label %j
+j:
+  ;! left 0 6
+%u = getelementptr inbounds i64, ptr @a, i64 0
+%x = load i64, ptr %u
+%v = getelementptr inbounds i64, ptr @a, i64 1
+%y = load i64, ptr %v
+%t = add i64 %x, %y
+ret i64 %t
+}
+status 0
+of add-one
+without 9
+$ tapirvm annotate m.ll
+refused 105 line 8
+status 1
+of nothing
+$ tapirvm annotate m.ll
+unreadable m.ll
+status 4
+of pair
+$ tapirvm annotate
+$ tapirvm annotate m.ll --workers 1
+status 2
 ";
