@@ -4,6 +4,7 @@ ghost use Rattle.program.specs.declared.function.Program.{Program};
 ghost use Rattle.std.specs.Prelude.{IfOk};
 ghost use Rattle.store.specs.Made.{HasGlobalCells};
 
+use crate::reasons::{print_explanation, print_rule};
 use crate::request::{CellWord, Request, Setting, Verb};
 use crate::status::Status;
 use debugger::{ScheduleFault, read_schedule};
@@ -44,10 +45,16 @@ fn answer<W: Write>(
     schedule: Option<&[u8]>,
     output: &mut W,
 ) -> io::Result<Status> {
+    if let Some(number) = request.rule {
+        return print_rule(alloc, number, output);
+    }
     let Some(text) = module else {
         writeln!(output, "unreadable {}", request.file)?;
         return Ok(Status::Unreadable);
     };
+    if request.verb == Verb::Explain {
+        return print_explanation(alloc, state, text, output);
+    }
     match verify(alloc, state, text) {
         Ok(verified) => run_verified(alloc, &verified, request, schedule, output),
         Err(Refused::Fault { number, line }) => {
@@ -171,7 +178,7 @@ fn run_events<W: Write>(
     let cells = request.show.as_slice();
     let workers = request.workers;
     match request.verb {
-        Verb::Verify => print_verified(verified, request, output),
+        Verb::Verify | Verb::Explain => print_verified(verified, request, output),
         Verb::Serial => print_run(&run_serially(alloc, verified, args, memory), cells, output),
         Verb::Run => print_run(
             &run_by_one(alloc, verified, args, memory, workers),

@@ -2,6 +2,7 @@
 #![tactic(auto)]
 
 mod act;
+mod reasons;
 mod request;
 mod status;
 #[cfg(test)]

@@ -3,6 +3,7 @@
 use crate::request::{CellWord, Request, Setting, Verb, WordsFault};
 use clap::error::ErrorKind;
 use clap::{Arg, ArgAction, ArgMatches, Command, Error};
+use explain::rule_text;
 use std::alloc::{AllocError, Global};
 
 /// Whether a text is a name by the rules of the module's text, without its sigil.
@@ -147,6 +148,18 @@ fn verify_command<'a>(alloc: Global) -> Result<Command<'a>, AllocError> {
         .arg(table)
 }
 
+fn explain_command<'a>(alloc: Global) -> Result<Command<'a>, AllocError> {
+    let file = Arg::new(alloc, "file")
+        .value_name("FILE|NUMBER")
+        .required(true)
+        .help("a module, or the number of a rule; status 1 where the module is refused");
+    Command::new(alloc, "explain")
+        .about(
+            "says why a module is refused and what was to be shown, or what an accepted one could do without; or prints a rule",
+        )
+        .arg(file)
+}
+
 /// The options of a verb that runs a module.
 fn running<'a>(alloc: Global, command: Command<'a>) -> Result<Command<'a>, AllocError> {
     let file = Arg::new(alloc, "file").value_name("FILE").required(true);
@@ -209,6 +222,7 @@ fn command<'a>(alloc: Global) -> Result<Command<'a>, AllocError> {
         .about("A verified fork-join machine for LLVM IR with Tapir's detach, reattach and sync")
         .subcommand_required(true)
         .subcommand(verify_command(alloc)?)?
+        .subcommand(explain_command(alloc)?)?
         .subcommand(serial_command(alloc)?)?
         .subcommand(run_command(alloc)?)?
         .subcommand(replay_command(alloc)?)
@@ -238,6 +252,39 @@ fn verify_request(alloc: Global, matches: &ArgMatches<'_>) -> Result<Request, Wo
         set: Vec::new(alloc),
         show: Vec::new(alloc),
         table: table_of(alloc, matches)?,
+        rule: None,
+    })
+}
+
+/// The number of a rule, where the word is a number; a fault where no rule has it.
+fn rule_of(alloc: Global, word: &str) -> Result<Option<u16>, WordsFault> {
+    if !word.bytes().all(|byte| byte.is_ascii_digit()) {
+        return Ok(None);
+    }
+    let number = word.parse::<u16>().unwrap_or(0);
+    match rule_text(alloc, number) {
+        Ok(Some(_)) => Ok(Some(number)),
+        Ok(None) => match format!(in alloc; "error: no rule has the number {word}\n") {
+            Ok(text) => Err(WordsFault::told(text)),
+            Err(_) => Err(WordsFault::out_of_memory()),
+        },
+        Err(_) => Err(WordsFault::out_of_memory()),
+    }
+}
+
+fn explain_request(alloc: Global, matches: &ArgMatches<'_>) -> Result<Request, WordsFault> {
+    let file = file_of(alloc, matches)?;
+    let rule = rule_of(alloc, file.as_str())?;
+    Ok(Request {
+        verb: Verb::Explain,
+        file,
+        schedule: None,
+        workers: 1,
+        args: Vec::new(alloc),
+        set: Vec::new(alloc),
+        show: Vec::new(alloc),
+        table: None,
+        rule,
     })
 }
 
@@ -251,6 +298,7 @@ fn request_of(alloc: Global, verb: Verb, matches: &ArgMatches<'_>) -> Result<Req
         set: settings_of(alloc, matches)?,
         show: cells_of(alloc, matches)?,
         table: None,
+        rule: None,
     })
 }
 
@@ -262,6 +310,7 @@ pub fn words<'a>(alloc: Global, words: &'a [&'a str]) -> Result<Request, WordsFa
     };
     match parsed.subcommand() {
         Some(("verify", matches)) => verify_request(alloc, matches),
+        Some(("explain", matches)) => explain_request(alloc, matches),
         Some(("serial", matches)) => request_of(alloc, Verb::Serial, matches),
         Some(("run", matches)) => request_of(alloc, Verb::Run, matches),
         Some(("replay", matches)) => {
