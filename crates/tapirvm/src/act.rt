@@ -5,6 +5,7 @@ ghost use Rattle.std.specs.Prelude.{IfOk};
 ghost use Rattle.store.specs.Made.{HasGlobalCells};
 
 use crate::draw::run_drawn;
+use crate::reasons::{print_explanation, print_rule};
 use crate::request::{CellWord, Request, Setting, Verb};
 use crate::status::Status;
 use crate::tell::tell_replay;
@@ -51,6 +52,9 @@ fn answer<W: Write>(
     output: &mut W,
     written: &mut String,
 ) -> io::Result<Status> {
+    if let Some(number) = request.rule {
+        return print_rule(alloc, number, output);
+    }
     let Some(text) = module else {
         writeln!(output, "unreadable {}", request.file)?;
         return Ok(Status::Unreadable);
@@ -58,6 +62,7 @@ fn answer<W: Write>(
     match request.verb {
         Verb::Print => return print_text(printed(alloc, state, text), output),
         Verb::Annotate => return print_text(annotated(alloc, state, text), output),
+        Verb::Explain => return print_explanation(alloc, state, text, output),
         _ => {}
     }
     match verify(alloc, state, text) {
@@ -197,9 +202,9 @@ fn run_events<W: Write>(
     let cells = request.show.as_slice();
     let workers = request.workers;
     match request.verb {
-        Verb::Verify | Verb::Print | Verb::Show | Verb::Annotate => print_verified(
-            verified, request, output,
-        ),
+        Verb::Verify | Verb::Print | Verb::Show | Verb::Annotate | Verb::Explain => {
+            print_verified(verified, request, output)
+        }
         Verb::Serial => print_run(&run_serially(alloc, verified, args, memory), cells, output),
         Verb::Run => print_run(
             &run_by_one(alloc, verified, args, memory, workers),

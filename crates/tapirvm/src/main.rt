@@ -3,6 +3,7 @@
 
 mod act;
 mod draw;
+mod reasons;
 mod request;
 mod status;
 mod tell;

@@ -5,6 +5,8 @@ use std::alloc::{AllocError, AllocFailed};
 pub enum Verb {
     /// Verify the module, and tell its budget and depth.
     Verify,
+    /// Say why the module is refused, or print a rule.
+    Explain,
     /// Run the serial elision.
     Serial,
     /// Run on workers.
@@ -52,6 +54,8 @@ pub struct Request {
     pub show: Vec<CellWord>,
     /// The name, without `@`, of the function whose costs to print, for the verb that takes one.
     pub table: Option<String>,
+    /// The number of the rule to print in place of a module, for the verb that takes one.
+    pub rule: Option<u16>,
     /// How the verb tells of the run, and where to.
     pub telling: Telling,
 }

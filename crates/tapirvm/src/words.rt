@@ -3,6 +3,7 @@
 use crate::request::{CellWord, Request, Setting, Telling, Verb, WordsFault};
 use clap::error::ErrorKind;
 use clap::{Arg, ArgAction, ArgMatches, Command, Error};
+use explain::rule_text;
 use std::alloc::{AllocError, Global};
 
 /// Whether a text is a name by the rules of the module's text, without its sigil.
@@ -197,6 +198,18 @@ fn annotate_command<'a>(alloc: Global) -> Result<Command<'a>, AllocError> {
     module_command(alloc, "annotate", about)
 }
 
+fn explain_command<'a>(alloc: Global) -> Result<Command<'a>, AllocError> {
+    let file = Arg::new(alloc, "file")
+        .value_name("FILE|NUMBER")
+        .required(true)
+        .help("a module, or the number of a rule; status 1 where the module is refused");
+    Command::new(alloc, "explain")
+        .about(
+            "says why a module is refused and what was to be shown, or what an accepted one could do without; or prints a rule",
+        )
+        .arg(file)
+}
+
 /// The options of a verb that runs a module.
 fn running<'a>(alloc: Global, command: Command<'a>) -> Result<Command<'a>, AllocError> {
     command
@@ -275,6 +288,7 @@ fn command<'a>(alloc: Global) -> Result<Command<'a>, AllocError> {
         .about("A verified fork-join machine for LLVM IR with Tapir's detach, reattach and sync")
         .subcommand_required(true)
         .subcommand(verify_command(alloc)?)?
+        .subcommand(explain_command(alloc)?)?
         .subcommand(serial_command(alloc)?)?
         .subcommand(run_command(alloc)?)?
         .subcommand(replay_command(alloc)?)?
@@ -313,7 +327,30 @@ fn module_request(
         show: Vec::new(alloc),
         table: None,
         telling: Telling::nothing(),
+        rule: None,
     })
+}
+
+/// The number of a rule, where the word is a number; a fault where no rule has it.
+fn rule_of(alloc: Global, word: &str) -> Result<Option<u16>, WordsFault> {
+    if !word.bytes().all(|byte| byte.is_ascii_digit()) {
+        return Ok(None);
+    }
+    let number = word.parse::<u16>().unwrap_or(0);
+    match rule_text(alloc, number) {
+        Ok(Some(_)) => Ok(Some(number)),
+        Ok(None) => match format!(in alloc; "error: no rule has the number {word}\n") {
+            Ok(text) => Err(WordsFault::told(text)),
+            Err(_) => Err(WordsFault::out_of_memory()),
+        },
+        Err(_) => Err(WordsFault::out_of_memory()),
+    }
+}
+
+fn explain_request(alloc: Global, matches: &ArgMatches<'_>) -> Result<Request, WordsFault> {
+    let request = module_request(alloc, Verb::Explain, matches)?;
+    let rule = rule_of(alloc, request.file.as_str())?;
+    Ok(Request { rule, ..request })
 }
 
 fn verify_request(alloc: Global, matches: &ArgMatches<'_>) -> Result<Request, WordsFault> {
@@ -332,6 +369,7 @@ fn request_of(alloc: Global, verb: Verb, matches: &ArgMatches<'_>) -> Result<Req
         set: settings_of(alloc, matches)?,
         show: cells_of(alloc, matches)?,
         table: None,
+        rule: None,
         telling: Telling::nothing(),
     })
 }
@@ -391,6 +429,7 @@ pub fn words<'a>(alloc: Global, words: &'a [&'a str]) -> Result<Request, WordsFa
     };
     match parsed.subcommand() {
         Some(("verify", matches)) => verify_request(alloc, matches),
+        Some(("explain", matches)) => explain_request(alloc, matches),
         Some(("serial", matches)) => request_of(alloc, Verb::Serial, matches),
         Some(("run", matches)) => run_request(alloc, matches),
         Some(("replay", matches)) => replay_request(alloc, matches),
