@@ -4,9 +4,10 @@ ghost use Rattle.program.specs.declared.function.Program.{Program};
 ghost use Rattle.std.specs.Prelude.{IfOk};
 ghost use Rattle.store.specs.Made.{HasGlobalCells};
 
+use crate::dialogue::converse;
 use crate::request::{CellWord, Request, Setting, Verb};
 use crate::status::Status;
-use debugger::{ScheduleFault, read_schedule};
+use debugger::{Debugger, ScheduleFault, read_schedule};
 use lists::OutOfMemory;
 use schedule_core::{Event, Machine, replay};
 use serial_machine::{Finished, RunFault};
@@ -27,21 +28,22 @@ pub fn act<R: Read, W: Write>(
     request: &Request,
     module: Option<&[u8]>,
     schedule: Option<&[u8]>,
-    _input: &mut R,
+    input: &mut R,
     output: &mut W,
 ) -> u8 {
-    match answer(alloc, state, request, module, schedule, output) {
+    match answer(alloc, state, request, module, schedule, input, output) {
         Ok(status) => status as u8,
         Err(_) => Status::Stream as u8,
     }
 }
 
-fn answer<W: Write>(
+fn answer<R: Read, W: Write>(
     alloc: Global,
     state: RandomState,
     request: &Request,
     module: Option<&[u8]>,
     schedule: Option<&[u8]>,
+    input: &mut R,
     output: &mut W,
 ) -> io::Result<Status> {
     let Some(text) = module else {
@@ -49,7 +51,7 @@ fn answer<W: Write>(
         return Ok(Status::Unreadable);
     };
     match verify(alloc, state, text) {
-        Ok(verified) => run_verified(alloc, &verified, request, schedule, output),
+        Ok(verified) => run_verified(alloc, &verified, request, schedule, input, output),
         Err(Refused::Fault { number, line }) => {
             writeln!(output, "refused {number} line {line}")?;
             Ok(Status::Refused)
@@ -114,22 +116,23 @@ fn stop_for_memory<W: Write>(output: &mut W) -> io::Result<Status> {
     Ok(Status::Stopped)
 }
 
-fn run_verified<W: Write>(
+fn run_verified<R: Read, W: Write>(
     alloc: Global,
     verified: &Verified,
     request: &Request,
     schedule: Option<&[u8]>,
+    input: &mut R,
     output: &mut W,
 ) -> io::Result<Status> {
     let Some(file) = &request.schedule else {
-        return run_events(alloc, verified, request, &[], output);
+        return run_events(alloc, verified, request, Vec::new(alloc), input, output);
     };
     let Some(text) = schedule else {
         writeln!(output, "unreadable {file}")?;
         return Ok(Status::Unreadable);
     };
     match read_schedule(alloc, text) {
-        Ok(events) => run_events(alloc, verified, request, events.as_slice(), output),
+        Ok(events) => run_events(alloc, verified, request, events, input, output),
         Err(ScheduleFault::Memory) => stop_for_memory(output),
         Err(fault) => {
             writeln!(output, "schedule {fault}")?;
@@ -145,9 +148,8 @@ fn prepared(alloc: Global, verified: &Verified, request: &Request) -> Result<Mem
     let Ok(mut memory) = Memory::zeroed(alloc, verified) else {
         return Err(Status::Stopped);
     };
-    if set_cells(&mut memory, request.set.as_slice())
-        && has_cells(&memory, request.show.as_slice())
-    {
+    let has_shown = request.verb == Verb::Debug || has_cells(&memory, request.show.as_slice());
+    if set_cells(&mut memory, request.set.as_slice()) && has_shown {
         Ok(memory)
     } else {
         Err(Status::Words)
@@ -155,11 +157,12 @@ fn prepared(alloc: Global, verified: &Verified, request: &Request) -> Result<Mem
 }
 
 /// Runs the module. The events are those of a replay.
-fn run_events<W: Write>(
+fn run_events<R: Read, W: Write>(
     alloc: Global,
     verified: &Verified,
     request: &Request,
-    events: &[Event],
+    events: Vec<Event>,
+    input: &mut R,
     output: &mut W,
 ) -> io::Result<Status> {
     let memory = match prepared(alloc, verified, request) {
@@ -178,8 +181,14 @@ fn run_events<W: Write>(
             cells,
             output,
         ),
-        Verb::Replay => match replay(alloc, verified, args, memory, workers, events) {
-            Ok(machine) => print_replayed(machine, cells, output),
+        Verb::Replay => {
+            match replay(alloc, verified, args, memory, workers, events.as_slice()) {
+                Ok(machine) => print_replayed(machine, cells, output),
+                Err(fault) => print_run_fault(&fault, output),
+            }
+        }
+        Verb::Debug => match Debugger::new(alloc, verified, args, memory, workers, events) {
+            Ok(mut debugger) => converse(alloc, &mut debugger, input, output),
             Err(fault) => print_run_fault(&fault, output),
         },
     }

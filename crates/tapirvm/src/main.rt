@@ -2,6 +2,7 @@
 #![tactic(auto)]
 
 mod act;
+mod dialogue;
 mod request;
 mod status;
 #[cfg(test)]
@@ -51,6 +52,11 @@ fn obey(rt: &HostRuntime, request: &Request) -> io::Result<u8> {
         &mut input,
         &mut output,
     );
+    if status == Status::Stream as u8 {
+        // nothing further is written, also not what is buffered
+        drop(output.into_parts());
+        return Ok(status);
+    }
     if output.flush().is_err() {
         return Ok(Status::Stream as u8);
     }

@@ -11,6 +11,8 @@ pub enum Verb {
     Run,
     /// Run by a schedule.
     Replay,
+    /// Go forwards and backwards through a schedule.
+    Debug,
 }
 
 /// A cell of a global, as `@a:5` names it.

@@ -2,6 +2,7 @@
 
 mod commands;
 mod counts;
+mod debugging;
 mod machines;
 mod samples;
 mod transcripts;
@@ -15,13 +16,14 @@ use std::random::RandomSource;
 use std::test::Fail;
 use verifier::{Verified, verify};
 
-/// What the program writes on a command line, its words parted by one space, over a module and a
-/// schedule; and its status.
+/// What the program writes on a command line, its words parted by one space, over a module, a
+/// schedule and its input; and its status.
 fn told(
     rt: &(impl Abort + AllocGlobal + RandomSource),
     line: &str,
     module: Option<&[u8]>,
     schedule: Option<&[u8]>,
+    input: &[u8],
 ) -> Result<(u8, Vec<u8>), Fail> {
     let alloc = rt.alloc();
     let texts: Vec<&str> = line.split(' ').collect(alloc)?;
@@ -30,7 +32,7 @@ fn told(
         Err(_) => return Ok((2, Vec::new(alloc))),
     };
     let mut output: Vec<u8> = Vec::new(alloc);
-    let mut input: &[u8] = &[];
+    let mut input = input;
     let state = RandomState::new(rt)?;
     let status = act(
         alloc,

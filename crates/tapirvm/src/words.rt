@@ -5,8 +5,26 @@ use clap::error::ErrorKind;
 use clap::{Arg, ArgAction, ArgMatches, Command, Error};
 use std::alloc::{AllocError, Global};
 
+/// What `tapirvm debug --help` says of its commands.
+const DIALOGUE: &str = "\
+Commands, one a line:
+  to N        goes to the position after N events
+  forward     does the next event
+  back        takes the last event back
+  break L     goes to the next position at which a worker's next instruction
+              stands on line L of the module, else to the end
+  task PATH   shows who runs a task and the line of its next instruction
+  cell @a:I   shows a cell
+  quit        ends, as the end of the input does
+
+Example:
+  $ printf 'to 6\\ntask root\\nback\\n' | tapirvm debug pair.ll s.txt --workers 2 --arg 7
+  at 6 of 15
+  task root stalled line 20
+  at 5 of 15";
+
 /// Whether a text is a name by the rules of the module's text, without its sigil.
-fn is_name(text: &str) -> bool {
+pub fn is_name(text: &str) -> bool {
     match text.as_bytes() {
         [] => false,
         [first, rest @ ..] => {
@@ -192,16 +210,24 @@ fn run_command<'a>(alloc: Global) -> Result<Command<'a>, AllocError> {
     .arg(workers(alloc))
 }
 
-fn replay_command<'a>(alloc: Global) -> Result<Command<'a>, AllocError> {
+/// The words of a verb that follows a schedule.
+fn scheduled<'a>(alloc: Global, command: Command<'a>) -> Result<Command<'a>, AllocError> {
     let schedule = Arg::new(alloc, "schedule")
         .value_name("SCHEDULE")
         .required(true);
-    running(
-        alloc,
-        Command::new(alloc, "replay").about("runs a module by a schedule"),
-    )?
-    .arg(schedule)?
-    .arg(workers(alloc))
+    running(alloc, command)?.arg(schedule)?.arg(workers(alloc))
+}
+
+fn replay_command<'a>(alloc: Global) -> Result<Command<'a>, AllocError> {
+    let command = Command::new(alloc, "replay").about("runs a module by a schedule");
+    scheduled(alloc, command)
+}
+
+fn debug_command<'a>(alloc: Global) -> Result<Command<'a>, AllocError> {
+    let command = Command::new(alloc, "debug")
+        .about("goes forwards and backwards through a schedule, by commands from standard input")
+        .after_help(DIALOGUE);
+    scheduled(alloc, command)
 }
 
 fn command<'a>(alloc: Global) -> Result<Command<'a>, AllocError> {
@@ -211,7 +237,8 @@ fn command<'a>(alloc: Global) -> Result<Command<'a>, AllocError> {
         .subcommand(verify_command(alloc)?)?
         .subcommand(serial_command(alloc)?)?
         .subcommand(run_command(alloc)?)?
-        .subcommand(replay_command(alloc)?)
+        .subcommand(replay_command(alloc)?)?
+        .subcommand(debug_command(alloc)?)
 }
 
 fn schedule_of(alloc: Global, matches: &ArgMatches<'_>) -> Result<String, WordsFault> {
@@ -254,6 +281,19 @@ fn request_of(alloc: Global, verb: Verb, matches: &ArgMatches<'_>) -> Result<Req
     })
 }
 
+fn schedule_request(
+    alloc: Global,
+    verb: Verb,
+    matches: &ArgMatches<'_>,
+) -> Result<Request, WordsFault> {
+    let request = request_of(alloc, verb, matches)?;
+    let schedule = schedule_of(alloc, matches)?;
+    Ok(Request {
+        schedule: Some(schedule),
+        ..request
+    })
+}
+
 /// Reads the program's words, the program's own name first.
 pub fn words<'a>(alloc: Global, words: &'a [&'a str]) -> Result<Request, WordsFault> {
     let parsed = match command(alloc)?.try_get_matches_from(words) {
@@ -264,14 +304,8 @@ pub fn words<'a>(alloc: Global, words: &'a [&'a str]) -> Result<Request, WordsFa
         Some(("verify", matches)) => verify_request(alloc, matches),
         Some(("serial", matches)) => request_of(alloc, Verb::Serial, matches),
         Some(("run", matches)) => request_of(alloc, Verb::Run, matches),
-        Some(("replay", matches)) => {
-            let request = request_of(alloc, Verb::Replay, matches)?;
-            let schedule = schedule_of(alloc, matches)?;
-            Ok(Request {
-                schedule: Some(schedule),
-                ..request
-            })
-        }
+        Some(("replay", matches)) => schedule_request(alloc, Verb::Replay, matches),
+        Some(("debug", matches)) => schedule_request(alloc, Verb::Debug, matches),
         _ => Err(wrong_value(alloc, "<COMMAND>", "")),
     }
 }
