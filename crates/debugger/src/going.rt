@@ -78,7 +78,9 @@ impl<'v> Debugger<'v> {
         events: Vec<Event>,
     ) -> Result<Debugger<'v>, RunFault>
         requires { HasGlobalCells verified.now memory }
-        ensures session { let s : Session = record { program = verified.now; arguments = arguments.now; globals = memory; workers = workers; events = events.items } in IfOk result (Debugs s) }
+        ensures session { let s : Session =
+            record { program = verified.now; arguments = arguments.now; globals = memory; workers = workers; events = events.items }
+            in IfOk result (Debugs s) }
         ensures first { IfOk result (λ d. d.position ≡ 0) }
         ensures in_range { OnOk result (IsNumberOfWorkers workers) }
         ensures bad_workers { (m : Memory) → result ≡ Err (RunFault.BadWorkers m) → (m ≡ memory) × ¬ IsNumberOfWorkers workers }

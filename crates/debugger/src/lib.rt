@@ -1,7 +1,8 @@
-//! Schedules as text, and a debugger's view of a run.
+//! Schedules as text, and forwards and backwards through one.
 //!
 //! A schedule is a list of events. `read_schedule` and `print_schedule` turn its text into the list and back: each list has
-//! one spelling, and each text that is read is the spelling of its list.
+//! one spelling, and each text that is read is the spelling of its list. A [`Debugger`] stands at a position of the list, and
+//! its machine is the replay of so many events from the start, whatever was done before.
 #![tactic(auto)]
 
 mod debugger;

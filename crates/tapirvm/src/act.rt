@@ -4,13 +4,14 @@ ghost use Rattle.program.specs.declared.function.Program.{Program};
 ghost use Rattle.std.specs.Prelude.{IfOk};
 ghost use Rattle.store.specs.Made.{HasGlobalCells};
 
+use crate::dialogue::converse;
 use crate::draw::run_drawn;
 use crate::reasons::{print_explanation, print_rule};
 use crate::request::{CellWord, Request, Setting, Verb};
 use crate::status::Status;
 use crate::tell::tell_replay;
 use annotate::annotated;
-use debugger::{ScheduleFault, read_schedule};
+use debugger::{Debugger, ScheduleFault, read_schedule};
 use lists::OutOfMemory;
 use schedule_core::{Event, Machine, replay};
 use serial_machine::{Finished, RunFault};
@@ -33,22 +34,23 @@ pub fn act<R: Read, W: Write>(
     request: &Request,
     module: Option<&[u8]>,
     schedule: Option<&[u8]>,
-    _input: &mut R,
+    input: &mut R,
     output: &mut W,
     written: &mut String,
 ) -> u8 {
-    match answer(alloc, state, request, module, schedule, output, written) {
+    match answer(alloc, state, request, module, schedule, input, output, written) {
         Ok(status) => status as u8,
         Err(_) => Status::Stream as u8,
     }
 }
 
-fn answer<W: Write>(
+fn answer<R: Read, W: Write>(
     alloc: Global,
     state: RandomState,
     request: &Request,
     module: Option<&[u8]>,
     schedule: Option<&[u8]>,
+    input: &mut R,
     output: &mut W,
     written: &mut String,
 ) -> io::Result<Status> {
@@ -72,6 +74,7 @@ fn answer<W: Write>(
             Verb::Run if request.telling.seed.is_some() => {
                 run_drawn(alloc, &verified, request, output, written)
             }
+            Verb::Debug => debug(alloc, &verified, request, schedule, input, output),
             _ => run_verified(alloc, &verified, request, schedule, output),
         },
         Err(refused) => print_refused(&refused, output),
@@ -154,6 +157,47 @@ pub(crate) fn run_verified<W: Write>(
     }
 }
 
+/// Goes through the schedule by the commands of the input.
+fn debug<R: Read, W: Write>(
+    alloc: Global,
+    verified: &Verified,
+    request: &Request,
+    schedule: Option<&[u8]>,
+    input: &mut R,
+    output: &mut W,
+) -> io::Result<Status> {
+    let Some(text) = schedule else {
+        if let Some(file) = &request.schedule {
+            writeln!(output, "unreadable {file}")?;
+        }
+        return Ok(Status::Unreadable);
+    };
+    match read_schedule(alloc, text) {
+        Ok(events) => debug_events(alloc, verified, request, events, input, output),
+        Err(fault) => print_schedule_fault(&fault, output),
+    }
+}
+
+fn debug_events<R: Read, W: Write>(
+    alloc: Global,
+    verified: &Verified,
+    request: &Request,
+    events: Vec<Event>,
+    input: &mut R,
+    output: &mut W,
+) -> io::Result<Status> {
+    let memory = match prepared(alloc, verified, request) {
+        Ok(memory) => memory,
+        Err(Status::Stopped) => return stop_for_memory(output),
+        Err(status) => return Ok(status),
+    };
+    let args = request.args.as_slice();
+    match Debugger::new(alloc, verified, args, memory, request.workers, events) {
+        Ok(mut debugger) => converse(alloc, &mut debugger, input, output),
+        Err(fault) => print_run_fault(&fault, output),
+    }
+}
+
 pub(crate) fn print_schedule_fault<W: Write>(
     fault: &ScheduleFault,
     output: &mut W,
@@ -176,9 +220,8 @@ pub(crate) fn prepared(
     let Ok(mut memory) = Memory::zeroed(alloc, verified) else {
         return Err(Status::Stopped);
     };
-    if set_cells(&mut memory, request.set.as_slice())
-        && has_cells(&memory, request.show.as_slice())
-    {
+    let has_shown = request.verb == Verb::Debug || has_cells(&memory, request.show.as_slice());
+    if set_cells(&mut memory, request.set.as_slice()) && has_shown {
         Ok(memory)
     } else {
         Err(Status::Words)
@@ -202,7 +245,7 @@ fn run_events<W: Write>(
     let cells = request.show.as_slice();
     let workers = request.workers;
     match request.verb {
-        Verb::Verify | Verb::Print | Verb::Show | Verb::Annotate | Verb::Explain => {
+        Verb::Verify | Verb::Print | Verb::Show | Verb::Annotate | Verb::Explain | Verb::Debug => {
             print_verified(verified, request, output)
         }
         Verb::Serial => print_run(&run_serially(alloc, verified, args, memory), cells, output),

@@ -2,6 +2,7 @@
 #![tactic(auto)]
 
 mod act;
+mod dialogue;
 mod draw;
 mod reasons;
 mod request;
@@ -57,6 +58,11 @@ fn obey(rt: &HostRuntime, request: &Request) -> io::Result<u8> {
         &mut output,
         &mut written,
     );
+    if status == Status::Stream as u8 {
+        // nothing further is written, also not what is buffered
+        drop(output.into_parts());
+        return Ok(status);
+    }
     if output.flush().is_err() {
         return Ok(Status::Stream as u8);
     }

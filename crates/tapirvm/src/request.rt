@@ -13,6 +13,8 @@ pub enum Verb {
     Run,
     /// Run by a schedule.
     Replay,
+    /// Go forwards and backwards through a schedule.
+    Debug,
     /// Print the module's canonical text.
     Print,
     /// Tell what the verifier knows of each block.

@@ -13,6 +13,6 @@ pub enum Status {
     Unreadable = 4,
     /// The schedule is none.
     Schedule = 5,
-    /// Standard output could not be written.
+    /// Standard input could not be read, or standard output not written.
     Stream = 6,
 }

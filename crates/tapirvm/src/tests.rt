@@ -2,6 +2,7 @@
 
 mod commands;
 mod counts;
+mod debugging;
 mod drawn;
 mod machines;
 mod samples;
@@ -17,13 +18,14 @@ use std::random::RandomSource;
 use std::test::Fail;
 use verifier::{Verified, verify};
 
-/// What the program writes on a command line, its words parted by one space, over a module and a
-/// schedule, and behind it what a file is to hold; and its status.
+/// What the program writes on a command line, its words parted by one space, over a module, a schedule and
+/// its input, and behind it what a file is to hold; and its status.
 fn told(
     rt: &(impl Abort + AllocGlobal + RandomSource),
     line: &str,
     module: Option<&[u8]>,
     schedule: Option<&[u8]>,
+    input: &[u8],
 ) -> Result<(u8, Vec<u8>), Fail> {
     let alloc = rt.alloc();
     let texts: Vec<&str> = line.split(' ').collect(alloc)?;
@@ -32,7 +34,7 @@ fn told(
         Err(_) => return Ok((2, Vec::new(alloc))),
     };
     let mut output: Vec<u8> = Vec::new(alloc);
-    let mut input: &[u8] = &[];
+    let mut input = input;
     let mut written = String::new(alloc);
     let state = RandomState::new(rt)?;
     let status = act(

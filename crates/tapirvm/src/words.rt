@@ -6,8 +6,26 @@ use clap::{Arg, ArgAction, ArgMatches, Command, Error};
 use explain::rule_text;
 use std::alloc::{AllocError, Global};
 
+/// What `tapirvm debug --help` says of its commands.
+const DIALOGUE: &str = "\
+Commands, one a line:
+  to N        goes to the position after N events
+  forward     does the next event
+  back        takes the last event back
+  break L     goes to the next position at which a worker's next instruction
+              stands on line L of the module, else to the end
+  task PATH   shows who runs a task and the line of its next instruction
+  cell @a:I   shows a cell
+  quit        ends, as the end of the input does
+
+Example:
+  $ printf 'to 6\\ntask root\\nback\\n' | tapirvm debug pair.ll s.txt --workers 2 --arg 7
+  at 6 of 15
+  task root stalled line 20
+  at 5 of 15";
+
 /// Whether a text is a name by the rules of the module's text, without its sigil.
-fn is_name(text: &str) -> bool {
+pub fn is_name(text: &str) -> bool {
     match text.as_bytes() {
         [] => false,
         [first, rest @ ..] => {
@@ -165,7 +183,7 @@ fn repeated<'a>(alloc: Global, name: &'a str, value: &'a str, help: &'a str) -> 
 
 /// What the help of each command tells last.
 const STATUSES: &str =
-    "Statuses: 0 done, 1 refused module, 2 command line, 3 stopped, 4 unreadable file, 5 bad schedule, 6 a failed write";
+    "Statuses: 0 done, 1 refused module, 2 command line, 3 stopped, 4 unreadable file, 5 bad schedule, 6 a failed read or write";
 
 /// A command that takes a module alone.
 fn module_command<'a>(
@@ -173,14 +191,10 @@ fn module_command<'a>(
     name: &'a str,
     about: &'a str,
 ) -> Result<Command<'a>, AllocError> {
-    let file = Arg::new(alloc, "file")
-        .value_name("FILE")
-        .required(true)
-        .help("the text of the module");
     Command::new(alloc, name)
         .about(about)
         .after_help(STATUSES)
-        .arg(file)
+        .arg(file_word(alloc).help("the text of the module"))
 }
 
 fn print_command<'a>(alloc: Global) -> Result<Command<'a>, AllocError> {
@@ -235,52 +249,75 @@ fn workers<'a>(alloc: Global) -> Arg<'a> {
         .help("from 1 to 64")
 }
 
-fn run_command<'a>(alloc: Global) -> Result<Command<'a>, AllocError> {
-    let seed = Arg::new(alloc, "seed")
+fn seed_option<'a>(alloc: Global) -> Arg<'a> {
+    Arg::new(alloc, "seed")
         .long("seed")
         .value_name("S")
         .action(ArgAction::Set)
-        .help("draws the events at random by this number; at most 1048576");
-    let schedule = Arg::new(alloc, "schedule")
+        .help("draws the events at random by this number; at most 1048576")
+}
+
+fn drawn_option<'a>(alloc: Global) -> Result<Arg<'a>, AllocError> {
+    Arg::new(alloc, "schedule")
         .long("schedule")
         .value_name("OUT")
         .action(ArgAction::Set)
-        .requires_arg("seed")?
-        .help("writes the events to a file, as replay takes them");
-    running(
-        alloc,
-        Command::new(alloc, "run")
-            .about("runs a module on workers")
-            .after_help(STATUSES),
-    )?
-    .arg(workers(alloc))?
-    .arg(seed)?
-    .arg(schedule)
+        .help("writes the events to a file, as replay takes them")
+        .requires_arg("seed")
 }
 
-fn replay_command<'a>(alloc: Global) -> Result<Command<'a>, AllocError> {
-    let schedule = Arg::new(alloc, "schedule")
+fn run_command<'a>(alloc: Global) -> Result<Command<'a>, AllocError> {
+    let command = Command::new(alloc, "run")
+        .about("runs a module on workers")
+        .after_help(STATUSES);
+    running(alloc, command)?
+        .arg(workers(alloc))?
+        .arg(seed_option(alloc))?
+        .arg(drawn_option(alloc)?)
+}
+
+fn schedule_word<'a>(alloc: Global) -> Arg<'a> {
+    Arg::new(alloc, "schedule")
         .value_name("SCHEDULE")
-        .required(true);
-    let trace = Arg::new(alloc, "trace")
+        .required(true)
+}
+
+/// The words of a verb that follows a schedule.
+fn scheduled<'a>(alloc: Global, command: Command<'a>) -> Result<Command<'a>, AllocError> {
+    running(alloc, command)?
+        .arg(schedule_word(alloc))?
+        .arg(workers(alloc))
+}
+
+fn trace_option<'a>(alloc: Global) -> Arg<'a> {
+    Arg::new(alloc, "trace")
         .long("trace")
         .action(ArgAction::SetTrue)
-        .help("prints a line for each event before the answer");
-    let picture = Arg::new(alloc, "picture")
+        .help("prints a line for each event before the answer")
+}
+
+fn picture_option<'a>(alloc: Global) -> Arg<'a> {
+    Arg::new(alloc, "picture")
         .long("picture")
         .value_name("OUT")
         .action(ArgAction::Set)
-        .help("writes a picture of the run to a file, as SVG");
-    running(
-        alloc,
-        Command::new(alloc, "replay")
-            .about("runs a module by a schedule")
-            .after_help(STATUSES),
-    )?
-    .arg(schedule)?
-    .arg(workers(alloc))?
-    .arg(trace)?
-    .arg(picture)
+        .help("writes a picture of the run to a file, as SVG")
+}
+
+fn replay_command<'a>(alloc: Global) -> Result<Command<'a>, AllocError> {
+    let command = Command::new(alloc, "replay")
+        .about("runs a module by a schedule")
+        .after_help(STATUSES);
+    scheduled(alloc, command)?
+        .arg(trace_option(alloc))?
+        .arg(picture_option(alloc))
+}
+
+fn debug_command<'a>(alloc: Global) -> Result<Command<'a>, AllocError> {
+    let command = Command::new(alloc, "debug")
+        .about("goes forwards and backwards through a schedule, by commands from standard input")
+        .after_help(DIALOGUE);
+    scheduled(alloc, command)
 }
 
 fn command<'a>(alloc: Global) -> Result<Command<'a>, AllocError> {
@@ -292,6 +329,7 @@ fn command<'a>(alloc: Global) -> Result<Command<'a>, AllocError> {
         .subcommand(serial_command(alloc)?)?
         .subcommand(run_command(alloc)?)?
         .subcommand(replay_command(alloc)?)?
+        .subcommand(debug_command(alloc)?)?
         .subcommand(print_command(alloc)?)?
         .subcommand(show_command(alloc)?)?
         .subcommand(annotate_command(alloc)?)
@@ -406,19 +444,27 @@ fn run_request(alloc: Global, matches: &ArgMatches<'_>) -> Result<Request, Words
     Ok(Request { telling, ..request })
 }
 
-fn replay_request(alloc: Global, matches: &ArgMatches<'_>) -> Result<Request, WordsFault> {
-    let request = request_of(alloc, Verb::Replay, matches)?;
+fn schedule_request(
+    alloc: Global,
+    verb: Verb,
+    matches: &ArgMatches<'_>,
+) -> Result<Request, WordsFault> {
+    let request = request_of(alloc, verb, matches)?;
     let schedule = schedule_of(alloc, matches)?;
+    Ok(Request {
+        schedule: Some(schedule),
+        ..request
+    })
+}
+
+fn replay_request(alloc: Global, matches: &ArgMatches<'_>) -> Result<Request, WordsFault> {
+    let request = schedule_request(alloc, Verb::Replay, matches)?;
     let telling = Telling {
         trace: matches.get_flag("trace"),
         seed: None,
         file: written_file(alloc, matches, "picture")?,
     };
-    Ok(Request {
-        schedule: Some(schedule),
-        telling,
-        ..request
-    })
+    Ok(Request { telling, ..request })
 }
 
 /// Reads the program's words, the program's own name first.
@@ -436,6 +482,7 @@ pub fn words<'a>(alloc: Global, words: &'a [&'a str]) -> Result<Request, WordsFa
         Some(("print", matches)) => module_request(alloc, Verb::Print, matches),
         Some(("show", matches)) => module_request(alloc, Verb::Show, matches),
         Some(("annotate", matches)) => module_request(alloc, Verb::Annotate, matches),
+        Some(("debug", matches)) => schedule_request(alloc, Verb::Debug, matches),
         _ => Err(wrong_value(alloc, "<COMMAND>", "")),
     }
 }

@@ -14,6 +14,7 @@ struct Asked {
     /// None where the file cannot be read.
     module: Option<String>,
     schedule: Option<String>,
+    input: String,
     commands: String,
     output: String,
 }
@@ -45,6 +46,7 @@ impl Asked {
         Asked {
             module: None,
             schedule: None,
+            input: String::new(alloc),
             commands: String::new(alloc),
             output: String::new(alloc),
         }
@@ -53,6 +55,7 @@ impl Asked {
     /// The module of this name, as it stands, and no schedule.
     fn set_module(&mut self, alloc: Global, name: &str) -> Result<(), AllocError> {
         self.schedule = None;
+        self.input.clear();
         self.module = match name {
             "nothing" => None,
             _ => Some(String::from_str(alloc, sample(name))?),
@@ -77,6 +80,17 @@ impl Asked {
         Ok(())
     }
 
+    fn set_input(&mut self, lines: &str) -> Result<(), AllocError> {
+        self.input.clear();
+        for line in lines.split("; ") {
+            if !self.input.is_empty() {
+                self.input.push_str("\n")?;
+            }
+            self.input.push_str(line)?;
+        }
+        Ok(())
+    }
+
     /// Asserts what each of the commands tells, and forgets them.
     fn check(
         &mut self,
@@ -88,7 +102,7 @@ impl Asked {
         let status: u8 = status.parse().ok().ok_or("no status")?;
         assert!(rt; !self.commands.is_empty(), "a status without a command");
         for command in self.commands.lines() {
-            let (code, output) = told(rt, command, module, schedule)?;
+            let (code, output) = told(rt, command, module, schedule, self.input.as_bytes())?;
             assert_eq!(rt; output.as_slice(), self.output.as_bytes(), "{command}");
             assert_eq!(rt; code, status, "{command}");
         }
@@ -113,6 +127,7 @@ impl Asked {
             }
             Some(("without", number)) => self.change(alloc, number, &[])?,
             Some(("events", events)) => self.set_schedule(alloc, events)?,
+            Some(("input", lines)) => self.set_input(lines)?,
             Some(("$", command)) => writeln!(self.commands, "{command}")?,
             Some(("status", status)) => self.check(rt, status)?,
             _ => {
@@ -141,7 +156,7 @@ fn refuses(
     module: &[u8],
     wanted: &str,
 ) -> Result<(), Fail> {
-    let (status, output) = told(rt, "tapirvm serial m.ll --arg 7", Some(module), None)?;
+    let (status, output) = told(rt, "tapirvm serial m.ll --arg 7", Some(module), None, b"")?;
     assert_eq!(rt; status, 1);
     assert_eq!(rt; output.as_slice(), wanted.as_bytes());
     Ok(())
@@ -159,7 +174,7 @@ fn modules_that_are_no_texts(rt: HostRuntime) -> Result<(), Fail> {
     refuses(&rt, returned.as_bytes(), "refused 102 line 7\n")?;
     let bytes = PAIR.as_bytes();
     for end in 0..bytes.len().saturating_sub(2) {
-        let (status, _) = told(&rt, "tapirvm serial m.ll", bytes.get(..end), None)?;
+        let (status, _) = told(&rt, "tapirvm serial m.ll", bytes.get(..end), None, b"")?;
         assert_eq!(rt; status, 1, "{end} bytes");
     }
     Ok(())

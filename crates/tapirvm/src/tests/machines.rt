@@ -91,7 +91,7 @@ fn a_copy_of_an_ended_memory_is_the_same(
 }
 
 /// The next number of a sequence: the high bits of a linear congruence with Knuth's factor for 64 bits.
-fn drawn(state: &mut u64) -> u64 {
+pub(super) fn drawn(state: &mut u64) -> u64 {
     *state = state
         .wrapping_mul(6_364_136_223_846_793_005)
         .wrapping_add(1_442_695_040_888_963_407);
@@ -99,7 +99,7 @@ fn drawn(state: &mut u64) -> u64 {
 }
 
 /// A step or a steal of one of four workers, as often the one as the other; half of the steals are of the root.
-fn random_event(
+pub(super) fn random_event(
     rt: &(impl Abort + AllocGlobal + RandomSource),
     state: &mut u64,
 ) -> Result<Event, Fail> {

@@ -1,5 +1,6 @@
 //! What the program tells, as transcripts. `of MODULE`; then `line 8 TEXT` for a text in place of its line 8 (` || ` ends a line in it), and
-//! `without 9` for one that is taken away; `events EVENT; EVENT ..`, or `events none`, for the schedule; command lines after `$`; what each of
+//! `without 9` for one that is taken away; `events EVENT; EVENT ..`, or `events none`, for the schedule; `input LINE; LINE ..` for standard input, without
+//! an LF at its end; command lines after `$`; what each of
 //! them writes; its `status`. `m.ll` and `s.txt` are the module and the schedule.
 
 pub const TRANSCRIPTS: &str = "\
@@ -434,6 +435,113 @@ $ tapirvm replay m.ll s.txt --workers 1 --arg 3
 result 2
 instructions 47
 peak 6
+status 0
+
+# goes forwards and backwards
+of pair
+events step 0 2; steal 1 root; step 1 3; step 0 9
+input to 6; task root; cell @a:1; cell @a:0; forward; task root.0
+$ tapirvm debug m.ll s.txt --workers 2 --arg 7
+at 6 of 15
+task root stalled line 20
+cell @a:1 7
+cell @a:0 0
+at 7 of 15
+task root.0 running 0 line 13
+status 0
+input break 23
+$ tapirvm debug m.ll s.txt --workers 2 --arg 7
+at 9 of 15
+status 0
+input to 3; back; task root; task root.0; back; back; back; to 99; task root
+$ tapirvm debug m.ll s.txt --workers 2 --arg 7
+at 3 of 15
+at 2 of 15
+task root ready line 18
+task root.0 running 0 line 12
+at 1 of 15
+at 0 of 15
+at 0 of 15
+at 15 of 15
+task root none
+status 0
+input break 0; to 0; break 5000000000; quit; to 3
+$ tapirvm debug m.ll s.txt --workers 2 --arg 7 --show @b:0
+at 15 of 15
+at 0 of 15
+at 15 of 15
+status 0
+events steal 63 root; step 63 5; step 0 2; steal 1 root; step 1 3; step 0 9
+input to 12; task root; cell @a:1; cell @a:0; forward; task root.0; to 0; break 23; to 9; back; task root; task root.0; to 99; task root
+$ tapirvm debug m.ll s.txt --workers 2 --arg 7
+at 12 of 21
+task root stalled line 20
+cell @a:1 7
+cell @a:0 0
+at 13 of 21
+task root.0 running 0 line 13
+at 0 of 21
+at 15 of 21
+at 9 of 21
+at 8 of 21
+task root ready line 18
+task root.0 running 0 line 12
+at 21 of 21
+task root none
+status 0
+
+# answers unknown to what is no command
+of pair
+events step 0 2
+input help; to; to ; to 01; to -1; to +1; to x; to 18446744073709551616; To 1; to 1 2;  to 1; forward ; break; task; task root.01; task root.1000000000001; task roots
+$ tapirvm debug m.ll s.txt --workers 2 --arg 7
+unknown
+unknown
+unknown
+unknown
+unknown
+unknown
+unknown
+unknown
+unknown
+unknown
+unknown
+unknown
+unknown
+unknown
+unknown
+unknown
+unknown
+status 0
+input to 18446744073709551615; cell a:0; cell @a:00; cell @:0; cell @a; cell @a:+0; cell @a:2; cell @b:0; task root.1000000000000; task root.0
+$ tapirvm debug m.ll s.txt --workers 2 --arg 7
+at 2 of 2
+unknown
+unknown
+unknown
+unknown
+unknown
+cell none
+cell none
+task root.1000000000000 none
+task root.0 running 0 line 12
+status 0
+
+# ends before it reads a command
+of pair
+events step 0 2
+input to 1
+$ tapirvm debug m.ll s.txt --workers 0 --arg 7
+stopped 802
+status 3
+$ tapirvm debug m.ll s.txt --workers 2
+stopped 801 requirement 0
+status 3
+$ tapirvm debug m.ll s.txt --workers 2 --arg 7 --set @b:0=1
+status 2
+events none
+$ tapirvm debug m.ll s.txt --workers 2 --arg 7
+at 0 of 0
 status 0
 
 # refuses other texts
