@@ -213,6 +213,7 @@ fn told_to(
         written: Vec::new(alloc),
         left: writes,
     };
+    let mut written = String::new(alloc);
     let status = act(
         alloc,
         RandomState::new(rt)?,
@@ -221,6 +222,7 @@ fn told_to(
         Some(schedule.as_slice()),
         &mut input,
         &mut output,
+        &mut written,
     );
     Ok((status, output.written))
 }
