@@ -58,7 +58,7 @@ module _ (prog : Program) (m : Run) (k : IsRun prog m) (worker : ℕ) where
       let top : running.top_of (seen m).core (place_of r.task.lowest) ≡ place_of r.top = top_of_slots prog m k slot r.task.low r.task.below r.top r.task.lowest r.stands r.task.stands none in
       let here : running.top_of (seen m).core (place_in path) ≡ place_of r.top = subst (λ (q : Path). running.top_of (seen m).core (place_in q) ≡ place_of r.top) r.task.named top in
       let child : place_of p.child ≡ number ∷ running.top_of (seen m).core (place_in path) =
-          place ∙ ap (λ q. number ∷ q) (ap place_of (same_node (node_at m.cactus slot) above r.top there r.stands) ∙ sym here) in
+      place ∙ ap (λ q. number ∷ q) (ap place_of (same_node (node_at m.cactus slot) above r.top there r.stands) ∙ sym here) in
       record {
         path = path;
         named = has;
@@ -90,9 +90,9 @@ module _ (prog : Program) (m : Run) (k : IsRun prog m) (worker : ℕ) where
       let e : Some (number ∷ above) ≡ Some (n ∷ place_of over) = sym hand ∙ (hand_seen m.cactus m.hands.items worker p.top p.child p.hand p.stands ∙ ap Some place) in
       let same : above ≡ place_of over = cc in
       let stands : running.status_at (Some (frame_of (place_of over) over.frame.frame)) over.frame.runner ≡ Some running.Ready =
-          ap (λ o. running.status_at o over.frame.runner) (sym (seen_here prog m k slot over there))
-          ∙ (ap (λ o. running.status_at ((seen m).core.frames (place_of over)) o) (sym (holder_is m.cactus m.hands.items k.agrees slot over there))
-          ∙ (ap (λ q. running.top_status (length m.hands.items) (seen m) q) (sym same) ∙ status)) in
+      ap (λ o. running.status_at o over.frame.runner) (sym (seen_here prog m k slot over there))
+      ∙ (ap (λ o. running.status_at ((seen m).core.frames (place_of over)) o) (sym (holder_is m.cactus m.hands.items k.agrees slot over there))
+      ∙ (ap (λ q. running.top_status (length m.hands.items) (seen m) q) (sym same) ∙ status)) in
       let free = is_free (place_of over) over.frame over.frame.runner over.frame.frame.waits refl stands in
       off (rw there (record { unheld = free.0; free = free.1 }))
 
