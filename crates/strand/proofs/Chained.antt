@@ -1,9 +1,9 @@
 -- Chains lead to each address, and stay so as addresses are added.
-use Rattle.std.proofs.Common.{◌≡◌, ◌≢◌, ℕ, zero, suc, true, false, ◌+◌, ◌<◌, ◌≤◌, List, [], ◌∷◌, ◌++◌, length, length-append, map, refl, ap, sym, ◌∙◌, subst, arith, cond, ℤ, Option, Some, None, inl, inr, ◌⊎◌}
+use Rattle.std.proofs.Common.{◌≡◌, ◌≢◌, ℕ, zero, suc, true, false, ◌+◌, ◌<◌, ◌≤◌, List, [], ◌∷◌, ◌++◌, length, length-append, map, refl, ap, sym, ◌∙◌, subst, arith, ℤ, Option, Some, None, inl, inr, ◌⊎◌}
 use Rattle.std.specs.Prelude.{eqb, slice_get, slice_set}
 use Rattle.std.specs.Option.{option_map}
 use Rattle.std.proofs.lemmas.Bool.Decides.{eqb_tells}
-use Rattle.std.proofs.lemmas.Option.{same_Some, slice_get_within, slice_get-map, slice_get_past}
+use Rattle.std.proofs.lemmas.Option.{same_Some, slice_get_within, slice_get-map}
 use Rattle.frame.proofs.Changes.{get_set, get_other}
 use Rattle.strand.specs.Chains.{slot}
 use Rattle.strand.specs.Indexing.{IsLatest, IsChained}
@@ -26,15 +26,17 @@ searching_on heads entries a n i e c s is h other =
     let (d, g, chain) = s.there i is in
     let same : slot e.at ≡ slot a = ap (λ (x : Entry). slot x.at) (same_Some e d (sym h ∙ g)) ∙ chain in
     let w = l.within in
-    let v = s.within in
-    (record {
-      within = omega arith;
-      last = λ j x k there.
-          let lt = s.last j x k there in
-          let apart : j ≢ i = λ q. other (ap (λ (y : Entry). y.at) (same_Some e x (sym h ∙ sym (ap (slice_get entries) q) ∙ k)) ∙ there) in
-          l.last j x (omega (arith, apart)) k (ap slot there ∙ sym same);
-      there = λ j q. let (x, k, t) = l.there j q in (x, k, t ∙ same);
-    }, omega arith)
+    let v = s.within in (
+      record {
+        within = omega arith;
+        last = λ j x k there.
+            let lt = s.last j x k there in
+            let apart : j ≢ i = λ q. other (ap (λ (y : Entry). y.at) (same_Some e x (sym h ∙ sym (ap (slice_get entries) q) ∙ k)) ∙ there) in
+            l.last j x (omega (arith, apart)) k (ap slot there ∙ sym same);
+        there = λ j q. let (x, k, t) = l.there j q in (x, k, t ∙ same);
+      },
+      omega arith,
+    )
 
 pub listed_at : (entries : List Entry) (i : ℕ) (e : Entry) (a : ℤ) → slice_get entries i ≡ Some e → e.at ≡ a → slice_get (map (λ (x : Entry). x.at) entries) i ≡ Some a
 listed_at entries i e a h same = slice_get-map (λ (x : Entry). x.at) entries i ∙ ap (option_map (λ (x : Entry). x.at)) h ∙ ap (λ z. Some z) same

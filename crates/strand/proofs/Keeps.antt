@@ -1,9 +1,8 @@
 -- What a strand's cells keep as a change or a value is put.
-use Rattle.std.proofs.Common.{◌≡◌, ◌≢◌, ℕ, ◌≤◌, List, [], ◌∷◌, ◌++◌, map, refl, ap, sym, ◌∙◌, subst, cond, ℤ, true, false, Option, Some, None, inl, inr}
+use Rattle.std.proofs.Common.{◌≡◌, ◌≢◌, ℕ, ◌≤◌, List, [], ◌∷◌, ◌++◌, map, refl, ap, sym, ◌∙◌, subst, cond, ℤ, Option, Some, None, inl, inr}
 use Rattle.std.specs.Prelude.{slice_get, slice_set, vec_capacity}
-use Rattle.std.specs.Ordering.{int_eq}
 use Rattle.running.specs.Arithmetic.{cell_sum}
-use Rattle.strand.specs.Buffers.{Buffers, change_in, value_in, held_in, known_value, settled_changes, with_change}
+use Rattle.strand.specs.Buffers.{change_in, value_in, settled_changes, with_change}
 use Rattle.strand.specs.Keeping.{AreDifferent, IsKept}
 use Rattle.strand.specs.declared.cells.Read.{Read}
 use Rattle.strand.specs.declared.cells.Written.{Written}
@@ -26,30 +25,34 @@ deltas_with ws rs a u old new b z h = elim (int_tells b a) [
 pub kept_set : (x y : Inside) (i : ℕ) (w : Written) (a : ℤ) (u : Change) → IsKept x → y.read_places ≡ x.read_places → y.reads ≡ x.reads → y.write_places ≡ x.write_places → y.writes.items ≡ slice_set x.writes.items i (record { at = a; change = u }) → vec_capacity y.writes ≡ vec_capacity x.writes →
     slice_get x.writes.items i ≡ Some w → w.at ≡ a → ((z : ℤ) → u ≡ Delta z → value_in x.reads.items a ≡ None) → IsKept y × (y.writes.items ≡ with_change x.writes.items a u)
 kept_set x y i w a u k rp rs wp ws cap h e unread =
-    let put : slice_set x.writes.items i (record { at = a; change = u }) ≡ with_change x.writes.items a u = set_changes x.writes.items i w a u h e (subst AreDifferent k.write_places k.writes_differ) in
-    (record {
-      read_places = rp ∙ k.read_places ∙ ap (λ v. map (λ (r : Read). r.at) v.items) (sym rs);
-      write_places = wp ∙ k.write_places ∙ sym (ap (map (λ (v : Written). v.at)) ws ∙ keys_set (λ (v : Written). v.at) x.writes.items i w (record { at = a; change = u }) h (sym e));
-      reads_differ = subst AreDifferent (sym rp) k.reads_differ;
-      writes_differ = subst AreDifferent (sym wp) k.writes_differ;
-      deltas = λ b z g. ap (λ v. value_in v.items b) rs ∙ deltas_with x.writes.items x.reads.items a u k.deltas unread b z (sym (ap (λ l. change_in l b) (ws ∙ put)) ∙ g);
-      read_room = subst (λ v. 256 ≤ vec_capacity v) (sym rs) k.read_room;
-      write_room = subst (λ n. 256 ≤ n) (sym cap) k.write_room;
-    }, ws ∙ put)
+    let put : slice_set x.writes.items i (record { at = a; change = u }) ≡ with_change x.writes.items a u = set_changes x.writes.items i w a u h e (subst AreDifferent k.write_places k.writes_differ) in (
+      record {
+        read_places = rp ∙ k.read_places ∙ ap (λ v. map (λ (r : Read). r.at) v.items) (sym rs);
+        write_places = wp ∙ k.write_places ∙ sym (ap (map (λ (v : Written). v.at)) ws ∙ keys_set (λ (v : Written). v.at) x.writes.items i w (record { at = a; change = u }) h (sym e));
+        reads_differ = subst AreDifferent (sym rp) k.reads_differ;
+        writes_differ = subst AreDifferent (sym wp) k.writes_differ;
+        deltas = λ b z g. ap (λ v. value_in v.items b) rs ∙ deltas_with x.writes.items x.reads.items a u k.deltas unread b z (sym (ap (λ l. change_in l b) (ws ∙ put)) ∙ g);
+        read_room = subst (λ v. 256 ≤ vec_capacity v) (sym rs) k.read_room;
+        write_room = subst (λ n. 256 ≤ n) (sym cap) k.write_room;
+      },
+      ws ∙ put,
+    )
 
 pub kept_new : (x y : Inside) (a : ℤ) (u : Change) → IsKept x → y.read_places ≡ x.read_places → y.reads ≡ x.reads → y.write_places ≡ x.write_places ++ a ∷ [] → y.writes.items ≡ x.writes.items ++ record { at = a; change = u } ∷ [] → vec_capacity y.writes ≡ vec_capacity x.writes →
     change_in x.writes.items a ≡ None → ((z : ℤ) → u ≡ Delta z → value_in x.reads.items a ≡ None) → IsKept y × (y.writes.items ≡ with_change x.writes.items a u)
 kept_new x y a u k rp rs wp ws cap none unread =
-    let put : x.writes.items ++ record { at = a; change = u } ∷ [] ≡ with_change x.writes.items a u = push_changes x.writes.items a u none in
-    (record {
-      read_places = rp ∙ k.read_places ∙ ap (λ v. map (λ (r : Read). r.at) v.items) (sym rs);
-      write_places = wp ∙ ap (λ l. l ++ a ∷ []) k.write_places ∙ sym (ap (map (λ (v : Written). v.at)) ws ∙ keys_push (λ (v : Written). v.at) x.writes.items (record { at = a; change = u }));
-      reads_differ = subst AreDifferent (sym rp) k.reads_differ;
-      writes_differ = subst AreDifferent (sym wp) (different_push x.write_places a k.writes_differ (λ i g. change_unlisted x.writes.items a none i (sym (ap (λ l. slice_get l i) k.write_places) ∙ g)));
-      deltas = λ b z g. ap (λ v. value_in v.items b) rs ∙ deltas_with x.writes.items x.reads.items a u k.deltas unread b z (sym (ap (λ l. change_in l b) (ws ∙ put)) ∙ g);
-      read_room = subst (λ v. 256 ≤ vec_capacity v) (sym rs) k.read_room;
-      write_room = subst (λ n. 256 ≤ n) (sym cap) k.write_room;
-    }, ws ∙ put)
+    let put : x.writes.items ++ record { at = a; change = u } ∷ [] ≡ with_change x.writes.items a u = push_changes x.writes.items a u none in (
+      record {
+        read_places = rp ∙ k.read_places ∙ ap (λ v. map (λ (r : Read). r.at) v.items) (sym rs);
+        write_places = wp ∙ ap (λ l. l ++ a ∷ []) k.write_places ∙ sym (ap (map (λ (v : Written). v.at)) ws ∙ keys_push (λ (v : Written). v.at) x.writes.items (record { at = a; change = u }));
+        reads_differ = subst AreDifferent (sym rp) k.reads_differ;
+        writes_differ = subst AreDifferent (sym wp) (different_push x.write_places a k.writes_differ (λ i g. change_unlisted x.writes.items a none i (sym (ap (λ l. slice_get l i) k.write_places) ∙ g)));
+        deltas = λ b z g. ap (λ v. value_in v.items b) rs ∙ deltas_with x.writes.items x.reads.items a u k.deltas unread b z (sym (ap (λ l. change_in l b) (ws ∙ put)) ∙ g);
+        read_room = subst (λ v. 256 ≤ vec_capacity v) (sym rs) k.read_room;
+        write_room = subst (λ n. 256 ≤ n) (sym cap) k.write_room;
+      },
+      ws ∙ put,
+    )
 
 pub kept_read : (x y : Inside) (a v : ℤ) → IsKept x → y.read_places ≡ x.read_places ++ a ∷ [] → y.reads.items ≡ x.reads.items ++ record { at = a; value = v } ∷ [] → vec_capacity y.reads ≡ vec_capacity x.reads → y.write_places ≡ x.write_places → y.writes ≡ x.writes →
     value_in x.reads.items a ≡ None → ((z : ℤ) → change_in x.writes.items a ≢ Some (Delta z)) → IsKept y

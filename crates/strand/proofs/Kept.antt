@@ -1,17 +1,16 @@
 -- Looking up an address finds its entry, and a change is kept there.
-use Rattle.std.proofs.Common.{◌≡◌, ◌≢◌, ℕ, zero, suc, ◌+◌, ◌<◌, List, [], ◌∷◌, ◌++◌, length, map, refl, ap, sym, ◌∙◌, subst, arith, cond, ℤ, Bool, true, false, Option, Some, None, inl, inr, ◌⊎◌}
+use Rattle.std.proofs.Common.{◌≡◌, ◌≢◌, ℕ, zero, suc, List, [], ◌∷◌, ◌++◌, length, map, refl, ap, sym, ◌∙◌, arith, cond, ℤ, Bool, true, false, Option, Some, None, inl, inr, ◌⊎◌}
 use Rattle.std.specs.Prelude.{eqb, find, slice_get, slice_set}
 use Rattle.std.specs.Option.{option_map}
 use Rattle.std.specs.Ordering.{int_eq}
 use Rattle.std.proofs.lemmas.Bool.Decides.{Decides-int_eq, eqb_tells}
 use Rattle.std.proofs.lemmas.List.{map-append}
 use Rattle.std.proofs.lemmas.Option.{same_Some, slice_get_within, slice_get-map}
-use Rattle.strand.specs.Buffers.{Buffers, change_in, known_value, held_in, value_in, with_change, raised_change}
+use Rattle.strand.specs.Buffers.{change_in, value_in, with_change}
 use Rattle.strand.specs.Keeping.{AreDifferent}
 use Rattle.strand.specs.declared.cells.Read.{Read}
 use Rattle.strand.specs.declared.cells.Written.{Written}
 use Rattle.strand.specs.declared.cells.Change.{Change}
-use Rattle.strand.specs.declared.cells.Change.TheVariants.{Stored, Delta}
 use Rattle.strand.proofs.Chained.{get_before, get_last, length_push}
 
 pub int_tells : (a b : ℤ) → ((int_eq a b ≡ true) × (a ≡ b)) ⊎ ((int_eq a b ≡ false) × (a ≢ b))

@@ -5,3 +5,4 @@ pub mod Holding
 pub mod Showing
 pub mod Walking
 pub mod Advancing
+pub mod Borders

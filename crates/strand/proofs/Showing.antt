@@ -7,7 +7,7 @@ use Rattle.std.specs.Option.{option_map}
 use Rattle.std.specs.Ordering.{int_eq}
 use Rattle.std.proofs.lemmas.Bool.Decides.{Decides-int_eq}
 use Rattle.std.proofs.lemmas.List.{map-append}
-use Rattle.std.proofs.lemmas.List.Elements.{All-cons, All-head, All-tail, All-nil, All-push}
+use Rattle.std.proofs.lemmas.List.Elements.{All-cons, All-head, All-tail, All-push}
 use Rattle.running.specs.Cells.{Cell, same_cell}
 use Rattle.running.specs.Arithmetic.{cell_sum}
 use Rattle.running.proofs.Actions.{same_cell_itself}
@@ -19,8 +19,7 @@ use Rattle.strand.specs.Buffers.{Buffers, IsPut, change_in, held_in, known_value
 use Rattle.strand.specs.Showing.{AreApart, Becomes, ShowsFootprint, change_of, read_of, with_add, with_store, written_of}
 use Rattle.strand.specs.declared.cells.Read.{Read}
 use Rattle.strand.specs.declared.cells.Written.{Written}
-use Rattle.strand.specs.declared.cells.Change.{Change}
-use Rattle.strand.specs.declared.cells.Change.TheVariants.{Stored, Delta}
+use Rattle.strand.specs.declared.cells.Change.TheVariants.{Stored}
 use Rattle.strand.specs.declared.cells.Stop.{Stop}
 use Rattle.strand.proofs.Kept.{int_tells}
 

@@ -1,5 +1,5 @@
 -- Plain steps lead to one frame and one memory.
-use Rattle.std.proofs.Common.{◌≡◌, ℕ, zero, suc, refl, ap, sym, ◌∙◌, subst, arith, None}
+use Rattle.std.proofs.Common.{◌≡◌, ℕ, suc, refl, ap, sym, ◌∙◌, subst, arith, None}
 use Rattle.running.specs.Paths.{Path}
 use Rattle.running.specs.Cells.{Memory}
 use Rattle.running.specs.Frames.{Frame}

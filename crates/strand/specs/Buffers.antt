@@ -1,5 +1,5 @@
 -- The buffers of a strand, by address.
-use Rattle.std.specs.Prelude.{◌≡◌, ◌<◌, ◌≤◌, ℤ, nat_le, length, IsSome, List, [], ◌∷◌, cond, find, Option, Some, None}
+use Rattle.std.specs.Prelude.{◌≡◌, ◌<◌, ◌≤◌, ℤ, Bool, true, nat_le, length, IsSome, List, [], ◌∷◌, cond, find, Option, Some, None}
 use Rattle.std.specs.Ordering.{int_eq}
 use Rattle.std.specs.Option.{option_map}
 use Rattle.running.specs.Arithmetic.{cell_sum}
@@ -29,6 +29,14 @@ known_value None read = read
 -- what the cell at the address is known to hold
 abbrev pub held_in : Buffers → ℤ → Option ℤ
 held_in b a = known_value (change_in b.writes a) (value_in b.reads a)
+
+-- as far as the buffers tell, the cell at the address may hold the number
+abbrev pub may_hold : Buffers → ℤ → ℤ → Type 0
+may_hold b a z = (v : ℤ) → held_in b a ≡ Some v → v ≡ z
+
+-- any cell may be asked for
+abbrev pub any_address : Buffers → ℤ → Bool
+any_address b a = true
 
 abbrev pub with_change : List Written → ℤ → Change → List Written
 with_change [] a u = record { at = a; change = u } ∷ []

@@ -1,5 +1,5 @@
 -- What a strand's cells keep.
-use Rattle.std.specs.Prelude.{◌≡◌, None, ℕ, ◌≤◌, List, length, map, Some, ℤ, slice_get, vec_capacity}
+use Rattle.std.specs.Prelude.{◌≡◌, None, ℕ, ◌≤◌, List, map, Some, ℤ, slice_get, vec_capacity}
 use Rattle.strand.specs.Buffers.{Buffers, change_in, value_in}
 use Rattle.strand.specs.declared.cells.Change.TheVariants.{Delta}
 use Rattle.strand.specs.declared.cells.Read.{Read}

@@ -4,3 +4,4 @@ pub mod Buffers
 pub mod Keeping
 pub mod Showing
 pub mod Advancing
+pub mod Standing

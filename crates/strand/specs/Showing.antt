@@ -1,5 +1,5 @@
 -- How buffers by address show a footprint of the definitions.
-use Rattle.std.specs.Prelude.{◌≡◌, List, map, ℤ, Bool, false, Option, Some, None}
+use Rattle.std.specs.Prelude.{◌≡◌, map, ℤ}
 use Rattle.std.specs.List.{All}
 use Rattle.running.specs.Cells.{Cell}
 use Rattle.strands.specs.Footprint as strands

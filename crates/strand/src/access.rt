@@ -1,5 +1,4 @@
-ghost use Rattle.std.specs.Prelude.{◌≡◌, ℤ, Some, true};
-ghost use Rattle.strand.specs.Buffers.{BuffersDo, BuffersRefuse, held_in};
+ghost use Rattle.strand.specs.Buffers.{BuffersDo, BuffersRefuse, any_address, may_hold};
 
 use crate::cells::{Change, Stop, StrandCells};
 use engine::Cells;
@@ -7,9 +6,9 @@ use engine::Cells;
 impl Cells for StrandCells {
     type Stop = Stop;
 
-    ghost reaches = { λ b a. true };
+    ghost reaches = { any_address };
 
-    ghost holds = { λ b a z. (v : ℤ) → held_in b a ≡ Some v → v ≡ z };
+    ghost holds = { may_hold };
 
     ghost does = { BuffersDo };
 

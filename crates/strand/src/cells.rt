@@ -162,12 +162,7 @@ impl StrandCells {
     /// # Errors
     ///
     /// The cell is a new one, and there is no place for it: nothing has changed.
-    fn put(
-        &mut self,
-        at: &i64,
-        found: Option<(usize, Change)>,
-        change: Change,
-    ) -> Result<(), Stop>
+    fn put(&mut self, at: &i64, found: Option<(usize, Change)>, change: Change) -> Result<(), Stop>
         requires found { IfSome found (λ old. slice_get self.old.writes old.0 ≡ Some (record { at = at.now; change = old.1 })) }
         requires change { IfSome found (λ old. change_in self.old.writes at.now ≡ Some old.1) }
         requires absent { IfNone found (change_in self.old.writes at.now ≡ None) }

@@ -1,5 +1,6 @@
 //! What a worker does outside of the machine, on a copy of a frame: plain instructions over the cells that it has read and written itself.
 //!
+//! - `Strand`: a copy of a frame, with its path, what it has done and its cells.
 //! - `StrandCells`: the cells that a strand read, with what they held, and those that it wrote. No call but `new` takes memory.
 #![tactic(auto)]
 
@@ -7,6 +8,8 @@ mod access;
 mod cells;
 mod finding;
 mod law;
+mod standing;
 
-pub use law::accesses_are_strands;
 pub use cells::{Change, Read, Stop, StrandCells, Written};
+pub use law::accesses_are_strands;
+pub use standing::{MOST, Strand};

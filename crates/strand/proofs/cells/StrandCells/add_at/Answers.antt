@@ -1,6 +1,6 @@
 use Rattle.std.proofs.Common.{subst}
 use Rattle.std.specs.Prelude.{OnOk}
-use Rattle.strand.specs.Buffers.{Buffers, IsPut}
+use Rattle.strand.specs.Buffers.{IsPut}
 use Rattle.strand.proofs.Showing.{became_added}
 use Rattle.strand.proofs.cells.StrandCells.add_at.Goals as goal
 

@@ -1,12 +1,10 @@
-use Rattle.std.proofs.Common.{◌≡◌, ◌∙◌, ◌<◌, ◌++◌, ◌∷◌, [], List, ap, sym, subst, refl, rules, arith, length, None, Some, ℤ, w64}
+use Rattle.std.proofs.Common.{◌≡◌, ◌∙◌, ◌<◌, ◌++◌, ◌∷◌, [], ap, sym, subst, refl, rules, arith, length, None, Some, ℤ, w64}
 use Rattle.std.specs.Prelude.{FitsSigned, slice_get, slice_set, vec_capacity}
 use Rattle.std.specs.Vec.{with_item}
 use Rattle.std.proofs.lemmas.Int.{to_z-of_z}
 use mir.Val.{to_z, of_z}
-use Rattle.strand.specs.Buffers.{Buffers, IsPut, change_in, value_in, with_change}
-use Rattle.strand.specs.Keeping.{IsKept, shown}
-use Rattle.strand.specs.declared.cells.Written.{Written}
-use Rattle.strand.specs.declared.cells.Change.{Change}
+use Rattle.strand.specs.Buffers.{Buffers, change_in, value_in, with_change}
+use Rattle.strand.specs.Keeping.{IsKept}
 use Rattle.strand.specs.declared.cells.StrandCells.TheInside.{Inside}
 use Rattle.strand.proofs.Keeps.{kept_set, kept_new}
 use Rattle.strand.proofs.cells.StrandCells.put.Goals as goal

@@ -1,4 +1,4 @@
-use Rattle.std.proofs.Common.{◌≡◌, ◌∙◌, ap, sym, subst, refl, rules, None, Some, ℤ, w64}
+use Rattle.std.proofs.Common.{◌≡◌, ◌∙◌, ap, sym, refl, rules, Some, w64}
 use Rattle.std.specs.Prelude.{FitsSigned, slice_get, slice_set}
 use Rattle.std.specs.Vec.{with_item}
 use Rattle.std.proofs.lemmas.Int.{to_z-of_z}
@@ -8,7 +8,7 @@ use Rattle.strand.specs.Buffers.{Buffers, settled_changes, with_change}
 use Rattle.strand.specs.Keeping.{IsKept}
 use Rattle.strand.specs.declared.cells.Written.{Written}
 use Rattle.strand.specs.declared.cells.Change.{Change}
-use Rattle.strand.specs.declared.cells.Change.TheVariants.{Stored, Delta}
+use Rattle.strand.specs.declared.cells.Change.TheVariants.{Stored}
 use Rattle.strand.specs.declared.cells.StrandCells.TheInside.{Inside}
 use Rattle.strand.proofs.Keeps.{kept_set}
 use Rattle.strand.proofs.cells.StrandCells.settle.Goals as goal

@@ -1,10 +1,8 @@
-use Rattle.std.proofs.Common.{subst, ℤ, Result, Ok, Err, w64, rules}
+use Rattle.std.proofs.Common.{subst, ℤ, w64, rules}
 use Rattle.std.specs.Prelude.{FitsSigned, OnOk}
 use Rattle.std.proofs.lemmas.Int.{to_z-of_z}
-use Rattle.strand.specs.Buffers.{Buffers, IsPut}
-use Rattle.strand.specs.Showing.{Becomes, with_store}
+use Rattle.strand.specs.Buffers.{IsPut}
 use Rattle.strand.specs.declared.cells.Change.TheVariants.{Stored}
-use Rattle.strand.specs.declared.cells.Stop.{Stop}
 use Rattle.strand.proofs.Showing.{became_stored}
 use Rattle.strand.proofs.cells.StrandCells.store_at.Goals as goal
 

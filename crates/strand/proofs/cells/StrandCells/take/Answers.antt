@@ -1,9 +1,8 @@
-use Rattle.std.proofs.Common.{◌≡◌, ◌≢◌, ◌∙◌, ◌++◌, ◌∷◌, [], List, ap, sym, subst, refl, rules, None, Some, ℤ, w64}
+use Rattle.std.proofs.Common.{◌∙◌, ◌++◌, ◌∷◌, [], ap, sym, refl, rules, w64}
 use Rattle.std.specs.Prelude.{FitsSigned}
 use Rattle.std.proofs.lemmas.Int.{to_z-of_z}
-use Rattle.strand.specs.Buffers.{Buffers, change_in, settled_changes, value_in}
+use Rattle.strand.specs.Buffers.{Buffers, change_in, value_in}
 use Rattle.strand.specs.declared.cells.Read.{Read}
-use Rattle.strand.specs.declared.cells.Change.TheVariants.{Delta}
 use Rattle.strand.proofs.Keeps.{kept_read, settled_away}
 use Rattle.strand.proofs.cells.StrandCells.take.Goals as goal
 

@@ -1,8 +1,7 @@
-use Rattle.std.proofs.Common.{◌≡◌, ◌≢◌, ◌∙◌, ◌-◌, ◌<◌, suc, ℤ, List, length, Some, ap, sym, subst, refl, arith, rules, w64}
+use Rattle.std.proofs.Common.{◌∙◌, ◌-◌, ap, sym, arith, rules, w64}
 use Rattle.std.specs.Prelude.{FitsSigned, slice_get}
 use Rattle.std.proofs.lemmas.Int.{to_z-of_z}
 use mir.Val.{to_z, of_z}
-use Rattle.strand.specs.declared.finding.Entry.{Entry}
 use Rattle.strand.proofs.Chained.{searching_first, searching_on, listed_at, not_listed}
 use Rattle.strand.proofs.finding.Index.find.Goals as goal
 

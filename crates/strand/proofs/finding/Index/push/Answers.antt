@@ -1,8 +1,7 @@
-use Rattle.std.proofs.Common.{◌≡◌, ◌≤◌, ◌<◌, ◌+◌, ◌∙◌, List, length, length-set, ap, sym, subst, arith, rules, Some, ◌++◌, ◌∷◌, [], ℤ, w64}
+use Rattle.std.proofs.Common.{◌≡◌, ◌≤◌, ◌<◌, ◌+◌, ◌∙◌, List, length, length-set, ap, sym, subst, arith, rules, ◌++◌, ◌∷◌, [], ℤ, w64}
 use Rattle.std.specs.Prelude.{slice_get, slice_set, FitsSigned}
 use Rattle.std.proofs.lemmas.Int.{to_z-of_z}
 use Rattle.std.proofs.lemmas.List.{length-map}
-use Rattle.strand.specs.Chains.{slot}
 use Rattle.strand.specs.Indexing.{IsChained}
 use Rattle.strand.specs.declared.finding.Entry.{Entry}
 use Rattle.strand.proofs.Chained.{chained_push, length_push}
