@@ -3,8 +3,8 @@
 #![tactic(auto)]
 
 mod borders;
-mod law;
+mod run;
 mod stack;
 mod text;
 
-pub use law::steps_mean;
+pub use stack::Stack;
