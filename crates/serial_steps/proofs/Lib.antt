@@ -7,3 +7,4 @@ pub mod Owners
 pub mod Leading
 pub mod Calling
 pub mod Returning
+pub mod Turning

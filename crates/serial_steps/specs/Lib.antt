@@ -1,2 +1,3 @@
 pub mod Layouts
 pub mod Shown
+pub mod Runs

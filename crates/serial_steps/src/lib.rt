@@ -7,4 +7,5 @@ mod run;
 mod stack;
 mod text;
 
+pub use run::Ended;
 pub use stack::Stack;
