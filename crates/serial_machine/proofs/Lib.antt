@@ -7,4 +7,5 @@ pub mod Running
 pub mod Serially
 pub mod Steps
 pub mod Unmet
+pub mod Walks
 pub mod Wide

@@ -23,7 +23,7 @@ use Rattle.frame.specs.declared.frame.Wait.TheVariants as wait
 use Rattle.frame.specs.Reading.{frame_of, wait_of, role_of}
 use Rattle.frame.specs.Room.{HasChild, HasPlaces, HasResult, HoldsAllocas, IsEntered, IsSound, IsUndefined, register_count}
 use Rattle.serial_machine.specs.Running.{path_on, seen, memory_of, run_of, AwaitsResult, StandsOn, AreSound}
-use Rattle.serial_steps.specs.Stack.{Goes, HasNoStep, IsStuck, EndsWith, IsNotFree, IsNotCalling}
+use Rattle.serial_machine.specs.Stack.{Goes, HasNoStep, IsStuck, EndsWith, IsNotFree, IsNotCalling}
 use Rattle.serial_machine.specs.Stepping.{below_of, frames_in, path_in, frame_in, memory_in, run_in, ArePlaced, Wrote, GoneOn}
 use Rattle.serial_machine.specs.declared.stack.Stack.{Stack}
 use Rattle.serial_machine.proofs.Depths.{result_same, reverse_push}

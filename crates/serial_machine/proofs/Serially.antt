@@ -14,7 +14,7 @@ use Rattle.frame.specs.Reading.{frame_of}
 use Rattle.frame.specs.Room.{CanDo, EffectWithin, HasPlaces, IsSound, IsUndefined, register_count}
 use Rattle.running.specs.Effect.{action_of}
 use Rattle.serial_machine.specs.Running.{seen, object_cell, memory_of, run_of, AreSound}
-use Rattle.serial_steps.specs.Stack.{Run, Walk, begins, goes_on, starting, Goes}
+use Rattle.serial_machine.specs.Stack.{Run, Walk, begins, goes_on, starting, Goes}
 use Rattle.serial_machine.specs.Stepping.{below_of, frames_in, path_in, frame_in, memory_in, run_in, names_of, ArePlaced, HasRoomAt, HasSpace, ComesTo, Performs, HasEnded}
 use Rattle.serial_machine.specs.Serially.{cells_of, IsMeant, Stops, RunsTo}
 use Rattle.serial_machine.specs.declared.outcome.Finished.{Finished}
@@ -26,7 +26,7 @@ use Rattle.serial_machine.specs.declared.stack.Progress.TheVariants.{GoesOn, End
 use Rattle.serial_machine.proofs.Performed.{free_wait, stands_free}
 use Rattle.serial_machine.proofs.Places.{root_placed}
 use Rattle.serial_machine.proofs.Running.{memory_pushed, memory_popped, seen_long}
-use Rattle.serial_steps.proofs.Walks.{steps_mean}
+use Rattle.serial_machine.proofs.Walks.{steps_mean}
 
 -- ---- a step
 

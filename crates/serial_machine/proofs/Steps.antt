@@ -15,7 +15,7 @@ use Rattle.frame.specs.declared.frame.Wait.TheVariants as wait
 use Rattle.frame.specs.Reading.{frame_of, wait_of}
 use Rattle.frame.specs.Room.{IsUndefined, cells_in}
 use Rattle.serial_machine.specs.Running.{path_on, seen, local_in, object_cell, memory_of, run_of}
-use Rattle.serial_steps.specs.Stack.{Goes, plain, sync, detach, call, reattach, ret}
+use Rattle.serial_machine.specs.Stack.{Goes, plain, sync, detach, call, reattach, ret}
 use Rattle.serial_machine.proofs.Running.{memory_pushed, memory_popped}
 
 object_same : (f g : Frame) (below : List Frame) (globals : List NamedCells) → g.allocas ≡ f.allocas → (o : Object) (i : ℕ) → object_cell (g ∷ below) globals o i ≡ object_cell (f ∷ below) globals o i

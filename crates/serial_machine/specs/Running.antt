@@ -8,7 +8,7 @@ use Rattle.store.specs.Cells.{NamedCells, cell_at}
 use Rattle.frame.specs.declared.frame.Frame.{Frame}
 use Rattle.frame.specs.Reading.{frame_of}
 use Rattle.frame.specs.Room.{HasResult, IsSound, alloca_in}
-use Rattle.serial_steps.specs.Stack.{Placed, Run}
+use Rattle.serial_machine.specs.Stack.{Placed, Run}
 
 -- the path of a frame that stands on these: each is the newest child of the one below it
 abbrev pub path_on : List Frame → Path

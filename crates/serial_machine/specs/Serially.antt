@@ -6,7 +6,7 @@ use Rattle.program.specs.declared.function.Program.{Program}
 use Rattle.store.specs.Cells.{NamedCells}
 use Rattle.frame.specs.declared.frame.Frame.{Frame}
 use Rattle.serial_machine.specs.Running.{memory_of, run_of, AreSound}
-use Rattle.serial_steps.specs.Stack.{Walk, starting, IsStuck}
+use Rattle.serial_machine.specs.Stack.{Walk, starting, IsStuck}
 use Rattle.serial_machine.specs.Stepping.{ArePlaced, HasRoomAt, names_of}
 use Rattle.serial_machine.specs.declared.outcome.Finished.{Finished}
 use Rattle.serial_machine.specs.declared.outcome.Halt.{Halt}

@@ -20,7 +20,7 @@ use Rattle.frame.specs.Reading.{above, frame_of, object_of, cell_of}
 use Rattle.frame.specs.Room.{CanDo, EffectWithin, FitsPhis, HasCell, ObjectWithin, register_count}
 use Rattle.frame.specs.Asked.{HasRoom, asked}
 use Rattle.serial_machine.specs.Running.{path_on, seen, memory_of, frame_at, run_of, AreSound}
-use Rattle.serial_steps.specs.Stack.{Run, Goes, IsStuck, EndsWith}
+use Rattle.serial_machine.specs.Stack.{Run, Goes, IsStuck, EndsWith}
 use Rattle.serial_machine.specs.declared.outcome.Halt.{Halt}
 use Rattle.serial_machine.specs.declared.outcome.Halt.TheVariants.{OutOfMemory, Trapped}
 use Rattle.serial_machine.specs.declared.stack.Stack.{Stack}

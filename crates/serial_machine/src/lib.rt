@@ -3,11 +3,13 @@
 #![tactic(auto)]
 
 mod arguments;
+mod law;
 mod outcome;
 mod run;
 mod stack;
 mod stepping;
 
 pub use arguments::unmet_requirement;
+pub use law::steps_mean;
 pub use outcome::{Finished, RunFault};
 pub use run::serial_run;

@@ -36,7 +36,7 @@ use Rattle.schedule_theorem.proofs.Serially.{Found}
 use Rattle.serial_machine.specs.Requirements.{unmet_in}
 use Rattle.serial_machine.specs.Running.{path_on, seen, memory_of, run_of}
 use Rattle.serial_machine.specs.Serially.{cells_of, StopsAt}
-use Rattle.serial_steps.specs.Stack.{Placed, HasNoStep}
+use Rattle.serial_machine.specs.Stack.{Placed, HasNoStep}
 use Rattle.serial_machine.specs.Stepping.{HasPlacesIn, HasRoomAt, declared_in}
 use Rattle.serial_machine.proofs.Running.{seen_long}
 use Rattle.serial_promise.specs.walks.Along.{GoesOnTo, IsCounted}

@@ -23,7 +23,7 @@ use Rattle.engine.specs.Flat.{cell_in, is_cell}
 use Rattle.engine.specs.declared.flat.Flat.{Flat}
 use Rattle.engine.specs.Shows.{Layout, ShowsCells}
 use Rattle.serial_steps.specs.Layouts.{end_of, frames_of, layout_of}
-use Rattle.serial_steps.specs.Stack.{Placed, Run, Goes, plain, sync, detach, call, reattach, ret}
+use Rattle.serial_machine.specs.Stack.{Placed, Run, Goes, plain, sync, detach, call, reattach, ret}
 use Rattle.serial_steps.specs.Shown.{BeginsAt, CanGo, HasTaker, ShowsBelow, ShowsOn, ShowsRun, TextFits, place_of}
 use Rattle.serial_steps.specs.declared.stack.Stack.{Stack}
 use Rattle.serial_steps.proofs.Places.{detach_here}
@@ -53,56 +53,55 @@ module _ (globals : List ℕ) (prog : Program) (places : Places) (moves : ℕ) (
       (parent : Frame) (parent_is : parent ≡ record k.top { place = record { block = c; index = 0 }; made = k.top.made + 1; waits = wait.Nothing })
       (parent_shown : (l : Layout) (at : Places) (p : Path) (g : frames.Frame) → ShowsFrame l at p g k.top → ShowsFrame l at p (continued g c.0) parent)
     where
-    at : Located prog s.frame.function s.frame.block s.frame.index (Ends (terminator.Detach r b c))
-    at = located prog s.frame.function s.frame.block s.frame.index (Ends (terminator.Detach r b c)) place
+      at : Located prog s.frame.function s.frame.block s.frame.index (Ends (terminator.Detach r b c))
+      at = located prog s.frame.function s.frame.block s.frame.index (Ends (terminator.Detach r b c)) place
 
-    both : (b.0 < length at.function.blocks) × (c.0 < length at.function.blocks)
-    both = ends_fit prog places moves s.frame.function s.frame.block s.frame.index (terminator.Detach r b c) text.fits at
+      both : (b.0 < length at.function.blocks) × (c.0 < length at.function.blocks)
+      both = ends_fit prog places moves s.frame.function s.frame.block s.frame.index (terminator.Detach r b c) text.fits at
 
-    abbrev layout : Layout
-    layout = layout_of globals prog (frames_of s)
+      abbrev layout : Layout
+      layout = layout_of globals prog (frames_of s)
 
-    child_fits : FrameFits prog child
-    child_fits =
-        let shown = child_shown layout places s.path s.frame h.top.shown in
-        frame_stands prog child at.function (ap (λ x. slice_get prog.functions x.0) same ∙ function_of at.function at.is)
-        (ap length words ∙ h.top.fits.registers at.function (function_of at.function at.is))
-        (subst (λ (n : ℕ). PlaceFits at.function.blocks n child.place.index) shown.block (subst (λ (n : ℕ). PlaceFits at.function.blocks b.0 n) shown.index (starts_block at.function.blocks b.0 both.0)))
+      child_fits : FrameFits prog child
+      child_fits =
+          let shown = child_shown layout places s.path s.frame h.top.shown in
+          frame_stands prog child at.function (ap (λ x. slice_get prog.functions x.0) same ∙ function_of at.function at.is)
+          (ap length words ∙ h.top.fits.registers at.function (function_of at.function at.is))
+          (subst (λ (n : ℕ). PlaceFits at.function.blocks n child.place.index) shown.block (subst (λ (n : ℕ). PlaceFits at.function.blocks b.0 n) shown.index (starts_block at.function.blocks b.0 both.0)))
 
-    parent_waits : Waits globals prog places (record { path = s.path; frame = continued s.frame c.0 }) s.below parent
-    parent_waits =
-        let shown = parent_shown layout places s.path s.frame h.top.shown in
-        record {
-          on = record {
-            shown = shown;
-            fits = frame_stands prog parent at.function (ap (λ (x : Frame). slice_get prog.functions x.function.0) parent_is ∙ function_of at.function at.is)
-                (ap (λ (x : Frame). length x.registers.items) parent_is ∙ h.top.fits.registers at.function (function_of at.function at.is))
-                (subst (λ (n : ℕ). PlaceFits at.function.blocks n parent.place.index) shown.block (subst (λ (n : ℕ). PlaceFits at.function.blocks c.0 n) shown.index (starts_block at.function.blocks c.0 both.1)));
-            tall = h.top.tall;
-            home = subst (λ (x : Frame). BeginsAt s.frame.role x.home (end_of globals prog s.below)) (sym parent_is) h.top.home;
-          };
-          waits = sym (ap (λ (x : Frame). wait_of x.waits) parent_is);
-          taker = subst (λ (x : Frame). HasTaker x x.waits) (sym parent_is) tt;
-        }
-
-    pub detach_shown : (j : Stack) → j.top ≡ child → j.below.items ≡ k.below.items ++ parent ∷ [] → j.cells ≡ k.cells → j.end ≡ k.end → (t : Run) × Goes prog s t × ShowsRun globals prog places t j
-    detach_shown j top pushed cells end =
-        let act : action_of prog s.path s.frame s.memory ≡ Detach r.0 b.0 c.0 = detach_here prog s can.goes r b c place in
-        let now : reverse j.below.items ≡ parent ∷ reverse k.below.items = ap reverse pushed ∙ reverse_push k.below.items parent in
-        let t : Run = record { path = s.frame.made ∷ s.path; frame = detached s.frame r.0 b.0 c.0; below = record { path = s.path; frame = continued s.frame c.0 } ∷ s.below; memory = s.memory } in
-        let on : ShowsOn globals prog places (record { path = t.path; frame = t.frame }) t.below child = record {
-          shown = child_shown layout places s.path s.frame h.top.shown;
-          fits = child_fits;
-          tall = ap suc h.top.tall;
-          home = tt;
-        } in
-        (
-          t,
-          detach r.0 b.0 c.0 act,
+      parent_waits : Waits globals prog places (record { path = s.path; frame = continued s.frame c.0 }) s.below parent
+      parent_waits =
+          let shown = parent_shown layout places s.path s.frame h.top.shown in
           record {
-            top = subst (ShowsOn globals prog places (record { path = t.path; frame = t.frame }) t.below) (sym top) on;
-            below = subst (ShowsBelow globals prog places t.below) (sym now) (parent_waits.on, parent_waits.waits, parent_waits.taker, h.below);
-            cells = subst (λ (q : Flat). ShowsCells layout (is_cell q.cells.items) (λ a z. cell_in q.cells.items a ≡ Some z) s.memory) (sym cells) h.cells;
-            end = end ∙ h.end;
-          },
-        )
+            on = record {
+              shown = shown;
+              fits = frame_stands prog parent at.function (ap (λ (x : Frame). slice_get prog.functions x.function.0) parent_is ∙ function_of at.function at.is)
+                  (ap (λ (x : Frame). length x.registers.items) parent_is ∙ h.top.fits.registers at.function (function_of at.function at.is))
+                  (subst (λ (n : ℕ). PlaceFits at.function.blocks n parent.place.index) shown.block (subst (λ (n : ℕ). PlaceFits at.function.blocks c.0 n) shown.index (starts_block at.function.blocks c.0 both.1)));
+              tall = h.top.tall;
+              home = subst (λ (x : Frame). BeginsAt s.frame.role x.home (end_of globals prog s.below)) (sym parent_is) h.top.home;
+            };
+            waits = sym (ap (λ (x : Frame). wait_of x.waits) parent_is);
+            taker = subst (λ (x : Frame). HasTaker x x.waits) (sym parent_is) tt;
+          }
+
+      pub detach_shown : (j : Stack) → j.top ≡ child → j.below.items ≡ k.below.items ++ parent ∷ [] → j.cells ≡ k.cells → j.end ≡ k.end → (t : Run) × Goes prog s t × ShowsRun globals prog places t j
+      detach_shown j top pushed cells end =
+          let act : action_of prog s.path s.frame s.memory ≡ Detach r.0 b.0 c.0 = detach_here prog s can.goes r b c place in
+          let now : reverse j.below.items ≡ parent ∷ reverse k.below.items = ap reverse pushed ∙ reverse_push k.below.items parent in
+          let t : Run = record { path = s.frame.made ∷ s.path; frame = detached s.frame r.0 b.0 c.0; below = record { path = s.path; frame = continued s.frame c.0 } ∷ s.below; memory = s.memory } in
+          let on : ShowsOn globals prog places (record { path = t.path; frame = t.frame }) t.below child = record {
+            shown = child_shown layout places s.path s.frame h.top.shown;
+            fits = child_fits;
+            tall = ap suc h.top.tall;
+            home = tt;
+          } in (
+            t,
+            detach r.0 b.0 c.0 act,
+            record {
+              top = subst (ShowsOn globals prog places (record { path = t.path; frame = t.frame }) t.below) (sym top) on;
+              below = subst (ShowsBelow globals prog places t.below) (sym now) (parent_waits.on, parent_waits.waits, parent_waits.taker, h.below);
+              cells = subst (λ (q : Flat). ShowsCells layout (is_cell q.cells.items) (λ a z. cell_in q.cells.items a ≡ Some z) s.memory) (sym cells) h.cells;
+              end = end ∙ h.end;
+            },
+          )

@@ -1,7 +1,10 @@
-pub mod Walks
 pub mod Places
 pub mod Texts
 pub mod Detaching
 pub mod Joining
 pub mod Rows
 pub mod Owners
+pub mod Leading
+pub mod Calling
+pub mod Returning
+pub mod Turning

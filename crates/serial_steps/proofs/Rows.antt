@@ -14,7 +14,7 @@ use Rattle.program.specs.declared.function.Program.{Program}
 use Rattle.engine.specs.Flat.{cell_in, is_cell}
 use Rattle.engine.specs.Shows.{IsIn, Layout, ShowsCells, address}
 use Rattle.serial_steps.specs.Layouts.{size_in, start_in, of_globals, with_allocas, local_at, local_size, alloca_sizes, for_body, end_of, layout_of}
-use Rattle.serial_steps.specs.Stack.{Placed}
+use Rattle.serial_machine.specs.Stack.{Placed}
 
 summed : (a : ℕ) (cells : List ℕ) → fold (λ (s x : ℕ). s + x) a cells ≡ a + fold (λ (s x : ℕ). s + x) 0 cells
 summed a [] = omega arith
@@ -24,7 +24,7 @@ summed a (c ∷ cs) =
     omega (arith, one, other)
 
 pub sum_more : (c : ℕ) (cells : List ℕ) → sum (c ∷ cells) ≡ c + sum cells
-sum_more c cells = summed (0 + c) cells
+sum_more c cells = let s = summed (0 + c) cells in omega (arith, s)
 
 start_below : (cells : List ℕ) (n i : ℕ) → i < size_in cells n → start_in cells n + i < sum cells
 start_below [] n i h = absurd (omega (arith, h))
@@ -46,7 +46,7 @@ same_place (c ∷ cs) (suc a) (suc b) i j h k e =
 abbrev pub place_in : Layout → Cell → ℤ
 place_in l c = l.at c.object +ℤ pos c.index
 
-record LiesAt (l : Layout) (c : Cell) (end : ℕ) : Type 0 where
+pub record LiesAt (l : Layout) (c : Cell) (end : ℕ) : Type 0 where
   pub place : ℕ
   pub is : place_in l c ≡ pos place
   pub below : place < end
@@ -78,7 +78,7 @@ globals_packed globals = record {
       let t = global_lies globals c.object c.index h in
       let u = global_lies globals d.object d.index k in
       let places : pos (start_in globals t.0 + c.index) ≡ pos (start_in globals u.0 + d.index) =
-          sym (ap (λ (x : ℤ). x +ℤ pos c.index) t.3 ∙ sum_of (start_in globals t.0) c.index) ∙ e ∙ ap (λ (x : ℤ). x +ℤ pos d.index) u.3 ∙ sum_of (start_in globals u.0) d.index in
+      sym (ap (λ (x : ℤ). x +ℤ pos c.index) t.3 ∙ sum_of (start_in globals t.0) c.index) ∙ e ∙ ap (λ (x : ℤ). x +ℤ pos d.index) u.3 ∙ sum_of (start_in globals u.0) d.index in
       let same = same_place globals t.0 u.0 c.index d.index t.2 u.2 (same_pos _ _ places) in
       cell_is c d (t.1 ∙ ap Shared same.0 ∙ sym u.1) same.1;
 }
@@ -136,17 +136,17 @@ module _ (p : Path) (sizes : List ℕ) (home : ℕ) (l : Layout) (packed : IsPac
     ];
     apart = λ c d h k e. elim (either_one p sizes home l c.object c.index h) [
       | inl t ↦ elim (either_one p sizes home l d.object d.index k) [
-          | inl u ↦
-              let places : home + (start_in sizes t.alloca + c.index) ≡ home + (start_in sizes u.alloca + d.index) = same_pos _ _ (sym (own_place c t) ∙ e ∙ own_place d u) in
-              let less : start_in sizes t.alloca + c.index ≡ start_in sizes u.alloca + d.index = omega (arith, places) in
-              let same = same_place sizes t.alloca u.alloca c.index d.index t.within u.within less in
-              cell_is c d (t.object ∙ ap (λ (n : ℕ). Local p n) same.0 ∙ sym u.object) same.1
-          | inr u ↦ absurd (beside c d t u e)
-        ]
+        | inl u ↦
+            let places : home + (start_in sizes t.alloca + c.index) ≡ home + (start_in sizes u.alloca + d.index) = same_pos _ _ (sym (own_place c t) ∙ e ∙ own_place d u) in
+            let less : start_in sizes t.alloca + c.index ≡ start_in sizes u.alloca + d.index = omega (arith, places) in
+            let same = same_place sizes t.alloca u.alloca c.index d.index t.within u.within less in
+            cell_is c d (t.object ∙ ap (λ (n : ℕ). Local p n) same.0 ∙ sym u.object) same.1
+        | inr u ↦ absurd (beside c d t u e)
+      ]
       | inr t ↦ elim (either_one p sizes home l d.object d.index k) [
-          | inl u ↦ absurd (beside d c u t (sym e))
-          | inr u ↦ packed.apart c d t.within u.within (sym (older_place c t) ∙ e ∙ older_place d u)
-        ]
+        | inl u ↦ absurd (beside d c u t (sym e))
+        | inr u ↦ packed.apart c d t.within u.within (sym (older_place c t) ∙ e ∙ older_place d u)
+      ]
     ];
   }
 
@@ -171,10 +171,10 @@ address_is l end c packed small h =
     ap (wrapped Bits64) r.is ∙ int_wrap_fits w64 (pos r.place) (record { sfits = fits })
 
 reaches : (items : List ℤ) (n : ℕ) → n < length items → IsTrue (is_cell items (pos n))
-reaches items n h = let t : nat_lt n (length items) ≡ true = grind (arith, nat_tests) in rw t tt
+reaches items n h = let t : nat_lt n (length items) ≡ true = grind (arith, nat_tests) in t
 
 -- what holds of cells in a row makes them the cells of the engine
-pub cells_shown : (l : Layout) (end : ℕ) (items : List ℤ) (m : Memory) → IsPacked l end → length items ≡ end → end < 9223372036854775808 →
+pub cells_shown : (l : Layout) (end : ℕ) (items : List ℤ) (m : Memory) → IsPacked l end → end ≤ length items → end < 9223372036854775808 →
     ((c : Cell) (z : ℤ) → m c ≡ Some z → cell_in items (address l c) ≡ Some z) → ((c : Cell) (z : ℤ) → m c ≡ Some z → IsIn l c) →
     ShowsCells l (is_cell items) (λ a z. cell_in items a ≡ Some z) m
 cells_shown l end items m packed long small values inside = record {

@@ -1,3 +1,3 @@
-pub mod Stack
 pub mod Layouts
 pub mod Shown
+pub mod Runs

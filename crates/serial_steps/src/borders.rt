@@ -1,4 +1,4 @@
-ghost use Rattle.std.specs.Prelude.{◌≡◌, OnOk, IfOk, Some, length};
+ghost use Rattle.std.specs.Prelude.{◌≡◌, ◌<◌, OnOk, IfOk, Some, length, slice_get};
 ghost use Rattle.running.specs.Frames.{Does, Ends};
 ghost use Rattle.program.specs.declared.instruction.Instruction.TheVariants as instruction;
 ghost use Rattle.program.specs.declared.instruction.Terminator.TheVariants as terminator;
@@ -10,7 +10,7 @@ use crate::text::frame_cells;
 use engine::Places;
 use frame::Wait;
 use lists::OutOfMemory;
-use program::{Argument, BlockId, FunctionId, ObjectName, Operand, Program, RegisterId};
+use program::{Argument, BlockId, Function, FunctionId, ObjectName, Operand, Program, RegisterId};
 
 /// The register that takes what a call returns, of a frame that waits for one.
 fn taker(waits: Wait) -> Option<RegisterId>
@@ -20,6 +20,14 @@ fn taker(waits: Wait) -> Option<RegisterId>
         Wait::Call { register, .. } => register,
         Wait::Nothing | Wait::Region(_) => None,
     }
+}
+
+/// The function, which is there.
+fn function_at(program: &Program, function: FunctionId) -> &Function
+    requires { function.0 < length program.now.functions }
+    ensures { slice_get program.now.functions function.0 ≡ Some result.now }
+{
+    &program.functions.as_slice()[function.0]
 }
 
 impl Stack {
@@ -127,7 +135,7 @@ impl Stack {
         ensures goes { OnOk result (GoesOn program.now places.now self.old self.new) }
         ensures moves { OnOk result (self.new.moves ≡ self.old.moves) }
     {
-        let called = &program.functions.as_slice()[callee.0];
+        let called = function_at(program, callee);
         let Some(room) = frame_cells(called.allocas.as_slice()) else {
             return Err(OutOfMemory);
         };

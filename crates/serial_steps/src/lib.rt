@@ -3,8 +3,9 @@
 #![tactic(auto)]
 
 mod borders;
-mod law;
+mod run;
 mod stack;
 mod text;
 
-pub use law::steps_mean;
+pub use run::Ended;
+pub use stack::Stack;

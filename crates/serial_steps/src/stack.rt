@@ -10,16 +10,16 @@ use std::mem;
 /// A run between two instructions: the frame that goes on, the frames below it, each of which made the one above it, and their
 /// cells. Frames that are over are used again.
 #[derive(Drop)]
-pub(crate) struct Stack {
-    pub(crate) alloc: Global,
-    pub(crate) top: Frame,
-    pub(crate) below: Vec<Frame>,
-    pub(crate) spare: Vec<Frame>,
-    pub(crate) cells: Flat,
+pub struct Stack {
+    pub alloc: Global,
+    pub top: Frame,
+    pub below: Vec<Frame>,
+    pub spare: Vec<Frame>,
+    pub cells: Flat,
     /// The cells behind it belong to no frame, and are used again.
-    pub(crate) end: usize,
+    pub end: usize,
     /// Room for the phi moves of an edge.
-    pub(crate) moves: Vec<i64>,
+    pub moves: Vec<i64>,
 }
 
 /// A frame to be made something of.

@@ -9,8 +9,8 @@ use Rattle.running.specs.SerialMeaning.{Ending, Left, Gave, Outcome, written, cl
 use Rattle.running.specs.SerialMeaning.{one_more, both_outcomes, at_last}
 use Rattle.linear.specs.declared.form.RegisterId.{RegisterId}
 use Rattle.program.specs.declared.function.Program.{Program}
-use Rattle.serial_steps.specs.Stack.{Placed, ComesTo, over, GoesOn, Rests, Run, Goes, plain, sync, detach, call, reattach, ret, IsNotFree, IsNotCalling, HasNoStep, Walk, begins, goes_on, starting}
-use Rattle.serial_steps.proofs.Walks.{rests_deep}
+use Rattle.serial_machine.specs.Stack.{Placed, ComesTo, over, GoesOn, Rests, Run, Goes, plain, sync, detach, call, reattach, ret, IsNotFree, IsNotCalling, HasNoStep, Walk, begins, goes_on, starting}
+use Rattle.serial_machine.proofs.Walks.{rests_deep}
 use Rattle.serial_promise.specs.walks.Along.{GoesOnTo, WalksGoOn}
 use Rattle.serial_promise.proofs.walks.Apart.{meaning_means, plain_apart, sync_apart, detach_apart, call_apart, reattach_apart, return_apart}
 

@@ -11,7 +11,7 @@ use Rattle.conditions.specs.theorem.SerialConditions.{Says, Finds, Nothing, Kept
 use Rattle.running.specs.SerialMeaning.{one_more, both_outcomes, at_last}
 use Rattle.linear.specs.declared.form.RegisterId.{RegisterId}
 use Rattle.program.specs.declared.function.Program.{Program}
-use Rattle.serial_steps.specs.Stack.{Placed, Run, Goes, plain, sync, detach, call, reattach, ret, Walk, begins, goes_on, starting}
+use Rattle.serial_machine.specs.Stack.{Placed, Run, Goes, plain, sync, detach, call, reattach, ret, Walk, begins, goes_on, starting}
 use Rattle.serial_promise.specs.walks.Along.{WalksKeepTests, KeepsAlong}
 
 -- so it is whatever is kept

@@ -1,6 +1,6 @@
 use Rattle.std.proofs.Common.{◌≡◌}
 use Rattle.serial_machine.specs.Running.{AreSound}
-use Rattle.serial_steps.specs.Stack.{Walk, starting}
+use Rattle.serial_machine.specs.Stack.{Walk, starting}
 use Rattle.serial_machine.specs.Serially.{cells_of}
 use Rattle.serial_machine.specs.Stepping.{ArePlaced, frames_in, names_of, run_in}
 use Rattle.serial_machine.proofs.run.run_within.Given as goal

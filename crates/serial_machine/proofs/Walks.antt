@@ -9,7 +9,7 @@ use Rattle.running.specs.SerialMeaning.{Ending, Left, Gave, Outcome, written, cl
 use Rattle.running.proofs.Fuel.{more_fuel}
 use Rattle.linear.specs.declared.form.RegisterId.{RegisterId}
 use Rattle.program.specs.declared.function.Program.{Program}
-use Rattle.serial_steps.specs.Stack.{Placed, ComesTo, over, GoesOn, Rests, Run, Goes, plain, sync, detach, call, reattach, ret, Walk, begins, goes_on, starting, StepsMean}
+use Rattle.serial_machine.specs.Stack.{Placed, ComesTo, over, GoesOn, Rests, Run, Goes, plain, sync, detach, call, reattach, ret, Walk, begins, goes_on, starting, StepsMean}
 
 outcome_is : (e : Ending) (m : Memory) (c d h k : ℕ) → c ≡ d → h ≡ k → ◌≡◌ {A = Outcome} (record { ending = e; memory = m; count = c; depth = h }) (record { ending = e; memory = m; count = d; depth = k })
 outcome_is e m c d h k a b = λ i. record { ending = e; memory = m; count = a i; depth = b i }

@@ -1,4 +1,4 @@
-ghost use Rattle.serial_steps.specs.Stack.{StepsMean};
+ghost use Rattle.serial_machine.specs.Stack.{StepsMean};
 
 /// Steps over a stack of frames, of which the one on top goes on, come to the serial meaning once the root returns: as many
 /// instructions as steps, and as deep as the stack was at most.

@@ -1,0 +1,202 @@
+ghost use Rattle.std.specs.Prelude.{◌≡◌, ◌<◌, ◌≤◌, OnOk, IfOk, Some, ℕ, length};
+ghost use Rattle.running.specs.Frames.{Does, Ends};
+ghost use Rattle.serial_machine.specs.Stack.{Run};
+ghost use Rattle.engine.specs.Activation.{FrameFits};
+ghost use Rattle.engine.specs.Border.{IsBorder, IsBorderEnding, IsBorderItem};
+ghost use Rattle.engine.specs.Pause.{IfBorder, IfLimit};
+ghost use Rattle.serial_steps.specs.Runs.{GoesSafely, RunsTo, Turns};
+ghost use Rattle.serial_steps.specs.Shown.{Advances, GoesOn, HasNumbers, Returns, StandsSafely, StaysSafely, TextFits, item_here};
+
+use crate::stack::Stack;
+use engine::{Item, Pause, Places};
+use lists::OutOfMemory;
+use program::{Instruction, Program, Terminator};
+use std::convert::Infallible;
+
+impl Stack {
+    /// Goes on to the next place that is no plain step, or to the limit of instructions done.
+    pub fn advance(
+        &mut self,
+        program: &Program,
+        places: &Places,
+        done: &mut u64,
+        limit: u64,
+    ) -> Pause<Infallible>
+        requires stands { FrameFits program.now self.old.top }
+        requires text { TextFits program.now places.now (length self.old.moves.items) }
+        requires room { done.old ≤ limit }
+        requires safe { StaysSafely program.now places.now self.old }
+        ensures stands { FrameFits program.now self.new.top }
+        ensures moves { length self.new.moves.items ≡ length self.old.moves.items }
+        ensures room { done.new ≤ limit }
+        ensures border { IfBorder result (IsBorderItem (item_here program.now self.new.top)) }
+        ensures limit { IfLimit result (done.new ≡ limit) }
+        ensures led { Advances program.now places.now self.old self.new done.old done.new }
+    {
+        self.top.advance(
+            program,
+            places,
+            &mut self.cells,
+            self.moves.as_mut_slice(),
+            done,
+            limit,
+        )
+    }
+
+    /// Does the instruction at its place, which is no plain one.
+    pub fn step_over(
+        &mut self,
+        program: &Program,
+        places: &Places,
+        instruction: &Instruction,
+    ) -> Result<(), OutOfMemory>
+        requires stands { FrameFits program.now self.old.top }
+        requires text { TextFits program.now places.now (length self.old.moves.items) }
+        requires item { item_here program.now self.old.top ≡ Some (Does instruction.now) }
+        requires border { IsBorder instruction.now }
+        requires numbers { HasNumbers self.old.top }
+        requires safe { StandsSafely program.now places.now self.old }
+        ensures goes { OnOk result (GoesOn program.now places.now self.old self.new) }
+        ensures moves { OnOk result (length self.new.moves.items ≡ length self.old.moves.items) }
+    {
+        match instruction {
+            Instruction::StoreZeros { cells, object } => {
+                self.clear(program, places, *object, *cells);
+                Ok(())
+            }
+            Instruction::Call {
+                register,
+                callee,
+                arguments,
+            } => self.call(program, places, *register, *callee, arguments.as_slice()),
+            _ => unreachable!(),
+        }
+    }
+
+    /// Does the ending at its place, which is no plain one; the run's result where it has ended.
+    pub fn end_block(
+        &mut self,
+        program: &Program,
+        places: &Places,
+        terminator: &Terminator,
+    ) -> Result<Option<i64>, OutOfMemory>
+        requires stands { FrameFits program.now self.old.top }
+        requires text { TextFits program.now places.now (length self.old.moves.items) }
+        requires item { item_here program.now self.old.top ≡ Some (Ends terminator.now) }
+        requires border { IsBorderEnding terminator.now }
+        requires numbers { HasNumbers self.old.top }
+        requires safe { StandsSafely program.now places.now self.old }
+        ensures goes { IfOk result (λ r. Returns program.now places.now self.old self.new r) }
+        ensures moves { OnOk result (length self.new.moves.items ≡ length self.old.moves.items) }
+    {
+        match terminator {
+            Terminator::Return { value } => self.return_with(program, places, *value),
+            Terminator::Detach {
+                region,
+                body,
+                continuation,
+            } => {
+                self.detach(program, places, *region, *body, *continuation)?;
+                Ok(None)
+            }
+            Terminator::Reattach {
+                region,
+                continuation,
+            } => {
+                self.reattach(program, places, *region, *continuation)?;
+                Ok(None)
+            }
+            Terminator::Sync { region, target } => {
+                self.sync(program, places, *region, *target);
+                Ok(None)
+            }
+            _ => unreachable!(),
+        }
+    }
+}
+
+/// What a run that has ended comes to.
+#[derive(Drop)]
+pub struct Ended {
+    /// What the root returned.
+    pub result: i64,
+    /// The instructions that were done, phis not counted.
+    pub instructions: u64,
+    /// The most frames that lived at a time.
+    pub peak: u64,
+}
+
+impl Stack {
+    /// Does what stands at its place, which is no plain step; the run's result where it has ended.
+    fn border(&mut self, program: &Program, places: &Places) -> Result<Option<i64>, OutOfMemory>
+        requires stands { FrameFits program.now self.old.top }
+        requires text { TextFits program.now places.now (length self.old.moves.items) }
+        requires border { IsBorderItem (item_here program.now self.old.top) }
+        requires numbers { HasNumbers self.old.top }
+        requires safe { StandsSafely program.now places.now self.old }
+        ensures goes { IfOk result (λ r. Returns program.now places.now self.old self.new r) }
+        ensures moves { OnOk result (length self.new.moves.items ≡ length self.old.moves.items) }
+    {
+        match self.top.item(program) {
+            Item::Does(instruction) => {
+                self.step_over(program, places, instruction)?;
+                Ok(None)
+            }
+            Item::Ends(terminator) => self.end_block(program, places, terminator),
+        }
+    }
+
+    /// Goes on to a border and over it; the run's result where it has ended.
+    fn turn(
+        &mut self,
+        program: &Program,
+        places: &Places,
+        done: &mut u64,
+        budget: u64,
+    ) -> Result<Option<i64>, OutOfMemory>
+        requires text { TextFits program.now places.now (length self.old.moves.items) }
+        requires safe { GoesSafely program.now places.now budget done.old self.old }
+        ensures turns { IfOk result (λ r. Turns program.now places.now budget done.old done.new self.old self.new r) }
+        ensures moves { OnOk result (length self.new.moves.items ≡ length self.old.moves.items) }
+        ensures on { OnOk result (done.old < done.new) }
+        ensures room { OnOk result (done.new ≤ budget) }
+    {
+        match self.advance(program, places, done, budget) {
+            Pause::Border => {}
+            Pause::Limit => unreachable!(),
+            Pause::Stopped(never) => match never {},
+        }
+        *done += 1;
+        let ended = self.border(program, places)?;
+        Ok(ended)
+    }
+
+    /// Runs to the root's return.
+    ///
+    /// # Errors
+    ///
+    /// Memory was refused.
+    pub fn run(
+        &mut self,
+        program: &Program,
+        places: &Places,
+        budget: u64,
+    ) -> Result<Ended, OutOfMemory>
+        requires text { TextFits program.now places.now (length self.old.moves.items) }
+        requires safe { GoesSafely program.now places.now budget 0 self.old }
+        ensures ends { IfOk result (λ e. RunsTo program.now places.now budget self.old self.new e) }
+    {
+        let mut done = 0;
+        let mut peak = 1;
+        loop {
+            if let Some(result) = self.turn(program, places, &mut done, budget)? {
+                return Ok(Ended {
+                    result,
+                    instructions: done,
+                    peak,
+                });
+            }
+            peak = peak.max(self.below.len() as u64 + 1);
+        }
+    }
+}
