@@ -20,7 +20,8 @@ use program::ObjectName;
 fn write_zeros<C: Cells>(cells: &mut C, at: &i64, count: u64) -> Result<(), C::Stop>
     requires { (i : ℕ) → i < count → IsTrue (C.reaches cells.old (wrapped Bits64 (at.now +ℤ pos i))) }
     ensures zeros { OnOk result ((i : ℕ) → i < count → C.holds cells.new (wrapped Bits64 (at.now +ℤ pos i)) (pos 0)) }
-    ensures others { OnOk result ((a z : ℤ) → C.holds cells.old a z → ((i : ℕ) → i < count → a ≢ wrapped Bits64 (at.now +ℤ pos i)) → C.holds cells.new a z) }
+    ensures others { OnOk result ((a z : ℤ) → C.holds cells.old a z →
+        ((i : ℕ) → i < count → a ≢ wrapped Bits64 (at.now +ℤ pos i)) → C.holds cells.new a z) }
     ensures reaches { (a : ℤ) → IsTrue (C.reaches cells.old a) → IsTrue (C.reaches cells.new a) }
 {
     let mut next = *at;
@@ -41,11 +42,16 @@ impl Frame {
         count: u64,
     ) -> Result<(), C::Stop>
         requires there { self.old.function.0 < length places.now.allocas }
-        requires names { HasObject (sizes (length self.old.registers.items) (length places.now.globals) (length (allocas_of places.now self.old.function.0))) object }
+        requires names { HasObject (sizes (length self.old.registers.items) (length places.now.globals)
+            (length (allocas_of places.now self.old.function.0))) object }
         requires index { self.old.place.index + 1 < 18446744073709551616 }
-        requires safe { IsSafe (bases_in places.now self.old) (C.reaches cells.old) (C.holds cells.old) self.old.registers.items (instruction.StoreZeros count object) }
+        requires safe { IsSafe (bases_in places.now self.old) (C.reaches cells.old) (C.holds cells.old)
+            self.old.registers.items (instruction.StoreZeros count object) }
         ensures only { OnOk result (self.new ≡ record self.old { place = record { block = self.old.place.block; index = self.old.place.index + 1 } }) }
-        ensures led { OnOk result ((prog : Program) (l : Layout) (p : Path) (g : frames.Frame) (m : Memory) → ShowsFrame l places.now p g self.old → ShowsCells l (C.reaches cells.old) (C.holds cells.old) m → item_at prog g.function g.block g.index ≡ Some (Does (instruction.StoreZeros count object)) → Safe prog l p g m → LedFrame prog l places.now p g m 0 1 (C.reaches cells.new) (C.holds cells.new) self.new) }
+        ensures led { OnOk result ((prog : Program) (l : Layout) (p : Path) (g : frames.Frame) (m : Memory) →
+            ShowsFrame l places.now p g self.old → ShowsCells l (C.reaches cells.old) (C.holds cells.old) m →
+            item_at prog g.function g.block g.index ≡ Some (Does (instruction.StoreZeros count object)) → Safe prog l p g m →
+            LedFrame prog l places.now p g m 0 1 (C.reaches cells.new) (C.holds cells.new) self.new) }
     {
         let allocas = &places.allocas.as_slice()[self.function.0];
         let at = first(

@@ -7,7 +7,7 @@ use crate::words::number_at;
 use lists::OutOfMemory;
 use std::convert::Infallible;
 
-/// The cells of the globals and, behind them, of the living frames' allocas. An address is an index.
+/// The cells of the globals and, after them, of the living frames' allocas. An address is an index.
 #[derive(Drop)]
 pub struct Flat {
     pub cells: Vec<i64>,

@@ -1,8 +1,7 @@
 -- A detach keeps the stack shown.
-use Rattle.std.proofs.Common.{◌≡◌, ℕ, suc, ◌+◌, ◌<◌, List, [], ◌∷◌, ◌++◌, length, reverse, refl, ap, sym, ◌∙◌, subst, arith, ℤ, Option, Some, None}
+use Rattle.std.proofs.Common.{◌≡◌, ℕ, suc, ◌+◌, ◌<◌, List, [], ◌∷◌, ◌++◌, length, reverse, ap, sym, ◌∙◌, subst, Some}
 use Rattle.std.specs.Prelude.{slice_get}
 use Rattle.std.proofs.lemmas.List.{reverse-append}
-use Rattle.std.proofs.lemmas.Option.{same_Some}
 use Rattle.linear.specs.declared.form.RegisterId.{RegisterId}
 use Rattle.running.specs.Paths.{Path}
 use Rattle.running.specs.Frames as frames
@@ -23,7 +22,7 @@ use Rattle.engine.specs.Flat.{cell_in, is_cell}
 use Rattle.engine.specs.declared.flat.Flat.{Flat}
 use Rattle.engine.specs.Shows.{Layout, ShowsCells}
 use Rattle.serial_steps.specs.Layouts.{end_of, frames_of, layout_of}
-use Rattle.serial_machine.specs.Stack.{Placed, Run, Goes, plain, sync, detach, call, reattach, ret}
+use Rattle.serial_machine.specs.Stack.{Placed, Run, Goes, detach}
 use Rattle.serial_steps.specs.Shown.{BeginsAt, CanGo, HasTaker, ShowsBelow, ShowsOn, ShowsRun, TextFits, place_of}
 use Rattle.serial_steps.specs.declared.stack.Stack.{Stack}
 use Rattle.serial_steps.proofs.Places.{detach_here}

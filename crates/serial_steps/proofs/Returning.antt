@@ -1,5 +1,5 @@
 -- A return keeps the stack shown: the callee's allocas go.
-use Rattle.std.proofs.Common.{◌≡◌, ℕ, suc, ◌+◌, ◌<◌, List, [], ◌∷◌, ◌++◌, length, reverse, refl, ap, sym, ◌∙◌, subst, arith, ◌⊎◌, inl, inr, ℤ, pos, Option, Some, None, Vec, Global}
+use Rattle.std.proofs.Common.{◌≡◌, ℕ, ◌<◌, List, [], ◌∷◌, ◌++◌, length, reverse, ap, sym, ◌∙◌, subst, arith, inl, inr, ℤ, pos, Option, Some, None}
 use Rattle.std.specs.Prelude.{IsTrue, slice_get}
 use Rattle.std.proofs.Props.{props}
 use Rattle.std.specs.Prelude.{FitsSigned}
@@ -11,14 +11,12 @@ use lib.IntN.{nat_abs}
 use mir.Val.{Fits, to_z, of_z}
 use Rattle.linear.specs.declared.form.RegisterId.{RegisterId}
 use Rattle.running.specs.Paths.{Path}
-use Rattle.running.specs.Cells.{Cell, Memory}
+use Rattle.running.specs.Cells.{Cell}
 use Rattle.running.specs.Frames as frames
 use Rattle.running.specs.Frames.{Role, Body, OnCall, Ends}
 use Rattle.running.specs.Effect.{Return, action_of, terminator_action}
 use Rattle.running.specs.SerialMeaning.{cleared}
 use Rattle.running.specs.State.{resumed}
-use Rattle.program.specs.declared.identifier.FunctionId.{FunctionId}
-use Rattle.program.specs.declared.function.Function.{Function}
 use Rattle.program.specs.declared.function.Program.{Program}
 use Rattle.program.specs.declared.instruction.Operand.{Operand}
 use Rattle.program.specs.declared.instruction.Operand.TheVariants.{Number, Register}
@@ -32,17 +30,17 @@ use Rattle.engine.specs.declared.flat.Flat.{Flat}
 use Rattle.engine.specs.Activation.{FrameFits, ShowsFrame}
 use Rattle.engine.specs.Fits.{HasReturned, PlaceFits}
 use Rattle.engine.specs.Flat.{cell_in, is_cell}
-use Rattle.engine.specs.Names.{HasOperand, HasResult, Sizes, sizes}
+use Rattle.engine.specs.Names.{HasResult, Sizes, sizes}
 use Rattle.engine.specs.Shows.{IsIn, Layout, ShowsCells, address}
-use Rattle.serial_steps.specs.Layouts.{alloca_sizes, end_of, for_body, frames_of, layout_of, with_allocas}
-use Rattle.serial_machine.specs.Stack.{Placed, Run, Goes, plain, sync, detach, call, reattach, ret}
-use Rattle.serial_steps.specs.Shown.{BeginsAt, CanGo, HasTaker, Ends as EndsRun, Returns, ShowsBelow, ShowsOn, ShowsRun, Stands, TextFits, item_here, place_of, taker_of}
+use Rattle.serial_steps.specs.Layouts.{alloca_sizes, end_of, for_body, layout_of, with_allocas}
+use Rattle.serial_machine.specs.Stack.{Placed, Run, Goes, ret}
+use Rattle.serial_steps.specs.Shown.{BeginsAt, CanGo, HasTaker, Ends as EndsRun, ShowsBelow, ShowsOn, ShowsRun, TextFits, item_here, taker_of}
 use Rattle.serial_steps.specs.declared.stack.Stack.{Stack}
 use Rattle.serial_steps.proofs.Calling.{tall_below}
 use Rattle.serial_steps.proofs.Joining.{below_is, nothing_left, popped}
-use Rattle.serial_steps.proofs.Owners.{AreTall, IsApart, address_apart, in_apart, left, out_apart, young, young_apart}
+use Rattle.serial_steps.proofs.Owners.{IsApart, address_apart, in_apart, left, out_apart, young, young_apart}
 use Rattle.serial_steps.proofs.Places.{return_here}
-use Rattle.serial_steps.proofs.Texts.{Located, ends_fit, frame_stands, located, placed, sizes_in}
+use Rattle.serial_steps.proofs.Texts.{ends_fit, located, placed, sizes_in}
 
 -- ---- what the text gives
 

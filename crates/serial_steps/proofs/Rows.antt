@@ -1,7 +1,7 @@
 -- Cells in a row: objects lie apart, within the end.
-use Rattle.std.proofs.Common.{◌≡◌, ℕ, zero, suc, ◌+◌, ◌<◌, ◌≤◌, ◌^◌, List, [], ◌∷◌, ◌++◌, length, take, refl, ap, sym, ◌∙◌, subst, arith, Bool, true, false, cond, ◌⊎◌, inl, inr, ℤ, pos, negsuc, ◌+ℤ◌, Option, Some, None}
-use Rattle.std.specs.Prelude.{⊤, IsTrue, nat_lt, fold, sum, slice_get}
-use Rattle.std.specs.Int.{w64, int_wrap}
+use Rattle.std.proofs.Common.{◌≡◌, ℕ, zero, suc, ◌+◌, ◌<◌, ◌≤◌, List, [], ◌∷◌, length, refl, ap, sym, ◌∙◌, subst, arith, Bool, true, false, cond, ◌⊎◌, inl, inr, ℤ, pos, ◌+ℤ◌, Some}
+use Rattle.std.specs.Prelude.{IsTrue, nat_lt, fold, sum}
+use Rattle.std.specs.Int.{w64}
 use Rattle.std.proofs.lemmas.Int.{ints, int_wrap_fits}
 use Rattle.std.proofs.lemmas.Bool.Decides.{nat_tests}
 use Rattle.running.specs.Arithmetic.{wrapped}
@@ -13,7 +13,7 @@ use Rattle.syntax.specs.declared.operator.Width.TheVariants.{Bits64}
 use Rattle.program.specs.declared.function.Program.{Program}
 use Rattle.engine.specs.Flat.{cell_in, is_cell}
 use Rattle.engine.specs.Shows.{IsIn, Layout, ShowsCells, address}
-use Rattle.serial_steps.specs.Layouts.{size_in, start_in, of_globals, with_allocas, local_at, local_size, alloca_sizes, for_body, end_of, layout_of}
+use Rattle.serial_steps.specs.Layouts.{size_in, start_in, of_globals, with_allocas, alloca_sizes, for_body, end_of, layout_of}
 use Rattle.serial_machine.specs.Stack.{Placed}
 
 summed : (a : ℕ) (cells : List ℕ) → fold (λ (s x : ℕ). s + x) a cells ≡ a + fold (λ (s x : ℕ). s + x) 0 cells

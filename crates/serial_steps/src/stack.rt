@@ -16,7 +16,7 @@ pub struct Stack {
     pub below: Vec<Frame>,
     pub spare: Vec<Frame>,
     pub cells: Flat,
-    /// The cells behind it belong to no frame, and are used again.
+    /// Cells from here on belong to no frame, and are used again.
     pub end: usize,
     /// Room for the phi moves of an edge.
     pub moves: Vec<i64>,

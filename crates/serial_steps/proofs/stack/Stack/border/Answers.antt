@@ -1,5 +1,3 @@
-use Rattle.std.proofs.Common.{◌≡◌, sym, subst, ◌∙◌, ap, Some}
-use Rattle.engine.specs.Border.{IsBorderItem}
 use Rattle.serial_steps.proofs.Turning.{has_ending}
 use Rattle.serial_steps.proofs.stack.Stack.border.Goals as goal
 

@@ -1,4 +1,4 @@
-use Rattle.std.proofs.Common.{rules, ℕ, FitsSigned, ◌≡◌, ◌+◌, ◌-◌, ◌∙◌, ap, refl, arith, sym, subst, pos, List, ℤ, Some, length, ◌≤◌, ◌++◌, replicate}
+use Rattle.std.proofs.Common.{rules, ℕ, FitsSigned, ◌≡◌, ◌+◌, ◌-◌, ◌∙◌, ap, arith, pos, List, Some, length, ◌≤◌, ◌++◌, replicate}
 use Rattle.std.specs.Prelude.{map, sum}
 use Rattle.std.specs.Int.{w64}
 use mir.Val.{to_z, of_z}
@@ -7,10 +7,9 @@ use Rattle.serial_steps.specs.Layouts.{end_of, frames_of}
 use Rattle.running.specs.Frames.{Does}
 use Rattle.program.specs.declared.function.Alloca.{Alloca}
 use Rattle.program.specs.declared.instruction.Instruction.TheVariants as instruction
-use Rattle.engine.specs.declared.activation.Frame.{Frame}
 use Rattle.serial_steps.specs.Shown.{item_here}
 use Rattle.serial_steps.specs.declared.stack.Stack.{Stack}
-use Rattle.serial_steps.proofs.Calling.{begins, call_names, call_shown, callee_within, end_address, grown_long, home, layout, more, place}
+use Rattle.serial_steps.proofs.Calling.{begins, call_names, call_shown, callee_within, end_address, grown_long, layout, more, place}
 use Rattle.serial_steps.proofs.Detaching.{spared}
 use Rattle.serial_steps.proofs.stack.Stack.call.Goals as goal
 

@@ -1,4 +1,4 @@
-use Rattle.std.proofs.Common.{ap, refl, arith, sym, subst}
+use Rattle.std.proofs.Common.{refl, arith}
 use Rattle.std.proofs.Math.Logic.{∥∥₁_map}
 use Rattle.serial_steps.proofs.Leading.{clear_names, clear_safe, clear_shown}
 use Rattle.serial_steps.proofs.stack.Stack.clear.Goals as goal

@@ -1,4 +1,4 @@
-use Rattle.std.proofs.Common.{◌≡◌, ◌∙◌, ap, sym, subst, refl, inl, inr, arith, rules, ℤ, pos}
+use Rattle.std.proofs.Common.{ap, sym, subst, refl, inl, inr, rules}
 use Rattle.std.specs.Prelude.{FitsSigned}
 use Rattle.std.specs.Int.{w64}
 use Rattle.std.proofs.Math.Logic.{∥∥₁_elim}

@@ -1,4 +1,4 @@
-use Rattle.std.proofs.Common.{◌≡◌, ◌+◌, ◌∙◌, ap, arith, max, refl, suc, sym, subst, rules, ℕ, ℤ, List, length, FitsSigned}
+use Rattle.std.proofs.Common.{◌≡◌, ◌+◌, ◌∙◌, ap, arith, max, refl, suc, sym, subst, rules, ℕ, List, length, FitsSigned}
 use Rattle.std.specs.Int.{w64}
 use Rattle.std.proofs.lemmas.Int.{to_z-of_z}
 use Rattle.std.proofs.Math.Logic.{∥∥₁_map}
@@ -21,7 +21,7 @@ loop-result-preserved c =
     let new = c.turn.new.self in
     let high = suc (length new.below.items) in
     let on : (globals : List ℕ) (start : Run) (peak : ℕ) → RunsSafely globals prog c.args.budget start → HasWalked globals prog places start c.loop-result.done peak c.loop-result.self → HasWalked globals prog places start c.turn.new.done (max peak high) new =
-        λ globals start peak safe h. subst (Turned globals prog places start c.turn.new.done peak new) c.in_default.is (c.in_ok-result.ensures.turns globals start peak safe h) in
+    λ globals start peak safe h. subst (Turned globals prog places start c.turn.new.done peak new) c.in_default.is (c.in_ok-result.ensures.turns globals start peak safe h) in
     let a = c.len.ensures in
     let b = new.below.ok.0 in
     let long : c.len.result + 1 ≡ high = omega (arith, a, b) in
