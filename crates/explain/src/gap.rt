@@ -142,6 +142,24 @@ fn rest_of(alloc: Global, form: &Form, fact: &Fact) -> Result<Option<Form>, OutO
     }
 }
 
+/// The facts, and that one form more is at least 0.
+fn facts_and(alloc: Global, facts: &[Fact], form: &Form) -> Result<Vec<Fact>, OutOfMemory> {
+    let mut more: Vec<Fact> = Vec::new(alloc);
+    for place in 0..facts.len() {
+        push_copy(alloc, facts, place, &mut more)?;
+    }
+    more.push(Fact {
+        form: form.copy(alloc)?,
+    })?;
+    Ok(more)
+}
+
+/// Whether the facts show that a form is below 0: from the two all would follow.
+pub fn is_against(alloc: Global, facts: &[Fact], form: &Form) -> Result<bool, OutOfMemory> {
+    let more = facts_and(alloc, facts, form)?;
+    Ok(shown(&more, &Form::from_constant(alloc, -1)))
+}
+
 /// Whether the facts show a rest, and the form where the rest is a fact too.
 fn is_step(
     alloc: Global,
@@ -153,13 +171,7 @@ fn is_step(
     if !shown(stated, rest) {
         return Ok(false);
     }
-    let mut more: Vec<Fact> = Vec::new(alloc);
-    for place in 0..facts.len() {
-        push_copy(alloc, facts, place, &mut more)?;
-    }
-    more.push(Fact {
-        form: rest.copy(alloc)?,
-    })?;
+    let more = facts_and(alloc, facts, rest)?;
     Ok(shown(&more, form))
 }
 

@@ -1,6 +1,6 @@
 //! Faults of numbers, each with what was to be shown.
 
-use crate::gap::first_facts;
+use crate::gap::{first_facts, is_against};
 use crate::known::{Known, fact_lines};
 use crate::lines::{line_at, with_line_before};
 use crate::number::{Unmet, all_unmet};
@@ -104,8 +104,8 @@ fn push_choices(
     let block = BlockId(unmet.site.block);
     for sum in choices {
         known.push_unshown(alloc, sum, unmet.site.line, notes)?;
-        if unmet.site.edge.is_none() {
-            if let Some(form) = sum_form(alloc, sum)? {
+        if let Some(form) = sum_form(alloc, sum)? {
+            if !is_against(alloc, known.facts, &form)? {
                 push_start_line(alloc, source, known.scene, block, &form, old, notes)?;
             }
         }
