@@ -13,7 +13,7 @@ use Rattle.running.specs.Arithmetic.{cell_sum}
 use Rattle.running.proofs.Actions.{same_cell_itself}
 use Rattle.strands.specs.Footprint as strands
 use Rattle.strands.specs.Footprint.{Footprint, Write, held, known, raised, read_at, settled, with_read, with_write, write_at}
-use Rattle.strands.proofs.Footprints.{same_cell_tells}
+use Rattle.running.proofs.SameCells.{same_cell_tells}
 use Rattle.engine.specs.Shows.{Layout, IsIn, address}
 use Rattle.strand.specs.Buffers.{Buffers, IsPut, change_in, held_in, known_value, raised_change, settled_changes, value_in, with_change}
 use Rattle.strand.specs.Showing.{AreApart, Becomes, ShowsFootprint, change_of, read_of, with_add, with_store, written_of}
