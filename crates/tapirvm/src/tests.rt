@@ -4,6 +4,7 @@ mod commands;
 mod counts;
 mod debugging;
 mod drawn;
+mod explanations;
 mod machines;
 mod samples;
 mod transcripts;

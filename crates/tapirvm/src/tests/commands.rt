@@ -1,5 +1,6 @@
 //! The transcripts, and modules that are no texts.
 
+use super::explanations::EXPLANATIONS;
 use super::samples::{PAIR, sample};
 use super::told;
 use super::transcripts::TRANSCRIPTS;
@@ -146,6 +147,9 @@ fn transcripts(rt: HostRuntime) -> Result<(), Fail> {
     for line in TRANSCRIPTS.lines() {
         asked.read(&rt, line)?;
     }
+    for line in EXPLANATIONS.lines() {
+        asked.read(&rt, line)?;
+    }
     assert!(rt; asked.commands.is_empty(), "a command without a status");
     Ok(())
 }
@@ -169,6 +173,11 @@ fn modules_that_are_no_texts(rt: HostRuntime) -> Result<(), Fail> {
     let too_many = " ".repeat(rt.alloc(), 1_048_577)?;
     refuses(&rt, too_many.as_bytes(), "refused 104 line 1\n")?;
     refuses(&rt, b"; \xff\n", "refused 101 line 1\n")?;
+    let (status, output) = told(&rt, "tapirvm explain m.ll", Some(b"; \xff\n"), None)?;
+    assert_eq!(rt; status, 1);
+    let wanted =
+        "refused 101 line 1\n  101: the line is not UTF-8\n  mend: save the file as UTF-8; outside comments only ASCII may stand\n";
+    assert_eq!(rt; output.as_slice(), wanted.as_bytes());
     let returned = ["%s = call token @llvm.syncregion.start()\r"];
     let returned = with_lines(rt.alloc(), PAIR, 7, returned.as_slice())?;
     refuses(&rt, returned.as_bytes(), "refused 102 line 7\n")?;
