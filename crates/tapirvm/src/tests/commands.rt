@@ -173,7 +173,7 @@ fn modules_that_are_no_texts(rt: HostRuntime) -> Result<(), Fail> {
     let too_many = " ".repeat(rt.alloc(), 1_048_577)?;
     refuses(&rt, too_many.as_bytes(), "refused 104 line 1\n")?;
     refuses(&rt, b"; \xff\n", "refused 101 line 1\n")?;
-    let (status, output) = told(&rt, "tapirvm explain m.ll", Some(b"; \xff\n"), None)?;
+    let (status, output) = told(&rt, "tapirvm explain m.ll", Some(b"; \xff\n"), None, b"")?;
     assert_eq!(rt; status, 1);
     let wanted =
         "refused 101 line 1\n  101: the line is not UTF-8\n  mend: save the file as UTF-8; outside comments only ASCII may stand\n";
