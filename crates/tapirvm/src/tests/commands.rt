@@ -176,7 +176,7 @@ fn modules_that_are_no_texts(rt: HostRuntime) -> Result<(), Fail> {
     let (status, output) = told(&rt, "tapirvm explain m.ll", Some(b"; \xff\n"), None, b"")?;
     assert_eq!(rt; status, 1);
     let wanted =
-        "refused 101 line 1\n  101: the line is not UTF-8\n  mend: save the file as UTF-8; outside comments only ASCII may stand\n";
+        "refused 101 line 1\n  | \n  101: the line is not UTF-8\n  mend: save the file as UTF-8; outside comments only ASCII may stand\n";
     assert_eq!(rt; output.as_slice(), wanted.as_bytes());
     let returned = ["%s = call token @llvm.syncregion.start()\r"];
     let returned = with_lines(rt.alloc(), PAIR, 7, returned.as_slice())?;

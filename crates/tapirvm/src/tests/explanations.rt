@@ -163,7 +163,7 @@ refused 603 line 27
   603: what is pending there, or the foot of the new child on the edge to the continuation, is covered by no `pending` zone of the same region at the target, with what its phis take put in
   still pending on the edge to %next: writes @a %i %i+2
     line 40, ;! pending %s writes @a 0 %i+1
-      its high end: short by 1
+      its high end: 0 >= 1 is short by 1
   mend: add a `pending` line to the target, or widen it; after a sync of the region nothing of it is owed
 also 604 line 27
   | detach within %s, label %body, label %next
@@ -184,7 +184,7 @@ refused 602 line 27
   touched: writes @a %i-1 %i+1
     line 25, ;! pending %s writes @a 0 %i
       to end before it: %i+1 <= 0 is short by 64
-      to begin after it: short by 1
+      to begin after it: 0 >= 1 is short by 1
   mend: sync first; cut the cells so that each has its own; add in place of a load and a store
 also 603 line 27
   | detach within %s, label %body, label %next
@@ -254,7 +254,7 @@ refused 703 line 36
   | %y = call i64 @fib(i64 %n)
   703: the measure is not shown to be from 0 to its bound by `requires`
   703: the measure of the arguments is not shown to be at least 0 and below the call's own
-  it is below the measure here: short by 1
+  it is below the measure here: 0 >= 1 is short by 1
   mend: `requires` with both bounds
   mend: `keeps`, or `shows` before the call; a `measure` line, without which no self call is taken
 status 1
