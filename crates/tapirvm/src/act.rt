@@ -38,7 +38,9 @@ pub fn act<R: Read, W: Write>(
     output: &mut W,
     written: &mut String,
 ) -> u8 {
-    match answer(alloc, state, request, module, schedule, input, output, written) {
+    match answer(
+        alloc, state, request, module, schedule, input, output, written,
+    ) {
         Ok(status) => status as u8,
         Err(_) => Status::Stream as u8,
     }
