@@ -30,11 +30,14 @@ impl Frame {
         target: BlockId,
     )
         requires there { self.old.function.0 < length program.now.functions }
-        requires edge { (f : Function) → slice_get program.now.functions self.old.function.0 ≡ Some f → EdgeFits (sizes (length self.old.registers.items) 0 0) (length moves.old) self.old.place.block.0 f.blocks target.0 }
+        requires edge { (f : Function) → slice_get program.now.functions self.old.function.0 ≡ Some f
+            → EdgeFits (sizes (length self.old.registers.items) 0 0) (length moves.old) self.old.place.block.0 f.blocks target.0 }
         ensures only { self.new ≡ record self.old { place = record { block = target; index = 0 }; registers = self.new.registers; waits = Wait.Region region } }
         ensures registers { length self.new.registers.items ≡ length self.old.registers.items }
         ensures moves { length moves.new ≡ length moves.old }
-        ensures shown { (l : Layout) (places : Places) (p : Path) (g : frames.Frame) (r : frames.Registers) → ShowsFrame l places p g self.old → registers_along program.now g target.0 ≡ Some r → ShowsFrame l places p (synced g region.0 target.0 r) self.new }
+        ensures shown { (l : Layout) (places : Places) (p : Path) (g : frames.Frame) (r : frames.Registers)
+            → ShowsFrame l places p g self.old → registers_along program.now g target.0 ≡ Some r
+            → ShowsFrame l places p (synced g region.0 target.0 r) self.new }
     {
         let function = &program.functions.as_slice()[self.function.0];
         enter(
@@ -55,7 +58,8 @@ impl Frame {
     pub fn continue_at(&mut self, continuation: BlockId)
         requires { self.old.made + 1 < 18446744073709551616 }
         ensures is { self.new ≡ record self.old { place = record { block = continuation; index = 0 }; made = self.old.made + 1; waits = Wait.Nothing } }
-        ensures shown { (l : Layout) (places : Places) (p : Path) (g : frames.Frame) → ShowsFrame l places p g self.old → ShowsFrame l places p (continued g continuation.0) self.new }
+        ensures shown { (l : Layout) (places : Places) (p : Path) (g : frames.Frame) → ShowsFrame l places p g self.old
+            → ShowsFrame l places p (continued g continuation.0) self.new }
     {
         self.place = Place {
             block: continuation,
@@ -69,8 +73,14 @@ impl Frame {
     pub fn wait_for_call(&mut self, register: Option<RegisterId>)
         requires made { self.old.made + 1 < 18446744073709551616 }
         requires index { self.old.place.index + 1 < 18446744073709551616 }
-        ensures is { self.new ≡ record self.old { place = record { block = self.old.place.block; index = self.old.place.index + 1 }; made = self.old.made + 1; waits = Wait.Call self.old.made register } }
-        ensures shown { (l : Layout) (places : Places) (p : Path) (g : frames.Frame) → ShowsFrame l places p g self.old → ShowsFrame l places p (waiting g register) self.new }
+        ensures is { self.new
+            ≡ record self.old {
+              place = record { block = self.old.place.block; index = self.old.place.index + 1 };
+              made = self.old.made + 1;
+              waits = Wait.Call self.old.made register;
+            } }
+        ensures shown { (l : Layout) (places : Places) (p : Path) (g : frames.Frame) → ShowsFrame l places p g self.old
+            → ShowsFrame l places p (waiting g register) self.new }
     {
         self.waits = Wait::Call {
             child: self.made,
@@ -83,7 +93,8 @@ impl Frame {
     /// What it returns.
     pub fn returned(&self, value: Option<Operand>) -> Option<i64>
         requires { HasReturned (sizes (length self.now.registers.items) 0 0) value }
-        ensures { (prog : Program) (l : Layout) (places : Places) (p : Path) (g : frames.Frame) (v : Option ℤ) → ShowsFrame l places p g self.now → terminator_action prog p g (terminator.Return value) ≡ Return v → result ≡ v }
+        ensures { (prog : Program) (l : Layout) (places : Places) (p : Path) (g : frames.Frame) (v : Option ℤ)
+            → ShowsFrame l places p g self.now → terminator_action prog p g (terminator.Return value) ≡ Return v → result ≡ v }
     {
         match value {
             Some(operand) => Some(word(self.registers.as_slice(), operand)),
@@ -96,7 +107,8 @@ impl Frame {
         requires { HasResult (length self.old.registers.items) register }
         ensures only { self.new ≡ record self.old { registers = self.new.registers; waits = Wait.Nothing } }
         ensures registers { length self.new.registers.items ≡ length self.old.registers.items }
-        ensures shown { (l : Layout) (places : Places) (p : Path) (g : frames.Frame) → ShowsFrame l places p g self.old → ShowsFrame l places p (resumed g register number) self.new }
+        ensures shown { (l : Layout) (places : Places) (p : Path) (g : frames.Frame) → ShowsFrame l places p g self.old
+            → ShowsFrame l places p (resumed g register number) self.new }
     {
         self.waits = Wait::Nothing;
         match (register, number) {
@@ -117,7 +129,8 @@ impl Frame {
         requires { self.now.depth + 1 < 18446744073709551616 }
         ensures registers { OnOk result (child.new.registers.items ≡ self.now.registers.items) }
         ensures function { OnOk result (child.new.function ≡ self.now.function) }
-        ensures shown { OnOk result ((l : Layout) (places : Places) (p : Path) (g : frames.Frame) → ShowsFrame l places p g self.now → ShowsFrame l places (g.made ∷ p) (detached g region.0 body.0 continuation.0) child.new) }
+        ensures shown { OnOk result ((l : Layout) (places : Places) (p : Path) (g : frames.Frame) → ShowsFrame l places p g self.now
+            → ShowsFrame l places (g.made ∷ p) (detached g region.0 body.0 continuation.0) child.new) }
     {
         child.registers.clear();
         child

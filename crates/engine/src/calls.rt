@@ -22,7 +22,8 @@ impl Frame {
     /// The word that a call passes.
     fn argument(&self, places: &Places, argument: Argument) -> i64
         requires there { self.now.function.0 < length places.now.allocas }
-        requires names { HasArgument (sizes (length self.now.registers.items) (length places.now.globals) (length (allocas_of places.now self.now.function.0))) argument }
+        requires names { HasArgument (sizes (length self.now.registers.items) (length places.now.globals)
+            (length (allocas_of places.now self.now.function.0))) argument }
         ensures { IsArgument (bases_in places.now self.now) self.now.registers.items argument result }
     {
         let allocas = &places.allocas.as_slice()[self.function.0];
@@ -41,10 +42,13 @@ impl Frame {
     /// Writes the words that a call passes.
     fn pass(&self, places: &Places, arguments: &[Argument], words: &mut [i64])
         requires there { self.now.function.0 < length places.now.allocas }
-        requires names { (k : ℕ) (a : Argument) → slice_get arguments.now k ≡ Some a → HasArgument (sizes (length self.now.registers.items) (length places.now.globals) (length (allocas_of places.now self.now.function.0))) a }
+        requires names { (k : ℕ) (a : Argument) → slice_get arguments.now k ≡ Some a
+            → HasArgument (sizes (length self.now.registers.items) (length places.now.globals)
+            (length (allocas_of places.now self.now.function.0))) a }
         requires room { length arguments.now ≤ length words.old }
         ensures length { length words.new ≡ length words.old }
-        ensures passed { (l : Layout) (p : Path) (g : frames.Frame) (values : List Value) → ShowsFrame l places.now p g self.now → ArgumentsAreWhole g arguments.now → argument_values g arguments.now ≡ Some values → ShowsRegisters l (slice_get values) words.new }
+        ensures passed { (l : Layout) (p : Path) (g : frames.Frame) (values : List Value) → ShowsFrame l places.now p g self.now
+            → ArgumentsAreWhole g arguments.now → argument_values g arguments.now ≡ Some values → ShowsRegisters l (slice_get values) words.new }
     {
         for (i, argument) in arguments.iter().enumerate() {
             words[i] = self.argument(places, *argument);
@@ -63,12 +67,17 @@ impl Frame {
     ) -> Result<(), OutOfMemory>
         requires depth { self.now.depth + 1 < 18446744073709551616 }
         requires there { self.now.function.0 < length places.now.allocas }
-        requires names { (k : ℕ) (a : Argument) → slice_get arguments.now k ≡ Some a → HasArgument (sizes (length self.now.registers.items) (length places.now.globals) (length (allocas_of places.now self.now.function.0))) a }
+        requires names { (k : ℕ) (a : Argument) → slice_get arguments.now k ≡ Some a
+            → HasArgument (sizes (length self.now.registers.items) (length places.now.globals)
+            (length (allocas_of places.now self.now.function.0))) a }
         requires room { length arguments.now ≤ registers }
         ensures registers { OnOk result (length callee.new.registers.items ≡ registers) }
         ensures function { OnOk result (callee.new.function ≡ function) }
         ensures home { OnOk result (callee.new.home ≡ home) }
-        ensures shown { OnOk result ((l k : Layout) (p : Path) (g : frames.Frame) (values : List Value) → ShowsFrame l places.now p g self.now → ArgumentsAreWhole g arguments.now → argument_values g arguments.now ≡ Some values → PointsAlike l k values → ShowsBases k (bases places.now.globals (allocas_of places.now function.0) home) (g.made ∷ p) → ShowsFrame k places.now (g.made ∷ p) (called p g function.0 values) callee.new) }
+        ensures shown { OnOk result ((l k : Layout) (p : Path) (g : frames.Frame) (values : List Value)
+            → ShowsFrame l places.now p g self.now → ArgumentsAreWhole g arguments.now → argument_values g arguments.now ≡ Some values
+            → PointsAlike l k values → ShowsBases k (bases places.now.globals (allocas_of places.now function.0) home) (g.made ∷ p)
+            → ShowsFrame k places.now (g.made ∷ p) (called p g function.0 values) callee.new) }
     {
         callee.registers.clear();
         callee.registers.resize(registers, 0)?;

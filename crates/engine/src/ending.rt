@@ -38,9 +38,12 @@ fn chosen(default: BlockId, cases: &[Case], number: i64) -> BlockId
 #[inline(always)]
 pub fn next_block(regs: &[i64], terminator: &Terminator) -> Option<BlockId>
     requires { HasTest (sizes (length regs.now) 0 0) terminator.now }
-    ensures goes { (prog : Program) (l : Layout) (p : Path) (f : frames.Frame) → ShowsRegisters l f.registers regs.now → TrapFree (terminator_action prog p f terminator.now) → IfSome result (λ t. terminator_action prog p f terminator.now ≡ Plain (jumps prog f t.0)) }
+    ensures goes { (prog : Program) (l : Layout) (p : Path) (f : frames.Frame) → ShowsRegisters l f.registers regs.now
+        → TrapFree (terminator_action prog p f terminator.now)
+        → IfSome result (λ t. terminator_action prog p f terminator.now ≡ Plain (jumps prog f t.0)) }
     ensures border { IfNone result (IsBorderEnding terminator.now) }
-    ensures edge { (n : Sizes) (moves from : ℕ) (blocks : List Block) → EndingFits n moves from blocks terminator.now → IfSome result (λ t. EdgeFits n moves from blocks t.0) }
+    ensures edge { (n : Sizes) (moves from : ℕ) (blocks : List Block) → EndingFits n moves from blocks terminator.now
+        → IfSome result (λ t. EdgeFits n moves from blocks t.0) }
 {
     match terminator {
         Terminator::Jump { target } => Some(*target),

@@ -30,6 +30,8 @@ pub record WentOn (prog : Program) (l : Layout) (s : Strand) (n : ℕ) (g : Fram
 -- to the buffers it goes on as a strand.
 abbrev pub AccessesAreStrands : Type 0
 AccessesAreStrands =
-    (prog : Program) (l : Layout) (s : Strand) (b : Buffers) (m : Memory) → IsStrand prog s → AreApart l → ShowsFootprint l s.footprint b → All (λ r. m r.0 ≡ Some r.1) s.footprint.reads →
-    (n : ℕ) (after : Buffers) (g : Frame) (k : Memory) → Touched BuffersDo prog l s.path s.present (with_writes m s.footprint) b n after → PlainSteps prog s.path s.present (with_writes m s.footprint) n g k → n + s.done ≤ 65536 →
+    (prog : Program) (l : Layout) (s : Strand) (b : Buffers) (m : Memory) →
+    IsStrand prog s → AreApart l → ShowsFootprint l s.footprint b → All (λ r. m r.0 ≡ Some r.1) s.footprint.reads →
+    (n : ℕ) (after : Buffers) (g : Frame) (k : Memory) → Touched BuffersDo prog l s.path s.present (with_writes m s.footprint) b n after →
+    PlainSteps prog s.path s.present (with_writes m s.footprint) n g k → n + s.done ≤ 65536 →
     WentOn prog l s n g after

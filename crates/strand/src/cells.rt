@@ -200,7 +200,8 @@ impl StrandCells {
 
     /// The number is added to what the cell holds.
     pub(crate) fn add_at(&mut self, at: &i64, number: &i64) -> Result<(), Stop>
-        ensures done { OnOk result (IsPut self.old at.now (raised_change number.now (change_in self.old.writes at.now) (value_in self.old.reads at.now)) self.new) }
+        ensures done { OnOk result (IsPut self.old at.now
+            (raised_change number.now (change_in self.old.writes at.now) (value_in self.old.reads at.now)) self.new) }
         ensures shown { OnOk result (Becomes (with_add number.now) self.old at.now self.new) }
         ensures refused { IfErr result (λ stop. LacksPlace self.old at.now stop) }
         ensures unchanged { OnErr result (self.new ≡ self.old) }
