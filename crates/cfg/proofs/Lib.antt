@@ -1,6 +1,5 @@
 pub mod EdgeLists
 pub mod Functions
-pub mod Marking
 pub mod Matching
 pub mod Programs
 pub mod Searching

@@ -11,7 +11,7 @@ use Rattle.cfg.specs.declared.structure.BlockEdges.{BlockEdges}
 use Rattle.cfg.specs.Paths.{edges_of}
 use Rattle.cfg.specs.Rules.{leads_to, HasPredecessor, IsMatched, IsUnmatched}
 use Rattle.refusal.specs.Earliest.{IsJudged}
-use Rattle.cfg.proofs.Searching.{marked_within}
+use Rattle.reachability.proofs.Searching.{marked_within}
 
 -- the marks of the predecessors, read at a block
 pub leads_to-read : (blocks : List BlockEdges) (b a : ℕ) → get_or (map (λ (body : BlockEdges). leads_to b body.edges) blocks) a false ≡ leads_to b (edges_of blocks a)

@@ -1,4 +1,3 @@
 pub mod Edges
-pub mod Marks
 pub mod Paths
 pub mod Rules

@@ -1,5 +1,5 @@
 -- Paths through a function.
-use Rattle.std.specs.Prelude.{◌≡◌, ℕ, Bool, true, false, List, [], ◌∷◌, zero, suc, Contains, slice_index_or}
+use Rattle.std.specs.Prelude.{◌≡◌, ℕ, Bool, true, false, List, [], ◌∷◌, zero, suc, map, Contains, slice_index_or}
 use Rattle.cfg.specs.declared.structure.Edge.{Edge}
 use Rattle.cfg.specs.declared.structure.BlockEdges.{BlockEdges}
 
@@ -8,6 +8,10 @@ abbrev pub edges_of : List BlockEdges → ℕ → List Edge
 edges_of [] n = []
 edges_of (b ∷ bs) zero = b.edges
 edges_of (b ∷ bs) (suc n) = edges_of bs n
+
+-- the blocks that edges of a block lead to
+abbrev pub targets_of : BlockEdges → List ℕ
+targets_of body = map (λ edge. edge.to.0) body.edges
 
 -- one leg of a path: the block that it leaves, and along which edge
 pub record Leg : Type 0 where

@@ -5,9 +5,10 @@ ghost use Rattle.cfg.specs.Paths.{IsOnPath};
 ghost use Rattle.refusal.specs.Earliest.{IsJudged};
 ghost use Rattle.cfg.specs.Rules.{leads_to, HasPredecessor, ArePhisMatched, IsPhiBroken, IsLabelRight, IsLabelBroken, IsBlockRight, IsBlockBroken, IsEndBroken, IsFunctionRight, IsFunctionBroken};
 
-use crate::reach::{no_marks, one_mark, reached};
+use crate::reach::reached;
 use crate::structure::{BlockEdges, Edge};
 use program::{Block, Function, Phi, PhiEntry};
+use reachability::{no_marks, one_mark};
 use refusal::{Broken, lower};
 use std::alloc::{AllocError, Global};
 

@@ -1,5 +1,5 @@
-//! The graph of a program: the edges between the blocks of each function, the moves of the phis along them, and the
-//! one search along edges that the layers above use.
+//! The graph of a program: the edges between the blocks of each function, the moves of the phis along them, and which
+//! blocks a path leads to.
 //!
 //! | Number | Rule |
 //! |---|---|
@@ -18,6 +18,7 @@ mod structure;
 pub use build::graph;
 pub use edges::make_moves;
 pub use program_graph::Graph;
-pub use reach::{no_marks, one_mark, reached};
+pub use reach::reached;
+pub use reachability::{no_marks, one_mark};
 pub use refusal::Refused as GraphFault;
 pub use structure::{BlockEdges, Edge, FunctionGraph, Move, Way};

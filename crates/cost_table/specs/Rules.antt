@@ -179,3 +179,7 @@ IsFunctionBroken functions f function broken =
 abbrev pub IsCostBroken : Program → Broken → Type 0
 IsCostBroken program broken =
     (f : ℕ) × (function : Function) × (slice_get program.functions f ≡ Some function) × IsFunctionBroken program.functions f function broken
+
+-- none of these rules is broken
+abbrev pub AreCostsRight : Program → Type 0
+AreCostsRight program = (broken : Broken) → IsCostBroken program broken → ⊥

@@ -1,5 +1,4 @@
 ghost use Rattle.std.specs.Prelude.{◌≡◌, ◌<◌, ◌↔◌, ℕ, Some, length, IsTrue, IfOk, slice_get};
-ghost use Rattle.std.specs.Option.{option_copied};
 ghost use Rattle.definedness.specs.declared.fork.Fork.{Fork};
 ghost use Rattle.linear.specs.declared.form.RegisterId.{RegisterId};
 ghost use Rattle.region_match.specs.declared.task.Task.TheVariants.{Child};
@@ -10,7 +9,7 @@ ghost use Rattle.definedness.specs.ForkOf.{IsForkOf};
 
 use cfg::BlockEdges;
 use program::{Block, RegisterId, Terminator};
-use region_match::Task;
+use region_match::{Task, ending_of};
 use std::alloc::{AllocError, Global};
 
 /// What the terminator of a block does to children: the region of its detach, and the detach whose child it ends.
@@ -20,24 +19,11 @@ pub struct Fork {
     pub ended: Option<usize>,
 }
 
-/// The terminator of the block of a number.
-fn terminator_of(bodies: &[Block], block: usize) -> Option<&Terminator>
-    ensures { option_copied result ≡ ending_at bodies.now block }
-{
-    match bodies.get(block) {
-        Some(body) => match &body.ending {
-            Some(ending) => Some(&ending.terminator),
-            None => None,
-        },
-        None => None,
-    }
-}
-
 /// The region of the detach that a block ends with.
 fn fork_region(bodies: &[Block], block: usize) -> Option<RegisterId>
     ensures { (region : RegisterId) → (result ≡ Some region) ↔ IsFork bodies.now block region }
 {
-    match terminator_of(bodies, block) {
+    match ending_of(bodies, block) {
         Some(Terminator::Detach { region, .. }) => Some(*region),
         _ => None,
     }
@@ -47,7 +33,7 @@ fn fork_region(bodies: &[Block], block: usize) -> Option<RegisterId>
 fn is_reattach(bodies: &[Block], block: usize) -> bool
     ensures { IsTrue result ↔ IsReattach (ending_at bodies.now block) }
 {
-    match terminator_of(bodies, block) {
+    match ending_of(bodies, block) {
         Some(Terminator::Reattach { .. }) => true,
         _ => false,
     }

@@ -96,3 +96,7 @@ abbrev pub IsZoneBroken : Program → Regions → Broken → Type 0
 IsZoneBroken program regions broken =
     (f : ℕ) × (function : Function) × (slice_get program.functions f ≡ Some function)
     × IsFunctionBroken program.functions function (tasks_of (slice_get regions.functions f)) broken
+
+-- by this table of tasks none of these rules is broken
+abbrev pub AreZonesRightBy : Program → Regions → Type 0
+AreZonesRightBy program regions = (broken : Broken) → IsZoneBroken program regions broken → ⊥

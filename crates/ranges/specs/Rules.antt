@@ -59,3 +59,7 @@ IsFunctionBroken program function broken =
 -- 501 to 508
 abbrev pub IsRangeBroken : Program → Broken → Type 0
 IsRangeBroken program broken = Any (λ function. IsFunctionBroken program function broken) program.functions
+
+-- none of these rules is broken
+abbrev pub AreRangesRight : Program → Type 0
+AreRangesRight program = (broken : Broken) → IsRangeBroken program broken → ⊥

@@ -1,12 +1,14 @@
 -- Judgements put together.
-use Rattle.std.proofs.Common.{◌≡◌, ◌⊎◌, ℕ, ◌+◌, ◌<◌, List, [], ◌∷◌, ◌++◌, length, take, get_or, Option, Some, None, inl, inr, sym, ap, subst, ⊎_elim, ◌∙◌, arith, length-append}
+use Rattle.std.proofs.Common.{◌≡◌, ◌⊎◌, ℕ, Bool, true, false, refl, ◌+◌, ◌<◌, List, [], ◌∷◌, ◌++◌, length, take, get_or, Option, Some, None, inl, inr, sym, ap, subst, ⊎_elim, ◌∙◌, arith, length-append}
+use Rattle.std.specs.Prelude.{nat_lt, nat_eq, ◌&&◌, ◌||◌, if◌then◌else◌}
 use Rattle.std.specs.List.{All, Any}
-use Rattle.std.proofs.lemmas.Bool.{cases_lt}
+use Rattle.std.proofs.lemmas.Bool.Decides.{nat_tests}
+use Rattle.std.proofs.lemmas.Bool.{cases_lt, true≢false}
 use Rattle.std.proofs.lemmas.List.{take_more, length_push, get_or_append_left, get_or_push}
 use Rattle.std.proofs.lemmas.List.Elements.{All-push}
 use Rattle.std.proofs.lemmas.List.Quantifiers.{Any-push}
 use Rattle.refusal.specs.declared.broken.Broken.{Broken}
-use Rattle.refusal.specs.Earliest.{IsAtOrBefore, IsLowerOf, IsJudged}
+use Rattle.refusal.specs.Earliest.{is_before, earlier_of, IsAtOrBefore, IsLowerOf, IsJudged}
 
 before_trans : (a b c : Broken) → IsAtOrBefore a b → IsAtOrBefore b c → IsAtOrBefore a c
 before_trans a b c h k = (
@@ -16,14 +18,57 @@ before_trans a b c h k = (
       omega (arith, h.1 first, k.1 second),
 )
 
+or_false : (x y : Bool) → x || y ≡ false → (x ≡ false) × (y ≡ false)
+or_false true y h = absurd (true≢false h)
+or_false false y h = (refl, h)
+
+or_true : (x y : Bool) → x || y ≡ true → (x ≡ true) ⊎ (y ≡ true)
+or_true true y h = inl refl
+or_true false y h = inr h
+
+and_true : (x y : Bool) → x && y ≡ true → (x ≡ true) × (y ≡ true)
+and_true true y h = (refl, h)
+and_true false y h = absurd (true≢false (sym h))
+
+and_false : (x y : Bool) → x && y ≡ false → x ≡ true → y ≡ false
+and_false true y h e = h
+and_false false y h e = absurd (true≢false (sym e))
+
+not_after : (a b : Broken) → is_before b a ≡ false → IsAtOrBefore a b
+not_after a b h =
+    let parts = or_false (nat_lt b.line a.line) (nat_eq b.line a.line && nat_lt b.number a.number) h in (
+      grind (arith, nat_tests, parts.0),
+      λ same. let line : nat_eq b.line a.line ≡ true = grind (arith, nat_tests, same) in
+          let number : nat_lt b.number a.number ≡ false = and_false (nat_eq b.line a.line) (nat_lt b.number a.number) parts.1 line in
+          grind (arith, nat_tests, number),
+    )
+
+before : (a b : Broken) → is_before b a ≡ true → IsAtOrBefore b a
+before a b h = elim (or_true (nat_lt b.line a.line) (nat_eq b.line a.line && nat_lt b.number a.number) h) [
+  | inl below ↦ let line : b.line < a.line = grind (arith, nat_tests, below) in (omega (arith, line), λ same. absurd (omega (arith, line, same)))
+  | inr beside ↦
+      let both = and_true (nat_eq b.line a.line) (nat_lt b.number a.number) beside in
+      let line : b.line ≡ a.line = grind (arith, nat_tests, both.0) in
+      let number : b.number < a.number = grind (arith, nat_tests, both.1) in
+      (omega (arith, line), λ same. omega (arith, number))
+]
+
+-- the earlier of two is one of them, and stands before none
+earlier_cases : (a b : Broken) → ((earlier_of a b ≡ a) × IsAtOrBefore a b) ⊎ ((earlier_of a b ≡ b) × IsAtOrBefore b a)
+earlier_cases a b = by (is_before b a) refl
+  where
+    by : (x : Bool) → is_before b a ≡ x → ((earlier_of a b ≡ a) × IsAtOrBefore a b) ⊎ ((earlier_of a b ≡ b) × IsAtOrBefore b a)
+    by true h = inr (ap (λ (x : Bool). if x then b else a) h, before a b h)
+    by false h = inl (ap (λ (x : Bool). if x then b else a) h, not_after a b h)
+
 -- what is named of two judgements is a judgement of both
 pub judged_lower : (S T : Type 0) (P Q : Broken → Type 0) (a b r : Option Broken) → IsJudged S P a → IsJudged T Q b → IsLowerOf a b r → IsJudged (S × T) (λ x. P x ⊎ Q x) r
 judged_lower S T P Q None None r ja jb e = rw e ((ja.0, jb.0), λ x p. ⊎_elim (ja.1 x) (jb.1 x) p)
 judged_lower S T P Q None (Some b) r ja jb e = rw e (inr jb.0, λ x p. ⊎_elim (λ k. absurd (ja.1 x k)) (jb.1 x) p)
 judged_lower S T P Q (Some a) None r ja jb e = rw e (inl ja.0, λ x p. ⊎_elim (ja.1 x) (λ k. absurd (jb.1 x k)) p)
-judged_lower S T P Q (Some a) (Some b) r ja jb e = elim e [
-  | inl left ↦ rw left.0 (inl ja.0, λ x p. ⊎_elim (ja.1 x) (λ k. before_trans a b x left.1 (jb.1 x k)) p)
-  | inr right ↦ rw right.0 (inr jb.0, λ x p. ⊎_elim (λ k. before_trans b a x right.1 (ja.1 x k)) (jb.1 x) p)
+judged_lower S T P Q (Some a) (Some b) r ja jb e = elim (earlier_cases a b) [
+  | inl left ↦ rw (e, left.0) (inl ja.0, λ x p. ⊎_elim (ja.1 x) (λ k. before_trans a b x left.1 (jb.1 x k)) p)
+  | inr right ↦ rw (e, right.0) (inr jb.0, λ x p. ⊎_elim (λ k. before_trans b a x right.1 (ja.1 x k)) (jb.1 x) p)
 ]
 
 -- a judgement on rules that say the same

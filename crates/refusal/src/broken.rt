@@ -1,5 +1,5 @@
-ghost use Rattle.std.specs.Prelude.{◌≡◌, ◌↔◌, IsTrue};
-ghost use Rattle.refusal.specs.Earliest.{IsBefore, IsLowerOf};
+ghost use Rattle.std.specs.Prelude.{◌≡◌};
+ghost use Rattle.refusal.specs.Earliest as spec;
 
 /// A broken rule and the line that breaks it.
 #[derive(Clone, Copy)]
@@ -12,24 +12,25 @@ impl Broken {
     /// Whether this one is named in place of the other: it is on a lower line, or on the same line and of a lower
     /// number.
     fn is_before(&self, other: &Broken) -> bool
-        ensures { IsTrue result ↔ IsBefore self.now other.now }
+        ensures { result ≡ spec.is_before self.now other.now }
     {
         self.line < other.line || (self.line == other.line && self.number < other.number)
     }
+
+    /// The one of the two that is named.
+    pub fn earlier(self, other: Broken) -> Broken
+        ensures { result ≡ spec.earlier_of self other }
+    {
+        if other.is_before(&self) { other } else { self }
+    }
 }
 
-/// The one of the two that is named.
+/// What is named of the two.
 pub fn lower(left: Option<Broken>, right: Option<Broken>) -> Option<Broken>
-    ensures { IsLowerOf left right result }
+    ensures { spec.IsLowerOf left right result }
 {
     match (left, right) {
-        (Some(first), Some(second)) => {
-            if second.is_before(&first) {
-                right
-            } else {
-                left
-            }
-        }
+        (Some(first), Some(second)) => Some(first.earlier(second)),
         (None, _) => right,
         (_, None) => left,
     }

@@ -21,6 +21,7 @@ mod unsynced;
 
 pub use cfg::{Graph, Move, Way, make_moves};
 pub use check::regions;
+pub use matching::ending_of;
 pub use refusal::Refused as RegionFault;
 pub use tables::{FunctionTasks, Regions};
 pub use task::Task;

@@ -11,7 +11,7 @@ use Rattle.conditions.specs.rules.Costs.{bound_in, bound_of}
 use Rattle.phase_laws.specs.cost_table.Cost.{whole_cost, whole_cost_of}
 use Rattle.phase_laws.specs.cost_table.Depth.{first_depths, tasks_of}
 use Rattle.phase_laws.specs.costs.Depths.{depth_in as depth_over, depth_of as depth_at}
-use Rattle.phase_laws.specs.costs.Shown.{AreCostsRight}
+use Rattle.phase_laws.specs.cost_table.Rules.{AreCostsRight}
 
 pub budget_is : (o : Option Function) → whole_cost_of o ≡ budget_in o
 budget_is None = refl

@@ -4,7 +4,7 @@ use Rattle.std.proofs.lemmas.List.{take_more}
 use lib.ListN.{length-take}
 use Rattle.refusal.specs.declared.refused.Refused.{Refused as TypeFault}
 use Rattle.refusal.specs.declared.refused.Refused.TheVariants.{Fault, Memory}
-use Rattle.scopes.specs.Fault.{earlier_of, both_of, and_then, made_of, joined_of, all_from, all_of, Gives}
+use Rattle.scopes.specs.Fault.{earlier_fault_of, both_of, and_then, made_of, joined_of, all_from, all_of, Gives}
 
 -- what takes no memory
 pub gives_self : {A : Type 0} (r : Result A TypeFault) → Gives r r
@@ -15,7 +15,7 @@ gives_self (Err (Fault number line)) = refl
 pub gives_equal : {A : Type 0} (r s : Result A TypeFault) → r ≡ s → Gives r s
 gives_equal {A} r s e = let P : Result A TypeFault → Type 0 = λ t. Gives r t in subst P e (gives_self r)
 
-earlier_memory : (fault : TypeFault) → earlier_of fault Memory ≡ Memory
+earlier_memory : (fault : TypeFault) → earlier_fault_of fault Memory ≡ Memory
 earlier_memory Memory = refl
 earlier_memory (Fault number line) = refl
 
@@ -31,7 +31,7 @@ both_gives (Err Memory) x (Err f) y g h = tt
 both_gives (Err (Fault n l)) x (Ok b) y g h = ap (λ r. both_of r y) g ∙ ap (λ r. both_of (Err (Fault n l)) r) h
 both_gives (Err (Fault n l)) x (Err Memory) y g h = tt
 both_gives (Err (Fault n l)) x (Err (Fault n' l')) y g h =
-    let e : both_of x y ≡ Err (earlier_of (Fault n l) (Fault n' l')) = ap (λ r. both_of r y) g ∙ ap (λ r. both_of (Err (Fault n l)) r) h in
+    let e : both_of x y ≡ Err (earlier_fault_of (Fault n l) (Fault n' l')) = ap (λ r. both_of r y) g ∙ ap (λ r. both_of (Err (Fault n l)) r) h in
     gives_equal _ _ (sym e)
 
 pub made_gives : {A B : Type 0} (f : A → B) (a x : Result A TypeFault) → Gives a x → Gives (made_of f a) (made_of f x)

@@ -4,5 +4,4 @@ pub mod Inversion
 pub mod Marks
 pub mod Naming
 pub mod Ordered
-pub mod Searching
 pub mod Tables

@@ -1,21 +1,23 @@
 -- Which globals the marked functions name, as far as the loop has come.
-use Rattle.std.proofs.Common.{◌≡◌, ◌↔◌, ℕ, ◌+◌, ◌<◌, ◌≤◌, Bool, true, false, List, [], ◌∷◌, ◌++◌, length, get_or, replicate, refl, sym, ◌∙◌, ⊎_elim, subst, arith}
+use Rattle.std.proofs.Common.{◌≡◌, ◌↔◌, ℕ, ◌+◌, ◌<◌, ◌≤◌, Bool, true, false, List, [], ◌∷◌, ◌++◌, length, get_or, inl, inr, refl, sym, ◌∙◌, ⊎_elim, subst, arith}
 use Rattle.std.specs.List.{Contains}
 use Rattle.std.proofs.lemmas.Bool.{cases_eq, true≢false}
-use Rattle.std.proofs.lemmas.List.{length-replicate, get_or_push, get_or_append_left, length_push}
+use Rattle.std.proofs.lemmas.List.{get_or_push, get_or_append_left, length_push}
+use Rattle.reachability.specs.Ways.{IsWay, IsReached}
 use Rattle.scopes.specs.declared.mention.Mentions.{Mentions}
-use Rattle.scopes.specs.Mention.{globals_at, IsReached, IsNamedTable, NamesExactly, MarksPlaces}
-use Rattle.scopes.proofs.Searching.{marked_within, none_marked}
+use Rattle.scopes.specs.Marks.{SetsMarks}
+use Rattle.scopes.specs.Mention.{callees_at, globals_at, IsNamedTable, NamesExactly}
+use Rattle.reachability.proofs.Searching.{marked_within, nexts_within, avoids_none}
 
 pub record Naming (mentions : List Mentions) (marked : List Bool) (globals i : ℕ) (marks : List Bool) : Type 0 where
   pub size : length marks ≡ globals
   pub sound : (g : ℕ) → get_or marks g false ≡ true → (f : ℕ) × (get_or marked f false ≡ true) × Contains (globals_at mentions f) g
   pub complete : (f : ℕ) → f < i → get_or marked f false ≡ true → (g : ℕ) → Contains (globals_at mentions f) g → g < globals → get_or marks g false ≡ true
 
-pub Naming-none : (mentions : List Mentions) (marked : List Bool) (globals : ℕ) → Naming mentions marked globals 0 (replicate globals false)
-Naming-none mentions marked globals = record {
-  size = length-replicate globals false;
-  sound = λ g h. absurd (true≢false (sym h ∙ none_marked globals g));
+pub Naming-none : (mentions : List Mentions) (marked : List Bool) (globals : ℕ) (marks : List Bool) → length marks ≡ globals → ((g : ℕ) → get_or marks g false ≡ false) → Naming mentions marked globals 0 marks
+Naming-none mentions marked globals marks size none = record {
+  size = size;
+  sound = λ g h. absurd (true≢false (sym h ∙ none g));
   complete = λ f l m g k w. absurd (omega (arith, l));
 }
 
@@ -28,14 +30,14 @@ Naming-skip mentions marked globals i marks n h = record {
 }
 
 -- a function that is marked
-pub Naming-step : (mentions : List Mentions) (marked : List Bool) (globals i : ℕ) (marks : List Bool) (work : List ℕ) (marks' : List Bool) (work' : List ℕ) →
-    Naming mentions marked globals i marks → get_or marked i false ≡ true → MarksPlaces (globals_at mentions i) marks work marks' work' → Naming mentions marked globals (i + 1) marks'
-Naming-step mentions marked globals i marks work marks' work' n h p = record {
+pub Naming-step : (mentions : List Mentions) (marked : List Bool) (globals i : ℕ) (marks marks' : List Bool) →
+    Naming mentions marked globals i marks → get_or marked i false ≡ true → SetsMarks (globals_at mentions i) marks marks' → Naming mentions marked globals (i + 1) marks'
+Naming-step mentions marked globals i marks marks' n h p = record {
   size = p.size ∙ n.size;
-  sound = λ g k. ⊎_elim (λ old. n.sound g old) (λ new. (i, h, new.1)) (p.added g k);
+  sound = λ g k. ⊎_elim (λ old. n.sound g old) (λ new. (i, h, new.0)) ((p.exact g).0 k);
   complete = λ f l m g k w. ⊎_elim
-      (λ e. p.targets g (rw (← e) k) (rw n.size w))
-      (λ ne. p.kept g (n.complete f (omega (arith, l, ne)) m g k w))
+      (λ e. (p.exact g).1 (inr (rw (← e) k, rw n.size w)))
+      (λ ne. (p.exact g).1 (inl (n.complete f (omega (arith, l, ne)) m g k w)))
       (cases_eq f i);
 }
 
@@ -47,13 +49,20 @@ Naming-end mentions marked globals i marks n l g = (
 )
 
 -- the marks of a function, from those of the functions that it reaches
-pub names_exactly : (mentions : List Mentions) (globals start : ℕ) (marked marks : List Bool) →
-    ((b : ℕ) → (get_or marked b false ≡ true) ↔ IsReached mentions start b) →
+pub names_exactly : (mentions : List Mentions) (globals start : ℕ) (starts stops marked marks : List Bool) → start < length mentions →
+    ((f : ℕ) → (get_or starts f false ≡ true) ↔ ((f ≡ start) × (f < length mentions))) →
+    ((f : ℕ) → get_or stops f false ≡ false) →
+    length marked ≡ length mentions →
+    ((f : ℕ) → f < length mentions → (get_or marked f false ≡ true) ↔ IsReached (callees_at mentions) starts stops f) →
     ((g : ℕ) → (get_or marks g false ≡ true) ↔ ((g < globals) × ((f : ℕ) × (get_or marked f false ≡ true) × Contains (globals_at mentions f) g))) →
     NamesExactly mentions globals start marks
-names_exactly mentions globals start marked marks r n g = (
-  λ h. let k = (n g).0 h in (k.0, (k.1.0, (r k.1.0).0 k.1.1, k.1.2)),
-  λ k. (n g).1 (k.0, (k.1.0, (r k.1.0).1 k.1.1, k.1.2)),
+names_exactly mentions globals start starts stops marked marks within one none size reached named g = (
+  λ h. let k = (named g).0 h in
+      let at : k.1.0 < length mentions = rw (← size) (marked_within marked k.1.0 k.1.1) in
+      let r = (reached k.1.0 at).0 k.1.1 in
+      (k.0, (k.1.0, r.2, subst (λ from. IsWay (callees_at mentions) from r.2 k.1.0) ((one r.0).0 r.1).0 r.3, k.1.2)),
+  λ k. let at : k.1.0 < length mentions = nexts_within (λ (m : Mentions). m.globals) mentions k.1.0 k.1.3 in
+      (named g).1 (k.0, (k.1.0, (reached k.1.0 at).1 (start, (one start).1 (refl, within), k.1.1, k.1.2, avoids_none stops k.1.1 none), k.1.3)),
 )
 
 pub record Tabling (mentions : List Mentions) (globals i : ℕ) (named : List (List Bool)) : Type 0 where

@@ -1,25 +1,26 @@
 -- Parts that are judged together: each rule stands alone, and of all faults the earliest is named.
-use Rattle.std.specs.Prelude.{◌≡◌, ℕ, ◌+◌, Bool, nat_lt, nat_le, nat_eq, ◌&&◌, ◌||◌, if◌then◌else◌, List, [], ◌∷◌, ◌++◌, Result, Ok, Err}
+use Rattle.std.specs.Prelude.{◌≡◌, ℕ, ◌+◌, Bool, if◌then◌else◌, List, [], ◌∷◌, ◌++◌, Result, Ok, Err}
+use Rattle.refusal.specs.declared.broken.Broken.{Broken}
 use Rattle.refusal.specs.declared.refused.Refused.{Refused as TypeFault}
 use Rattle.refusal.specs.declared.refused.Refused.TheVariants.{Fault, Memory}
+use Rattle.refusal.specs.Earliest.{earlier_of}
 
--- the lower line comes first, and on one line the lower number
-abbrev pub is_earlier : ℕ → ℕ → ℕ → ℕ → Bool
-is_earlier number line number' line' = nat_lt line line' || (nat_eq line line' && nat_le number number')
+abbrev pub fault_of : Broken → TypeFault
+fault_of broken = Fault broken.number broken.line
 
 -- the earlier fault of two; want of memory comes first
-abbrev pub earlier_of : TypeFault → TypeFault → TypeFault
-earlier_of Memory other = Memory
-earlier_of (Fault number line) Memory = Memory
-earlier_of (Fault number line) (Fault number' line') =
-    if is_earlier number line number' line' then Fault number line else Fault number' line'
+abbrev pub earlier_fault_of : TypeFault → TypeFault → TypeFault
+earlier_fault_of Memory other = Memory
+earlier_fault_of (Fault number line) Memory = Memory
+earlier_fault_of (Fault number line) (Fault number' line') =
+    fault_of (earlier_of (record { line = line; number = number }) (record { line = line'; number = number' }))
 
 -- both parts, else the earlier of their faults
 abbrev pub both_of : {A B : Type 0} → Result A TypeFault → Result B TypeFault → Result (A × B) TypeFault
 both_of (Ok a) (Ok b) = Ok (a, b)
 both_of (Ok a) (Err fault) = Err fault
 both_of (Err fault) (Ok b) = Err fault
-both_of (Err fault) (Err other) = Err (earlier_of fault other)
+both_of (Err fault) (Err other) = Err (earlier_fault_of fault other)
 
 -- what follows from a part, where it is good
 abbrev pub and_then : {A B : Type 0} → Result A TypeFault → (A → Result B TypeFault) → Result B TypeFault

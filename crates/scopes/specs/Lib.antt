@@ -3,6 +3,7 @@ pub mod Fault
 pub mod Form
 pub mod Item
 pub mod Layout
+pub mod Marks
 pub mod Mention
 pub mod Note
 pub mod Operand

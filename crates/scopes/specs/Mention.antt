@@ -1,5 +1,6 @@
 -- Which globals a function's text names, itself or by the functions that it calls, directly or through others.
-use Rattle.std.specs.Prelude.{◌≡◌, ◌⊎◌, ◌↔◌, ℕ, ◌+◌, ◌<◌, nat_lt, ◌&&◌, zero, suc, Bool, true, false, not, List, [], ◌∷◌, ◌++◌, length, count_by, slice_index_or, Contains, Option, Some, None}
+use Rattle.std.specs.Prelude.{◌≡◌, ◌↔◌, ℕ, ◌<◌, Bool, true, false, List, [], ◌∷◌, ◌++◌, length, slice_index_or, Contains, Option, Some, None}
+use Rattle.reachability.specs.Ways.{nexts_at, IsWay}
 use Rattle.syntax.specs.declared.annotation.FunctionNotes.{FunctionNotes}
 use Rattle.syntax.specs.declared.annotation.Pending.{Pending as PendingText}
 use Rattle.syntax.specs.declared.annotation.Zone.{Zone as ZoneText}
@@ -86,41 +87,15 @@ mentions_of items function = with_blocks items (with_notes items no_mentions fun
 
 -- the functions that the function at this place calls
 abbrev pub callees_at : List Mentions → ℕ → List ℕ
-callees_at [] place = []
-callees_at (found ∷ others) zero = found.callees
-callees_at (found ∷ others) (suc place) = callees_at others place
+callees_at mentions place = nexts_at (λ m. m.callees) mentions place
 
 -- the globals that the function at this place names
 abbrev pub globals_at : List Mentions → ℕ → List ℕ
-globals_at [] place = []
-globals_at (found ∷ others) zero = found.globals
-globals_at (found ∷ others) (suc place) = globals_at others place
+globals_at mentions place = nexts_at (λ m. m.globals) mentions place
 
--- a chain of calls from one function to another; its callers, the last first
-abbrev pub IsChain : List Mentions → ℕ → List ℕ → ℕ → Type 0
-IsChain mentions from [] to = from ≡ to
-IsChain mentions from (caller ∷ callers) to = Contains (callees_at mentions caller) to × (to < length mentions) × IsChain mentions from callers caller
-
--- a function calls another, directly or through others, or is it
-abbrev pub IsReached : List Mentions → ℕ → ℕ → Type 0
-IsReached mentions from to = (from < length mentions) × (callers : List ℕ) × IsChain mentions from callers to
-
--- the function names the global, itself or by those that it calls
+-- the function names the global, itself or by those that it calls, directly or through others
 abbrev pub ReachesGlobal : List Mentions → ℕ → ℕ → Type 0
-ReachesGlobal mentions from global = (to : ℕ) × IsReached mentions from to × Contains (globals_at mentions to) global
-
--- a step of the search: the places in the list are marked, and those that were not marked before are work
-pub record MarksPlaces (places : List ℕ) (marks : List Bool) (work : List ℕ) (marks' : List Bool) (work' : List ℕ) : Type 0 where
-  pub size : length marks' ≡ length marks
-  pub targets : (b : ℕ) → Contains places b → b < length marks → slice_index_or marks' b false ≡ true
-  pub kept : (b : ℕ) → slice_index_or marks b false ≡ true → slice_index_or marks' b false ≡ true
-  pub added : (b : ℕ) → slice_index_or marks' b false ≡ true → (slice_index_or marks b false ≡ true) ⊎ (Contains work' b × Contains places b)
-  pub waiting : (b : ℕ) → Contains work b → Contains work' b
-  pub new : (b : ℕ) → Contains work' b → Contains work b ⊎ (slice_index_or marks' b false ≡ true)
-  pub count : count_by not marks' + length work' ≡ count_by not marks + length work
-
-abbrev pub is_unmarked : List Bool → ℕ → Bool
-is_unmarked marks place = nat_lt place (length marks) && not (slice_index_or marks place false)
+ReachesGlobal mentions from global = (to : ℕ) × (callers : List ℕ) × IsWay (callees_at mentions) from callers to × Contains (globals_at mentions to) global
 
 -- the marks are just the globals that the function names, itself or by those that it calls
 abbrev pub NamesExactly : List Mentions → ℕ → ℕ → List Bool → Type 0

@@ -1,9 +1,10 @@
 ghost use Rattle.std.specs.Prelude.{◌≡◌, Ok};
-ghost use Rattle.scopes.specs.Fault.{both_of, earlier_of, joined_of, unless_of, Gives};
+ghost use Rattle.scopes.specs.Fault.{both_of, earlier_fault_of, joined_of, unless_of, Gives};
 ghost use Rattle.refusal.specs.declared.refused.Refused.TheVariants.{Fault, Memory};
 
 use crate::TypeFault;
 use lists::Seq;
+use refusal::Broken;
 
 /// 201: nothing has this name.
 pub fn unknown_name(line: u32) -> TypeFault
@@ -56,32 +57,23 @@ pub fn unless(holds: bool, fault: TypeFault) -> Result<(), TypeFault>
 
 /// The fault of the lower line, and on one line of the lower number. Want of memory comes first.
 fn earlier(first: TypeFault, second: TypeFault) -> TypeFault
-    ensures { result ≡ earlier_of first second }
+    ensures { result ≡ earlier_fault_of first second }
 {
-    match first {
-        TypeFault::Memory => TypeFault::Memory,
-        TypeFault::Fault { number, line } => earlier_than(number, line, second),
-    }
-}
-
-fn earlier_than(number: u16, line: u32, other: TypeFault) -> TypeFault
-    ensures { result ≡ earlier_of (Fault number line) other }
-{
-    match other {
-        TypeFault::Memory => TypeFault::Memory,
-        TypeFault::Fault {
-            number: other_number,
-            line: other_line,
-        } => {
-            if line < other_line || (line == other_line && number <= other_number) {
-                TypeFault::Fault { number, line }
-            } else {
-                TypeFault::Fault {
-                    number: other_number,
-                    line: other_line,
-                }
-            }
+    match (first, second) {
+        (
+            TypeFault::Fault { number, line },
+            TypeFault::Fault {
+                number: other_number,
+                line: other_line,
+            },
+        ) => {
+            let other = Broken {
+                line: other_line,
+                number: other_number,
+            };
+            TypeFault::from(Broken { line, number }.earlier(other))
         }
+        _ => TypeFault::Memory,
     }
 }
 

@@ -1,60 +1,38 @@
 //! Which globals a function names, itself or by the functions that it calls, directly or through others.
 
-ghost use Rattle.std.specs.Prelude.{◌≡◌, ◌<◌, ◌↔◌, ℕ, true, false, length, vec_len, slice_index_or, replicate, Contains, IfOk, OnOk};
+ghost use Rattle.std.specs.Prelude.{◌≡◌, ◌<◌, ◌↔◌, ℕ, true, false, length, slice_index_or, Contains, IfOk};
+ghost use Rattle.scopes.specs.Marks.{SetsMarks};
 ghost use Rattle.scopes.specs.Mention as spec;
 
 use crate::mention::Mentions;
 use lists::Seq;
 use program::GlobalId;
+use reachability::{Node, no_marks, one_mark, reached};
 use std::alloc::{AllocError, Global};
 use std::marker::Model;
 
-fn is_unmarked(marks: &[bool], place: usize) -> bool
-    ensures { result ≡ spec.is_unmarked marks.now place }
-{
-    place < marks.len() && !marks[place]
+impl Node for Mentions {
+    ghost nexts = { λ m. m.callees };
+
+    fn count(&self) -> usize {
+        self.callees.len()
+    }
+
+    fn next_at(&self, place: usize) -> usize {
+        self.callees.as_slice()[place]
+    }
 }
 
-/// Marks the places in the list, and puts each that was not marked before to the work.
-fn mark_places(
-    places: &[usize],
-    marks: &mut Vec<bool>,
-    work: &mut Vec<usize>,
-) -> Result<(), AllocError>
-    ensures { OnOk result (spec.MarksPlaces places.now marks.old.items work.old.items marks.new.items work.new.items) }
+/// Sets the marks of these places, as far as there are such.
+fn set_marks(places: &[usize], marks: &mut Vec<bool>)
+    ensures { SetsMarks places.now marks.old.items marks.new.items }
 {
     for place in places {
         let place = *place;
-        if is_unmarked(marks.as_slice(), place) {
+        if place < marks.len() {
             marks[place] = true;
-            work.push(place)?;
         }
     }
-    Ok(())
-}
-
-/// So many marks, none of them set.
-fn no_marks(alloc: Global, count: usize) -> Result<Vec<bool>, AllocError>
-    ensures { IfOk result (λ marks. marks.items ≡ replicate count false) }
-{
-    let marks = vec![in alloc; false; count]?;
-    Ok(marks)
-}
-
-/// Marks the functions that this one calls, directly or through others, and itself.
-fn reached(alloc: Global, mentions: &[Mentions], start: usize) -> Result<Vec<bool>, AllocError>
-    requires { start < length mentions.now }
-    ensures size { IfOk result (λ marks. length marks.items ≡ length mentions.now) }
-    ensures exact { IfOk result (λ marks. (b : ℕ) → (slice_index_or marks.items b false ≡ true) ↔ spec.IsReached mentions.now start b) }
-{
-    let mut marks = no_marks(alloc, mentions.len())?;
-    let mut work: Vec<usize> = Vec::new(alloc);
-    marks[start] = true;
-    work.push(start)?;
-    while let Some(function) = work.pop() {
-        mark_places(mentions[function].callees.as_slice(), &mut marks, &mut work)?;
-    }
-    Ok(marks)
 }
 
 /// Marks the globals that the marked functions name.
@@ -69,12 +47,11 @@ fn named_by(
         ↔ ((g < globals) × ((f : ℕ) × (slice_index_or marked.now f false ≡ true) × Contains (spec.globals_at mentions.now f) g))) }
 {
     let mut marks = no_marks(alloc, globals)?;
-    let mut found: Vec<usize> = Vec::new(alloc);
     for place in 0..mentions.len() {
         if !marked[place] {
             continue;
         }
-        mark_places(mentions[place].globals.as_slice(), &mut marks, &mut found)?;
+        set_marks(mentions[place].globals.as_slice(), &mut marks);
     }
     Ok(marks)
 }
@@ -103,7 +80,9 @@ impl NamedGlobals {
         requires { start < length mentions.now }
         ensures { IfOk result (spec.NamesExactly mentions.now globals start) }
     {
-        let marked = reached(alloc, mentions, start)?;
+        let starts = one_mark(alloc, mentions.len(), start)?;
+        let stops = no_marks(alloc, mentions.len())?;
+        let marked = reached(alloc, mentions, &starts, &stops)?;
         let marks = named_by(alloc, mentions, marked.as_slice(), globals)?;
         Ok(NamedGlobals {
             marks: Seq::from_vec(marks),

@@ -5,7 +5,6 @@ use Rattle.std.specs.List.{Contains, list_any}
 use Rattle.std.proofs.lemmas.Bool.{or_parts}
 use Rattle.std.proofs.lemmas.Bool.Decides.{nat_tests}
 use Rattle.std.proofs.lemmas.List.{length-map}
-use Rattle.std.proofs.lemmas.Option.{slice_get_within}
 use Rattle.linear.specs.declared.form.RegisterId.{RegisterId}
 use Rattle.program.specs.declared.annotation.Pending.{Pending}
 use Rattle.program.specs.declared.annotation.Zone.{Zone}
@@ -45,7 +44,8 @@ use Rattle.types.specs.Function.{head_of as function_head_of, head_zones_of, fun
 use Rattle.types.specs.Instruction.{phi_of, phis_of, instruction_of, step_of, steps_of}
 use Rattle.scopes.specs.Item.{with_globals, with_functions, items_of}
 use Rattle.scopes.specs.Layout.{layout_of}
-use Rattle.scopes.specs.Mention.{with_address, with_instruction, mentions_of, globals_at, callees_at, IsChain, ReachesGlobal}
+use Rattle.reachability.specs.Ways.{IsWay}
+use Rattle.scopes.specs.Mention.{with_address, with_instruction, mentions_of, globals_at, callees_at, ReachesGlobal}
 use Rattle.scopes.specs.Note.{zone_of, zones_of, more_zones, pending_of, all_pending_of}
 use Rattle.scopes.specs.Scope.{Scope}
 use Rattle.scopes.specs.Table.{with_name}
@@ -342,24 +342,16 @@ module _ (items : Items) (globals : ℕ) (functions : List FunctionText) (named 
         let P : Instruction → Type 0 = λ x. IsTextInstructionApart mentions globals caller x in
         subst P k.does (apart caller b s k.at_block.function k.block k.step k.at_block.at_function k.at_block.at_block k.at_step)
 
-    within : (caller b s : ℕ) (d : Option RegisterId) (id : FunctionId) (arguments : List Argument) → IsInstructionAt meant caller b s (instruction.Call d id arguments) → id.0 < length mentions
-    within caller b s d id arguments k =
-        let up = (text_apart caller b s d id arguments k).upward in
-        let from = step_from caller b s (instruction.Call d id arguments) k in
-        let l : caller < length functions = slice_get_within functions caller from.from.from.text from.from.from.at in
-        let n : length mentions ≡ length functions = length-map functions (mentions_of items) in
-        omega arith
-
-    chain_of : (from to : ℕ) → Reaches meant from to → (callers : List ℕ) × IsChain mentions from callers to
+    chain_of : (from to : ℕ) → Reaches meant from to → (callers : List ℕ) × IsWay (callees_at mentions) from callers to
     chain_of from to itself = ([], refl)
     chain_of from to (through caller b s d id arguments before k) =
         let rest = chain_of from caller before in
-        (caller ∷ rest.0, (call_held caller b s d id arguments (step_from caller b s (instruction.Call d id arguments) k), within caller b s d id arguments k, rest.1))
+        (caller ∷ rest.0, (call_held caller b s d id arguments (step_from caller b s (instruction.Call d id arguments) k), rest.1))
 
-    is_named : (from : ℕ) (id : GlobalId) → from < length mentions → NamesGlobal meant from id → ReachesGlobal mentions from id.0
-    is_named from id l (to, reaches, named_there) =
+    is_named : (from : ℕ) (id : GlobalId) → NamesGlobal meant from id → ReachesGlobal mentions from id.0
+    is_named from id (to, reaches, named_there) =
         let chain = chain_of from to reaches in
-        (to, (l, chain.0, chain.1), (named_held to id named_there).1)
+        (to, chain.0, chain.1, (named_held to id named_there).1)
 
     argument_right : (caller b s : ℕ) (d : Option RegisterId) (id : FunctionId) (arguments : List Argument) (k : StepFrom caller b s (instruction.Call d id arguments)) (i : ℕ) (name : ObjectName) → slice_get arguments i ≡ Some (argument.Object name) →
         Adds items globals (length k.from.from.text.parameters) (IsParameterName k.from.from.text.parameters) (λ m. with_instruction items m k.text.instruction) name
@@ -374,7 +366,7 @@ module _ (items : Items) (globals : ℕ) (functions : List FunctionText) (named 
           upward = t.upward;
           distinct = distinct_of arguments t.distinct;
           own = λ i r at. let P : ℕ → Type 0 = λ n. r.0 < n in subst P (sym same) (argument_right caller b s d id arguments from i (object.Parameter r) at);
-          clear = λ i g at names. t.clear g (argument_right caller b s d id arguments from i (object.Global g) at).0 (contained_at arguments i _ at) (is_named id.0 g (within caller b s d id arguments k) names);
+          clear = λ i g at names. t.clear g (argument_right caller b s d id arguments from i (object.Global g) at).0 (contained_at arguments i _ at) (is_named id.0 g names);
         }
 
   -- ---- definitions

@@ -14,7 +14,9 @@ use Rattle.program.specs.declared.function.Program.{Program}
 use Rattle.region_match.specs.declared.tables.Regions.{Regions}
 use Rattle.region_match.specs.Tasks.{AreAllTasks}
 use Rattle.region_match.specs.Matched.{AreRegionsRight}
-use Rattle.verifier.specs.Accepted.{IsDefined, AreRangesRight, AreTasksOf, AreZonesRight, AreCostsRight, IsProgramOf, IsFaulty, IsRefused}
+use Rattle.ranges.specs.Rules.{AreRangesRight}
+use Rattle.cost_table.specs.Rules.{AreCostsRight}
+use Rattle.verifier.specs.Accepted.{IsDefined, AreTasksOf, AreZonesRight, IsProgramOf, IsFaulty, IsRefused}
 
 pub refused_by_text : (text : List ℕ) (refused : Refused) → IsFaultOfText text refused → IsRefused text refused
 refused_by_text text (Fault number line) h = inl h

@@ -15,17 +15,13 @@ use Rattle.region_match.specs.declared.tables.Regions.{Regions}
 use Rattle.region_match.specs.Matched.{AreRegionsRight, IsTaskBroken}
 use Rattle.region_match.specs.Tasks.{AreAllTasks}
 use Rattle.definedness.specs.Definedness.{IsDefinednessBroken}
-use Rattle.ranges.specs.Rules.{IsRangeBroken}
-use Rattle.footprints.specs.Rules.{IsZoneBroken}
-use Rattle.cost_table.specs.Rules.{IsCostBroken}
+use Rattle.ranges.specs.Rules.{IsRangeBroken, AreRangesRight}
+use Rattle.footprints.specs.Rules.{IsZoneBroken, AreZonesRightBy}
+use Rattle.cost_table.specs.Rules.{IsCostBroken, AreCostsRight}
 
 -- no rule on uses is broken
 abbrev pub IsDefined : Program → Type 0
 IsDefined program = (b : Broken) → IsDefinednessBroken program b → ⊥
-
--- no rule on what is known of numbers is broken
-abbrev pub AreRangesRight : Program → Type 0
-AreRangesRight program = (b : Broken) → IsRangeBroken program b → ⊥
 
 -- the table has the task of each block
 abbrev pub AreTasksOf : Program → Regions → Type 0
@@ -33,15 +29,11 @@ AreTasksOf program regions = AreAllTasks (graphs_of program) regions.functions
 
 -- by the tasks of the blocks no rule on zones is broken
 abbrev pub AreZonesRight : Program → Type 0
-AreZonesRight program = (regions : Regions) × AreTasksOf program regions × ((b : Broken) → IsZoneBroken program regions b → ⊥)
+AreZonesRight program = (regions : Regions) × AreTasksOf program regions × AreZonesRightBy program regions
 
 -- by the tasks of the blocks the earliest broken rule on zones is named
 abbrev pub NamesZoneFault : Program → Refused → Type 0
 NamesZoneFault program refused = (regions : Regions) × AreTasksOf program regions × NamesEarliest (IsZoneBroken program regions) refused
-
--- no rule on cost is broken
-abbrev pub AreCostsRight : Program → Type 0
-AreCostsRight program = (b : Broken) → IsCostBroken program b → ⊥
 
 -- the rules after the types, phase by phase
 pub record IsRight (program : Program) : Type 0 where

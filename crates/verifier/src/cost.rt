@@ -2,7 +2,7 @@ ghost use Rattle.std.specs.Prelude.{◌≡◌, slice_get};
 ghost use Rattle.std.specs.Option.{option_copied};
 ghost use Rattle.region_match.specs.declared.tables.Regions.{Regions};
 ghost use Rattle.cost_table.specs.Tables.{IsTable};
-ghost use Rattle.verifier.specs.Accepted.{AreCostsRight};
+ghost use Rattle.cost_table.specs.Rules.{AreCostsRight};
 ghost use Rattle.verifier.specs.Budgets.{budget_of, depth_of};
 
 use cost_table::Table;

@@ -41,11 +41,13 @@ use Rattle.phase_laws.proofs.defined.Items.{block_is}
 use Rattle.phase_laws.proofs.defined.Lists.{first_within, flat_within}
 use Rattle.phase_laws.specs.facts.Known.{shows_at, known_at_place}
 use Rattle.phase_laws.specs.facts.Handed.{out_of, outs_of, outs_along, outs_at}
-use Rattle.phase_laws.proofs.facts.Places.{BlockOf, StepAt, EndAt, step_at, end_at, known_is, known_end, true_unless, Any_of, Contains_map}
+use Rattle.phase_laws.proofs.facts.Places.{BlockOf, StepAt, EndAt, step_at, end_at, known_is, known_end, true_unless, Any_of}
+use Rattle.cfg.proofs.Searching.{Contains_map}
 use Rattle.phase_laws.proofs.facts.Handed.{outs_are, facts_tabled}
 use Rattle.cost_table.specs.Cost.{calls_done, instructions_done, instructions_of as instructions_by}
 use Rattle.cost_table.specs.Rules.{left_behind, less_form, number_less, left_calls, left_instructions, IsPairBroken, IsEdgeUncovered, IsForkUncovered, IsEndUncovered, IsUncoveredAt, IsEndingUncovered, IsCallNotFalling, IsNotFalling, IsEntryBroken, IsBlockBroken}
-use Rattle.phase_laws.specs.costs.Shown.{AreCostsRight, IsReadable, CostsAreShown}
+use Rattle.cost_table.specs.Rules.{AreCostsRight}
+use Rattle.phase_laws.specs.costs.Shown.{IsReadable, CostsAreShown}
 use Rattle.phase_laws.proofs.costs.Sums.{shown_more, floor_shown, end_shown, moved_shown, fork_shown, ceiling_shown}
 use Rattle.phase_laws.proofs.costs.Moves.{HaveEntries, phis_moved, arguments_moved}
 use Rattle.phase_laws.proofs.costs.Spent.{instructions_spent_are, calls_spent_are}

@@ -21,7 +21,7 @@ use Rattle.ranges.specs.Truth.{parts_value, sum_value}
 use Rattle.ranges.proofs.Truth.{form_value}
 use Rattle.conditions.specs.rules.ShownCosts.{IsAtLeast}
 use Rattle.phase_laws.proofs.defined.Lists.{later_within}
-use Rattle.phase_laws.proofs.facts.Places.{Contains_map}
+use Rattle.cfg.proofs.Searching.{Contains_map}
 use Rattle.phase_laws.proofs.facts.Sums.{Moved, unmoved, parts_moved, parts_append}
 use Rattle.cost_table.specs.Rules.{left_behind, less_form, number_less}
 

@@ -31,7 +31,8 @@ use Rattle.conditions.specs.rules.Registers.{returns_number}
 use Rattle.conditions.proofs.rules.Edges.{arguments_word}
 use Rattle.phase_laws.specs.facts.Known.{known_at_place, known_in, known_in_block, IsMet, KnownHold}
 use Rattle.phase_laws.specs.facts.Owing.{IsGiven, IsTyped, IsOtherArgument, AreFactsStable}
-use Rattle.phase_laws.specs.facts.Kept.{AreRangesRight, with_returned, AreEnsured}
+use Rattle.ranges.specs.Rules.{AreRangesRight}
+use Rattle.phase_laws.specs.facts.Kept.{with_returned, AreEnsured}
 use Rattle.phase_laws.proofs.facts.Sums.{met_from_moved, moved_from_met, stated_true}
 use Rattle.phase_laws.proofs.facts.Learning.{none_true}
 use Rattle.phase_laws.proofs.facts.Effects.{IsLearned, set_value}

@@ -51,10 +51,11 @@ use Rattle.conditions.specs.rules.Moves.{JumpsTo, SyncsTo}
 use Rattle.conditions.proofs.rules.Moves.{given_case}
 use Rattle.phase_laws.specs.facts.Known.{known_at_place, known_in, known_in_block, IsMet, HoldsTest, KnownHold}
 use Rattle.phase_laws.specs.facts.Owing.{AreApart}
-use Rattle.phase_laws.specs.facts.Kept.{AreRangesRight}
+use Rattle.ranges.specs.Rules.{AreRangesRight}
 use Rattle.phase_laws.proofs.facts.Sums.{word_value, met_from_moved, stated_true}
 use Rattle.phase_laws.proofs.facts.Learning.{none_true, one_true, two_true, multiple_low}
-use Rattle.phase_laws.proofs.facts.Places.{Contains_map, BlockOf, EndAt, before, arrives, edge_met, owed_true}
+use Rattle.cfg.proofs.Searching.{Contains_map}
+use Rattle.phase_laws.proofs.facts.Places.{BlockOf, EndAt, before, arrives, edge_met, owed_true}
 use Rattle.phase_laws.proofs.defined.Items.{item_there}
 use Rattle.phase_laws.proofs.defined.Lists.{first_within, later_within}
 

@@ -25,10 +25,11 @@ use Rattle.conditions.specs.rules.Moves.{JumpsTo, SyncsTo}
 use Rattle.conditions.specs.rules.ShownCosts.{Out}
 use Rattle.conditions.proofs.rules.Moves.{moves, sync_here, forks_here}
 use Rattle.phase_laws.specs.facts.Known.{known_at_place, known_in, known_in_block, IsMet, KnownHold}
-use Rattle.phase_laws.specs.facts.Kept.{AreRangesRight}
+use Rattle.ranges.specs.Rules.{AreRangesRight}
 use Rattle.phase_laws.specs.facts.Handed.{out_of, outs_along, outs_behind, outs_in, outs_at, FactsHandedOn, FactsAtStart, FactsTabled}
 use Rattle.phase_laws.proofs.facts.Sums.{stated_true}
-use Rattle.phase_laws.proofs.facts.Places.{Contains_map, BlockOf, EndAt, end_at, before, known_step, known_end, arrives}
+use Rattle.cfg.proofs.Searching.{Contains_map}
+use Rattle.phase_laws.proofs.facts.Places.{BlockOf, EndAt, end_at, before, known_step, known_end, arrives}
 use Rattle.phase_laws.proofs.facts.Edges.{IsTaken, taken, sync_taken, tests_here}
 use Rattle.phase_laws.proofs.facts.Kept.{at_start, same_action, child_facts, continued_facts}
 

@@ -38,7 +38,8 @@ use Rattle.conditions.specs.rules.Registers.{returns_number}
 use Rattle.conditions.proofs.rules.Moves.{moves, sync_here, syncs_along, calls_here, forks_here, returns_here, GivenBack}
 use Rattle.phase_laws.specs.facts.Known.{known_at_place, IsMet, KnownHold}
 use Rattle.phase_laws.specs.facts.Owing.{IsGiven, IsTyped, AreFactsStable, HasWidths}
-use Rattle.phase_laws.specs.facts.Kept.{AreRangesRight, with_returned, AreEnsured, IsEnsured, Knows, Ensures, FactsKept}
+use Rattle.ranges.specs.Rules.{AreRangesRight}
+use Rattle.phase_laws.specs.facts.Kept.{with_returned, AreEnsured, IsEnsured, Knows, Ensures, FactsKept}
 use Rattle.phase_laws.proofs.facts.Sums.{word_value, met_from_moved}
 use Rattle.phase_laws.proofs.facts.Effects.{learned_here}
 use Rattle.phase_laws.proofs.facts.Places.{EndAt, end_at, end_met, owed_true}

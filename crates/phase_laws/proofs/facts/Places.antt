@@ -2,7 +2,7 @@
 use Rattle.std.proofs.Common.{◌≡◌, ◌∙◌, ℕ, zero, suc, ◌<◌, ◌≤◌, ℤ, Bool, true, false, List, [], ◌∷◌, ◌++◌, length, take, get_or, Option, Some, None, ◌⊎◌, inl, inr, refl, sym, ap, subst, arith, slice_get, add-one, map}
 use Rattle.std.specs.List.{All, Any, Contains}
 use Rattle.std.proofs.lemmas.Bool.{cases_eq}
-use Rattle.std.proofs.lemmas.List.{take_all, get_or-map, length-map}
+use Rattle.std.proofs.lemmas.List.{take_all}
 use Rattle.std.proofs.lemmas.List.Elements.{All-nil, All-cons, All-head, All-tail, All-append, All-more, Contains-get_or}
 use Rattle.std.proofs.lemmas.Option.{slice_get_cases, slice_get_within, get_or_from_slice_get}
 use Rattle.running.specs.Frames.{Item, Does, Ends, item_of, item_at, and_then}
@@ -31,7 +31,8 @@ use Rattle.ranges.specs.Places.{start_facts, with_shows, after_step, facts_befor
 use Rattle.ranges.specs.Rules.{AreUnmet, AreUnshown, IsEndBroken, IsBlockBroken}
 use Rattle.ranges.proofs.Truth.{shown_true, met_true}
 use Rattle.phase_laws.specs.facts.Known.{shows_at, known_in_block, known_in, known_at_place, IsMet}
-use Rattle.phase_laws.specs.facts.Kept.{AreRangesRight}
+use Rattle.ranges.specs.Rules.{AreRangesRight}
+use Rattle.cfg.proofs.Searching.{Contains_map}
 use Rattle.phase_laws.proofs.facts.Sums.{met_from_moved, unmoved, stated_true}
 use Rattle.phase_laws.proofs.defined.Items.{step_there}
 
@@ -138,9 +139,6 @@ Any_of P xs x c p = (c.0, x, c.1, c.2, p)
 pub true_unless : (b : Bool) → (b ≡ false → ⊥) → b ≡ true
 true_unless true never = refl
 true_unless false never = absurd (never refl)
-
-pub Contains_map : {X Y : Type 0} (f : X → Y) (xs : List X) (x : X) → Contains xs x → Contains (map f xs) (f x)
-Contains_map f xs x c = (c.0, rw (length-map xs f) c.1, get_or-map f xs c.0 x (f x) c.1 ∙ ap f c.2)
 
 -- obligations that are not broken are met
 met : (known : List Fact) (line : ℕ) (obligations : List Obligation) → ((x : Broken) → AreUnmet known line obligations x → ⊥) → All (λ o. is_met known o ≡ true) obligations

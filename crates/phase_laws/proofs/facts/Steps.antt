@@ -23,7 +23,7 @@ use Rattle.conditions.specs.rules.Costs.{or_zero, numbers, Lacks}
 use Rattle.conditions.specs.rules.Moves.{dest_of}
 use Rattle.phase_laws.specs.facts.Known.{known_at_place, HoldsTest, KnownHold}
 use Rattle.phase_laws.specs.facts.Owing.{IsOther, IsUntouched, LeavesKnown, AreFactsStable}
-use Rattle.phase_laws.specs.facts.Kept.{AreRangesRight}
+use Rattle.ranges.specs.Rules.{AreRangesRight}
 use Rattle.phase_laws.proofs.facts.Effects.{IsLearned}
 use Rattle.phase_laws.proofs.facts.Places.{StepAt, step_at, before, known_step, next_is, arrives}
 

@@ -32,7 +32,8 @@ use Rattle.program.specs.Steps.{or_else}
 use Rattle.footprints.specs.Rules.{place_in}
 use Rattle.conditions.specs.rules.Costs.{numbers}
 use Rattle.phase_laws.specs.zones.Uses.{StandsIn, KnownHolds, NamesApart, IsAt, ElementsHold, task_of, MayUse}
-use Rattle.phase_laws.specs.zones.Accesses.{AreZonesRight, AccessesAreLet}
+use Rattle.footprints.specs.Rules.{AreZonesRightBy}
+use Rattle.phase_laws.specs.zones.Accesses.{AccessesAreLet}
 use Rattle.phase_laws.proofs.zones.Places.{step_here, step_covered, step_clear}
 use Rattle.phase_laws.proofs.zones.Spans.{span_let, used_name}
 use Rattle.phase_laws.proofs.zones.Touching.{UsesBy, UsedHere, used_here}
@@ -98,7 +99,7 @@ pointed_at x (step ∷ steps) named e = from (pointer_of x step.instruction) ref
     from None at later k = let h = later k in (suc h.0, h.1, h.2, h.3, h.4, h.5)
     from (Some n) at later k = let h = defines x step.instruction named (at ∙ k) in (zero, step, h.0, refl, h.1, h.2)
 
-module _ (prog : Program) (regions : Regions) (right : AreZonesRight prog regions) (f : Frame) (function : Function) (block : Block) (stands : StandsIn prog f function block)
+module _ (prog : Program) (regions : Regions) (right : AreZonesRightBy prog regions) (f : Frame) (function : Function) (block : Block) (stands : StandsIn prog f function block)
     (known : KnownHolds prog f function block) (names : NamesApart prog f) (elements : ElementsHold f block) where
   named_in : (s : ℕ) (step : Step) (name : ObjectName) → slice_get block.steps s ≡ Some step → (what : Instruction) → step.instruction ≡ what → InstructionNames what name → IsNamedBy prog.functions f.function name
   named_in s step name at what is names_it =

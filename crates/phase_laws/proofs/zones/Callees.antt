@@ -41,7 +41,7 @@ use Rattle.footprints.specs.Rules.{place_in}
 use Rattle.conditions.specs.rules.Costs.{or_zero, numbers}
 use Rattle.conditions.proofs.rules.Moves.{calls_here}
 use Rattle.phase_laws.specs.zones.Uses.{StandsIn, KnownHolds, IsUsed, NamesApart, HoldsCell, task_of, MayUse}
-use Rattle.phase_laws.specs.zones.Accesses.{AreZonesRight}
+use Rattle.footprints.specs.Rules.{AreZonesRightBy}
 use Rattle.phase_laws.specs.zones.Callees.{IsOverParameters, CalleesAreLet}
 use Rattle.phase_laws.proofs.zones.Places.{get_is, all_pass, step_here, step_covered, step_clear}
 use Rattle.phase_laws.proofs.zones.Spans.{span_let, used_name}
@@ -176,7 +176,7 @@ passes f (argument.Object name) v o e h = from (object_at f name) refl e
     from (Some x) at k =
         (name, refl, at ∙ subst (λ (y : Option Value). and_then (cell_of y) (λ (c : Cell). Some c.object) ≡ Some o) (sym k) h)
 
-module _ (prog : Program) (regions : Regions) (right : AreZonesRight prog regions) (f : Frame) (function : Function) (block : Block) (stands : StandsIn prog f function block)
+module _ (prog : Program) (regions : Regions) (right : AreZonesRightBy prog regions) (f : Frame) (function : Function) (block : Block) (stands : StandsIn prog f function block)
     (known : KnownHolds prog f function block) (names : NamesApart prog f) where
   module _ (step : Step) (at : slice_get block.steps f.index ≡ Some step) (d : Option RegisterId) (callee : FunctionId) (arguments : List Argument) (is : step.instruction ≡ instruction.Call d callee arguments)
       (g : Function) (there : slice_get prog.functions callee.0 ≡ Some g) (p : Path) (values : List Value) (are : argument_values f arguments ≡ Some values) where

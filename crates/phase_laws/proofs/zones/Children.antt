@@ -23,7 +23,7 @@ use Rattle.footprints.specs.Footprints.{Place, is_allowed, is_clear, foot_of, en
 use Rattle.footprints.specs.Rules.{place_in}
 use Rattle.conditions.proofs.rules.Moves.{forks_here}
 use Rattle.phase_laws.specs.zones.Uses.{StandsIn, KnownHolds, NamesApart, HoldsCell, task_of, MayUse}
-use Rattle.phase_laws.specs.zones.Accesses.{AreZonesRight}
+use Rattle.footprints.specs.Rules.{AreZonesRightBy}
 use Rattle.phase_laws.specs.zones.Children.{FeetAreLet}
 use Rattle.phase_laws.proofs.zones.Places.{all_pass, get_is, ending_here, end_covered, end_clear}
 use Rattle.phase_laws.proofs.zones.Spans.{as_cell, span_let, used_name}
@@ -50,7 +50,7 @@ foot_named prog f function block stands b z at = from (slice_get function.blocks
     from (Some child) e k =
         in_foot b k.0 child z (record { function = function; at_function = stands.at_function; at_block = e }) (get_is child.foot k.0 z k.1 ∙ ap (λ (y : Zone). Some y) k.2) refl
 
-module _ (prog : Program) (regions : Regions) (right : AreZonesRight prog regions) (f : Frame) (function : Function) (block : Block) (stands : StandsIn prog f function block)
+module _ (prog : Program) (regions : Regions) (right : AreZonesRightBy prog regions) (f : Frame) (function : Function) (block : Block) (stands : StandsIn prog f function block)
     (known : KnownHolds prog f function block) (names : NamesApart prog f) where
   abbrev place : Place
   place = place_in function (task_of regions f) block (facts_at_end prog.functions function f.block block)

@@ -20,7 +20,7 @@ use Rattle.footprints.specs.declared.touch.Use.{Use}
 use Rattle.footprints.specs.Footprints.{step_use, end_use, passes_on}
 use Rattle.footprints.specs.Rules.{place_in, IsEndBroken}
 use Rattle.phase_laws.specs.zones.Uses.{StandsIn, task_of}
-use Rattle.phase_laws.specs.zones.Accesses.{AreZonesRight}
+use Rattle.footprints.specs.Rules.{AreZonesRightBy}
 use Rattle.phase_laws.proofs.defined.Items.{step_there}
 use Rattle.phase_laws.proofs.facts.Places.{end_of}
 
@@ -57,7 +57,7 @@ module _ (prog : Program) (f : Frame) (function : Function) (block : Block) (sta
 
   -- ---- the rules there
 
-  module _ (regions : Regions) (right : AreZonesRight prog regions) where
+  module _ (regions : Regions) (right : AreZonesRightBy prog regions) where
     abbrev pub used_by : Step → Use
     used_by step = step_use (place_in function (task_of regions f) block (facts_at_step prog.functions function f.block block f.index)) prog.functions block.steps step.line step.instruction
 

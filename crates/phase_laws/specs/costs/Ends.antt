@@ -16,12 +16,13 @@ use Rattle.conditions.specs.rules.Costs.{bound_of, numbers, may_use, IsCosted}
 use Rattle.conditions.specs.rules.Depths.{may_reach}
 use Rattle.phase_laws.specs.defined.Names.{IsNamed}
 use Rattle.phase_laws.specs.facts.Known.{IsMet, KnownHold}
-use Rattle.phase_laws.specs.facts.Kept.{AreRangesRight}
+use Rattle.ranges.specs.Rules.{AreRangesRight}
 use Rattle.phase_laws.specs.facts.Owing.{HasWidths}
 use Rattle.phase_laws.specs.facts.Traps.{IsReady}
 use Rattle.cost_table.specs.Cost.{whole_cost_of}
 use Rattle.phase_laws.specs.costs.Depths.{level_of, depth_of}
-use Rattle.phase_laws.specs.costs.Shown.{AreCostsRight, IsReadable}
+use Rattle.cost_table.specs.Rules.{AreCostsRight}
+use Rattle.phase_laws.specs.costs.Shown.{IsReadable}
 
 -- the rules on regions, on numbers and on cost hold, and this is the table of the blocks' tasks
 pub record AreRulesRight (prog : Program) (regions : Regions) : Type 0 where

@@ -3,18 +3,13 @@ use Rattle.std.specs.Prelude.{◌≡◌, ℕ, ◌<◌, length, Some, All, true, 
 use Rattle.program.specs.declared.function.Function.{Function}
 use Rattle.program.specs.declared.function.Program.{Program}
 use Rattle.cfg.specs.Rules.{IsGraphRight}
-use Rattle.refusal.specs.declared.broken.Broken.{Broken}
 use Rattle.conditions.specs.rules.ShownCosts.{CostsShown}
 use Rattle.phase_laws.specs.defined.Stable.{IsStable as LeavesNamedAlone}
 use Rattle.phase_laws.specs.facts.Known.{known_at_place}
 use Rattle.phase_laws.specs.facts.Owing.{IsTyped, AreFactsStable}
 use Rattle.phase_laws.specs.facts.Handed.{outs_at}
-use Rattle.cost_table.specs.Rules.{IsCostBroken}
+use Rattle.cost_table.specs.Rules.{AreCostsRight}
 use Rattle.phase_laws.specs.costs.Depths.{CallsUpward}
-
--- no rule of 701 to 705 is broken
-abbrev pub AreCostsRight : Program → Type 0
-AreCostsRight prog = (broken : Broken) → IsCostBroken prog broken → ⊥
 
 -- what the rules on names and types give of a program, as far as the laws here ask for more than those on facts
 pub record IsMeasured (prog : Program) : Type 0 where

@@ -18,7 +18,7 @@ use Rattle.conditions.specs.rules.Costs.{numbers}
 use Rattle.conditions.specs.rules.ShownCosts.{Out, FactsHold}
 use Rattle.phase_laws.specs.facts.Known.{known_at_place, IsMet, KnownHold}
 use Rattle.phase_laws.specs.facts.Owing.{IsTyped, AreFactsStable}
-use Rattle.phase_laws.specs.facts.Kept.{AreRangesRight}
+use Rattle.ranges.specs.Rules.{AreRangesRight}
 
 -- an edge with what is known on it
 abbrev pub out_of : List Fact → EdgeSums → Out

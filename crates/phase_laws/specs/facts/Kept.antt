@@ -7,16 +7,11 @@ use Rattle.running.specs.SerialMeaning.{Gave}
 use Rattle.conditions.specs.theorem.SerialConditions.{Says, Finds, KeptSerially}
 use Rattle.program.specs.declared.function.Function.{Function}
 use Rattle.program.specs.declared.function.Program.{Program}
-use Rattle.refusal.specs.declared.broken.Broken.{Broken}
-use Rattle.ranges.specs.Rules.{IsRangeBroken}
+use Rattle.ranges.specs.Rules.{AreRangesRight}
 use Rattle.conditions.specs.rules.Costs.{or_zero, numbers}
 use Rattle.conditions.specs.rules.Registers.{returns_number}
 use Rattle.phase_laws.specs.facts.Known.{IsMet, KnownHold}
 use Rattle.phase_laws.specs.facts.Owing.{IsTyped, AreFactsStable, HasWidths}
-
--- no rule of 501 to 508 is broken
-abbrev pub AreRangesRight : Program → Type 0
-AreRangesRight prog = (broken : Broken) → IsRangeBroken prog broken → ⊥
 
 -- a function's registers as its `ensures` read them: the one behind the last is the result
 abbrev pub with_returned : Function → (ℕ → ℤ) → Option ℤ → ℕ → ℤ

@@ -10,7 +10,7 @@ use Rattle.program.specs.declared.instruction.Terminator.{Terminator}
 use Rattle.program.specs.declared.instruction.Terminator.TheVariants as terminator
 use Rattle.program.specs.declared.function.Program.{Program}
 use Rattle.phase_laws.specs.facts.Known.{KnownHold}
-use Rattle.phase_laws.specs.facts.Kept.{AreRangesRight}
+use Rattle.ranges.specs.Rules.{AreRangesRight}
 
 abbrev pub IsThere : {A : Type 0} → Option A → Type 0
 IsThere o = is_some o ≡ true

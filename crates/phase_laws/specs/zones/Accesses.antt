@@ -8,18 +8,13 @@ use Rattle.running.specs.Effect.{Effect, Plain, action_of}
 use Rattle.program.specs.declared.function.Block.{Block}
 use Rattle.program.specs.declared.function.Function.{Function}
 use Rattle.program.specs.declared.function.Program.{Program}
-use Rattle.refusal.specs.declared.broken.Broken.{Broken}
 use Rattle.region_match.specs.declared.tables.Regions.{Regions}
-use Rattle.footprints.specs.Rules.{IsZoneBroken}
+use Rattle.footprints.specs.Rules.{AreZonesRightBy}
 use Rattle.phase_laws.specs.zones.Uses.{Uses, StandsIn, KnownHolds, NamesApart, ElementsHold, MayUse}
-
--- no rule of 601 to 604 is broken
-abbrev pub AreZonesRight : Program → Regions → Type 0
-AreZonesRight prog regions = (broken : Broken) → IsZoneBroken prog regions broken → ⊥
 
 abbrev pub AccessesAreLet : Type 0
 AccessesAreLet =
-    (prog : Program) (regions : Regions) → AreZonesRight prog regions →
+    (prog : Program) (regions : Regions) → AreZonesRightBy prog regions →
     (p : Path) (f : Frame) (m : Memory) (function : Function) (block : Block) → StandsIn prog f function block → KnownHolds prog f function block →
     NamesApart prog f → ElementsHold f block →
     (e : Effect) → action_of prog p f m ≡ Plain e → (mode : Mode) (c : Cell) → Uses e mode c → MayUse regions f function block mode c

@@ -12,7 +12,7 @@ use Rattle.program.specs.declared.function.Function.{Function}
 use Rattle.program.specs.declared.function.Program.{Program}
 use Rattle.region_match.specs.declared.tables.Regions.{Regions}
 use Rattle.phase_laws.specs.zones.Uses.{StandsIn, KnownHolds, NamesApart, HoldsCell, MayUse}
-use Rattle.phase_laws.specs.zones.Accesses.{AreZonesRight}
+use Rattle.footprints.specs.Rules.{AreZonesRightBy}
 
 -- the ends of the zone name parameters alone, of which there are n
 pub record IsOverParameters (n : ℕ) (z : Zone) : Type 0 where
@@ -21,7 +21,7 @@ pub record IsOverParameters (n : ℕ) (z : Zone) : Type 0 where
 
 abbrev pub CalleesAreLet : Type 0
 CalleesAreLet =
-    (prog : Program) (regions : Regions) → AreZonesRight prog regions →
+    (prog : Program) (regions : Regions) → AreZonesRightBy prog regions →
     (p : Path) (f : Frame) (m : Memory) (function : Function) (block : Block) → StandsIn prog f function block → KnownHolds prog f function block →
     NamesApart prog f →
     (d : Option RegisterId) (callee : ℕ) (values : List Value) → action_of prog p f m ≡ Call d callee values →

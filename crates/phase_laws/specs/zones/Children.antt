@@ -12,11 +12,11 @@ use Rattle.program.specs.declared.function.Program.{Program}
 use Rattle.region_match.specs.declared.tables.Regions.{Regions}
 use Rattle.footprints.specs.Footprints.{foot_of}
 use Rattle.phase_laws.specs.zones.Uses.{StandsIn, KnownHolds, NamesApart, HoldsCell, MayUse}
-use Rattle.phase_laws.specs.zones.Accesses.{AreZonesRight}
+use Rattle.footprints.specs.Rules.{AreZonesRightBy}
 
 abbrev pub FeetAreLet : Type 0
 FeetAreLet =
-    (prog : Program) (regions : Regions) → AreZonesRight prog regions →
+    (prog : Program) (regions : Regions) → AreZonesRightBy prog regions →
     (p : Path) (f : Frame) (m : Memory) (function : Function) (block : Block) → StandsIn prog f function block → KnownHolds prog f function block →
     NamesApart prog f →
     (region body continuation : ℕ) → action_of prog p f m ≡ Detach region body continuation →

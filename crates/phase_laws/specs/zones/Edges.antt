@@ -25,7 +25,7 @@ use Rattle.footprints.specs.Zones.{mode_covers}
 use Rattle.footprints.specs.Footprints.{foot_of, hands_on, pending_of}
 use Rattle.conditions.specs.rules.Costs.{numbers}
 use Rattle.phase_laws.specs.zones.Uses.{StandsIn, IsUsed, HoldsCell}
-use Rattle.phase_laws.specs.zones.Accesses.{AreZonesRight}
+use Rattle.footprints.specs.Rules.{AreZonesRightBy}
 
 -- g is f behind an edge: its registers are those of f with the moves made, and what its function names stands for the same objects
 pub record GoesAlong (prog : Program) (f g : Frame) (moves : List Move) : Type 0 where
@@ -39,7 +39,7 @@ IsPendingFor g pending region mode c = Any (λ q. (q.region.0 ≡ region.0) × (
 -- a cell of what is pending is pending behind each edge that hands its region on
 abbrev pub PendingGoesOn : Type 0
 PendingGoesOn =
-    (prog : Program) (regions : Regions) → AreZonesRight prog regions →
+    (prog : Program) (regions : Regions) → AreZonesRightBy prog regions →
     (f g : Frame) (function : Function) (block : Block) (ending : Ending) → StandsIn prog f function block → block.ending ≡ Some ending →
     (edge : EdgeFacts) → Contains (edges_known prog.functions function f.block block (Some ending)) edge → AllHold (numbers f.registers) edge.facts →
     GoesAlong prog f g edge.moves →
@@ -49,7 +49,7 @@ PendingGoesOn =
 -- and a cell of a new child's foot is pending behind the edge to the continuation
 abbrev pub FeetGoOn : Type 0
 FeetGoOn =
-    (prog : Program) (regions : Regions) → AreZonesRight prog regions →
+    (prog : Program) (regions : Regions) → AreZonesRightBy prog regions →
     (f g : Frame) (function : Function) (block : Block) (ending : Ending) → StandsIn prog f function block → block.ending ≡ Some ending →
     (edge : EdgeFacts) → Contains (edges_known prog.functions function f.block block (Some ending)) edge → AllHold (numbers f.registers) edge.facts →
     GoesAlong prog f g edge.moves →

@@ -37,7 +37,8 @@ use Rattle.conditions.specs.rules.Costs.{numbers}
 use Rattle.conditions.specs.rules.Moves.{JumpsTo, SyncsTo}
 use Rattle.phase_laws.specs.defined.Names.{PhiDefines}
 use Rattle.phase_laws.specs.facts.Known.{KnownHold}
-use Rattle.phase_laws.proofs.facts.Places.{Contains_map, EndAt}
+use Rattle.phase_laws.proofs.cfg.Searching.{Contains_map}
+use Rattle.phase_laws.proofs.facts.Places.{EndAt}
 use Rattle.phase_laws.proofs.facts.Edges.{IsTaken, moves_made}
 use Rattle.schedule_theorem.proofs.pointers.Kept.{Agrees}
 use Rattle.phase_laws.specs.zones.Uses.{StandsIn, IsUsed}

@@ -22,9 +22,9 @@ use Rattle.phase_laws.specs.defined.Defined.{AreUsesDefined}
 use Rattle.phase_laws.specs.defined.Names.{IsNamed}
 use Rattle.phase_laws.specs.defined.Stable.{IsStable as KeepsRegisters}
 use Rattle.phase_laws.specs.facts.Owing.{IsTyped, AreFactsStable, HasWidths}
-use Rattle.phase_laws.specs.facts.Kept.{AreRangesRight}
+use Rattle.phase_laws.specs.ranges.Rules.{AreRangesRight}
 use Rattle.phase_laws.specs.facts.Stable.{ArePhisApart}
-use Rattle.phase_laws.specs.zones.Accesses.{AreZonesRight}
+use Rattle.phase_laws.specs.footprints.Rules.{AreZonesRightBy}
 use Rattle.phase_laws.specs.zones.Callees.{IsOverParameters}
 
 -- what the rules on names give of zones: the parameters that a function's text names are its own, and its head's zones name parameters alone
@@ -36,7 +36,7 @@ pub record NamesZones (prog : Program) : Type 0 where
 -- by all phases: no rule on ranges is broken, and none on zones by the table of the blocks' tasks
 pub record IsJudged (prog : Program) (regions : Regions) : Type 0 where
   pub tasks : AreAllTasks (graphs_of prog) regions.functions
-  pub zones : AreZonesRight prog regions
+  pub zones : AreZonesRightBy prog regions
   pub ranges : AreRangesRight prog
   pub typed : IsTyped prog
   pub stable : AreFactsStable prog
@@ -69,7 +69,7 @@ pub record GivesWidths (prog : Program) (base : Path → Frame → Type 0) : Typ
 -- what the rules of the phases say of a program, each in the words of its own phase
 pub record IsByRules (prog : Program) (regions : Regions) : Type 0 where
   pub tasks : AreAllTasks (graphs_of prog) regions.functions
-  pub zones : AreZonesRight prog regions
+  pub zones : AreZonesRightBy prog regions
   pub ranges : AreRangesRight prog
   pub graph : IsGraphRight prog
   pub matched : AreRegionsRight prog

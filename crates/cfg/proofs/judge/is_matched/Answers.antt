@@ -1,7 +1,7 @@
 use Rattle.std.proofs.Common.{false}
 use Rattle.std.proofs.lemmas.Bool.{false≢true}
 use Rattle.std.proofs.lemmas.List.{get_or_past}
-use Rattle.cfg.proofs.Marking.{read_as}
+use Rattle.reachability.proofs.Marking.{read_as}
 use Rattle.cfg.proofs.Matching.{Matching-next, unmatched, answered}
 use Rattle.cfg.proofs.judge.is_matched.Goals.{then-from-len-via-then-from-len, then-from-len-via-else-from-len+then-not-index}
 use Rattle.cfg.proofs.judge.is_matched.Goals as goal
