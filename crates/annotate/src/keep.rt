@@ -22,6 +22,38 @@ fn has(numbers: &[usize], number: usize) -> bool {
     numbers.iter().any(|other| *other == number)
 }
 
+/// For each block the numbers of the facts that its head states.
+fn given_by<'a>(
+    alloc: Global,
+    function: &'a Function,
+    facts: &mut Facts<'a>,
+) -> Result<Vec<Vec<usize>>, AllocError> {
+    let mut given = Vec::new(alloc);
+    for (index, block) in function.blocks.as_slice().iter().enumerate() {
+        let mut stated = Vec::new(alloc);
+        if index == 0 {
+            facts.state(&mut stated, function.notes.requirements.as_slice())?;
+        }
+        facts.state(&mut stated, block.notes.keeps.as_slice())?;
+        given.push(stated)?;
+    }
+    Ok(given)
+}
+
+/// For each edge the numbers of the facts that its source adds.
+fn added_by<'a>(
+    alloc: Global,
+    function: &'a Function,
+    edges: &[Edge<'a>],
+    facts: &mut Facts<'a>,
+) -> Result<Vec<Vec<usize>>, AllocError> {
+    let mut added = Vec::new(alloc);
+    for edge in edges {
+        added.push(facts.on_edge(function, *edge)?)?;
+    }
+    Ok(added)
+}
+
 impl<'a> Known<'a> {
     fn new(
         alloc: Global,
@@ -29,19 +61,8 @@ impl<'a> Known<'a> {
         edges: &[Edge<'a>],
     ) -> Result<Known<'a>, AllocError> {
         let mut facts = Facts::new(alloc);
-        let mut given = Vec::new(alloc);
-        for (index, block) in function.blocks.as_slice().iter().enumerate() {
-            let mut stated = Vec::new(alloc);
-            if index == 0 {
-                facts.state(&mut stated, function.notes.requirements.as_slice())?;
-            }
-            facts.state(&mut stated, block.notes.keeps.as_slice())?;
-            given.push(stated)?;
-        }
-        let mut added = Vec::new(alloc);
-        for edge in edges {
-            added.push(facts.on_edge(function, *edge)?)?;
-        }
+        let given = given_by(alloc, function, &mut facts)?;
+        let added = added_by(alloc, function, edges, &mut facts)?;
         Ok(Known {
             facts,
             given,
@@ -127,6 +148,33 @@ impl<'a> Known<'a> {
         Ok(is_changed)
     }
 
+    /// Marks what is known at each block.
+    fn find(
+        &mut self,
+        alloc: Global,
+        edges: &[Edge<'a>],
+        blocks: &[Block],
+    ) -> Result<(), AllocError> {
+        self.mark_all(alloc, blocks.len())?;
+        for _round in 0..blocks.len() {
+            if !self.settle_all(edges, blocks)? {
+                break;
+            }
+        }
+        Ok(())
+    }
+
+    /// One round over the blocks; whether some marks were taken away.
+    fn settle_all(&mut self, edges: &[Edge<'a>], blocks: &[Block]) -> Result<bool, AllocError> {
+        let mut is_changed = false;
+        for (index, block) in blocks.iter().enumerate() {
+            if self.settle(edges, index, block)? {
+                is_changed = true;
+            }
+        }
+        Ok(is_changed)
+    }
+
     /// Whether the fact names a register that the block defines.
     fn is_renamed(&self, block: &Block, fact: usize) -> Result<bool, AllocError> {
         match self.facts.sums.as_slice().get(fact) {
@@ -153,19 +201,7 @@ pub fn known_of<'a>(
     function: &'a Function,
     edges: &[Edge<'a>],
 ) -> Result<Known<'a>, AllocError> {
-    let blocks = function.blocks.as_slice();
     let mut known = Known::new(alloc, function, edges)?;
-    known.mark_all(alloc, blocks.len())?;
-    for _round in 0..blocks.len() {
-        let mut is_changed = false;
-        for (index, block) in blocks.iter().enumerate() {
-            if known.settle(edges, index, block)? {
-                is_changed = true;
-            }
-        }
-        if !is_changed {
-            break;
-        }
-    }
+    known.find(alloc, edges, function.blocks.as_slice())?;
     Ok(known)
 }

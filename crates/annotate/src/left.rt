@@ -105,6 +105,17 @@ impl<'a> World<'a> {
         Ok(Some(sum))
     }
 
+    /// A sum at a block's start, at the start of another from which an edge leads there.
+    fn along(
+        &self,
+        sum: &Sum<'a>,
+        from: &'a Block,
+        to: &'a Block,
+    ) -> Result<Option<Sum<'a>>, AllocError> {
+        let moved = self.moved(sum, from, to)?;
+        self.drawn_back(moved, from)
+    }
+
     /// What the target of an edge needs, at the start of the block where the edge begins.
     fn behind(
         &self,
@@ -118,10 +129,8 @@ impl<'a> World<'a> {
         let Some(Some(left)) = lefts.get(edge.to) else {
             return Ok(None);
         };
-        let calls = self.moved(&left.calls, from, to)?;
-        let calls = self.drawn_back(calls, from)?;
-        let instructions = self.moved(&left.instructions, from, to)?;
-        let instructions = self.drawn_back(instructions, from)?;
+        let calls = self.along(&left.calls, from, to)?;
+        let instructions = self.along(&left.instructions, from, to)?;
         match (calls, instructions) {
             (Some(calls), Some(instructions)) => Ok(Some(Need {
                 calls,
@@ -144,14 +153,23 @@ impl<'a> World<'a> {
         Ok(false)
     }
 
+    /// Whether one sum is known to be no less than the other.
+    fn is_at_least(
+        &self,
+        block: usize,
+        one: &Sum<'a>,
+        other: &Sum<'a>,
+    ) -> Result<bool, AllocError> {
+        let difference = one.copy()?.less(other)?;
+        self.is_covered(block, &difference)
+    }
+
     /// The greater of two sums, or their sum where neither is known to be.
     fn greater(&self, block: usize, one: &Sum<'a>, other: &Sum<'a>) -> Result<Sum<'a>, AllocError> {
-        let difference = one.copy()?.less(other)?;
-        if self.is_covered(block, &difference)? {
+        if self.is_at_least(block, one, other)? {
             return one.copy();
         }
-        let difference = other.copy()?.less(one)?;
-        if self.is_covered(block, &difference)? {
+        if self.is_at_least(block, other, one)? {
             return other.copy();
         }
         let mut both = one.copy()?;
@@ -249,18 +267,25 @@ fn definition_of<'a>(
     else {
         return Ok(None);
     };
-    let mut sum = Sum::of_operand(alloc, left)?;
+    let left = Sum::of_operand(alloc, left)?;
     let right = Sum::of_operand(alloc, right)?;
     match operator {
-        BinaryOperator::Add | BinaryOperator::AddNoWrap => sum.add(&right, 1)?,
-        BinaryOperator::Subtract | BinaryOperator::SubtractNoWrap => sum.add(&right, -1)?,
+        BinaryOperator::Add | BinaryOperator::AddNoWrap => combined(left, &right, 1),
+        BinaryOperator::Subtract | BinaryOperator::SubtractNoWrap => combined(left, &right, -1),
         BinaryOperator::Multiply | BinaryOperator::MultiplyNoWrap if right.is_number() => {
-            let mut product = Sum::number(alloc, 0);
-            product.add(&sum, right.constant)?;
-            return Ok(Some(product));
+            combined(Sum::number(alloc, 0), &left, right.constant)
         }
-        _ => return Ok(None),
+        _ => Ok(None),
     }
+}
+
+/// A sum and so many times another.
+fn combined<'a>(
+    mut sum: Sum<'a>,
+    other: &Sum<'a>,
+    times: i128,
+) -> Result<Option<Sum<'a>>, AllocError> {
+    sum.add(other, times)?;
     Ok(Some(sum))
 }
 

@@ -5,7 +5,7 @@ use crate::keep::names_own;
 use crate::sum::Sum;
 use lists::Name;
 use std::alloc::{AllocError, Global};
-use syntax::{Address, Block, Function, Zone};
+use syntax::{Address, Block, Form, Function, Zone};
 
 /// A zone that is pending of a region.
 #[derive(Clone, Copy)]
@@ -28,6 +28,19 @@ fn is_same_object(one: &Address, other: &Address) -> bool {
     is_register == is_other_register && one.is_same(other)
 }
 
+/// Whether two forms are the same number whatever the registers hold.
+fn are_same(alloc: Global, one: &Form, other: &Form) -> Result<bool, AllocError> {
+    let one = Sum::of_form(alloc, one)?;
+    let other = Sum::of_form(alloc, other)?;
+    one.is_same(&other)
+}
+
+/// Whether a form names a register that the block defines.
+fn form_names_own(alloc: Global, block: &Block, form: &Form) -> Result<bool, AllocError> {
+    let sum = Sum::of_form(alloc, form)?;
+    names_own(block, &sum)
+}
+
 impl<'a> Handed<'a> {
     /// Whether the block itself says what is pending of the region's object.
     fn is_told(self, block: &Block) -> bool {
@@ -46,16 +59,16 @@ impl<'a> Handed<'a> {
             self.region == other.region
                 && one.mode == two.mode
                 && is_same_object(&one.object, &two.object)
-                && Sum::of_form(alloc, &one.low)?.is_same(&Sum::of_form(alloc, &two.low)?)?
-                && Sum::of_form(alloc, &one.high)?.is_same(&Sum::of_form(alloc, &two.high)?)?,
+                && are_same(alloc, &one.low, &two.low)?
+                && are_same(alloc, &one.high, &two.high)?,
         )
     }
 
     /// Whether an end of the zone names a register that the block defines.
     fn is_renamed(self, alloc: Global, block: &Block) -> Result<bool, AllocError> {
         Ok(
-            names_own(block, &Sum::of_form(alloc, &self.zone.low)?)?
-                || names_own(block, &Sum::of_form(alloc, &self.zone.high)?)?,
+            form_names_own(alloc, block, &self.zone.low)?
+                || form_names_own(alloc, block, &self.zone.high)?,
         )
     }
 }

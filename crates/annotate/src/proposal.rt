@@ -11,7 +11,7 @@ use ir_text::read;
 use refusal::Refused;
 use std::alloc::{AllocError, Global};
 use std::hash::RandomState;
-use syntax::{Block, Function};
+use syntax::{Block, Function, Module};
 
 /// The lines of one word that may stand at one place.
 const MOST_LINES: usize = 32;
@@ -120,25 +120,44 @@ impl<'a> Draft<'a> {
 
     fn add_function(&mut self, function: &'a Function) -> Result<(), AllocError> {
         let world = self.world(function)?;
-        let waiting = waiting_of(self.alloc, function, world.edges.as_slice())?;
-        let needs = needs_of(&world)?;
+        self.add_lines(&world)
+    }
+
+    fn add_lines(&mut self, world: &World<'a>) -> Result<(), AllocError> {
+        let needs = needs_of(world)?;
         if let Some(entry) = needs.as_slice().first() {
-            self.add_budget(function, entry)?;
+            self.add_budget(world.function, entry)?;
         }
-        for (index, block) in function.blocks.as_slice().iter().enumerate() {
-            let lines = self.block_lines(&world.known, &waiting, &needs, index, block)?;
+        let waiting = waiting_of(self.alloc, world.function, world.edges.as_slice())?;
+        self.add_heads(world, &waiting, needs.as_slice())
+    }
+
+    /// Proposes the lines for the heads of the blocks.
+    fn add_heads(
+        &mut self,
+        world: &World<'a>,
+        waiting: &Waiting<'a>,
+        needs: &[Option<Need<'a>>],
+    ) -> Result<(), AllocError> {
+        for (index, block) in world.function.blocks.as_slice().iter().enumerate() {
+            let lines = self.block_lines(&world.known, waiting, needs, index, block)?;
             self.propose(block.line, lines)?;
         }
         Ok(())
     }
 
-    fn world(&self, function: &'a Function) -> Result<World<'a>, AllocError> {
-        let edges = edges_of(self.alloc, function)?;
-        let known = known_of(self.alloc, function, edges.as_slice())?;
+    fn copied_costs(&self) -> Result<Vec<(&'a str, u128)>, AllocError> {
         let mut costs = Vec::new(self.alloc);
         for cost in &self.costs {
             costs.push(*cost)?;
         }
+        Ok(costs)
+    }
+
+    fn world(&self, function: &'a Function) -> Result<World<'a>, AllocError> {
+        let costs = self.copied_costs()?;
+        let edges = edges_of(self.alloc, function)?;
+        let known = known_of(self.alloc, function, edges.as_slice())?;
         Ok(World {
             alloc: self.alloc,
             function,
@@ -153,7 +172,7 @@ impl<'a> Draft<'a> {
         &self,
         known: &Known<'a>,
         waiting: &Waiting<'a>,
-        needs: &Vec<Option<Need<'a>>>,
+        needs: &[Option<Need<'a>>],
         index: usize,
         block: &Block,
     ) -> Result<String, AllocError> {
@@ -164,7 +183,7 @@ impl<'a> Draft<'a> {
         if let Some(handed) = waiting.handed.as_slice().get(index) {
             push_pending(&mut lines, handed.as_slice(), block)?;
         }
-        if let Some(Some(need)) = needs.as_slice().get(index) {
+        if let Some(Some(need)) = needs.get(index) {
             push_left(&mut lines, block, need)?;
         }
         Ok(lines)
@@ -190,14 +209,8 @@ impl<'a> Draft<'a> {
     }
 }
 
-/// A module's text with lines put in that follow from others; none is changed or taken away, and a last line without an end gets one. The
-/// names of the text are hashed with `state`.
-///
-/// # Errors
-///
-/// The first fault of the text, from 101 to 107, at its line; or memory was refused.
-pub fn annotated(alloc: Global, state: RandomState, text: &[u8]) -> Result<String, Refused> {
-    let module = read(alloc, state, text)?;
+/// The module's text with the lines put in.
+fn with_lines(alloc: Global, module: &Module, text: &str) -> Result<String, AllocError> {
     let mut draft = Draft {
         alloc,
         proposals: Vec::new(alloc),
@@ -206,5 +219,16 @@ pub fn annotated(alloc: Global, state: RandomState, text: &[u8]) -> Result<Strin
     for function in module.functions.as_slice() {
         draft.add_function(function)?;
     }
-    Ok(draft.put_in(str::from_utf8(text).unwrap_or(""))?)
+    draft.put_in(text)
+}
+
+/// A module's text with lines put in that follow from others; none is changed or taken away, and a last line without an end gets one. The
+/// names of the text are hashed with `state`.
+///
+/// # Errors
+///
+/// The first fault of the text, from 101 to 107, at its line; or memory was refused.
+pub fn annotated(alloc: Global, state: RandomState, text: &[u8]) -> Result<String, Refused> {
+    let module = read(alloc, state, text)?;
+    Ok(with_lines(alloc, &module, str::from_utf8(text).unwrap_or(""))?)
 }

@@ -12,6 +12,7 @@ use program::Program;
 use ranges::sum_form;
 use refusal::Refused;
 use std::alloc::Global;
+use syntax::Module;
 use verifier::verify;
 
 /// How many annotations are tried: each asks the verifier once.
@@ -21,7 +22,10 @@ const MOST_TRIED: usize = 1_000;
 fn is_unneeded(alloc: Global, source: Source<'_>, number: u32) -> Result<bool, OutOfMemory> {
     let without = with_line_at(alloc, source.text, number, "")?;
     match verify(alloc, source.state, without.as_bytes()) {
-        Ok(_) => Ok(true),
+        Ok(verified) => {
+            drop(verified);
+            Ok(true)
+        }
         Err(Refused::Fault { .. }) => Ok(false),
         Err(Refused::Memory) => Err(OutOfMemory),
     }
@@ -78,6 +82,20 @@ fn push_budget(alloc: Global, scene: &Scene<'_>, out: &mut String) -> Result<(),
     Ok(())
 }
 
+fn push_budgets(
+    alloc: Global,
+    program: &Program,
+    whole: &Module,
+    out: &mut String,
+) -> Result<(), OutOfMemory> {
+    for index in 0..program.functions.len() {
+        if let Some(scene) = Scene::of(alloc, program, whole, index)? {
+            push_budget(alloc, &scene, out)?;
+        }
+    }
+    Ok(())
+}
+
 /// What each function's budget has left over, and the annotations that are not needed.
 pub fn remarks(
     alloc: Global,
@@ -85,15 +103,10 @@ pub fn remarks(
     program: &Program,
 ) -> Result<String, OutOfMemory> {
     let mut out = String::new(alloc);
-    let whole = match read(alloc, source.state, source.text.as_bytes()) {
-        Ok(whole) => whole,
+    match read(alloc, source.state, source.text.as_bytes()) {
+        Ok(whole) => push_budgets(alloc, program, &whole, &mut out)?,
         Err(Refused::Fault { .. }) => return Ok(out),
         Err(Refused::Memory) => return Err(OutOfMemory),
-    };
-    for index in 0..program.functions.len() {
-        if let Some(scene) = Scene::of(alloc, program, &whole, index)? {
-            push_budget(alloc, &scene, &mut out)?;
-        }
     }
     push_unneeded(alloc, source, &mut out)?;
     Ok(out)

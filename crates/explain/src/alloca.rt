@@ -3,7 +3,7 @@
 use crate::lines::with_line_before;
 use crate::report::Source;
 use crate::scene::Scene;
-use crate::trial::match_text;
+use crate::trial::{Matched, match_text};
 use footprints::address_cell;
 use lists::OutOfMemory;
 use program::{Address, AllocaId, Argument, Block, Instruction, ObjectName, Step};
@@ -51,7 +51,10 @@ fn is_better(
 ) -> Result<bool, OutOfMemory> {
     let changed = with_line_before(alloc, source.text, after.saturating_add(1), new)?;
     match verify(alloc, source.state, changed.as_bytes()) {
-        Ok(_) => Ok(true),
+        Ok(verified) => {
+            drop(verified);
+            Ok(true)
+        }
         Err(Refused::Fault { number, line: at }) => {
             Ok(number > 402 || (number == 402 && at > line.saturating_add(1)))
         }
@@ -149,17 +152,28 @@ fn push_scene_notes(
     Ok(())
 }
 
+fn push_program_notes(
+    alloc: Global,
+    source: Source<'_>,
+    matched: &Matched,
+    line: u32,
+    notes: &mut String,
+) -> Result<(), OutOfMemory> {
+    let program = &matched.graph.typed.program;
+    for index in 0..program.functions.len() {
+        if let Some(scene) = Scene::of(alloc, program, &matched.whole, index)? {
+            push_scene_notes(alloc, source, &scene, line, notes)?;
+        }
+    }
+    Ok(())
+}
+
 /// What there is to say of a line that reads cells without values.
 pub fn alloca_notes(alloc: Global, source: Source<'_>, line: u32) -> Result<String, OutOfMemory> {
     let mut notes = String::new(alloc);
     let Some(whole) = match_text(alloc, source.state, source.text.as_bytes(), false)? else {
         return Ok(notes);
     };
-    let program = &whole.graph.typed.program;
-    for index in 0..program.functions.len() {
-        if let Some(scene) = Scene::of(alloc, program, &whole.whole, index)? {
-            push_scene_notes(alloc, source, &scene, line, &mut notes)?;
-        }
-    }
+    push_program_notes(alloc, source, &whole, line, &mut notes)?;
     Ok(notes)
 }

@@ -1,7 +1,7 @@
 //! Faults of costs, each with both sides and the difference.
 
 use crate::known::{Known, fact_lines, start_lines};
-use crate::report::{Finding, Source, push_finding};
+use crate::report::{Finding, push_finding};
 use crate::scene::Scene;
 use crate::spelling::push_form;
 use crate::trial::Matched;
@@ -9,7 +9,10 @@ use cfg::Move;
 use cost_table::{Table, Work, make_table, work_of};
 use linear::{Fact, Form, side_of};
 use lists::{OutOfMemory, Seq};
-use program::{Block, BlockId, Ending, Function, Instruction, Left, Step, Terminator};
+use program::{
+    Argument, Block, BlockId, Budget, Ending, Function, Instruction, Left, Measure, Step,
+    Terminator,
+};
 use ranges::{
     BlockFacts, EdgeFacts, Sum, argument_moves, block_facts, push_parts, shows, start_facts, stated,
 };
@@ -108,10 +111,9 @@ fn put_in(alloc: Global, moves: &[Move], form: &Form) -> Result<Sum, OutOfMemory
 }
 
 /// A sum, less another.
-fn less_sum(alloc: Global, left: Sum, right: &Sum) -> Result<Sum, OutOfMemory> {
+fn less_sum(left: Sum, right: &Sum) -> Result<Sum, OutOfMemory> {
     let Sum { constant, parts } = left;
     let mut parts = parts.into_vec();
-    let _ = alloc;
     for part in right.parts.as_slice() {
         parts.push(ranges::Part {
             factor: 0i64.saturating_sub(part.factor),
@@ -136,7 +138,7 @@ impl Doing<'_> {
         let mut rest = less_number(alloc, counted.of_left(self.left), done)?;
         for share in shares {
             let next = put_in(alloc, share.moves, counted.of_left(share.left))?;
-            rest = less_sum(alloc, rest, &next)?;
+            rest = less_sum(rest, &next)?;
         }
         Ok(rest)
     }
@@ -303,11 +305,20 @@ fn push_start(
     findings: &mut Vec<Finding>,
 ) -> Result<(), OutOfMemory> {
     let mut notes = String::new(alloc);
-    let calls = put_in(alloc, &[], &left.self_calls)?;
-    push_sum(alloc, known, "self calls left", &calls, &mut notes)?;
-    let instructions = put_in(alloc, &[], &left.instructions)?;
-    push_sum(alloc, known, "instructions left", &instructions, &mut notes)?;
+    push_left_notes(alloc, known, left, &mut notes)?;
     push_if_any(findings, 701, left.line, notes)
+}
+
+fn push_left_notes(
+    alloc: Global,
+    known: Known<'_>,
+    left: &Left,
+    notes: &mut String,
+) -> Result<(), OutOfMemory> {
+    let calls = put_in(alloc, &[], &left.self_calls)?;
+    push_sum(alloc, known, "self calls left", &calls, notes)?;
+    let instructions = put_in(alloc, &[], &left.instructions)?;
+    push_sum(alloc, known, "instructions left", &instructions, notes)
 }
 
 /// 703 of a self call.
@@ -328,27 +339,30 @@ fn push_call(
     if callee.0 != known.scene.index {
         return Ok(());
     }
-    let form = &known.scene.function.measure.form;
-    let moves = argument_moves(alloc, arguments.as_slice())?;
-    let next = put_in(alloc, moves.as_slice(), form)?;
     let mut notes = String::new(alloc);
+    push_call_notes(alloc, known, arguments.as_slice(), &mut notes)?;
+    push_if_any(findings, 703, step.line, notes)
+}
+
+/// What is not shown of the measure that a self call has.
+fn push_call_notes(
+    alloc: Global,
+    known: Known<'_>,
+    arguments: &[Argument],
+    notes: &mut String,
+) -> Result<(), OutOfMemory> {
+    let form = &known.scene.function.measure.form;
+    let moves = argument_moves(alloc, arguments)?;
+    let next = put_in(alloc, moves.as_slice(), form)?;
     push_sum(
         alloc,
         known,
         "the call's measure is at least 0",
         &next,
-        &mut notes,
+        notes,
     )?;
-    let own = less_number(alloc, form, 1)?;
-    let falls = less_sum(alloc, own, &next)?;
-    push_sum(
-        alloc,
-        known,
-        "it is below the measure here",
-        &falls,
-        &mut notes,
-    )?;
-    push_if_any(findings, 703, step.line, notes)
+    let falls = less_sum(less_number(alloc, form, 1)?, &next)?;
+    push_sum(alloc, known, "it is below the measure here", &falls, notes)
 }
 
 /// 703 and 704 at a function's head.
@@ -381,17 +395,26 @@ fn push_measure(
 ) -> Result<(), OutOfMemory> {
     let measure = &known.scene.function.measure;
     let mut notes = String::new(alloc);
+    push_measure_notes(alloc, known, measure, &mut notes)?;
+    push_if_any(findings, 703, measure.line, notes)
+}
+
+fn push_measure_notes(
+    alloc: Global,
+    known: Known<'_>,
+    measure: &Measure,
+    notes: &mut String,
+) -> Result<(), OutOfMemory> {
     let low = put_in(alloc, &[], &measure.form)?;
-    push_sum(alloc, known, "the measure is at least 0", &low, &mut notes)?;
+    push_sum(alloc, known, "the measure is at least 0", &low, notes)?;
     let high = number_less(alloc, i128::from(measure.bound), &[], &measure.form)?;
     push_sum(
         alloc,
         known,
         "the measure is at most its bound",
         &high,
-        &mut notes,
-    )?;
-    push_if_any(findings, 703, measure.line, notes)
+        notes,
+    )
 }
 
 fn push_budget(
@@ -402,14 +425,20 @@ fn push_budget(
 ) -> Result<(), OutOfMemory> {
     let budget = &known.scene.function.budget;
     let mut notes = String::new(alloc);
-    let calls = number_less(alloc, i128::from(budget.self_calls), &[], &left.self_calls)?;
-    push_sum(
-        alloc,
-        known,
-        "self calls left at the entry",
-        &calls,
-        &mut notes,
-    )?;
+    push_budget_notes(alloc, known, budget, left, &mut notes)?;
+    push_if_any(findings, 704, budget.line, notes)
+}
+
+fn push_budget_notes(
+    alloc: Global,
+    known: Known<'_>,
+    budget: &Budget,
+    left: &Left,
+    notes: &mut String,
+) -> Result<(), OutOfMemory> {
+    let number = i128::from(budget.self_calls);
+    let calls = number_less(alloc, number, &[], &left.self_calls)?;
+    push_sum(alloc, known, "self calls left at the entry", &calls, notes)?;
     let number = i128::from(budget.instructions);
     let instructions = number_less(alloc, number, &[], &left.instructions)?;
     push_sum(
@@ -417,9 +446,8 @@ fn push_budget(
         known,
         "instructions left at the entry",
         &instructions,
-        &mut notes,
-    )?;
-    push_if_any(findings, 704, budget.line, notes)
+        notes,
+    )
 }
 
 /// 705 of a function.
@@ -461,21 +489,33 @@ fn push_block<'a>(
         stated: start.len(),
         line: block.line,
     };
+    push_known_block(alloc, known, block, &table, findings)
+}
+
+/// Adds the faults inside a block, of which `known` says what is known at its start.
+fn push_known_block(
+    alloc: Global,
+    known: Known<'_>,
+    block: &Block,
+    table: &BlockFacts,
+    findings: &mut Vec<Finding>,
+) -> Result<(), OutOfMemory> {
     push_start(alloc, known, &block.left, findings)?;
-    push_steps(alloc, known, block, &table, findings)?;
-    if let Some(ending) = &block.ending {
-        let doing = Doing {
-            known: Known {
-                facts: table.facts.as_slice(),
-                line: ending.line,
-                ..known
-            },
-            left: &block.left,
-            work: work_of(scene.program.functions.as_slice(), scene.index, block),
-        };
-        push_ending(alloc, doing, ending, table.edges.as_slice(), findings)?;
-    }
-    Ok(())
+    push_steps(alloc, known, block, table, findings)?;
+    let Some(ending) = &block.ending else {
+        return Ok(());
+    };
+    let functions = known.scene.program.functions.as_slice();
+    let doing = Doing {
+        known: Known {
+            facts: table.facts.as_slice(),
+            line: ending.line,
+            ..known
+        },
+        left: &block.left,
+        work: work_of(functions, known.scene.index, block),
+    };
+    push_ending(alloc, doing, ending, table.edges.as_slice(), findings)
 }
 
 fn push_steps(
@@ -512,11 +552,7 @@ fn push_function(
 }
 
 /// All faults of costs of a text whose numbers and zones are right.
-pub fn cost_findings(
-    alloc: Global,
-    _source: Source<'_>,
-    matched: &Matched,
-) -> Result<Vec<Finding>, OutOfMemory> {
+pub fn cost_findings(alloc: Global, matched: &Matched) -> Result<Vec<Finding>, OutOfMemory> {
     let program = &matched.graph.typed.program;
     let table = make_table(alloc, program, &matched.regions)?;
     let mut findings: Vec<Finding> = Vec::new(alloc);

@@ -28,7 +28,7 @@ fn program_findings(
     } else if number < 700 {
         zone_findings(alloc, source, &whole)
     } else {
-        cost_findings(alloc, source, &whole)
+        cost_findings(alloc, &whole)
     }
 }
 

@@ -24,6 +24,18 @@ fn is_old(unmet: &Unmet, old: &[Unmet], added: u32) -> bool {
     old.iter().any(|other| other.site.line == line && other.number == unmet.number)
 }
 
+/// What another text owes of its numbers, where the phases before take it.
+fn unmet_of(
+    alloc: Global,
+    source: Source<'_>,
+    text: &str,
+) -> Result<Option<Vec<Unmet>>, OutOfMemory> {
+    match match_text(alloc, source.state, text.as_bytes(), true)? {
+        Some(matched) => Ok(Some(all_unmet(alloc, &matched)?)),
+        None => Ok(None),
+    }
+}
+
 /// Whether the text with this line before that one has no fault of numbers that it did not have, and fewer of them.
 fn is_better(
     alloc: Global,
@@ -33,11 +45,12 @@ fn is_better(
     before: u32,
 ) -> Result<bool, OutOfMemory> {
     let changed = with_line_before(alloc, source.text, before, line)?;
-    let Some(matched) = match_text(alloc, source.state, changed.as_bytes(), true)? else {
-        return Ok(false);
-    };
-    let new = all_unmet(alloc, &matched)?;
-    Ok(new.len() < old.len() && new.iter().all(|unmet| is_old(unmet, old, before)))
+    match unmet_of(alloc, source, changed.as_str())? {
+        Some(new) => Ok(
+            new.len() < old.len() && new.iter().all(|unmet| is_old(unmet, old, before)),
+        ),
+        None => Ok(false),
+    }
 }
 
 /// A `keeps` line of the block, or a `requires` line of its function, with which the form is shown and nothing new is owed.

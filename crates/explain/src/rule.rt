@@ -67,23 +67,17 @@ fn push_line(out: &mut String, text: &str, number: u32) -> Result<(), OutOfMemor
     Ok(())
 }
 
-/// What a rule means, and after the notes how to mend it.
-fn push_finding_text(
-    alloc: Global,
-    out: &mut String,
-    text: &str,
-    finding: &Finding,
-) -> Result<(), OutOfMemory> {
-    let number = finding.number;
-    push_line(out, text, finding.line)?;
+fn push_meanings(out: &mut String, number: u16) -> Result<(), OutOfMemory> {
     for line in RULES.lines() {
         if let Some(row) = row_of(line, number) {
             let means = row.means;
             writeln!(out, "  {number}: {means}")?;
         }
     }
-    let _ = alloc;
-    out.push_str(finding.notes.as_str())?;
+    Ok(())
+}
+
+fn push_mends(out: &mut String, number: u16) -> Result<(), OutOfMemory> {
     for line in RULES.lines() {
         if let Some(row) = row_of(line, number) {
             let mend = row.mend;
@@ -91,6 +85,14 @@ fn push_finding_text(
         }
     }
     Ok(())
+}
+
+/// What a rule means, and after the notes how to mend it.
+fn push_finding_text(out: &mut String, text: &str, finding: &Finding) -> Result<(), OutOfMemory> {
+    push_line(out, text, finding.line)?;
+    push_meanings(out, finding.number)?;
+    out.push_str(finding.notes.as_str())?;
+    push_mends(out, finding.number)
 }
 
 /// An explanation of a text as it is printed. What it begins with is what `verify` prints of a refused module.
@@ -104,10 +106,10 @@ pub fn told(alloc: Global, text: &[u8], explanation: &Explanation) -> Result<Str
         }
         Explanation::Refused { first, others } => {
             writeln!(out, "refused {} line {}", first.number, first.line)?;
-            push_finding_text(alloc, &mut out, text, first)?;
+            push_finding_text(&mut out, text, first)?;
             for other in others.as_slice() {
                 writeln!(out, "also {} line {}", other.number, other.line)?;
-                push_finding_text(alloc, &mut out, text, other)?;
+                push_finding_text(&mut out, text, other)?;
             }
         }
     }

@@ -129,12 +129,19 @@ pub fn push_inequality(
         constant: if negative { 0 } else { side.constant },
     };
     if low.parts.is_empty() {
-        high.push_to(out)?;
-        out.push_str(" >= ")?;
-        low.push_to(out)
+        push_both(&high, " >= ", &low, out)
     } else {
-        low.push_to(out)?;
-        out.push_str(" <= ")?;
-        high.push_to(out)
+        push_both(&low, " <= ", &high, out)
     }
+}
+
+fn push_both(
+    left: &Spelled<'_>,
+    relation: &str,
+    right: &Spelled<'_>,
+    out: &mut String,
+) -> Result<(), OutOfMemory> {
+    left.push_to(out)?;
+    out.push_str(relation)?;
+    right.push_to(out)
 }

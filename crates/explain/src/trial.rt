@@ -25,16 +25,14 @@ fn judged(
     text: &[u8],
     is_defined: bool,
 ) -> Result<Matched, Refused> {
-    let whole = read(alloc, state, text)?;
-    let again = read(alloc, state, text)?;
-    let typed = check_types(alloc, state, again)?;
+    let typed = check_types(alloc, state, read(alloc, state, text)?)?;
     let graph = graph(alloc, typed)?;
     let regions = regions(alloc, &graph)?;
     if is_defined {
         defined(alloc, &graph, &regions)?;
     }
     Ok(Matched {
-        whole,
+        whole: read(alloc, state, text)?,
         graph,
         regions,
     })

@@ -50,11 +50,11 @@ struct Row<'a> {
 /// The fault of a line by itself.
 fn fault_of(alloc: Global, row: Row<'_>) -> Result<Option<u16>, OutOfMemory> {
     match read_line(alloc, row.text.as_bytes(), row.number) {
-        Ok(Some(line)) => Ok(if line.is_within_limits {
-            None
-        } else {
-            Some(104)
-        }),
+        Ok(Some(line)) => {
+            let is_within_limits = line.is_within_limits;
+            drop(line);
+            Ok(if is_within_limits { None } else { Some(104) })
+        }
         Ok(None) => Ok(None),
         Err(Refused::Fault { number, .. }) => Ok(Some(number)),
         Err(Refused::Memory) => Err(OutOfMemory),
@@ -249,7 +249,10 @@ fn may_stand(
 ) -> Result<bool, OutOfMemory> {
     let text = format!(in alloc; "{before}{line}\n")?;
     match read(alloc, source.state, text.as_bytes()) {
-        Ok(_) => Ok(true),
+        Ok(whole) => {
+            drop(whole);
+            Ok(true)
+        }
         Err(
             Refused::Fault {
                 number: rule,

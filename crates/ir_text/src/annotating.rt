@@ -25,18 +25,16 @@ pub struct BlockHead {
 fn with_zone(mut function: Function, zone: Zone) -> Result<Function, OutOfMemory>
     ensures { IfOk result (λ f. f ≡ with_zone function zone) }
 {
-    match zone.mode {
-        Mode::Reads => {
-            function.notes.reads.push(zone)?;
-            Ok(function)
-        }
-        Mode::Writes => {
-            function.notes.writes.push(zone)?;
-            Ok(function)
-        }
-        Mode::Adds => {
-            function.notes.adds.push(zone)?;
-            Ok(function)
+    let pushed = match zone.mode {
+        Mode::Reads => function.notes.reads.push(zone),
+        Mode::Writes => function.notes.writes.push(zone),
+        Mode::Adds => function.notes.adds.push(zone),
+    };
+    match pushed {
+        Ok(()) => Ok(function),
+        Err(refused) => {
+            drop(function);
+            Err(refused.into())
         }
     }
 }
@@ -44,15 +42,25 @@ fn with_zone(mut function: Function, zone: Zone) -> Result<Function, OutOfMemory
 fn with_requirement(mut function: Function, inequality: Inequality) -> Result<Function, OutOfMemory>
     ensures { IfOk result (λ f. f ≡ with_requirement function inequality) }
 {
-    function.notes.requirements.push(inequality)?;
-    Ok(function)
+    match function.notes.requirements.push(inequality) {
+        Ok(()) => Ok(function),
+        Err(refused) => {
+            drop(function);
+            Err(refused.into())
+        }
+    }
 }
 
 fn with_guarantee(mut function: Function, inequality: Inequality) -> Result<Function, OutOfMemory>
     ensures { IfOk result (λ f. f ≡ with_guarantee function inequality) }
 {
-    function.notes.guarantees.push(inequality)?;
-    Ok(function)
+    match function.notes.guarantees.push(inequality) {
+        Ok(()) => Ok(function),
+        Err(refused) => {
+            drop(function);
+            Err(refused.into())
+        }
+    }
 }
 
 fn with_measure(mut function: Function, measure: Measure) -> Function
@@ -118,22 +126,37 @@ pub fn annotated_function(
 fn with_keeps(mut block: Block, inequality: Inequality) -> Result<Block, OutOfMemory>
     ensures { IfOk result (λ b. b ≡ with_keeps block inequality) }
 {
-    block.notes.keeps.push(inequality)?;
-    Ok(block)
+    match block.notes.keeps.push(inequality) {
+        Ok(()) => Ok(block),
+        Err(refused) => {
+            drop(block);
+            Err(refused.into())
+        }
+    }
 }
 
 fn with_pending(mut block: Block, pending: Pending) -> Result<Block, OutOfMemory>
     ensures { IfOk result (λ b. b ≡ with_pending block pending) }
 {
-    block.notes.pending.push(pending)?;
-    Ok(block)
+    match block.notes.pending.push(pending) {
+        Ok(()) => Ok(block),
+        Err(refused) => {
+            drop(block);
+            Err(refused.into())
+        }
+    }
 }
 
 fn with_foot(mut block: Block, zone: Zone) -> Result<Block, OutOfMemory>
     ensures { IfOk result (λ b. b ≡ with_foot block zone) }
 {
-    block.notes.foot.push(zone)?;
-    Ok(block)
+    match block.notes.foot.push(zone) {
+        Ok(()) => Ok(block),
+        Err(refused) => {
+            drop(block);
+            Err(refused.into())
+        }
+    }
 }
 
 fn with_left(mut block: Block, left: Left) -> Block

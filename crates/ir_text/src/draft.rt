@@ -1,6 +1,9 @@
 //! A module of which the first lines have been read, and which item may stand behind them.
+//!
+//! Where memory is refused all parts are let go by one call: a proof follows each drop by itself.
 
 ghost use Rattle.std.specs.Prelude.{◌≡◌, IfOk, []};
+ghost use Rattle.ir_annotation.specs.declared.meaning.Annotation.TheVariants.{Shows};
 ghost use Rattle.ir_text.specs.Annotating.{annotated_function, annotated_block};
 ghost use Rattle.ir_text.specs.Draft.{placed, placed_outside, placed_at_function, placed_in_function_head, placed_at_block, annotated_in_block_head, placed_in_block_head, placed_in_phis, annotated_in_body, placed_behind, placed_in_body, placed_in_ended, new_place};
 
@@ -95,12 +98,19 @@ fn annotate_function(
 ) -> Result<Option<Draft>, OutOfMemory>
     ensures { IfOk result (λ d. d ≡ placed_at_function whole (annotated_function head annotation)) }
 {
-    match annotated_function(head, annotation)? {
-        None => Ok(None),
-        Some(head) => Ok(Some(Draft {
+    match annotated_function(head, annotation) {
+        Ok(Some(head)) => Ok(Some(Draft {
             whole,
             place: Place::FunctionHead(head),
         })),
+        Ok(None) => {
+            drop(whole);
+            Ok(None)
+        }
+        Err(OutOfMemory) => {
+            drop(whole);
+            Err(OutOfMemory)
+        }
     }
 }
 
@@ -136,12 +146,41 @@ fn annotate_block(
 ) -> Result<Option<Draft>, OutOfMemory>
     ensures { IfOk result (λ d. d ≡ placed_at_block whole function (annotated_block head annotation)) }
 {
-    match annotated_block(head, annotation)? {
-        None => Ok(None),
-        Some(head) => Ok(Some(Draft {
+    match annotated_block(head, annotation) {
+        Ok(Some(head)) => Ok(Some(Draft {
             whole,
             place: Place::BlockHead(function, head),
         })),
+        Ok(None) => {
+            drop((whole, function));
+            Ok(None)
+        }
+        Err(OutOfMemory) => {
+            drop((whole, function));
+            Err(OutOfMemory)
+        }
+    }
+}
+
+/// A `shows` line more, behind which its instruction is waited for.
+fn with_shows(
+    whole: Module,
+    function: Function,
+    block: Block,
+    mut shows: Seq<Inequality>,
+    inequality: Inequality,
+) -> Result<Option<Draft>, OutOfMemory>
+    ensures { IfOk result (λ d. d ≡ annotated_in_body whole function block shows (Shows inequality)) }
+{
+    match shows.push(inequality) {
+        Ok(()) => Ok(Some(Draft {
+            whole,
+            place: Place::Body(function, block, shows),
+        })),
+        Err(refused) => {
+            drop((whole, function, block, shows));
+            Err(refused.into())
+        }
     }
 }
 
@@ -156,12 +195,7 @@ fn annotate_in_block_head(
 {
     match annotation {
         Annotation::Shows(inequality) => {
-            let mut shows = Seq::new(alloc);
-            shows.push(inequality)?;
-            Ok(Some(Draft {
-                whole,
-                place: Place::Body(function, head.block, shows),
-            }))
+            with_shows(whole, function, head.block, Seq::new(alloc), inequality)
         }
         annotation => annotate_block(whole, function, head, annotation),
     }
@@ -177,14 +211,7 @@ fn annotate_in_body(
     ensures { IfOk result (λ d. d ≡ annotated_in_body whole function block shows annotation) }
 {
     match annotation {
-        Annotation::Shows(inequality) => {
-            let mut shows = shows;
-            shows.push(inequality)?;
-            Ok(Some(Draft {
-                whole,
-                place: Place::Body(function, block, shows),
-            }))
-        }
+        Annotation::Shows(inequality) => with_shows(whole, function, block, shows, inequality),
         other => {
             drop(other);
             drop((whole, function, block, shows));
@@ -204,20 +231,26 @@ fn put_in_ended(
     ensures { IfOk result (λ d. d ≡ placed_in_ended whole function block line item) }
 {
     match item {
-        Item::Label(label) => {
-            let function = with_block(function, block)?;
-            Ok(Some(Draft {
+        Item::Label(label) => match with_block(function, block) {
+            Ok(function) => Ok(Some(Draft {
                 whole,
                 place: new_place(alloc, function, line, label),
-            }))
-        }
-        Item::Close => {
-            let function = with_block(function, block)?;
-            Ok(Some(Draft {
+            })),
+            Err(OutOfMemory) => {
+                drop((whole, label));
+                Err(OutOfMemory)
+            }
+        },
+        Item::Close => match with_block(function, block) {
+            Ok(function) => Ok(Some(Draft {
                 whole: with_function(whole, function)?,
                 place: Place::Outside,
-            }))
-        }
+            })),
+            Err(OutOfMemory) => {
+                drop(whole);
+                Err(OutOfMemory)
+            }
+        },
         other => {
             drop(other);
             drop((whole, function, block));
@@ -263,14 +296,16 @@ fn put_in_body(
         Item::Annotation(annotation) => {
             annotate_in_body(whole, function, block, shows, annotation)
         }
-        Item::Instruction(instruction) => Ok(Some(Draft {
-            whole,
-            place: Place::Body(
-                function,
-                with_step(block, line, shows, instruction)?,
-                Seq::new(alloc),
-            ),
-        })),
+        Item::Instruction(instruction) => match with_step(block, line, shows, instruction) {
+            Ok(block) => Ok(Some(Draft {
+                whole,
+                place: Place::Body(function, block, Seq::new(alloc)),
+            })),
+            Err(OutOfMemory) => {
+                drop((whole, function));
+                Err(OutOfMemory)
+            }
+        },
         Item::Terminator(terminator) => Ok(Some(Draft {
             whole,
             place: Place::Ended(function, with_ending(block, line, shows, terminator)),
@@ -290,10 +325,16 @@ fn put_in_phis(
     ensures { IfOk result (λ d. d ≡ placed_in_phis whole function block line item) }
 {
     match item {
-        Item::Phi(phi) => Ok(Some(Draft {
-            whole,
-            place: Place::Phis(function, with_phi(block, phi)?),
-        })),
+        Item::Phi(phi) => match with_phi(block, phi) {
+            Ok(block) => Ok(Some(Draft {
+                whole,
+                place: Place::Phis(function, block),
+            })),
+            Err(OutOfMemory) => {
+                drop((whole, function));
+                Err(OutOfMemory)
+            }
+        },
         item => put_in_body(alloc, whole, function, block, Seq::new(alloc), line, item),
     }
 }

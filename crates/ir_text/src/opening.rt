@@ -84,29 +84,49 @@ pub fn new_block(alloc: Global, line: u32, label: Name) -> Block
 pub fn with_global(mut whole: Module, global: syntax::Global) -> Result<Module, OutOfMemory>
     ensures { IfOk result (λ m. m ≡ with_global whole global) }
 {
-    whole.globals.push(global)?;
-    Ok(whole)
+    match whole.globals.push(global) {
+        Ok(()) => Ok(whole),
+        Err(refused) => {
+            drop(whole);
+            Err(refused.into())
+        }
+    }
 }
 
 pub fn with_function(mut whole: Module, function: Function) -> Result<Module, OutOfMemory>
     ensures { IfOk result (λ m. m ≡ with_function whole function) }
 {
-    whole.functions.push(function)?;
-    Ok(whole)
+    match whole.functions.push(function) {
+        Ok(()) => Ok(whole),
+        Err(refused) => {
+            drop(whole);
+            Err(refused.into())
+        }
+    }
 }
 
 pub fn with_block(mut function: Function, block: Block) -> Result<Function, OutOfMemory>
     ensures { IfOk result (λ f. f ≡ with_block function block) }
 {
-    function.blocks.push(block)?;
-    Ok(function)
+    match function.blocks.push(block) {
+        Ok(()) => Ok(function),
+        Err(refused) => {
+            drop(function);
+            Err(refused.into())
+        }
+    }
 }
 
 pub fn with_phi(mut block: Block, phi: Phi) -> Result<Block, OutOfMemory>
     ensures { IfOk result (λ b. b ≡ with_phi block phi) }
 {
-    block.phis.push(phi)?;
-    Ok(block)
+    match block.phis.push(phi) {
+        Ok(()) => Ok(block),
+        Err(refused) => {
+            drop(block);
+            Err(refused.into())
+        }
+    }
 }
 
 pub fn with_step(
@@ -117,12 +137,18 @@ pub fn with_step(
 ) -> Result<Block, OutOfMemory>
     ensures { IfOk result (λ b. b ≡ with_step block line shows instruction) }
 {
-    block.steps.push(Step {
+    let step = Step {
         line,
         shows,
         instruction,
-    })?;
-    Ok(block)
+    };
+    match block.steps.push(step) {
+        Ok(()) => Ok(block),
+        Err(refused) => {
+            drop(block);
+            Err(refused.into())
+        }
+    }
 }
 
 pub fn with_ending(

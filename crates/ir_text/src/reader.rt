@@ -165,7 +165,9 @@ impl Reader {
     fn too_late(self, alloc: Global, number: u32, line: Line) -> Refused
         ensures { FaultTooLate self.draft number line result }
     {
-        match self.draft.put(alloc, number, line.item) {
+        let Reader { draft, scope, .. } = self;
+        drop(scope);
+        match draft.put(alloc, number, line.item) {
             Ok(Some(draft)) => {
                 drop(draft);
                 Refused::Fault {
@@ -206,7 +208,9 @@ impl Reader {
         ensures read { IfOk result (λ m. ended self.draft.whole self.draft.place number ≡ Ok m) }
         ensures fault { IfErr result (FaultEnded (ended self.draft.whole self.draft.place number)) }
     {
-        let Draft { whole, place } = self.draft;
+        let Reader { draft, scope, .. } = self;
+        drop(scope);
+        let Draft { whole, place } = draft;
         match place {
             Place::Outside => Ok(whole),
             other => {
