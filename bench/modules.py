@@ -62,6 +62,21 @@ def steps(count):
     out += [f";! shows %x{k - 1} >= 0\n;! shows %x{k - 1} <= {k + 9}\n%x{k} = add nsw i64 %x{k - 1}, 1\n" for k in range(1, count)]
     return "".join(out) + "ret i64 0\n}\n"
 
+def shown(count, form):
+    """So many `shows` lines in one block, 32 before each add."""
+    out = [f"define i64 @main(i64 %n, i64 %m) {{\n;! requires %n >= 0\n;! requires %m >= 0\n;! budget 0 {count // 32 + 2}\nentry:\n;! left 0 {count // 32 + 2}\n"]
+    for k in range(1, count + 1):
+        out.append(f";! shows {form(k)}\n" + (f"%x{k} = add i64 %n, 0\n" if k % 32 == 0 else ""))
+    return "".join(out) + "ret i64 0\n}\n"
+
+def weaker(count):
+    """Each line says less than the one before it of the same left side, of which there are two, one after the other."""
+    return shown(count, lambda k: f"%n+%m >= {-k}" if k % 2 else f"%n >= {-k}")
+
+def apart(count):
+    """Each line has a coefficient of its own, and the oldest fact alone shows it."""
+    return shown(count, lambda k: f"{k + 1}*%n >= {-k}")
+
 def pending(blocks):
     """A child that may run beside so many blocks, each with 32 `pending` lines."""
     out = ["@a = global [99 x i64] zeroinitializer\n"]

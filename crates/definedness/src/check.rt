@@ -1,4 +1,4 @@
-ghost use Rattle.std.specs.Prelude.{◌≡◌, ◌<◌, ◌↔◌, ℕ, true, length, All, IfOk, IfErr};
+ghost use Rattle.std.specs.Prelude.{◌≡◌, ◌<◌, ◌≤◌, ◌↔◌, ℕ, true, length, All, IfOk, IfErr};
 ghost use Rattle.cfg.specs.Edges.{graph_of};
 ghost use Rattle.refusal.specs.Earliest.{IsEarliest, NamesEarliest};
 ghost use Rattle.region_match.specs.Tasks.{AreTasks, AreAllTasks};
@@ -13,7 +13,7 @@ use crate::fork::all_forks;
 use crate::judge::table_fault;
 use crate::missing::missing_rows;
 use crate::registers::block_registers;
-use crate::table::{Given, Row, all_given, count_needed};
+use crate::table::{Given, Row, all_given, greatest_needed};
 use crate::unsure::unsure_rows;
 use cfg::{BlockEdges, Graph};
 use lists::Seq;
@@ -48,8 +48,8 @@ fn register_fault(
 {
     let table = all_registers(alloc, function)?;
     let all = all_given(alloc, &table)?;
-    let count = count_needed(&table)?;
-    let rows = missing_rows(alloc, blocks, &all, count)?;
+    let greatest = greatest_needed(&table);
+    let rows = missing_rows(alloc, blocks, &all, greatest)?;
     Ok(table_fault(alloc, &rows, 401, &table)?)
 }
 
@@ -75,15 +75,15 @@ fn alloca_rows(
     blocks: &[BlockEdges],
     tasks: &[Task],
     all: &[Given],
-    count: usize,
+    greatest: usize,
 ) -> Result<Vec<Row>, AllocError>
     requires tasks { AreTasks blocks.now tasks.now }
     requires size { length blocks.now ≡ length bodies.now }
-    ensures { IfOk result (λ rows. (n b : ℕ) → n < count → b < length blocks.now
+    ensures { IfOk result (λ rows. (n b : ℕ) → n ≤ greatest → b < length blocks.now
         → (mark_at rows.items n b ≡ true) ↔ IsNeverSure bodies.now blocks.now all.now n b) }
 {
     let forks = all_forks(alloc, bodies, blocks, tasks)?;
-    Ok(unsure_rows(alloc, bodies, blocks, &forks, all, count)?)
+    Ok(unsure_rows(alloc, bodies, blocks, &forks, all, greatest)?)
 }
 
 /// 402: what is named of the allocas of a function.
@@ -99,14 +99,14 @@ fn alloca_fault(
 {
     let table = all_allocas(alloc, function)?;
     let all = all_given(alloc, &table)?;
-    let count = count_needed(&table)?;
+    let greatest = greatest_needed(&table);
     let rows = alloca_rows(
         alloc,
         function.blocks.as_slice(),
         blocks,
         tasks,
         &all,
-        count,
+        greatest,
     )?;
     Ok(table_fault(alloc, &rows, 402, &table)?)
 }

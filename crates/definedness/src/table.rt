@@ -1,4 +1,4 @@
-ghost use Rattle.std.specs.Prelude.{◌≡◌, ◌<◌, ◌≤◌, ◌↔◌, ℕ, true, false, length, map, All, Contains, IsTrue, IfOk, slice_index_or};
+ghost use Rattle.std.specs.Prelude.{◌≡◌, ◌<◌, ◌≤◌, ◌↔◌, ℕ, suc, true, false, length, map, All, Contains, IsTrue, IfOk, slice_index_or};
 ghost use Rattle.definedness.specs.Needs.{gives, given_of, numbers_at, mark_at, IsNeedBelow, AreNeedsBelow};
 
 use crate::act::{Act, BlockActs};
@@ -72,39 +72,36 @@ pub fn giving(alloc: Global, all: &[Given], number: usize) -> Result<Vec<bool>, 
     Ok(marks)
 }
 
-/// A number above a least one and above what an act needs; none past the greatest number.
-fn above_act(act: &Act, least: usize) -> Result<usize, AllocError>
-    ensures least { IfOk result (λ r. least ≤ r) }
-    ensures need { IfOk result (λ r. IsNeedBelow r act.now) }
+/// The greater of a least number and what an act needs.
+fn needed(act: &Act, least: usize) -> usize
+    ensures least { least ≤ result }
+    ensures need { IsNeedBelow (suc result) act.now }
 {
     match act {
-        Act::Needs { number, .. } => match number.checked_add(1) {
-            Some(next) => Ok(next.max(least)),
-            None => Err(AllocError),
-        },
-        Act::Gives { .. } => Ok(least),
+        Act::Needs { number, .. } => least.max(*number),
+        Act::Gives { .. } => least,
     }
 }
 
-/// A number above a least one and above what acts need.
-fn above(acts: &[Act], least: usize) -> Result<usize, AllocError>
-    ensures least { IfOk result (λ r. least ≤ r) }
-    ensures needs { IfOk result (λ r. All (IsNeedBelow r) acts.now) }
+/// The greatest of a least number and what acts need.
+fn most_needed(acts: &[Act], least: usize) -> usize
+    ensures least { least ≤ result }
+    ensures needs { All (IsNeedBelow (suc result)) acts.now }
 {
-    let mut count = least;
+    let mut greatest = least;
     for act in acts {
-        count = above_act(act, count)?;
+        greatest = needed(act, greatest);
     }
-    Ok(count)
+    greatest
 }
 
-/// A number above all that are needed.
-pub fn count_needed(table: &[BlockActs]) -> Result<usize, AllocError>
-    ensures { IfOk result (λ r. AreNeedsBelow r table.now) }
+/// A number that no needed one is above.
+pub fn greatest_needed(table: &[BlockActs]) -> usize
+    ensures { AreNeedsBelow (suc result) table.now }
 {
-    let mut count = 0;
+    let mut greatest = 0;
     for block in table {
-        count = above(block.acts.as_slice(), count)?;
+        greatest = most_needed(block.acts.as_slice(), greatest);
     }
-    Ok(count)
+    greatest
 }

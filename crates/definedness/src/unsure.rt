@@ -1,4 +1,4 @@
-ghost use Rattle.std.specs.Prelude.{◌≡◌, ◌<◌, ◌↔◌, ℕ, None, Some, true, false, length, All, Contains, IfOk, slice_get, slice_index_or, OnOk};
+ghost use Rattle.std.specs.Prelude.{◌≡◌, ◌<◌, ◌≤◌, ◌↔◌, ℕ, None, Some, true, false, length, All, Contains, IfOk, slice_get, slice_index_or, OnOk};
 ghost use Rattle.program.specs.declared.function.Block.{Block};
 ghost use Rattle.definedness.specs.declared.fork.Fork.{Fork};
 ghost use Rattle.definedness.specs.ForkOf.{IsForkOf};
@@ -95,29 +95,51 @@ fn never_sure(
     Ok(marks)
 }
 
-/// A row for each alloca, with a mark for each block at whose start no labelling has it for sure.
+/// The row of an alloca.
+fn unsure_row(
+    alloc: Global,
+    bodies: &[Block],
+    blocks: &[BlockEdges],
+    forks: &[Fork],
+    all: &[Given],
+    alloca: usize,
+    last: &mut Settled,
+) -> Result<Row, AllocError>
+    requires forks { (b : ℕ) (fork : Fork) → slice_get forks.now b ≡ Some fork → IsForkOf bodies.now blocks.now b fork }
+    requires size { length forks.now ≡ length bodies.now }
+    requires same { length blocks.now ≡ length bodies.now }
+    requires last { AreNeverSure forks.now blocks.now last.old.stops.items last.old.marks.items }
+    ensures last { OnOk result (AreNeverSure forks.now blocks.now last.new.stops.items last.new.marks.items) }
+    ensures marks { IfOk result (λ row. (b : ℕ) → b < length blocks.now
+        → (slice_index_or row.marks b false ≡ true) ↔ IsNeverSure bodies.now blocks.now all.now alloca b) }
+{
+    let marks = never_sure(alloc, bodies, blocks, forks, all, alloca, last)?;
+    Ok(Row {
+        marks: Seq::from_vec(marks),
+    })
+}
+
+/// A row for each alloca up to the greatest, with a mark for each block at whose start no labelling has it for sure.
 pub fn unsure_rows(
     alloc: Global,
     bodies: &[Block],
     blocks: &[BlockEdges],
     forks: &[Fork],
     all: &[Given],
-    count: usize,
+    greatest: usize,
 ) -> Result<Vec<Row>, AllocError>
     requires forks { (b : ℕ) (fork : Fork) → slice_get forks.now b ≡ Some fork → IsForkOf bodies.now blocks.now b fork }
     requires size { length forks.now ≡ length bodies.now }
     requires same { length blocks.now ≡ length bodies.now }
-    ensures { IfOk result (λ rows. (n b : ℕ) → n < count → b < length blocks.now
+    ensures { IfOk result (λ rows. (n b : ℕ) → n ≤ greatest → b < length blocks.now
         → (mark_at rows.items n b ≡ true) ↔ IsNeverSure bodies.now blocks.now all.now n b) }
 {
     let mut rows: Vec<Row> = Vec::new(alloc);
     let unstored = no_marks(alloc, blocks.len())?;
     let mut last = settle_stored(alloc, unstored, forks, blocks)?;
-    for alloca in 0..count {
-        let marks = never_sure(alloc, bodies, blocks, forks, all, alloca, &mut last)?;
-        rows.push(Row {
-            marks: Seq::from_vec(marks),
-        })?;
+    for alloca in 0..greatest {
+        rows.push(unsure_row(alloc, bodies, blocks, forks, all, alloca, &mut last)?)?;
     }
+    rows.push(unsure_row(alloc, bodies, blocks, forks, all, greatest, &mut last)?)?;
     Ok(rows)
 }

@@ -11,3 +11,5 @@ pub mod Tested
 pub mod Added
 pub mod Newest
 pub mod Left
+pub mod Indexing
+pub mod Looking

@@ -8,10 +8,9 @@ use Rattle.std.proofs.lemmas.Bool.{cases_eq, ne_eqb}
 use Rattle.std.proofs.lemmas.List.{take_more}
 use Rattle.std.proofs.Math.Nat.{mul-le-mul}
 use Rattle.std.proofs.Math.IntN.{*ℤ-zero}
-use Rattle.linear.specs.declared.form.RegisterId.{RegisterId}
 use Rattle.linear.specs.declared.form.Term.{Term}
-use Rattle.linear.specs.Forms.{Combination, coefficient_of, IsRising, AreSmall, constant_form, register_form, plus, scaled_terms, scaled, put_terms, put, Same}
-use Rattle.linear.specs.Made.{term_form, IsBounded, first_terms}
+use Rattle.linear.specs.Forms.{Combination, coefficient_of, IsRising, AreSmall, constant_form, plus, scaled_terms, scaled, Same}
+use Rattle.linear.specs.Made.{term_form, IsBounded}
 use Rattle.linear.proofs.Coefficients.{own_coefficient}
 use Rattle.linear.proofs.Placing.{coefficient_of-append, small_fits}
 use Rattle.linear.proofs.Values.{distributes}
@@ -160,89 +159,3 @@ term_refused start sum other k z ts i d same rising within m e large b =
     let small : unsigned_abs (a +ℤ z) < 2 ^ 24 = subst (λ (x : ℤ). unsigned_abs x < 2 ^ 24) right (b.terms r) in
     let large2 : 2 ^ 24 ≤ unsigned_abs (a +ℤ z) = subst (λ (x : ℤ). 2 ^ 24 ≤ unsigned_abs x) left large in
     omega (arith, large2, small)
-
--- ---- registers replaced
-
--- a register that stays is a multiple of itself
-pub stays : (sum : Combination) (register : RegisterId) (c : ℤ) → Same (plus (term_form register c) sum) (plus sum (scaled c (register_form register.0)))
-stays sum register c = record {
-  terms = λ r. commute (cond (eqb register.0 r) c (pos 0)) (coefficient_of sum.terms r)
-      ∙ ap (λ (x : ℤ). coefficient_of sum.terms r +ℤ x) (ap (λ (x : ℤ). cond (eqb register.0 r) x (pos 0)) (sym (times_one c)) ∙ plus_zero (cond (eqb register.0 r) (c *ℤ pos 1) (pos 0)))
-      ∙ sym (coefficient_of-append sum.terms (scaled_terms c (register_form register.0).terms) r);
-  constant = commute (pos 0) sum.constant ∙ ap (λ (x : ℤ). sum.constant +ℤ x) (sym (*ℤ-zero c));
-}
-
-pub stays_refused : (sum : Combination) (register : RegisterId) (c : ℤ) → 2 ^ 24 ≤ unsigned_abs (c +ℤ coefficient_of sum.terms register.0) → IsBounded (plus sum (scaled c (register_form register.0))) → ⊥
-stays_refused sum register c large b =
-    let before = bounded_same (plus sum (scaled c (register_form register.0))) (plus (term_form register c) sum) (same_back _ _ (stays sum register c)) b in
-    let at : unsigned_abs (cond (eqb register.0 register.0) c (pos 0) +ℤ coefficient_of sum.terms register.0) < 2 ^ 24 = before.terms register.0 in
-    let small : unsigned_abs (c +ℤ coefficient_of sum.terms register.0) < 2 ^ 24 = rw (eq-eqb register.0 register.0 refl) at at in
-    omega (arith, large, small)
-
-pub plus_same : (e f g h : Combination) → Same e f → Same g h → Same (plus e g) (plus f h)
-plus_same e f g h s t = record {
-  terms = λ r. coefficient_of-append e.terms g.terms r ∙ ap (λ (x : ℤ). x +ℤ coefficient_of g.terms r) (s.terms r) ∙ ap (λ (x : ℤ). coefficient_of f.terms r +ℤ x) (t.terms r) ∙ sym (coefficient_of-append f.terms h.terms r);
-  constant = ap (λ (x : ℤ). x +ℤ g.constant) s.constant ∙ ap (λ (x : ℤ). f.constant +ℤ x) t.constant;
-}
-
-put_terms-push : (σ : ℕ → Combination) (ts : List Term) (t : Term) → Same (put_terms σ (ts ++ t ∷ [])) (plus (put_terms σ ts) (scaled t.coefficient (σ t.register.0)))
-put_terms-push σ [] t = record {
-  terms = λ r. coefficient_of-append (scaled t.coefficient (σ t.register.0)).terms [] r ∙ sym (plus_zero (coefficient_of (scaled t.coefficient (σ t.register.0)).terms r));
-  constant = commute (scaled t.coefficient (σ t.register.0)).constant (pos 0);
-}
-put_terms-push σ (u ∷ us) t =
-    let first : Combination = scaled u.coefficient (σ u.register.0) in
-    let last : Combination = scaled t.coefficient (σ t.register.0) in
-    let rest : Combination = put_terms σ us in
-    same_on (plus first (put_terms σ (us ++ t ∷ []))) (plus first (plus rest last)) (plus (plus first rest) last)
-    (plus_same first first (put_terms σ (us ++ t ∷ [])) (plus rest last) (same_of first) (put_terms-push σ us t))
-    (record {
-      terms = λ r. coefficient_of-append first.terms (rest.terms ++ last.terms) r ∙ ap (λ (x : ℤ). coefficient_of first.terms r +ℤ x) (coefficient_of-append rest.terms last.terms r)
-          ∙ sym (assoc (coefficient_of first.terms r) (coefficient_of rest.terms r) (coefficient_of last.terms r))
-          ∙ ap (λ (x : ℤ). x +ℤ coefficient_of last.terms r) (sym (coefficient_of-append first.terms rest.terms r))
-          ∙ sym (coefficient_of-append (first.terms ++ rest.terms) last.terms r);
-      constant = sym (assoc first.constant rest.constant last.constant);
-    })
-
-turn_last : (e f g : Combination) → Same (plus (plus e f) g) (plus (plus e g) f)
-turn_last e f g = record {
-  terms = λ r. split e f g r ∙ swap (coefficient_of e.terms r) (coefficient_of f.terms r) (coefficient_of g.terms r) ∙ sym (split e g f r);
-  constant = swap e.constant f.constant g.constant;
-}
-  where
-    swap : (x y z : ℤ) → (x +ℤ y) +ℤ z ≡ (x +ℤ z) +ℤ y
-    swap x y z = omega (arith, ints)
-
-    split : (e f g : Combination) (r : ℕ) → coefficient_of ((e.terms ++ f.terms) ++ g.terms) r ≡ (coefficient_of e.terms r +ℤ coefficient_of f.terms r) +ℤ coefficient_of g.terms r
-    split e f g r = coefficient_of-append (e.terms ++ f.terms) g.terms r ∙ ap (λ (x : ℤ). x +ℤ coefficient_of g.terms r) (coefficient_of-append e.terms f.terms r)
-
--- one term more is put
-put_grown : (σ : ℕ → Combination) (e : Combination) (i : ℕ) (d : Term) → i < length e.terms →
-    Same (plus (put σ (first_terms i e)) (scaled (get_or e.terms i d).coefficient (σ (get_or e.terms i d).register.0))) (put σ (first_terms (i + 1) e))
-put_grown σ e i d within =
-    let t : Term = get_or e.terms i d in
-    let done : Combination = put_terms σ (take i e.terms) in
-    let one : Combination = scaled t.coefficient (σ t.register.0) in
-    let c : Combination = constant_form e.constant in
-    let grown : Same (put_terms σ (take i e.terms ++ t ∷ [])) (plus done one) = put_terms-push σ (take i e.terms) t in
-    let whole : Same (plus (plus done c) one) (plus (put_terms σ (take i e.terms ++ t ∷ [])) c) =
-    same_on (plus (plus done c) one) (plus (plus done one) c) (plus (put_terms σ (take i e.terms ++ t ∷ [])) c)
-    (turn_last done c one) (plus_same (plus done one) (put_terms σ (take i e.terms ++ t ∷ [])) c c (same_back _ _ grown) (same_of c)) in
-    subst (λ (ts : List Term). Same (plus (plus done c) one) (plus (put_terms σ ts) c)) (sym (take_more e.terms i d within)) whole
-
-pub put_start : (σ : ℕ → Combination) (e sum : Combination) → sum ≡ constant_form e.constant → Same sum (put σ (first_terms 0 e))
-put_start σ e sum is = subst (λ (s : Combination). Same s (put σ (first_terms 0 e))) (sym is) (record { terms = λ r. refl; constant = sym (zero_plus e.constant) })
-
-pub put_next : (σ : ℕ → Combination) (e sum new : Combination) (i : ℕ) (d : Term) → i < length e.terms → Same sum (put σ (first_terms i e)) →
-    Same new (plus sum (scaled (get_or e.terms i d).coefficient (σ (get_or e.terms i d).register.0))) → Same new (put σ (first_terms (i + 1) e))
-put_next σ e sum new i d within s h =
-    let one : Combination = scaled (get_or e.terms i d).coefficient (σ (get_or e.terms i d).register.0) in
-    same_on new (plus sum one) (put σ (first_terms (i + 1) e)) h
-    (same_on (plus sum one) (plus (put σ (first_terms i e)) one) (put σ (first_terms (i + 1) e)) (plus_same sum (put σ (first_terms i e)) one one s (same_of one)) (put_grown σ e i d within))
-
-pub put_refused : (σ : ℕ → Combination) (e sum : Combination) (i : ℕ) (d : Term) → i < length e.terms → Same sum (put σ (first_terms i e)) →
-    (IsBounded (plus sum (scaled (get_or e.terms i d).coefficient (σ (get_or e.terms i d).register.0))) → ⊥) → IsBounded (put σ (first_terms (i + 1) e)) → ⊥
-put_refused σ e sum i d within s never b =
-    let one : Combination = scaled (get_or e.terms i d).coefficient (σ (get_or e.terms i d).register.0) in
-    never (bounded_same (put σ (first_terms (i + 1) e)) (plus sum one)
-    (same_back (plus sum one) (put σ (first_terms (i + 1) e)) (same_on (plus sum one) (plus (put σ (first_terms i e)) one) (put σ (first_terms (i + 1) e)) (plus_same sum (put σ (first_terms i e)) one one s (same_of one)) (put_grown σ e i d within))) b)

@@ -1,4 +1,5 @@
 pub mod Forms
+pub mod Index
 pub mod Made
 pub mod Search
 pub mod Shown

@@ -1,10 +1,9 @@
 -- How forms are made.
-use Rattle.std.specs.Prelude.{◌≡◌, ℕ, ◌<◌, ◌^◌, ℤ, pos, ◌+ℤ◌, ◌==◌, Bool, nat_lt, List, [], ◌∷◌, take, unsigned_abs, Option, Some, None, slice_get, slice_set, insert, if◌then◌else◌}
+use Rattle.std.specs.Prelude.{◌≡◌, ℕ, ◌<◌, ◌^◌, ℤ, pos, ◌+ℤ◌, ◌==◌, Bool, nat_lt, List, [], ◌∷◌, unsigned_abs, Option, Some, None, slice_get, slice_set, insert, if◌then◌else◌}
 use Rattle.std.specs.List.{prefix_len}
 use Rattle.linear.specs.declared.form.RegisterId.{RegisterId}
 use Rattle.linear.specs.declared.form.Term.{Term}
-use Rattle.linear.specs.declared.form.Replacement.{Replacement}
-use Rattle.linear.specs.Forms.{Combination, coefficient_of, IsRising, AreSmall, register_form}
+use Rattle.linear.specs.Forms.{Combination, coefficient_of, IsRising, AreSmall}
 
 -- a register times a number
 abbrev pub term_form : RegisterId → ℤ → Combination
@@ -62,14 +61,3 @@ abbrev pub with_constant : Combination → ℤ → Option Combination
 with_constant f amount =
     if nat_lt (unsigned_abs (amount +ℤ f.constant)) 1267650600228229401496703205376
     then Some (record { terms = f.terms; constant = amount +ℤ f.constant }) else None
-
--- ---- registers replaced by forms
-
--- the form that replaces a register; a register that none replaces stays
-abbrev pub replaced_by : List Replacement → ℕ → Combination
-replaced_by [] r = register_form r
-replaced_by (p ∷ ps) r = if p.register.0 == r then p.form else replaced_by ps r
-
--- a form's first terms, and its constant
-abbrev pub first_terms : ℕ → Combination → Combination
-first_terms n e = record { terms = take n e.terms; constant = e.constant }

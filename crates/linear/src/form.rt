@@ -37,10 +37,3 @@ impl Model for Form {
 pub struct Fact {
     pub form: Form,
 }
-
-/// A register and the form that takes its place.
-#[derive(Debug, Drop)]
-pub struct Replacement {
-    pub register: RegisterId,
-    pub form: Form,
-}

@@ -2,13 +2,18 @@
 #![tactic(auto)]
 
 mod fault;
+mod find;
 mod form;
+mod index;
 pub mod laws;
+mod lookup;
 mod make;
 mod show;
 mod side;
+mod weight;
 
 pub use fault::FormFault;
-pub use form::{Fact, Form, RegisterId, Replacement, Term};
+pub use find::find_shown;
+pub use form::{Fact, Form, RegisterId, Term};
 pub use show::shown;
 pub use side::{Side, side_of};

@@ -2,12 +2,12 @@
 
 ghost use Rattle.std.specs.Prelude.{◌≡◌, ℕ, ◌<◌, ◌≤◌, ◌^◌, ◌+ℤ◌, ◌∷◌, length, unsigned_abs, pos, negsuc, ◌*ℤ◌, OnOk, IfOk, IfSome, IfNone, Err, Some, None};
 ghost use Rattle.std.specs.List.{prefix_len};
-ghost use Rattle.linear.specs.Forms.{IsRising, AreSmall, coefficient_of, Same, constant_form, register_form, plus, scaled, minus, put};
-ghost use Rattle.linear.specs.Made.{IsTermAdded, is_below, coefficient_at, term_form, IsBounded, placed, with_term, with_constant, replaced_by, first_terms};
+ghost use Rattle.linear.specs.Forms.{IsRising, AreSmall, coefficient_of, Same, constant_form, plus, scaled, minus};
+ghost use Rattle.linear.specs.Made.{IsTermAdded, is_below, coefficient_at, term_form, IsBounded, placed, with_term, with_constant};
 ghost use Rattle.linear.specs.declared.fault.FormFault.TheVariants.{Bounds};
 
 use crate::fault::FormFault;
-use crate::form::{Form, RegisterId, Replacement, Term};
+use crate::form::{Form, RegisterId, Term};
 use crate::side::side_of;
 use lists::Seq;
 use std::alloc::{AllocError, Global};
@@ -122,18 +122,6 @@ impl Form {
         }
     }
 
-    /// A register.
-    pub fn from_register(alloc: Global, register: RegisterId) -> Result<Form, AllocError>
-        ensures { IfOk result (λ f. f ≡ register_form register.0) }
-    {
-        let mut terms = Seq::new(alloc);
-        terms.push(Term {
-            register,
-            coefficient: 1,
-        })?;
-        Ok(Form { terms, constant: 0 })
-    }
-
     /// The same form again.
     pub fn copy(&self, alloc: Global) -> Result<Form, AllocError>
         ensures { IfOk result (λ f. f ≡ self.now) }
@@ -198,14 +186,6 @@ impl Form {
         sum.plus_constant(constant_product(factor, side.constant))
     }
 
-    /// The sum of two forms.
-    pub fn sum(&self, alloc: Global, other: &Form) -> Result<Form, FormFault>
-        ensures ok { IfOk result (λ f. Same f (plus self.now other.now)) }
-        ensures bounds { result ≡ Err Bounds → IsBounded (plus self.now other.now) → ⊥ }
-    {
-        self.copy(alloc)?.plus_multiple(1, other)
-    }
-
     /// The difference of two forms.
     pub fn difference(&self, alloc: Global, other: &Form) -> Result<Form, FormFault>
         ensures ok { IfOk result (λ f. Same f (minus self.now other.now)) }
@@ -213,58 +193,4 @@ impl Form {
     {
         self.copy(alloc)?.plus_multiple(-1, other)
     }
-
-    /// The form times a number.
-    pub fn multiple(&self, alloc: Global, factor: i64) -> Result<Form, FormFault>
-        requires { unsigned_abs factor < 2 ^ 24 }
-        ensures ok { IfOk result (λ f. Same f (scaled factor self.now)) }
-        ensures bounds { result ≡ Err Bounds → IsBounded (scaled factor self.now) → ⊥ }
-    {
-        Form::from_constant(alloc, 0).plus_multiple(factor, self)
-    }
-
-    /// The form with registers replaced by forms, all at once; a register that none replaces stays.
-    ///
-    /// It is refused where the form of some first terms passes the bounds.
-    pub fn put(&self, alloc: Global, replacements: &[Replacement]) -> Result<Form, FormFault>
-        ensures ok { IfOk result (λ f. Same f (put (replaced_by replacements.now) self.now)) }
-        ensures bounds { result ≡ Err Bounds → (n : ℕ) × (IsBounded (put (replaced_by replacements.now) (first_terms n self.now)) → ⊥) }
-    {
-        let side = side_of(self);
-        let mut sum = Form::from_constant(alloc, side.constant);
-        for term in side.terms {
-            sum = sum.plus_replaced(term.register, term.coefficient, replacements)?;
-        }
-        Ok(sum)
-    }
-
-    /// The sum with a multiple of what replaces a register.
-    fn plus_replaced(
-        self,
-        register: RegisterId,
-        coefficient: i64,
-        replacements: &[Replacement],
-    ) -> Result<Form, FormFault>
-        requires { unsigned_abs coefficient < 2 ^ 24 }
-        ensures ok { IfOk result (λ f. Same f (plus self (scaled coefficient (replaced_by replacements.now register.0)))) }
-        ensures bounds { result ≡ Err Bounds → IsBounded (plus self (scaled coefficient (replaced_by replacements.now register.0))) → ⊥ }
-    {
-        match replacement(replacements, register) {
-            None => self.plus_term(register, coefficient),
-            Some(form) => self.plus_multiple(coefficient, form),
-        }
-    }
-}
-
-/// What replaces a register.
-fn replacement(replacements: &[Replacement], register: RegisterId) -> Option<&Form>
-    ensures none { IfNone result (replaced_by replacements.now register.0 ≡ register_form register.0) }
-    ensures some { IfSome result (λ f. f.now ≡ replaced_by replacements.now register.0) }
-{
-    for p in replacements {
-        if p.register.0 == register.0 {
-            return Some(&p.form);
-        }
-    }
-    None
 }

@@ -23,7 +23,7 @@ fn coefficient(terms: &[Term], register: RegisterId) -> i64
 }
 
 /// A coefficient times a factor.
-fn scaled(factor: u32, coefficient: i64) -> i64
+pub fn scaled(factor: u32, coefficient: i64) -> i64
     requires factor { factor ≤ 2 ^ 24 }
     requires coefficient { unsigned_abs coefficient < 2 ^ 24 }
     ensures value { result ≡ pos factor *ℤ coefficient }
@@ -56,7 +56,7 @@ fn agrees_at(register: RegisterId, e: &[Term], a: u32, f: &[Term], b: u32, g: &[
 }
 
 /// Whether a * f + b * g is at most e, for constants.
-fn is_at_most(a: u32, f: i128, b: u32, g: i128, e: i128) -> bool
+pub fn is_at_most(a: u32, f: i128, b: u32, g: i128, e: i128) -> bool
     requires a { a ≤ 2 ^ 24 }
     requires b { b ≤ 2 ^ 24 }
     requires f { unsigned_abs f < 2 ^ 100 }
@@ -83,7 +83,7 @@ fn agree_along(named: &[Term], e: &[Term], a: u32, f: &[Term], b: u32, g: &[Term
 }
 
 /// Whether e and a * f + b * g agree at each register.
-fn agree(e: &[Term], a: u32, f: &[Term], b: u32, g: &[Term]) -> bool
+pub fn agree(e: &[Term], a: u32, f: &[Term], b: u32, g: &[Term]) -> bool
     requires a { a ≤ 2 ^ 24 }
     requires b { b ≤ 2 ^ 24 }
     requires f { AreSmall f.now }
@@ -94,7 +94,7 @@ fn agree(e: &[Term], a: u32, f: &[Term], b: u32, g: &[Term]) -> bool
 }
 
 /// What a fact may be multiplied by: 1, and then the coefficients' sizes.
-fn factor(terms: &[Term], index: usize) -> u32
+pub fn factor(terms: &[Term], index: usize) -> u32
     requires index { index ≤ length terms.now }
     requires small { AreSmall terms.now }
     ensures value { result ≡ slice_index (factors terms.now) index }
@@ -142,7 +142,7 @@ fn left_along(named: &[Term], e: &[Term], a: u32, f: &[Term]) -> Option<Register
 }
 
 /// A register of which a * f taken away from e leaves something, if there is one.
-fn left_over(e: &[Term], a: u32, f: &[Term]) -> Option<RegisterId>
+pub fn left_over(e: &[Term], a: u32, f: &[Term]) -> Option<RegisterId>
     requires a { a ≤ 2 ^ 24 }
     requires e { IsRising e.now }
     requires f { IsRising f.now }
@@ -156,7 +156,7 @@ fn left_over(e: &[Term], a: u32, f: &[Term]) -> Option<RegisterId>
 }
 
 /// Whether some of the register, if one is named, is among the terms.
-fn has_some(terms: &[Term], register: Option<RegisterId>) -> bool
+pub fn has_some(terms: &[Term], register: Option<RegisterId>) -> bool
     requires { IsRising terms.now }
     ensures { result ≡ has_some terms.now register }
 {

@@ -1,4 +1,4 @@
-ghost use Rattle.std.specs.Prelude.{◌≡◌, ◌++◌, ◌<◌, ◌^◌, ◌⊎◌, ◌*ℤ◌, pos, negsuc, IfOk, OnOk, All, unsigned_abs};
+ghost use Rattle.std.specs.Prelude.{◌≡◌, ◌++◌, ◌<◌, ◌^◌, ◌⊎◌, ◌*ℤ◌, pos, negsuc, IfOk, OnOk, OnErr, All, length, take, unsigned_abs};
 ghost use Rattle.linear.specs.Forms.{AreSmall};
 ghost use Rattle.ranges.specs.Inequalities.{operand_for, part_of, parts_of, difference_of, differences_of, argument_operand, argument_moves, result_of, result_moves, register_operand, call_moves};
 
@@ -30,8 +30,8 @@ fn signed(sign: i64, coefficient: i64) -> i64
     sign * coefficient
 }
 
-/// Adds the terms of a form, or their opposites, with the moves' operands put in.
-pub fn push_parts(
+/// Adds the parts, and leaves those that were there in front.
+fn add_parts(
     parts: &mut Vec<Part>,
     moves: &[Move],
     sign: i64,
@@ -39,7 +39,8 @@ pub fn push_parts(
 ) -> Result<(), OutOfMemory>
     requires sign { (sign ≡ pos 1) ⊎ (sign ≡ negsuc 0) }
     requires small { AreSmall terms.now }
-    ensures { OnOk result (parts.new.items ≡ parts.old.items ++ parts_of moves.now sign terms.now) }
+    ensures ok { OnOk result (parts.new.items ≡ parts.old.items ++ parts_of moves.now sign terms.now) }
+    ensures kept { take (length parts.old.items) parts.new.items ≡ parts.old.items }
 {
     for term in terms {
         parts.push(Part {
@@ -48,6 +49,26 @@ pub fn push_parts(
         })?;
     }
     Ok(())
+}
+
+/// Adds the terms of a form, or their opposites, with the moves' operands put in. Where memory is refused nothing is added.
+pub fn push_parts(
+    parts: &mut Vec<Part>,
+    moves: &[Move],
+    sign: i64,
+    terms: &[Term],
+) -> Result<(), OutOfMemory>
+    requires sign { (sign ≡ pos 1) ⊎ (sign ≡ negsuc 0) }
+    requires small { AreSmall terms.now }
+    ensures ok { OnOk result (parts.new.items ≡ parts.old.items ++ parts_of moves.now sign terms.now) }
+    ensures err { OnErr result (parts.new.items ≡ parts.old.items) }
+{
+    let count = parts.len();
+    let added = add_parts(parts, moves, sign, terms);
+    if added.is_err() {
+        parts.truncate(count);
+    }
+    added
 }
 
 /// The greater side of an inequality without the lesser, with the moves' operands put in.

@@ -2,7 +2,7 @@ ghost use Rattle.std.specs.Prelude.{◌≡◌, ◌++◌, ◌∷◌, [], IfOk, On
 ghost use Rattle.ranges.specs.Sums.{facts_of, shows, is_met};
 
 use crate::sum::{Obligation, Sum, sum_form};
-use linear::{Fact, shown};
+use linear::{Fact, find_shown};
 use lists::OutOfMemory;
 use std::alloc::Global;
 
@@ -31,7 +31,7 @@ pub fn shows(alloc: Global, facts: &[Fact], sum: &Sum) -> Result<bool, OutOfMemo
     ensures { IfOk result (λ b. b ≡ shows facts.now sum.now) }
 {
     match sum_form(alloc, sum)? {
-        Some(form) => Ok(shown(facts, &form)),
+        Some(form) => Ok(find_shown(alloc, facts, &form)?),
         None => Ok(false),
     }
 }

@@ -30,9 +30,10 @@ impl<T: Copy> NameTable<T> {
         }
     }
 
-    /// A name that is defined already keeps its first meaning.
+    /// A name that is defined already keeps its first meaning. Where memory is refused the table stays as it was.
     pub fn define(&mut self, alloc: Global, name: &Name, meaning: T) -> Result<(), AllocError>
-        ensures { OnOk result (self.new ≡ with_name self.old name.now meaning) }
+        ensures ok { OnOk result (self.new ≡ with_name self.old name.now meaning) }
+        ensures err { OnErr result (self.new ≡ self.old) }
     {
         if self.find(name.as_bytes()).is_none() {
             let key = Vec::from_slice(alloc, name.as_bytes())?;

@@ -1,7 +1,7 @@
 //! How forms are made.
 
 use crate::numbers::{I, N, Numbers};
-use linear::{Form, FormFault, RegisterId, Replacement};
+use linear::{Form, FormFault, RegisterId};
 use std::alloc::Global;
 use std::io;
 
@@ -36,36 +36,8 @@ fn right(alloc: Global) -> Result<Form, FormFault> {
     Numbers::new(-2, 3, 1).form(alloc)
 }
 
-fn sum(alloc: Global) -> Result<Form, FormFault> {
-    left(alloc)?.sum(alloc, &right(alloc)?)
-}
-
 fn difference(alloc: Global) -> Result<Form, FormFault> {
     left(alloc)?.difference(alloc, &right(alloc)?)
-}
-
-fn multiple(alloc: Global) -> Result<Form, FormFault> {
-    left(alloc)?.multiple(alloc, -3)
-}
-
-/// %n for %i and %i+4 for %n.
-fn replacements(alloc: Global) -> Result<Vec<Replacement>, FormFault> {
-    let mut replacements = Vec::new(alloc);
-    replacements.push(Replacement {
-        register: I,
-        form: Form::from_register(alloc, N)?,
-    })?;
-    replacements.push(Replacement {
-        register: N,
-        form: Numbers::new(1, 0, 4).form(alloc)?,
-    })?;
-    Ok(replacements)
-}
-
-fn replaced(alloc: Global) -> Result<Form, FormFault> {
-    let replacements = replacements(alloc)?;
-    let form = Numbers::new(2, 3, 7).form(alloc)?;
-    form.put(alloc, replacements.as_slice())
 }
 
 fn greatest_and_one(alloc: Global) -> Result<Form, FormFault> {
@@ -74,9 +46,6 @@ fn greatest_and_one(alloc: Global) -> Result<Form, FormFault> {
 
 /// Prints what is made of 2*%i-%n+5 and -2*%i+3*%n+1.
 pub fn print_forms(rt: &impl Print, alloc: Global) -> io::Result<()> {
-    print_made(rt, "sum", sum(alloc))?;
     print_made(rt, "difference", difference(alloc))?;
-    print_made(rt, "multiple by -3", multiple(alloc))?;
-    print_made(rt, "replaced", replaced(alloc))?;
     print_made(rt, "16777215*%i+%i", greatest_and_one(alloc))
 }

@@ -1,6 +1,6 @@
 //! Forms as plain numbers.
 
-use linear::{Fact, Form, FormFault, RegisterId, shown};
+use linear::{Fact, Form, FormFault, RegisterId, find_shown};
 use std::alloc::Global;
 
 pub const I: RegisterId = RegisterId(0);
@@ -36,5 +36,5 @@ pub fn is_shown(alloc: Global, facts: &[Numbers], e: Numbers) -> Result<bool, Fo
             form: numbers.form(alloc)?,
         })?;
     }
-    Ok(shown(list.as_slice(), &e.form(alloc)?))
+    Ok(find_shown(alloc, list.as_slice(), &e.form(alloc)?)?)
 }

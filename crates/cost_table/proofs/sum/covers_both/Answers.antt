@@ -29,12 +29,12 @@ returns c =
     let sum : Sum = record { constant = constant; parts = c.from_vec.result } in
     let terms = c.args.left.now.terms in
     let first : c.push_parts.new.parts.items ≡ parts_of [] (pos 1) terms =
-    c.in_ok-push_parts.ensures ∙ ap (λ (ps : List Part). ps ++ parts_of [] (pos 1) c.side_of-left.result.terms.now) c.new-parts.ensures.items ∙ ap (parts_of [] (pos 1)) c.side_of-left.ensures.terms in
+    c.in_ok-push_parts.ensures.ok ∙ ap (λ (ps : List Part). ps ++ parts_of [] (pos 1) c.side_of-left.result.terms.now) c.new-parts.ensures.items ∙ ap (parts_of [] (pos 1)) c.side_of-left.ensures.terms in
     let second : c.push_parts-2.new.parts.items ≡ parts_of [] (pos 1) terms ++ parts_of [] (negsuc 0) c.args.first.now.terms =
-    c.in_ok-push_parts-2.ensures ∙ ap (λ (ps : List Part). ps ++ parts_of [] (negsuc 0) c.side_of-first.result.terms.now) first
+    c.in_ok-push_parts-2.ensures.ok ∙ ap (λ (ps : List Part). ps ++ parts_of [] (negsuc 0) c.side_of-first.result.terms.now) first
     ∙ ap (λ (ts : List Term). parts_of [] (pos 1) terms ++ parts_of [] (negsuc 0) ts) c.side_of-first.ensures.terms in
     let parts : c.from_vec.result ≡ (parts_of [] (pos 1) terms ++ parts_of [] (negsuc 0) c.args.first.now.terms) ++ parts_of [] (negsuc 0) c.args.second.now.terms =
-    c.from_vec.ensures ∙ c.in_ok-push_parts-3.ensures ∙ ap (λ (ps : List Part). ps ++ parts_of [] (negsuc 0) c.side_of-second.result.terms.now) second
+    c.from_vec.ensures ∙ c.in_ok-push_parts-3.ensures.ok ∙ ap (λ (ps : List Part). ps ++ parts_of [] (negsuc 0) c.side_of-second.result.terms.now) second
     ∙ ap (λ (ts : List Term). (parts_of [] (pos 1) terms ++ parts_of [] (negsuc 0) c.args.first.now.terms) ++ parts_of [] (negsuc 0) ts) c.side_of-second.ensures.terms in
     if_ok_to (λ (b : Bool). b ≡ shows facts sum) (λ (b : Bool). (n : ℕ) → c.args.done ≡ as_u128 n → b ≡ shows facts (less_form (less_form (left_behind c.args.left.now n) [] c.args.first.now) [] c.args.second.now)) c.shows.result
     (λ b e. λ n is.

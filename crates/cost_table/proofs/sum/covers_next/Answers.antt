@@ -28,10 +28,10 @@ returns c =
     let sum : Sum = record { constant = constant; parts = c.from_vec.result } in
     let terms = c.args.left.now.terms in
     let first : c.push_parts.new.parts.items ≡ parts_of [] (pos 1) terms =
-    c.in_ok-push_parts.ensures ∙ ap (λ (ps : List Part). ps ++ parts_of [] (pos 1) c.side_of-left.result.terms.now) c.new-parts.ensures.items ∙ ap (parts_of [] (pos 1)) c.side_of-left.ensures.terms in
+    c.in_ok-push_parts.ensures.ok ∙ ap (λ (ps : List Part). ps ++ parts_of [] (pos 1) c.side_of-left.result.terms.now) c.new-parts.ensures.items ∙ ap (parts_of [] (pos 1)) c.side_of-left.ensures.terms in
     let moves = c.args.moves.now in
     let parts : c.from_vec.result ≡ parts_of [] (pos 1) terms ++ parts_of moves (negsuc 0) c.args.next.now.terms =
-    c.from_vec.ensures ∙ c.in_ok-push_parts-2.ensures ∙ ap (λ (ps : List Part). ps ++ parts_of moves (negsuc 0) c.side_of-next.result.terms.now) first
+    c.from_vec.ensures ∙ c.in_ok-push_parts-2.ensures.ok ∙ ap (λ (ps : List Part). ps ++ parts_of moves (negsuc 0) c.side_of-next.result.terms.now) first
     ∙ ap (λ (ts : List Term). parts_of [] (pos 1) terms ++ parts_of moves (negsuc 0) ts) c.side_of-next.ensures.terms in
     if_ok_to (λ (b : Bool). b ≡ shows facts sum) (λ (b : Bool). (n : ℕ) → c.args.done ≡ as_u128 n → b ≡ shows facts (less_form (left_behind c.args.left.now n) c.args.moves.now c.args.next.now)) c.shows.result
     (λ b e. λ n is.

@@ -26,7 +26,7 @@ returns c =
     let sum : Sum = record { constant = constant; parts = c.from_vec.result } in
     let terms = c.args.left.now.terms in
     let first : c.push_parts.new.parts.items ≡ parts_of [] (pos 1) terms =
-    c.in_ok-push_parts.ensures ∙ ap (λ (ps : List Part). ps ++ parts_of [] (pos 1) c.side_of-left.result.terms.now) c.new-parts.ensures.items ∙ ap (parts_of [] (pos 1)) c.side_of-left.ensures.terms in
+    c.in_ok-push_parts.ensures.ok ∙ ap (λ (ps : List Part). ps ++ parts_of [] (pos 1) c.side_of-left.result.terms.now) c.new-parts.ensures.items ∙ ap (parts_of [] (pos 1)) c.side_of-left.ensures.terms in
     let parts : c.from_vec.result ≡ parts_of [] (pos 1) terms = c.from_vec.ensures ∙ first in
     if_ok_to (λ (b : Bool). b ≡ shows facts sum) (λ (b : Bool). (n : ℕ) → c.args.done ≡ as_u128 n → b ≡ shows facts (left_behind c.args.left.now n)) c.shows.result
     (λ b e. λ n is.
