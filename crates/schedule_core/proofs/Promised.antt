@@ -65,7 +65,7 @@ module _ (prog : Program) (accepted : IsAccepted prog) (arguments : List ℤ) (n
       machine_of events m all (sym (ap (λ v. v.now) all.program ∙ s.program))
 
   pub machine_at_start : IsMachine first
-  machine_at_start = machine_of [] first (record { replayed = refl; workers = refl; program = refl; run = s.machine; slots = λ h. h }) (sym s.program)
+  machine_at_start = machine_of [] first (record { replayed = refl; workers = refl; program = refl; run = s.machine; slots = λ h. h; stalls = λ last agree. agree }) (sym s.program)
 
   -- the schedule theorem
   pub keeps_schedule : (m : Run) (events : List Event) → DoesAll prog first m events → KeepsItsSchedule prog arguments globals workers m

@@ -5,6 +5,7 @@ ghost use Rattle.cactus.specs.ByPath.{IsTree};
 ghost use Rattle.worker_steps.specs.Running.{IsTrapped};
 ghost use Rattle.worker_steps.specs.Scheduling.{IsReady};
 ghost use Rattle.worker_steps.specs.Seen.{seen};
+ghost use Rattle.schedule_core.specs.Replaying.{HasLine};
 ghost use Rattle.schedule_core.specs.Viewed.{Advances, HoldsNothing, IsFirstReady, IsLesser, IsNamedBelow, IsNoneReady, IsReadyAt, IsRunBy, IsTask, Shows, held_at, place_in, status_in};
 
 use crate::machine::Machine;
@@ -53,6 +54,7 @@ impl Machine<'_> {
     pub fn task(&self, path: &Path) -> Option<TaskView<'_>>
         ensures shown { ¬ IsTrapped self.now.run → IfSome result (IsTask self.now.run path.now) }
         ensures absent { ¬ IsTrapped self.now.run → IfNone result (status_in self.now.run path.now ≡ None) }
+        ensures line { IfSome result (HasLine self.now.run (place_in path.now)) }
     {
         let top = self.run.top_of(path)?;
         let (lowest, _generation) = self.run.cactus.spot(path)?;
@@ -63,6 +65,7 @@ impl Machine<'_> {
     pub fn task_of(&self, worker: u8) -> Option<TaskView<'_>>
         ensures shown { ¬ IsTrapped self.now.run → IfSome result (IsRunBy self.now.run worker) }
         ensures idle { ¬ IsTrapped self.now.run → IfNone result ((seen self.now.run).hands worker ≡ None) }
+        ensures line { IfSome result (λ view. HasLine self.now.run (place_in view.path.now) view) }
     {
         let top = self.run.hand(worker)?;
         self.view(self.run.lowest_below(top)?, top)

@@ -36,6 +36,8 @@ use Rattle.worker_steps.specs.Seen.{place_of, seen, seen_at, frames_of, alloca_c
 use Rattle.worker_steps.specs.Slots.{IsPlaced, ArePlaced, HasSlots}
 use Rattle.worker_steps.specs.Stepping.{IsRun, IsOver, IsReached}
 use Rattle.worker_steps.specs.Copying.{IsActivationCopy, HoldsSame, IsCopy}
+use Rattle.worker_steps.specs.Stalls.{IsStalledIn, KeepsStalls}
+use Rattle.worker_steps.proofs.Stalls.{stays_alike}
 
 -- ---- a frame
 
@@ -305,5 +307,12 @@ module _ (m copy : Run) (same : HoldsSame m copy) where
         made = subst (λ n. n ≤ copy.instructions + 1) (sym same.frames.made) (subst (λ n. m.cactus.made ≤ n + 1) (sym (ap (λ (r : Run). r.instructions) same.only)) s.made);
       }
 
+  stalls_stay : KeepsStalls m copy
+  stalls_stay last agree slot other at =
+      let (node, stands, c) = original m.cactus copy.cactus same.frames slot other at in
+      subst (λ q. IsStalledIn (last (reverse q.numbers)) other.frame) (sym (path_same node other c))
+      (stays_alike node.frame other.frame (runner_same m.cactus copy.cactus same.frames node other c) (waits_same m.cactus copy.cactus same.frames node other c) (ap (λ (a : Activation). a.stalled_in) c.frame.only)
+      (last (place_of node)) (agree slot node stands))
+
   pub is_copy : IsCopy m copy
-  is_copy = record { holds = same; reads = reads_same; run = run_stays; slots = slots_stay }
+  is_copy = record { holds = same; reads = reads_same; run = run_stays; slots = slots_stay; stalls = stalls_stay }

@@ -10,6 +10,7 @@ use Rattle.worker_steps.specs.Stepping.{one_cell, StoresAt}
 use Rattle.running.specs.Arithmetic.{cell_sum}
 use Rattle.worker_steps.proofs.Performed.{stored_done, next_still, added_done}
 use Rattle.worker_steps.specs.Slots.{KeepsSlots}
+use Rattle.worker_steps.specs.Stalls.{KeepsStalls}
 use Rattle.worker_steps.proofs.run.Run.add_to.Goals as goal
 
 pub returns-then-store-clause-adds : goal.returns-then-store-clause-adds
@@ -32,3 +33,8 @@ pub returns-then-store-clause-slots : goal.returns-then-store-clause-slots
 returns-then-store-clause-slots c =
     let stored : KeepsSlots c.args.self.now c.store.new.self = OnTrue_at c.if-store.true c.store.ensures.slots in
     on_ok_weaker c.pass.result (λ passed prog s. passed prog (stored prog s)) c.pass.ensures.slots
+
+pub returns-then-store-clause-stalls : goal.returns-then-store-clause-stalls
+returns-then-store-clause-stalls c =
+    let stored : KeepsStalls c.args.self.now c.store.new.self = OnTrue_at c.if-store.true c.store.ensures.stalls in
+    on_ok_weaker c.pass.result (λ passed last agree. passed last (stored last agree)) c.pass.ensures.stalls

@@ -14,7 +14,7 @@ returns-in-Ok-clause-event c =
     let prog = c.args.self.now.verified.now in
     subst (λ (b : Bool). DoesEvent prog c.args.self.now c.has_executed.new.self (Step c.args.worker) b) (sym c.has_executed.ensures.yes)
     (subst (λ (m : Run). DoesEvent prog c.args.self.now m (Step c.args.worker) true) (sym c.has_executed.ensures.counted)
-    (turn_done prog c.args.self.now c.execute.new.self c.args.worker c.in-Some.top c.requires has c.in-Ok.ensures.step c.in-Ok.ensures.slots))
+    (turn_done prog c.args.self.now c.execute.new.self c.args.worker c.in-Some.top c.requires has c.in-Ok.ensures.step c.in-Ok.ensures.slots c.in-Ok.ensures.stalls))
 
 pub returns-in-Err-Trapped-clause-stopped : goal.returns-in-Err-Trapped-clause-stopped
 returns-in-Err-Trapped-clause-stopped c trapped =

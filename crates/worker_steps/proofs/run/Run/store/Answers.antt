@@ -42,3 +42,6 @@ returns-in-None-clause-not_there c =
 pub returns-in-Global-clause-slots : goal.returns-in-Global-clause-slots
 returns-in-Global-clause-slots c =
     OnTrue_from c.set_cell.result _ (λ t. set_kept c.args.self.now c.set_cell.new.self c.in-Global.global.0 c.args.cell.index _ (OnTrue_at t c.set_cell.ensures.set))
+
+pub returns-in-Global-clause-stalls : goal.returns-in-Global-clause-stalls
+returns-in-Global-clause-stalls c = OnTrue_from c.set_cell.result _ (λ t last agree. agree)

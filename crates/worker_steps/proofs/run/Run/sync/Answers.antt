@@ -3,7 +3,7 @@ use Rattle.std.proofs.lemmas.Result.{on_ok_weaker}
 use Rattle.sync_join.specs.declared.count.Passage.TheVariants.{Pass, Stall}
 use Rattle.worker_steps.specs.Scheduling.{living_within}
 use Rattle.worker_steps.proofs.Moves.{living_is}
-use Rattle.worker_steps.proofs.Synced.{passes_there, stalls_there}
+use Rattle.worker_steps.proofs.Synced.{passes_stalls, passes_there, stalls_stalls, stalls_there}
 use Rattle.worker_steps.specs.Stepping.{frame_in}
 use Rattle.worker_steps.proofs.Performed.{edge_of}
 use Rattle.worker_steps.proofs.Slots.{waits_kept, stalls_kept}
@@ -52,4 +52,13 @@ returns-in-Stall-clause-slots c =
     on_ok_weaker c.stall.result (λ becomes prog s.
     stalls_kept c.wait_for_children.new.self c.stall.new.self c.args.slot c.args.worker c.in_ok-top.top.now.frame.block becomes prog
     (waits_kept c.enter.new.self c.wait_for_children.new.self c.args.slot c.args.region c.in_ok-wait_for_children.ensures.becomes prog (c.in_ok-enter.ensures.slots prog s)))
+    c.stall.ensures.becomes
+
+pub returns-in-Pass-clause-stalled : goal.returns-in-Pass-clause-stalled
+returns-in-Pass-clause-stalled c = passes_stalls c.args.self.now.verified.now c.args.self.now c.enter.new.self c.wait_for_children.new.self c.args.worker c.args.slot c.args.region c.args.target.0 c.in_ok-enter.ensures.enters c.in_ok-wait_for_children.ensures.becomes
+
+pub returns-in-Stall-clause-stalled : goal.returns-in-Stall-clause-stalled
+returns-in-Stall-clause-stalled c =
+    on_ok_weaker c.stall.result (λ becomes.
+    stalls_stalls c.args.self.now.verified.now c.args.self.now c.enter.new.self c.wait_for_children.new.self c.args.worker c.args.slot c.args.region c.args.target.0 c.in_ok-enter.ensures.enters c.in_ok-wait_for_children.ensures.becomes c.stall.new.self c.in_ok-top.top.now c.in_ok-top.ensures.value becomes)
     c.stall.ensures.becomes
