@@ -1,5 +1,5 @@
 -- The line that a view shows is the definitions' line of its task.
-use Rattle.std.proofs.Common.{◌≡◌, ℕ, ℤ, List, length, map, reverse, Option, Some, None, refl, sym, ap, ◌∙◌, subst}
+use Rattle.std.proofs.Common.{◌≡◌, ℕ, ℤ, List, length, map, reverse, Option, Some, None, refl, sym, ap, ◌∙◌}
 use Rattle.std.specs.Prelude.{IfSome, option_and_then}
 use Rattle.std.specs.Option.{option_map}
 use Rattle.running.specs.Paths.{Path as RunningPath}

@@ -14,9 +14,11 @@ use Rattle.worker_steps.specs.Running.{IsGoing, IsTrapped}
 use Rattle.worker_steps.specs.Seen.{seen}
 use Rattle.worker_steps.specs.Copying.{IsCopy}
 use Rattle.worker_steps.specs.Slots.{HasSlots}
+use Rattle.worker_steps.specs.Follows.{names_of}
 use Rattle.worker_steps.specs.Stalls.{Blocks, StallsAgree, last_blocks, no_blocks}
 use Rattle.worker_steps.specs.Stepping.{IsRun, IsEvent, DoesEvent, StartsAs}
 use Rattle.worker_steps.proofs.Reached.{replay_more}
+use Rattle.worker_steps.proofs.Follows.{given_on}
 use Rattle.worker_steps.proofs.Stalls.{last_event}
 use Rattle.schedule_core.specs.declared.event.Event.{Event}
 use Rattle.schedule_core.specs.Replaying.{event_of, first_state, IsMachine, StopsOnly, AreEvents, StopsAt, DoesAll, Replays, ReplaysOneMore}
@@ -25,7 +27,7 @@ pub not_going : (m : Run) → IsTrapped m → ¬ IsGoing m
 not_going m trapped going = let e : Trapped ≡ Going = sym trapped ∙ going in cc
 
 pub none_yet : (prog : Program) (old : Run) → IsRun prog old → DoesAll prog old old []
-none_yet prog old m = record { sound = λ fine. record { replayed = refl; run = m; slots = λ s. s; stalls = λ last agree. agree; workers = refl; program = refl }; trapped = λ trapped. absurd (m.sound trapped) }
+none_yet prog old m = record { sound = λ fine. record { replayed = refl; run = m; slots = λ s. s; stalls = λ last agree. agree; names = refl; given = λ g. g; workers = refl; program = refl }; trapped = λ trapped. absurd (m.sound trapped) }
 
 map_more : (events : List Event) (e : Event) → map event_of (events ++ e ∷ []) ≡ map event_of events ++ event_of e ∷ []
 map_more [] e = refl
@@ -45,6 +47,8 @@ module _ (prog : Program) (old mid new : Run) (events : List Event) (e : Event) 
             let before = last_blocks prog (length old.hands.items) (map event_of events) (seen old) last in
             let exact : running.event prog (length old.hands.items) (event_of e) (seen mid) ≡ cond done (Some (seen new)) None = ap (λ n. running.event prog n (event_of e) (seen mid)) (sym a.workers) ∙ d.exact in
             subst (λ (l : Blocks). StallsAgree l new.cactus) (sym (last_event prog (length old.hands.items) (map event_of events) (event_of e) done (seen old) (seen mid) (seen new) last a.replayed exact)) (d.stalls before (a.stalls last agree));
+        names = d.follows.names ∙ a.names;
+        given = λ g. given_on mid new d.follows (a.given g);
         workers = d.workers ∙ a.workers;
         program = d.program ∙ a.program;
       }
@@ -103,6 +107,7 @@ module _ (prog : Program) (arguments : List ℤ) (globals : List NamedCells) (wo
         slots = all.slots slots;
         stalls = subst (λ c. StallsAgree (last_blocks prog workers (map event_of events) c no_blocks) m.cactus) s.reads
             (subst (λ n. StallsAgree (last_blocks prog n (map event_of events) (seen first) no_blocks) m.cactus) many (all.stalls no_blocks (s.stalls no_blocks)));
+        names = all.names ∙ ap names_of s.memory;
       }
 
   pub all_from : (m : Run) (events : List Event) → (IsRun first.verified.now first → DoesAll first.verified.now first m events) → DoesAll prog first m events
@@ -115,7 +120,7 @@ module _ (prog : Program) (arguments : List ℤ) (globals : List NamedCells) (wo
 
 module _ (prog : Program) (arguments : List ℤ) (globals : List NamedCells) (workers : ℕ) where
   pub replays_start : (m : Run) → StartsAs prog arguments globals m → HasSlots prog m → length m.hands.items ≡ workers → Replays prog arguments globals workers [] m
-  replays_start m s slots many = record { reads = s.reads; as_many = many; run = s.machine; slots = slots; stalls = s.stalls no_blocks }
+  replays_start m s slots many = record { reads = s.reads; as_many = many; run = s.machine; slots = slots; stalls = s.stalls no_blocks; names = ap names_of s.memory }
 
   pub replays_copy : (events : List Event) (m copy : Run) → IsCopy m copy → Replays prog arguments globals workers events m → Replays prog arguments globals workers events copy
   replays_copy events m copy c r =
@@ -125,6 +130,7 @@ module _ (prog : Program) (arguments : List ℤ) (globals : List NamedCells) (wo
         run = c.run prog r.run;
         slots = c.slots prog r.slots;
         stalls = c.stalls (last_blocks prog workers (map event_of events) (first_state prog arguments globals) no_blocks) r.stalls;
+        names = c.uses.names ∙ r.names;
       }
 
   -- an event more
@@ -152,6 +158,7 @@ module _ (prog : Program) (arguments : List ℤ) (globals : List NamedCells) (wo
           stalls = subst (λ l. StallsAgree (last_blocks prog workers l first no_blocks) new.cactus) (sym (map_more events e))
               (subst (λ (l : Blocks). StallsAgree l new.cactus) (sym (last_event prog workers (map event_of events) (event_of e) done first (seen old) (seen new) no_blocks (sym r.reads) exact_here))
               (d.stalls (last_blocks prog workers (map event_of events) first no_blocks) r.stalls));
+          names = d.follows.names ∙ r.names;
         }
 
 -- where an event that a machine was asked for is done

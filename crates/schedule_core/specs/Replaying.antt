@@ -11,6 +11,7 @@ use Rattle.worker_steps.specs.Running.{IsTrapped}
 use Rattle.worker_steps.specs.Seen.{seen, given}
 use Rattle.worker_steps.specs.Growing.{GrowsAtStep}
 use Rattle.worker_steps.specs.Slots.{HasSlots}
+use Rattle.worker_steps.specs.Follows.{AreGiven, names_of}
 use Rattle.worker_steps.specs.Stalls.{Blocks, StallsAgree, last_blocks, no_blocks}
 use Rattle.worker_steps.specs.Stepping.{IsRun, IsEvent}
 use Rattle.worker_steps.specs.Stopping.{StopsAtStep}
@@ -44,6 +45,7 @@ pub record IsMachine (m : Run) : Type 0 where
   pub run : IsRun m.verified.now m
   pub slots : HasSlots m.verified.now m
   pub schedule : IsScheduled m.verified.now m
+  pub given : AreGiven m.cactus
 
 -- the events, one after another, are those of the definitions' replay
 pub record AreEvents (prog : Program) (old new : Run) (events : List running.Event) : Type 0 where
@@ -53,6 +55,8 @@ pub record AreEvents (prog : Program) (old new : Run) (events : List running.Eve
   pub run : IsRun prog new
   pub slots : HasSlots prog old → HasSlots prog new
   pub stalls : (last : Blocks) → StallsAgree last old.cactus → StallsAgree (last_blocks prog (length old.hands.items) events (seen old) last) new.cactus
+  pub names : names_of new.memory ≡ names_of old.memory
+  pub given : AreGiven old.cactus → AreGiven new.cactus
 
 -- the run got through these events, and stopped at the next
 pub record StopsAt (prog : Program) (old : Run) (events : List Event) : Type 0 where
@@ -80,6 +84,7 @@ pub record Replays (prog : Program) (arguments : List ℤ) (globals : List Named
   pub run : IsRun prog m
   pub slots : HasSlots prog m
   pub stalls : StallsAgree (last_blocks prog workers (map event_of events) (first_state prog arguments globals) no_blocks) m.cactus
+  pub names : names_of m.memory ≡ names_of globals
 
 -- whatever events lead to the one run, they lead to the other with this one more
 abbrev pub ReplaysOneMore : Run → Run → Event → Type 0

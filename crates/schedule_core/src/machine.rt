@@ -9,6 +9,8 @@ ghost use Rattle.worker_steps.specs.Seen.{seen};
 ghost use Rattle.worker_steps.specs.Slots.{HasSlots};
 ghost use Rattle.worker_steps.specs.Stepping.{DoesEvent, IsRun, StartsAs};
 ghost use Rattle.worker_steps.specs.Copying.{IsCopy};
+ghost use Rattle.worker_steps.specs.Follows.{names_of};
+ghost use Rattle.schedule_core.specs.Spots.{KeepsSpots};
 ghost use Rattle.schedule_core.specs.Replaying.{GrowsOnly, Happens, IsMachine, Replays, ReplaysOneMore, ReplaysTheSame, event_of};
 
 use crate::event::Event;
@@ -76,6 +78,8 @@ impl<'v> Machine<'v> {
         ensures does { IfOk result (DoesEvent self.old.run.verified.now self.old.run self.new.run (event_of event.now)) }
         ensures happens { IsRun self.old.run.verified.now self.old.run → IfOk result (Happens self.old.run self.new.run (event_of event.now)) }
         ensures keeps { OnOk result (ReplaysOneMore self.old.run self.new.run event.now) }
+        ensures spots { KeepsSpots self.old.run.cactus self.new.run.cactus }
+        ensures names { names_of self.new.run.memory ≡ names_of self.old.run.memory }
         ensures never_stops { ¬ IsTrapped self.new.run }
     {
         apply_to(&mut self.run, event)

@@ -1,4 +1,4 @@
-ghost use Rattle.std.specs.Prelude.{◌≡◌, ◌↔◌, None, Some, IsSome, IsSomeAnd, IfNone, IfSome};
+ghost use Rattle.std.specs.Prelude.{◌≡◌, ◌↔◌, ◌<◌, None, Some, IsSome, IsSomeAnd, IfNone, IfSome};
 ghost use Rattle.std.specs.Option.{option_copied, option_map};
 ghost use Rattle.cactus.specs.Frames.{Lives, HasPath, frame_at, node_of_use};
 ghost use Rattle.cactus.specs.ByPath.{IsTree};
@@ -118,6 +118,7 @@ impl Machine<'_> {
     /// The slot and the generation of the frame of this path; none where no such frame lives.
     pub fn spot(&self, path: &Path) -> Option<(usize, u64)>
         ensures found { IfSome result (λ spot. HasPath self.now.run.cactus spot.0 spot.1 path.now) }
+        ensures given { IfSome result (λ spot. spot.1 < self.now.run.cactus.made) }
         ensures lives { IsSome result ↔ IsSome ((seen self.now.run).core.frames (place_in path.now)) }
     {
         self.run.cactus.spot(path)

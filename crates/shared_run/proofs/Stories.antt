@@ -3,7 +3,7 @@ use Rattle.std.proofs.Common.{◌≡◌, ℕ, ℤ, ◌≤◌, List, [], ◌∷�
 use Rattle.std.specs.Prelude.{IsSome, is_none}
 use Rattle.std.proofs.lemmas.List.{map-append}
 use Rattle.running.specs.Events as running
-use Rattle.running.specs.Events.{Machine, event, start}
+use Rattle.running.specs.Events.{Machine, event}
 use Rattle.running.specs.Replay.{or_unchanged, replay, has_ended}
 use Rattle.running.specs.SerialMeaning.{Gave}
 use Rattle.running.specs.Cells.{Shared}

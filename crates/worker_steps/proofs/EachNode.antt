@@ -1,5 +1,5 @@
 -- What is true of each node stays so where a slot's frame is written, a frame goes or comes.
-use Rattle.std.proofs.Common.{◌≡◌, ◌≢◌, ℕ, Option, Some, None, inl, inr, refl, sym, ap, ◌∙◌, subst}
+use Rattle.std.proofs.Common.{◌≡◌, ℕ, Option, Some, None, inl, inr, refl, sym, ap, ◌∙◌, subst}
 use Rattle.std.proofs.lemmas.Bool.Decides.{eqb_tells}
 use Rattle.frame.specs.declared.path.Path.{Path as Name}
 use Rattle.cactus.specs.declared.node.Node.{Node}

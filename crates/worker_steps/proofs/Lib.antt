@@ -13,6 +13,7 @@ pub mod Filling
 pub mod Refusing
 pub mod Acting
 pub mod Stalls
+pub mod Follows
 pub mod Synced
 pub mod Grown
 pub mod Shrunk

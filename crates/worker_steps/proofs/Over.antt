@@ -1,11 +1,10 @@
 -- Where the root has returned there is no frame, and so nothing that an event could move.
-use Rattle.std.proofs.Common.{◌≡◌, ℕ, ◌≤◌, List, [], Option, Some, None, Bool, true, false, cond, refl, sym, ap, ◌∙◌, ltb, is_none, ◌&&◌, ℤ}
+use Rattle.std.proofs.Common.{◌≡◌, ℕ, [], Option, Some, None, true, refl, ap, ◌∙◌, ltb, is_none, ◌&&◌}
 use Rattle.running.specs.Paths.{Path}
-use Rattle.running.specs.Cells.{Memory}
 use Rattle.running.specs.Arithmetic.{Trap}
 use Rattle.running.specs.Frames.{Frame}
 use Rattle.running.specs.Events.{Machine, Event, Step, Steal, by_frame, by_hand, event, sound_event, start, status_of, stolen, if_ready, unless_trapped}
-use Rattle.running.specs.Replay.{replay, has_ended}
+use Rattle.running.specs.Replay.{replay}
 use Rattle.program.specs.declared.function.Program.{Program}
 use Rattle.worker_steps.specs.Over.{EndedEnablesNothing}
 use Rattle.worker_steps.proofs.Happening.{no_frames}

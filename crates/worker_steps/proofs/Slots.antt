@@ -110,7 +110,7 @@ module _ (prog : Program) (old : Frames Activation) where
   pub added_placed : (new : Frames Activation) (path : Name) (parent : Option ℕ) (child : Activation) (slot : ℕ) → IsAdded old new path parent child slot → IsPlaced prog child → ArePlaced prog old → ArePlaced prog new
   added_placed new path parent child slot added fresh placed = added_each (λ (n : Node Activation). IsPlaced prog n.frame) old placed new path parent child slot added fresh
 
-made_still : (frames : Frames Activation) (slot : ℕ) (a : Activation) → (with_frame frames slot a).made ≡ frames.made
+pub made_still : (frames : Frames Activation) (slot : ℕ) (a : Activation) → (with_frame frames slot a).made ≡ frames.made
 made_still frames slot a = from (node_at frames slot)
   where
     from : (o : Option (Node Activation)) → (written frames slot o a).made ≡ frames.made

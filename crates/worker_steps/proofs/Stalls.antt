@@ -3,7 +3,7 @@ use Rattle.std.proofs.Common.{◌≡◌, ◌≢◌, ℕ, List, [], ◌∷◌, �
 use Rattle.std.specs.Prelude.{IsTrue}
 use Rattle.std.specs.Option.{option_map}
 use Rattle.std.specs.Vec.{with_item}
-use Rattle.running.specs.Paths.{Path, same_path}
+use Rattle.running.specs.Paths.{Path}
 use Rattle.running.specs.Frames.{Frame, Registers}
 use Rattle.running.specs.Events as running
 use Rattle.running.specs.Replay.{or_unchanged, replay}
@@ -24,10 +24,9 @@ use Rattle.sync_join.specs.declared.count.Outcome.{Outcome}
 use Rattle.sync_join.specs.declared.count.Outcome.TheVariants.{ResumeReady, ResumeStalled, Leave}
 use Rattle.worker_steps.specs.declared.activation.Activation.{Activation}
 use Rattle.worker_steps.specs.declared.run.Run.{Run}
-use Rattle.worker_steps.specs.Scheduling.{hand_of}
-use Rattle.worker_steps.specs.Seen.{place_of, seen, run_at, run_by, taken, Agrees}
+use Rattle.worker_steps.specs.Seen.{place_of, seen, run_at, run_by, taken}
 use Rattle.worker_steps.specs.Stalls.{Blocks, IsStalledIn, StallsAgree, KeepsStalls, block_of, if_enabled, last_blocks, noted}
-use Rattle.worker_steps.specs.Stepping.{frame_in, IsTurn, LeavesStalls}
+use Rattle.worker_steps.specs.Stepping.{IsTurn, LeavesStalls}
 use Rattle.worker_steps.proofs.Acting as acting
 use Rattle.worker_steps.proofs.EachNode.{written_each, removed_each, added_each}
 use Rattle.worker_steps.proofs.Missing.{same_node}

@@ -163,4 +163,6 @@ module _ (prog : Program) (arguments : List ℤ) (m : Run) (root workers : ℕ) 
           reached = record { arguments = arguments; memory = given m.memory; events = []; after = sym seen_begin };
         };
         stalls = λ last s n here. runs_on n.frame 0 (ap (λ (k : Node Activation). k.frame.runner) (sym (stood s n here).1) ∙ runs) (last (place_of n));
+        memory = refl;
+        generations = λ s n here. subst (λ (k : Node Activation). k.generation < m.cactus.made) (stood s n here).1 (let one = added.made in omega (arith, one));
       }

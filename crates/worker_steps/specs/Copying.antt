@@ -7,6 +7,7 @@ use Rattle.worker_steps.specs.declared.activation.Activation.{Activation}
 use Rattle.worker_steps.specs.declared.run.Run.{Run}
 use Rattle.worker_steps.specs.Seen.{seen}
 use Rattle.worker_steps.specs.Slots.{HasSlots}
+use Rattle.worker_steps.specs.Follows.{KeepsUses}
 use Rattle.worker_steps.specs.Stalls.{KeepsStalls}
 use Rattle.worker_steps.specs.Stepping.{IsRun}
 
@@ -28,3 +29,4 @@ pub record IsCopy (m copy : Run) : Type 0 where
   pub run : (prog : Program) → IsRun prog m → IsRun prog copy
   pub slots : (prog : Program) → HasSlots prog m → HasSlots prog copy
   pub stalls : KeepsStalls m copy
+  pub uses : KeepsUses m copy

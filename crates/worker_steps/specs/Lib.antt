@@ -3,6 +3,7 @@ pub mod Tasks
 pub mod Running
 pub mod Seen
 pub mod Stalls
+pub mod Follows
 pub mod Slots
 pub mod Stepping
 pub mod Forking

@@ -27,6 +27,7 @@ use Rattle.worker_steps.specs.Running.{IsGoing, IsTrapped}
 use Rattle.worker_steps.specs.Scheduling.{hand_of, counted_in}
 use Rattle.worker_steps.specs.Seen.{place_of, seen, given, Agrees}
 use Rattle.worker_steps.specs.Slots.{HasSlots, executed}
+use Rattle.worker_steps.specs.Follows.{AreGiven, Follows}
 use Rattle.worker_steps.specs.Stalls.{Blocks, StallsAgree, noted}
 
 -- a state after a plain step of the frame f at p, but for the count of instructions
@@ -204,6 +205,7 @@ pub record IsEvent (prog : Program) (old new : Run) (event : running.Event) (don
   pub machine : IsRun prog new
   pub slots : HasSlots prog old → HasSlots prog new
   pub stalls : (last : Blocks) → StallsAgree last old.cactus → StallsAgree (cond done (noted event (seen old) last) last) new.cactus
+  pub follows : Follows old new
 
 abbrev pub DoesEvent : Program → Run → Run → running.Event → Bool → Type 0
 DoesEvent prog old new event done = IsRun prog old → ¬ IsTrapped new → IsEvent prog old new event done
@@ -214,3 +216,5 @@ pub record StartsAs (prog : Program) (arguments : List ℤ) (globals : List Name
   pub program : m.verified.now ≡ prog
   pub machine : IsRun prog m
   pub stalls : (last : Blocks) → StallsAgree last m.cactus
+  pub memory : m.memory ≡ globals
+  pub generations : AreGiven m.cactus

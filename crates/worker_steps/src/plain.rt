@@ -7,6 +7,7 @@ ghost use Rattle.frame.specs.Room.{HasCell};
 ghost use Rattle.frame.specs.declared.effect.Trap.{Trap};
 ghost use Rattle.cactus.specs.Frames.{frame_at};
 ghost use Rattle.worker_steps.specs.declared.activation.Activation.{Activation};
+ghost use Rattle.worker_steps.specs.Follows.{Follows, KeepsUses};
 ghost use Rattle.worker_steps.specs.Growing.{AsksFrame, GrowsAt};
 ghost use Rattle.worker_steps.specs.Running.{IsGoing, IsTrapped};
 ghost use Rattle.worker_steps.specs.Seen.{seen};
@@ -35,6 +36,7 @@ impl Run<'_> {
         ensures step { OnOk result (StepsAt self.old.verified.now self.old self.new worker top) }
         ensures slots { OnOk result (FillsSlotsAt self.old.verified.now self.old self.new worker top) }
         ensures stalls { OnOk result (LeavesStalls self.old.verified.now self.old self.new worker top) }
+        ensures follows { OnOk result (Follows self.old self.new) }
         ensures grows { result ≡ Err Halt.OutOfMemory → GrowsAt self.old.verified.now self.old top }
         ensures stopped { (trap : Trap) → result ≡ Err (Halt.Trapped trap) → HaltsAt self.old.verified.now self.old top }
         ensures going { IsGoing self.old → ¬ IsTrapped self.new }
@@ -50,6 +52,7 @@ impl Run<'_> {
         ensures step { OnOk result (CanDoAt self.old.cactus top effect → Performs self.old.verified.now self.old self.new worker top effect) }
         ensures slots { OnOk result (CanDoAt self.old.cactus top effect → FillsSlots self.old.verified.now self.old self.new worker top effect) }
         ensures stalls { OnOk result (LeavesStalls self.old.verified.now self.old self.new worker top) }
+        ensures follows { OnOk result (Follows self.old self.new) }
         ensures grows { result ≡ Err Halt.OutOfMemory → AsksFrame effect }
         ensures stopped { (trap : Trap) → result ≡ Err (Halt.Trapped trap) → Refuses self.old.verified.now self.old top effect }
         ensures going { IsGoing self.old → ¬ IsTrapped self.new }
@@ -80,6 +83,7 @@ impl Run<'_> {
         ensures lost { OnErr result (frame_at self.old.cactus slot ≡ None) }
         ensures slots { OnOk result (KeepsSlots self.old self.new) }
         ensures stalls { OnOk result (KeepsStalls self.old self.new) }
+        ensures uses { OnOk result (KeepsUses self.old self.new) }
         ensures phase { self.new.phase ≡ self.old.phase }
     {
         match self.cactus.frame_mut(slot) {
@@ -95,6 +99,7 @@ impl Run<'_> {
         ensures lost { OnErr result (frame_at self.old.cactus slot ≡ None) }
         ensures slots { OnOk result (KeepsSlots self.old self.new) }
         ensures stalls { OnOk result (KeepsStalls self.old self.new) }
+        ensures uses { OnOk result (KeepsUses self.old self.new) }
         ensures phase { self.new.phase ≡ self.old.phase }
     {
         match self.cactus.frame_mut(slot) {
@@ -111,6 +116,7 @@ impl Run<'_> {
         ensures stopped { OnErr result (Refuses self.old.verified.now self.old slot (Effect.Load register cell)) }
         ensures slots { OnOk result (KeepsSlots self.old self.new) }
         ensures stalls { OnOk result (KeepsStalls self.old self.new) }
+        ensures uses { OnOk result (KeepsUses self.old self.new) }
         ensures phase { self.new.phase ≡ self.old.phase }
     {
         let number = self.load(slot, cell)?;
@@ -124,6 +130,7 @@ impl Run<'_> {
         ensures stopped { OnErr result (Refuses self.old.verified.now self.old slot (Effect.Store cell number)) }
         ensures slots { OnOk result (KeepsSlots self.old self.new) }
         ensures stalls { OnOk result (KeepsStalls self.old self.new) }
+        ensures uses { OnOk result (KeepsUses self.old self.new) }
         ensures phase { self.new.phase ≡ self.old.phase }
     {
         if self.store(slot, cell, number) {
@@ -140,6 +147,7 @@ impl Run<'_> {
         ensures stopped { OnErr result (Refuses self.old.verified.now self.old slot (Effect.Add cell number)) }
         ensures slots { OnOk result (KeepsSlots self.old self.new) }
         ensures stalls { OnOk result (KeepsStalls self.old self.new) }
+        ensures uses { OnOk result (KeepsUses self.old self.new) }
         ensures phase { self.new.phase ≡ self.old.phase }
     {
         let held = self.load(slot, cell)?;
@@ -185,6 +193,7 @@ impl Run<'_> {
         ensures stores { OnTrue result (StoresAt self.old self.new slot cell number) }
         ensures slots { OnTrue result (KeepsSlots self.old self.new) }
         ensures stalls { OnTrue result (KeepsStalls self.old self.new) }
+        ensures uses { OnTrue result (KeepsUses self.old self.new) }
         ensures kept { OnTrue result (KeepsCells self.old self.new) }
         ensures not_there { OnFalse result (Refuses self.old.verified.now self.old slot (Effect.Store cell number)) }
         ensures phase { self.new.phase ≡ self.old.phase }
@@ -203,6 +212,7 @@ impl Run<'_> {
         ensures writes { OnTrue result (WritesAlloca self.old self.new owner alloca.0 index number) }
         ensures slots { OnTrue result (KeepsSlots self.old self.new) }
         ensures stalls { OnTrue result (KeepsStalls self.old self.new) }
+        ensures uses { OnTrue result (KeepsUses self.old self.new) }
         ensures kept { OnTrue result (KeepsCells self.old self.new) }
         ensures not_there { OnFalse result ((above : Activation) → frame_at self.old.cactus owner ≡ Some above → ¬ HasCell above.frame alloca.0 index) }
         ensures phase { self.new.phase ≡ self.old.phase }
@@ -220,6 +230,7 @@ impl Run<'_> {
         ensures stopped { OnErr result (Refuses self.old.verified.now self.old slot (Effect.StoreZeros object cells)) }
         ensures slots { OnOk result (KeepsSlots self.old self.new) }
         ensures stalls { OnOk result (KeepsStalls self.old self.new) }
+        ensures uses { OnOk result (KeepsUses self.old self.new) }
         ensures phase { self.new.phase ≡ self.old.phase }
     {
         for index in 0..cells {

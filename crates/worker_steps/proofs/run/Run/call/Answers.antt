@@ -20,6 +20,7 @@ use Rattle.worker_steps.specs.declared.activation.Activation.{Activation}
 use Rattle.worker_steps.proofs.Stalls.{made_stalls, waits_otherwise}
 use Rattle.frame.specs.declared.frame.Frame.{Frame as FrameOf}
 use Rattle.cactus.specs.Frames.{AddsChild}
+use Rattle.worker_steps.proofs.Follows.{made_follows}
 use Rattle.worker_steps.proofs.run.Run.call.Goals as goal
 
 pub returns-clause-calls : goal.returns-clause-calls
@@ -64,3 +65,10 @@ returns-clause-stalls c =
     let frames = ap (λ (m : Run). m.cactus) c.set_hand.ensures ∙ ap (λ (m : Run). m.cactus) c.count_depth.ensures.kept in
     made_stalls c.args.self.now c.set_hand.new.self c.push_call.new.self adds.path (Some c.args.slot) c.in_ok-called.called c.in_ok-called_slot.called_slot c.args.slot c.args.worker a adds.added c.in_ok-called.ensures.runner
     (waits_otherwise a _ (ap (λ (g : FrameOf). g.waits) c.wait_for_call.ensures.only) (λ region e. cc)) frames
+
+pub returns-clause-follows : goal.returns-clause-follows
+returns-clause-follows c =
+    let adds : AddsChild c.args.self.now.cactus c.push_call.new.self c.args.slot c.in_ok-caller.field-0.now.frame.made c.in_ok-called.called c.in_ok-called_slot.called_slot = c.in_ok-called_slot.ensures.ok in
+    let memory = ap (λ (m : Run). m.memory) c.set_hand.ensures ∙ ap (λ (m : Run). m.memory) c.count_depth.ensures.kept in
+    let frames = ap (λ (m : Run). m.cactus) c.set_hand.ensures ∙ ap (λ (m : Run). m.cactus) c.count_depth.ensures.kept in
+    made_follows c.args.self.now c.set_hand.new.self c.push_call.new.self adds.path (Some c.args.slot) c.in_ok-called.called c.in_ok-called_slot.called_slot c.args.slot c.wait_for_call.new.self adds.added memory frames

@@ -9,6 +9,7 @@ use Rattle.cactus.specs.Lending.{with_frame}
 use Rattle.frame.specs.declared.frame.Wait.TheVariants as wait
 use Rattle.worker_steps.proofs.Slots.{keeps_by, written_kept}
 use Rattle.worker_steps.proofs.Stalls.{freed_stalls, waits_for_nothing}
+use Rattle.worker_steps.proofs.Follows.{written_keeps}
 use Rattle.worker_steps.proofs.run.Run.define.Goals as goal
 
 pub returns-clause-defines : goal.returns-clause-defines
@@ -30,3 +31,8 @@ pub returns-clause-stalls : goal.returns-clause-stalls
 returns-clause-stalls c =
     let b = record c.in-Some.activation.now { frame = c.define.new.self } in
     freed_stalls c.args.self.now (record c.args.self.now { cactus = with_frame c.args.self.now.cactus c.args.slot b }) c.args.slot b (waits_for_nothing b (ap (λ (g : FrameOf). g.waits) c.define.ensures.only)) refl
+
+pub returns-clause-uses : goal.returns-clause-uses
+returns-clause-uses c =
+    let b = record c.in-Some.activation.now { frame = c.define.new.self } in
+    written_keeps c.args.self.now (record c.args.self.now { cactus = with_frame c.args.self.now.cactus c.args.slot b }) c.args.slot b refl refl

@@ -16,6 +16,7 @@ use Rattle.frame.specs.declared.frame.Wait.TheVariants as wait
 use Rattle.worker_steps.proofs.Slots.{keeps_by}
 use Rattle.worker_steps.proofs.Filling.{detach_filled}
 use Rattle.worker_steps.proofs.Stalls.{made_stalls, waits_for_nothing}
+use Rattle.worker_steps.proofs.Follows.{made_follows}
 use Rattle.worker_steps.proofs.run.Run.detach.Goals as goal
 
 pub returns-clause-child_first : goal.returns-clause-child_first
@@ -63,3 +64,10 @@ returns-clause-stalls c =
     let frames = ap (λ (m : Run). m.cactus) c.set_hand.ensures ∙ ap (λ (m : Run). m.cactus) c.count_depth.ensures.kept in
     made_stalls c.args.self.now c.set_hand.new.self c.add_child.new.self adds.path (Some c.args.slot) c.in_ok-child.child c.in_ok-child_slot.child_slot c.args.slot c.args.worker a adds.added c.in_ok-child.ensures.runner
     (waits_for_nothing a (ap (λ (g : FrameOf). g.waits) c.after_detach.ensures.frame)) frames
+
+pub returns-clause-follows : goal.returns-clause-follows
+returns-clause-follows c =
+    let adds : AddsChild c.args.self.now.cactus c.add_child.new.self c.args.slot c.in_ok-parent.parent.now.frame.made c.in_ok-child.child c.in_ok-child_slot.child_slot = c.in_ok-child_slot.ensures.ok in
+    let memory = ap (λ (m : Run). m.memory) c.set_hand.ensures ∙ ap (λ (m : Run). m.memory) c.count_depth.ensures.kept in
+    let frames = ap (λ (m : Run). m.cactus) c.set_hand.ensures ∙ ap (λ (m : Run). m.cactus) c.count_depth.ensures.kept in
+    made_follows c.args.self.now c.set_hand.new.self c.add_child.new.self adds.path (Some c.args.slot) c.in_ok-child.child c.in_ok-child_slot.child_slot c.args.slot c.after_detach.new.self adds.added memory frames

@@ -11,6 +11,7 @@ use Rattle.worker_steps.proofs.Performed.{went_at, jump_gone}
 use Rattle.cactus.specs.Lending.{with_frame}
 use Rattle.worker_steps.proofs.Slots.{keeps_by, written_kept}
 use Rattle.worker_steps.proofs.Stalls.{entered_waits, freed_stalls, waits_for_nothing}
+use Rattle.worker_steps.proofs.Follows.{written_keeps}
 use Rattle.worker_steps.proofs.run.Run.enter.Goals as goal
 
 pub returns-in-Some-clause-jumps : goal.returns-in-Some-clause-jumps
@@ -55,3 +56,8 @@ returns-in-Some-clause-stalls c =
     freed_stalls c.args.self.now (record c.args.self.now { cactus = with_frame c.args.self.now.cactus c.args.slot b }) c.args.slot b
     (waits_for_nothing b (entered_waits [] c.in-Some.activation.now.frame c.enter.new.self c.args.target.0 (registers_along prog (frame_of [] c.in-Some.activation.now.frame) c.args.target.0) (subst (λ (q : Program). Entered q [] c.in-Some.activation.now.frame c.args.target.0 c.enter.new.self) c.program-program.ensures (entered [])))) refl)
     c.enter.ensures.entered
+
+pub returns-in-Some-clause-uses : goal.returns-in-Some-clause-uses
+returns-in-Some-clause-uses c =
+    let b = record c.in-Some.activation.now { frame = c.enter.new.self } in
+    on_ok_weaker c.enter.result (λ entered. written_keeps c.args.self.now (record c.args.self.now { cactus = with_frame c.args.self.now.cactus c.args.slot b }) c.args.slot b refl refl) c.enter.ensures.entered

@@ -10,6 +10,7 @@ use Rattle.worker_steps.proofs.Missing.{alloca_kept}
 use Rattle.cactus.specs.Lending.{with_frame}
 use Rattle.worker_steps.proofs.Slots.{keeps_stored, written_kept}
 use Rattle.worker_steps.proofs.Stalls.{stays_alike, written_stalls}
+use Rattle.worker_steps.proofs.Follows.{written_keeps}
 use Rattle.worker_steps.proofs.run.Run.store_in.Goals as goal
 
 pub returns-in-Some-clause-writes : goal.returns-in-Some-clause-writes
@@ -49,3 +50,8 @@ returns-in-Some-clause-stalls c =
     OnTrue_from c.set_alloca_cell.result _ (λ t.
     written_stalls c.args.self.now (record c.args.self.now { cactus = with_frame c.args.self.now.cactus c.args.owner b }) c.args.owner a b stood
     (stays_alike a b refl (ap (λ (g : FrameOf). g.waits) c.set_alloca_cell.ensures.only) refl) refl)
+
+pub returns-in-Some-clause-uses : goal.returns-in-Some-clause-uses
+returns-in-Some-clause-uses c =
+    let b = record c.in-Some.activation.now { frame = c.set_alloca_cell.new.self } in
+    OnTrue_from c.set_alloca_cell.result _ (λ t. written_keeps c.args.self.now (record c.args.self.now { cactus = with_frame c.args.self.now.cactus c.args.owner b }) c.args.owner b refl refl)

@@ -8,10 +8,11 @@ use Rattle.worker_steps.proofs.Performed.{written_none, written_more, stored_don
 use Rattle.worker_steps.proofs.Missing.{kept_none, kept_more, zeros_refused}
 use Rattle.worker_steps.specs.Slots.{KeepsSlots}
 use Rattle.worker_steps.specs.Stalls.{KeepsStalls}
+use Rattle.worker_steps.proofs.Follows.{keeps_all, keeps_then}
 use Rattle.worker_steps.proofs.run.Run.store_zeros.Goals as goal
 
 pub loop-index-init : goal.loop-index-init
-loop-index-init c = record { written = λ node stands agrees. written_none c.args.self.now (object_of (place_of node) c.args.object) agrees; kept = kept_none c.args.self.now; slots = λ prog s. s; stalls = λ last agree. agree; phase = refl }
+loop-index-init c = record { written = λ node stands agrees. written_none c.args.self.now (object_of (place_of node) c.args.object) agrees; kept = kept_none c.args.self.now; slots = λ prog s. s; stalls = λ last agree. agree; uses = keeps_all c.args.self.now; phase = refl }
 
 pub loop-index-preserved : goal.loop-index-preserved
 loop-index-preserved c =
@@ -22,6 +23,7 @@ loop-index-preserved c =
       kept = kept_more c.args.self.now c.loop-index.self c.store.new.self c.loop-index.invariant.kept (OnTrue_at c.if-not-store.false c.store.ensures.kept);
       slots = λ prog s. stored prog (c.loop-index.invariant.slots prog s);
       stalls = λ last agree. still last (c.loop-index.invariant.stalls last agree);
+      uses = keeps_then c.args.self.now c.loop-index.self c.store.new.self c.loop-index.invariant.uses (OnTrue_at c.if-not-store.false c.store.ensures.uses);
       phase = c.store.ensures.phase ∙ c.loop-index.invariant.phase;
     }
 
@@ -43,3 +45,6 @@ returns-clause-slots c = on_ok_weaker c.pass.result (λ passed prog s. passed pr
 
 pub returns-clause-stalls : goal.returns-clause-stalls
 returns-clause-stalls c = on_ok_weaker c.pass.result (λ passed last agree. passed last (c.loop-index.invariant.stalls last agree)) c.pass.ensures.stalls
+
+pub returns-clause-uses : goal.returns-clause-uses
+returns-clause-uses c = on_ok_weaker c.pass.result (λ passed. keeps_then c.args.self.now c.loop-index.self c.pass.new.self c.loop-index.invariant.uses passed) c.pass.ensures.uses
