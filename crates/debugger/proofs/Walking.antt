@@ -1,34 +1,36 @@
 -- From one position to the next.
-use Rattle.std.proofs.Common.{◌≡◌, ◌≢◌, inl, inr, ℕ, ◌+◌, ◌<◌, ◌≤◌, ◌++◌, ◌∷◌, [], List, All, take, length, map, get_or, Some, None, Bool, true, false, cond, refl, sym, ap, ◌∙◌, subst, arith}
+use Rattle.std.proofs.Common.{◌≡◌, ◌≢◌, inl, inr, ℕ, ◌+◌, ◌<◌, ◌≤◌, ◌++◌, ◌∷◌, [], List, All, take, length, get_or, Option, None, Some, Bool, false, sym, ap, ◌∙◌, subst, arith}
 use Rattle.std.proofs.lemmas.Bool.Decides.{eqb_tells}
-use Rattle.std.proofs.lemmas.List.{map_more}
-use Rattle.running.specs.Events as running
-use Rattle.running.specs.Replay.{replay, or_unchanged}
+use Rattle.std.proofs.lemmas.List.{take_more}
+use Rattle.std.specs.Prelude.{IfSome}
 use Rattle.program.specs.declared.function.Program.{Program}
+use Rattle.frame.specs.declared.path.Path.{Path}
 use Rattle.worker_steps.specs.declared.run.Run.{Run}
 use Rattle.worker_steps.specs.Copying.{IsCopy}
 use Rattle.worker_steps.specs.Running.{IsTrapped}
-use Rattle.worker_steps.specs.Seen.{seen, given}
+use Rattle.worker_steps.specs.Seen.{seen}
 use Rattle.worker_steps.specs.Slots.{HasSlots}
 use Rattle.worker_steps.specs.Stepping.{IsEvent, DoesEvent, StartsAs}
-use Rattle.worker_steps.proofs.Reached.{replay_more}
 use Rattle.schedule_core.specs.declared.event.Event.{Event}
 use Rattle.schedule_core.specs.Lines.{StandsAt}
-use Rattle.schedule_core.specs.Replaying.{event_of}
+use Rattle.schedule_core.specs.declared.task.TaskView.{TaskView}
+use Rattle.schedule_core.specs.Replaying.{event_of, HasLine, HasLineAfter, Replays}
+use Rattle.schedule_core.specs.Viewed.{place_in}
+use Rattle.schedule_core.proofs.Replaying.{replays_copy, replays_next, replays_start}
 use Rattle.debugger.specs.declared.marks.Mark.{Mark}
 use Rattle.debugger.specs.declared.marks.Marks.{Marks}
-use Rattle.debugger.specs.Sessions.{Session, IsAt, AreMarks, IsMark, IsFirstStop, state_at}
+use Rattle.debugger.specs.Sessions.{Session, HasLineAt, IsAt, AreMarks, IsMark, IsFirstStop, state_at}
 
 module _ (s : Session) where
   -- at the start
   pub at_start : (m : Run) → StartsAs s.program s.arguments s.globals m → HasSlots s.program m → length m.hands.items ≡ s.workers → IsAt s 0 m
-  at_start m starts slots many = record { replays = record { reads = starts.reads; run = starts.machine; slots = slots }; workers = many; program = starts.program }
+  at_start m starts slots many = record { replays = replays_start s.program s.arguments s.globals s.workers m starts slots many; workers = many; program = starts.program }
 
   -- a copy stands there too
   pub at_copy : (n : ℕ) (m copy : Run) → IsCopy m copy → IsAt s n m → IsAt s n copy
   at_copy n m copy c at =
       record {
-        replays = record { reads = c.reads ∙ at.replays.reads; run = c.run s.program at.replays.run; slots = c.slots s.program at.replays.slots };
+        replays = replays_copy s.program s.arguments s.globals s.workers (take n s.events) m copy c at.replays;
         workers = ap (λ l. length l) c.holds.hands ∙ at.workers;
         program = ap (λ (r : Run). r.verified.now) c.holds.only ∙ at.program;
       }
@@ -37,7 +39,7 @@ module _ (s : Session) where
   pub at_next : (events : List Event) → s.events ≡ events → (n : ℕ) (m new : Run) (e : Event) (done : Bool) → n < length events → e ≡ get_or events n e → DoesEvent m.verified.now m new (event_of e) done → (done ≡ false → new ≡ m) → ¬ IsTrapped new → IsAt s n m → IsAt s (n + 1) new
   at_next events listed n m new e done inside there does same fine at =
       record {
-        replays = record { reads = reads; run = d.machine; slots = d.slots at.replays.slots };
+        replays = subst (λ l. Replays s.program s.arguments s.globals s.workers l new) (sym more) (replays_next s.program s.arguments s.globals s.workers (take n s.events) m new e done d same at.replays);
         workers = d.workers ∙ at.workers;
         program = ap (λ v. v.now) d.program ∙ at.program;
       }
@@ -48,24 +50,18 @@ module _ (s : Session) where
       is : e ≡ get_or s.events n e
       is = subst (λ l. e ≡ get_or l n e) (sym listed) there
 
-      first : running.Machine
-      first = running.start s.program s.arguments (given s.globals)
-
       d : IsEvent s.program m new (event_of e) done
       d = subst (λ (q : Program). DoesEvent q m new (event_of e) done) at.program does at.replays.run fine
 
-      more : map event_of (take (n + 1) s.events) ≡ map event_of (take n s.events) ++ event_of e ∷ []
-      more = map_more event_of s.events n e within ∙ ap (λ x. map event_of (take n s.events) ++ event_of x ∷ []) (sym is)
+      more : take (n + 1) s.events ≡ take n s.events ++ e ∷ []
+      more = take_more s.events n e within ∙ ap (λ x. take n s.events ++ x ∷ []) (sym is)
 
-      by : (b : Bool) → done ≡ b → seen new ≡ or_unchanged (cond b (Some (seen new)) None) (seen m)
-      by true e = refl
-      by false e = ap seen (same e)
-
-      happened : seen new ≡ or_unchanged (running.event s.program s.workers (event_of e) (seen m)) (seen m)
-      happened = by done refl ∙ (ap (λ o. or_unchanged o (seen m)) (sym d.exact) ∙ ap (λ k. or_unchanged (running.event s.program k (event_of e) (seen m)) (seen m)) at.workers)
-
-      reads : seen new ≡ replay s.program s.workers (map event_of (take (n + 1) s.events)) first
-      reads = happened ∙ (ap (λ x. or_unchanged (running.event s.program s.workers (event_of e) x) x) at.replays.reads ∙ (sym (replay_more s.program s.workers (map event_of (take n s.events)) (event_of e) first) ∙ ap (λ l. replay s.program s.workers l first) (sym more)))
+  -- the line of a view, at the position
+  pub line_shown : (n : ℕ) (path : Path) (m : Run) → IsAt s n m → (o : Option TaskView) → IfSome o (HasLine m (place_in path)) → IfSome o (HasLineAt s n path)
+  line_shown n path m at None shown = tt
+  line_shown n path m at (Some view) shown =
+      subst (λ (q : Program). HasLineAfter q s.arguments s.globals s.workers (take n s.events) (place_in path) view) at.program
+      (shown s.arguments s.globals s.workers (take n s.events) (subst (λ (q : Program). Replays q s.arguments s.globals s.workers (take n s.events) m) (sym at.program) at.replays))
 
   -- where a worker stands on a line of the run, it does so in the definitions' state
   pub stands_there : (n line : ℕ) (m : Run) → IsAt s n m → StandsAt m.verified.now (seen m) line → StandsAt s.program (state_at s n) line

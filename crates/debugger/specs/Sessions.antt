@@ -3,12 +3,15 @@ use Rattle.std.specs.Prelude.{◌≡◌, ◌⊎◌, ◌<◌, ◌≤◌, ℕ, ℤ
 use Rattle.running.specs.Events as running
 use Rattle.running.specs.Replay.{replay}
 use Rattle.program.specs.declared.function.Program.{Program}
+use Rattle.frame.specs.declared.path.Path.{Path}
 use Rattle.store.specs.Cells.{NamedCells}
 use Rattle.worker_steps.specs.declared.run.Run.{Run}
 use Rattle.worker_steps.specs.Seen.{given}
 use Rattle.schedule_core.specs.declared.event.Event.{Event}
 use Rattle.schedule_core.specs.Lines.{StandsAt}
-use Rattle.schedule_core.specs.Replaying.{Replays, event_of}
+use Rattle.schedule_core.specs.declared.task.TaskView.{TaskView}
+use Rattle.schedule_core.specs.Replaying.{HasLineAfter, Replays, event_of}
+use Rattle.schedule_core.specs.Viewed.{place_in}
 use Rattle.debugger.specs.declared.debugger.Debugger.{Debugger}
 use Rattle.debugger.specs.declared.marks.Mark.{Mark}
 use Rattle.debugger.specs.declared.marks.Marks.{Marks}
@@ -42,6 +45,10 @@ pub record Debugs (s : Session) (d : Debugger) : Type 0 where
   pub events : d.events.items ≡ s.events
   pub at : IsAt s d.position d.machine.run
   pub marks : AreMarks s d.marks
+
+-- the view has the line of its task of this path, at this position
+abbrev pub HasLineAt : Session → ℕ → Path → TaskView → Type 0
+HasLineAt s n path view = HasLineAfter s.program s.arguments s.globals s.workers (take n s.events) (place_in path) view
 
 -- after the one position the other is the first at which a worker's next instruction stands on the line, or the end
 pub record IsFirstStop (s : Session) (line old new : ℕ) : Type 0 where

@@ -7,7 +7,7 @@ ghost use Rattle.store.specs.declared.memory.Memory.{Memory};
 ghost use Rattle.serial_machine.specs.Requirements.{unmet_in};
 ghost use Rattle.worker_steps.specs.Running.{IsNumberOfWorkers};
 ghost use Rattle.schedule_core.specs.Viewed.{IsTask, status_in};
-ghost use Rattle.debugger.specs.Sessions.{AreMarks, Debugs, IsAt, IsFirstStop, Session, Stays};
+ghost use Rattle.debugger.specs.Sessions.{AreMarks, Debugs, HasLineAt, IsAt, IsFirstStop, Session, Stays};
 
 use crate::debugger::Debugger;
 use crate::marks::Marks;
@@ -216,6 +216,7 @@ impl<'v> Debugger<'v> {
     pub fn show_task(&self, path: &Path) -> Option<TaskView<'_>>
         ensures shown { (s : Session) → Debugs s self.now → IfSome result (IsTask self.now.machine.run path.now) }
         ensures absent { (s : Session) → Debugs s self.now → IfNone result (status_in self.now.machine.run path.now ≡ None) }
+        ensures line { (s : Session) → Debugs s self.now → IfSome result (HasLineAt s self.now.position path.now) }
     {
         self.machine.task(path)
     }

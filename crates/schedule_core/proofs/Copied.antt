@@ -1,5 +1,5 @@
 -- A copy of a machine's run is a machine's run.
-use Rattle.std.proofs.Common.{◌≡◌, ℕ, ◌≤◌, length, sym, ap, ◌∙◌, subst}
+use Rattle.std.proofs.Common.{◌≡◌, ◌≤◌, length, sym, ap, ◌∙◌, subst}
 use Rattle.std.proofs.Math.Logic.{∥∥₁_map}
 use Rattle.program.specs.declared.function.Program.{Program}
 use Rattle.running.specs.Events.{start}
@@ -8,9 +8,10 @@ use Rattle.verifier.specs.Accepted.{IsAccepted}
 use Rattle.worker_promise.specs.Promise.{IsScheduled}
 use Rattle.worker_steps.specs.declared.run.Run.{Run}
 use Rattle.worker_steps.specs.Copying.{IsCopy}
-use Rattle.worker_steps.specs.Seen.{seen, given}
+use Rattle.worker_steps.specs.Seen.{given}
 use Rattle.worker_steps.specs.Slots.{HasSlots}
 use Rattle.worker_steps.specs.Stepping.{IsRun}
+use Rattle.worker_steps.proofs.Follows.{follows_kept, given_on}
 use Rattle.schedule_core.specs.Replaying.{IsMachine}
 
 module _ (m copy : Run) (c : IsCopy m copy) where
@@ -34,6 +35,7 @@ module _ (m copy : Run) (c : IsCopy m copy) where
         run = subst (λ (q : Program). IsRun q copy) same (c.run m.verified.now k.run);
         slots = subst (λ (q : Program). HasSlots q copy) same (c.slots m.verified.now k.slots);
         schedule = subst (λ (q : Program). IsScheduled q copy) same (scheduled_too m.verified.now k.schedule);
+        given = given_on m copy (follows_kept m copy c.uses) k.given;
       }
 
   pub copy_kept : ∥ IsMachine m ∥₁ → ∥ IsMachine copy ∥₁

@@ -18,12 +18,16 @@ use Rattle.worker_steps.specs.declared.run.Phase.TheVariants.{Going, Ended, Trap
 use Rattle.worker_steps.specs.Running.{IsGoing, IsTrapped}
 use Rattle.worker_steps.specs.Seen.{seen, given}
 use Rattle.worker_steps.specs.Slots.{HasSlots}
+use Rattle.worker_steps.specs.Follows.{names_of}
 use Rattle.worker_steps.specs.Stepping.{IsRun, IsEvent, DoesEvent, StartsAs}
+use Rattle.worker_steps.proofs.Follows.{given_on}
 use Rattle.worker_steps.proofs.Reached.{replay_more}
 use Rattle.schedule_core.specs.declared.event.Event.{Event}
 use Rattle.schedule_core.specs.declared.event.Event.TheVariants.{Step, Steal}
 use Rattle.schedule_core.specs.Replaying.{event_of, IsMachine, Happens, StopsOnly, AreEvents, StopsAt, DoesAll}
+use Rattle.schedule_core.specs.Spots.{KeepsSpots}
 use Rattle.schedule_core.proofs.Replaying.{replays_from}
+use Rattle.schedule_core.proofs.Spots.{keeps_spots, names_prop, spots_prop, spots_same}
 
 never_at : (prog : Program) → IsAccepted prog → (m : Run) → IsScheduled prog m → IsRun prog m → HasSlots prog m → (e : Event) → StopsOnly prog m e → ⊥
 never_at prog accepted m at run slots (Step worker) stops = steps_never_stop prog accepted m at run.agrees slots worker stops
@@ -57,6 +61,7 @@ module _ (prog : Program) (accepted : IsAccepted prog) (arguments : List ℤ) (n
         run = subst (λ (q : Program). IsRun q m) same all.run;
         slots = subst (λ (q : Program). HasSlots q m) same (all.slots slots);
         schedule = subst (λ (q : Program). IsScheduled q m) same (scheduled events m all);
+        given = all.given s.generations;
       }
 
   pub machine_after : (m : Run) (events : List Event) → DoesAll prog first m events → IsMachine m
@@ -65,7 +70,7 @@ module _ (prog : Program) (accepted : IsAccepted prog) (arguments : List ℤ) (n
       machine_of events m all (sym (ap (λ v. v.now) all.program ∙ s.program))
 
   pub machine_at_start : IsMachine first
-  machine_at_start = machine_of [] first (record { replayed = refl; workers = refl; program = refl; run = s.machine; slots = λ h. h }) (sym s.program)
+  machine_at_start = machine_of [] first (record { replayed = refl; workers = refl; program = refl; run = s.machine; slots = λ h. h; stalls = λ last agree. agree; names = refl; given = λ g. g }) (sym s.program)
 
   -- the schedule theorem
   pub keeps_schedule : (m : Run) (events : List Event) → DoesAll prog first m events → KeepsItsSchedule prog arguments globals workers m
@@ -113,7 +118,23 @@ module _ (old new : Run) (e : Event) (over : ¬ IsGoing old → new ≡ old) (st
           run = subst (λ (q : Program). IsRun q new) same ev.machine;
           slots = subst (λ (q : Program). HasSlots q new) same (ev.slots k.slots);
           schedule = subst (λ (q : Program). IsScheduled q new) same (scheduled_next old.verified.now old new (event_of e) done ev unless k.schedule);
+          given = given_on old new ev.follows k.given;
         }
+
+  -- slots, generations and names are kept
+  pub spots_after : (r : Result Bool OutOfMemory) → OnErr r (new ≡ old) → IfOk r (DoesEvent old.verified.now old new (event_of e)) → ∥ IsMachine old ∥₁ → KeepsSpots old.cactus new.cactus
+  spots_after r same does kept = ∥∥₁_elim kept (spots_prop old.cactus new.cactus) (λ k. by r same does k)
+    where
+      by : (r : Result Bool OutOfMemory) → OnErr r (new ≡ old) → IfOk r (DoesEvent old.verified.now old new (event_of e)) → IsMachine old → KeepsSpots old.cactus new.cactus
+      by (Err x) same does k = subst (λ (m : Run). KeepsSpots old.cactus m.cactus) (sym same) (spots_same old k.run.agrees.tree)
+      by (Ok done) same does k = let ev : Happens old new (event_of e) done = happened k done does in keeps_spots old new k.run.agrees.tree ev.machine.agrees.tree ev.follows
+
+  pub names_after : (r : Result Bool OutOfMemory) → OnErr r (new ≡ old) → IfOk r (DoesEvent old.verified.now old new (event_of e)) → ∥ IsMachine old ∥₁ → names_of new.memory ≡ names_of old.memory
+  names_after r same does kept = ∥∥₁_elim kept (names_prop old.memory new.memory) (λ k. by r same does k)
+    where
+      by : (r : Result Bool OutOfMemory) → OnErr r (new ≡ old) → IfOk r (DoesEvent old.verified.now old new (event_of e)) → IsMachine old → names_of new.memory ≡ names_of old.memory
+      by (Err x) same does k = ap (λ (m : Run). names_of m.memory) same
+      by (Ok done) same does k = (happened k done does).follows.names
 
   pub happens_if : (r : Result Bool OutOfMemory) → IfOk r (DoesEvent old.verified.now old new (event_of e)) → ∥ IsMachine old ∥₁ → IfOk r (λ done. ∥ Happens old new (event_of e) done ∥₁)
   happens_if (Err x) does kept = tt

@@ -2,3 +2,4 @@ pub mod Lines
 pub mod Viewed
 pub mod Replaying
 pub mod Parents
+pub mod Spots

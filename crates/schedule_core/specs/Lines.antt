@@ -1,9 +1,11 @@
 -- The lines of a module at which frames stand.
-use Rattle.std.specs.Prelude.{◌≡◌, ℕ, Option, Some, None, option_and_then, slice_get}
+use Rattle.std.specs.Prelude.{◌≡◌, ℕ, List, Option, Some, None, option_and_then, slice_get}
 use Rattle.std.specs.Option.{option_map, option_map_or}
+use Rattle.running.specs.Paths.{Path as RunningPath}
 use Rattle.running.specs.Frames.{block_at}
 use Rattle.running.specs.Frames as running_frames
 use Rattle.running.specs.Events as running
+use Rattle.running.specs.Replay.{replay}
 use Rattle.program.specs.declared.function.Block.{Block}
 use Rattle.program.specs.declared.function.Program.{Program}
 use Rattle.program.specs.declared.identifier.BlockId.{BlockId}
@@ -11,6 +13,9 @@ use Rattle.program.specs.declared.identifier.FunctionId.{FunctionId}
 use Rattle.program.specs.declared.instruction.Step.{Step}
 use Rattle.program.specs.declared.instruction.Ending.{Ending}
 use Rattle.frame.specs.declared.frame.Frame.{Frame}
+use Rattle.worker_steps.specs.Stalls.{Blocks, no_blocks, last_blocks}
+use Rattle.schedule_core.specs.declared.task.Status.{Status}
+use Rattle.schedule_core.specs.declared.task.Status.TheVariants.{Running, Ready, Stalled}
 
 -- the line of the block's terminator
 abbrev pub ending_line : Block → Option ℕ
@@ -33,16 +38,40 @@ abbrev pub sync_line : Program → FunctionId → BlockId → Option ℕ
 sync_line prog function block = option_and_then ending_line (block_at prog function.0 block.0)
 
 -- the line at which a task stands with this frame on top: where it is stalled, that of its sync, which ends the block
-abbrev pub line_by : Program → Frame → Option BlockId → Option ℕ
-line_by prog f None = next_line prog f
-line_by prog f (Some block) = sync_line prog f.function block
+abbrev pub line_by : Program → Frame → Option BlockId → Status → Option ℕ
+line_by prog f stalled_in (Stalled region) = option_and_then (sync_line prog f.function) stalled_in
+line_by prog f stalled_in Ready = next_line prog f
+line_by prog f stalled_in (Running worker) = next_line prog f
 
-abbrev pub line_of : Program → Frame → Option BlockId → ℕ
-line_of prog f stalled_in = option_map_or (λ (line : ℕ). line) (line_by prog f stalled_in) 0
+-- 0 where no instruction stands there
+abbrev pub line_or_zero : Option ℕ → ℕ
+line_or_zero line = option_map_or (λ (line : ℕ). line) line 0
 
--- the line of the next instruction of a frame of the definitions
+-- ---- by the definitions
+
+-- the line of the next instruction of a frame
 abbrev pub place_line : Program → running_frames.Frame → Option ℕ
 place_line prog f = option_and_then (λ (block : Block). line_in block f.index) (block_at prog f.function f.block)
+
+-- the line of the sync that ends a block of the frame's function
+abbrev pub ending_at : Program → Option ℕ → running_frames.Frame → Option ℕ
+ending_at prog block f = option_and_then (λ (b : ℕ). option_and_then ending_line (block_at prog f.function b)) block
+
+-- the line of a task with this top: where it is stalled, that of its sync, which was the top's last instruction and ended this block; else that of
+-- the top's next instruction
+abbrev pub line_at_top : Program → running.Machine → Option ℕ → RunningPath → running.Status → Option ℕ
+line_at_top prog c last top (running.Stalled region) = option_and_then (ending_at prog last) (c.core.frames top)
+line_at_top prog c last top running.Ready = option_and_then (place_line prog) (c.core.frames top)
+line_at_top prog c last top (running.Running worker) = option_and_then (place_line prog) (c.core.frames top)
+
+-- the line of the task of a path, where frames did their last instructions in these blocks
+abbrev pub line_of_task : Program → ℕ → running.Machine → Blocks → RunningPath → Option ℕ
+line_of_task prog workers c last t =
+    option_and_then (line_at_top prog c (last (running.top_of c.core t)) (running.top_of c.core t)) (running.status_of workers c t)
+
+-- after the events of a schedule from this state
+abbrev pub line_after : Program → ℕ → List running.Event → running.Machine → RunningPath → Option ℕ
+line_after prog workers events c t = line_of_task prog workers (replay prog workers events c) (last_blocks prog workers events c no_blocks) t
 
 -- the line of the next instruction of the worker's task
 abbrev pub line_of_worker : Program → running.Machine → ℕ → Option ℕ

@@ -22,7 +22,7 @@ use Rattle.worker_steps.specs.Tasks.{IsLowestBelow}
 use Rattle.schedule_core.specs.declared.task.Status.{Status}
 use Rattle.schedule_core.specs.declared.task.Status.TheVariants.{Running, Ready, Stalled}
 use Rattle.schedule_core.specs.declared.task.TaskView.{TaskView}
-use Rattle.schedule_core.specs.Lines.{line_of}
+use Rattle.schedule_core.specs.Lines.{line_by, line_or_zero}
 
 -- ---- frames and cells
 
@@ -69,7 +69,7 @@ pub record Shows (run : Run) (low high : ℕ) (view : TaskView) : Type 0 where
   pub top : view.top.now ≡ above.frame.frame
   pub top_path : view.top_path.now ≡ above.path
   pub status : view.status ≡ status_by above.frame.runner above.frame.frame.waits
-  pub line : view.line ≡ line_of run.verified.now above.frame.frame above.frame.stalled_in
+  pub line : view.line ≡ line_or_zero (line_by run.verified.now above.frame.frame above.frame.stalled_in view.status)
 
 -- the view's top frame stands at the top's path
 abbrev pub ShowsTop : Run → TaskView → Type 0

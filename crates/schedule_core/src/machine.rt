@@ -1,4 +1,4 @@
-ghost use Rattle.std.specs.Prelude.{◌↔◌, ◌≡◌, ◌≢◌, None, Some, IsSome, ℕ, IsTrue, IfOk, false, OnErr, OnOk};
+ghost use Rattle.std.specs.Prelude.{◌↔◌, ◌≡◌, ◌≢◌, [], None, Some, IsSome, ℕ, IsTrue, IfOk, false, OnErr, OnOk};
 ghost use Rattle.running.specs.Replay.{CountsFrames};
 ghost use Rattle.serial_machine.specs.Requirements.{unmet_in};
 ghost use Rattle.store.specs.Made.{HasGlobalCells};
@@ -9,7 +9,9 @@ ghost use Rattle.worker_steps.specs.Seen.{seen};
 ghost use Rattle.worker_steps.specs.Slots.{HasSlots};
 ghost use Rattle.worker_steps.specs.Stepping.{DoesEvent, IsRun, StartsAs};
 ghost use Rattle.worker_steps.specs.Copying.{IsCopy};
-ghost use Rattle.schedule_core.specs.Replaying.{GrowsOnly, Happens, IsMachine, event_of};
+ghost use Rattle.worker_steps.specs.Follows.{names_of};
+ghost use Rattle.schedule_core.specs.Spots.{KeepsSpots};
+ghost use Rattle.schedule_core.specs.Replaying.{GrowsOnly, Happens, IsMachine, Replays, ReplaysOneMore, ReplaysTheSame, event_of};
 
 use crate::event::Event;
 use crate::events::{apply_to, begin};
@@ -46,6 +48,7 @@ impl<'v> Machine<'v> {
         ensures started { IfOk result (λ m. IsStart m.run workers) }
         ensures state { IfOk result (λ m. StartsAs verified.now arguments.now memory m.run) }
         ensures slots { IfOk result (λ m. HasSlots verified.now m.run) }
+        ensures replays { IfOk result (λ m. Replays verified.now arguments.now memory workers [] m.run) }
         ensures in_range { OnOk result (IsNumberOfWorkers workers) }
         ensures bad_arguments { (requirement : ℕ) → unmet_in verified.now arguments.now ≡ Some requirement
             → result ≡ Err (RunFault.BadArguments requirement memory) }
@@ -74,6 +77,9 @@ impl<'v> Machine<'v> {
         ensures event { IfOk result (λ done. ∥ Happens self.old.run self.new.run (event_of event.now) done ∥₁) }
         ensures does { IfOk result (DoesEvent self.old.run.verified.now self.old.run self.new.run (event_of event.now)) }
         ensures happens { IsRun self.old.run.verified.now self.old.run → IfOk result (Happens self.old.run self.new.run (event_of event.now)) }
+        ensures keeps { OnOk result (ReplaysOneMore self.old.run self.new.run event.now) }
+        ensures spots { KeepsSpots self.old.run.cactus self.new.run.cactus }
+        ensures names { names_of self.new.run.memory ≡ names_of self.old.run.memory }
         ensures never_stops { ¬ IsTrapped self.new.run }
     {
         apply_to(&mut self.run, event)
@@ -85,7 +91,8 @@ impl<'v> Machine<'v> {
     ///
     /// Memory was refused.
     pub fn copy(&self) -> Result<Machine<'v>, OutOfMemory>
-        ensures { IfOk result (λ m. IsCopy self.now.run m.run) }
+        ensures same { IfOk result (λ m. IsCopy self.now.run m.run) }
+        ensures keeps { IfOk result (λ m. ReplaysTheSame self.now.run m.run) }
     {
         let run = self.run.copy()?;
         Ok(Machine { run })

@@ -82,17 +82,18 @@ fn sync_line(program: &Program, function: FunctionId, block: BlockId) -> Option<
 
 /// The line of the frame's next instruction, or of the sync at which it is stalled.
 fn standing_line(program: &Program, top: &Activation) -> Option<u32>
-    ensures { result ≡ lines.line_by program.now top.now.frame top.now.stalled_in }
+    ensures { result ≡ lines.line_by program.now top.now.frame top.now.stalled_in (status_by top.now.runner top.now.frame.waits) }
 {
-    match top.stalled_in {
-        Some(block) => sync_line(program, top.frame.function, block),
-        None => next_line(program, &top.frame),
+    match standing(top) {
+        Status::Stalled(_) => sync_line(program, top.frame.function, top.stalled_in?),
+        _ => next_line(program, &top.frame),
     }
 }
 
 /// The line at which the task stands whose top this is; 0 where no instruction stands there.
 pub(crate) fn line(program: &Program, top: &Activation) -> u32
-    ensures { result ≡ lines.line_of program.now top.now.frame top.now.stalled_in }
+    ensures { let status = status_by top.now.runner top.now.frame.waits in
+        result ≡ lines.line_or_zero (lines.line_by program.now top.now.frame top.now.stalled_in status) }
 {
     match standing_line(program, top) {
         Some(line) => line,

@@ -1,10 +1,11 @@
-ghost use Rattle.std.specs.Prelude.{◌≡◌, ◌↔◌, None, Some, IsSome, IsSomeAnd, IfNone, IfSome};
+ghost use Rattle.std.specs.Prelude.{◌≡◌, ◌↔◌, ◌<◌, None, Some, IsSome, IsSomeAnd, IfNone, IfSome};
 ghost use Rattle.std.specs.Option.{option_copied, option_map};
 ghost use Rattle.cactus.specs.Frames.{Lives, HasPath, frame_at, node_of_use};
 ghost use Rattle.cactus.specs.ByPath.{IsTree};
 ghost use Rattle.worker_steps.specs.Running.{IsTrapped};
 ghost use Rattle.worker_steps.specs.Scheduling.{IsReady};
 ghost use Rattle.worker_steps.specs.Seen.{seen};
+ghost use Rattle.schedule_core.specs.Replaying.{HasLine};
 ghost use Rattle.schedule_core.specs.Viewed.{Advances, HoldsNothing, IsFirstReady, IsLesser, IsNamedBelow, IsNoneReady, IsReadyAt, IsRunBy, IsTask, Shows, held_at, place_in, status_in};
 
 use crate::machine::Machine;
@@ -53,6 +54,7 @@ impl Machine<'_> {
     pub fn task(&self, path: &Path) -> Option<TaskView<'_>>
         ensures shown { ¬ IsTrapped self.now.run → IfSome result (IsTask self.now.run path.now) }
         ensures absent { ¬ IsTrapped self.now.run → IfNone result (status_in self.now.run path.now ≡ None) }
+        ensures line { IfSome result (HasLine self.now.run (place_in path.now)) }
     {
         let top = self.run.top_of(path)?;
         let (lowest, _generation) = self.run.cactus.spot(path)?;
@@ -63,6 +65,7 @@ impl Machine<'_> {
     pub fn task_of(&self, worker: u8) -> Option<TaskView<'_>>
         ensures shown { ¬ IsTrapped self.now.run → IfSome result (IsRunBy self.now.run worker) }
         ensures idle { ¬ IsTrapped self.now.run → IfNone result ((seen self.now.run).hands worker ≡ None) }
+        ensures line { IfSome result (λ view. HasLine self.now.run (place_in view.path.now) view) }
     {
         let top = self.run.hand(worker)?;
         self.view(self.run.lowest_below(top)?, top)
@@ -115,6 +118,7 @@ impl Machine<'_> {
     /// The slot and the generation of the frame of this path; none where no such frame lives.
     pub fn spot(&self, path: &Path) -> Option<(usize, u64)>
         ensures found { IfSome result (λ spot. HasPath self.now.run.cactus spot.0 spot.1 path.now) }
+        ensures given { IfSome result (λ spot. spot.1 < self.now.run.cactus.made) }
         ensures lives { IsSome result ↔ IsSome ((seen self.now.run).core.frames (place_in path.now)) }
     {
         self.run.cactus.spot(path)

@@ -3,7 +3,7 @@ use Rattle.std.proofs.Common.{◌≡◌, ℕ, ℤ, ◌≤◌, List, [], ◌∷�
 use Rattle.std.specs.Prelude.{IsSome, is_none}
 use Rattle.std.proofs.lemmas.List.{map-append}
 use Rattle.running.specs.Events as running
-use Rattle.running.specs.Events.{Machine, event, start}
+use Rattle.running.specs.Events.{Machine, event}
 use Rattle.running.specs.Replay.{or_unchanged, replay, has_ended}
 use Rattle.running.specs.SerialMeaning.{Gave}
 use Rattle.running.specs.Cells.{Shared}
@@ -21,10 +21,10 @@ use Rattle.worker_steps.specs.declared.run.Phase.TheVariants.{Going, Ended, Trap
 use Rattle.worker_steps.specs.Running.{IsNumberOfWorkers, result_of}
 use Rattle.worker_steps.specs.Seen.{seen}
 use Rattle.worker_steps.specs.Slots.{HasSlots}
-use Rattle.worker_steps.specs.Stepping.{IsRun, StartsAs}
-use Rattle.worker_steps.proofs.Reached.{replay_more}
+use Rattle.worker_steps.specs.Stepping.{IsEvent, IsRun, StartsAs}
+use Rattle.schedule_core.proofs.Replaying.{replays_next, replays_start}
 use Rattle.schedule_core.specs.declared.event.Event.{Event}
-use Rattle.schedule_core.specs.Replaying.{event_of, Happens}
+use Rattle.schedule_core.specs.Replaying.{event_of, Happens, Replays}
 use Rattle.shared_run.specs.Answer.{IsSerialAnswer}
 use Rattle.shared_run.specs.Story.{Origin, AreEnabled, IsLegal, first_of}
 
@@ -38,7 +38,7 @@ pub legal_start : (o : Origin) (run : Run) → StartsAs o.program o.arguments o.
     unmet_in o.program o.arguments ≡ None → HasGlobalCells o.program o.memory → IsLegal o [] run
 legal_start o run s slots many manned accepted taken made =
     record {
-      replays = record { reads = s.reads; run = s.machine; slots = slots };
+      replays = replays_start o.program o.arguments o.memory o.workers run s slots many;
       enabled = tt;
       program = s.program;
       workers = many;
@@ -105,13 +105,8 @@ module _ (o : Origin) (events : List Event) (run : Run) (legal : IsLegal o event
       let exact : event o.program o.workers (event_of e) (seen run) ≡ Some (seen new) = sym (event_here (event_of e)) ∙ ev.exact in
       let all : map event_of more ≡ map event_of events ++ event_of e ∷ [] = ap (λ l. map event_of l) is ∙ map-append event_of events (e ∷ []) in
       record {
-        replays = record {
-          reads = sym (ap (λ l. replay o.program o.workers l (first_of o)) all
-              ∙ (replay_more o.program o.workers (map event_of events) (event_of e) (first_of o)
-              ∙ (ap (λ x. or_unchanged (event o.program o.workers (event_of e) x) x) (sym legal.replays.reads) ∙ ap (λ x. or_unchanged x (seen run)) exact)));
-          run = subst (λ (p : Program). IsRun p new) legal.program ev.machine;
-          slots = subst (λ (p : Program). HasSlots p new) legal.program (ev.slots (subst (λ (p : Program). HasSlots p run) (sym legal.program) legal.replays.slots));
-        };
+        replays = subst (λ (l : List Event). Replays o.program o.arguments o.memory o.workers l new) (sym is)
+            (replays_next o.program o.arguments o.memory o.workers events run new e true (subst (λ (p : Program). IsEvent p run new (event_of e) true) legal.program ev) (λ off. absurd (cc)) legal.replays);
         enabled = subst (λ l. AreEnabled o.program o.workers l (first_of o)) (sym all)
             (enabled_more o.program o.workers (map event_of events) (event_of e) (first_of o) legal.enabled
             (subst (λ x. IsSome (event o.program o.workers (event_of e) x)) legal.replays.reads (subst (λ x. IsSome x) (sym exact) refl)));

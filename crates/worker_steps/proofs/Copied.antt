@@ -1,9 +1,9 @@
 -- A copy of a run reads as the run does, and keeps what it keeps.
-use Rattle.std.proofs.Common.{◌≡◌, ℕ, zero, suc, ◌+◌, ◌<◌, ◌≤◌, List, [], ◌∷◌, ◌++◌, length, map, reverse, Option, Some, None, Bool, true, false, cond, refl, sym, ap, ◌∙◌, subst, arith, get_or, slice_get, ℤ}
-use Rattle.std.specs.Prelude.{IsSome, IsSomeAnd, option_and_then}
+use Rattle.std.proofs.Common.{◌≡◌, ℕ, zero, suc, ◌+◌, ◌<◌, ◌≤◌, List, [], ◌∷◌, ◌++◌, length, reverse, Option, Some, None, Bool, true, false, cond, refl, sym, ap, ◌∙◌, subst, get_or, slice_get}
+use Rattle.std.specs.Prelude.{IsSome, option_and_then}
 use Rattle.std.specs.Option.{option_map, option_map_or}
 use Rattle.std.specs.List.{AllZip}
-use Rattle.std.proofs.lemmas.List.{length-map, reverse-reverse}
+use Rattle.std.proofs.lemmas.List.{length-map}
 use Rattle.slab.specs.Slab.{IsSlotClone}
 use Rattle.running.specs.Paths.{Path, same_path}
 use Rattle.running.specs.Cells.{Cell, Object, Shared, Local}
@@ -21,7 +21,7 @@ use Rattle.frame.specs.Copies.{IsCopy as IsFrameCopy}
 use Rattle.linear.specs.declared.form.RegisterId.{RegisterId}
 use Rattle.program.specs.declared.identifier.FunctionId.{FunctionId}
 use Rattle.program.specs.declared.identifier.ObjectName.TheVariants as object
-use Rattle.store.specs.Cells.{NamedCells, cell_at}
+use Rattle.store.specs.Cells.{cell_at}
 use Rattle.store.specs.Made.{HasGlobalCells}
 use Rattle.sync_join.specs.declared.count.RegionCount.{RegionCount}
 use Rattle.cactus.specs.declared.node.Node.{Node}
@@ -30,12 +30,15 @@ use Rattle.cactus.specs.ByPath.{first_named, named, IsTree, IsBelow}
 use Rattle.cactus.specs.Copies.{IsNodeCopy, AreCopies}
 use Rattle.worker_steps.specs.declared.activation.Activation.{Activation}
 use Rattle.worker_steps.specs.declared.run.Run.{Run}
-use Rattle.worker_steps.specs.Running.{IsTrapped, result_of}
+use Rattle.worker_steps.specs.Running.{result_of}
 use Rattle.worker_steps.specs.Scheduling.{hand_of, counted_in}
 use Rattle.worker_steps.specs.Seen.{place_of, seen, seen_at, frames_of, alloca_cell, held_in, memory_of, hands_of, tree_of, CalleeStands, IsFit, Agrees}
 use Rattle.worker_steps.specs.Slots.{IsPlaced, ArePlaced, HasSlots}
-use Rattle.worker_steps.specs.Stepping.{IsRun, IsOver, IsReached}
+use Rattle.worker_steps.specs.Stepping.{IsRun, IsReached}
 use Rattle.worker_steps.specs.Copying.{IsActivationCopy, HoldsSame, IsCopy}
+use Rattle.worker_steps.specs.Follows.{IsSameUse, KeepsUses, names_of}
+use Rattle.worker_steps.specs.Stalls.{IsStalledIn, KeepsStalls}
+use Rattle.worker_steps.proofs.Stalls.{stays_alike}
 
 -- ---- a frame
 
@@ -305,5 +308,20 @@ module _ (m copy : Run) (same : HoldsSame m copy) where
         made = subst (λ n. n ≤ copy.instructions + 1) (sym same.frames.made) (subst (λ n. m.cactus.made ≤ n + 1) (sym (ap (λ (r : Run). r.instructions) same.only)) s.made);
       }
 
+  stalls_stay : KeepsStalls m copy
+  stalls_stay last agree slot other at =
+      let (node, stands, c) = original m.cactus copy.cactus same.frames slot other at in
+      subst (λ q. IsStalledIn (last (reverse q.numbers)) other.frame) (sym (path_same node other c))
+      (stays_alike node.frame other.frame (runner_same m.cactus copy.cactus same.frames node other c) (waits_same m.cactus copy.cactus same.frames node other c) (ap (λ (a : Activation). a.stalled_in) c.frame.only)
+      (last (place_of node)) (agree slot node stands))
+
+  uses_stay : KeepsUses m copy
+  uses_stay = record { names = ap names_of memory_same; made = same.frames.made; uses = uses }
+    where
+      uses : (slot : ℕ) (other : Node Activation) → node_at copy.cactus slot ≡ Some other → IsSameUse m.cactus slot other
+      uses slot other at =
+          let (node, stands, c) = original m.cactus copy.cactus same.frames slot other at in
+          record { there = node; stands = stands; generation = sym (ap (λ (n : Node Activation). n.generation) c.only); path = sym (path_same node other c) }
+
   pub is_copy : IsCopy m copy
-  is_copy = record { holds = same; reads = reads_same; run = run_stays; slots = slots_stay }
+  is_copy = record { holds = same; reads = reads_same; run = run_stays; slots = slots_stay; stalls = stalls_stay; uses = uses_stay }

@@ -18,9 +18,13 @@ use Rattle.worker_steps.specs.Running.{IsGoing, IsTrapped, result_of}
 use Rattle.worker_steps.specs.Scheduling.{hand_of}
 use Rattle.worker_steps.specs.Seen.{place_of, seen, Agrees, StealsIf}
 use Rattle.worker_steps.specs.Slots.{HasSlots, KeepsSlots}
-use Rattle.worker_steps.specs.Stepping.{counted, frame_in, PlainDone, DoesPlain, IsRun, IsStep, IsTurn, IsEvent, IsReached, DoesEvent, FillsSlotsAt, StepsAt, next_action}
+use Rattle.worker_steps.specs.Follows.{Follows, KeepsUses}
+use Rattle.worker_steps.specs.Stalls.{Blocks, StallsAgree, KeepsStalls, noted}
+use Rattle.worker_steps.specs.Stepping.{counted, frame_in, PlainDone, DoesPlain, IsRun, IsStep, IsTurn, IsEvent, IsReached, DoesEvent, FillsSlotsAt, LeavesStalls, StepsAt, next_action}
 use Rattle.worker_steps.proofs.Views.{node_tells, frame_seen, hand_below}
 use Rattle.worker_steps.proofs.PlainSteps.{plain_event}
+use Rattle.worker_steps.proofs.Follows.{follows_kept, keeps_all}
+use Rattle.worker_steps.proofs.Stalls.{step_stalls}
 use Rattle.worker_steps.proofs.Steals.{unless}
 use Rattle.worker_steps.proofs.Reached.{reached_manned, reached_next}
 use Rattle.worker_steps.proofs.Acting as acting
@@ -58,8 +62,8 @@ module _ (prog : Program) (old mid : Run) (w : ℕ) (m : IsRun prog old) (step :
   happens : running.event prog (length old.hands.items) (running.Step w) (seen old) ≡ Some (seen after_step)
   happens = step.event ∙ ap Some seen_after
 
-  pub step_done : ¬ IsTrapped mid → (HasSlots prog old → HasSlots prog after_step) → IsEvent prog old after_step (running.Step w) true
-  step_done sound slots =
+  pub step_done : ¬ IsTrapped mid → (HasSlots prog old → HasSlots prog after_step) → ((last : Blocks) → StallsAgree last old.cactus → StallsAgree (noted (running.Step w) (seen old) last) mid.cactus) → Follows old mid → IsEvent prog old after_step (running.Step w) true
+  step_done sound slots stalls follows =
       record {
         exact = happens;
         workers = step.workers;
@@ -72,15 +76,17 @@ module _ (prog : Program) (old mid : Run) (w : ℕ) (m : IsRun prog old) (step :
           reached = subst (λ n. IsReached prog n (seen after_step)) (sym step.workers) (reached_next prog (length old.hands.items) (seen old) (seen after_step) (running.Step w) m.reached happens);
         };
         slots = slots;
+        stalls = stalls;
+        follows = record { names = follows.names; made = follows.made; uses = follows.uses };
       }
 
 -- the step of a worker that has a task
-pub turn_done : (prog : Program) (old mid : Run) (w slot : ℕ) → IsGoing old → hand_of old.hands.items w ≡ Some slot → StepsAt prog old mid w slot → FillsSlotsAt prog old mid w slot → DoesEvent prog old (record mid { instructions = old.instructions + 1 }) (running.Step w) true
-turn_done prog old mid w slot going has steps fills m sound =
+pub turn_done : (prog : Program) (old mid : Run) (w slot : ℕ) → IsGoing old → hand_of old.hands.items w ≡ Some slot → StepsAt prog old mid w slot → FillsSlotsAt prog old mid w slot → LeavesStalls prog old mid w slot → Follows old mid → DoesEvent prog old (record mid { instructions = old.instructions + 1 }) (running.Step w) true
+turn_done prog old mid w slot going has steps fills leaves follows m sound =
     let (node, stands) = node_tells old.cactus slot (m.agrees.held w slot has) in
     let turn : IsTurn prog old w slot node = record { machine = m; going = going; hand = has; stands = stands } in
     let counted_slots : HasSlots prog old → HasSlots prog (record mid { instructions = old.instructions + 1 }) = λ s. subst (λ n. HasSlots prog (record mid { instructions = n + 1 })) (steps node turn).counts (fills node turn s) in
-    step_done prog old mid w m (steps node turn) sound counted_slots
+    step_done prog old mid w m (steps node turn) sound counted_slots (λ last. step_stalls prog old w slot node turn last mid leaves) follows
 
 -- of a machine that has trapped nothing is said
 pub trapped_quiet : (prog : Program) (old new : Run) (e : running.Event) (done : Bool) → new.phase ≡ Trapped → DoesEvent prog old new e done
@@ -88,13 +94,13 @@ trapped_quiet prog old new e done trapped m sound = absurd (sound trapped)
 
 -- a worker without a task does nothing
 pub idle_step : (prog : Program) (old : Run) (w : ℕ) → hand_of old.hands.items w ≡ None → DoesEvent prog old old (running.Step w) false
-idle_step prog old w none m sound = record { exact = rw none refl; workers = refl; program = refl; machine = m; slots = λ s. s }
+idle_step prog old w none m sound = record { exact = rw none refl; workers = refl; program = refl; machine = m; slots = λ s. s; stalls = λ last agree. agree; follows = follows_kept old old (keeps_all old) }
 
 -- ---- steals
 
-module _ (prog : Program) (old new : Run) (w : ℕ) (t : Path) (going : IsGoing old) (kept : new ≡ record old { cactus = new.cactus; hands = new.hands }) (workers : length new.hands.items ≡ length old.hands.items) (agrees : Agrees old.cactus old.hands.items → Agrees new.cactus new.hands.items) (slots : KeepsSlots old new) where
+module _ (prog : Program) (old new : Run) (w : ℕ) (t : Path) (going : IsGoing old) (kept : new ≡ record old { cactus = new.cactus; hands = new.hands }) (workers : length new.hands.items ≡ length old.hands.items) (agrees : Agrees old.cactus old.hands.items → Agrees new.cactus new.hands.items) (slots : KeepsSlots old new) (stalls : KeepsStalls old new) (uses : KeepsUses old new) where
   pub steal_done : (did : Bool) → (¬ IsTrue did → new ≡ old) → (Agrees old.cactus old.hands.items → StealsIf old new w t did) → DoesEvent prog old new (running.Steal w t) did
-  steal_done false same steals m sound = record { exact = steals m.agrees prog; workers = workers; program = ap (λ (x : Run). x.verified) kept; machine = subst (λ (x : Run). IsRun prog x) (sym (same (λ e. cc))) m; slots = slots prog }
+  steal_done false same steals m sound = record { exact = steals m.agrees prog; workers = workers; program = ap (λ (x : Run). x.verified) kept; machine = subst (λ (x : Run). IsRun prog x) (sym (same (λ e. cc))) m; slots = slots prog; stalls = stalls; follows = follows_kept old new uses }
   steal_done true same steals m sound =
       record {
         exact = steals m.agrees prog;
@@ -108,11 +114,14 @@ module _ (prog : Program) (old new : Run) (w : ℕ) (t : Path) (going : IsGoing 
           reached = subst (λ n. IsReached prog n (seen new)) (sym workers) (reached_next prog (length old.hands.items) (seen old) (seen new) (running.Steal w t) m.reached (steals m.agrees prog));
         };
         slots = slots prog;
+        stalls = stalls;
+        follows = follows_kept old new uses;
       }
 
 -- ---- a run that has ended
 
-no_frames : (s : State) → Tree s → s.frames [] ≡ None → (p : Path) → s.frames p ≡ None
+-- without the root there is no frame
+pub no_frames : (s : State) → Tree s → s.frames [] ≡ None → (p : Path) → s.frames p ≡ None
 no_frames s tree none [] = none
 no_frames s tree none (k ∷ p) = from (s.frames (k ∷ p)) refl (no_frames s tree none p)
   where
@@ -154,5 +163,5 @@ module _ (prog : Program) (old : Run) (over : ¬ IsGoing old) where
 
   -- no event is enabled any more
   pub over_quiet : (e : running.Event) → DoesEvent prog old old e false
-  over_quiet (running.Step w) m sound = record { exact = rw (hand_none m w (hand_of old.hands.items w) refl) refl; workers = refl; program = refl; machine = m; slots = λ s. s }
-  over_quiet (running.Steal w t) m sound = record { exact = steal_none m w t; workers = refl; program = refl; machine = m; slots = λ s. s }
+  over_quiet (running.Step w) m sound = record { exact = rw (hand_none m w (hand_of old.hands.items w) refl) refl; workers = refl; program = refl; machine = m; slots = λ s. s; stalls = λ last agree. agree; follows = follows_kept old old (keeps_all old) }
+  over_quiet (running.Steal w t) m sound = record { exact = steal_none m w t; workers = refl; program = refl; machine = m; slots = λ s. s; stalls = λ last agree. agree; follows = follows_kept old old (keeps_all old) }

@@ -7,10 +7,13 @@ pub mod PlainSteps
 pub mod Reached
 pub mod Performed
 pub mod Missing
+mod EachNode
 pub mod Slots
 pub mod Filling
 pub mod Refusing
 pub mod Acting
+pub mod Stalls
+pub mod Follows
 pub mod Synced
 pub mod Grown
 pub mod Shrunk
@@ -20,5 +23,6 @@ pub mod Passing
 pub mod Calls
 pub mod Growing
 pub mod Happening
+mod Over
 pub mod Started
 pub mod Copied

@@ -1,6 +1,5 @@
 -- What keeps a place for all that the program's text names, and new frames that have them.
-use Rattle.std.proofs.Common.{◌≡◌, ◌≢◌, ℕ, suc, ◌+◌, ◌-◌, max, ◌<◌, List, ◌∷◌, length, Option, Some, None, inl, inr, refl, sym, ap, ◌∙◌, subst, arith, ℤ, Vec, Global}
-use Rattle.std.proofs.lemmas.Bool.Decides.{eqb_tells}
+use Rattle.std.proofs.Common.{◌≡◌, ◌≢◌, ℕ, suc, ◌+◌, ◌-◌, max, ◌<◌, List, ◌∷◌, length, Option, Some, None, refl, sym, ap, ◌∙◌, subst, arith, ℤ, Vec, Global}
 use Rattle.std.proofs.lemmas.List.{length-drop}
 use Rattle.std.specs.Prelude.{slice_get, IsTrue, Bool, true, false}
 use Rattle.std.specs.Vec.{with_item}
@@ -27,7 +26,6 @@ use Rattle.frame.proofs.Declared.{own_cells}
 use Rattle.cactus.specs.declared.node.Node.{Node}
 use Rattle.cactus.specs.Frames.{Frames, node_at, frame_at, IsAdded, IsRemoved}
 use Rattle.cactus.specs.Lending.{with_frame, written}
-use Rattle.cactus.proofs.FramesLemmas.{node_at-with_frame, node_at-with_frame_other}
 use Rattle.sync_join.specs.declared.count.Outcome.{Outcome}
 use Rattle.sync_join.specs.declared.count.Outcome.TheVariants.{ResumeReady, ResumeStalled, Leave}
 use Rattle.worker_steps.specs.declared.activation.Activation.{Activation}
@@ -37,7 +35,8 @@ use Rattle.worker_steps.specs.Forking.{changed_in, with_change}
 use Rattle.worker_steps.specs.Running.{ResumesWith}
 use Rattle.worker_steps.specs.Seen.{run_at, run_by, taken}
 use Rattle.worker_steps.specs.Slots.{IsPlaced, ArePlaced, HasSlots, KeepsSlots, executed}
-use Rattle.worker_steps.proofs.Missing.{node_of_frame}
+use Rattle.worker_steps.proofs.EachNode.{written_each, removed_each, added_each}
+use Rattle.worker_steps.proofs.Performed.{same_frame}
 
 -- ---- an activation that keeps its places
 
@@ -101,34 +100,17 @@ placed_still prog a b k placed =
 
 module _ (prog : Program) (old : Frames Activation) where
   pub written_placed : (slot : ℕ) (a b : Activation) → frame_at old slot ≡ Some a → Keeps a b → ArePlaced prog old → ArePlaced prog (with_frame old slot b)
-  written_placed slot a b stood keeps placed s node stands =
-      let (was, there, same) = node_of_frame old slot a stood in
-      elim (eqb_tells slot s) [
-        | inl h ↦
-            let e : Some (record was { frame = b }) ≡ Some node = sym (node_at-with_frame old slot b was there) ∙ subst (λ x. node_at (with_frame old slot b) x ≡ Some node) (sym h.1) stands in
-            let f : record was { frame = b } ≡ node = cc in
-            subst (λ (n : Node Activation). IsPlaced prog n.frame) f (placed_still prog a b keeps (subst (λ (x : Activation). IsPlaced prog x) same (placed slot was there)))
-        | inr h ↦ placed s node (sym (node_at-with_frame_other old slot s b (λ e. h.1 (sym e))) ∙ stands)
-      ]
+  written_placed slot a b stood keeps placed =
+      written_each (λ (n : Node Activation). IsPlaced prog n.frame) old placed slot b
+      (λ n there p. placed_still prog a b keeps (subst (λ (x : Activation). IsPlaced prog x) (same_frame old slot n a there stood) p))
 
   removed_placed : (new : Frames Activation) (slot : ℕ) → IsRemoved old new slot → ArePlaced prog old → ArePlaced prog new
-  removed_placed new slot removed placed s node stands =
-      elim (eqb_tells slot s) [
-        | inl h ↦ absurd (let none : node_at new s ≡ None = subst (λ x. node_at new x ≡ None) h.1 removed.change.changed in cc)
-        | inr h ↦ placed s node (sym (removed.change.others s (λ e. h.1 (sym e))) ∙ stands)
-      ]
+  removed_placed new slot removed placed = removed_each (λ (n : Node Activation). IsPlaced prog n.frame) old placed new slot removed
 
   pub added_placed : (new : Frames Activation) (path : Name) (parent : Option ℕ) (child : Activation) (slot : ℕ) → IsAdded old new path parent child slot → IsPlaced prog child → ArePlaced prog old → ArePlaced prog new
-  added_placed new path parent child slot added fresh placed s node stands =
-      elim (eqb_tells slot s) [
-        | inl h ↦
-            let e : Some (record { generation = old.made; path = path; parent = parent; frame = child }) ≡ Some node = sym added.change.changed ∙ subst (λ x. node_at new x ≡ Some node) (sym h.1) stands in
-            let f : record { generation = old.made; path = path; parent = parent; frame = child } ≡ node = cc in
-            subst (λ (n : Node Activation). IsPlaced prog n.frame) f fresh
-        | inr h ↦ placed s node (sym (added.change.others s (λ e. h.1 (sym e))) ∙ stands)
-      ]
+  added_placed new path parent child slot added fresh placed = added_each (λ (n : Node Activation). IsPlaced prog n.frame) old placed new path parent child slot added fresh
 
-made_still : (frames : Frames Activation) (slot : ℕ) (a : Activation) → (with_frame frames slot a).made ≡ frames.made
+pub made_still : (frames : Frames Activation) (slot : ℕ) (a : Activation) → (with_frame frames slot a).made ≡ frames.made
 made_still frames slot a = from (node_at frames slot)
   where
     from : (o : Option (Node Activation)) → (written frames slot o a).made ≡ frames.made

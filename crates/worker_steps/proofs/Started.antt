@@ -26,6 +26,7 @@ use Rattle.worker_steps.specs.Scheduling.{hand_of, counted_in}
 use Rattle.worker_steps.specs.Seen.{place_of, seen, seen_at, frames_of, alloca_cell, held_in, memory_of, hands_of, tree_of, given, CalleeStands, IsFit, Agrees}
 use Rattle.worker_steps.specs.Stepping.{StartsAs}
 use Rattle.worker_steps.proofs.PlainSteps.{free_wait}
+use Rattle.worker_steps.proofs.Stalls.{runs_on}
 
 pub no_item : (s : ℕ) → get_or {A = Option (Node Activation)} [] s None ≡ None
 no_item zero = refl
@@ -161,4 +162,7 @@ module _ (prog : Program) (arguments : List ℤ) (m : Run) (root workers : ℕ) 
           manned = subst (λ n. 1 ≤ n) (sym many) (omega arith);
           reached = record { arguments = arguments; memory = given m.memory; events = []; after = sym seen_begin };
         };
+        stalls = λ last s n here. runs_on n.frame 0 (ap (λ (k : Node Activation). k.frame.runner) (sym (stood s n here).1) ∙ runs) (last (place_of n));
+        memory = refl;
+        generations = λ s n here. subst (λ (k : Node Activation). k.generation < m.cactus.made) (stood s n here).1 (let one = added.made in omega (arith, one));
       }

@@ -20,7 +20,7 @@ use Rattle.frame.specs.declared.frame.Wait.TheVariants as wait
 use Rattle.frame.specs.Reading.{frame_of}
 use Rattle.frame.specs.Room.{IsSound, Entered, IsEntered}
 use Rattle.cactus.specs.declared.node.Node.{Node}
-use Rattle.cactus.specs.Frames.{Frames, node_at, Lives}
+use Rattle.cactus.specs.Frames.{Frames, node_at, frame_at, Lives}
 use Rattle.cactus.specs.Lending.{with_frame, written}
 use Rattle.cactus.proofs.FramesLemmas.{node_at-with_frame, frame_at-with_frame}
 use Rattle.cactus.proofs.ByPathLemmas.{written_tree}
@@ -29,12 +29,16 @@ use Rattle.worker_steps.specs.declared.run.Run.{Run}
 use Rattle.worker_steps.specs.declared.run.Phase.TheVariants.{Going, Ended}
 use Rattle.worker_steps.specs.Scheduling.{hand_of, counted_in, living_within}
 use Rattle.worker_steps.specs.Seen.{place_of, seen, hands_of, CalleeStands, IsFit, Agrees}
-use Rattle.worker_steps.specs.Stepping.{frame_in, IsStep, IsTurn, next_action}
+use Rattle.worker_steps.specs.Stalls.{IsStalledIn, StallsAgree}
+use Rattle.worker_steps.specs.Stepping.{frame_in, IsStep, IsTurn, LeavesStalls, next_action}
 use Rattle.worker_steps.specs.Forking.{Enters, changed_in, with_change}
 use Rattle.worker_steps.proofs.Counting.{StaysInTree, counts_stand}
 use Rattle.worker_steps.proofs.Views.{hands_stay}
 use Rattle.worker_steps.proofs.PlainSteps.{stood, callee_still, lives_still, agrees_written, seen_written, hand_again}
+use Rattle.worker_steps.proofs.EachNode.{written_each}
+use Rattle.worker_steps.proofs.Missing.{same_node}
 use Rattle.worker_steps.proofs.Performed.{same_frame}
+use Rattle.worker_steps.proofs.Stalls.{freed_stalls, keeps_leaves, runs_on}
 use Rattle.worker_steps.proofs.Acting.{changed, within, held, there, may, no_callee, event_is, count_here}
 
 -- ---- a slot that is written twice
@@ -311,3 +315,37 @@ module _ (prog : Program) (old mid after : Run) (w slot : ℕ) (region : Registe
       new_is =
           becomes ∙ (ap (λ (m : Run). record (with_change m slot stall_it) { hands = with_item m.hands w None }) (after_is node turn)
           ∙ ap (λ (m : Run). record m { hands = with_item old.hands w None }) (change_twice old slot node (record node.frame { frame = record enters_it.frame { waits = wait.Region region } }) stall_it turn.stands))
+
+  -- ---- where frames are stalled
+
+  -- the worker runs on
+  pub passes_stalls : LeavesStalls prog old after w slot
+  passes_stalls node turn =
+      let runs : node.frame.runner ≡ Some w = (turn.machine.agrees.runners slot w node turn.stands).1 turn.hand in
+      let passing : Activation = record node.frame { frame = record enters_it.frame { waits = wait.Region region } } in
+      keeps_leaves prog old after w slot (freed_stalls old after slot passing (runs_on passing w runs) (ap (λ (m : Run). m.cactus) (after_is node turn))) node turn
+
+  -- the frame is stalled in the block that it has left
+  pub stalls_stalls : (new : Run) (top : Activation) → frame_at old.cactus slot ≡ Some top → new ≡ record (with_change after slot (λ a. record a { runner = None; stalled_in = Some top.frame.block })) { hands = with_item after.hands w None } → LeavesStalls prog old new w slot
+  stalls_stalls new top stood becomes node turn last here agree =
+      subst (λ (f : Frames Activation). StallsAgree last f) (sym (ap (λ (m : Run). m.cactus) new_is))
+      (written_each (λ (n : Node Activation). IsStalledIn (last (place_of n)) n.frame) old.cactus agree slot stalling at_slot)
+    where
+      stall_it : Activation → Activation
+      stall_it a = record a { runner = None; stalled_in = Some top.frame.block }
+
+      stalling : Activation
+      stalling = stall_it (record node.frame { frame = record enters_it.frame { waits = wait.Region region } })
+
+      new_is : new ≡ record old { cactus = with_frame old.cactus slot stalling; hands = with_item old.hands w None }
+      new_is =
+          becomes ∙ (ap (λ (m : Run). record (with_change m slot stall_it) { hands = with_item m.hands w None }) (after_is node turn)
+          ∙ ap (λ (m : Run). record m { hands = with_item old.hands w None }) (change_twice old slot node (record node.frame { frame = record enters_it.frame { waits = wait.Region region } }) stall_it turn.stands))
+
+      block : Some top.frame.block.0 ≡ last (place_of node)
+      block = ap (λ (a : Activation). Some a.frame.block.0) (sym (same_frame old.cactus slot node top turn.stands stood)) ∙ sym here
+
+      at_slot : (n : Node Activation) → node_at old.cactus slot ≡ Some n → IsStalledIn (last (place_of n)) n.frame → IsStalledIn (last (place_of n)) stalling
+      at_slot n there was region free waits =
+          let same : node ≡ n = same_node (node_at old.cactus slot) node n turn.stands there in
+          subst (λ (k : Node Activation). Some top.frame.block.0 ≡ last (place_of k)) same block

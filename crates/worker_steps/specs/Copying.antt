@@ -7,6 +7,8 @@ use Rattle.worker_steps.specs.declared.activation.Activation.{Activation}
 use Rattle.worker_steps.specs.declared.run.Run.{Run}
 use Rattle.worker_steps.specs.Seen.{seen}
 use Rattle.worker_steps.specs.Slots.{HasSlots}
+use Rattle.worker_steps.specs.Follows.{KeepsUses}
+use Rattle.worker_steps.specs.Stalls.{KeepsStalls}
 use Rattle.worker_steps.specs.Stepping.{IsRun}
 
 pub record IsActivationCopy (a copy : Activation) : Type 0 where
@@ -26,3 +28,5 @@ pub record IsCopy (m copy : Run) : Type 0 where
   pub reads : seen copy ≡ seen m
   pub run : (prog : Program) → IsRun prog m → IsRun prog copy
   pub slots : (prog : Program) → HasSlots prog m → HasSlots prog copy
+  pub stalls : KeepsStalls m copy
+  pub uses : KeepsUses m copy

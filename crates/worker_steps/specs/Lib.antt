@@ -2,9 +2,12 @@ pub mod Scheduling
 pub mod Tasks
 pub mod Running
 pub mod Seen
+pub mod Stalls
+pub mod Follows
 pub mod Slots
 pub mod Stepping
 pub mod Forking
 pub mod Stopping
 pub mod Growing
 pub mod Copying
+pub mod Over

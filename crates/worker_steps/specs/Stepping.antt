@@ -27,6 +27,8 @@ use Rattle.worker_steps.specs.Running.{IsGoing, IsTrapped}
 use Rattle.worker_steps.specs.Scheduling.{hand_of, counted_in}
 use Rattle.worker_steps.specs.Seen.{place_of, seen, given, Agrees}
 use Rattle.worker_steps.specs.Slots.{HasSlots, executed}
+use Rattle.worker_steps.specs.Follows.{AreGiven, Follows}
+use Rattle.worker_steps.specs.Stalls.{Blocks, StallsAgree, noted}
 
 -- a state after a plain step of the frame f at p, but for the count of instructions
 abbrev pub effected : running.Machine → Path → Frame → Effect → running.Machine
@@ -186,6 +188,12 @@ FillsSlots prog old new worker slot effect =
 abbrev pub FillsSlotsAt : Program → Run → Run → ℕ → ℕ → Type 0
 FillsSlotsAt prog old new worker slot = (node : Node Activation) → IsTurn prog old worker slot node → HasSlots prog old → HasSlots prog (executed new)
 
+-- the slot's frame has done its next instruction, and frames that are stalled are so at the syncs that were their last instructions
+abbrev pub LeavesStalls : Program → Run → Run → ℕ → ℕ → Type 0
+LeavesStalls prog old new worker slot =
+    (node : Node Activation) → IsTurn prog old worker slot node → (last : Blocks) → last (place_of node) ≡ Some node.frame.frame.block.0 →
+    StallsAgree last old.cactus → StallsAgree last new.cactus
+
 -- ---- events
 
 -- The event is done exactly where it is enabled, and then the machine is as the definitions say. Of a step that the machine's own tests refuse
@@ -196,6 +204,8 @@ pub record IsEvent (prog : Program) (old new : Run) (event : running.Event) (don
   pub program : new.verified ≡ old.verified
   pub machine : IsRun prog new
   pub slots : HasSlots prog old → HasSlots prog new
+  pub stalls : (last : Blocks) → StallsAgree last old.cactus → StallsAgree (cond done (noted event (seen old) last) last) new.cactus
+  pub follows : Follows old new
 
 abbrev pub DoesEvent : Program → Run → Run → running.Event → Bool → Type 0
 DoesEvent prog old new event done = IsRun prog old → ¬ IsTrapped new → IsEvent prog old new event done
@@ -205,3 +215,6 @@ pub record StartsAs (prog : Program) (arguments : List ℤ) (globals : List Name
   pub reads : seen m ≡ running.start prog arguments (given globals)
   pub program : m.verified.now ≡ prog
   pub machine : IsRun prog m
+  pub stalls : (last : Blocks) → StallsAgree last m.cactus
+  pub memory : m.memory ≡ globals
+  pub generations : AreGiven m.cactus

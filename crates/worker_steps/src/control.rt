@@ -4,9 +4,11 @@ ghost use Rattle.worker_steps.specs.Scheduling.{hand_of, BeginsChild, EndsChild,
 ghost use Rattle.worker_steps.specs.Running.{IsGoing, IsTrapped};
 ghost use Rattle.worker_steps.specs.Seen.{taken};
 ghost use Rattle.worker_steps.specs.Slots.{KeepsSlots};
+ghost use Rattle.worker_steps.specs.Stalls.{KeepsStalls};
+ghost use Rattle.worker_steps.specs.Follows.{Follows, KeepsUses};
 ghost use Rattle.running.specs.Effect.{jumps};
 ghost use Rattle.cactus.specs.Frames.{Lives, frame_at};
-ghost use Rattle.worker_steps.specs.Stepping.{CanDoAt, DoesPlain, FillsSlots, HasEdge, Performs, ReturnsTo};
+ghost use Rattle.worker_steps.specs.Stepping.{CanDoAt, DoesPlain, FillsSlots, HasEdge, LeavesStalls, Performs, ReturnsTo};
 ghost use Rattle.worker_steps.specs.Forking.{Enters, with_change};
 ghost use Rattle.worker_steps.specs.Stopping.{HasRoomBelow, Refuses};
 ghost use Rattle.frame.specs.declared.effect.Effect.TheVariants as effect;
@@ -31,6 +33,8 @@ impl Run<'_> {
         ensures enters { OnOk result (Enters self.old.verified.now self.old self.new slot target.0) }
         ensures jumps { OnOk result (DoesPlain self.old self.new slot (λ p f. jumps self.old.verified.now f target.0)) }
         ensures slots { OnOk result (KeepsSlots self.old self.new) }
+        ensures stalls { OnOk result (KeepsStalls self.old self.new) }
+        ensures uses { OnOk result (KeepsUses self.old self.new) }
         ensures stopped { OnErr result (Refuses self.old.verified.now self.old slot (effect.Branch target)) }
     {
         let program = self.program();
@@ -74,6 +78,8 @@ impl Run<'_> {
         ensures phase { self.new.phase ≡ self.old.phase }
         ensures slots { OnOk result (CanDoAt self.old.cactus slot (effect.Detach region body continuation)
             → FillsSlots self.old.verified.now self.old self.new worker slot (effect.Detach region body continuation)) }
+        ensures stalls { OnOk result (KeepsStalls self.old self.new) }
+        ensures follows { OnOk result (Follows self.old self.new) }
         ensures detaches { OnOk result (CanDoAt self.old.cactus slot (effect.Detach region body continuation)
             → Performs self.old.verified.now self.old self.new worker slot (effect.Detach region body continuation)) }
     {
@@ -110,6 +116,8 @@ impl Run<'_> {
         ensures stopped { OnErr result (Refuses self.old.verified.now self.old slot (effect.Reattach region)) }
         ensures phase { self.new.phase ≡ self.old.phase }
         ensures slots { OnOk result (KeepsSlots self.old self.new) }
+        ensures stalls { OnOk result (KeepsStalls self.old self.new) }
+        ensures uses { OnOk result (KeepsUses self.old self.new) }
         ensures reattaches { OnOk result (Performs self.old.verified.now self.old self.new worker slot (effect.Reattach region)) }
     {
         let Some(node) = self.cactus.node(slot) else {
@@ -190,6 +198,8 @@ impl Run<'_> {
         ensures stopped { OnErr result (Refuses self.old.verified.now self.old slot (effect.Sync region target)) }
         ensures phase { self.new.phase ≡ self.old.phase }
         ensures slots { OnOk result (KeepsSlots self.old self.new) }
+        ensures stalled { OnOk result (LeavesStalls self.old.verified.now self.old self.new worker slot) }
+        ensures uses { OnOk result (KeepsUses self.old self.new) }
         ensures syncs { OnOk result (Performs self.old.verified.now self.old self.new worker slot (effect.Sync region target)) }
     {
         let top = self.activation(slot)?;
@@ -248,6 +258,8 @@ impl Run<'_> {
         requires { worker < vec_len self.old.hands }
         ensures slots { OnOk result (CanDoAt self.old.cactus slot (effect.Call register callee)
             → FillsSlots self.old.verified.now self.old self.new worker slot (effect.Call register callee)) }
+        ensures stalls { OnOk result (KeepsStalls self.old self.new) }
+        ensures follows { OnOk result (Follows self.old self.new) }
         ensures calls { OnOk result (CanDoAt self.old.cactus slot (effect.Call register callee)
             → Performs self.old.verified.now self.old self.new worker slot (effect.Call register callee)) }
         ensures refused { result ≡ Err Halt.OutOfMemory → self.new ≡ self.old }
@@ -282,6 +294,8 @@ impl Run<'_> {
     ) -> Result<(), Trap>
         requires { worker < vec_len self.old.hands }
         ensures slots { OnOk result (KeepsSlots self.old self.new) }
+        ensures stalls { OnOk result (KeepsStalls self.old self.new) }
+        ensures uses { OnOk result (KeepsUses self.old self.new) }
         ensures returns { OnOk result (Performs self.old.verified.now self.old self.new worker slot (effect.Return value)) }
         ensures stopped { OnErr result (Refuses self.old.verified.now self.old slot (effect.Return value)) }
         ensures going { IsGoing self.old → ¬ IsTrapped self.new }
@@ -313,6 +327,8 @@ impl Run<'_> {
         requires worker { worker < vec_len self.old.hands }
         requires lives { Lives self.old.cactus slot }
         ensures slots { OnOk result (KeepsSlots self.old self.new) }
+        ensures stalls { OnOk result (KeepsStalls self.old self.new) }
+        ensures uses { OnOk result (KeepsUses self.old self.new) }
         ensures returns { OnOk result (ReturnsTo self.old.verified.now self.old self.new worker slot (Some caller) value) }
         ensures lost { OnErr result (caller ≢ slot → frame_at self.old.cactus caller ≡ None) }
         ensures phase { self.new.phase ≡ self.old.phase }
@@ -331,6 +347,8 @@ impl Run<'_> {
         requires worker { worker < vec_len self.old.hands }
         requires lives { Lives self.old.cactus slot }
         ensures slots { KeepsSlots self.old self.new }
+        ensures stalls { KeepsStalls self.old self.new }
+        ensures uses { KeepsUses self.old self.new }
         ensures returns { ReturnsTo self.old.verified.now self.old self.new worker slot None (Some number) }
         ensures sound { ¬ IsTrapped self.new }
     {

@@ -5,9 +5,11 @@
 mod activation;
 mod control;
 mod halt;
+mod laws;
 mod plain;
 mod run;
 mod tops;
 
 pub use activation::Activation;
+pub use laws::ended_enables_nothing;
 pub use run::{Phase, Run};

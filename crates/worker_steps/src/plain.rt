@@ -7,11 +7,13 @@ ghost use Rattle.frame.specs.Room.{HasCell};
 ghost use Rattle.frame.specs.declared.effect.Trap.{Trap};
 ghost use Rattle.cactus.specs.Frames.{frame_at};
 ghost use Rattle.worker_steps.specs.declared.activation.Activation.{Activation};
+ghost use Rattle.worker_steps.specs.Follows.{Follows, KeepsUses};
 ghost use Rattle.worker_steps.specs.Growing.{AsksFrame, GrowsAt};
 ghost use Rattle.worker_steps.specs.Running.{IsGoing, IsTrapped};
 ghost use Rattle.worker_steps.specs.Seen.{seen};
 ghost use Rattle.worker_steps.specs.Slots.{KeepsSlots};
-ghost use Rattle.worker_steps.specs.Stepping.{CanDoAt, DoesPlain, FillsSlots, FillsSlotsAt, HasNextAt, HoldsAt, OwnerStands, Performs, StepsAt, StoresAt, WritesAlloca};
+ghost use Rattle.worker_steps.specs.Stalls.{KeepsStalls};
+ghost use Rattle.worker_steps.specs.Stepping.{CanDoAt, DoesPlain, FillsSlots, FillsSlotsAt, HasNextAt, HoldsAt, LeavesStalls, OwnerStands, Performs, StepsAt, StoresAt, WritesAlloca};
 ghost use Rattle.worker_steps.specs.Stopping.{HaltsAt, KeepsCells, Refuses};
 
 use crate::halt::Halt;
@@ -33,6 +35,8 @@ impl Run<'_> {
         ensures refused { result ≡ Err Halt.OutOfMemory → self.new ≡ self.old }
         ensures step { OnOk result (StepsAt self.old.verified.now self.old self.new worker top) }
         ensures slots { OnOk result (FillsSlotsAt self.old.verified.now self.old self.new worker top) }
+        ensures stalls { OnOk result (LeavesStalls self.old.verified.now self.old self.new worker top) }
+        ensures follows { OnOk result (Follows self.old self.new) }
         ensures grows { result ≡ Err Halt.OutOfMemory → GrowsAt self.old.verified.now self.old top }
         ensures stopped { (trap : Trap) → result ≡ Err (Halt.Trapped trap) → HaltsAt self.old.verified.now self.old top }
         ensures going { IsGoing self.old → ¬ IsTrapped self.new }
@@ -47,6 +51,8 @@ impl Run<'_> {
         ensures refused { result ≡ Err Halt.OutOfMemory → self.new ≡ self.old }
         ensures step { OnOk result (CanDoAt self.old.cactus top effect → Performs self.old.verified.now self.old self.new worker top effect) }
         ensures slots { OnOk result (CanDoAt self.old.cactus top effect → FillsSlots self.old.verified.now self.old self.new worker top effect) }
+        ensures stalls { OnOk result (LeavesStalls self.old.verified.now self.old self.new worker top) }
+        ensures follows { OnOk result (Follows self.old self.new) }
         ensures grows { result ≡ Err Halt.OutOfMemory → AsksFrame effect }
         ensures stopped { (trap : Trap) → result ≡ Err (Halt.Trapped trap) → Refuses self.old.verified.now self.old top effect }
         ensures going { IsGoing self.old → ¬ IsTrapped self.new }
@@ -76,6 +82,8 @@ impl Run<'_> {
             → DoesPlain self.old self.new slot (λ p f. sets f register (value_of p value))) }
         ensures lost { OnErr result (frame_at self.old.cactus slot ≡ None) }
         ensures slots { OnOk result (KeepsSlots self.old self.new) }
+        ensures stalls { OnOk result (KeepsStalls self.old self.new) }
+        ensures uses { OnOk result (KeepsUses self.old self.new) }
         ensures phase { self.new.phase ≡ self.old.phase }
     {
         match self.cactus.frame_mut(slot) {
@@ -90,6 +98,8 @@ impl Run<'_> {
         ensures passes { OnOk result (HasNextAt self.old.cactus slot → DoesPlain self.old self.new slot (λ p f. goes_on f)) }
         ensures lost { OnErr result (frame_at self.old.cactus slot ≡ None) }
         ensures slots { OnOk result (KeepsSlots self.old self.new) }
+        ensures stalls { OnOk result (KeepsStalls self.old self.new) }
+        ensures uses { OnOk result (KeepsUses self.old self.new) }
         ensures phase { self.new.phase ≡ self.old.phase }
     {
         match self.cactus.frame_mut(slot) {
@@ -105,6 +115,8 @@ impl Run<'_> {
             → DoesPlain self.old self.new slot (λ p f. loads f register (cell_of p cell) ((seen self.old).core.memory (cell_of p cell)))) }
         ensures stopped { OnErr result (Refuses self.old.verified.now self.old slot (Effect.Load register cell)) }
         ensures slots { OnOk result (KeepsSlots self.old self.new) }
+        ensures stalls { OnOk result (KeepsStalls self.old self.new) }
+        ensures uses { OnOk result (KeepsUses self.old self.new) }
         ensures phase { self.new.phase ≡ self.old.phase }
     {
         let number = self.load(slot, cell)?;
@@ -117,6 +129,8 @@ impl Run<'_> {
             → DoesPlain self.old self.new slot (λ p f. stores f (cell_of p cell) number)) }
         ensures stopped { OnErr result (Refuses self.old.verified.now self.old slot (Effect.Store cell number)) }
         ensures slots { OnOk result (KeepsSlots self.old self.new) }
+        ensures stalls { OnOk result (KeepsStalls self.old self.new) }
+        ensures uses { OnOk result (KeepsUses self.old self.new) }
         ensures phase { self.new.phase ≡ self.old.phase }
     {
         if self.store(slot, cell, number) {
@@ -132,6 +146,8 @@ impl Run<'_> {
             → DoesPlain self.old self.new slot (λ p f. adds_to f (cell_of p cell) number ((seen self.old).core.memory (cell_of p cell)))) }
         ensures stopped { OnErr result (Refuses self.old.verified.now self.old slot (Effect.Add cell number)) }
         ensures slots { OnOk result (KeepsSlots self.old self.new) }
+        ensures stalls { OnOk result (KeepsStalls self.old self.new) }
+        ensures uses { OnOk result (KeepsUses self.old self.new) }
         ensures phase { self.new.phase ≡ self.old.phase }
     {
         let held = self.load(slot, cell)?;
@@ -176,6 +192,8 @@ impl Run<'_> {
     fn store(&mut self, slot: usize, cell: Cell, number: i64) -> bool
         ensures stores { OnTrue result (StoresAt self.old self.new slot cell number) }
         ensures slots { OnTrue result (KeepsSlots self.old self.new) }
+        ensures stalls { OnTrue result (KeepsStalls self.old self.new) }
+        ensures uses { OnTrue result (KeepsUses self.old self.new) }
         ensures kept { OnTrue result (KeepsCells self.old self.new) }
         ensures not_there { OnFalse result (Refuses self.old.verified.now self.old slot (Effect.Store cell number)) }
         ensures phase { self.new.phase ≡ self.old.phase }
@@ -193,6 +211,8 @@ impl Run<'_> {
     fn store_in(&mut self, owner: usize, alloca: AllocaId, index: u64, number: i64) -> bool
         ensures writes { OnTrue result (WritesAlloca self.old self.new owner alloca.0 index number) }
         ensures slots { OnTrue result (KeepsSlots self.old self.new) }
+        ensures stalls { OnTrue result (KeepsStalls self.old self.new) }
+        ensures uses { OnTrue result (KeepsUses self.old self.new) }
         ensures kept { OnTrue result (KeepsCells self.old self.new) }
         ensures not_there { OnFalse result ((above : Activation) → frame_at self.old.cactus owner ≡ Some above → ¬ HasCell above.frame alloca.0 index) }
         ensures phase { self.new.phase ≡ self.old.phase }
@@ -209,6 +229,8 @@ impl Run<'_> {
             → DoesPlain self.old self.new slot (λ p f. stores_zeros f cells (object_of p object))) }
         ensures stopped { OnErr result (Refuses self.old.verified.now self.old slot (Effect.StoreZeros object cells)) }
         ensures slots { OnOk result (KeepsSlots self.old self.new) }
+        ensures stalls { OnOk result (KeepsStalls self.old self.new) }
+        ensures uses { OnOk result (KeepsUses self.old self.new) }
         ensures phase { self.new.phase ≡ self.old.phase }
     {
         for index in 0..cells {

@@ -7,6 +7,8 @@ ghost use Rattle.running.specs.Events.{Step};
 ghost use Rattle.worker_steps.specs.Stepping.{DoesEvent, StartsAs};
 ghost use Rattle.worker_steps.specs.Seen.{Agrees, StealsIf, taken};
 ghost use Rattle.worker_steps.specs.Slots.{HasSlots, KeepsSlots};
+ghost use Rattle.worker_steps.specs.Stalls.{KeepsStalls};
+ghost use Rattle.worker_steps.specs.Follows.{KeepsUses};
 ghost use Rattle.worker_steps.specs.Running.{IsGoing, IsTrapped, IsStart, StepsWhere, Takes, TakesAt};
 ghost use Rattle.worker_steps.specs.Growing.{GrowsAtStep};
 ghost use Rattle.worker_steps.specs.Copying.{IsCopy};
@@ -189,6 +191,8 @@ impl<'v> Run<'v> {
         ensures exact { Agrees self.old.cactus self.old.hands.items → StealsIf self.old self.new worker (reverse path.now.numbers) result }
         ensures agrees { Agrees self.old.cactus self.old.hands.items → Agrees self.new.cactus self.new.hands.items }
         ensures slots { KeepsSlots self.old self.new }
+        ensures stalls { KeepsStalls self.old self.new }
+        ensures uses { KeepsUses self.old self.new }
         ensures kept { self.new ≡ record self.old { cactus = self.new.cactus; hands = self.new.hands } }
         ensures workers { length self.new.hands.items ≡ length self.old.hands.items }
     {

@@ -16,7 +16,7 @@ pub returns-in-Steal-clause-event : goal.returns-in-Steal-clause-event
 returns-in-Steal-clause-event c =
     let going : IsGoing c.args.run.now = search rules in
     subst (λ (e : Event). DoesEvent c.args.run.now.verified.now c.args.run.now c.steal.new.self (event_of e) c.steal.result) (sym c.in-Steal.is)
-    (steal_done c.args.run.now.verified.now c.args.run.now c.steal.new.self c.in-Steal.worker (reverse c.in-Steal.path.numbers) going c.steal.ensures.kept c.steal.ensures.workers c.steal.ensures.agrees c.steal.ensures.slots c.steal.result c.steal.ensures.no c.steal.ensures.exact)
+    (steal_done c.args.run.now.verified.now c.args.run.now c.steal.new.self c.in-Steal.worker (reverse c.in-Steal.path.numbers) going c.steal.ensures.kept c.steal.ensures.workers c.steal.ensures.agrees c.steal.ensures.slots c.steal.ensures.stalls c.steal.ensures.uses c.steal.result c.steal.ensures.no c.steal.ensures.exact)
 
 pub returns-then-ne-clause-stops : goal.returns-then-ne-clause-stops
 returns-then-ne-clause-stops c going trapped =

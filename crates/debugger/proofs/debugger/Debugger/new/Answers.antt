@@ -11,6 +11,6 @@ returns-clause-session c =
     let start : IsAt s 0 first.run = at_start s first.run c.in_ok-first.ensures.state c.in_ok-first.ensures.slots (sym first.run.hands.ok.0 ∙ c.in_ok-first.ensures.started.as_many) in
     record {
       events = refl;
-      at = at_copy s 0 first.run c.in-Ok.machine.run c.in-Ok.ensures start;
+      at = at_copy s 0 first.run c.in-Ok.machine.run c.in-Ok.ensures.same start;
       marks = none_marked s c.new-marks.result c.new-marks.ensures.none (subst (λ (m : Machine). IsAt s 0 m.run) (sym c.new-marks.ensures.first) start);
     }

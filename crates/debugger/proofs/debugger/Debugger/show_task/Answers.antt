@@ -1,3 +1,4 @@
+use Rattle.debugger.proofs.Walking.{line_shown}
 use Rattle.debugger.proofs.debugger.Debugger.show_task.Goals as goal
 
 pub returns-clause-shown : goal.returns-clause-shown
@@ -5,3 +6,6 @@ returns-clause-shown c s d = c.task.ensures.shown d.at.replays.run.sound
 
 pub returns-clause-absent : goal.returns-clause-absent
 returns-clause-absent c s d = c.task.ensures.absent d.at.replays.run.sound
+
+pub returns-clause-line : goal.returns-clause-line
+returns-clause-line c s d = line_shown s c.args.self.now.position c.args.path.now c.args.self.now.machine.run d.at c.task.result c.task.ensures.line

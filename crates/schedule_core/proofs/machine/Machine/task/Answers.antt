@@ -5,6 +5,7 @@ use Rattle.std.specs.Prelude.{IfSome}
 use Rattle.schedule_core.proofs.Shown.{has_node, has_spot, top_lives}
 use Rattle.schedule_core.proofs.Views.{absent_top, never_none, shown_if, lives_by}
 use Rattle.schedule_core.proofs.Replaying.{run_kept}
+use Rattle.schedule_core.proofs.LinesShown.{line_if}
 use Rattle.schedule_core.proofs.machine.Machine.task.Goals as goal
 
 pub returns-in_err-top-clause-absent : goal.returns-in_err-top-clause-absent
@@ -28,3 +29,6 @@ returns-clause-absent c fine =
     let (node, stands, named) = has_node c.args.self.now.run.cactus c.in_ok-lowest.lowest c.in_ok-lowest._generation c.args.path.now c.in_ok-lowest.ensures.found in
     let top : IfSome (Some c.in_ok-top.top) (IsTaskTop c.args.self.now.run.cactus c.args.path.now) = subst (λ (o : Option ℕ). IfSome o (IsTaskTop c.args.self.now.run.cactus c.args.path.now)) c.in_ok-top.was c.top_of.ensures.is_top in
     never_none _ c.view.result (c.view.ensures.found (lives_by c.args.self.now.run.cactus c.in_ok-lowest.lowest node stands) (top_lives c.args.self.now.run.cactus top.lowest c.in_ok-top.top top.above))
+
+pub returns-clause-line : goal.returns-clause-line
+returns-clause-line c = line_if c.args.self.now.run c.view.result c.in_ok-lowest.lowest c.in_ok-top.top c.args.path.now c.view.ensures.shown (returns-clause-shown c)

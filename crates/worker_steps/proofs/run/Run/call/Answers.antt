@@ -17,6 +17,10 @@ use Rattle.worker_steps.proofs.Calls.{calls_there}
 use Rattle.worker_steps.proofs.Slots.{keeps_by}
 use Rattle.worker_steps.proofs.Filling.{call_filled}
 use Rattle.worker_steps.specs.declared.activation.Activation.{Activation}
+use Rattle.worker_steps.proofs.Stalls.{made_stalls, waits_otherwise}
+use Rattle.frame.specs.declared.frame.Frame.{Frame as FrameOf}
+use Rattle.cactus.specs.Frames.{AddsChild}
+use Rattle.worker_steps.proofs.Follows.{made_follows}
 use Rattle.worker_steps.proofs.run.Run.call.Goals as goal
 
 pub returns-clause-calls : goal.returns-clause-calls
@@ -53,3 +57,18 @@ returns-clause-slots c can node turn asked_is =
     (subst (λ (q : Program). HasPlaces q c.in_ok-frame.frame (max (register_count (slice_get q.functions c.args.callee.0)) (length (call_arguments (asked.place_of q b.frame))))) c.program-program.ensures c.in_ok-frame.ensures.places)
     c.in_ok-called.ensures.as_many
     (keeps_by found a found.frame.registers found.frame.moves found.frame.block a.frame.index a.frame.made _ c.wait_for_call.ensures.only refl refl (ap (λ (x : Activation). length x.counts.items) c.wait_for_call.ensures.is)) globals done frames node turn asked_is
+
+pub returns-clause-stalls : goal.returns-clause-stalls
+returns-clause-stalls c =
+    let a = c.wait_for_call.new.self in
+    let adds : AddsChild c.args.self.now.cactus c.push_call.new.self c.args.slot c.in_ok-caller.field-0.now.frame.made c.in_ok-called.called c.in_ok-called_slot.called_slot = c.in_ok-called_slot.ensures.ok in
+    let frames = ap (λ (m : Run). m.cactus) c.set_hand.ensures ∙ ap (λ (m : Run). m.cactus) c.count_depth.ensures.kept in
+    made_stalls c.args.self.now c.set_hand.new.self c.push_call.new.self adds.path (Some c.args.slot) c.in_ok-called.called c.in_ok-called_slot.called_slot c.args.slot c.args.worker a adds.added c.in_ok-called.ensures.runner
+    (waits_otherwise a _ (ap (λ (g : FrameOf). g.waits) c.wait_for_call.ensures.only) (λ region e. cc)) frames
+
+pub returns-clause-follows : goal.returns-clause-follows
+returns-clause-follows c =
+    let adds : AddsChild c.args.self.now.cactus c.push_call.new.self c.args.slot c.in_ok-caller.field-0.now.frame.made c.in_ok-called.called c.in_ok-called_slot.called_slot = c.in_ok-called_slot.ensures.ok in
+    let memory = ap (λ (m : Run). m.memory) c.set_hand.ensures ∙ ap (λ (m : Run). m.memory) c.count_depth.ensures.kept in
+    let frames = ap (λ (m : Run). m.cactus) c.set_hand.ensures ∙ ap (λ (m : Run). m.cactus) c.count_depth.ensures.kept in
+    made_follows c.args.self.now c.set_hand.new.self c.push_call.new.self adds.path (Some c.args.slot) c.in_ok-called.called c.in_ok-called_slot.called_slot c.args.slot c.wait_for_call.new.self adds.added memory frames

@@ -8,6 +8,8 @@ use Rattle.worker_steps.proofs.Performed.{went_at}
 use Rattle.cactus.specs.Lending.{with_frame}
 use Rattle.frame.specs.declared.frame.Wait.TheVariants as wait
 use Rattle.worker_steps.proofs.Slots.{keeps_by, written_kept}
+use Rattle.worker_steps.proofs.Stalls.{freed_stalls, waits_for_nothing}
+use Rattle.worker_steps.proofs.Follows.{written_keeps}
 use Rattle.worker_steps.proofs.run.Run.define.Goals as goal
 
 pub returns-clause-defines : goal.returns-clause-defines
@@ -24,3 +26,13 @@ returns-clause-slots c =
     let b = record c.in-Some.activation.now { frame = c.define.new.self } in
     written_kept c.args.self.now (record c.args.self.now { cactus = with_frame c.args.self.now.cactus c.args.slot b }) refl refl c.args.slot a b stood
     (keeps_by a b f.registers a.frame.moves a.frame.block f.index a.frame.made wait.Nothing c.define.ensures.only c.define.ensures.length refl refl) refl
+
+pub returns-clause-stalls : goal.returns-clause-stalls
+returns-clause-stalls c =
+    let b = record c.in-Some.activation.now { frame = c.define.new.self } in
+    freed_stalls c.args.self.now (record c.args.self.now { cactus = with_frame c.args.self.now.cactus c.args.slot b }) c.args.slot b (waits_for_nothing b (ap (λ (g : FrameOf). g.waits) c.define.ensures.only)) refl
+
+pub returns-clause-uses : goal.returns-clause-uses
+returns-clause-uses c =
+    let b = record c.in-Some.activation.now { frame = c.define.new.self } in
+    written_keeps c.args.self.now (record c.args.self.now { cactus = with_frame c.args.self.now.cactus c.args.slot b }) c.args.slot b refl refl

@@ -11,9 +11,12 @@ use Rattle.frame.specs.Room.{HasChild}
 use Rattle.worker_steps.specs.Stepping.{IsStep}
 use Rattle.worker_steps.proofs.Detached.{detaches_there}
 use Rattle.worker_steps.proofs.Moves.{begins}
+use Rattle.frame.specs.declared.frame.Frame.{Frame as FrameOf}
 use Rattle.frame.specs.declared.frame.Wait.TheVariants as wait
 use Rattle.worker_steps.proofs.Slots.{keeps_by}
 use Rattle.worker_steps.proofs.Filling.{detach_filled}
+use Rattle.worker_steps.proofs.Stalls.{made_stalls, waits_for_nothing}
+use Rattle.worker_steps.proofs.Follows.{made_follows}
 use Rattle.worker_steps.proofs.run.Run.detach.Goals as goal
 
 pub returns-clause-child_first : goal.returns-clause-child_first
@@ -53,3 +56,18 @@ returns-clause-slots c can node turn asked_is =
     detach_filled prog old new c.args.worker c.args.slot c.args.region.0 c.args.body.0 c.args.continuation.0 c.add_child.new.self c.in_ok-child.child c.in_ok-parent.parent.now found a c.in_ok-child_slot.child_slot c.in_ok-frame.frame c.in_ok-parent.ensures.value
     (sym c.frame_mut.ensures.value ∙ ap option_copied_mut c.in-Some.is) c.in_ok-child_slot.ensures.ok c.in_ok-child.ensures.frame c.in_ok-frame.ensures.detached (c.in_ok-frame.ensures.depth room) c.in_ok-frame.ensures.registers c.in_ok-frame.ensures.moves c.in_ok-child.ensures.as_many
     (keeps_by found a found.frame.registers found.frame.moves c.args.continuation 0 a.frame.made wait.Nothing c.after_detach.ensures.frame refl refl c.after_detach.ensures.as_many) globals done frames node turn
+
+pub returns-clause-stalls : goal.returns-clause-stalls
+returns-clause-stalls c =
+    let a = c.after_detach.new.self in
+    let adds : AddsChild c.args.self.now.cactus c.add_child.new.self c.args.slot c.in_ok-parent.parent.now.frame.made c.in_ok-child.child c.in_ok-child_slot.child_slot = c.in_ok-child_slot.ensures.ok in
+    let frames = ap (λ (m : Run). m.cactus) c.set_hand.ensures ∙ ap (λ (m : Run). m.cactus) c.count_depth.ensures.kept in
+    made_stalls c.args.self.now c.set_hand.new.self c.add_child.new.self adds.path (Some c.args.slot) c.in_ok-child.child c.in_ok-child_slot.child_slot c.args.slot c.args.worker a adds.added c.in_ok-child.ensures.runner
+    (waits_for_nothing a (ap (λ (g : FrameOf). g.waits) c.after_detach.ensures.frame)) frames
+
+pub returns-clause-follows : goal.returns-clause-follows
+returns-clause-follows c =
+    let adds : AddsChild c.args.self.now.cactus c.add_child.new.self c.args.slot c.in_ok-parent.parent.now.frame.made c.in_ok-child.child c.in_ok-child_slot.child_slot = c.in_ok-child_slot.ensures.ok in
+    let memory = ap (λ (m : Run). m.memory) c.set_hand.ensures ∙ ap (λ (m : Run). m.memory) c.count_depth.ensures.kept in
+    let frames = ap (λ (m : Run). m.cactus) c.set_hand.ensures ∙ ap (λ (m : Run). m.cactus) c.count_depth.ensures.kept in
+    made_follows c.args.self.now c.set_hand.new.self c.add_child.new.self adds.path (Some c.args.slot) c.in_ok-child.child c.in_ok-child_slot.child_slot c.args.slot c.after_detach.new.self adds.added memory frames

@@ -8,6 +8,8 @@ use Rattle.worker_steps.proofs.Calls.{ends_there}
 use Rattle.worker_steps.proofs.Slots.{over_kept}
 use Rattle.cactus.specs.Frames.{Frames, IsRemoved}
 use Rattle.worker_steps.specs.declared.activation.Activation.{Activation}
+use Rattle.worker_steps.proofs.Stalls.{removed_stalls}
+use Rattle.worker_steps.proofs.Follows.{over_keeps}
 use Rattle.worker_steps.proofs.run.Run.end_with.Goals as goal
 
 pub returns-clause-returns : goal.returns-clause-returns
@@ -22,3 +24,13 @@ pub returns-clause-slots : goal.returns-clause-slots
 returns-clause-slots c =
     let gone : IsRemoved c.args.self.now.cactus c.set_hand.new.self.cactus c.args.slot = subst (λ (f : Frames Activation). IsRemoved c.args.self.now.cactus f c.args.slot) (sym (ap (λ (m : Run). m.cactus) c.set_hand.ensures)) c.pop_call-root.ensures.rest in
     over_kept c.args.self.now c.set_hand.new.self c.args.slot gone (ap (λ (m : Run). m.memory) c.set_hand.ensures) (ap (λ (m : Run). m.instructions) c.set_hand.ensures) _
+
+pub returns-clause-stalls : goal.returns-clause-stalls
+returns-clause-stalls c =
+    let gone : IsRemoved c.args.self.now.cactus c.set_hand.new.self.cactus c.args.slot = subst (λ (f : Frames Activation). IsRemoved c.args.self.now.cactus f c.args.slot) (sym (ap (λ (m : Run). m.cactus) c.set_hand.ensures)) c.pop_call-root.ensures.rest in
+    removed_stalls c.args.self.now c.set_hand.new.self c.args.slot gone
+
+pub returns-clause-uses : goal.returns-clause-uses
+returns-clause-uses c =
+    let gone : IsRemoved c.args.self.now.cactus c.set_hand.new.self.cactus c.args.slot = subst (λ (f : Frames Activation). IsRemoved c.args.self.now.cactus f c.args.slot) (sym (ap (λ (m : Run). m.cactus) c.set_hand.ensures)) c.pop_call-root.ensures.rest in
+    over_keeps c.args.self.now c.set_hand.new.self c.args.slot gone (ap (λ (m : Run). m.memory) c.set_hand.ensures) _

@@ -1,4 +1,4 @@
-use Rattle.std.proofs.Common.{◌≡◌, Some, refl, subst, sym, ap, ◌∙◌}
+use Rattle.std.proofs.Common.{◌≡◌, [], Some, refl, subst, sym, ap, ◌∙◌}
 use Rattle.std.proofs.lemmas.Result.{on_ok_weaker}
 use Rattle.std.specs.Option.{option_copied_mut}
 use Rattle.running.specs.Effect.{jumps, registers_along}
@@ -10,6 +10,8 @@ use Rattle.cactus.specs.Frames.{frame_at}
 use Rattle.worker_steps.proofs.Performed.{went_at, jump_gone}
 use Rattle.cactus.specs.Lending.{with_frame}
 use Rattle.worker_steps.proofs.Slots.{keeps_by, written_kept}
+use Rattle.worker_steps.proofs.Stalls.{entered_waits, freed_stalls, waits_for_nothing}
+use Rattle.worker_steps.proofs.Follows.{written_keeps}
 use Rattle.worker_steps.proofs.run.Run.enter.Goals as goal
 
 pub returns-in-Some-clause-jumps : goal.returns-in-Some-clause-jumps
@@ -45,3 +47,17 @@ returns-in-Some-clause-slots c =
     written_kept c.args.self.now (record c.args.self.now { cactus = with_frame c.args.self.now.cactus c.args.slot b }) refl refl c.args.slot a b stood
     (keeps_by a b f.registers f.moves f.block f.index a.frame.made f.waits c.enter.ensures.only c.enter.ensures.length c.enter.ensures.moves refl) refl)
     c.enter.ensures.entered
+
+pub returns-in-Some-clause-stalls : goal.returns-in-Some-clause-stalls
+returns-in-Some-clause-stalls c =
+    let prog = c.args.self.now.verified.now in
+    let b = record c.in-Some.activation.now { frame = c.enter.new.self } in
+    on_ok_weaker c.enter.result (λ entered.
+    freed_stalls c.args.self.now (record c.args.self.now { cactus = with_frame c.args.self.now.cactus c.args.slot b }) c.args.slot b
+    (waits_for_nothing b (entered_waits [] c.in-Some.activation.now.frame c.enter.new.self c.args.target.0 (registers_along prog (frame_of [] c.in-Some.activation.now.frame) c.args.target.0) (subst (λ (q : Program). Entered q [] c.in-Some.activation.now.frame c.args.target.0 c.enter.new.self) c.program-program.ensures (entered [])))) refl)
+    c.enter.ensures.entered
+
+pub returns-in-Some-clause-uses : goal.returns-in-Some-clause-uses
+returns-in-Some-clause-uses c =
+    let b = record c.in-Some.activation.now { frame = c.enter.new.self } in
+    on_ok_weaker c.enter.result (λ entered. written_keeps c.args.self.now (record c.args.self.now { cactus = with_frame c.args.self.now.cactus c.args.slot b }) c.args.slot b refl refl) c.enter.ensures.entered

@@ -15,6 +15,8 @@ use Rattle.worker_steps.proofs.Missing.{same_node}
 use Rattle.worker_steps.proofs.Refusing.{has_last, parent_stays, stood_not}
 use Rattle.worker_steps.specs.declared.activation.Activation.{Activation}
 use Rattle.worker_steps.proofs.Slots.{ended_kept, keeps_frame, outcome_kept}
+use Rattle.worker_steps.proofs.Stalls.{ended_stalls, outcome_stalls, stays_alike}
+use Rattle.worker_steps.proofs.Follows.{ended_keeps, keeps_then, outcome_keeps}
 use Rattle.worker_steps.proofs.run.Run.reattach.Goals as goal
 
 pub returns-clause-ends : goal.returns-clause-ends
@@ -85,3 +87,25 @@ returns-clause-slots c =
     outcome_kept mid c.go_on.new.self c.closed-outcome.result c.args.worker up takes left prog
     (ended_kept old mid c.remove-child.new.self c.args.slot up a b c.remove-child.ensures.rest (sym c.frame_mut.ensures.value ∙ ap option_copied_mut c.in-Some-frame_mut.is)
     (keeps_frame a b (ap (λ (x : Activation). x.frame) c.set_count.ensures.only) c.set_count.ensures.as_many) refl refl refl prog s))
+
+pub returns-clause-stalls : goal.returns-clause-stalls
+returns-clause-stalls c =
+    let old = c.args.self.now in
+    let a = c.in-Some-frame_mut.parent.now in
+    let b = c.set_count.new.self in
+    let up = c.in-Some-Some.parent_slot in
+    let mid = record old { cactus = with_frame c.remove-child.new.self up b } in
+    let only = c.set_count.ensures.only in
+    both_ok c.go_on.result c.go_on.ensures.takes c.go_on.ensures.left (λ takes left last agree.
+    outcome_stalls mid c.go_on.new.self c.closed-outcome.result c.args.worker up takes left last
+    (ended_stalls old mid c.remove-child.new.self c.args.slot up a b c.remove-child.ensures.rest (sym c.frame_mut.ensures.value ∙ ap option_copied_mut c.in-Some-frame_mut.is)
+    (stays_alike a b (ap (λ (x : Activation). x.runner) only) (ap (λ (x : Activation). x.frame.waits) only) (ap (λ (x : Activation). x.stalled_in) only)) refl last agree))
+
+pub returns-clause-uses : goal.returns-clause-uses
+returns-clause-uses c =
+    let old = c.args.self.now in
+    let b = c.set_count.new.self in
+    let up = c.in-Some-Some.parent_slot in
+    let mid = record old { cactus = with_frame c.remove-child.new.self up b } in
+    both_ok c.go_on.result c.go_on.ensures.takes c.go_on.ensures.left (λ takes left.
+    keeps_then old mid c.go_on.new.self (ended_keeps old mid c.remove-child.new.self c.args.slot up b c.remove-child.ensures.rest refl refl) (outcome_keeps mid c.go_on.new.self c.closed-outcome.result c.args.worker up takes left))

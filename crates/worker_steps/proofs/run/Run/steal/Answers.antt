@@ -2,6 +2,8 @@ use Rattle.std.proofs.Common.{Option, ℕ, Some, None, false, subst}
 use Rattle.worker_steps.specs.Seen.{FindsTop}
 use Rattle.worker_steps.proofs.Steals.{steals, steals_agree, did_by, none}
 use Rattle.worker_steps.proofs.Slots.{steal_kept}
+use Rattle.worker_steps.proofs.Stalls.{steal_stalls}
+use Rattle.worker_steps.proofs.Follows.{keeps_all, steal_keeps}
 use Rattle.worker_steps.proofs.run.Run.steal.Goals as goal
 
 pub returns-in-Some-clause-exact : goal.returns-in-Some-clause-exact
@@ -20,3 +22,12 @@ returns-in-None-clause-exact c agrees =
 
 pub returns-in-Some-clause-slots : goal.returns-in-Some-clause-slots
 returns-in-Some-clause-slots c = steal_kept c.args.self.now c.take.new.self c.args.worker c.in-Some.top c.take.result c.take.ensures.no c.take.ensures.becomes
+
+pub returns-in-Some-clause-stalls : goal.returns-in-Some-clause-stalls
+returns-in-Some-clause-stalls c = steal_stalls c.args.self.now c.take.new.self c.args.worker c.in-Some.top c.take.result c.take.ensures.no c.take.ensures.becomes
+
+pub returns-in-Some-clause-uses : goal.returns-in-Some-clause-uses
+returns-in-Some-clause-uses c = steal_keeps c.args.self.now c.take.new.self c.args.worker c.in-Some.top c.take.result c.take.ensures.no c.take.ensures.becomes
+
+pub returns-in-None-clause-uses : goal.returns-in-None-clause-uses
+returns-in-None-clause-uses c = keeps_all c.args.self.now

@@ -8,6 +8,7 @@ use Rattle.worker_steps.specs.Stepping.{WritesAlloca}
 use Rattle.worker_steps.proofs.Performed.{shared_stored, alloca_stored}
 use Rattle.worker_steps.proofs.Missing.{alloca_refused, owner_refused, shared_kept}
 use Rattle.worker_steps.proofs.Slots.{set_kept}
+use Rattle.worker_steps.proofs.Follows.{set_keeps}
 use Rattle.worker_steps.proofs.run.Run.store.Goals as goal
 
 pub returns-in-Global-clause-stores : goal.returns-in-Global-clause-stores
@@ -42,3 +43,10 @@ returns-in-None-clause-not_there c =
 pub returns-in-Global-clause-slots : goal.returns-in-Global-clause-slots
 returns-in-Global-clause-slots c =
     OnTrue_from c.set_cell.result _ (λ t. set_kept c.args.self.now c.set_cell.new.self c.in-Global.global.0 c.args.cell.index _ (OnTrue_at t c.set_cell.ensures.set))
+
+pub returns-in-Global-clause-stalls : goal.returns-in-Global-clause-stalls
+returns-in-Global-clause-stalls c = OnTrue_from c.set_cell.result _ (λ t last agree. agree)
+
+pub returns-in-Global-clause-uses : goal.returns-in-Global-clause-uses
+returns-in-Global-clause-uses c =
+    OnTrue_from c.set_cell.result _ (λ t. set_keeps c.args.self.now c.set_cell.new.self c.in-Global.global.0 c.args.cell.index _ (OnTrue_at t c.set_cell.ensures.set))

@@ -8,6 +8,8 @@ use Rattle.worker_steps.specs.Seen.{place_of}
 use Rattle.worker_steps.specs.Stepping.{one_cell, StoresAt}
 use Rattle.worker_steps.proofs.Performed.{stored_done, next_still}
 use Rattle.worker_steps.specs.Slots.{KeepsSlots}
+use Rattle.worker_steps.specs.Stalls.{KeepsStalls}
+use Rattle.worker_steps.proofs.Follows.{keeps_then}
 use Rattle.worker_steps.proofs.run.Run.store_next.Goals as goal
 
 pub returns-then-store-clause-stores : goal.returns-then-store-clause-stores
@@ -23,3 +25,11 @@ pub returns-then-store-clause-slots : goal.returns-then-store-clause-slots
 returns-then-store-clause-slots c =
     let stored : KeepsSlots c.args.self.now c.store.new.self = OnTrue_at c.if-store.true c.store.ensures.slots in
     on_ok_weaker c.pass.result (λ passed prog s. passed prog (stored prog s)) c.pass.ensures.slots
+
+pub returns-then-store-clause-stalls : goal.returns-then-store-clause-stalls
+returns-then-store-clause-stalls c =
+    let stored : KeepsStalls c.args.self.now c.store.new.self = OnTrue_at c.if-store.true c.store.ensures.stalls in
+    on_ok_weaker c.pass.result (λ passed last agree. passed last (stored last agree)) c.pass.ensures.stalls
+
+pub returns-then-store-clause-uses : goal.returns-then-store-clause-uses
+returns-then-store-clause-uses c = on_ok_weaker c.pass.result (λ passed. keeps_then c.args.self.now c.store.new.self c.pass.new.self (OnTrue_at c.if-store.true c.store.ensures.uses) passed) c.pass.ensures.uses

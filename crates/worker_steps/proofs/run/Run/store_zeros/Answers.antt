@@ -7,18 +7,23 @@ use Rattle.worker_steps.specs.Stepping.{Written, zeros_below}
 use Rattle.worker_steps.proofs.Performed.{written_none, written_more, stored_done, next_still}
 use Rattle.worker_steps.proofs.Missing.{kept_none, kept_more, zeros_refused}
 use Rattle.worker_steps.specs.Slots.{KeepsSlots}
+use Rattle.worker_steps.specs.Stalls.{KeepsStalls}
+use Rattle.worker_steps.proofs.Follows.{keeps_all, keeps_then}
 use Rattle.worker_steps.proofs.run.Run.store_zeros.Goals as goal
 
 pub loop-index-init : goal.loop-index-init
-loop-index-init c = record { written = λ node stands agrees. written_none c.args.self.now (object_of (place_of node) c.args.object) agrees; kept = kept_none c.args.self.now; slots = λ prog s. s; phase = refl }
+loop-index-init c = record { written = λ node stands agrees. written_none c.args.self.now (object_of (place_of node) c.args.object) agrees; kept = kept_none c.args.self.now; slots = λ prog s. s; stalls = λ last agree. agree; uses = keeps_all c.args.self.now; phase = refl }
 
 pub loop-index-preserved : goal.loop-index-preserved
 loop-index-preserved c =
     let stored : KeepsSlots c.loop-index.self c.store.new.self = OnTrue_at c.if-not-store.false c.store.ensures.slots in
+    let still : KeepsStalls c.loop-index.self c.store.new.self = OnTrue_at c.if-not-store.false c.store.ensures.stalls in
     record {
       written = λ node stands agrees. written_more c.args.self.now c.loop-index.self c.store.new.self c.args.slot node c.args.object c.loop-index.index stands (c.loop-index.invariant.written node stands agrees) (OnTrue_at c.if-not-store.false c.store.ensures.stores);
       kept = kept_more c.args.self.now c.loop-index.self c.store.new.self c.loop-index.invariant.kept (OnTrue_at c.if-not-store.false c.store.ensures.kept);
       slots = λ prog s. stored prog (c.loop-index.invariant.slots prog s);
+      stalls = λ last agree. still last (c.loop-index.invariant.stalls last agree);
+      uses = keeps_then c.args.self.now c.loop-index.self c.store.new.self c.loop-index.invariant.uses (OnTrue_at c.if-not-store.false c.store.ensures.uses);
       phase = c.store.ensures.phase ∙ c.loop-index.invariant.phase;
     }
 
@@ -37,3 +42,9 @@ returns-then-not-store-clause-stopped c =
 
 pub returns-clause-slots : goal.returns-clause-slots
 returns-clause-slots c = on_ok_weaker c.pass.result (λ passed prog s. passed prog (c.loop-index.invariant.slots prog s)) c.pass.ensures.slots
+
+pub returns-clause-stalls : goal.returns-clause-stalls
+returns-clause-stalls c = on_ok_weaker c.pass.result (λ passed last agree. passed last (c.loop-index.invariant.stalls last agree)) c.pass.ensures.stalls
+
+pub returns-clause-uses : goal.returns-clause-uses
+returns-clause-uses c = on_ok_weaker c.pass.result (λ passed. keeps_then c.args.self.now c.loop-index.self c.pass.new.self c.loop-index.invariant.uses passed) c.pass.ensures.uses

@@ -1,0 +1,37 @@
+-- Where the root has returned there is no frame, and so nothing that an event could move.
+use Rattle.std.proofs.Common.{◌≡◌, ℕ, [], Option, Some, None, true, refl, ap, ◌∙◌, ltb, is_none, ◌&&◌}
+use Rattle.running.specs.Paths.{Path}
+use Rattle.running.specs.Arithmetic.{Trap}
+use Rattle.running.specs.Frames.{Frame}
+use Rattle.running.specs.Events.{Machine, Event, Step, Steal, by_frame, by_hand, event, sound_event, start, status_of, stolen, if_ready, unless_trapped}
+use Rattle.running.specs.Replay.{replay}
+use Rattle.program.specs.declared.function.Program.{Program}
+use Rattle.worker_steps.specs.Over.{EndedEnablesNothing}
+use Rattle.worker_steps.proofs.Happening.{no_frames}
+use Rattle.worker_steps.proofs.Reached.{reached_manned}
+use Rattle.worker_steps.proofs.Steals.{unless}
+
+module _ (prog : Program) (workers : ℕ) (c : Machine) (none : (p : Path) → c.core.frames p ≡ None) where
+  by_no_hand : (w : ℕ) (o : Option Path) → by_hand prog workers c w o ≡ None
+  by_no_hand w None = refl
+  by_no_hand w (Some p) = ap (by_frame prog workers c w p) (none p)
+
+  nothing_enabled : (e : Event) → sound_event prog workers e c ≡ None
+  nothing_enabled (Step w) = by_no_hand w (c.hands w)
+  nothing_enabled (Steal w t) = unless (ltb w workers && is_none (c.hands w)) (if_ready (stolen c w t) (status_of workers c t)) (rw (none t) refl)
+
+no_root : (o : Option Frame) → is_none o ≡ true → o ≡ None
+no_root None e = refl
+no_root (Some f) e = absurd (cc)
+
+pub ended_enables_nothing : EndedEnablesNothing
+ended_enables_nothing prog arguments memory workers some events over e = by c.trapped refl
+  where
+    c : Machine
+    c = replay prog workers events (start prog arguments memory)
+
+    by : (o : Option Trap) → c.trapped ≡ o → event prog workers e c ≡ None
+    by (Some t) is = ap (λ o. unless_trapped o (sound_event prog workers e c)) is
+    by None is =
+        let tree = (reached_manned prog workers c some (record { arguments = arguments; memory = memory; events = events; after = refl }) is).tree in
+        ap (λ o. unless_trapped o (sound_event prog workers e c)) is ∙ nothing_enabled prog workers c (no_frames c.core tree (no_root (c.core.frames []) over)) e
