@@ -14,7 +14,7 @@ mod law;
 mod run;
 
 pub use law::{
-    cells_are_there, effects_fit, frames_have_room, moves_fit, operands_fit, runs_never_stop,
-    walks_count, walks_go_on, walks_keep,
+    cells_are_there, effects_fit, frames_have_room, moves_fit, operands_fit, runs_are_safe,
+    runs_never_stop, texts_fit, walks_count, walks_go_on, walks_keep,
 };
 pub use run::run_serially;
