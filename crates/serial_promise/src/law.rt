@@ -3,6 +3,7 @@
 ghost use Rattle.serial_promise.specs.Promise.{RunsNeverStop};
 ghost use Rattle.serial_promise.specs.room.Cells.{CellsAreThere};
 ghost use Rattle.serial_promise.specs.room.Room.{EffectsFit, FramesHaveRoom, ItemsFit, MovesFit};
+ghost use Rattle.serial_promise.specs.Rows.{RowsMean};
 ghost use Rattle.serial_promise.specs.Safe.{RunsAreSafe, TextsFit};
 ghost use Rattle.serial_promise.specs.walks.Along.{WalksCount, WalksGoOn, WalksKeepTests};
 
@@ -65,4 +66,10 @@ pub fn runs_are_safe()
 /// What the text of such a program names is there: blocks, registers, objects, callees, and room for the moves of each edge.
 pub fn texts_fit()
     ensures { TextsFit }
+{}
+
+/// A run on the engine that has ended comes to the serial meaning: from what its row of cells held of the globals to what the row holds of them at
+/// its end, with its count and its depth.
+pub fn rows_mean()
+    ensures { RowsMean }
 {}
