@@ -4,5 +4,8 @@ pub mod Stops
 pub mod Ends
 pub mod room
 pub mod walks
+pub mod safe
+pub mod text
+pub mod Rows
 -- for the crates above
 pub use Rattle.schedule_theorem.proofs as schedule_theorem

@@ -3,6 +3,8 @@
 ghost use Rattle.serial_promise.specs.Promise.{RunsNeverStop};
 ghost use Rattle.serial_promise.specs.room.Cells.{CellsAreThere};
 ghost use Rattle.serial_promise.specs.room.Room.{EffectsFit, FramesHaveRoom, ItemsFit, MovesFit};
+ghost use Rattle.serial_promise.specs.Rows.{RowsMean};
+ghost use Rattle.serial_promise.specs.Safe.{RunsAreSafe, TextsFit};
 ghost use Rattle.serial_promise.specs.walks.Along.{WalksCount, WalksGoOn, WalksKeepTests};
 
 /// Where the serial meaning of a program gives a number, the steps from its start never get stuck, and neither their count nor the depth of
@@ -53,4 +55,21 @@ pub fn cells_are_there()
 /// that is not there, a frame without room, or the end of its budget.
 pub fn runs_never_stop()
     ensures { RunsNeverStop }
+{}
+
+/// Wherever the serial run of such a program comes, it can do its next step, within its budget: the step does not trap, the cells that it
+/// stores or adds to are there, and its numbers fit.
+pub fn runs_are_safe()
+    ensures { RunsAreSafe }
+{}
+
+/// What the text of such a program names is there: blocks, registers, objects, callees, and room for the moves of each edge.
+pub fn texts_fit()
+    ensures { TextsFit }
+{}
+
+/// A run on the engine that has ended comes to the serial meaning: from what its row of cells held of the globals to what the row holds of them at
+/// its end, with its count and its depth.
+pub fn rows_mean()
+    ensures { RowsMean }
 {}

@@ -6,6 +6,8 @@
 //! - `walks`: what holds along the steps of a serial run, from its start on (`walks_go_on`, `walks_keep`, `walks_count`).
 //! - `room`: the machine's own tests stop no frame of it: a frame has room for what its place asks for (`frames_have_room` ..), and the
 //!   cells that are to be stored are there (`cells_are_there`).
+//! - `safe`: wherever the run comes it can do its next step (`runs_are_safe`). `text`: what the text names is there (`texts_fit`). `Rows`: what a
+//!   run over a row of cells comes to (`rows_mean`). The engine of `serial_steps` rests on these three.
 //! - `Arguments`: arguments that the machine's test takes are those that the theorem asks for. `Globals`: memory that was made for a program
 //!   has values in its cells. `Stops`: so the machine stops nowhere. `Ends`: what it answers is the run that the theorem speaks of.
 #![tactic(auto)]
@@ -14,7 +16,7 @@ mod law;
 mod run;
 
 pub use law::{
-    cells_are_there, effects_fit, frames_have_room, moves_fit, operands_fit, runs_never_stop,
-    walks_count, walks_go_on, walks_keep,
+    cells_are_there, effects_fit, frames_have_room, moves_fit, operands_fit, rows_mean,
+    runs_are_safe, runs_never_stop, texts_fit, walks_count, walks_go_on, walks_keep,
 };
 pub use run::run_serially;

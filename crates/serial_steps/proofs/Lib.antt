@@ -8,3 +8,4 @@ pub mod Leading
 pub mod Calling
 pub mod Returning
 pub mod Turning
+pub mod Starting

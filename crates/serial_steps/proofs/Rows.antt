@@ -26,7 +26,7 @@ summed a (c ∷ cs) =
 pub sum_more : (c : ℕ) (cells : List ℕ) → sum (c ∷ cells) ≡ c + sum cells
 sum_more c cells = let s = summed (0 + c) cells in omega (arith, s)
 
-start_below : (cells : List ℕ) (n i : ℕ) → i < size_in cells n → start_in cells n + i < sum cells
+pub start_below : (cells : List ℕ) (n i : ℕ) → i < size_in cells n → start_in cells n + i < sum cells
 start_below [] n i h = absurd (omega (arith, h))
 start_below (c ∷ cs) zero i h = let s = sum_more c cs in omega (arith, h, s)
 start_below (c ∷ cs) (suc n) i h = let r = start_below cs n i h in let s = sum_more c cs in omega (arith, r, s)

@@ -1,3 +1,4 @@
 pub mod Layouts
 pub mod Shown
 pub mod Runs
+pub mod Starts

@@ -23,7 +23,7 @@ fn taker(waits: Wait) -> Option<RegisterId>
 }
 
 /// The function, which is there.
-fn function_at(program: &Program, function: FunctionId) -> &Function
+pub(crate) fn function_at(program: &Program, function: FunctionId) -> &Function
     requires { function.0 < length program.now.functions }
     ensures { slice_get program.now.functions function.0 ≡ Some result.now }
 {

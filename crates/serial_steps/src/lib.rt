@@ -5,6 +5,7 @@
 mod borders;
 mod run;
 mod stack;
+mod start;
 mod text;
 
 pub use run::Ended;

@@ -13,11 +13,11 @@ use Rattle.program.specs.declared.instruction.Operand.TheVariants as operand
 use Rattle.syntax.specs.declared.operator.Width.{Width}
 use Rattle.syntax.specs.declared.operator.Width.TheVariants.{Bits64, Bits32}
 use Rattle.program.specs.Widths.{source_width}
-use Rattle.frame.specs.Asked.{FitsIn, ItemFits, place_of}
+use Rattle.frame.specs.Asked.{FitsIn, ItemFits}
 use Rattle.frame.specs.Asked as asked
 use Rattle.frame.specs.Reading.{frame_of}
-use Rattle.schedule_theorem.specs.typing.Kinds.{IsNumber, IsKinded}
-use Rattle.schedule_theorem.specs.kinds.Holding.{HoldKinds, holds_kind}
+use Rattle.schedule_theorem.specs.typing.Kinds.{HasKinds, IsNumber, IsKinded}
+use Rattle.schedule_theorem.specs.kinds.Holding.{HasKindedRegisters, HoldKinds, holds_kind}
 use Rattle.schedule_theorem.proofs.kinds.Widths.{fits_signed}
 use Rattle.serial_promise.specs.room.Room.{ItemsFit}
 
@@ -60,12 +60,16 @@ function_there prog g b i x e = by (slice_get prog.functions g) refl e
     by None is h = absurd (cc)
     by (Some function) is h = (function, is)
 
-pub operands_fit : ItemsFit
-operands_fit prog kinds p f held = from (place_of prog f) refl
+-- of any frame of the definitions
+pub items_fit : (prog : Program) → HasKinds prog → (f : Frame) → HasKindedRegisters prog f → ItemFits f (item_at prog f.function f.block f.index)
+items_fit prog kinds f held = from (item_at prog f.function f.block f.index) refl
   where
-    from : (o : Option Item) → place_of prog f ≡ o → ItemFits (frame_of p f) o
+    from : (o : Option Item) → item_at prog f.function f.block f.index ≡ o → ItemFits f o
     from None is = tt
     from (Some (Does i)) is =
-        let there = function_there prog f.function.0 f.block.0 f.index (Does i) is in
-        instruction_fits there.0.registers (frame_of p f) i (held.holds there.0 there.1) (kinds.steps f.function.0 f.block.0 f.index i there.0 is there.1)
+        let there = function_there prog f.function f.block f.index (Does i) is in
+        instruction_fits there.0.registers f i (held.holds there.0 there.1) (kinds.steps f.function f.block f.index i there.0 is there.1)
     from (Some (Ends t)) is = tt
+
+pub operands_fit : ItemsFit
+operands_fit prog kinds p f held = items_fit prog kinds (frame_of p f) held

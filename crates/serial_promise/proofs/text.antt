@@ -1,0 +1,3 @@
+-- What the text of a program names is there.
+pub mod Named
+pub mod Fits
