@@ -1,0 +1,4 @@
+pub mod Standing
+pub mod Views
+pub mod Written
+pub mod Onward

@@ -1,0 +1,55 @@
+-- What a run rests on, and what a step comes to.
+use Rattle.std.specs.Prelude.{◌≡◌, ℕ, ◌+◌, ◌<◌, List, length, Some, IsSome, ℤ}
+use Rattle.running.specs.Paths.{Path}
+use Rattle.running.specs.Cells.{Object}
+use Rattle.running.specs.Frames.{Frame}
+use Rattle.running.specs.State.{change_of}
+use Rattle.running.specs.Tree.{Tree}
+use Rattle.running.specs.Events.{Machine, Event, Step, event}
+use Rattle.running.specs.Replay.{replay}
+use Rattle.program.specs.declared.function.Program.{Program}
+use Rattle.engine.specs.declared.activation.Places.{Places}
+use Rattle.engine.specs.Shows.{Safe}
+use Rattle.crew.specs.declared.run.Run.{Run}
+use Rattle.crew.specs.Layouts.{living}
+use Rattle.crew.specs.Shown.{IsShown}
+
+-- a worker's frame can do its next step, wherever objects lie
+pub record CanStep (prog : Program) (m : Machine) (p : Path) (f : Frame) : Type 0 where
+  pub safe : (at : Object → ℤ) → Safe prog (record { at = at; cells = living prog m.core }) p f m.core.memory
+  pub goes : IsSome (change_of prog m.core p)
+  -- its numbers are numbers of 64 bits
+  pub index : f.index + 1 < 18446744073709551616
+  pub made : f.made + 1 < 18446744073709551616
+  pub depth : length p + 1 < 18446744073709551616
+
+pub record CanGo (prog : Program) (m : Machine) : Type 0 where
+  pub steps : (worker : ℕ) (p : Path) (f : Frame) → m.hands worker ≡ Some p → m.core.frames p ≡ Some f → CanStep prog m p f
+  pub tree : Tree m.core
+  pub counted : m.core.done + 2 < 9223372036854775808
+
+-- wherever a schedule leads
+abbrev pub RunsSafely : Program → ℕ → Machine → Type 0
+RunsSafely prog workers m = (events : List Event) → CanGo prog (replay prog workers events m)
+
+-- some machine is shown, from which each schedule is safe
+pub record Stands (prog : Program) (places : Places) (k : Run) : Type 0 where
+  pub machine : Machine
+  pub shown : IsShown prog places machine k
+  pub safe : RunsSafely prog (length k.hands.items) machine
+
+abbrev pub StandsSafely : Program → Places → Run → Type 0
+StandsSafely prog places k = ∥ Stands prog places k ∥₁
+
+-- ---- steps
+
+-- the worker's step is the definitions' event
+abbrev pub DoesStep : Program → Places → Run → Run → ℕ → Type 0
+DoesStep prog places old new worker =
+    (m : Machine) → IsShown prog places m old → RunsSafely prog (length old.hands.items) m →
+    (next : Machine) × (event prog (length old.hands.items) (Step worker) m ≡ Some next) × IsShown prog places next new
+
+-- what was shown is shown
+abbrev pub KeepsShown : Program → Places → Run → Run → Type 0
+KeepsShown prog places old new =
+    (m : Machine) → IsShown prog places m old → RunsSafely prog (length old.hands.items) m → IsShown prog places m new

@@ -1,0 +1,4 @@
+pub mod Scheduling
+pub mod Layouts
+pub mod Shown
+pub mod Going
