@@ -2,3 +2,5 @@ pub mod Standing
 pub mod Views
 pub mod Written
 pub mod Onward
+pub mod Topmost
+pub mod Stealing

@@ -1,11 +1,11 @@
 -- What a run rests on, and what a step comes to.
-use Rattle.std.specs.Prelude.{◌≡◌, ℕ, ◌+◌, ◌<◌, List, length, Some, IsSome, ℤ}
+use Rattle.std.specs.Prelude.{◌≡◌, ℕ, Bool, true, false, None, ◌+◌, ◌<◌, List, length, Some, IsSome, ℤ}
 use Rattle.running.specs.Paths.{Path}
 use Rattle.running.specs.Cells.{Object}
 use Rattle.running.specs.Frames.{Frame}
 use Rattle.running.specs.State.{change_of}
 use Rattle.running.specs.Tree.{Tree}
-use Rattle.running.specs.Events.{Machine, Event, Step, event}
+use Rattle.running.specs.Events.{Machine, Event, Step, Steal, event}
 use Rattle.running.specs.Replay.{replay}
 use Rattle.program.specs.declared.function.Program.{Program}
 use Rattle.engine.specs.declared.activation.Places.{Places}
@@ -53,3 +53,12 @@ DoesStep prog places old new worker =
 abbrev pub KeepsShown : Program → Places → Run → Run → Type 0
 KeepsShown prog places old new =
     (m : Machine) → IsShown prog places m old → RunsSafely prog (length old.hands.items) m → IsShown prog places m new
+
+-- an event is done just where it is enabled, and then the machine after it is shown
+abbrev pub Becomes : Program → Places → ℕ → Event → Machine → Run → Bool → Type 0
+Becomes prog places workers e m new true = (next : Machine) × (event prog workers e m ≡ Some next) × IsShown prog places next new
+Becomes prog places workers e m new false = (event prog workers e m ≡ None) × IsShown prog places m new
+
+abbrev pub DoesSteal : Program → Places → Run → Run → ℕ → Path → Bool → Type 0
+DoesSteal prog places old new worker path done =
+    (m : Machine) → IsShown prog places m old → Becomes prog places (length old.hands.items) (Steal worker path) m new done

@@ -1,4 +1,8 @@
+ghost use Rattle.std.specs.Prelude.{◌≡◌, ◌↔◌, IsTrue, Some, None};
+ghost use Rattle.crew.specs.Tasks.{IsReady};
+
 use engine::Frame;
+use frame::Wait;
 use program::BlockId;
 use sync_join::RegionCount;
 
@@ -15,4 +19,21 @@ pub struct Activation {
     pub runner: Option<u8>,
     /// The block at whose sync the frame stalls; the frame itself stands at the sync's target.
     pub stalled_in: Option<BlockId>,
+}
+
+impl Activation {
+    /// Whether the frame is the top of a task that a thief may take.
+    pub fn is_ready(&self) -> bool
+        ensures { IsTrue result ↔ IsReady self.now }
+    {
+        self.runner.is_none() && self.frame.waits == Wait::Nothing
+    }
+
+    /// The worker goes on with the frame. A sync at which it stalled was counted there, and is not done again.
+    pub fn run_by(&mut self, worker: u8)
+        ensures { self.new ≡ record self.old { runner = Some worker; stalled_in = None } }
+    {
+        self.stalled_in = None;
+        self.runner = Some(worker);
+    }
 }
