@@ -2,5 +2,6 @@ pub mod Standing
 pub mod Views
 pub mod Written
 pub mod Onward
+pub mod Zeroing
 pub mod Topmost
 pub mod Stealing

@@ -1,14 +1,19 @@
 -- What a run rests on, and what a step comes to.
-use Rattle.std.specs.Prelude.{◌≡◌, ℕ, Bool, true, false, None, ◌+◌, ◌<◌, List, length, Some, IsSome, ℤ}
+use Rattle.std.specs.Prelude.{◌≡◌, ℕ, Bool, true, false, None, ◌+◌, ◌<◌, List, length, Some, IsSome, slice_get, ℤ}
 use Rattle.running.specs.Paths.{Path}
 use Rattle.running.specs.Cells.{Object}
-use Rattle.running.specs.Frames.{Frame}
+use Rattle.running.specs.Frames.{Frame, Ends, item_at}
 use Rattle.running.specs.State.{change_of}
 use Rattle.running.specs.Tree.{Tree}
 use Rattle.running.specs.Events.{Machine, Event, Step, Steal, event}
 use Rattle.running.specs.Replay.{replay}
+use Rattle.linear.specs.declared.form.RegisterId.{RegisterId}
+use Rattle.program.specs.declared.identifier.BlockId.{BlockId}
+use Rattle.program.specs.declared.function.Function.{Function}
 use Rattle.program.specs.declared.function.Program.{Program}
+use Rattle.program.specs.declared.instruction.Terminator.TheVariants as terminator
 use Rattle.engine.specs.declared.activation.Places.{Places}
+use Rattle.engine.specs.Activation.{ProgramFits}
 use Rattle.engine.specs.Shows.{Safe}
 use Rattle.crew.specs.declared.run.Run.{Run}
 use Rattle.crew.specs.Layouts.{living}
@@ -40,6 +45,12 @@ pub record Stands (prog : Program) (places : Places) (k : Run) : Type 0 where
 
 abbrev pub StandsSafely : Program → Places → Run → Type 0
 StandsSafely prog places k = ∥ Stands prog places k ∥₁
+
+-- what the program's text gives: what is named is there, and a region's register is one of the function's
+pub record TextFits (prog : Program) (places : Places) (moves : ℕ) : Type 0 where
+  pub fits : ProgramFits prog places moves
+  pub syncs : (k b i : ℕ) (r : RegisterId) (target : BlockId) (f : Function) → slice_get prog.functions k ≡ Some f →
+      item_at prog k b i ≡ Some (Ends (terminator.Sync r target)) → r.0 < length f.registers
 
 -- ---- steps
 

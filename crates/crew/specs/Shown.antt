@@ -1,5 +1,6 @@
 -- How the machine's run shows a machine of the definitions.
-use Rattle.std.specs.Prelude.{◌≡◌, ◌≢◌, ◌↔◌, ⊤, ℕ, ◌+◌, ◌≤◌, List, [], ◌∷◌, ◌++◌, length, reverse, map, sum, ◌⊎◌, Option, Some, None, pos, option_and_then, slice_get}
+use Rattle.std.specs.Prelude.{◌≡◌, ◌≢◌, ◌↔◌, ⊤, ℕ, ◌+◌, ◌≤◌, List, [], ◌∷◌, ◌++◌, length, reverse, map, sum, ◌⊎◌, Option, Some, None, pos}
+use Rattle.std.specs.Prelude.{option_and_then, slice_get}
 use Rattle.std.specs.Option.{option_map}
 use Rattle.running.specs.Paths.{Path}
 use Rattle.running.specs.Frames.{Item, item_at}

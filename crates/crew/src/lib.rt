@@ -2,11 +2,12 @@
 //! frame may go on wherever a schedule comes, so nothing is tested. A slot's frame is one of the engine's; an address names a cell of the
 //! one row, globals first, so no path is walked for a cell.
 //!
-//! What stands: how a run is shown (`Shown`), what it rests on (`Going`), the plain step and the steal. Open: the steps that are no plain
-//! ones, and the start.
+//! What stands: how a run is shown (`Shown`), what it rests on (`Going`), the plain step, the array store and the steal. Open: detach,
+//! reattach, sync, call and return, and the start.
 #![tactic(auto)]
 
 mod activation;
+mod clear;
 mod hands;
 mod plain;
 mod run;
