@@ -46,7 +46,7 @@ pub fits_prop : (prog : Program) (f : Frame) → IsProp (FrameFits prog f)
 fits_prop prog f = hlevel props
 
 -- a frame that may go on waits for no call
-free_callee : (s : State) (p : Path) (made : ℕ) (frames : Frames Activation) (node : Node Activation) (w : Wait) → may_go s p made (wait_of w) ≡ true → CalleeStands frames node w node.frame.callee → node.frame.callee ≡ None
+pub free_callee : (s : State) (p : Path) (made : ℕ) (frames : Frames Activation) (node : Node Activation) (w : Wait) → may_go s p made (wait_of w) ≡ true → CalleeStands frames node w node.frame.callee → node.frame.callee ≡ None
 free_callee s p made frames node wait.Nothing go c = c
 free_callee s p made frames node (wait.Region region) go c = c
 free_callee s p made frames node (wait.Call child register) go c = absurd cc

@@ -55,7 +55,7 @@ module _ (prog : Program) (workers : ℕ) where
       pub living : (o : Object) → living prog next.core o ≡ living prog m.core o
       pub counts : (q : Path) (r : ℕ) → count_of next.core q r ≡ count_of m.core q r
 
-    hand_again : (hands : ℕ → Option Path) → hands w ≡ Some p → (v : ℕ) → running.with_hand hands w (Some p) v ≡ hands v
+    pub hand_again : (hands : ℕ → Option Path) → hands w ≡ Some p → (v : ℕ) → running.with_hand hands w (Some p) v ≡ hands v
     hand_again hands has v = elim (eqb_tells w v) [ inl h ↦ rw h.0 (sym (subst (λ k. hands k ≡ Some p) h.1 has)) | inr h ↦ rw h.0 refl ]
 
     pub step_on : (m : Machine) (f : Frame) (k : Memory) (e : Effect) → IsStanding m f k → action_of prog p f k ≡ Plain e → e.trap ≡ None → Stepped m f k e

@@ -28,7 +28,7 @@ use Rattle.crew.specs.declared.activation.Activation.{Activation}
 use Rattle.crew.specs.declared.run.Block.{Block}
 use Rattle.crew.specs.declared.run.Run.{Run}
 use Rattle.crew.specs.Scheduling.{hand_of, counted_in, living_in}
-use Rattle.crew.specs.Layouts.{alloca_at, layout_of, living, number_in, object_at}
+use Rattle.crew.specs.Layouts.{alloca_at, own_at, layout_of, living, number_in, object_at}
 use Rattle.crew.specs.Shown.{Agrees, BlocksStand, CalleeStands, HasTaker, IsBlockOf, cells_in, IsShown, NodeFits, ShowsAt, ShowsMachine, place_of, hands_of}
 use Rattle.crew.proofs.Views.{named_at_place, tree_after, named_written, stood, still, lives_still, hands_stay}
 
@@ -88,7 +88,7 @@ module _ (prog : Program) (places : Places) (m next : Machine) (k : Run) (slot :
     at_stays (Shared n) = refl
     at_stays (Local owner a) =
         elim (named_written k.cactus shown.agrees.tree slot node stands changed owner) [
-          | inl h ↦ ap (λ o. alloca_at places o a) h.1 ∙ (λ i. home i +ℤ number_in (allocas_of places (function i)) a) ∙ sym (ap (λ o. alloca_at places o a) (was owner h.0))
+          | inl h ↦ ap (λ o. alloca_at places o a) h.1 ∙ (λ i. own_at (role i) (home i +ℤ number_in (allocas_of places (function i)) a)) ∙ sym (ap (λ o. alloca_at places o a) (was owner h.0))
           | inr h ↦ ap (λ o. alloca_at places o a) h.1
         ]
       where

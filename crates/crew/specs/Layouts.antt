@@ -5,6 +5,8 @@ use Rattle.running.specs.Frames.{Frame, Role, Child, Body, cells_of, global_cell
 use Rattle.running.specs.State.{State}
 use Rattle.program.specs.declared.function.Program.{Program}
 use Rattle.program.specs.declared.identifier.ObjectName.TheVariants as object
+use Rattle.frame.specs.declared.frame.Role as machine
+use Rattle.frame.specs.declared.frame.Role.TheVariants as role
 use Rattle.cactus.specs.declared.node.Node.{Node}
 use Rattle.cactus.specs.Frames.{Frames}
 use Rattle.cactus.specs.ByPath.{named}
@@ -34,9 +36,15 @@ living prog s (Local owner a) = alloca_cells prog (s.frames owner) a
 abbrev pub number_in : List ℤ → ℕ → ℤ
 number_in numbers n = slice_index_or numbers n (pos 0)
 
+-- nowhere for a child, so that the layout stays where one begins or ends
+abbrev pub own_at : machine.Role → ℤ → ℤ
+own_at role.Body at = at
+own_at (role.Child region continuation) at = pos 0
+
 abbrev pub alloca_at : Places → Option (Node Activation) → ℕ → ℤ
 alloca_at places None a = pos 0
-alloca_at places (Some node) a = node.frame.frame.home +ℤ number_in (allocas_of places node.frame.frame.function.0) a
+alloca_at places (Some node) a =
+    own_at node.frame.frame.role (node.frame.frame.home +ℤ number_in (allocas_of places node.frame.frame.function.0) a)
 
 abbrev pub object_at : Places → Frames Activation → Object → ℤ
 object_at places frames (Shared g) = number_in places.globals g
