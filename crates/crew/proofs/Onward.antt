@@ -19,6 +19,7 @@ use Rattle.engine.specs.declared.flat.Flat.{Flat}
 use Rattle.engine.specs.Activation.{FrameFits, LedFrame, SafeStanding, ShowsFrame}
 use Rattle.engine.specs.Flat.{cell_in, is_cell}
 use Rattle.engine.specs.Shows.{Layout, ShowsCells, StaysSafe}
+use Rattle.engine.proofs.Runs.{zero_steps}
 use Rattle.crew.specs.declared.activation.Activation.{Activation}
 use Rattle.crew.specs.declared.run.Run.{Run}
 use Rattle.crew.specs.Scheduling.{hand_of}
@@ -26,7 +27,7 @@ use Rattle.crew.specs.Layouts.{layout_of, object_at}
 use Rattle.crew.specs.Shown.{CalleeStands, HasTaker, IsShown, ShowsAt, ShowsNode, place_of, hands_of}
 use Rattle.crew.specs.Going.{RunsSafely}
 use Rattle.crew.proofs.Views.{hand_seen, named_at_place, node_tells}
-use Rattle.crew.proofs.Standing.{IsStanding, can_step, may_go_on, no_step, one_step, stays_safe, step_on}
+use Rattle.crew.proofs.Standing.{IsStanding, can_step, may_go_on, one_step, stays_safe, step_on}
 use Rattle.crew.proofs.Written.{HandsAgree, gone_on, goes_on_shown}
 
 -- ---- what stands in a slot
@@ -61,7 +62,6 @@ module _ (prog : Program) (places : Places) (k : Run) (slot : ℕ) (n : Node Act
   -- hands that stay agree
   pub hands_agree : (next : Machine) (b : Activation) → ((v : ℕ) → next.hands v ≡ hands_of k.cactus k.hands.items v) → b.runner ≡ a.runner → {g : frames.Frame} → HandsAgree prog places m next k slot node g b k.hands
   hands_agree next b same runner = record {
-    many = refl;
     seen = same;
     held = shown.agrees.held;
     own = λ v. ((λ e. (shown.agrees.runners slot v node stands).0 (sym runner ∙ e)), λ e. runner ∙ (shown.agrees.runners slot v node stands).1 e);
@@ -125,7 +125,7 @@ module _ (prog : Program) (places : Places) (k : Run) (slot : ℕ) (n : Node Act
       left_shown same =
           let counted = led.counted in
           let none : led.count ≡ 0 = omega (arith, counted, same) in
-          let z = no_step prog (length k.hands.items) w (place_of node) seen.frame m.core.memory led.count led.frame led.memory led.steps none in
+          let z = zero_steps prog (place_of node) seen.frame m.core.memory led.count led.frame led.memory led.steps none in
           goes_on_shown prog places m m k slot node seen.frame (with_this f) shown stands
           (record {
             only = only ∙ ap (λ (y : Wait). record a.frame { place = f.place; registers = f.registers; waits = y }) (sym same_waits);

@@ -16,6 +16,7 @@ use Rattle.running.proofs.ChildCounts.{moved_alone}
 use Rattle.running.specs.Counts.{count_of}
 use Rattle.program.specs.declared.function.Program.{Program}
 use Rattle.engine.specs.Shows.{Layout, PlainSteps, here, more, Safe, StaysSafe, memory_after}
+use Rattle.engine.proofs.Runs.{zero_steps}
 use Rattle.crew.specs.Layouts.{alloca_cells, living}
 use Rattle.crew.specs.Going.{CanGo, CanStep, RunsSafely}
 
@@ -133,11 +134,7 @@ module _ (prog : Program) (workers : ℕ) where
         subst (λ (l : Layout). Safe prog l p g i) layout
         (subst (λ (x : Memory). Safe prog (record { at = at; cells = living prog b.machine.core }) p g x) b.standing.memory ((can_step b.machine g i b.standing).safe at))
 
-    -- ---- none, or one
-
-    pub no_step : (f : Frame) (k : Memory) (n : ℕ) (g : Frame) (i : Memory) → PlainSteps prog p f k n g i → n ≡ 0 → (f ≡ g) × (k ≡ i)
-    no_step f k n g i here e = (refl, refl)
-    no_step f k n g i (more {n = j} {g = h} {k = l} effect s act fine) e = absurd cc
+    -- ---- one step
 
     -- the step that led here
     pub record Led (f : Frame) (k : Memory) (g : Frame) (i : Memory) : Type 0 where
@@ -151,7 +148,7 @@ module _ (prog : Program) (workers : ℕ) where
     one_step f k n g i here e = absurd cc
     one_step f k n g i (more {n = j} {g = h} {k = l} effect s act fine) e =
         let none : j ≡ 0 = omega (arith, e) in
-        let z = no_step f k j h l s none in
+        let z = zero_steps prog p f k j h l s none in
         record {
           effect = effect;
           act = (λ x. action_of prog p (z.0 x) (z.1 x)) ∙ act;

@@ -5,7 +5,7 @@ use Rattle.std.specs.Option.{option_map}
 use Rattle.std.specs.Vec.{with_item}
 use Rattle.std.proofs.lemmas.Bool.{lt-ltb, ltb-true}
 use Rattle.std.proofs.lemmas.Bool.Decides.{eqb_tells}
-use Rattle.std.proofs.lemmas.List.{length-set, reverse-reverse, get_or-set_same, get_or-set_other}
+use Rattle.std.proofs.lemmas.List.{reverse-reverse, get_or-set_same, get_or-set_other}
 use Rattle.running.specs.Paths.{Path}
 use Rattle.running.specs.Frames as frames
 use Rattle.running.specs.Events as running
@@ -213,7 +213,6 @@ module _ (prog : Program) (places : Places) (m : Machine) (k : Run) (shown : IsS
 
       taken_hands : (g : frames.Frame) → HandsAgree prog places m (running.stolen m w t) k top node g (run_by w node.frame) new_hands
       taken_hands g = record {
-        many = length_set;
         seen = seen_now;
         held = λ v s has. elim (hand_now v) [
           | inl h ↦ let same : top ≡ s = (let e : Some top ≡ Some s = sym h.1 ∙ has in cc) in rw (sym same) (rw stands refl)
@@ -229,9 +228,6 @@ module _ (prog : Program) (places : Places) (m : Machine) (k : Run) (shown : IsS
         ];
       }
         where
-          length_set : length new_hands.items ≡ length k.hands.items
-          length_set = length-set k.hands.items w (Some top)
-
           seen_now : (v : ℕ) → running.with_hand m.hands w (Some (running.top_of m.core t)) v ≡ hands_of k.cactus new_hands.items v
           seen_now v =
               elim (eqb_tells w v) [

@@ -1,11 +1,11 @@
 -- A sync of the frame in a slot: it passes, or stalls.
 use Rattle.std.proofs.Common.{[], get_or, Vec, Global, ◌≡◌, ◌≢◌, ◌⊎◌, ℕ, ◌+◌, ◌<◌, length, max, Option, Some, None, Bool, true, false, cond, inl, inr, refl, sym, ap, ◌∙◌, subst, arith, ℤ}
-use Rattle.std.specs.Prelude.{option_and_then, slice_get}
+use Rattle.std.specs.Prelude.{option_and_then}
 use Rattle.std.specs.Option.{option_map, option_map_or}
 use Rattle.std.specs.Vec.{vec_len, with_item}
 use Rattle.std.proofs.lemmas.Bool.Decides.{eqb_tells}
-use Rattle.std.proofs.lemmas.List.{length-set, get_or-set_same, get_or-set_other}
-use Rattle.std.proofs.lemmas.Option.{same_Some, slice_get_read}
+use Rattle.std.proofs.lemmas.List.{get_or-set_same, get_or-set_other}
+use Rattle.std.proofs.lemmas.Option.{slice_get_read}
 use Rattle.linear.specs.declared.form.RegisterId.{RegisterId}
 use Rattle.running.specs.Arithmetic.{Trap, Unmatched}
 use Rattle.running.specs.Cells.{Object, Shared, Local, Memory}
@@ -19,7 +19,6 @@ use Rattle.running.proofs.Steps.{change_is, sync}
 use Rattle.running.proofs.Places.{same_path_tells, only_here, only_off}
 use Rattle.running.proofs.ChildCounts.{count_at, counted_none, moved_alone, none_counted}
 use Rattle.program.specs.declared.identifier.BlockId.{BlockId}
-use Rattle.program.specs.declared.function.Function.{Function}
 use Rattle.program.specs.declared.function.Program.{Program}
 use Rattle.program.specs.declared.instruction.Terminator.TheVariants as terminator
 use Rattle.sync_join.specs.declared.count.RegionCount.{RegionCount}
@@ -29,12 +28,9 @@ use Rattle.cactus.specs.declared.node.Node.{Node}
 use Rattle.cactus.specs.Frames.{node_at}
 use Rattle.engine.specs.declared.activation.Frame.{Frame}
 use Rattle.engine.specs.declared.activation.Places.{Places}
-use Rattle.engine.specs.Activation.{FrameFits, ProgramFits, ShowsFrame}
-use Rattle.engine.specs.Fits.{EdgeFits}
-use Rattle.engine.specs.Names.{sizes}
+use Rattle.engine.specs.Activation.{FrameFits, ShowsFrame}
 use Rattle.engine.specs.Shows.{Layout, TrapFree}
-use Rattle.engine.proofs.Edges.{edge_again}
-use Rattle.engine.proofs.Texts.{Located, ends_fit, frame_stands, located, sizes_in, starts_block}
+use Rattle.engine.proofs.Texts.{Located, ends_fit, frame_stands, located, starts_block}
 use Rattle.crew.specs.declared.activation.Activation.{Activation}
 use Rattle.crew.specs.declared.run.Run.{Run}
 use Rattle.crew.specs.Scheduling.{hand_of, counted_in}
@@ -68,16 +64,6 @@ module _ (prog : Program) (p : Path) (g : Shown) (m : Memory) (r : RegisterId) (
       (on.0, on.1, here ∙ mine ∙ ap (syncs g r.0 b.0) on.1)
 
 -- ---- the text
-
-pub sync_edge : (prog : Program) (places : Places) (moves n : ℕ) (f : Frame) (function : Function) (r : RegisterId) (b : BlockId) → ProgramFits prog places moves → FrameFits prog f → n ≡ moves → item_here prog f ≡ Some (Ends (terminator.Sync r b)) → slice_get prog.functions f.function.0 ≡ Some function →
-    EdgeFits (sizes (length f.registers.items) 0 0) n f.place.block.0 function.blocks b.0
-sync_edge prog places moves n f function r b text fits e item is =
-    let at = located prog f.function.0 f.place.block.0 f.place.index (Ends (terminator.Sync r b)) item in
-    let same : at.function ≡ function = same_Some at.function function (sym at.is ∙ is) in
-    let edge = ends_fit prog places moves f.function.0 f.place.block.0 f.place.index (terminator.Sync r b) text at in
-    let words : length f.registers.items ≡ length at.function.registers = fits.registers at.function at.is in
-    subst (λ (x : ℕ). EdgeFits (sizes (length f.registers.items) 0 0) x f.place.block.0 function.blocks b.0) (sym e)
-    (subst (λ (x : Function). EdgeFits (sizes (length f.registers.items) 0 0) moves f.place.block.0 x.blocks b.0) same (edge_again (sizes_in places f.function.0 at.function) (length f.registers.items) moves f.place.block.0 at.function.blocks b.0 words edge))
 
 module _ (prog : Program) (places : Places) (moves : ℕ) (text : TextFits prog places moves) (a : Frame) (fits : FrameFits prog a) (r : RegisterId) (b : BlockId) (item : item_here prog a ≡ Some (Ends (terminator.Sync r b))) where
   abbrev at : Located prog a.function.0 a.place.block.0 a.place.index (Ends (terminator.Sync r b))
@@ -267,7 +253,6 @@ module _ (prog : Program) (places : Places) (k : Run) (slot : ℕ) (n : Node Act
 
       pub stalls : Comes idle
       stalls = comes idle (record {
-        many = length-set k.hands.items w None;
         seen = seen_now;
         held = λ v s has. elim (hand_now v) [ inl h ↦ absurd (let e : None ≡ Some s = sym h.1 ∙ has in cc) | inr h ↦ shown.agrees.held v s (sym h.1 ∙ has) ];
         own = λ v. (

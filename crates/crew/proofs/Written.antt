@@ -57,7 +57,6 @@ module _ (prog : Program) (places : Places) (m next : Machine) (k : Run) (slot :
 
   -- and the hands
   pub record HandsAgree (hands : Vec (Option ℕ) Global) : Type 0 where
-    pub many : length hands.items ≡ length k.hands.items
     pub seen : (v : ℕ) → next.hands v ≡ hands_of k.cactus hands.items v
     pub held : (v s : ℕ) → hand_of hands.items v ≡ Some s → Lives k.cactus s
     pub own : (v : ℕ) → (changed.runner ≡ Some v) ↔ (hand_of hands.items v ≡ Some slot)

@@ -14,13 +14,12 @@ use Rattle.cactus.specs.Frames.{node_at}
 use Rattle.engine.specs.declared.activation.Frame.{Frame}
 use Rattle.engine.specs.declared.activation.Places.{Places}
 use Rattle.engine.specs.declared.flat.Flat.{Flat}
-use Rattle.engine.specs.Activation.{FrameFits, LedFrame, ProgramFits, ShowsFrame, allocas_of, bases_in}
+use Rattle.engine.specs.Activation.{FrameFits, LedFrame, ShowsFrame, bases_in}
 use Rattle.engine.specs.Flat.{cell_in, is_cell}
-use Rattle.engine.specs.Names.{HasObject, sizes}
 use Rattle.engine.specs.Shows.{Layout, Safe, SafeSomewhere, ShowsCells}
 use Rattle.engine.proofs.Activations.{shows_all}
 use Rattle.engine.proofs.Runs.{safe_for}
-use Rattle.engine.proofs.Texts.{behind_step, does_fit, frame_stands, located}
+use Rattle.engine.proofs.Texts.{behind_step, frame_stands, located}
 use Rattle.crew.specs.declared.activation.Activation.{Activation}
 use Rattle.crew.specs.declared.run.Run.{Run}
 use Rattle.crew.specs.Scheduling.{hand_of}
@@ -32,12 +31,6 @@ use Rattle.crew.proofs.Standing.{can_step}
 use Rattle.crew.proofs.Written.{gone_on}
 
 module _ (prog : Program) (places : Places) (f : Frame) (count : ℕ) (object : ObjectName) (item : item_here prog f ≡ Some (Does (instruction.StoreZeros count object))) where
-  pub clear_names : (moves : ℕ) → ProgramFits prog places moves → FrameFits prog f → HasObject (sizes (length f.registers.items) (length places.globals) (length (allocas_of places f.function.0))) object
-  clear_names moves text fits =
-      let at = located prog f.function.0 f.place.block.0 f.place.index (Does (instruction.StoreZeros count object)) item in
-      let words : length f.registers.items ≡ length at.function.registers = fits.registers at.function at.is in
-      subst (λ (n : ℕ). HasObject (sizes n (length places.globals) (length (allocas_of places f.function.0))) object) (sym words) (does_fit prog places moves f.function.0 f.place.block.0 f.place.index (instruction.StoreZeros count object) text at)
-
   abbrev pub behind : Frame
   behind = record f { place = record { block = f.place.block; index = f.place.index + 1 } }
 

@@ -1,9 +1,11 @@
-//! The workers' machine on the engine: a step of a worker over frames in slots and cells in a row. Its callers show that each worker's
-//! frame may go on wherever a schedule comes, so nothing is tested. A slot's frame is one of the engine's; an address names a cell of the
-//! one row, globals first, so no path is walked for a cell.
+//! The workers' machine on the engine: steps of workers over frames in slots and cells in one row. Its callers show that each worker's
+//! frame may go on wherever a schedule comes, so nothing is tested.
 //!
-//! What stands: how a run is shown (`Shown`), what it rests on (`Going`), the plain step, the array store, the sync and the
-//! steal. Open: detach, reattach, call and return, and the start.
+//! An address is an index of the row: globals first, then blocks, one a slot. A function's frame has its allocas in its slot's block as long
+//! as it lives, so no path is walked for a cell, and a copy of a frame names the same cells.
+//!
+//! What stands: how a run is shown (`Shown`), what it rests on (`Going`), the plain step, the array store, the sync and the steal. Open:
+//! detach, reattach, call, return and the start; and that accepted programs meet `Going`.
 #![tactic(auto)]
 
 mod activation;

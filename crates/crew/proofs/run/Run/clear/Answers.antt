@@ -3,9 +3,10 @@ use Rattle.std.proofs.Math.Logic.{∥∥₁_elim, ∥∥₁_map}
 use Rattle.std.proofs.Props.{props}
 use Rattle.std.specs.Option.{option_copied_mut}
 use Rattle.engine.specs.Activation.{FrameFits}
+use Rattle.engine.proofs.Texts.{clear_names}
 use Rattle.crew.proofs.Onward.{fits_prop, node_of, not_there, seen, standing}
 use Rattle.crew.proofs.Standing.{can_step}
-use Rattle.crew.proofs.Zeroing.{clear_names, clear_safe, cleared}
+use Rattle.crew.proofs.Zeroing.{clear_safe, cleared}
 use Rattle.crew.proofs.run.Run.clear.Goals as goal
 
 pub unreachable-requires : goal.unreachable-requires
@@ -18,7 +19,7 @@ clear-requires-clause-names c =
     let a = c.in-Some.activation.now in
     let n = node_of c.args.self.now.cactus c.args.slot a (sym c.frame_mut.ensures.value ∙ ap option_copied_mut c.in-Some.is) in
     let fits : FrameFits c.args.program.now a.frame = ∥∥₁_elim c.requires.safe (fits_prop _ _) (λ s. (s.shown.agrees.nodes c.args.slot (record n.0 { frame = a }) n.1).fits) in
-    clear_names c.args.program.now c.args.places.now a.frame c.args.count c.args.object (c.requires.item (record n.0 { frame = a }) n.1) _ c.requires.text fits
+    clear_names c.args.program.now c.args.places.now _ a.frame c.args.count c.args.object c.requires.text fits (c.requires.item (record n.0 { frame = a }) n.1)
 
 pub clear-requires-clause-there : goal.clear-requires-clause-there
 clear-requires-clause-there c =

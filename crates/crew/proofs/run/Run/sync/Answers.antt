@@ -5,8 +5,9 @@ use Rattle.std.proofs.Props.{props}
 use Rattle.std.specs.Option.{option_copied_mut}
 use Rattle.engine.specs.Activation.{FrameFits}
 use Rattle.crew.specs.declared.run.Run.{Run}
+use Rattle.engine.proofs.Texts.{sync_edge}
 use Rattle.crew.proofs.Onward.{fits_prop, node_of, not_there}
-use Rattle.crew.proofs.Syncing.{LeadsTo, counts_region, counted_is, passes, stalls, sync_edge}
+use Rattle.crew.proofs.Syncing.{LeadsTo, counts_region, counted_is, passes, stalls}
 use Rattle.crew.proofs.run.Run.sync.Goals as goal
 
 pub unreachable-requires : goal.unreachable-requires
