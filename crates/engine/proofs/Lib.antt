@@ -14,3 +14,4 @@ pub mod FlatCells
 pub mod Passing
 pub mod Zeroing
 pub mod Touches
+pub mod Texts

@@ -1,13 +1,14 @@
 use Rattle.std.proofs.Common.{ap, refl, length, List, ℤ}
 use Rattle.std.specs.Vec.{with_items}
 use Rattle.engine.specs.declared.activation.Frame.{Frame}
-use Rattle.serial_steps.proofs.Joining.{sync_edge, sync_shown}
+use Rattle.engine.proofs.Texts.{sync_edge}
+use Rattle.serial_steps.proofs.Joining.{sync_shown}
 use Rattle.serial_steps.proofs.Texts.{placed}
 use Rattle.serial_steps.proofs.stack.Stack.sync.Goals as goal
 
 pub sync-requires-clause-edge : goal.sync-requires-clause-edge
 sync-requires-clause-edge c = λ f is.
-    sync_edge c.args.program.now c.args.places.now _ _ c.args.self.now.top f c.args.region c.args.target c.requires.text c.requires.stands (ap (λ (xs : List ℤ). length xs) c.as_mut_slice.ensures.value) c.requires.item is
+    sync_edge c.args.program.now c.args.places.now _ _ c.args.self.now.top f c.args.region c.args.target c.requires.text.fits c.requires.stands (ap (λ (xs : List ℤ). length xs) c.as_mut_slice.ensures.value) c.requires.item is
 
 pub returns-clause-goes : goal.returns-clause-goes
 returns-clause-goes c = λ globals s h can.

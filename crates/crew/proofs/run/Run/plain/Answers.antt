@@ -1,0 +1,59 @@
+use Rattle.std.proofs.Common.{rules, ◌+◌, ◌<◌, [], sym, ap, ◌∙◌, arith}
+use Rattle.std.proofs.Math.Logic.{∥∥₁_elim, ∥∥₁_map}
+use Rattle.std.proofs.Props.{props}
+use Rattle.std.specs.Option.{option_copied_mut}
+use Rattle.std.specs.Vec.{with_items}
+use Rattle.crew.specs.Layouts.{layout_of}
+use Rattle.crew.specs.Shown.{place_of}
+use Rattle.crew.proofs.Onward.{fits_prop, left_shown, node_of, not_there, safe_standing, seen, stays, step_shown}
+use Rattle.crew.proofs.run.Run.plain.Goals as goal
+
+pub unreachable-requires : goal.unreachable-requires
+unreachable-requires c = ∥∥₁_elim c.requires.safe (hlevel props) (λ s.
+    not_there c.args.self.now.cactus c.args.slot (s.shown.agrees.held c.requires.held.worker c.args.slot c.requires.held.hand)
+    (sym c.frame_mut.ensures.value ∙ ap option_copied_mut c.in_default.is))
+
+pub overflow_add-before : goal.overflow_add-before
+overflow_add-before c =
+    let low : c.args.self.now.instructions + 2 < 9223372036854775808 = ∥∥₁_elim c.requires.safe (hlevel props) (λ s. let a = (s.safe []).counted in let b = s.shown.shows.done in omega (arith, a, b)) in
+    record { fits = omega (arith, low) }
+
+pub advance-pause-requires-clause-stands : goal.advance-pause-requires-clause-stands
+advance-pause-requires-clause-stands c =
+    let n = node_of c.args.self.now.cactus c.args.slot c.in-Some.activation.now (sym c.frame_mut.ensures.value ∙ ap option_copied_mut c.in-Some.is) in
+    ∥∥₁_elim c.requires.safe (fits_prop _ _) (λ s. (s.shown.agrees.nodes c.args.slot (record n.0 { frame = c.in-Some.activation.now }) n.1).fits)
+
+pub advance-pause-requires-clause-safe : goal.advance-pause-requires-clause-safe
+advance-pause-requires-clause-safe c =
+    let n = node_of c.args.self.now.cactus c.args.slot c.in-Some.activation.now (sym c.frame_mut.ensures.value ∙ ap option_copied_mut c.in-Some.is) in
+    ∥∥₁_map c.requires.safe (λ s.
+    safe_standing c.args.program.now c.args.places.now c.args.self.now c.args.slot n.0 c.in-Some.activation.now n.1 s.machine s.shown c.requires.held.worker c.requires.held.hand s.safe)
+
+pub returns-then-self-before-clause-left : goal.returns-then-self-before-clause-left
+returns-then-self-before-clause-left c = λ m shown safe.
+    let k = c.args.self.now in
+    let prog = c.args.program.now in
+    let places = c.args.places.now in
+    let a = c.in-Some.activation.now in
+    let n = node_of k.cactus c.args.slot a (sym c.frame_mut.ensures.value ∙ ap option_copied_mut c.in-Some.is) in
+    let w = c.requires.held.worker in
+    let hand = c.requires.held.hand in
+    let g = seen prog places k c.args.slot n.0 a n.1 m shown in
+    left_shown prog places k c.args.slot n.0 a n.1 m shown w hand safe c.advance-pause.new.self c.advance-pause.ensures.only c.advance-pause.ensures.stands
+    c.advance-pause.new.cells c.advance-pause.new.done (with_items k.moves c.advance-pause.new.moves)
+    (c.advance-pause.ensures.led (layout_of prog places k.cactus m.core) (place_of (record n.0 { frame = a })) g.frame m.core.memory g.shows.shown shown.shows.cells (stays prog places k c.args.slot n.0 a n.1 m shown w hand safe))
+    (search rules)
+
+pub returns-clause-stepped : goal.returns-clause-stepped
+returns-clause-stepped c = λ w hand m shown safe.
+    let k = c.args.self.now in
+    let prog = c.args.program.now in
+    let places = c.args.places.now in
+    let a = c.in-Some.activation.now in
+    let n = node_of k.cactus c.args.slot a (sym c.frame_mut.ensures.value ∙ ap option_copied_mut c.in-Some.is) in
+    let g = seen prog places k c.args.slot n.0 a n.1 m shown in
+    step_shown prog places k c.args.slot n.0 a n.1 m shown w hand safe c.advance-pause.new.self c.advance-pause.ensures.only c.advance-pause.ensures.stands
+    c.advance-pause.new.cells c.advance-pause.new.done (with_items k.moves c.advance-pause.new.moves)
+    (c.advance-pause.ensures.led (layout_of prog places k.cactus m.core) (place_of (record n.0 { frame = a })) g.frame m.core.memory g.shows.shown shown.shows.cells (stays prog places k c.args.slot n.0 a n.1 m shown w hand safe))
+    (search rules)
+    c.advance-pause.ensures.room

@@ -1,0 +1,75 @@
+-- What a run rests on, and what a step comes to.
+use Rattle.std.specs.Prelude.{◌≡◌, ℕ, Bool, true, false, None, ◌+◌, ◌<◌, List, length, Some, IsSome, slice_get, ℤ}
+use Rattle.running.specs.Paths.{Path}
+use Rattle.running.specs.Cells.{Object}
+use Rattle.running.specs.Frames.{Frame, Ends, item_at}
+use Rattle.running.specs.State.{change_of}
+use Rattle.running.specs.Tree.{Tree}
+use Rattle.running.specs.Events.{Machine, Event, Step, Steal, event}
+use Rattle.running.specs.Replay.{replay}
+use Rattle.linear.specs.declared.form.RegisterId.{RegisterId}
+use Rattle.program.specs.declared.identifier.BlockId.{BlockId}
+use Rattle.program.specs.declared.function.Function.{Function}
+use Rattle.program.specs.declared.function.Program.{Program}
+use Rattle.program.specs.declared.instruction.Terminator.TheVariants as terminator
+use Rattle.engine.specs.declared.activation.Places.{Places}
+use Rattle.engine.specs.Activation.{ProgramFits}
+use Rattle.engine.specs.Shows.{Safe}
+use Rattle.crew.specs.declared.run.Run.{Run}
+use Rattle.crew.specs.Layouts.{living}
+use Rattle.crew.specs.Shown.{IsShown}
+
+-- a worker's frame can do its next step, wherever objects lie
+pub record CanStep (prog : Program) (m : Machine) (p : Path) (f : Frame) : Type 0 where
+  pub safe : (at : Object → ℤ) → Safe prog (record { at = at; cells = living prog m.core }) p f m.core.memory
+  pub goes : IsSome (change_of prog m.core p)
+  -- its numbers are numbers of 64 bits
+  pub index : f.index + 1 < 18446744073709551616
+  pub made : f.made + 1 < 18446744073709551616
+  pub depth : length p + 1 < 18446744073709551616
+
+pub record CanGo (prog : Program) (m : Machine) : Type 0 where
+  pub steps : (worker : ℕ) (p : Path) (f : Frame) → m.hands worker ≡ Some p → m.core.frames p ≡ Some f → CanStep prog m p f
+  pub tree : Tree m.core
+  pub counted : m.core.done + 2 < 9223372036854775808
+
+-- wherever a schedule leads
+abbrev pub RunsSafely : Program → ℕ → Machine → Type 0
+RunsSafely prog workers m = (events : List Event) → CanGo prog (replay prog workers events m)
+
+-- some machine is shown, from which each schedule is safe
+pub record Stands (prog : Program) (places : Places) (k : Run) : Type 0 where
+  pub machine : Machine
+  pub shown : IsShown prog places machine k
+  pub safe : RunsSafely prog (length k.hands.items) machine
+
+abbrev pub StandsSafely : Program → Places → Run → Type 0
+StandsSafely prog places k = ∥ Stands prog places k ∥₁
+
+-- what the program's text gives: what is named is there, and a region's register is one of the function's
+pub record TextFits (prog : Program) (places : Places) (moves : ℕ) : Type 0 where
+  pub fits : ProgramFits prog places moves
+  pub syncs : (k b i : ℕ) (r : RegisterId) (target : BlockId) (f : Function) → slice_get prog.functions k ≡ Some f →
+      item_at prog k b i ≡ Some (Ends (terminator.Sync r target)) → r.0 < length f.registers
+
+-- ---- steps
+
+-- the worker's step is the definitions' event
+abbrev pub DoesStep : Program → Places → Run → Run → ℕ → Type 0
+DoesStep prog places old new worker =
+    (m : Machine) → IsShown prog places m old → RunsSafely prog (length old.hands.items) m →
+    (next : Machine) × (event prog (length old.hands.items) (Step worker) m ≡ Some next) × IsShown prog places next new
+
+-- what was shown is shown
+abbrev pub KeepsShown : Program → Places → Run → Run → Type 0
+KeepsShown prog places old new =
+    (m : Machine) → IsShown prog places m old → RunsSafely prog (length old.hands.items) m → IsShown prog places m new
+
+-- an event is done just where it is enabled, and then the machine after it is shown
+abbrev pub Becomes : Program → Places → ℕ → Event → Machine → Run → Bool → Type 0
+Becomes prog places workers e m new true = (next : Machine) × (event prog workers e m ≡ Some next) × IsShown prog places next new
+Becomes prog places workers e m new false = (event prog workers e m ≡ None) × IsShown prog places m new
+
+abbrev pub DoesSteal : Program → Places → Run → Run → ℕ → Path → Bool → Type 0
+DoesSteal prog places old new worker path done =
+    (m : Machine) → IsShown prog places m old → Becomes prog places (length old.hands.items) (Steal worker path) m new done

@@ -1,0 +1,5 @@
+pub mod Scheduling
+pub mod Tasks
+pub mod Layouts
+pub mod Shown
+pub mod Going

@@ -1,0 +1,50 @@
+ghost use Rattle.std.specs.Prelude.{◌≡◌, ℕ, Some, length};
+ghost use Rattle.running.specs.Frames.{Does};
+ghost use Rattle.program.specs.declared.instruction.Instruction.TheVariants as instruction;
+ghost use Rattle.cactus.specs.Frames.{node_at};
+ghost use Rattle.cactus.specs.declared.node.Node.{Node};
+ghost use Rattle.engine.specs.Activation.{ProgramFits};
+ghost use Rattle.crew.specs.declared.activation.Activation.{Activation as Living};
+ghost use Rattle.crew.specs.Scheduling.{hand_of, IsHeld};
+ghost use Rattle.crew.specs.Shown.{item_here};
+ghost use Rattle.crew.specs.Going.{DoesStep, StandsSafely};
+
+use crate::run::Run;
+use engine::Places;
+use frame::Wait;
+use program::{ObjectName, Program};
+
+impl Run {
+    /// Does the array store at the place of the frame in the slot.
+    pub fn clear(
+        &mut self,
+        program: &Program,
+        places: &Places,
+        slot: usize,
+        object: ObjectName,
+        count: u64,
+    )
+        requires text { ProgramFits program.now places.now (length self.old.moves.items) }
+        requires held { IsHeld self.old.hands.items slot }
+        requires item { (node : Node Living) → node_at self.old.cactus slot ≡ Some node →
+            item_here program.now node.frame.frame ≡ Some (Does (instruction.StoreZeros count object)) }
+        requires safe { StandsSafely program.now places.now self.old }
+        ensures steps { (worker : ℕ) → hand_of self.old.hands.items worker ≡ Some slot →
+            DoesStep program.now places.now self.old self.new worker }
+        ensures hands { self.new.hands ≡ self.old.hands }
+        ensures moves { self.new.moves ≡ self.old.moves }
+    {
+        let Some(activation) = self.cactus.frame_mut(slot) else {
+            unreachable!()
+        };
+        match activation
+            .frame
+            .clear(places, &mut self.cells, object, count)
+        {
+            Ok(()) => {}
+            Err(never) => match never {},
+        }
+        activation.frame.waits = Wait::Nothing;
+        self.instructions += 1;
+    }
+}

@@ -1,0 +1,21 @@
+//! The workers' machine on the engine: steps of workers over frames in slots and cells in one row. Its callers show that each worker's
+//! frame may go on wherever a schedule comes, so nothing is tested.
+//!
+//! An address is an index of the row: globals first, then blocks, one a slot. A function's frame has its allocas in its slot's block as long
+//! as it lives, so no path is walked for a cell, and a copy of a frame names the same cells.
+//!
+//! What stands: how a run is shown (`Shown`), what it rests on (`Going`), the plain step, the array store, the sync and the steal. Open:
+//! detach, reattach, call, return and the start; and that accepted programs meet `Going`.
+#![tactic(auto)]
+
+mod activation;
+mod clear;
+mod hands;
+mod plain;
+mod run;
+mod steal;
+mod sync;
+mod tops;
+
+pub use activation::Activation;
+pub use run::{Block, Run};

@@ -1,0 +1,49 @@
+ghost use Rattle.std.specs.Prelude.{◌≡◌, ℕ, Some, length};
+ghost use Rattle.std.specs.Bool.{OnFalse, OnTrue};
+ghost use Rattle.cactus.specs.Frames.{node_at};
+ghost use Rattle.cactus.specs.declared.node.Node.{Node};
+ghost use Rattle.engine.specs.Activation.{ProgramFits};
+ghost use Rattle.engine.specs.Border.{IsBorderItem};
+ghost use Rattle.crew.specs.declared.activation.Activation.{Activation as Living};
+ghost use Rattle.crew.specs.Scheduling.{hand_of, IsHeld};
+ghost use Rattle.crew.specs.Shown.{item_here};
+ghost use Rattle.crew.specs.Going.{DoesStep, KeepsShown, StandsSafely};
+
+use crate::run::Run;
+use engine::Places;
+use frame::Wait;
+use program::Program;
+
+impl Run {
+    /// Does the next instruction of the frame in the slot, where that is a plain one; says whether it was.
+    pub fn plain(&mut self, program: &Program, places: &Places, slot: usize) -> bool
+        requires text { ProgramFits program.now places.now (length self.old.moves.items) }
+        requires held { IsHeld self.old.hands.items slot }
+        requires safe { StandsSafely program.now places.now self.old }
+        ensures stepped { OnTrue result ((worker : ℕ) → hand_of self.old.hands.items worker ≡ Some slot →
+            DoesStep program.now places.now self.old self.new worker) }
+        ensures left { OnFalse result (KeepsShown program.now places.now self.old self.new) }
+        ensures border { OnFalse result ((node : Node Living) → node_at self.new.cactus slot ≡ Some node →
+            IsBorderItem (item_here program.now node.frame.frame)) }
+        ensures hands { self.new.hands ≡ self.old.hands }
+        ensures moves { length self.new.moves.items ≡ length self.old.moves.items }
+    {
+        let before = self.instructions;
+        let Some(activation) = self.cactus.frame_mut(slot) else {
+            unreachable!()
+        };
+        let _pause = activation.frame.advance(
+            program,
+            places,
+            &mut self.cells,
+            self.moves.as_mut_slice(),
+            &mut self.instructions,
+            before + 1,
+        );
+        if self.instructions == before {
+            return false;
+        }
+        activation.frame.waits = Wait::Nothing;
+        true
+    }
+}
