@@ -3,19 +3,14 @@
 use super::machines::{drawn, random_event};
 use super::samples::*;
 use super::verified;
-use crate::act::act;
-use crate::words::words;
-use debugger::Debugger;
+use commands::{Beside, Debugger, Event, Machine, Memory, TaskView, Verified, act, replay, words};
 use frame::Path;
-use schedule_core::{Event, Machine, TaskView, replay};
 use std::hash::RandomState;
 use std::io;
 use std::io::{ErrorKind, Read, Write};
 use std::process::Abort;
 use std::random::RandomSource;
 use std::test::Fail;
-use store::Memory;
-use verifier::Verified;
 
 const EVENTS: usize = 90;
 
@@ -213,7 +208,7 @@ fn told_to(
         written: Vec::new(alloc),
         left: writes,
     };
-    let mut written = String::new(alloc);
+    let mut beside = Beside::nothing(alloc);
     let status = act(
         alloc,
         RandomState::new(rt)?,
@@ -222,7 +217,7 @@ fn told_to(
         Some(schedule.as_slice()),
         &mut input,
         &mut output,
-        &mut written,
+        &mut beside,
     );
     Ok((status, output.written))
 }

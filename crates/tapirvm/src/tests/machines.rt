@@ -2,15 +2,12 @@
 
 use super::samples::*;
 use super::verified;
-use debugger::read_schedule;
+use commands::{Event, Machine, Memory, Standing, Verified, read_schedule, replay};
 use frame::Path;
 use program::RegisterId;
-use schedule_core::{Event, Machine, Status, replay};
 use std::process::Abort;
 use std::random::RandomSource;
 use std::test::Fail;
-use store::Memory;
-use verifier::Verified;
 
 /// The machine of two workers after the schedule.
 fn replayed<'v>(
@@ -35,7 +32,7 @@ fn replayed<'v>(
     Ok(machine.ok().ok_or("stopped")?)
 }
 
-fn stands(machine: &Machine<'_>, path: &Path, status: Status, line: u32) -> bool {
+fn stands(machine: &Machine<'_>, path: &Path, status: Standing, line: u32) -> bool {
     match machine.task(path) {
         Some(task) => task.status == status && task.line == line,
         None => false,
@@ -49,8 +46,8 @@ fn a_stolen_root_stalls_at_its_sync(
     let machine = replayed(rt, &verified, 7, "step 0 2\nsteal 1 root\nstep 1 3\n")?;
     let root = Path::root(rt.alloc());
     let child = root.child(rt.alloc(), 0)?;
-    assert!(rt; stands(&machine, &root, Status::Stalled(RegisterId(1)), 20));
-    assert!(rt; stands(&machine, &child, Status::Running(0), 12));
+    assert!(rt; stands(&machine, &root, Standing::Stalled(RegisterId(1)), 20));
+    assert!(rt; stands(&machine, &child, Standing::Running(0), 12));
     assert!(rt; machine.task_of(1).is_none());
     Ok(())
 }
@@ -63,7 +60,7 @@ fn the_root_of_a_loop_stalls_at_its_sync(
     let machine = replayed(rt, &verified, 2, schedule)?;
     let root = Path::root(rt.alloc());
     assert_eq!(rt; machine.instructions(), 18);
-    assert!(rt; stands(&machine, &root, Status::Stalled(RegisterId(1)), 47));
+    assert!(rt; stands(&machine, &root, Standing::Stalled(RegisterId(1)), 47));
     Ok(())
 }
 

@@ -1,7 +1,7 @@
 //! What the program tells, as transcripts. `of MODULE`; then `line 8 TEXT` for a text in place of its line 8 (` || ` ends a line in it), and
 //! `without 9` for one that is taken away; `events EVENT; EVENT ..`, or `events none`, for the schedule; `input LINE; LINE ..` for standard input, without
 //! an LF at its end; command lines after `$`; what each of
-//! them writes; its `status`. `m.ll` and `s.txt` are the module and the schedule.
+//! them writes; after `!` a line of standard error; its `status`. `m.ll` and `s.txt` are the module and the schedule.
 
 pub const TRANSCRIPTS: &str = "\
 # refuses what has no main
@@ -533,9 +533,11 @@ events step 0 2
 input to 1
 $ tapirvm debug m.ll s.txt --workers 0 --arg 7
 stopped 802
+! error: --workers is not from 1 to 64
 status 3
 $ tapirvm debug m.ll s.txt --workers 2
 stopped 801 requirement 0
+! error: @main takes 1 argument, and the command line gives 0
 status 3
 $ tapirvm debug m.ll s.txt --workers 2 --arg 7 --set @b:0=1
 status 2
@@ -559,11 +561,13 @@ of pair
 events step 0 1
 $ tapirvm replay m.ll s.txt --workers 0 --arg 7
 stopped 802
+! error: --workers is not from 1 to 64
 status 3
 of pair
 events step 0 1
 $ tapirvm replay m.ll s.txt --workers 0
 stopped 801 requirement 0
+! error: @main takes 1 argument, and the command line gives 0
 status 3
 
 # a schedule that cannot be read
@@ -576,26 +580,32 @@ status 4
 of add-one
 $ tapirvm serial m.ll --arg 101
 stopped 801 requirement 2
+! error: the arguments do not meet line 3: ;! requires %n <= 100
 status 3
 of add-one
 $ tapirvm serial m.ll --arg=-1
 stopped 801 requirement 1
+! error: the arguments do not meet line 2: ;! requires %n >= 0
 status 3
 of add-one
 $ tapirvm serial m.ll
 stopped 801 requirement 0
+! error: @main takes 1 argument, and the command line gives 0
 status 3
 of add-one
 $ tapirvm run m.ll --workers 0 --arg 101
 stopped 801 requirement 2
+! error: the arguments do not meet line 3: ;! requires %n <= 100
 status 3
 of add-one
 $ tapirvm run m.ll --workers 0 --arg 41
 stopped 802
+! error: --workers is not from 1 to 64
 status 3
 of add-one
 $ tapirvm run m.ll --workers 65 --arg 41
 stopped 802
+! error: --workers is not from 1 to 64
 status 3
 
 # shows only cells of the module
@@ -621,6 +631,15 @@ of nothing
 $ tapirvm serial m.ll
 unreadable m.ll
 status 4
+$ tapirvm serial m.ll --show=@@a:0
+! error: invalid value '@@a:0' for '--show <@a:I>'
+status 2
+$ tapirvm serial m.ll --set=@@a:0=1
+! error: invalid value '@@a:0=1' for '--set <@a:I=V>'
+status 2
+$ tapirvm explain 999
+! error: no rule has the number 999
+status 2
 
 # no other words
 of load
@@ -653,6 +672,7 @@ peak 2
 status 0
 $ tapirvm serial m.ll --arg 101
 stopped 801 requirement 2
+! error: the arguments do not meet line 4: ;! requires %n <= 100
 status 3
 
 # prints canonical texts
@@ -712,6 +732,15 @@ $ tapirvm print m.ll
 $ tapirvm show m.ll
 unreadable m.ll
 status 4
+$ tapirvm serial m.ll --show=@@a:0
+! error: invalid value '@@a:0' for '--show <@a:I>'
+status 2
+$ tapirvm serial m.ll --set=@@a:0=1
+! error: invalid value '@@a:0=1' for '--set <@a:I=V>'
+status 2
+$ tapirvm explain 999
+! error: no rule has the number 999
+status 2
 
 # shows what is known
 of pair
@@ -813,6 +842,7 @@ events step 0 1
 $ tapirvm replay m.ll s.txt --workers 2 --trace
 $ tapirvm replay m.ll s.txt --workers 2 --picture p.svg
 stopped 801 requirement 0
+! error: @main takes 1 argument, and the command line gives 0
 status 3
 of pair
 events step 0 1; step 0 1
@@ -840,6 +870,7 @@ status 2
 of parallel-for
 $ tapirvm run m.ll --workers 0 --arg 2 --seed 1
 stopped 802
+! error: --workers is not from 1 to 64
 status 3
 $ tapirvm run m.ll --workers 1 --arg 2 --seed 1
 $ tapirvm run m.ll --workers 3 --arg 2 --seed 2
@@ -905,6 +936,15 @@ of nothing
 $ tapirvm annotate m.ll
 unreadable m.ll
 status 4
+$ tapirvm serial m.ll --show=@@a:0
+! error: invalid value '@@a:0' for '--show <@a:I>'
+status 2
+$ tapirvm serial m.ll --set=@@a:0=1
+! error: invalid value '@@a:0=1' for '--set <@a:I=V>'
+status 2
+$ tapirvm explain 999
+! error: no rule has the number 999
+status 2
 of pair
 $ tapirvm annotate
 $ tapirvm annotate m.ll --workers 1

@@ -1,10 +1,25 @@
 //! From words to a request.
 
+ghost use Rattle.std.specs.Prelude.{◌≡◌, IfOk, IfSome, map};
+ghost use Rattle.commands.specs.declared.request.Verb.TheVariants as verb_variant;
+ghost use Rattle.commands.specs.Asked.{IsAsked, word_of};
+
 use crate::request::{CellWord, Request, Setting, Telling, Verb, WordsFault};
 use clap::error::ErrorKind;
 use clap::{Arg, ArgAction, ArgMatches, Command, Error};
 use explain::rule_text;
 use std::alloc::{AllocError, Global};
+
+/// What the help of each command tells last.
+const STATUSES: &str = "\
+Statuses:
+  0  done
+  1  the module is refused
+  2  the command line is wrong, an option names nothing, or help was asked for
+  3  the run was stopped, or memory was refused
+  4  FILE or SCHEDULE cannot be read
+  5  SCHEDULE is no schedule
+  6  standard input cannot be read, or an output cannot be written";
 
 /// What `tapirvm debug --help` says of its commands.
 const DIALOGUE: &str = "\
@@ -22,7 +37,22 @@ Example:
   $ printf 'to 6\\ntask root\\nback\\n' | tapirvm debug pair.ll s.txt --workers 2 --arg 7
   at 6 of 15
   task root stalled line 20
-  at 5 of 15";
+  at 5 of 15
+
+Statuses:
+  as those of run --help";
+
+const VERBS: [Verb; 9] = [
+    Verb::Verify,
+    Verb::Explain,
+    Verb::Serial,
+    Verb::Run,
+    Verb::Replay,
+    Verb::Debug,
+    Verb::Print,
+    Verb::Show,
+    Verb::Annotate,
+];
 
 /// Whether a text is a name by the rules of the module's text, without its sigil.
 pub fn is_name(text: &str) -> bool {
@@ -154,7 +184,10 @@ fn fault_of(alloc: Global, error: Error) -> WordsFault {
 }
 
 fn file_word<'a>(alloc: Global) -> Arg<'a> {
-    Arg::new(alloc, "file").value_name("FILE").required(true)
+    Arg::new(alloc, "file")
+        .value_name("FILE")
+        .required(true)
+        .help("the text of the module")
 }
 
 fn table_option<'a>(alloc: Global) -> Arg<'a> {
@@ -168,6 +201,7 @@ fn table_option<'a>(alloc: Global) -> Arg<'a> {
 fn verify_command<'a>(alloc: Global) -> Result<Command<'a>, AllocError> {
     Command::new(alloc, "verify")
         .about("verifies a module, and tells its budget and depth")
+        .after_help(STATUSES)
         .arg(file_word(alloc))?
         .arg(table_option(alloc))
 }
@@ -181,10 +215,6 @@ fn repeated<'a>(alloc: Global, name: &'a str, value: &'a str, help: &'a str) -> 
         .help(help)
 }
 
-/// What the help of each command tells last.
-const STATUSES: &str =
-    "Statuses: 0 done, 1 refused module, 2 command line, 3 stopped, 4 unreadable file, 5 bad schedule, 6 a failed read or write";
-
 /// A command that takes a module alone.
 fn module_command<'a>(
     alloc: Global,
@@ -194,7 +224,7 @@ fn module_command<'a>(
     Command::new(alloc, name)
         .about(about)
         .after_help(STATUSES)
-        .arg(file_word(alloc).help("the text of the module"))
+        .arg(file_word(alloc))
 }
 
 fn print_command<'a>(alloc: Global) -> Result<Command<'a>, AllocError> {
@@ -216,11 +246,12 @@ fn explain_command<'a>(alloc: Global) -> Result<Command<'a>, AllocError> {
     let file = Arg::new(alloc, "file")
         .value_name("FILE|NUMBER")
         .required(true)
-        .help("a module, or the number of a rule; status 1 where the module is refused");
+        .help("the text of a module, or the number of a rule");
     Command::new(alloc, "explain")
         .about(
             "says why a module is refused and what was to be shown, or what an accepted one could do without; or prints a rule",
         )
+        .after_help(STATUSES)
         .arg(file)
 }
 
@@ -228,15 +259,32 @@ fn explain_command<'a>(alloc: Global) -> Result<Command<'a>, AllocError> {
 fn running<'a>(alloc: Global, command: Command<'a>) -> Result<Command<'a>, AllocError> {
     command
         .arg(file_word(alloc))?
-        .arg(repeated(alloc, "arg", "V", "an argument of @main, in order"))?
-        .arg(repeated(alloc, "set", "@a:I=V", "sets a cell before the run"))?
-        .arg(repeated(alloc, "show", "@a:I", "prints a cell after the run"))
+        .arg(repeated(
+            alloc,
+            "arg",
+            "V",
+            "an argument of @main, in order; --arg=-5 for one below 0",
+        ))?
+        .arg(repeated(
+            alloc,
+            "set",
+            "@a:I=V",
+            "sets cell I of the global @a before the run",
+        ))?
+        .arg(repeated(
+            alloc,
+            "show",
+            "@a:I",
+            "prints cell I of the global @a after the run",
+        ))
 }
 
 fn serial_command<'a>(alloc: Global) -> Result<Command<'a>, AllocError> {
     running(
         alloc,
-        Command::new(alloc, "serial").about("runs the serial elision of a module"),
+        Command::new(alloc, "serial")
+            .about("runs the serial elision of a module")
+            .after_help(STATUSES),
     )
 }
 
@@ -246,7 +294,7 @@ fn workers<'a>(alloc: Global) -> Arg<'a> {
         .value_name("N")
         .required(true)
         .action(ArgAction::Set)
-        .help("from 1 to 64")
+        .help("the number of workers, from 1 to 64")
 }
 
 fn seed_option<'a>(alloc: Global) -> Arg<'a> {
@@ -280,6 +328,7 @@ fn schedule_word<'a>(alloc: Global) -> Arg<'a> {
     Arg::new(alloc, "schedule")
         .value_name("SCHEDULE")
         .required(true)
+        .help("the events, a line for each: step W N, or steal W PATH")
 }
 
 /// The words of a verb that follows a schedule.
@@ -323,6 +372,7 @@ fn debug_command<'a>(alloc: Global) -> Result<Command<'a>, AllocError> {
 fn command<'a>(alloc: Global) -> Result<Command<'a>, AllocError> {
     Command::new(alloc, "tapirvm")
         .about("A verified fork-join machine for LLVM IR with Tapir's detach, reattach and sync")
+        .after_help(STATUSES)
         .subcommand_required(true)
         .subcommand(verify_command(alloc)?)?
         .subcommand(explain_command(alloc)?)?
@@ -354,7 +404,9 @@ fn module_request(
     alloc: Global,
     verb: Verb,
     matches: &ArgMatches<'_>,
-) -> Result<Request, WordsFault> {
+) -> Result<Request, WordsFault>
+    ensures { IfOk result (λ r. r.verb ≡ verb) }
+{
     Ok(Request {
         verb,
         file: file_of(alloc, matches)?,
@@ -385,19 +437,25 @@ fn rule_of(alloc: Global, word: &str) -> Result<Option<u16>, WordsFault> {
     }
 }
 
-fn explain_request(alloc: Global, matches: &ArgMatches<'_>) -> Result<Request, WordsFault> {
+fn explain_request(alloc: Global, matches: &ArgMatches<'_>) -> Result<Request, WordsFault>
+    ensures { IfOk result (λ r. r.verb ≡ verb_variant.Explain) }
+{
     let request = module_request(alloc, Verb::Explain, matches)?;
     let rule = rule_of(alloc, request.file.as_str())?;
     Ok(Request { rule, ..request })
 }
 
-fn verify_request(alloc: Global, matches: &ArgMatches<'_>) -> Result<Request, WordsFault> {
+fn verify_request(alloc: Global, matches: &ArgMatches<'_>) -> Result<Request, WordsFault>
+    ensures { IfOk result (λ r. r.verb ≡ verb_variant.Verify) }
+{
     let request = module_request(alloc, Verb::Verify, matches)?;
     let table = table_of(alloc, matches)?;
     Ok(Request { table, ..request })
 }
 
-fn request_of(alloc: Global, verb: Verb, matches: &ArgMatches<'_>) -> Result<Request, WordsFault> {
+fn request_of(alloc: Global, verb: Verb, matches: &ArgMatches<'_>) -> Result<Request, WordsFault>
+    ensures { IfOk result (λ r. r.verb ≡ verb) }
+{
     Ok(Request {
         verb,
         file: file_of(alloc, matches)?,
@@ -434,7 +492,9 @@ fn written_file(
     }
 }
 
-fn run_request(alloc: Global, matches: &ArgMatches<'_>) -> Result<Request, WordsFault> {
+fn run_request(alloc: Global, matches: &ArgMatches<'_>) -> Result<Request, WordsFault>
+    ensures { IfOk result (λ r. r.verb ≡ verb_variant.Run) }
+{
     let request = request_of(alloc, Verb::Run, matches)?;
     let telling = Telling {
         trace: false,
@@ -448,7 +508,9 @@ fn schedule_request(
     alloc: Global,
     verb: Verb,
     matches: &ArgMatches<'_>,
-) -> Result<Request, WordsFault> {
+) -> Result<Request, WordsFault>
+    ensures { IfOk result (λ r. r.verb ≡ verb) }
+{
     let request = request_of(alloc, verb, matches)?;
     let schedule = schedule_of(alloc, matches)?;
     Ok(Request {
@@ -457,7 +519,9 @@ fn schedule_request(
     })
 }
 
-fn replay_request(alloc: Global, matches: &ArgMatches<'_>) -> Result<Request, WordsFault> {
+fn replay_request(alloc: Global, matches: &ArgMatches<'_>) -> Result<Request, WordsFault>
+    ensures { IfOk result (λ r. r.verb ≡ verb_variant.Replay) }
+{
     let request = schedule_request(alloc, Verb::Replay, matches)?;
     let telling = Telling {
         trace: matches.get_flag("trace"),
@@ -467,22 +531,46 @@ fn replay_request(alloc: Global, matches: &ArgMatches<'_>) -> Result<Request, Wo
     Ok(Request { telling, ..request })
 }
 
+/// The verb that a word names.
+fn verb_of(word: &str) -> Option<Verb>
+    ensures { IfSome result (λ verb. word.now ≡ word_of verb) }
+{
+    for verb in VERBS {
+        if verb.word() == word {
+            return Some(verb);
+        }
+    }
+    None
+}
+
+/// What the words of a verb's own command ask for.
+fn request_for(alloc: Global, verb: Verb, matches: &ArgMatches<'_>) -> Result<Request, WordsFault>
+    ensures { IfOk result (λ r. r.verb ≡ verb) }
+{
+    match verb {
+        Verb::Verify => verify_request(alloc, matches),
+        Verb::Explain => explain_request(alloc, matches),
+        Verb::Run => run_request(alloc, matches),
+        Verb::Replay => replay_request(alloc, matches),
+        Verb::Debug => schedule_request(alloc, verb, matches),
+        Verb::Serial => request_of(alloc, verb, matches),
+        Verb::Print | Verb::Show | Verb::Annotate => module_request(alloc, verb, matches),
+    }
+}
+
 /// Reads the program's words, the program's own name first.
-pub fn words<'a>(alloc: Global, words: &'a [&'a str]) -> Result<Request, WordsFault> {
+pub fn words<'a>(alloc: Global, words: &'a [&'a str]) -> Result<Request, WordsFault>
+    ensures { IfOk result (λ r. IsAsked (map (λ w. w.now) words.now) r.verb) }
+{
     let parsed = match command(alloc)?.try_get_matches_from(words) {
         Ok(matches) => matches,
         Err(error) => return Err(fault_of(alloc, error)),
     };
-    match parsed.subcommand() {
-        Some(("verify", matches)) => verify_request(alloc, matches),
-        Some(("explain", matches)) => explain_request(alloc, matches),
-        Some(("serial", matches)) => request_of(alloc, Verb::Serial, matches),
-        Some(("run", matches)) => run_request(alloc, matches),
-        Some(("replay", matches)) => replay_request(alloc, matches),
-        Some(("print", matches)) => module_request(alloc, Verb::Print, matches),
-        Some(("show", matches)) => module_request(alloc, Verb::Show, matches),
-        Some(("annotate", matches)) => module_request(alloc, Verb::Annotate, matches),
-        Some(("debug", matches)) => schedule_request(alloc, Verb::Debug, matches),
-        _ => Err(wrong_value(alloc, "<COMMAND>", "")),
+    let Some((word, matches)) = parsed.subcommand() else {
+        return Err(wrong_value(alloc, "<COMMAND>", ""));
+    };
+    match verb_of(word) {
+        Some(verb) => request_for(alloc, verb, matches),
+        None => Err(wrong_value(alloc, "<COMMAND>", word)),
     }
 }

@@ -1,6 +1,6 @@
 use Rattle.program.specs.declared.function.Program.{Program}
-use Rattle.store.specs.Made.{HasGlobalCells}
-use Rattle.tapirvm.proofs.act.set_cells.Given as goal
+use Rattle.serial_promise.specs.store.Made.{HasGlobalCells}
+use Rattle.commands.proofs.runs.set_cells.Given as goal
 
 abbrev pub invariant-loop-setting : goal.invariant-loop-setting
 invariant-loop-setting l = (program : Program) → HasGlobalCells program l.fn.memory → HasGlobalCells program l.memory

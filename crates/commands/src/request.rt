@@ -1,3 +1,6 @@
+ghost use Rattle.std.specs.Prelude.{◌≡◌};
+ghost use Rattle.commands.specs.Asked.{word_of};
+
 use std::alloc::{AllocError, AllocFailed};
 
 /// What the program is asked to do.
@@ -21,6 +24,25 @@ pub enum Verb {
     Show,
     /// Put in the annotations that follow from others.
     Annotate,
+}
+
+impl Verb {
+    /// The word that names it.
+    pub fn word(self) -> &'static str
+        ensures { result.now ≡ word_of self }
+    {
+        match self {
+            Verb::Verify => "verify",
+            Verb::Explain => "explain",
+            Verb::Serial => "serial",
+            Verb::Run => "run",
+            Verb::Replay => "replay",
+            Verb::Debug => "debug",
+            Verb::Print => "print",
+            Verb::Show => "show",
+            Verb::Annotate => "annotate",
+        }
+    }
 }
 
 /// A cell of a global, as `@a:5` names it.

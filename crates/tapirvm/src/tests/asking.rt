@@ -2,8 +2,8 @@
 
 use super::explanations::EXPLANATIONS;
 use super::samples::{PAIR, sample};
-use super::told;
 use super::transcripts::TRANSCRIPTS;
+use super::{obeyed, told};
 use std::alloc::{AllocError, Global};
 use std::process::Abort;
 use std::random::RandomSource;
@@ -18,6 +18,7 @@ struct Asked {
     input: String,
     commands: String,
     output: String,
+    notes: String,
 }
 
 fn push_lines(text: &mut String, lines: &[&str]) -> Result<(), AllocError> {
@@ -50,6 +51,7 @@ impl Asked {
             input: String::new(alloc),
             commands: String::new(alloc),
             output: String::new(alloc),
+            notes: String::new(alloc),
         }
     }
 
@@ -103,12 +105,16 @@ impl Asked {
         let status: u8 = status.parse().ok().ok_or("no status")?;
         assert!(rt; !self.commands.is_empty(), "a status without a command");
         for command in self.commands.lines() {
-            let (code, output) = told(rt, command, module, schedule, self.input.as_bytes())?;
-            assert_eq!(rt; output.as_slice(), self.output.as_bytes(), "{command}");
-            assert_eq!(rt; code, status, "{command}");
+            let told = obeyed(rt, command, module, schedule, self.input.as_bytes())?;
+            assert_eq!(rt; told.output.as_slice(), self.output.as_bytes(), "{command}");
+            assert_eq!(rt; told.status, status, "{command}");
+            if status != 2 || !self.notes.is_empty() {
+                assert_eq!(rt; told.notes.as_str(), self.notes.as_str(), "{command}");
+            }
         }
         self.commands.clear();
         self.output.clear();
+        self.notes.clear();
         Ok(())
     }
 
@@ -130,6 +136,7 @@ impl Asked {
             Some(("events", events)) => self.set_schedule(alloc, events)?,
             Some(("input", lines)) => self.set_input(lines)?,
             Some(("$", command)) => writeln!(self.commands, "{command}")?,
+            Some(("!", note)) => writeln!(self.notes, "{note}")?,
             Some(("status", status)) => self.check(rt, status)?,
             _ => {
                 if !line.is_empty() {

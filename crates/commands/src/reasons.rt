@@ -1,5 +1,6 @@
 //! What `explain` prints: a rule, or why a module is refused.
 
+use crate::job::stop_for_memory;
 use crate::status::Status;
 use explain::{Explanation, explain, rule_text, told};
 use lists::OutOfMemory;
@@ -20,11 +21,6 @@ fn explained(
         Explanation::Refused { .. } => Status::Refused,
     };
     Ok((told(alloc, text, &explanation)?, status))
-}
-
-fn stop_for_memory<W: Write>(output: &mut W) -> io::Result<Status> {
-    writeln!(output, "stopped 803")?;
-    Ok(Status::Stopped)
 }
 
 /// Prints why a module is refused, or what it could do without.

@@ -1,11 +1,10 @@
 //! The dialogue of `tapirvm debug`: a command a line, and a line in answer.
 
+use crate::command_line::is_name;
 use crate::status::Status;
-use crate::words::is_name;
-use debugger::{Debugger, read_number, read_task};
+use debugger::{Debugger, Status as Standing, read_number, read_task};
 use frame::Path;
 use lists::OutOfMemory;
-use schedule_core::Status as Standing;
 use std::alloc::{AllocError, Global};
 use std::io;
 use std::io::{BufRead, BufReader, ErrorKind, Read, Write};

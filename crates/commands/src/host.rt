@@ -1,0 +1,191 @@
+//! The program over its words, files and streams.
+
+use crate::answer::act;
+use crate::beside::Beside;
+use crate::command_line::words;
+use crate::files::{read_file, write_file};
+use crate::request::{Request, WordsFault};
+use crate::status::Status;
+use crate::word::text_of;
+use std::env::FillError;
+use std::hash::RandomState;
+use std::io;
+use std::io::{BufWriter, ErrorKind, Write};
+use std::random::RandomSource;
+use std::rt::{Env, Files};
+
+/// More bytes than a word of a command line has.
+const WORD_ROOM: usize = 131_072;
+
+/// The texts of the command line's words, the program's own name first.
+fn read_words<R: AllocGlobal + Env>(rt: &R) -> io::Result<Vec<String>> {
+    let alloc = rt.alloc();
+    let mut room = vec![in alloc; 0u8; WORD_ROOM]?;
+    let mut texts = Vec::new(alloc);
+    for i in 0..usize::MAX {
+        match rt.arg(i, room.as_mut_slice()) {
+            Ok(length) => {
+                let word = room.as_slice().get(..length).unwrap_or(b"");
+                texts.push(text_of(alloc, word)?)?;
+            }
+            Err(FillError::NotPresent) => break,
+            Err(FillError::TooLong) => return Err(io::Error::from(ErrorKind::InvalidInput)),
+        }
+    }
+    Ok(texts)
+}
+
+/// Says on standard error what went wrong. Where that fails too the status alone tells.
+fn complain(rt: &impl Eprint, subject: &str, error: &io::Error) {
+    let _ = rt.eprint("error: ");
+    let _ = rt.eprint(subject);
+    let _ = rt.eprint(": ");
+    let _ = rt.eprintln(error);
+}
+
+/// Says that memory was refused.
+fn stop_for_memory(rt: &impl Print) -> Status {
+    match rt.println("stopped 803") {
+        Ok(()) => Status::Stopped,
+        Err(_) => Status::Stream,
+    }
+}
+
+/// Prints why words are no request, and answers the status.
+fn refuse_words(rt: &(impl Print + Eprint), fault: &WordsFault) -> Status {
+    match &fault.text {
+        Some(text) => {
+            let _ = rt.eprint(text);
+            Status::Words
+        }
+        None => stop_for_memory(rt),
+    }
+}
+
+/// Says why a file could not be read, or that an option names nothing.
+fn explain_status(
+    rt: &impl Eprint,
+    request: &Request,
+    status: u8,
+    module: &io::Result<Vec<u8>>,
+    schedule: &Option<io::Result<Vec<u8>>>,
+) {
+    if status == Status::Words as u8 {
+        let _ = rt.eprintln(match request.table {
+            Some(_) => "error: --table names a function that the module does not have",
+            None => "error: an option names a cell that the module does not have",
+        });
+    }
+    if status == Status::Unreadable as u8 {
+        match (module, schedule, &request.schedule) {
+            (Err(error), _, _) => complain(rt, request.file.as_str(), error),
+            (_, Some(Err(error)), Some(file)) => complain(rt, file.as_str(), error),
+            _ => {}
+        }
+    }
+}
+
+/// Writes the file that is asked for, if one is.
+fn write_asked<R: AllocGlobal + Eprint + Files>(rt: &R, request: &Request, text: &str) -> Status {
+    let Some(file) = &request.telling.file else {
+        return Status::Done;
+    };
+    match write_file(rt, file.as_str(), text) {
+        Ok(()) => Status::Done,
+        Err(error) => {
+            complain(rt, file.as_str(), &error);
+            Status::Stream
+        }
+    }
+}
+
+/// The text of the file that a word names, or why it cannot be read; want of memory is no such reason.
+fn read_word<R: AllocGlobal + Files>(rt: &R, word: &str) -> io::Result<io::Result<Vec<u8>>> {
+    match read_file(rt, word) {
+        Err(error) if error.kind() == ErrorKind::OutOfMemory => Err(error),
+        read => Ok(read),
+    }
+}
+
+/// Reads the files, does what is asked and answers the status.
+fn obey<R: AllocGlobal + Eprint + Files + Input + Print + RandomSource>(
+    rt: &R,
+    request: &Request,
+) -> io::Result<u8> {
+    let alloc = rt.alloc();
+    let module = read_word(rt, request.file.as_str())?;
+    let schedule = match &request.schedule {
+        Some(file) => Some(read_word(rt, file.as_str())?),
+        None => None,
+    };
+    let state = RandomState::new(rt)?;
+    let mut output = BufWriter::new(alloc, io::writer(rt))?;
+    let mut input = rt.reader();
+    let mut beside = Beside::nothing(alloc);
+    let status = act(
+        alloc,
+        state,
+        request,
+        bytes_of_read(&module),
+        schedule.as_ref().and_then(bytes_of_read),
+        &mut input,
+        &mut output,
+        &mut beside,
+    );
+    let status = finish(rt, status, output);
+    let _ = rt.eprint(beside.notes.as_str());
+    explain_status(rt, request, status, &module, &schedule);
+    if status == Status::Done as u8 {
+        return Ok(write_asked(rt, request, beside.file.as_str()) as u8);
+    }
+    Ok(status)
+}
+
+/// What was read.
+fn bytes_of_read(read: &io::Result<Vec<u8>>) -> Option<&[u8]> {
+    match read {
+        Ok(bytes) => Some(bytes.as_slice()),
+        Err(_) => None,
+    }
+}
+
+/// Writes what is buffered; at a failed stream nothing further is written.
+fn finish<W: Write + Drop>(rt: &impl Eprint, status: u8, output: BufWriter<W>) -> u8 {
+    let mut output = output;
+    if status == Status::Stream as u8 {
+        drop(output.into_parts());
+        return status;
+    }
+    match output.flush() {
+        Ok(()) => status,
+        Err(error) => {
+            complain(rt, "standard output", &error);
+            Status::Stream as u8
+        }
+    }
+}
+
+/// Reads the program's words and obeys them.
+fn obey_words<R: AllocGlobal + Env + Eprint + Files + Input + Print + RandomSource>(
+    rt: &R,
+) -> io::Result<u8> {
+    let alloc = rt.alloc();
+    let texts = read_words(rt)?;
+    let list: Vec<&str> = texts.iter().map(|t| t.as_str()).collect(alloc)?;
+    match words(alloc, list.as_slice()) {
+        Ok(request) => obey(rt, &request),
+        Err(fault) => Ok(refuse_words(rt, &fault) as u8),
+    }
+}
+
+/// Does what the program's words ask for, and answers its exit status.
+pub fn run<R: AllocGlobal + Env + Eprint + Files + Input + Print + RandomSource>(rt: &R) -> u8 {
+    match obey_words(rt) {
+        Ok(status) => status,
+        Err(error) if error.kind() == ErrorKind::OutOfMemory => stop_for_memory(rt) as u8,
+        Err(error) => {
+            complain(rt, "tapirvm", &error);
+            Status::Stopped as u8
+        }
+    }
+}

@@ -1,0 +1,260 @@
+//! Runs, replays and debugging of a module that the verifier took.
+
+ghost use Rattle.program.specs.declared.function.Program.{Program};
+ghost use Rattle.std.specs.Prelude.{IfOk};
+ghost use Rattle.serial_promise.specs.store.Made.{HasGlobalCells};
+
+use crate::answer::print_unreadable;
+use crate::beside::Beside;
+use crate::dialogue::converse;
+use crate::job::{Job, print_schedule_fault, stop_for_memory};
+use crate::request::{CellWord, Setting, Verb};
+use crate::status::Status;
+use debugger::{
+    Debugger, Event, Finished, Machine, Memory, RunFault, Verified, read_schedule, replay,
+};
+use lists::OutOfMemory;
+use serial_promise::run_serially;
+use std::alloc::Global;
+use std::io;
+use std::io::{Read, Write};
+
+/// Runs the module, by the schedule where the verb takes one.
+pub fn run_verified<W: Write>(
+    job: &Job<'_>,
+    output: &mut W,
+    beside: &mut Beside,
+) -> io::Result<Status> {
+    let Some(file) = &job.request.schedule else {
+        return run_events(job, &[], output, beside);
+    };
+    let Some(text) = job.schedule else {
+        return print_unreadable(job.alloc, file.as_str(), output);
+    };
+    match read_schedule(job.alloc, text) {
+        Ok(events) => run_events(job, events.as_slice(), output, beside),
+        Err(fault) => print_schedule_fault(&fault, output),
+    }
+}
+
+/// Goes through the schedule by the commands of the input.
+pub fn debug<R: Read, W: Write>(
+    job: &Job<'_>,
+    input: &mut R,
+    output: &mut W,
+    beside: &mut Beside,
+) -> io::Result<Status> {
+    let Some(text) = job.schedule else {
+        return match &job.request.schedule {
+            Some(file) => print_unreadable(job.alloc, file.as_str(), output),
+            None => Ok(Status::Unreadable),
+        };
+    };
+    match read_schedule(job.alloc, text) {
+        Ok(events) => debug_events(job, events, input, output, beside),
+        Err(fault) => print_schedule_fault(&fault, output),
+    }
+}
+
+fn debug_events<R: Read, W: Write>(
+    job: &Job<'_>,
+    events: Vec<Event>,
+    input: &mut R,
+    output: &mut W,
+    beside: &mut Beside,
+) -> io::Result<Status> {
+    let memory = match prepared(job) {
+        Ok(memory) => memory,
+        Err(Status::Stopped) => return stop_for_memory(output),
+        Err(status) => return Ok(status),
+    };
+    let Job {
+        alloc,
+        request,
+        verified,
+        ..
+    } = *job;
+    let args = request.args.as_slice();
+    match Debugger::new(alloc, verified, args, memory, request.workers, events) {
+        Ok(mut debugger) => converse(alloc, &mut debugger, input, output),
+        Err(fault) => job.print_run_fault(&fault, output, beside),
+    }
+}
+
+/// The memory to begin with; else the status: an option names no cell, or memory was refused.
+pub fn prepared(job: &Job<'_>) -> Result<Memory, Status>
+    ensures { IfOk result (λ memory. HasGlobalCells job.now.verified.now memory) }
+{
+    let Ok(mut memory) = Memory::zeroed(job.alloc, job.verified) else {
+        return Err(Status::Stopped);
+    };
+    let request = job.request;
+    let has_shown = request.verb == Verb::Debug || has_cells(&memory, request.show.as_slice());
+    if set_cells(&mut memory, request.set.as_slice()) && has_shown {
+        Ok(memory)
+    } else {
+        Err(Status::Words)
+    }
+}
+
+/// Runs the module. The events are those of a replay.
+fn run_events<W: Write>(
+    job: &Job<'_>,
+    events: &[Event],
+    output: &mut W,
+    beside: &mut Beside,
+) -> io::Result<Status> {
+    let memory = match prepared(job) {
+        Ok(memory) => memory,
+        Err(Status::Stopped) => return stop_for_memory(output),
+        Err(status) => return Ok(status),
+    };
+    let args = job.request.args.as_slice();
+    match job.request.verb {
+        Verb::Replay => run_replay(job, memory, events, output, beside),
+        Verb::Serial => {
+            let run = run_serially(job.alloc, job.verified, args, memory);
+            print_run(job, &run, output, beside)
+        }
+        _ => {
+            let workers = job.request.workers;
+            let run = run_by_one(job.alloc, job.verified, args, memory, workers);
+            print_run(job, &run, output, beside)
+        }
+    }
+}
+
+/// The answer of a run by these events.
+pub fn run_replay<W: Write>(
+    job: &Job<'_>,
+    memory: Memory,
+    events: &[Event],
+    output: &mut W,
+    beside: &mut Beside,
+) -> io::Result<Status>
+    requires { HasGlobalCells job.now.verified.now memory }
+{
+    let args = job.request.args.as_slice();
+    let workers = job.request.workers;
+    match replay(job.alloc, job.verified, args, memory, workers, events) {
+        Ok(machine) => print_replayed(job, machine, output, beside),
+        Err(fault) => job.print_run_fault(&fault, output, beside),
+    }
+}
+
+fn print_run<W: Write>(
+    job: &Job<'_>,
+    finished: &Result<Finished, RunFault>,
+    output: &mut W,
+    beside: &mut Beside,
+) -> io::Result<Status> {
+    match finished {
+        Ok(finished) => print_finished(finished, job.request.show.as_slice(), output),
+        Err(fault) => job.print_run_fault(fault, output, beside),
+    }
+}
+
+fn print_replayed<W: Write>(
+    job: &Job<'_>,
+    machine: Machine<'_>,
+    output: &mut W,
+    beside: &mut Beside,
+) -> io::Result<Status> {
+    if machine.ended() {
+        return print_run(job, &finished(machine), output, beside);
+    }
+    writeln!(output, "not ended")?;
+    writeln!(output, "instructions {}", machine.instructions())?;
+    writeln!(output, "frames {}", machine.live_frames())?;
+    print_cells(machine.memory(), job.request.show.as_slice(), output)?;
+    Ok(Status::Done)
+}
+
+/// Sets a cell; false where it is not there.
+fn set_cell(memory: &mut Memory, setting: &Setting) -> bool
+    ensures { (program : Program) → HasGlobalCells program memory.old → HasGlobalCells program memory.new }
+{
+    memory.set_global(
+        setting.cell.name.as_str(),
+        setting.cell.index,
+        setting.value,
+    )
+}
+
+/// Sets cells in order; false where one is not there.
+fn set_cells(memory: &mut Memory, settings: &[Setting]) -> bool
+    ensures { (program : Program) → HasGlobalCells program memory.old → HasGlobalCells program memory.new }
+{
+    for setting in settings {
+        if !set_cell(memory, setting) {
+            return false;
+        }
+    }
+    true
+}
+
+fn has_cells(memory: &Memory, cells: &[CellWord]) -> bool {
+    for cell in cells {
+        if memory.get_global(cell.name.as_str(), cell.index).is_none() {
+            return false;
+        }
+    }
+    true
+}
+
+/// Worker 0 makes every step, whatever the number of workers is.
+fn run_by_one(
+    alloc: Global,
+    verified: &Verified,
+    args: &[i64],
+    memory: Memory,
+    workers: usize,
+) -> Result<Finished, RunFault>
+    requires { HasGlobalCells verified.now memory }
+{
+    let mut machine = Machine::start(alloc, verified, args, memory, workers)?;
+    for _ in 0..verified.budget() {
+        match machine.apply(&Event::Step(0)) {
+            Ok(true) => {}
+            Ok(false) => break,
+            Err(OutOfMemory) => return Err(RunFault::OutOfMemory),
+        }
+    }
+    finished(machine)
+}
+
+/// What a run came to. One that has not ended within its budget met a trap.
+fn finished(machine: Machine<'_>) -> Result<Finished, RunFault> {
+    let Some(result) = machine.result() else {
+        return Err(RunFault::Trapped);
+    };
+    let instructions = machine.instructions();
+    let peak = machine.peak();
+    Ok(Finished {
+        result,
+        memory: machine.into_memory(),
+        instructions,
+        peak,
+    })
+}
+
+fn print_finished<W: Write>(
+    finished: &Finished,
+    cells: &[CellWord],
+    output: &mut W,
+) -> io::Result<Status> {
+    writeln!(output, "result {}", finished.result)?;
+    writeln!(output, "instructions {}", finished.instructions)?;
+    writeln!(output, "peak {}", finished.peak)?;
+    print_cells(&finished.memory, cells, output)?;
+    Ok(Status::Done)
+}
+
+fn print_cells<W: Write>(memory: &Memory, cells: &[CellWord], output: &mut W) -> io::Result<()> {
+    for cell in cells {
+        if let Some(value) = memory.get_global(cell.name.as_str(), cell.index) {
+            writeln!(output, "@{}:{} {value}", cell.name, cell.index)?;
+        }
+    }
+    Ok(())
+}
