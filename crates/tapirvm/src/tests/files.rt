@@ -54,11 +54,11 @@ fn words_have_texts(rt: &(impl Abort + AllocGlobal)) -> Result<(), Fail> {
 fn files(rt: HostRuntime) -> Result<(), Fail> {
     long_texts_are_cut(&rt)?;
     words_have_texts(&rt)?;
-    let missing = text_of(rt.alloc(), b"/\xff/m.ll")?;
+    let raw = text_of(rt.alloc(), b"/\xff/m.ll")?;
     for (word, kind) in [
         ("/", ErrorKind::IsADirectory),
         ("/m.ll/missing", ErrorKind::NotFound),
-        (missing.as_str(), ErrorKind::NotFound),
+        (raw.as_str(), ErrorKind::InvalidFilename),
     ] {
         let found = read_file(&rt, word).err().ok_or("read")?;
         assert_eq!(rt; found.kind(), kind, "{word}");
