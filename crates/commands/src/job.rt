@@ -20,10 +20,13 @@ pub struct Job<'a> {
     pub schedule: Option<&'a [u8]>,
 }
 
-impl Job<'_> {
+impl<'a> Job<'a> {
     /// The module's text.
-    pub fn source(&self) -> &str {
-        str::from_utf8(self.text).unwrap_or("")
+    pub fn source(&self) -> &'a str {
+        match str::from_utf8(self.text) {
+            Ok(source) => source,
+            Err(_) => "",
+        }
     }
 
     /// Says how many arguments `main` takes.
