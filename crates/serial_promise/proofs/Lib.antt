@@ -7,5 +7,7 @@ pub mod walks
 pub mod safe
 pub mod text
 pub mod Rows
+pub mod Held
+pub mod Engine
 -- for the crates above
 pub use Rattle.schedule_theorem.proofs as schedule_theorem

@@ -1,12 +1,46 @@
-ghost use Rattle.std.specs.Prelude.{◌≡◌, ℕ, Some, None, Err};
+ghost use Rattle.std.specs.Prelude.{◌≡◌, ℕ, Some, None, Err, IfOk};
 ghost use Rattle.serial_machine.specs.Requirements.{unmet_in};
 ghost use Rattle.store.specs.Made.{HasGlobalCells};
-ghost use Rattle.serial_promise.specs.Promise.{EndsOrLacksMemory};
+ghost use Rattle.verifier.specs.Accepted.{IsAccepted};
+ghost use Rattle.verifier.specs.Budgets.{budget_of};
+ghost use Rattle.serial_promise.specs.Promise.{EndsOrLacksMemory, EndsWithinBudget};
 
-use serial_machine::{Finished, RunFault, serial_run};
+use crate::places::{most_moves, places_of};
+use lists::OutOfMemory;
+use program::Program;
+use serial_machine::{Finished, RunFault, unmet_requirement};
+use serial_steps::Stack;
 use std::alloc::Global;
 use store::Memory;
 use verifier::Verified;
+
+/// The run of arguments that the program takes, over a row of the globals' numbers.
+fn run_over_row(
+    alloc: Global,
+    program: &Program,
+    arguments: &[i64],
+    memory: &Memory,
+    budget: u64,
+) -> Result<Finished, OutOfMemory>
+    requires accepted { IsAccepted program.now }
+    requires taken { unmet_in program.now arguments.now ≡ None }
+    requires cells { HasGlobalCells program.now memory.now }
+    requires budget { budget ≡ budget_of program.now }
+    ensures { IfOk result (λ done. EndsWithinBudget program.now arguments.now memory.now done) }
+{
+    let sizes = memory.sizes()?;
+    let places = places_of(alloc, program, sizes.as_slice())?;
+    let row = memory.row()?;
+    let mut stack = Stack::begin(alloc, program, arguments, row, most_moves(program))?;
+    let ended = stack.run(program, &places, budget)?;
+    let globals = memory.with_row(stack.cells.cells.as_slice())?;
+    Ok(Finished {
+        result: ended.result,
+        memory: globals,
+        instructions: ended.instructions,
+        peak: ended.peak,
+    })
+}
 
 /// The serial run of a module that the verifier took, from memory that was made for it: its elision's memory, result, count of
 /// instructions and depth, within the budget and the depth that the verifier answers (Tapir, "serial elision"). It never traps.
@@ -20,10 +54,19 @@ pub fn run_serially(
     arguments: &[i64],
     memory: Memory,
 ) -> Result<Finished, RunFault>
+    requires cells { HasGlobalCells verified.now memory }
     ensures refused { (requirement : ℕ) → unmet_in verified.now arguments.now ≡ Some requirement → result ≡ Err (RunFault.BadArguments requirement memory) }
-    ensures ends { unmet_in verified.now arguments.now ≡ None → HasGlobalCells verified.now memory → EndsOrLacksMemory verified.now arguments.now memory result }
+    ensures ends { unmet_in verified.now arguments.now ≡ None → EndsOrLacksMemory verified.now arguments.now memory result }
 {
-    // for what it says of the module: that it is accepted
-    let _accepted = verified.program();
-    serial_run(alloc, verified, arguments, memory)
+    let program = verified.program();
+    match unmet_requirement(program, arguments) {
+        Some(requirement) => Err(RunFault::BadArguments {
+            requirement,
+            memory,
+        }),
+        None => match run_over_row(alloc, program, arguments, &memory, verified.budget()) {
+            Ok(finished) => Ok(finished),
+            Err(OutOfMemory) => Err(RunFault::OutOfMemory),
+        },
+    }
 }

@@ -2,6 +2,7 @@
 #![tactic(auto)]
 
 mod memory;
+mod rows;
 
 pub use memory::Memory;
 pub use verifier::Verified;

@@ -12,9 +12,9 @@ use verifier::Verified;
 
 /// A global: its name and its numbers.
 #[derive(Debug, Drop)]
-struct GlobalCells {
-    name: Name,
-    cells: Vec<i64>,
+pub(crate) struct GlobalCells {
+    pub(crate) name: Name,
+    pub(crate) cells: Vec<i64>,
 }
 
 impl Model for GlobalCells {
@@ -59,8 +59,8 @@ impl GlobalCells {
 /// and numbers.
 #[derive(Debug, Drop)]
 pub struct Memory {
-    alloc: Global,
-    globals: Vec<GlobalCells>,
+    pub(crate) alloc: Global,
+    pub(crate) globals: Vec<GlobalCells>,
 }
 
 impl Model for Memory {

@@ -77,16 +77,16 @@ kind_there kinds n r k e is = subst (λ (x : ℕ). r < x) (sym e) (slice_get_wit
 
 -- ---- lists
 
-starts_long : (at : ℕ) (cells : List ℕ) → length (starts_from at cells) ≡ length cells
+pub starts_long : (at : ℕ) (cells : List ℕ) → length (starts_from at cells) ≡ length cells
 starts_long at [] = refl
 starts_long at (c ∷ cs) = ap suc (starts_long ((at + c) % 18446744073709551616) cs)
 
-some_at : {A : Type 0} (o : Option A) → is_some o ≡ true → (a : A) × (o ≡ Some a)
+pub some_at : {A : Type 0} (o : Option A) → is_some o ≡ true → (a : A) × (o ≡ Some a)
 some_at None h = absurd (cc)
 some_at (Some a) h = (a, refl)
 
 -- where each element's place is below a number the list is no longer
-below_all : {A : Type 0} (xs : List A) (n : ℕ) → ((i : ℕ) (x : A) → slice_get xs i ≡ Some x → i < n) → length xs ≤ n
+pub below_all : {A : Type 0} (xs : List A) (n : ℕ) → ((i : ℕ) (x : A) → slice_get xs i ≡ Some x → i < n) → length xs ≤ n
 below_all xs n below = by (length xs) refl
   where
     by : (k : ℕ) → length xs ≡ k → length xs ≤ n
@@ -95,6 +95,10 @@ below_all xs n below = by (length xs) refl
         let one = some_at (slice_get xs k) (there xs k (omega (arith, e))) in
         let low : k < n = below k one.0 one.1 in
         omega (arith, e, low)
+
+pub parameters_first : (program : Program) → HasKinds program → (f : ℕ) (function : Function) → slice_get program.functions f ≡ Some function → length function.parameters ≤ length function.registers
+parameters_first program kinds f function at =
+    below_all function.parameters (length function.registers) (λ i one is. slice_get_within function.registers i _ (kinds.parameters f i function one at is))
 
 end_there : (steps : List Step) (e : Ending) → item_of steps (Some e) (length steps) ≡ Some (Ends e.terminator)
 end_there [] e = refl
@@ -123,7 +127,7 @@ module _ (text : List ℕ) (program : Program) (accepted : IsProgramOf text prog
           ap length read ∙ starts_long 0 (map (λ (a : Alloca). a.cells) function.allocas) ∙ length-map function.allocas (λ (a : Alloca). a.cells)
 
       parameters_low : length function.parameters ≤ length function.registers
-      parameters_low = below_all function.parameters (length function.registers) (λ i one is. slice_get_within function.registers i _ (kinds.parameters f i function one at is))
+      parameters_low = parameters_first program kinds f function at
 
       object_there : (name : ObjectName) → IsThere program function name → HasObject n name
       object_there (object.Global g) h = omega (arith, h, enough)

@@ -1,0 +1,6 @@
+use Rattle.std.proofs.Common.{◌≡◌, ◌++◌, take, drop}
+use Rattle.store.specs.Rows.{row_of, sizes_of}
+use Rattle.store.proofs.memory.Memory.row.Given as goal
+
+abbrev pub invariant-loop-global : goal.invariant-loop-global
+invariant-loop-global l = l.row.items ++ row_of (drop l.global-index l.global-items) ≡ row_of l.global-items
