@@ -9,7 +9,7 @@ use Rattle.ranges.specs.region_match.declared.task.Task.TheVariants.{Unreached, 
 use Rattle.ranges.specs.region_match.declared.tables.FunctionTasks.{FunctionTasks}
 use Rattle.ranges.specs.region_match.declared.tables.Regions.{Regions}
 use Rattle.ranges.specs.region_match.Tasks.{task_at}
-use Rattle.cost_table.specs.Cost.{callee_of}
+use Rattle.program.specs.Calls.{callee_of}
 
 -- ---- detaches
 

@@ -1,31 +1,23 @@
 -- What the rules on cost say of frames: how much of its function's budget a frame may still use, and the inequalities between a frame and those that
 -- it goes on with.
-use Rattle.std.specs.Prelude.{◌≡◌, ◌≢◌, ℕ, zero, suc, ◌+◌, ◌*◌, List, [], ◌∷◌, length, Option, Some, None, cond, eqb, slice_get, All, ℤ, pos, negsuc}
+use Rattle.std.specs.Prelude.{◌≡◌, ◌≢◌, ℕ, zero, suc, ◌+◌, ◌*◌, List, [], ◌∷◌, Option, Some, None, cond, eqb, slice_get, All, ℤ, pos, negsuc}
 use Rattle.std.specs.Prelude.{◌-ℤ◌, ◌≤ℤ◌}
+use Rattle.running.specs.Cells.{or_zero}
 use Rattle.running.specs.Frames.{Registers, Frame, block_at, word_of}
 use Rattle.linear.specs.Forms.{Combination, constant_form, value}
+use Rattle.program.specs.Calls.{callee_of, parameters_in}
 use Rattle.program.specs.declared.function.Block.{Block}
 use Rattle.program.specs.declared.function.Function.{Function}
 use Rattle.program.specs.declared.function.Program.{Program}
-use Rattle.program.specs.declared.instruction.Instruction.{Instruction}
-use Rattle.program.specs.declared.instruction.Instruction.TheVariants as instruction
 use Rattle.program.specs.declared.instruction.Step.{Step}
 
 -- ---- registers as forms read them
-
-abbrev pub or_zero : Option ℤ → ℤ
-or_zero None = pos 0
-or_zero (Some z) = z
 
 -- 0 where there is no number
 abbrev pub numbers : Registers → ℕ → ℤ
 numbers r x = or_zero (word_of (r x))
 
 -- ---- what functions and blocks declare
-
-abbrev pub parameters_in : Option Function → ℕ
-parameters_in None = 0
-parameters_in (Some f) = length f.parameters
 
 -- the parameters are the registers below this number
 abbrev pub parameters_of : Program → ℕ → ℕ
@@ -91,19 +83,6 @@ measure_at prog f = value (numbers f.registers) (measure_of prog f.function)
 abbrev pub cost_below : Program → ℕ → ℕ → ℕ
 cost_below prog function zero = 0
 cost_below prog function (suc m) = instructions_of prog function + self_calls_of prog function * cost_below prog function m
-
-abbrev pub callee_of : Instruction → Option ℕ
-callee_of (instruction.Binary d op w a b) = None
-callee_of (instruction.Compare d by w a b) = None
-callee_of (instruction.Convert d by a) = None
-callee_of (instruction.Alloca d a) = None
-callee_of (instruction.ElementPointer d name i) = None
-callee_of (instruction.Load d address) = None
-callee_of (instruction.Store a address) = None
-callee_of (instruction.StoreZeros cells name) = None
-callee_of (instruction.AtomicAdd address a) = None
-callee_of (instruction.Call d callee arguments) = Some callee.0
-callee_of (instruction.StartRegion d) = None
 
 -- an instruction costs 1, and a call of another function that one's cost too; a self call is counted apart
 abbrev pub instructions_for : Program → ℕ → Option ℕ → ℕ

@@ -1,7 +1,7 @@
 -- Where no rule on cost is broken, facts show the rules as the bridge asks for them.
 use Rattle.std.proofs.Common.{◌≡◌, ◌∙◌, ◌⊎◌, ℕ, suc, ◌+◌, ◌<◌, ◌≤◌, pos, Bool, true, List, [], ◌++◌, length, get_or, map, Option, Some, None, is_some, inl, inr, refl, sym, ap, subst, arith, slice_get}
 use Rattle.std.specs.List.{All, Any, Contains}
-use Rattle.std.proofs.lemmas.Bool.{false≢true}
+use Rattle.std.proofs.lemmas.Bool.{false≢true, true_from_ne_false}
 use Rattle.std.proofs.lemmas.List.Elements.{All-nil, All-map, Contains-get_or, Contains-append_left, Contains-append_right}
 use Rattle.running.specs.Frames.{Does, Ends, and_then, block_at, item_at, block_phis, phis_at}
 use Rattle.linear.specs.declared.form.Fact.{Fact}
@@ -29,7 +29,8 @@ use Rattle.ranges.specs.Inequalities.{argument_moves}
 use Rattle.ranges.specs.Edges.{edges_out, edge_facts, all_edge_facts, phis_of}
 use Rattle.ranges.specs.Places.{stated, start_facts, facts_at_step, facts_at_end, edges_known}
 use Rattle.conditions.specs.rules.Moves.{dest_of, EndsFrame}
-use Rattle.conditions.specs.rules.Costs.{parameters_in, parameters_of, measure_in, measure_of, bound_in, bound_of, self_calls_in, self_calls_of, instructions_in, instructions_of, calls_left_in, instructions_left_in, calls_left, instructions_left, instructions_for, self_calls_for, spent_by, spent_in, Lacks}
+use Rattle.conditions.specs.rules.Costs.{parameters_of, measure_in, measure_of, bound_in, bound_of, self_calls_in, self_calls_of, instructions_in, instructions_of, calls_left_in, instructions_left_in, calls_left, instructions_left, instructions_for, self_calls_for, spent_by, spent_in, Lacks}
+use Rattle.program.specs.Calls.{parameters_in}
 use Rattle.conditions.specs.rules.Edges.{edge_forms, argument_forms}
 use Rattle.conditions.specs.rules.ShownCosts.{calls_spent_at, instructions_spent_at, IsAtLeast, EdgeShown, ForkShown, EndShown, CostsShown}
 use Rattle.definedness.specs.RegisterActs.{form_needs, register_needs}
@@ -41,7 +42,7 @@ use Rattle.phase_laws.proofs.defined.Items.{block_is}
 use Rattle.phase_laws.proofs.defined.Lists.{first_within, flat_within}
 use Rattle.phase_laws.specs.facts.Known.{shows_at, known_at_place}
 use Rattle.phase_laws.specs.facts.Handed.{out_of, outs_of, outs_along, outs_at}
-use Rattle.phase_laws.proofs.facts.Places.{BlockOf, StepAt, EndAt, step_at, end_at, known_is, known_end, true_unless, Any_of}
+use Rattle.phase_laws.proofs.facts.Places.{BlockOf, StepAt, EndAt, step_at, end_at, known_is, known_end, Any_of}
 use Rattle.cfg.proofs.Searching.{Contains_map}
 use Rattle.phase_laws.proofs.facts.Handed.{outs_are, facts_tabled}
 use Rattle.cost_table.specs.Cost.{calls_done, instructions_done, instructions_of as instructions_by}
@@ -56,7 +57,7 @@ use Rattle.phase_laws.proofs.costs.Entries.{have_entries}
 both_hold : (number line : ℕ) (a b : Bool) → ((x : Broken) → IsPairBroken number line a b x → ⊥) → (a ≡ true) × (b ≡ true)
 both_hold number line a b never =
     let broken : Broken = record { line = line; number = number } in
-    (true_unless a (λ e. never broken (refl, refl, inl e)), true_unless b (λ e. never broken (refl, refl, inr e)))
+    (true_from_ne_false a (λ e. never broken (refl, refl, inl e)), true_from_ne_false b (λ e. never broken (refl, refl, inr e)))
 
 nothing_shown : (facts : List Fact) → IsShown facts (constant_form (pos 0))
 nothing_shown facts =
