@@ -1,8 +1,8 @@
 //! From words to a request.
 
 ghost use Rattle.std.specs.Prelude.{◌≡◌, IfOk, IfSome, map};
-ghost use Rattle.commands.specs.declared.request.Verb.TheVariants as verb_variant;
-ghost use Rattle.commands.specs.Asked.{IsAsked, word_of};
+ghost use Rattle.command_line.specs.declared.request.Verb.TheVariants as verb_variant;
+ghost use Rattle.command_line.specs.Asked.{IsAsked, word_of};
 
 use crate::request::{CellWord, Request, Setting, Telling, Verb, WordsFault};
 use clap::error::ErrorKind;
