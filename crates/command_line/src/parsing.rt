@@ -7,7 +7,7 @@ ghost use Rattle.command_line.specs.Asked.{IsAsked, word_of};
 use crate::request::{CellWord, Request, Setting, Telling, Verb, WordsFault};
 use clap::error::ErrorKind;
 use clap::{Arg, ArgAction, ArgMatches, Command, Error};
-use explain::rule_text;
+use rules::rule_text;
 use std::alloc::{AllocError, Global};
 
 /// What the help of each command tells last.
