@@ -2,11 +2,9 @@
 
 use crate::answer::act;
 use crate::beside::Beside;
-use crate::command_line::words;
 use crate::files::{read_file, write_file};
-use crate::request::{Request, WordsFault};
 use crate::status::Status;
-use crate::word::text_of;
+use command_line::{Request, WordsFault, text_of, words};
 use std::env::FillError;
 use std::hash::RandomState;
 use std::io;

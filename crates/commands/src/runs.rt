@@ -8,8 +8,8 @@ use crate::answer::print_unreadable;
 use crate::beside::Beside;
 use crate::dialogue::converse;
 use crate::job::{Job, print_schedule_fault, stop_for_memory};
-use crate::request::{CellWord, Setting, Verb};
 use crate::status::Status;
+use command_line::{CellWord, Setting, Verb};
 use debugger::{
     Debugger, Event, Finished, Machine, Memory, RunFault, Verified, read_schedule, replay,
 };

@@ -7,11 +7,11 @@
 mod accepted;
 mod alloca;
 mod explaining;
+mod printing;
 mod report;
-mod rule;
-mod rule_texts;
 
 pub use explaining::explain;
 pub use findings::Finding;
+pub use printing::told;
 pub use report::Explanation;
-pub use rule::{rule_text, told};
+pub use rules::rule_text;

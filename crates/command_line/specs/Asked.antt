@@ -4,8 +4,8 @@ use Rattle.clap.specs.Words.{HasMatchesOf, IsParsedFrom, app_of}
 use Rattle.clap.specs.Matches.{subcommand_name_of}
 use Rattle.clap.specs.declared.builder.command.Command.{Command}
 use Rattle.clap.specs.declared.parser.matches.ArgMatches.{ArgMatches}
-use Rattle.commands.specs.declared.request.Verb.{Verb}
-use Rattle.commands.specs.declared.request.Verb.TheVariants as verb
+use Rattle.command_line.specs.declared.request.Verb.{Verb}
+use Rattle.command_line.specs.declared.request.Verb.TheVariants as verb
 
 -- the word that names a verb
 abbrev pub word_of : Verb → List ℕ

@@ -1,13 +1,13 @@
 //! From words to a request.
 
 ghost use Rattle.std.specs.Prelude.{◌≡◌, IfOk, IfSome, map};
-ghost use Rattle.commands.specs.declared.request.Verb.TheVariants as verb_variant;
-ghost use Rattle.commands.specs.Asked.{IsAsked, word_of};
+ghost use Rattle.command_line.specs.declared.request.Verb.TheVariants as verb_variant;
+ghost use Rattle.command_line.specs.Asked.{IsAsked, word_of};
 
 use crate::request::{CellWord, Request, Setting, Telling, Verb, WordsFault};
 use clap::error::ErrorKind;
 use clap::{Arg, ArgAction, ArgMatches, Command, Error};
-use explain::rule_text;
+use rules::rule_text;
 use std::alloc::{AllocError, Global};
 
 /// What the help of each command tells last.

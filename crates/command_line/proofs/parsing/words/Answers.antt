@@ -1,8 +1,8 @@
 use Rattle.std.proofs.Common.{◌≡◌, List, ℕ, Some, map, rules}
 use Rattle.std.proofs.lemmas.Result.{IfOk-weaker}
 use Rattle.clap.specs.Matches.{subcommand_name_of}
-use Rattle.commands.specs.Asked.{IsAsked, word_of}
-use Rattle.commands.proofs.command_line.words.Goals as goal
+use Rattle.command_line.specs.Asked.{IsAsked, word_of}
+use Rattle.command_line.proofs.parsing.words.Goals as goal
 
 pub returns-in-Some-verb_of : goal.returns-in-Some-verb_of
 returns-in-Some-verb_of c =

@@ -1,8 +1,6 @@
-//! The rules in words, and how an explanation is printed.
+//! The rule of a number, by its row of the table.
 
-use crate::report::Explanation;
-use crate::rule_texts::RULES;
-use findings::{Finding, line_at};
+use crate::texts::RULES;
 use lists::OutOfMemory;
 use std::alloc::Global;
 
@@ -58,16 +56,8 @@ pub fn rule_text(alloc: Global, number: u16) -> Result<Option<String>, OutOfMemo
     Ok(if out.is_empty() { None } else { Some(out) })
 }
 
-/// The line that breaks a rule, as the text has it; what is not printed is escaped.
-fn push_line(out: &mut String, text: &str, number: u32) -> Result<(), OutOfMemory> {
-    if let Some(line) = line_at(text, number) {
-        let shown = line.trim().escape_debug();
-        writeln!(out, "  | {shown}")?;
-    }
-    Ok(())
-}
-
-fn push_meanings(out: &mut String, number: u16) -> Result<(), OutOfMemory> {
+/// Adds what the rule means, in a line of its own.
+pub fn push_meanings(out: &mut String, number: u16) -> Result<(), OutOfMemory> {
     for line in RULES.lines() {
         if let Some(row) = row_of(line, number) {
             let means = row.means;
@@ -77,7 +67,8 @@ fn push_meanings(out: &mut String, number: u16) -> Result<(), OutOfMemory> {
     Ok(())
 }
 
-fn push_mends(out: &mut String, number: u16) -> Result<(), OutOfMemory> {
+/// Adds how the rule is mended, in a line of its own.
+pub fn push_mends(out: &mut String, number: u16) -> Result<(), OutOfMemory> {
     for line in RULES.lines() {
         if let Some(row) = row_of(line, number) {
             let mend = row.mend;
@@ -85,33 +76,4 @@ fn push_mends(out: &mut String, number: u16) -> Result<(), OutOfMemory> {
         }
     }
     Ok(())
-}
-
-/// What a rule means, and after the notes how to mend it.
-fn push_finding_text(out: &mut String, text: &str, finding: &Finding) -> Result<(), OutOfMemory> {
-    push_line(out, text, finding.line)?;
-    push_meanings(out, finding.number)?;
-    out.push_str(finding.notes.as_str())?;
-    push_mends(out, finding.number)
-}
-
-/// An explanation of a text as it is printed. What it begins with is what `verify` prints of a refused module.
-pub fn told(alloc: Global, text: &[u8], explanation: &Explanation) -> Result<String, OutOfMemory> {
-    let mut out = String::new(alloc);
-    let text = str::from_utf8(text).unwrap_or("");
-    match explanation {
-        Explanation::Accepted { remarks } => {
-            out.push_str("accepted\n")?;
-            out.push_str(remarks.as_str())?;
-        }
-        Explanation::Refused { first, others } => {
-            writeln!(out, "refused {} line {}", first.number, first.line)?;
-            push_finding_text(&mut out, text, first)?;
-            for other in others.as_slice() {
-                writeln!(out, "also {} line {}", other.number, other.line)?;
-                push_finding_text(&mut out, text, other)?;
-            }
-        }
-    }
-    Ok(out)
 }

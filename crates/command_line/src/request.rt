@@ -1,5 +1,5 @@
 ghost use Rattle.std.specs.Prelude.{◌≡◌};
-ghost use Rattle.commands.specs.Asked.{word_of};
+ghost use Rattle.command_line.specs.Asked.{word_of};
 
 use std::alloc::{AllocError, AllocFailed};
 
