@@ -7,8 +7,9 @@ use Rattle.program.specs.declared.function.Program.{Program}
 use Rattle.program.specs.declared.instruction.Instruction.{Instruction}
 use Rattle.program.specs.declared.instruction.Instruction.TheVariants as instruction
 use Rattle.program.specs.declared.instruction.Step.{Step}
-use Rattle.conditions.specs.rules.Costs.{bound_in, bound_of, self_calls_in, instructions_in, cost_below as cost_below_of, callee_of as called_by, instructions_for, self_calls_for, spent_by}
-use Rattle.cost_table.specs.Cost.{cost_below, whole_cost_of, callee_of, callee_cost, self_call, instructions_of, self_calls_of}
+use Rattle.conditions.specs.rules.Costs.{bound_in, bound_of, self_calls_in, instructions_in, cost_below as cost_below_of, instructions_for, self_calls_for, spent_by}
+use Rattle.program.specs.Calls.{callee_of as called_by, callee_of}
+use Rattle.cost_table.specs.Cost.{cost_below, whole_cost_of, callee_cost, self_call, instructions_of, self_calls_of}
 
 same_callee : (i : Instruction) → called_by i ≡ callee_of i
 same_callee (instruction.Binary d operator width x y) = refl

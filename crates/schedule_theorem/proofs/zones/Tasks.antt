@@ -12,7 +12,8 @@ use Rattle.program.specs.declared.function.Function.{Function}
 use Rattle.program.specs.declared.function.Program.{Program}
 use Rattle.program.specs.declared.instruction.Terminator.{Terminator}
 use Rattle.program.specs.declared.instruction.Terminator.TheVariants as terminator
-use Rattle.types.specs.Apart.{IsNamedBy, in_zone, in_foot, parameters_in, parameters_at}
+use Rattle.types.specs.Apart.{IsNamedBy, in_zone, in_foot, parameters_at}
+use Rattle.program.specs.Calls.{parameters_in}
 use Rattle.phase_laws.specs.cfg.Edges.{graph_of, graphs_of}
 use Rattle.phase_laws.proofs.cfg.EdgeLists.{length-edges_from}
 use Rattle.phase_laws.specs.definedness.declared.act.Act.TheVariants.{Needs}
