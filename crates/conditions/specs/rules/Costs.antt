@@ -5,6 +5,7 @@ use Rattle.std.specs.Prelude.{◌-ℤ◌, ◌≤ℤ◌}
 use Rattle.running.specs.Cells.{or_zero}
 use Rattle.running.specs.Frames.{Registers, Frame, block_at, word_of}
 use Rattle.linear.specs.Forms.{Combination, constant_form, value}
+use Rattle.program.specs.Blocks.{left_calls, left_instructions}
 use Rattle.program.specs.Calls.{callee_of, parameters_in}
 use Rattle.program.specs.declared.function.Block.{Block}
 use Rattle.program.specs.declared.function.Function.{Function}
@@ -52,20 +53,12 @@ self_calls_of prog function = self_calls_in (slice_get prog.functions function)
 abbrev pub instructions_of : Program → ℕ → ℕ
 instructions_of prog function = instructions_in (slice_get prog.functions function)
 
-abbrev pub calls_left_in : Option Block → Combination
-calls_left_in None = constant_form (pos 0)
-calls_left_in (Some b) = b.left.self_calls
-
-abbrev pub instructions_left_in : Option Block → Combination
-instructions_left_in None = constant_form (pos 0)
-instructions_left_in (Some b) = b.left.instructions
-
 -- what is left of them at a block's start
 abbrev pub calls_left : Program → ℕ → ℕ → Combination
-calls_left prog function block = calls_left_in (block_at prog function block)
+calls_left prog function block = left_calls (block_at prog function block)
 
 abbrev pub instructions_left : Program → ℕ → ℕ → Combination
-instructions_left prog function block = instructions_left_in (block_at prog function block)
+instructions_left prog function block = left_instructions (block_at prog function block)
 
 -- in a frame
 abbrev pub calls_at : Program → Frame → ℤ

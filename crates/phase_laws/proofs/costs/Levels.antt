@@ -30,7 +30,8 @@ use Rattle.phase_laws.specs.defined.Names.{IsNamed}
 use Rattle.phase_laws.proofs.defined.Lists.{at_within}
 use Rattle.phase_laws.proofs.defined.Placed.{Arrives, arrives}
 use Rattle.phase_laws.proofs.defined.Visits.{one_task}
-use Rattle.cost_table.specs.Depth.{detaches_within, detaches_around, tasks_in, tasks_of}
+use Rattle.cost_table.specs.Depth.{detaches_within, detaches_around, tasks_of}
+use Rattle.region_match.specs.Tasks.{tasks_in}
 use Rattle.phase_laws.specs.costs.Depths.{level_of}
 use Rattle.phase_laws.specs.costs.Levels.{LevelsByTasks}
 use Rattle.region_match.proofs.OneTask.{edges_within}
