@@ -6,16 +6,12 @@ use Rattle.program.specs.declared.function.Function.{Function}
 use Rattle.program.specs.declared.function.Program.{Program}
 use Rattle.refusal.specs.declared.broken.Broken.{Broken}
 use Rattle.phase_laws.specs.region_match.declared.tables.Regions.{Regions}
-use Rattle.verifier.specs.Budgets.{whole_cost_of, budget_of, depth_in, depth_of}
+use Rattle.verifier.specs.Budgets.{budget_of, depth_in, depth_of}
 use Rattle.conditions.specs.rules.Costs.{bound_in, bound_of}
 use Rattle.phase_laws.specs.cost_table.Cost.{whole_cost, whole_cost_of}
 use Rattle.phase_laws.specs.cost_table.Depth.{first_depths, tasks_of}
 use Rattle.phase_laws.specs.costs.Depths.{depth_in as depth_over, depth_of as depth_at}
 use Rattle.phase_laws.specs.cost_table.Rules.{AreCostsRight}
-
-pub budget_is : (o : Option Function) → whole_cost_of o ≡ whole_cost_of o
-budget_is None = refl
-budget_is (Some main) = refl
 
 module _ (program : Program) (costs : AreCostsRight program) where
   -- no call costs more than a million million

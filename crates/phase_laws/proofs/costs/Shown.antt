@@ -3,7 +3,7 @@ use Rattle.std.proofs.Common.{◌≡◌, ◌∙◌, ◌⊎◌, ℕ, suc, ◌+◌
 use Rattle.std.specs.List.{All, Any, Contains}
 use Rattle.std.proofs.lemmas.Bool.{false≢true, true_from_ne_false}
 use Rattle.std.proofs.lemmas.List.Elements.{All-nil, All-map, Contains-get_or, Contains-append_left, Contains-append_right}
-use Rattle.running.specs.Frames.{Does, Ends, and_then, block_at, item_at, block_phis, phis_at}
+use Rattle.running.specs.Frames.{Does, Ends, and_then, block_at, item_at, phis_at}
 use Rattle.linear.specs.declared.form.Fact.{Fact}
 use Rattle.linear.specs.declared.form.Term.{Term}
 use Rattle.linear.specs.declared.form.RegisterId.{RegisterId}
@@ -82,18 +82,6 @@ some_there : {X : Type 0} (o : Option X) → is_some o ≡ true → (x : X) × (
 some_there None h = absurd (false≢true h)
 some_there (Some x) h = (x, refl)
 
-left_calls_are : (o : Option Block) → left_calls o ≡ left_calls o
-left_calls_are None = refl
-left_calls_are (Some block) = refl
-
-left_instructions_are : (o : Option Block) → left_instructions o ≡ left_instructions o
-left_instructions_are None = refl
-left_instructions_are (Some block) = refl
-
-phis_are : (o : Option Block) → block_phis o ≡ block_phis o
-phis_are None = refl
-phis_are (Some block) = refl
-
 one_more : (a b : ℕ) → a ≡ b → suc a ≡ 1 + b
 one_more a b same = omega (arith, same)
 
@@ -136,13 +124,13 @@ module _ (prog : Program) (f b : ℕ) (o : BlockOf prog f b) where
   beside to = ap (λ x. and_then x (λ (g : Function). slice_get g.blocks to)) o.at_function
 
   calls_beside : (to : ℕ) → calls_left prog f to ≡ left_calls (slice_get o.function.blocks to)
-  calls_beside to = ap left_calls (beside to) ∙ left_calls_are (slice_get o.function.blocks to)
+  calls_beside to = ap left_calls (beside to)
 
   instructions_beside : (to : ℕ) → instructions_left prog f to ≡ left_instructions (slice_get o.function.blocks to)
-  instructions_beside to = ap left_instructions (beside to) ∙ left_instructions_are (slice_get o.function.blocks to)
+  instructions_beside to = ap left_instructions (beside to)
 
   phis_beside : (to : ℕ) → phis_at prog f to ≡ block_phis (slice_get o.function.blocks to)
-  phis_beside to = ap block_phis (beside to) ∙ phis_are (slice_get o.function.blocks to)
+  phis_beside to = ap block_phis (beside to)
 
   -- what is known at the start is not less than what the rules look at
   known_more : (e : Combination) → IsShown (start_facts o.function b o.block) e → IsShown (known_at_place prog f b 0) e

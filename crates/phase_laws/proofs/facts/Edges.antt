@@ -11,7 +11,7 @@ use Rattle.std.proofs.lemmas.Int.{ints}
 use Rattle.std.proofs.lemmas.List.Elements.{All-nil, All-head, All-tail, All-append, All-weaker}
 use Rattle.running.specs.Paths.{Path}
 use Rattle.running.specs.Arithmetic.{compares}
-use Rattle.running.specs.Frames.{Word, Truth, Registers, Frame, Does, item_of, item_at, phis_at, block_phis, and_then, truth_of, word_at, set_register}
+use Rattle.running.specs.Frames.{Word, Truth, Registers, Frame, Does, item_of, item_at, phis_at, and_then, truth_of, word_at, set_register}
 use Rattle.running.specs.Effect.{Effect, Plain, given, enters, jumps, case_for, registers_along, entry_for, with_phis, terminator_action}
 use Rattle.running.proofs.Actions.{same_effect}
 use Rattle.linear.specs.Forms.{Holds}
