@@ -26,7 +26,7 @@ pub record CanStep (prog : Program) (m : Machine) (p : Path) (f : Frame) : Type 
   -- its numbers are numbers of 64 bits
   pub index : f.index + 1 < 18446744073709551616
   pub made : f.made + 1 < 18446744073709551616
-  pub depth : length p + 1 < 18446744073709551616
+  pub depth : length p + 2 < 18446744073709551616
 
 pub record CanGo (prog : Program) (m : Machine) : Type 0 where
   pub steps : (worker : ℕ) (p : Path) (f : Frame) → m.hands worker ≡ Some p → m.core.frames p ≡ Some f → CanStep prog m p f
@@ -51,6 +51,8 @@ pub record TextFits (prog : Program) (places : Places) (moves : ℕ) : Type 0 wh
   pub fits : ProgramFits prog places moves
   pub syncs : (k b i : ℕ) (r : RegisterId) (target : BlockId) (f : Function) → slice_get prog.functions k ≡ Some f →
       item_at prog k b i ≡ Some (Ends (terminator.Sync r target)) → r.0 < length f.registers
+  pub detaches : (k b i : ℕ) (r : RegisterId) (child continuation : BlockId) (f : Function) → slice_get prog.functions k ≡ Some f →
+      item_at prog k b i ≡ Some (Ends (terminator.Detach r child continuation)) → r.0 < length f.registers
 
 -- ---- steps
 
