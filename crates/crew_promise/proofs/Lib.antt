@@ -1,0 +1,4 @@
+pub mod Owners
+pub mod Going
+pub mod Texts
+pub mod Runs
