@@ -11,6 +11,7 @@ use Rattle.running.specs.Events.{Machine, Event, start}
 use Rattle.running.specs.Replay.{replay}
 use Rattle.running.proofs.Steps.{change_is}
 use Rattle.program.specs.declared.function.Program.{Program}
+use Rattle.program.specs.declared.instruction.Instruction.TheVariants as instruction
 use Rattle.engine.specs.Shows.{KeepsWithin, TrapFree}
 use Rattle.serial_promise.specs.schedule_theorem.Promise.{AreTaken, HasGlobals, KeepsItsPromise}
 use Rattle.serial_promise.specs.schedule_theorem.kinds.Uses.{HasKindedUses}
@@ -27,11 +28,12 @@ use Rattle.serial_promise.proofs.schedule_theorem.safe.Held.{always_rooted}
 use Rattle.serial_promise.proofs.schedule_theorem.safe.Replayed.{Next, from_later, held_next}
 use Rattle.serial_promise.proofs.schedule_theorem.safe.Safe.{schedules_are_safe}
 use Rattle.serial_promise.proofs.room.Operands.{items_fit}
-use Rattle.serial_promise.proofs.safe.Going.{item_whole, some_there}
+use Rattle.serial_promise.proofs.safe.Going.{item_whole, name_whole, some_there}
 use Rattle.crew.specs.Going.{CanGo, CanStep}
 use Rattle.crew.specs.Layouts.{living}
 use Rattle.crew_promise.specs.Safe.{RunsAreSafe}
-use Rattle.crew_promise.proofs.Owners.{HasOwner, cell_living, owners_known}
+use Rattle.crew_promise.proofs.Owners.{cell_living}
+use Rattle.crew_promise.proofs.Points.{IsBelow, always_below, points_up}
 
 -- what a frame is about to do is no trap
 trap_free : (s : State) (p : Path) (f : Frame) (a : Action) → Does s p f a → TrapFree a
@@ -44,7 +46,7 @@ trap_free s p f (Return v) does = tt
 
 -- ---- one frame in a worker's hand
 
-module _ (prog : Program) (taken : IsTaken prog) (uses : HasKindedUses prog) (m : Machine) (run : IsSafeRun prog m) (owned : OfAll m.core HasOwner) (worker : ℕ) (p : Path) (f : Frame)
+module _ (prog : Program) (taken : IsTaken prog) (uses : HasKindedUses prog) (m : Machine) (run : IsSafeRun prog m) (owned : OfAll m.core IsBelow) (worker : ℕ) (p : Path) (f : Frame)
     (here : m.hands worker ≡ Some p) (is : m.core.frames p ≡ Some f)
   where
     safe : IsSafe prog (budget_of prog) m p f
@@ -73,6 +75,7 @@ module _ (prog : Program) (taken : IsTaken prog) (uses : HasKindedUses prog) (m 
         whole = item_whole prog uses f safe.kinds (item_at prog f.function f.block f.index) refl;
       };
       goes = goes;
+      whole = λ d callee arguments is k name at. name_whole prog uses f safe.kinds (instruction.Call d callee arguments) is name (k, at);
       index = let i = safe.counted.index in let low = run.within_budget in let most = run.small in omega (arith, i, low, most);
       made = let i = safe.counted.made in let low = run.within_budget in let most = run.small in omega (arith, i, low, most);
       depth = let i = safe.counted.depth in let low = run.within_budget in let most = run.small in omega (arith, i, low, most);
@@ -101,6 +104,9 @@ module _ (text : List ℕ) (program : Program) (accepted : IsProgramOf text prog
     run : IsSafeRun program m
     run = schedules_are_safe text program accepted arguments memory given valued workers some events
 
+    below : OfAll m.core IsBelow
+    below = always_below program arguments memory workers never events
+
     enabled : (worker : ℕ) (p : Path) (f : Frame) → m.hands worker ≡ Some p → m.core.frames p ≡ Some f → IsSome (change_of program m.core p)
     enabled worker p f here is =
         let next : Next program workers m worker p f = held_next program workers m never_later worker p f here is in
@@ -109,8 +115,8 @@ module _ (text : List ℕ) (program : Program) (accepted : IsProgramOf text prog
     pub can_go : CanGo program m
     can_go = record {
       steps = λ worker p f here is.
-          can_step program (is_taken text program accepted) (uses_are_kinded text program accepted) m run
-          (owners_known program arguments memory workers never events) worker p f here is (enabled worker p f here is);
+          can_step program (is_taken text program accepted) (uses_are_kinded text program accepted) m run below worker p f here is (enabled worker p f here is);
+      points = λ p f is. points_up p f (below p f is);
       tree = (always_rooted program arguments memory workers never events).tree;
       counted = let low = run.within_budget in let most = run.small in omega (arith, low, most);
     }

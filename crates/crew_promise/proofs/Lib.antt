@@ -1,3 +1,4 @@
+pub mod Points
 pub mod Owners
 pub mod Going
 pub mod Texts

@@ -1,9 +1,9 @@
 -- A run that shows a state to which a schedule leads.
-use Rattle.std.proofs.Common.{◌≡◌, ◌∙◌, ℕ, ◌≤◌, List, [], ◌∷◌, ◌++◌, length, reverse, Option, Some, None, Bool, true, false, is_none, refl, sym, ap, subst, ℤ}
+use Rattle.std.proofs.Common.{◌≡◌, ◌∙◌, ℕ, ◌≤◌, List, [], ◌∷◌, ◌++◌, length, reverse, Option, Some, None, Bool, true, false, is_none, is_some, refl, sym, ap, subst, ℤ}
 use Rattle.running.specs.Paths.{Path}
 use Rattle.running.specs.Cells.{Shared, Memory}
 use Rattle.running.specs.Frames.{Frame}
-use Rattle.running.specs.SerialMeaning.{Outcome}
+use Rattle.running.specs.SerialMeaning.{Gave, Outcome}
 use Rattle.running.specs.Events.{Machine, Event, event, start}
 use Rattle.running.specs.Replay.{replay, or_unchanged, has_ended}
 use Rattle.program.specs.declared.function.Program.{Program}
@@ -15,13 +15,14 @@ use Rattle.serial_promise.specs.schedule_theorem.Promise.{KeepsItsPromise}
 use Rattle.serial_promise.specs.verifier.Accepted.{IsAccepted}
 use Rattle.serial_promise.proofs.schedule_theorem.Promise.{accepted_programs_keep_their_promise}
 use Rattle.serial_promise.proofs.schedule_theorem.safe.Replayed.{from_later}
+use Rattle.serial_promise.proofs.schedule_theorem.safe.Safe.{schedules_are_safe}
 use Rattle.conditions.specs.theorem.Schedules.{KeepsSchedule}
 use Rattle.crew.specs.declared.activation.Activation.{Activation}
 use Rattle.crew.specs.declared.run.Run.{Run}
 use Rattle.crew.specs.Going.{Becomes, CanGo, RunsSafely}
 use Rattle.crew.specs.Layouts.{layout_of}
 use Rattle.crew.specs.Shown.{IsShown, ShowsAt}
-use Rattle.crew_promise.specs.Promise.{IsScheduled, DoesEvent, HasEnded, EndsAs, RunsStandSafely, RunsStayScheduled, RunsKeepTheirSchedules}
+use Rattle.crew_promise.specs.Promise.{IsScheduled, DoesEvent, HasEnded, EndsAs, RunsHoldGlobals, RunsStandSafely, RunsStayScheduled, RunsKeepTheirSchedules}
 use Rattle.crew_promise.proofs.Going.{runs_are_safe}
 
 replay_more : (prog : Program) (workers : ℕ) (events : List Event) (e : Event) (m : Machine) →
@@ -71,6 +72,18 @@ runs_stand_safely program accepted places arguments memory events k at =
 
 pub runs_stay_scheduled : RunsStayScheduled
 runs_stay_scheduled program accepted places arguments memory events old new same e done does at = stays program accepted places arguments memory events old new same e done does at
+
+-- ---- the globals
+
+some_value : (o : Option ℤ) → is_some o ≡ true → (z : ℤ) × (o ≡ Some z)
+some_value None there = absurd (cc)
+some_value (Some z) there = (z, refl)
+
+pub runs_hold_globals : RunsHoldGlobals
+runs_hold_globals program accepted places arguments memory events k at g i low =
+    let run = schedules_are_safe accepted.text program accepted.means arguments memory at.taken at.globals (length k.hands.items) at.manned events in
+    let (z, is) = some_value ((replay program (length k.hands.items) events (start program arguments memory)).core.memory (record { object = Shared g; index = i })) (run.globals g i low) in
+    (z, is, at.shown.shows.cells.values (record { object = Shared g; index = i }) z is)
 
 -- ---- the schedule theorem
 

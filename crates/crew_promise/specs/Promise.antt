@@ -1,8 +1,9 @@
 -- A run that shows a state to which a schedule leads stands safely, shows such a state again after each event, and keeps the schedule theorem.
-use Rattle.std.specs.Prelude.{◌≡◌, ℕ, ◌≤◌, List, [], ◌∷◌, ◌++◌, length, Some, None, Bool, ℤ, pos, ◌+ℤ◌}
+use Rattle.std.specs.Prelude.{◌≡◌, ℕ, ◌<◌, ◌≤◌, List, [], ◌∷◌, ◌++◌, length, Some, None, Bool, ℤ, pos, ◌+ℤ◌, slice_get}
 use Rattle.syntax.specs.declared.operator.Width.TheVariants.{Bits64}
 use Rattle.running.specs.Cells.{Shared, Memory}
 use Rattle.running.specs.Arithmetic.{wrapped}
+use Rattle.running.specs.Frames.{global_cells}
 use Rattle.running.specs.SerialMeaning.{Gave, Outcome, IsSerialMeaning}
 use Rattle.running.specs.Events.{Machine, Event, start}
 use Rattle.running.specs.Replay.{replay}
@@ -47,6 +48,24 @@ RunsStayScheduled =
     length new.hands.items ≡ length old.hands.items → (e : Event) (done : Bool) → DoesEvent program places old new e done →
     IsScheduled program places arguments memory events old → IsScheduled program places arguments memory (events ++ e ∷ []) new
 
+-- ---- the globals
+
+-- where a global's cell stands in the row
+abbrev pub global_at : Places → ℕ → ℕ → ℤ
+global_at places g i = wrapped Bits64 (number_in places.globals g +ℤ pos i)
+
+-- each cell of the globals has a value, and that stands in the row
+abbrev pub HoldsGlobals : Program → Places → Memory → Run → Type 0
+HoldsGlobals program places memory k =
+    (g i : ℕ) → i < global_cells (slice_get program.globals g) →
+    (z : ℤ) × (memory (record { object = Shared g; index = i }) ≡ Some z) × (cell_in k.cells.cells.items (global_at places g i) ≡ Some z)
+
+abbrev pub RunsHoldGlobals : Type 0
+RunsHoldGlobals =
+    (program : Program) → IsAccepted program → (places : Places) (arguments : List ℤ) (memory : Memory) (events : List Event) (k : Run) →
+    IsScheduled program places arguments memory events k →
+    HoldsGlobals program places (replay program (length k.hands.items) events (start program arguments memory)).core.memory k
+
 -- ---- the schedule theorem
 
 -- the root has returned
@@ -59,7 +78,7 @@ pub record EndsAs (places : Places) (serial : Outcome) (k : Run) : Type 0 where
   pub count : k.instructions ≡ serial.count
   pub depth : k.peak ≡ serial.depth
   pub globals : (g i : ℕ) (z : ℤ) → serial.memory (record { object = Shared g; index = i }) ≡ Some z →
-      cell_in k.cells.cells.items (wrapped Bits64 (number_in places.globals g +ℤ pos i)) ≡ Some z
+      cell_in k.cells.cells.items (global_at places g i) ≡ Some z
 
 -- The schedule theorem of a run that shows this machine: what it says of the machine, and of the run's own numbers.
 pub record KeepsItsSchedule (program : Program) (places : Places) (arguments : List ℤ) (memory : Memory) (m : Machine) (k : Run) : Type 0 where

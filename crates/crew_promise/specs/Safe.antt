@@ -1,10 +1,10 @@
 -- What the workers' machine rests on, of each program that the verifier took: its text fits, and its workers can do each next step.
-use Rattle.std.specs.Prelude.{◌≡◌, ℕ, ◌≤◌, List, length, map, ℤ}
+use Rattle.std.specs.Prelude.{◌≡◌, ℕ, ◌≤◌, List, map, ℤ}
 use Rattle.running.specs.Cells.{Memory}
 use Rattle.running.specs.Events.{start}
 use Rattle.program.specs.declared.function.Function.{Function}
 use Rattle.program.specs.declared.function.Program.{Program}
-use Rattle.engine.specs.Starts.{alloca_starts}
+use Rattle.engine.specs.Starts.{alloca_starts, global_starts}
 use Rattle.engine.specs.declared.activation.Places.{Places}
 use Rattle.serial_promise.specs.Safe.{HasMoves}
 use Rattle.serial_promise.specs.schedule_theorem.Promise.{AreTaken, HasGlobals}
@@ -21,5 +21,5 @@ RunsAreSafe =
 -- what the text names is there
 abbrev pub TextsFit : Type 0
 TextsFit =
-    (text : List ℕ) (program : Program) → IsProgramOf text program → (places : Places) (moves : ℕ) → length program.globals ≤ length places.globals →
+    (text : List ℕ) (program : Program) → IsProgramOf text program → (places : Places) (moves : ℕ) → places.globals ≡ global_starts program.globals →
     places.allocas ≡ map (λ (f : Function). alloca_starts f.allocas) program.functions → HasMoves program moves → TextFits program places moves

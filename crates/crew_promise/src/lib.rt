@@ -6,7 +6,7 @@
 //!   schedule theorem.
 #![tactic(auto)]
 
-ghost use Rattle.crew_promise.specs.Promise.{RunsKeepTheirSchedules, RunsStandSafely, RunsStayScheduled};
+ghost use Rattle.crew_promise.specs.Promise.{RunsHoldGlobals, RunsKeepTheirSchedules, RunsStandSafely, RunsStayScheduled};
 ghost use Rattle.crew_promise.specs.Safe.{RunsAreSafe, TextsFit};
 
 /// Of a program that `verify` takes, with arguments that `main` takes and globals that have values: wherever a schedule leads, each worker's
@@ -28,6 +28,11 @@ pub fn runs_stand_safely()
 /// After each event, whether it is enabled or not, the run shows the state to which one event more leads.
 pub fn runs_stay_scheduled()
     ensures { RunsStayScheduled }
+{}
+
+/// Each cell of the globals has a value in that state, which stands in the run's row.
+pub fn runs_hold_globals()
+    ensures { RunsHoldGlobals }
 {}
 
 /// Such a run keeps the schedule theorem: its instructions are no more than serially, and once the root has returned it has the serial run's
