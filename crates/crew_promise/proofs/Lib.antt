@@ -1,0 +1,5 @@
+pub mod Points
+pub mod Owners
+pub mod Going
+pub mod Texts
+pub mod Runs
