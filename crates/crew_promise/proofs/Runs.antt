@@ -1,5 +1,6 @@
 -- A run that shows a state to which a schedule leads.
 use Rattle.std.proofs.Common.{◌≡◌, ◌∙◌, ℕ, ◌≤◌, List, [], ◌∷◌, ◌++◌, length, reverse, Option, Some, None, Bool, true, false, is_none, is_some, refl, sym, ap, subst, ℤ}
+use Rattle.std.specs.Prelude.{IsSome}
 use Rattle.running.specs.Paths.{Path}
 use Rattle.running.specs.Cells.{Shared, Memory}
 use Rattle.running.specs.Frames.{Frame}
@@ -24,6 +25,7 @@ use Rattle.crew.specs.Layouts.{layout_of}
 use Rattle.crew.specs.Shown.{IsShown, ShowsAt}
 use Rattle.crew_promise.specs.Promise.{IsScheduled, DoesEvent, HasEnded, EndsAs, RunsHoldGlobals, RunsStandSafely, RunsStayScheduled, RunsKeepTheirSchedules}
 use Rattle.crew_promise.proofs.Going.{runs_are_safe}
+use Rattle.crew_promise.proofs.Results.{IsOpen, always_open}
 
 replay_more : (prog : Program) (workers : ℕ) (events : List Event) (e : Event) (m : Machine) →
     replay prog workers (events ++ e ∷ []) m ≡ or_unchanged (event prog workers e (replay prog workers events m)) (replay prog workers events m)
@@ -92,9 +94,29 @@ none_shown l places p None node e shown = refl
 none_shown l places p (Some g) None e shown = absurd shown
 none_shown l places p (Some g) (Some node) e shown = absurd (cc)
 
+same_gift : (a b : Option ℤ) → Gave a ≡ Gave b → a ≡ b
+same_gift a b e = cc
+
 module _ (program : Program) (places : Places) (m : Machine) (k : Run) (is : IsShown program places m k) (serial : Outcome) (keeps : KeepsSchedule program (length k.hands.items) serial m) where
   over : HasEnded k → has_ended m ≡ true
   over ended = ap (λ (o : Option Frame). is_none o) (none_shown (layout_of program places k.cactus m.core) places [] (m.core.frames []) (named k.cactus []) ended (is.shows.frames []))
+
+  -- where there is a result the root does not live
+  rootless : IsOpen m.core → IsSome k.result → HasEnded k
+  rootless unended some = by (named k.cactus []) refl (is.shows.frames [])
+    where
+      by : (node : Option (Node Activation)) → named k.cactus [] ≡ node → ShowsAt (layout_of program places k.cactus m.core) places [] (m.core.frames []) node → named k.cactus [] ≡ None
+      by None at shown = at
+      by (Some node) at shown = absurd (by_root (m.core.frames []) refl shown)
+        where
+          by_root : (o : Option Frame) → m.core.frames [] ≡ o → ShowsAt (layout_of program places k.cactus m.core) places [] o (Some node) → ⊥
+          by_root None root h = h
+          by_root (Some f) root h = let none : k.result ≡ None = sym is.shows.result ∙ unended.none_yet f root in let there : IsSome None = subst (λ (o : Option ℤ). IsSome o) none some in cc
+
+  result_there : (z : ℤ) → serial.ending ≡ Gave (Some z) → HasEnded k → IsSome k.result
+  result_there z gives ended =
+      let same : m.core.result ≡ Some z = same_gift m.core.result (Some z) (sym (keeps.same_result (over ended)) ∙ gives) in
+      subst (λ (o : Option ℤ). IsSome o) (sym same ∙ is.shows.result) refl
 
   pub ends_as : HasEnded k → EndsAs places serial k
   ends_as ended = record {
@@ -109,7 +131,10 @@ module _ (program : Program) (places : Places) (m : Machine) (k : Run) (is : IsS
 pub runs_keep_their_schedules : RunsKeepTheirSchedules
 runs_keep_their_schedules program accepted places arguments memory events k at =
     let promise : KeepsItsPromise program arguments memory = accepted_programs_keep_their_promise accepted.text program accepted.means arguments memory at.taken at.globals in
-    let keeps = promise.every_schedule (length k.hands.items) at.manned events in
+    let m : Machine = replay program (length k.hands.items) events (start program arguments memory) in
+    let keeps : KeepsSchedule program (length k.hands.items) promise.serial m = promise.every_schedule (length k.hands.items) at.manned events in
+    let unended : IsOpen m.core =
+    always_open program arguments memory (length k.hands.items) (λ more. (promise.every_schedule (length k.hands.items) at.manned more).no_trap.0) events in
     record {
       serial = promise.serial;
       is_serial = promise.is_serial;
@@ -117,5 +142,9 @@ runs_keep_their_schedules program accepted places arguments memory events k at =
       within_depth = promise.within_depth;
       schedule = keeps;
       count = subst (λ n. n ≤ promise.serial.count) at.shown.shows.done keeps.within_budget;
-      ends = ends_as program places (replay program (length k.hands.items) events (start program arguments memory)) k at.shown promise.serial keeps;
+      ended = (
+        rootless program places m k at.shown promise.serial keeps unended,
+        result_there program places m k at.shown promise.serial keeps promise.gives.0 promise.gives.1,
+      );
+      ends = ends_as program places m k at.shown promise.serial keeps;
     }

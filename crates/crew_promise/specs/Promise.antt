@@ -1,5 +1,5 @@
 -- A run that shows a state to which a schedule leads stands safely, shows such a state again after each event, and keeps the schedule theorem.
-use Rattle.std.specs.Prelude.{◌≡◌, ℕ, ◌<◌, ◌≤◌, List, [], ◌∷◌, ◌++◌, length, Some, None, Bool, ℤ, pos, ◌+ℤ◌, slice_get}
+use Rattle.std.specs.Prelude.{◌≡◌, ◌↔◌, ℕ, ◌<◌, ◌≤◌, List, [], ◌∷◌, ◌++◌, length, Some, None, IsSome, Bool, ℤ, pos, ◌+ℤ◌, slice_get}
 use Rattle.syntax.specs.declared.operator.Width.TheVariants.{Bits64}
 use Rattle.running.specs.Cells.{Shared, Memory}
 use Rattle.running.specs.Arithmetic.{wrapped}
@@ -88,6 +88,8 @@ pub record KeepsItsSchedule (program : Program) (places : Places) (arguments : L
   pub within_depth : (depth : ℕ) → IsDepthOf program depth → serial.depth ≤ depth
   pub schedule : KeepsSchedule program (length k.hands.items) serial m
   pub count : k.instructions ≤ serial.count
+  -- a result is there just where the root has returned
+  pub ended : IsSome k.result ↔ HasEnded k
   pub ends : HasEnded k → EndsAs places serial k
 
 abbrev pub RunsKeepTheirSchedules : Type 0

@@ -7,7 +7,7 @@
 #![tactic(auto)]
 
 ghost use Rattle.crew_promise.specs.Promise.{RunsHoldGlobals, RunsKeepTheirSchedules, RunsStandSafely, RunsStayScheduled};
-ghost use Rattle.crew_promise.specs.Safe.{RunsAreSafe, TextsFit};
+ghost use Rattle.crew_promise.specs.Safe.{RunsAreSafe, StartsFit, TextsFit};
 
 /// Of a program that `verify` takes, with arguments that `main` takes and globals that have values: wherever a schedule leads, each worker's
 /// frame can do its next step. It does not trap, the cells that it stores or adds to are there wherever objects lie, and its numbers fit.
@@ -18,6 +18,11 @@ pub fn runs_are_safe()
 /// What the text of such a program names is there: blocks, registers, objects, and room for the moves of each edge.
 pub fn texts_fit()
     ensures { TextsFit }
+{}
+
+/// Its `main` is there, with an entry and a register for each argument.
+pub fn starts_fit()
+    ensures { StartsFit }
 {}
 
 /// So a run that shows a state to which a schedule leads stands safely.
@@ -35,8 +40,8 @@ pub fn runs_hold_globals()
     ensures { RunsHoldGlobals }
 {}
 
-/// Such a run keeps the schedule theorem: its instructions are no more than serially, and once the root has returned it has the serial run's
-/// result, count, depth and globals.
+/// Such a run keeps the schedule theorem: its instructions are no more than serially, it has a result just where the root has returned, and
+/// then it has the serial run's result, count, depth and globals.
 pub fn runs_keep_their_schedules()
     ensures { RunsKeepTheirSchedules }
 {}
