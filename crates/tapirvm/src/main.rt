@@ -1,11 +1,13 @@
 //! The program `tapirvm`: reads a module, verifies it and runs it.
 #![tactic(auto)]
 
+mod threads;
 #[cfg(test)]
 mod tests;
 
 use std::process::ExitCode;
+use threads::OnThreads;
 
 fn main(rt: HostRuntime) -> ExitCode {
-    ExitCode::from(commands::run(&rt))
+    ExitCode::from(commands::run(&OnThreads { rt: &rt }, &rt))
 }

@@ -53,6 +53,7 @@ fn obeyed(
     let mut beside = Beside::nothing(alloc);
     let state = RandomState::new(rt)?;
     let status = act(
+        &OnThreads { rt },
         alloc,
         state,
         &request,

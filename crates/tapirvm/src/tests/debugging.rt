@@ -210,6 +210,7 @@ fn told_to(
     };
     let mut beside = Beside::nothing(alloc);
     let status = act(
+        &OnThreads { rt },
         alloc,
         RandomState::new(rt)?,
         &request,
