@@ -1,9 +1,9 @@
 //! The program `tapirvm`: reads a module, verifies it and runs it.
 #![tactic(auto)]
 
-mod threads;
 #[cfg(test)]
 mod tests;
+mod threads;
 
 use std::process::ExitCode;
 use threads::OnThreads;

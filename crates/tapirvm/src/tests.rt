@@ -11,12 +11,16 @@ mod samples;
 mod transcripts;
 mod traps;
 
+use crate::threads::OnThreads;
 use commands::{Beside, Verified, act, verify, words};
 use std::hash::RandomState;
 use std::io::Write;
 use std::process::Abort;
 use std::random::RandomSource;
+use std::sync::Wait;
 use std::test::Fail;
+use std::thread::Threads;
+use std::time::Clock;
 
 /// What a command line came to.
 #[derive(Drop)]
@@ -30,7 +34,7 @@ struct Answer {
 
 /// What the program does on a command line, its words parted by one space, over a module, a schedule and its input.
 fn obeyed(
-    rt: &(impl Abort + AllocGlobal + RandomSource),
+    rt: &(impl Abort + AllocGlobal + Clock + RandomSource + Sync + Threads + Wait),
     line: &str,
     module: Option<&[u8]>,
     schedule: Option<&[u8]>,
@@ -73,7 +77,7 @@ fn obeyed(
 
 /// The status and the output of a command line.
 fn told(
-    rt: &(impl Abort + AllocGlobal + RandomSource),
+    rt: &(impl Abort + AllocGlobal + Clock + RandomSource + Sync + Threads + Wait),
     line: &str,
     module: Option<&[u8]>,
     schedule: Option<&[u8]>,

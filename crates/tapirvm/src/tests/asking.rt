@@ -7,7 +7,10 @@ use super::{obeyed, told};
 use std::alloc::{AllocError, Global};
 use std::process::Abort;
 use std::random::RandomSource;
+use std::sync::Wait;
 use std::test::Fail;
+use std::thread::Threads;
+use std::time::Clock;
 
 /// What a transcript says before its next status.
 #[derive(Drop)]
@@ -97,7 +100,7 @@ impl Asked {
     /// Asserts what each of the commands tells, and forgets them.
     fn check(
         &mut self,
-        rt: &(impl Abort + AllocGlobal + RandomSource),
+        rt: &(impl Abort + AllocGlobal + Clock + RandomSource + Sync + Threads + Wait),
         status: &str,
     ) -> Result<(), Fail> {
         let module = self.module.as_ref().map(|text| text.as_bytes());
@@ -120,7 +123,7 @@ impl Asked {
 
     fn read(
         &mut self,
-        rt: &(impl Abort + AllocGlobal + RandomSource),
+        rt: &(impl Abort + AllocGlobal + Clock + RandomSource + Sync + Threads + Wait),
         line: &str,
     ) -> Result<(), Fail> {
         let alloc = rt.alloc();
@@ -163,7 +166,7 @@ fn transcripts(rt: HostRuntime) -> Result<(), Fail> {
 
 /// Asserts that a module is refused by this line.
 fn refuses(
-    rt: &(impl Abort + AllocGlobal + RandomSource),
+    rt: &(impl Abort + AllocGlobal + Clock + RandomSource + Sync + Threads + Wait),
     module: &[u8],
     wanted: &str,
 ) -> Result<(), Fail> {

@@ -3,6 +3,7 @@
 use super::machines::{drawn, random_event};
 use super::samples::*;
 use super::verified;
+use crate::threads::OnThreads;
 use commands::{Beside, Debugger, Event, Machine, Memory, TaskView, Verified, act, replay, words};
 use frame::Path;
 use std::hash::RandomState;
@@ -10,7 +11,10 @@ use std::io;
 use std::io::{ErrorKind, Read, Write};
 use std::process::Abort;
 use std::random::RandomSource;
+use std::sync::Wait;
 use std::test::Fail;
+use std::thread::Threads;
+use std::time::Clock;
 
 const EVENTS: usize = 90;
 
@@ -194,7 +198,7 @@ impl Write for Full {
 
 /// The status of a dialogue whose input fails at its end and of which so many writes succeed, and what is written.
 fn told_to(
-    rt: &(impl Abort + AllocGlobal + RandomSource),
+    rt: &(impl Abort + AllocGlobal + Clock + RandomSource + Sync + Threads + Wait),
     text: &[u8],
     writes: usize,
 ) -> Result<(u8, Vec<u8>), Fail> {
@@ -223,7 +227,9 @@ fn told_to(
     Ok((status, output.written))
 }
 
-fn streams_that_fail(rt: &(impl Abort + AllocGlobal + RandomSource)) -> Result<(), Fail> {
+fn streams_that_fail(
+    rt: &(impl Abort + AllocGlobal + Clock + RandomSource + Sync + Threads + Wait),
+) -> Result<(), Fail> {
     let cases: [(&[u8], usize, u8, &str); 4] = [
         (b"to 6\n", 9, 6, "at 6 of 15\n"),
         (b"to 6\nto 7\nto 8\n", 1, 6, "at 6 of 15\n"),

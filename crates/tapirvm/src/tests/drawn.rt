@@ -4,11 +4,14 @@ use super::samples::sample;
 use super::told;
 use std::process::Abort;
 use std::random::RandomSource;
+use std::sync::Wait;
 use std::test::Fail;
+use std::thread::Threads;
+use std::time::Clock;
 
 /// Asserts that the events that a seed draws are a schedule, and that its replay answers as the serial run.
 fn answers_as_serial(
-    rt: &(impl Abort + AllocGlobal + RandomSource),
+    rt: &(impl Abort + AllocGlobal + Clock + RandomSource + Sync + Threads + Wait),
     name: &str,
     seed: u64,
 ) -> Result<(), Fail> {

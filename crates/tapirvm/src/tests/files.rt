@@ -6,7 +6,10 @@ use commands::{bytes_of, read_file, read_text, text_of};
 use std::io::ErrorKind;
 use std::process::Abort;
 use std::random::RandomSource;
+use std::sync::Wait;
 use std::test::Fail;
+use std::thread::Threads;
+use std::time::Clock;
 
 /// What is read of a line that comes so often that the text has more than twice the bytes of the limit. Asserts how many bytes those are.
 fn read_long(rt: &(impl Abort + AllocGlobal), line: &str, length: usize) -> Result<Vec<u8>, Fail> {
@@ -17,7 +20,9 @@ fn read_long(rt: &(impl Abort + AllocGlobal), line: &str, length: usize) -> Resu
 }
 
 /// A long text is read to the end of the line that passes the limit, so it answers as it would whole.
-fn long_texts_are_cut(rt: &(impl Abort + AllocGlobal + RandomSource)) -> Result<(), Fail> {
+fn long_texts_are_cut(
+    rt: &(impl Abort + AllocGlobal + Clock + RandomSource + Sync + Threads + Wait),
+) -> Result<(), Fail> {
     let module = read_long(rt, "; é\n", 1_048_580)?;
     let bytes = module.as_slice();
     let (status, output) = told(rt, "tapirvm verify m.ll", Some(bytes), None, b"")?;
