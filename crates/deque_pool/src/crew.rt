@@ -6,6 +6,7 @@ use crate::taken::Taken;
 use lists::OutOfMemory;
 use shared_run::{Bench, Seat, Ticket};
 use std::alloc::Global;
+use std::sync::Mutex;
 
 /// A worker: its seat, its tickets, and its ends of the others' tickets, from the next worker on.
 #[derive(Drop)]
@@ -30,11 +31,11 @@ impl<L: Bench> Worker<L> {
     }
 }
 
-/// A worker for each seat, in the opposite order, so that worker 0 is the last.
+/// A worker for each seat, each in a lock for its thread, and in the opposite order, so that worker 0 is the last.
 pub(crate) fn crew_of<L: Bench>(
     alloc: Global,
     mut seats: Vec<Seat<L>>,
-) -> Result<Vec<Worker<L>>, OutOfMemory>
+) -> Result<Vec<Mutex<Worker<L>>>, OutOfMemory>
     ensures { IfOk result (λ crew. vec_len crew ≡ vec_len seats) }
 {
     let count = seats.len();
@@ -45,11 +46,11 @@ pub(crate) fn crew_of<L: Bench>(
             return Err(OutOfMemory);
         };
         let thieves = thieves_from(alloc, &mut ends, seats.len())?;
-        crew.push(Worker {
+        crew.push(Mutex::new(Worker {
             seat,
             hands,
             thieves,
-        })?;
+        }))?;
     }
     Ok(crew)
 }
@@ -86,12 +87,15 @@ fn thieves_from(
 }
 
 /// The seats of all workers, in `room`, which is empty.
-pub(crate) fn seats_of<L: Bench>(mut crew: Vec<Worker<L>>, mut room: Vec<Seat<L>>) -> Vec<Seat<L>>
+pub(crate) fn seats_of<L: Bench>(
+    mut crew: Vec<Mutex<Worker<L>>>,
+    mut room: Vec<Seat<L>>,
+) -> Vec<Seat<L>>
     requires { (vec_len room ≡ 0) × (vec_len crew ≤ vec_capacity room) }
     ensures { vec_len result ≡ vec_len crew }
 {
     while let Some(worker) = crew.pop() {
-        room.push_reserved(worker.seat);
+        room.push_reserved(worker.into_inner().seat);
     }
     room
 }

@@ -1,5 +1,5 @@
 //! A run on threads of its own.
-ghost use Rattle.std.specs.Prelude.{◌≡◌, ◌≢◌, ℕ, None, Some, Err, length, IfOk, OnOk};
+ghost use Rattle.std.specs.Prelude.{◌≡◌, ◌≢◌, ℕ, None, Some, Err, IfOk, OnOk};
 ghost use Rattle.serial_machine.specs.Requirements.{unmet_in};
 ghost use Rattle.store.specs.Made.{HasGlobalCells};
 ghost use Rattle.store.specs.declared.memory.Memory.{Memory};
@@ -15,9 +15,9 @@ use serial_machine::{Finished, RunFault};
 use shared_run::{Bench, Shared};
 use std::alloc::Global;
 use std::marker::Brand;
-use std::sync::Wait;
 use std::sync::atomic::AtomicBool;
 use std::sync::ledger::Blank;
+use std::sync::{Mutex, Wait};
 use std::thread;
 use std::thread::Threads;
 use std::time::Clock;
@@ -91,35 +91,45 @@ fn run_by<L: Bench + Send + Sync, G: Gate + Sync, R: Threads + Wait + Clock + Sy
     let Ok(room) = Vec::with_capacity(alloc, seats.len()) else {
         return Err(RunFault::OutOfMemory);
     };
-    let Ok(mut crew) = crew_of(alloc, seats) else {
+    let Ok(crew) = crew_of(alloc, seats) else {
         return Err(RunFault::OutOfMemory);
     };
-    work_together(rt, &shared, gate, crew.as_mut_slice());
+    work_together(rt, &shared, gate, crew.as_slice());
     match shared.finish(seats_of(crew, room)) {
         Ok((finished, _)) => Ok(finished),
         Err(_) => Err(RunFault::OutOfMemory),
     }
 }
 
-/// The last worker works on the calling thread, each other one on a thread of its own, as far as threads can be started.
+/// The last worker works on the calling thread, each other one on a thread of its own. One whose thread cannot be started takes no part.
 fn work_together<'x, L: Bench + Send + Sync, G: Gate + Sync, R: Threads + Wait + Clock + Sync>(
     rt: &'x R,
     shared: &'x Shared<'_, L>,
     gate: &'x G,
-    crew: &'x mut [Worker<L>],
-)
-    ensures { length crew.new ≡ length crew.old }
-{
-    let over = CachePadded::new(AtomicBool::new(false));
-    let word: &AtomicBool = &over;
-    let Some((mine, others)) = crew.split_last_mut() else {
-        return;
-    };
+    crew: &'x [Mutex<Worker<L>>],
+) {
+    let word = CachePadded::new(AtomicBool::new(false));
+    let over: &AtomicBool = &word;
+    let last = crew.len().saturating_sub(1);
     thread::scope(thread::scope_env(), rt, move |scope| {
-        for worker in others.iter_mut() {
-            // One that has no thread takes no part.
-            let _ = scope.spawn(move || work(rt, shared, word, gate, worker));
+        for number in 0..last {
+            let _ = scope.spawn(move || work_as(rt, shared, over, gate, crew, number));
         }
-        work(rt, shared, word, gate, mine);
+        work_as(rt, shared, over, gate, crew, last);
     });
+}
+
+/// The work of the worker that stands there in the crew. Its thread has it locked throughout.
+fn work_as<L: Bench, G: Gate, R: Wait + Clock>(
+    rt: &R,
+    shared: &Shared<'_, L>,
+    over: &AtomicBool,
+    gate: &G,
+    crew: &[Mutex<Worker<L>>],
+    number: usize,
+) {
+    if let Some(worker) = crew.get(number) {
+        let mut worker = worker.lock(rt);
+        work(rt, shared, over, gate, &mut worker);
+    }
 }
