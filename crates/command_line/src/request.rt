@@ -89,7 +89,7 @@ pub struct Request {
 pub struct Telling {
     /// A line for each event of a replay.
     pub trace: bool,
-    /// Draws the events of a run by this seed; without one worker 0 takes every step.
+    /// Draws the events of a run by this seed; without one its workers have threads.
     pub seed: Option<u64>,
     /// The file to write: the picture of a replay, or the schedule of a run that is drawn.
     pub file: Option<String>,

@@ -2,9 +2,10 @@
 
 use crate::beside::Beside;
 use crate::draw::run_drawn;
+use crate::hosting::Host;
 use crate::job::{Job, stop_for_memory};
 use crate::reasons::{print_explanation, print_rule};
-use crate::runs::{debug, run_verified};
+use crate::runs::{debug, run_hosted, run_serial};
 use crate::status::Status;
 use crate::tell::tell_replay;
 use annotate::annotated;
@@ -20,7 +21,8 @@ use views::{printed, show};
 ///
 /// `module` and `schedule` are the bytes of the files, `None` where one could not be read. What is told beside the output is added to
 /// `beside`.
-pub fn act<R: Read, W: Write>(
+pub fn act<H: Host, R: Read, W: Write>(
+    host: &H,
     alloc: Global,
     state: RandomState,
     request: &Request,
@@ -31,7 +33,7 @@ pub fn act<R: Read, W: Write>(
     beside: &mut Beside,
 ) -> u8 {
     match answer(
-        alloc, state, request, module, schedule, input, output, beside,
+        host, alloc, state, request, module, schedule, input, output, beside,
     ) {
         Ok(status) => status as u8,
         Err(error) => fail(alloc, &error, output, beside) as u8,
@@ -66,7 +68,8 @@ fn answer_text<W: Write>(
     Ok(Some(status))
 }
 
-fn answer<R: Read, W: Write>(
+fn answer<H: Host, R: Read, W: Write>(
+    host: &H,
     alloc: Global,
     state: RandomState,
     request: &Request,
@@ -94,13 +97,14 @@ fn answer<R: Read, W: Write>(
                 verified: &verified,
                 schedule,
             };
-            answer_verified(&job, state, input, output, beside)
+            answer_verified(host, &job, state, input, output, beside)
         }
         Err(refused) => print_refused(&refused, output),
     }
 }
 
-fn answer_verified<R: Read, W: Write>(
+fn answer_verified<H: Host, R: Read, W: Write>(
+    host: &H,
     job: &Job<'_>,
     state: RandomState,
     input: &mut R,
@@ -112,7 +116,8 @@ fn answer_verified<R: Read, W: Write>(
         Verb::Replay => tell_replay(job, output, beside),
         Verb::Run if job.request.telling.seed.is_some() => run_drawn(job, output, beside),
         Verb::Debug => debug(job, input, output, beside),
-        Verb::Serial | Verb::Run => run_verified(job, output, beside),
+        Verb::Run => run_hosted(host, job, output, beside),
+        Verb::Serial => run_serial(job, output, beside),
         Verb::Verify | Verb::Print | Verb::Annotate | Verb::Explain => {
             print_verified(job.verified, job.request, output)
         }

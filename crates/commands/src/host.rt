@@ -3,6 +3,7 @@
 use crate::answer::act;
 use crate::beside::Beside;
 use crate::files::{read_file, write_file};
+use crate::hosting::Host;
 use crate::status::Status;
 use command_line::{Request, WordsFault, text_of, words};
 use std::env::FillError;
@@ -106,7 +107,8 @@ fn read_word<R: AllocGlobal + Files>(rt: &R, word: &str) -> io::Result<io::Resul
 }
 
 /// Reads the files, does what is asked and answers the status.
-fn obey<R: AllocGlobal + Eprint + Files + Input + Print + RandomSource>(
+fn obey<H: Host, R: AllocGlobal + Eprint + Files + Input + Print + RandomSource>(
+    host: &H,
     rt: &R,
     request: &Request,
 ) -> io::Result<u8> {
@@ -121,6 +123,7 @@ fn obey<R: AllocGlobal + Eprint + Files + Input + Print + RandomSource>(
     let mut input = rt.reader();
     let mut beside = Beside::nothing(alloc);
     let status = act(
+        host,
         alloc,
         state,
         request,
@@ -164,21 +167,25 @@ fn finish<W: Write + Drop>(rt: &impl Eprint, status: u8, output: BufWriter<W>) -
 }
 
 /// Reads the program's words and obeys them.
-fn obey_words<R: AllocGlobal + Env + Eprint + Files + Input + Print + RandomSource>(
+fn obey_words<H: Host, R: AllocGlobal + Env + Eprint + Files + Input + Print + RandomSource>(
+    host: &H,
     rt: &R,
 ) -> io::Result<u8> {
     let alloc = rt.alloc();
     let texts = read_words(rt)?;
     let list: Vec<&str> = texts.iter().map(|t| t.as_str()).collect(alloc)?;
     match words(alloc, list.as_slice()) {
-        Ok(request) => obey(rt, &request),
+        Ok(request) => obey(host, rt, &request),
         Err(fault) => Ok(refuse_words(rt, &fault) as u8),
     }
 }
 
 /// Does what the program's words ask for, and answers its exit status.
-pub fn run<R: AllocGlobal + Env + Eprint + Files + Input + Print + RandomSource>(rt: &R) -> u8 {
-    match obey_words(rt) {
+pub fn run<H: Host, R: AllocGlobal + Env + Eprint + Files + Input + Print + RandomSource>(
+    host: &H,
+    rt: &R,
+) -> u8 {
+    match obey_words(host, rt) {
         Ok(status) => status,
         Err(error) if error.kind() == ErrorKind::OutOfMemory => stop_for_memory(rt) as u8,
         Err(error) => {

@@ -1,3 +1,6 @@
+mod modules;
+mod runs;
+
 use crate::{Hands, Taken, Thief};
 use shared_run::Ticket;
 use std::alloc::Global;

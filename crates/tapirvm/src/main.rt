@@ -2,7 +2,8 @@
 #![tactic(auto)]
 
 use std::process::ExitCode;
+use threaded_host::OnThreads;
 
 fn main(rt: HostRuntime) -> ExitCode {
-    ExitCode::from(commands::run(&rt))
+    ExitCode::from(commands::run(&OnThreads { rt: &rt }, &rt))
 }
