@@ -1,6 +1,6 @@
 //! What the program does on a command line.
 
-use commands::{Beside, act, words};
+use commands::{Beside, Host, act, words};
 use std::alloc::Global;
 use std::hash::RandomState;
 use std::io;
@@ -8,6 +8,12 @@ use std::io::{Read, Write};
 
 /// The status of the words of no command.
 const WORDS: u8 = 2;
+
+/// The program: what names are hashed with, and who runs modules on workers.
+pub struct Program<'a, H: Host> {
+    pub state: RandomState,
+    pub host: &'a H,
+}
 
 /// A command line, its words parted by one space, and the bytes of its files; `None` for one that cannot be read.
 #[derive(Clone, Copy)]
@@ -28,9 +34,9 @@ pub struct Answer {
 }
 
 /// What the program does, and which file it is to write.
-pub fn told<R: Read, W: Write>(
+pub fn told<H: Host, R: Read, W: Write>(
     alloc: Global,
-    state: RandomState,
+    program: &Program<'_, H>,
     asked: Asked<'_>,
     input: &mut R,
     output: &mut W,
@@ -40,8 +46,9 @@ pub fn told<R: Read, W: Write>(
     match words(alloc, texts.as_slice()) {
         Ok(request) => {
             let status = act(
+                program.host,
                 alloc,
-                state,
+                program.state,
                 &request,
                 asked.module,
                 asked.schedule,
@@ -61,15 +68,15 @@ pub fn told<R: Read, W: Write>(
 }
 
 /// What the program answers to a text as its input.
-pub fn answered(
+pub fn answered<H: Host>(
     alloc: Global,
-    state: RandomState,
+    program: &Program<'_, H>,
     asked: Asked<'_>,
     input: &[u8],
 ) -> io::Result<Answer> {
     let mut output: Vec<u8> = Vec::new(alloc);
     let mut input = input;
-    let (status, beside) = told(alloc, state, asked, &mut input, &mut output)?;
+    let (status, beside) = told(alloc, program, asked, &mut input, &mut output)?;
     output.extend_from_slice(beside.file.as_bytes())?;
     let Beside { notes, .. } = beside;
     Ok(Answer {

@@ -9,23 +9,29 @@ mod streams;
 mod texts;
 mod transcript;
 
+use answered::Program;
 use cases::Report;
 use std::hash::RandomState;
 use std::io::BufWriter;
 use std::process::ExitCode;
 use std::{env, fs, io};
+use threaded_host::OnThreads;
 
 fn main(rt: HostRuntime) -> anyhow::Result<ExitCode> {
     let alloc = rt.alloc();
-    let state = RandomState::new(&rt)?;
+    let host = OnThreads { rt: &rt };
+    let program = Program {
+        state: RandomState::new(&rt)?,
+        host: &host,
+    };
     let mut report = Report::new(alloc, BufWriter::new(alloc, io::writer(&rt))?);
     for file in env::args(&rt)?.skip(1) {
         report.file(file.as_str())?;
         let text = fs::read_to_string(&rt, file.as_str())?;
-        transcript::answer(&rt, state, text.as_str(), &mut report)?;
+        transcript::answer(&rt, &program, text.as_str(), &mut report)?;
     }
-    drawn::answer(&rt, state, &mut report)?;
-    streams::answer(&rt, state, &mut report)?;
-    texts::answer(&rt, state, &mut report)?;
+    drawn::answer(&rt, &program, &mut report)?;
+    streams::answer(&rt, &program, &mut report)?;
+    texts::answer(&rt, &program, &mut report)?;
     Ok(report.finish()?)
 }

@@ -1,9 +1,9 @@
 //! Dialogues over streams that fail.
 
-use crate::answered::{Asked, told};
+use crate::answered::{Asked, Program, told};
 use cases::Report;
+use commands::Host;
 use std::alloc::Global;
-use std::hash::RandomState;
 use std::io::{ErrorKind, Read, Write};
 use std::rt::Files;
 use std::{fs, io};
@@ -92,7 +92,12 @@ const DIALOGUES: [Dialogue<'static>; 4] = [
 
 impl Dialogue<'_> {
     /// Whether the program goes through the dialogue so.
-    fn is_met(&self, alloc: Global, state: RandomState, module: &[u8]) -> io::Result<bool> {
+    fn is_met<H: Host>(
+        &self,
+        alloc: Global,
+        program: &Program<'_, H>,
+        module: &[u8],
+    ) -> io::Result<bool> {
         let schedule = b"step 0 2\nsteal 1 root\nstep 1 3\nstep 0 9\n";
         let mut input = Cut { text: self.said };
         let mut output = Full {
@@ -104,21 +109,21 @@ impl Dialogue<'_> {
             module: Some(module),
             schedule: Some(schedule.as_slice()),
         };
-        let (status, _beside) = told(alloc, state, asked, &mut input, &mut output)?;
+        let (status, _beside) = told(alloc, program, asked, &mut input, &mut output)?;
         Ok(status == self.status && output.written.as_slice() == self.written.as_bytes())
     }
 }
 
 /// Goes through the dialogues.
-pub fn answer<W: Write + Drop>(
+pub fn answer<H: Host, W: Write + Drop>(
     rt: &(impl AllocGlobal + Files),
-    state: RandomState,
+    program: &Program<'_, H>,
     report: &mut Report<W>,
 ) -> io::Result<()> {
     report.title("dialogues over streams that fail")?;
     let module = fs::read(rt, "examples/pair.ll")?;
     for dialogue in DIALOGUES {
-        let is_met = dialogue.is_met(rt.alloc(), state, module.as_slice())?;
+        let is_met = dialogue.is_met(rt.alloc(), program, module.as_slice())?;
         report.holds(dialogue.name, is_met)?;
     }
     Ok(())

@@ -1,10 +1,9 @@
 //! What is read of files, and the words that name them.
 
-use crate::answered::{Asked, answered};
+use crate::answered::{Asked, Program, answered};
 use cases::Report;
-use commands::{bytes_of, read_file, read_text, text_of};
+use commands::{Host, bytes_of, read_file, read_text, text_of};
 use std::alloc::{AllocError, Global};
-use std::hash::RandomState;
 use std::io::{ErrorKind, Write};
 use std::rt::Files;
 use std::{fs, io};
@@ -16,16 +15,16 @@ fn read_long(alloc: Global, line: &str) -> io::Result<Vec<u8>> {
 }
 
 /// The status and the output of a command line, as one text.
-fn told(alloc: Global, state: RandomState, asked: Asked<'_>) -> io::Result<String> {
-    let answer = answered(alloc, state, asked, b"")?;
+fn told<H: Host>(alloc: Global, program: &Program<'_, H>, asked: Asked<'_>) -> io::Result<String> {
+    let answer = answered(alloc, program, asked, b"")?;
     let output = String::from_utf8_lossy(alloc, answer.output.as_slice())?;
     Ok(format!(in alloc; "{output}status {}", answer.status)?)
 }
 
 /// A long text is read to the end of the line that passes the limit, so it answers as it would whole.
-fn answer_long<W: Write + Drop>(
+fn answer_long<H: Host, W: Write + Drop>(
     alloc: Global,
-    state: RandomState,
+    program: &Program<'_, H>,
     pair: &[u8],
     report: &mut Report<W>,
 ) -> io::Result<()> {
@@ -37,8 +36,12 @@ fn answer_long<W: Write + Drop>(
         module: Some(module.as_slice()),
         schedule: None,
     };
-    let found = told(alloc, state, asked)?;
-    report.compare(asked.line, "refused 104 line 209716\nstatus 1", found.as_str())?;
+    let found = told(alloc, program, asked)?;
+    report.compare(
+        asked.line,
+        "refused 104 line 209716\nstatus 1",
+        found.as_str(),
+    )?;
     let schedule = read_long(alloc, "steal 0 root\n")?;
     report.count("a schedule", 1_048_580, schedule.len() as u64)?;
     let asked = Asked {
@@ -46,8 +49,12 @@ fn answer_long<W: Write + Drop>(
         module: Some(pair),
         schedule: Some(schedule.as_slice()),
     };
-    let found = told(alloc, state, asked)?;
-    report.compare(asked.line, "schedule 902 line 80660\nstatus 5", found.as_str())?;
+    let found = told(alloc, program, asked)?;
+    report.compare(
+        asked.line,
+        "schedule 902 line 80660\nstatus 5",
+        found.as_str(),
+    )?;
     let endless = read_long(alloc, "0")?;
     report.count("a line without an end", 2_097_153, endless.len() as u64)
 }
@@ -96,13 +103,13 @@ fn answer_files<W: Write + Drop>(
 }
 
 /// Answers the cases of texts, words and files.
-pub fn answer<W: Write + Drop>(
+pub fn answer<H: Host, W: Write + Drop>(
     rt: &(impl AllocGlobal + Files),
-    state: RandomState,
+    program: &Program<'_, H>,
     report: &mut Report<W>,
 ) -> io::Result<()> {
     let pair = fs::read(rt, "examples/pair.ll")?;
-    answer_long(rt.alloc(), state, pair.as_slice(), report)?;
+    answer_long(rt.alloc(), program, pair.as_slice(), report)?;
     answer_words(rt.alloc(), report)?;
     answer_files(rt, report)
 }

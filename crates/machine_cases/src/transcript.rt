@@ -5,11 +5,11 @@
 //! them writes, lines of standard error after `!`, and the `status`, which ends the case. In place of all that is written may stand `has 2 TEXT`: how often a text
 //! stands in it. `beginnings STATUS` ends a case over each beginning of the module in place of it. `m.ll` and `s.txt` are the module and the schedule.
 
-use crate::answered::{Answer, Asked, answered};
+use crate::answered::{Answer, Asked, Program, answered};
 use anyhow::Context;
 use cases::Report;
+use commands::Host;
 use std::alloc::{AllocError, Global};
-use std::hash::RandomState;
 use std::io::Write;
 use std::rt::Files;
 use std::{fs, io};
@@ -176,17 +176,17 @@ impl Case {
     }
 
     /// Answers each of the commands, and forgets them.
-    fn check<W: Write + Drop>(
+    fn check<H: Host, W: Write + Drop>(
         &mut self,
         alloc: Global,
-        state: RandomState,
+        program: &Program<'_, H>,
         status: u8,
         report: &mut Report<W>,
     ) -> anyhow::Result<()> {
         let module = self.module.as_ref().map(|bytes| bytes.as_slice());
         for line in self.commands.lines() {
             let asked = self.asked(line, module);
-            let answer = answered(alloc, state, asked, self.input.as_bytes())?;
+            let answer = answered(alloc, program, asked, self.input.as_bytes())?;
             let found = shown(alloc, &answer)?;
             report.case(line, found.as_str(), self.is_met(&answer, status))?;
         }
@@ -195,18 +195,21 @@ impl Case {
     }
 
     /// How many beginnings of the module, each at least two bytes shorter, are answered by this status.
-    fn beginnings(
+    fn beginnings<H: Host>(
         &self,
         alloc: Global,
-        state: RandomState,
+        program: &Program<'_, H>,
         line: &str,
         status: u8,
     ) -> io::Result<u64> {
         let mut count: u64 = 0;
-        let module = self.module.as_ref().map_or(&[] as &[u8], |bytes| bytes.as_slice());
+        let module = self
+            .module
+            .as_ref()
+            .map_or(&[] as &[u8], |bytes| bytes.as_slice());
         for end in 0..module.len().saturating_sub(1) {
             let asked = self.asked(line, module.get(..end));
-            let answer = answered(alloc, state, asked, self.input.as_bytes())?;
+            let answer = answered(alloc, program, asked, self.input.as_bytes())?;
             if answer.status == status {
                 count = count.saturating_add(1);
             }
@@ -215,17 +218,17 @@ impl Case {
     }
 
     /// Answers each of the commands over each beginning of the module, and forgets them.
-    fn check_beginnings<W: Write + Drop>(
+    fn check_beginnings<H: Host, W: Write + Drop>(
         &mut self,
         alloc: Global,
-        state: RandomState,
+        program: &Program<'_, H>,
         status: u8,
         report: &mut Report<W>,
     ) -> anyhow::Result<()> {
         let length = self.module.as_ref().map_or(0, |bytes| bytes.len());
         let wanted = length.saturating_sub(1) as u64;
         for line in self.commands.lines() {
-            let count = self.beginnings(alloc, state, line, status)?;
+            let count = self.beginnings(alloc, program, line, status)?;
             report.count(line, wanted, count)?;
         }
         self.forget();
@@ -266,9 +269,9 @@ fn shown(alloc: Global, answer: &Answer) -> Result<String, AllocError> {
 }
 
 /// Answers the transcripts of a file.
-pub fn answer<W: Write + Drop>(
+pub fn answer<H: Host, W: Write + Drop>(
     rt: &(impl AllocGlobal + Files),
-    state: RandomState,
+    program: &Program<'_, H>,
     file: &str,
     report: &mut Report<W>,
 ) -> anyhow::Result<()> {
@@ -279,11 +282,11 @@ pub fn answer<W: Write + Drop>(
             Some(("====", title)) => report.title(title)?,
             Some(("status", status)) => {
                 let status = status.parse().ok().context("no status")?;
-                case.check(alloc, state, status, report)?;
+                case.check(alloc, program, status, report)?;
             }
             Some(("beginnings", status)) => {
                 let status = status.parse().ok().context("no status")?;
-                case.check_beginnings(alloc, state, status, report)?;
+                case.check_beginnings(alloc, program, status, report)?;
             }
             _ => case.read(rt, line)?,
         }

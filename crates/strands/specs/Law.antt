@@ -4,7 +4,7 @@ use Rattle.std.specs.List.{All}
 use Rattle.running.specs.Cells.{Cell}
 use Rattle.running.specs.State.{override, only, may_go}
 use Rattle.running.specs.Events.{Machine, Event, Step, event}
-use Rattle.running.specs.Replay.{NeverTraps}
+use Rattle.running.specs.Replay.{NeverTraps, replay}
 use Rattle.strands.specs.Footprint.{Delta, write_at, put}
 use Rattle.strands.specs.Strands.{Strand, IsStrand}
 use Rattle.program.specs.declared.function.Program.{Program}
