@@ -10,6 +10,7 @@ use std::io::{Read, Write};
 const WORDS: u8 = 2;
 
 /// The program: what names are hashed with, and who runs modules on workers.
+#[derive(Drop)]
 pub struct Program<'a, H: Host> {
     pub state: RandomState,
     pub host: &'a H,

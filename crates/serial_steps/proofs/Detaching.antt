@@ -1,6 +1,7 @@
 -- A detach keeps the stack shown.
 use Rattle.std.proofs.Common.{◌≡◌, ℕ, suc, ◌+◌, ◌<◌, List, [], ◌∷◌, ◌++◌, length, reverse, ap, sym, ◌∙◌, subst, Some}
 use Rattle.std.specs.Prelude.{slice_get}
+use Rattle.std.proofs.lemmas.List.{reverse-append}
 use Rattle.linear.specs.declared.form.RegisterId.{RegisterId}
 use Rattle.running.specs.Paths.{Path}
 use Rattle.running.specs.Frames as frames
@@ -26,7 +27,9 @@ use Rattle.serial_steps.specs.Shown.{BeginsAt, CanGo, HasTaker, ShowsBelow, Show
 use Rattle.serial_steps.specs.declared.stack.Stack.{Stack}
 use Rattle.serial_steps.proofs.Places.{detach_here}
 use Rattle.serial_steps.proofs.Texts.{Located, ends_fit, frame_stands, located, starts_block}
-use Rattle.serial_machine.proofs.Depths.{reverse_push}
+
+pub reverse_push : (l : List Frame) (f : Frame) → reverse (l ++ (f ∷ [])) ≡ f ∷ reverse l
+reverse_push l f = reverse-append l (f ∷ [])
 
 -- spare frames are not shown
 pub spared : (globals : List ℕ) (prog : Program) (places : Places) (s : Run) (k j : Stack) → j ≡ record k { spare = j.spare } → ShowsRun globals prog places s k → ShowsRun globals prog places s j

@@ -9,6 +9,7 @@ use std::thread::Threads;
 use std::time::Clock;
 
 /// Runs modules on threads of the process.
+#[derive(Drop)]
 pub struct OnThreads<'a, R: Threads + Wait + Clock + Sync> {
     pub rt: &'a R,
 }
