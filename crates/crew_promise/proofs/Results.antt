@@ -29,7 +29,7 @@ module _ (prog : Program) where
         from : (o : Option Frame) → o ≡ Some g → Spot s p c.frames [] o → (f : Frame) × (s.frames [] ≡ Some f)
         from o is (is_moved f h here old new role made calls) = (f, old)
         from o is (is_gone f here old gone none hands) = absurd (let both : None ≡ Some g = sym gone ∙ is in cc)
-        from o is (is_fresh k h above here old new free up made) = absurd (cc)
+        from o is (is_fresh k h above here old new free up made calls) = absurd (cc)
         from o is (is_above k d f h here old waits new role made free gone) = (f, old)
 
         by : (o : Option (Option Frame)) → c.frames [] ≡ o → override o (s.frames []) ≡ Some g → (f : Frame) × (s.frames [] ≡ Some f)

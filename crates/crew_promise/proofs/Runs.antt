@@ -94,6 +94,10 @@ none_shown l places p None node e shown = refl
 none_shown l places p (Some g) None e shown = absurd shown
 none_shown l places p (Some g) (Some node) e shown = absurd (cc)
 
+no_result : (o : Option ℤ) → o ≡ None → IsSome o → ⊥
+no_result None none some = cc
+no_result (Some z) none some = cc
+
 same_gift : (a b : Option ℤ) → Gave a ≡ Gave b → a ≡ b
 same_gift a b e = cc
 
@@ -111,7 +115,7 @@ module _ (program : Program) (places : Places) (m : Machine) (k : Run) (is : IsS
         where
           by_root : (o : Option Frame) → m.core.frames [] ≡ o → ShowsAt (layout_of program places k.cactus m.core) places [] o (Some node) → ⊥
           by_root None root h = h
-          by_root (Some f) root h = let none : k.result ≡ None = sym is.shows.result ∙ unended.none_yet f root in let there : IsSome None = subst (λ (o : Option ℤ). IsSome o) none some in cc
+          by_root (Some f) root h = no_result k.result (sym is.shows.result ∙ unended.none_yet f root) some
 
   result_there : (z : ℤ) → serial.ending ≡ Gave (Some z) → HasEnded k → IsSome k.result
   result_there z gives ended =
