@@ -10,8 +10,10 @@
 
 mod activation;
 mod clear;
+mod detach;
 mod hands;
 mod plain;
+mod reattach;
 mod run;
 mod steal;
 mod sync;

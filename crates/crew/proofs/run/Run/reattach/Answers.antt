@@ -1,0 +1,2 @@
+use Rattle.crew.proofs.Reattaching.{resumes}
+use Rattle.crew.proofs.run.Run.reattach.Goals as goal
