@@ -1,7 +1,6 @@
 -- A detach of the frame in a slot: the worker goes on with the child, and nobody runs the parent.
 use Rattle.std.proofs.Common.{Vec, Global, ◌≡◌, ◌≢◌, ℕ, zero, suc, ◌+◌, ◌<◌, ◌≤◌, List, [], ◌∷◌, ◌++◌, length, max, reverse, Option, Some, None, Bool, true, false, cond, eqb, ◌⊎◌, inl, inr, refl, sym, ap, ◌∙◌, subst, arith, ℤ, ◌+ℤ◌}
 use Rattle.std.specs.Prelude.{◌↔◌, slice_get}
-use Rattle.std.specs.Option.{option_map}
 use Rattle.std.specs.Vec.{vec_len, with_item}
 use Rattle.std.proofs.lemmas.Bool.Decides.{eqb_tells}
 use Rattle.std.proofs.lemmas.List.{reverse-reverse}
@@ -50,7 +49,7 @@ use Rattle.crew.proofs.Onward.{free_callee, seen, standing}
 use Rattle.crew.proofs.Standing.{can_step, may_go_on}
 use Rattle.crew.proofs.Syncing.{own}
 use Rattle.crew.proofs.Topmost.{reverse_last}
-use Rattle.crew.proofs.Views.{named_at_place}
+use Rattle.crew.proofs.Views.{frame_found, named_at_place}
 use Rattle.crew.proofs.Changed.{Changes, Holds, Kept, Told, alike, anew, changed, changed_shown, kept_holds}
 use Rattle.crew.proofs.Handing.{hand_set, hands_after, held_then, let_go, others_stay, seen_then, taken_up}
 
@@ -109,8 +108,7 @@ unnamed l places q (Some g) s e h = absurd (cc)
 pub found_again : (frames : Frames Activation) (slot : ℕ) (node : Node Activation) → node_at frames slot ≡ Some node → (mid : Frames Activation) (number : ℕ) (child : Activation) (s : ℕ) → AddsChild frames mid slot number child s → (found : Activation) → frame_at mid slot ≡ Some found → node.frame ≡ found
 found_again frames slot node stands mid number child s adds found is =
     let here : node_at mid slot ≡ Some node = adds.added.change.others slot (λ e. no_slot (subst (λ x. node_at frames x ≡ None) (sym e) adds.added.free)) ∙ stands in
-    let e : Some node.frame ≡ Some found = sym (ap (option_map (λ (x : Node Activation). x.frame)) here) ∙ is in
-    cc
+    frame_found mid slot node here found is
   where
     no_slot : node_at frames slot ≡ None → ⊥
     no_slot none = let e : Some node ≡ None = sym stands ∙ none in cc
@@ -424,7 +422,7 @@ module _ (prog : Program) (places : Places) (k : Run) (slot : ℕ) (node : Node 
         let before = shown.agrees.nodes slot node stands in
         let runs : child.runner ≡ Some w = ap (λ (x : Activation). x.runner) child_is in
         let up = taken_up prog places m k shown slot node stands w hand within (Some s) s refl
-            (λ v differ e. let lives : Lives k.cactus s = shown.agrees.held v s e in let none : node_at k.cactus s ≡ None = adds.added.free in no_life none lives) in
+        (λ v differ e. let lives : Lives k.cactus s = shown.agrees.held v s e in let none : node_at k.cactus s ≡ None = adds.added.free in no_life none lives) in
         let function : child.frame.function.0 ≡ a.frame.function.0 = ap (λ (x : Frame). x.function.0) child_frame ∙ ap (λ (x : Frame). x.function.0) is_child.is in
         record {
           runner = λ v. ((λ e. (up v).0 (sym runs ∙ e)), λ e. runs ∙ (up v).1 e);

@@ -4,18 +4,18 @@ use Rattle.std.specs.Prelude.{◌↔◌, IsSome, pos, slice_get}
 use Rattle.std.specs.Option.{option_map_or}
 use Rattle.std.specs.Vec.{vec_len, with_item}
 use Rattle.std.proofs.lemmas.Bool.Decides.{eqb_tells}
-use Rattle.std.proofs.lemmas.List.{reverse-reverse}
+use Rattle.std.proofs.lemmas.List.{length-append, reverse-reverse}
 use Rattle.std.proofs.lemmas.Option.{slice_get_within}
 use Rattle.linear.specs.declared.form.RegisterId.{RegisterId}
 use Rattle.running.specs.Arithmetic.{Unmatched}
 use Rattle.running.specs.Paths.{Path}
-use Rattle.running.specs.Frames.{Frame as Shown, Role, cells_of, Body, Child, OnCall, Ends, item_at}
+use Rattle.running.specs.Frames.{Frame as Shown, Role, cells_of, Body, Child, Ends, item_at}
 use Rattle.running.specs.Effect.{Action, Reattach, action_of, item_action, reattaches}
-use Rattle.running.specs.State.{State, Change, act, apply, override, may_go, only, childless, children_within, none_within, outside, outside_role, change_of, change_of_frame, reattach_change}
+use Rattle.running.specs.State.{State, Change, act, apply, override, may_go, childless, children_within, none_within, outside, outside_role, change_of, change_of_frame, reattach_change}
 use Rattle.running.specs.Counts.{changed_at, count_of, counts_after, left_by, lowered}
 use Rattle.running.specs.Events as running
 use Rattle.running.specs.Events.{Machine, Step, event}
-use Rattle.running.proofs.Steps.{change_is, reattach}
+use Rattle.running.proofs.Steps.{change_is, reattach, some_same}
 use Rattle.running.proofs.Places.{all_below_at, same_path_tells, same_path_apart, no_own_child, only_here, only_off}
 use Rattle.running.proofs.Actions.{reattach_is_child, same_path_itself}
 use Rattle.running.proofs.ChildCounts.{count_at, counted_none, none_counted, step_counts}
@@ -24,22 +24,17 @@ use Rattle.program.specs.declared.identifier.BlockId.{BlockId}
 use Rattle.program.specs.declared.function.Program.{Program}
 use Rattle.program.specs.declared.identifier.ObjectName.TheVariants as object
 use Rattle.program.specs.declared.instruction.Terminator.TheVariants as terminator
-use Rattle.frame.specs.declared.path.Path.{Path as Name}
 use Rattle.frame.specs.declared.frame.Role.{Role as RoleOf}
 use Rattle.frame.specs.declared.frame.Role.TheVariants as role
 use Rattle.frame.specs.declared.frame.Wait.{Wait}
 use Rattle.frame.specs.declared.frame.Wait.TheVariants as wait
 use Rattle.frame.specs.Reading.{role_of, wait_of}
 use Rattle.cactus.specs.declared.node.Node.{Node}
-use Rattle.cactus.specs.Frames.{Frames, Lives, IsRemoved, node_at}
+use Rattle.cactus.specs.Frames.{Frames, Lives, IsRemoved, frame_at, node_at}
 use Rattle.cactus.specs.ByPath.{named, Binds, IsBelow, IsLeaf, ShrinksMap}
 use Rattle.cactus.specs.Lending.{with_frame}
 use Rattle.cactus.proofs.FramesLemmas.{node_at-with_frame, node_at-with_frame_other}
 use Rattle.cactus.proofs.ByPathLemmas.{written_binds}
-use Rattle.sync_join.specs.declared.count.Outcome.{Outcome}
-use Rattle.sync_join.specs.declared.count.Outcome.TheVariants as outcome
-use Rattle.sync_join.specs.declared.count.Parent.{Parent}
-use Rattle.sync_join.specs.declared.count.Parent.TheVariants as parent
 use Rattle.sync_join.specs.declared.count.RegionCount.{RegionCount}
 use Rattle.engine.specs.declared.activation.Frame.{Frame}
 use Rattle.engine.specs.declared.activation.Places.{Places}
@@ -51,15 +46,15 @@ use Rattle.crew.specs.declared.run.Run.{Run}
 use Rattle.crew.specs.Scheduling.{hand_of, counted_in}
 use Rattle.crew.specs.Layouts.{alloca_at, alloca_cells, layout_of, number_in, object_at, own_at, own_cells}
 use Rattle.crew.specs.Shown.{CalleeStands, HasTaker, IsBlockOf, IsShown, ShowsAt, ShowsNode, item_here, place_of}
-use Rattle.crew.specs.Forking.{parent_of, resumed_by_child, resumed_unheld, unheld_parent}
+use Rattle.crew.specs.Forking.{resumed_by_child, resumed_unheld}
 use Rattle.crew.specs.Going.{CanStep, RunsSafely}
 use Rattle.crew.proofs.Onward.{seen, standing}
 use Rattle.crew.proofs.Standing.{can_step, may_go_on}
 use Rattle.crew.proofs.Syncing.{LeadsTo, chosen}
 use Rattle.crew.proofs.Topmost.{holder_is, reverse_last}
-use Rattle.crew.proofs.Views.{named_at_place}
+use Rattle.crew.proofs.Views.{frame_found, named_at_place}
 use Rattle.crew.proofs.Changed.{Changes, Holds, Kept, Told, alike, anew, changed, changed_shown, kept_holds}
-use Rattle.crew.proofs.Handing.{hand_set, hands_after, held_then, others_stay, seen_at, seen_then, taken_up}
+use Rattle.crew.proofs.Handing.{hands_after, held_then, others_stay, seen_at, seen_then, taken_up}
 
 -- ---- which action
 
@@ -70,6 +65,22 @@ reattaches_own f r n (Child x y) free = chosen (eqb x r && eqb y n) (Reattach r)
 childless_if : (b : Bool) (c : Change) → IsSome (cond b (Some c) None) → b ≡ true
 childless_if true c e = refl
 childless_if false c e = absurd (cc)
+
+not_a_body : (x y : ℕ) → Child x y ≡ Body → ⊥
+not_a_body x y e = cc
+
+not_both : (b : Bool) → b ≡ true → b ≡ false → ⊥
+not_both b t f = let e : true ≡ false = sym t ∙ f in cc
+
+pub none_some : (x : ℕ) → None ≡ Some x → ⊥
+none_some x e = cc
+
+no_node : (x : Node Activation) → None ≡ Some x → ⊥
+no_node x e = cc
+
+free_runner : (x : Option ℕ) (t : Wait) (made left child region : ℕ) → resumed_by_child x t made left child region ≡ true → x ≡ None
+free_runner None t made left child region e = refl
+free_runner (Some v) t made left child region e = absurd (let f : false ≡ true = e in cc)
 
 -- ---- numbers of children
 
@@ -105,62 +116,32 @@ unheld_place : (b : Bool) (x : Path) → running.unless_held None b x ≡ cond b
 unheld_place true x = refl
 unheld_place false x = refl
 
-unnamed : (l : Layout) (places : Places) (q : Path) (o : Option Shown) (s : Option (Node Activation)) (node : Node Activation) → s ≡ Some node → ShowsAt l places q o s → IsSome o
-unnamed l places q None None node e h = absurd (cc)
-unnamed l places q None (Some x) node e h = absurd h
-unnamed l places q (Some g) s node e h = tt
+-- ---- what the code knows of the parent
 
--- ---- who goes on, by how the parent stands
+-- the parent that was found has lost the child of this number
+pub record HasLost (r number : ℕ) (goes : Bool) (lost found : Activation) : Type 0 where
+  pub only : lost ≡ record found { counts = lost.counts }
+  pub as_many : length lost.counts.items ≡ length found.counts.items
+  pub counted : (x : ℕ) → counted_in lost x ≡ cond (eqb r x) (counted_in found r - 1) (counted_in found x)
+  pub resumed : goes ≡ resumed_by_child found.runner found.frame.waits found.frame.made (counted_in lost r) number r
 
-abbrev pub resumes_of : Outcome → Bool
-resumes_of outcome.ResumeReady = true
-resumes_of outcome.ResumeStalled = true
-resumes_of outcome.Leave = false
+last_at : (xs : List ℕ) (x : ℕ) → slice_get (xs ++ x ∷ []) (length (xs ++ x ∷ []) - 1) ≡ Some x
+last_at xs x =
+    let long : length (xs ++ x ∷ []) ≡ length xs + 1 = length-append xs (x ∷ []) in
+    let at : length (xs ++ x ∷ []) - 1 ≡ length xs = omega (arith, long) in
+    ap (slice_get (xs ++ x ∷ [])) at ∙ at_end xs
+  where
+    at_end : (ys : List ℕ) → slice_get (ys ++ x ∷ []) (length ys) ≡ Some x
+    at_end [] = refl
+    at_end (y ∷ ys) = at_end ys
 
-module _ (left child region : ℕ) where
-  abbrev Answers : Parent → Outcome → Type 0
-  Answers x o = ((o ≡ outcome.ResumeReady) ↔ (x ≡ parent.Ready child)) × ((o ≡ outcome.ResumeStalled) ↔ ((x ≡ parent.Stalled region) × (left ≡ 0)))
-
-  busy : (o : Outcome) → Answers parent.Busy o → resumes_of o ≡ false
-  busy outcome.ResumeReady a = absurd (let e : parent.Busy ≡ parent.Ready child = a.0.0 refl in cc)
-  busy outcome.ResumeStalled a = absurd (let e : parent.Busy ≡ parent.Stalled region = (a.1.0 refl).0 in cc)
-  busy outcome.Leave a = refl
-
-  ready : (made : ℕ) → 0 < made → (o : Outcome) → Answers (parent.Ready (made - 1)) o → resumes_of o ≡ eqb made (child + 1)
-  ready made some outcome.ResumeReady a =
-      let e : parent.Ready (made - 1) ≡ parent.Ready child = a.0.0 refl in
-      let f : made - 1 ≡ child = cc in
-      sym (eq-eqb made (child + 1) (omega (arith, f, some)))
-  ready made some outcome.ResumeStalled a = absurd (let e : parent.Ready (made - 1) ≡ parent.Stalled region = (a.1.0 refl).0 in cc)
-  ready made some outcome.Leave a =
-      elim (eqb_tells made (child + 1)) [
-        | inl h ↦ absurd (let e = h.1 in let f : made - 1 ≡ child = omega (arith, e) in let x : outcome.Leave ≡ outcome.ResumeReady = a.0.1 (ap (λ y. parent.Ready y) f) in cc)
-        | inr h ↦ sym h.0
-      ]
-
-  stalled : (x : ℕ) (o : Outcome) → Answers (parent.Stalled x) o → resumes_of o ≡ eqb x region && eqb left 0
-  stalled x outcome.ResumeReady a = absurd (let e : parent.Stalled x ≡ parent.Ready child = a.0.0 refl in cc)
-  stalled x outcome.ResumeStalled a =
-      let e : parent.Stalled x ≡ parent.Stalled region = (a.1.0 refl).0 in
-      let f : x ≡ region = cc in
-      sym (ap (λ t. t && eqb left 0) (eq-eqb x region f) ∙ eq-eqb left 0 (a.1.0 refl).1)
-  stalled x outcome.Leave a =
-      elim (eqb_tells x region) [
-        | inl h ↦ elim (eqb_tells left 0) [
-          | inl d ↦ absurd (let y : outcome.Leave ≡ outcome.ResumeStalled = a.1.1 (ap (λ z. parent.Stalled z) h.1, d.1) in cc)
-          | inr d ↦ sym (ap (λ t. t && eqb left 0) h.0 ∙ d.0)
-        ]
-        | inr h ↦ sym (ap (λ t. t && eqb left 0) h.0)
-      ]
-
-  by_wait : (t : Wait) (made : ℕ) → 0 < made → (o : Outcome) → Answers (unheld_parent t made) o → resumes_of o ≡ resumed_unheld t made left child region
-  by_wait wait.Nothing made some o a = ready made some o a
-  by_wait (wait.Region x) made some o a = stalled x.0 o a
-  by_wait (wait.Call x y) made some o a = busy o a
-
-  pub resumed_is : (runner : Option ℕ) (t : Wait) (made : ℕ) → 0 < made → (o : Outcome) → Answers (parent_of runner t made) o → resumes_of o ≡ resumed_by_child runner t made left child region
-  resumed_is None t made some o a = by_wait t made some o a
-  resumed_is (Some v) t made some o a = busy o a
+-- who is called depends on the caller's path alone
+moved_callee : (frames : Frames Activation) (x y : Node Activation) → x.path.numbers ≡ y.path.numbers → (t : Wait) (o : Option ℕ) → CalleeStands frames x t o → CalleeStands frames y t o
+moved_callee frames x y same wait.Nothing o h = h
+moved_callee frames x y same (wait.Region region) o h = h
+moved_callee frames x y same (wait.Call number register) o h =
+    let (s, called, at, there, path) = h in
+    (s, called, at, there, path ∙ ap (λ (xs : List ℕ). xs ++ number ∷ []) same)
 
 -- ---- the event
 
@@ -206,7 +187,7 @@ module _ (prog : Program) (places : Places) (k : Run) (slot : ℕ) (node : Node 
   is_child = reattach_is_child prog p g m.core.memory r.0 acts
 
   child_role : a.frame.role ≢ role.Body
-  child_role e = let x : role_of a.frame.role ≡ Child r.0 is_child.0 = sym shows_g.role ∙ is_child.1 in let y : role_of a.frame.role ≡ Body = ap role_of e in cc
+  child_role e = not_a_body r.0 is_child.0 (sym is_child.1 ∙ (shows_g.role ∙ ap role_of e))
 
   none : childless m.core p g.made ≡ true
   none =
@@ -255,28 +236,26 @@ module _ (prog : Program) (places : Places) (k : Run) (slot : ℕ) (node : Node 
   leaf : IsLeaf k.cactus slot
   leaf x y here has =
       let b : IsBelow k.cactus slot y.path.numbers = shown.agrees.tree.below x slot y here has in
-      let same : b.above ≡ node = (let e : Some b.above ≡ Some node = sym b.stands ∙ stands in cc) in
+      let same : b.above ≡ node = some_same b.above node (sym b.stands ∙ stands) in
       let place : place_of y ≡ b.number ∷ p = ap reverse b.is ∙ (reverse_last b.above.path.numbers b.number ∙ ap (λ (z : Node Activation). b.number ∷ place_of z) same) in
       let y_seen = seen prog places k x y y.frame here m shown in
       let lives : m.core.frames (b.number ∷ p) ≡ Some y_seen.frame = ap m.core.frames (sym place) ∙ y_seen.is in
       let (h, up, lt) = (safe []).tree.has_parent b.number p y_seen.frame lives in
-      let one : h ≡ g = (let e : Some h ≡ Some g = sym up ∙ is_g in cc) in
+      let one : h ≡ g = some_same h g (sym up ∙ is_g) in
       let low : b.number < g.made = subst (λ (z : Shown). b.number < z.made) one lt in
       let dead : is_none (m.core.frames (b.number ∷ p)) ≡ true = all_below_at g.made (λ j. is_none (m.core.frames (j ∷ p))) none b.number low in
       let some : is_none (m.core.frames (b.number ∷ p)) ≡ false = ap is_none lives in
-      let e : true ≡ false = sym dead ∙ some in
-      absurd (cc)
+      not_both (is_none (m.core.frames (b.number ∷ p))) dead some
 
   -- nobody calls the child
   not_called : (x : ℕ) (y : Node Activation) (number : ℕ) (register : Option RegisterId) (s : ℕ) (called : Node Activation) → node_at k.cactus x ≡ Some y → y.frame.frame.waits ≡ wait.Call number register → node_at k.cactus s ≡ Some called → called.path.numbers ≡ y.path.numbers ++ number ∷ [] → s ≢ slot
   not_called x y number register s called here calls there path e =
-      let same : called ≡ node = (let f : Some called ≡ Some node = sym there ∙ (ap (node_at k.cactus) e ∙ stands) in cc) in
+      let same : called ≡ node = some_same called node (sym there ∙ (ap (node_at k.cactus) e ∙ stands)) in
       let place : p ≡ number ∷ place_of y = ap (λ (z : Node Activation). place_of z) (sym same) ∙ (ap reverse path ∙ reverse_last y.path.numbers number) in
       let y_seen = seen prog places k x y y.frame here m shown in
       let (h, lives, body) = (safe []).tree.lives number register (place_of y) y_seen.frame y_seen.is (y_seen.shows.waits ∙ ap wait_of calls) in
-      let one : h ≡ g = (let f : Some h ≡ Some g = sym lives ∙ (ap m.core.frames (sym place) ∙ is_g) in cc) in
-      let e2 : Child r.0 is_child.0 ≡ Body = sym is_child.1 ∙ (ap (λ (z : Shown). z.role) (sym one) ∙ body) in
-      cc
+      let one : h ≡ g = some_same h g (sym lives ∙ (ap m.core.frames (sym place) ∙ is_g)) in
+      not_a_body r.0 is_child.0 (sym is_child.1 ∙ (ap (λ (z : Shown). z.role) (sym one) ∙ body))
 
   module _ (within : w < length k.hands.items) (mid : Frames Activation) (removed : IsRemoved k.cactus mid slot) (shrinks : ShrinksMap k.cactus mid slot node) where
     abbrev binds : Binds k.cactus mid node.path.numbers None
@@ -285,7 +264,7 @@ module _ (prog : Program) (places : Places) (k : Run) (slot : ℕ) (node : Node 
     left_there : (x : ℕ) (y : Node Activation) → node_at mid x ≡ Some y → (x ≢ slot) × (node_at k.cactus x ≡ Some y)
     left_there x y here =
         elim (eqb_tells slot x) [
-          | inl h ↦ absurd (let e : None ≡ Some y = sym removed.change.changed ∙ subst (λ z. node_at mid z ≡ Some y) (sym h.1) here in cc)
+          | inl h ↦ absurd (no_node y (sym removed.change.changed ∙ subst (λ z. node_at mid z ≡ Some y) (sym h.1) here))
           | inr h ↦ ((λ e. h.1 (sym e)), sym (removed.change.others x (λ e. h.1 (sym e))) ∙ here)
         ]
 
@@ -346,12 +325,12 @@ module _ (prog : Program) (places : Places) (k : Run) (slot : ℕ) (node : Node 
               let (away, was) = left_there x y here in
               kept_holds prog places m next k mid k.peak (with_item k.hands w None) shown x y (record {
                 was = was;
-                same_hands = others_stay prog places m k shown slot node stands w hand within None x away (λ e. cc);
+                same_hands = others_stay prog places m k shown slot node stands w hand within None x away (none_some _);
                 callee = callee_still mid still_mid x y was y.frame.frame.waits refl y.frame.callee (shown.agrees.nodes x y was).callee;
                 counts = counts_same (place_of y);
               });
           seen = λ v. ap (λ z. running.with_hand m.hands w z v) (ap (λ z. running.after_reattach workers m (apply change m.core) z r.0) at_root) ∙ seen_then prog places m k shown slot node stands w hand within None mid None refl still_mid v;
-          held = held_then prog places m k shown slot node stands w hand within None mid (λ x e. absurd (cc)) still_mid;
+          held = held_then prog places m k shown slot node stands w hand within None mid (λ x e. absurd (none_some x e)) still_mid;
           made = (let e = removed.made in omega (arith, e));
           memory = refl;
           done = omega arith;
@@ -364,7 +343,7 @@ module _ (prog : Program) (places : Places) (k : Run) (slot : ℕ) (node : Node 
     -- ---- a child and its parent
 
     module _ (up : ℕ) (has : node.parent ≡ Some up) where
-      below : IsBelow k.cactus up node.path.numbers
+      pub below : IsBelow k.cactus up node.path.numbers
       below = shown.agrees.tree.below slot up node stands has
 
       abbrev above : Node Activation
@@ -383,7 +362,7 @@ module _ (prog : Program) (places : Places) (k : Run) (slot : ℕ) (node : Node 
       apart e = no_own_child number pa (sym place ∙ e)
 
       up_away : up ≢ slot
-      up_away e = apart (let same : above ≡ node = (let f : Some above ≡ Some node = sym below.stands ∙ (ap (node_at k.cactus) e ∙ stands) in cc) in ap (λ (z : Node Activation). place_of z) (sym same))
+      up_away e = apart (let same : above ≡ node = some_same above node (sym below.stands ∙ (ap (node_at k.cactus) e ∙ stands)) in ap (λ (z : Node Activation). place_of z) (sym same))
 
       abbrev h : Shown
       h = (seen prog places k up above above.frame below.stands m shown).frame
@@ -400,7 +379,7 @@ module _ (prog : Program) (places : Places) (k : Run) (slot : ℕ) (node : Node 
       below_made : number < h.made
       below_made =
           let (z, at, lt) = (safe []).tree.has_parent number pa g lives_below in
-          let one : z ≡ h = (let f : Some z ≡ Some h = sym at ∙ is_h in cc) in
+          let one : z ≡ h = some_same z h (sym at ∙ is_h) in
           subst (λ (y : Shown). number < y.made) one lt
 
       later_h : next.core.frames pa ≡ Some h
@@ -426,8 +405,17 @@ module _ (prog : Program) (places : Places) (k : Run) (slot : ℕ) (node : Node 
       pub made_room : 0 < above.frame.frame.made
       made_room = let x = below_made in let y = shows_h.made in omega (arith, x, y)
 
+      pub last_is : slice_get node.path.numbers (length node.path.numbers - 1) ≡ Some number
+      last_is = subst (λ (xs : List ℕ). slice_get xs (length xs - 1) ≡ Some number) (sym below.is) (last_at above.path.numbers number)
+
       pub stays_mid : node_at mid up ≡ Some above
       stays_mid = removed.change.others up up_away ∙ below.stands
+
+      pub lives_mid : Lives mid up
+      lives_mid = rw stays_mid refl
+
+      pub found_above : (found : Activation) → frame_at mid up ≡ Some found → above.frame ≡ found
+      found_above found is = frame_found mid up above stays_mid found is
 
       module _ (c : Activation) (frame_is : c.frame ≡ above.frame.frame) (callee_is : c.callee ≡ above.frame.callee) (as_many : length c.counts.items ≡ length above.frame.counts.items)
           (counted : (x : ℕ) → counted_in c x ≡ cond (eqb r.0 x) (counted_in above.frame r.0 - 1) (counted_in above.frame x)) where
@@ -450,8 +438,7 @@ module _ (prog : Program) (places : Places) (k : Run) (slot : ℕ) (node : Node 
         still x y away here =
             elim (eqb_tells up x) [
               | inl d ↦
-                  let e : Some above ≡ Some y = sym below.stands ∙ subst (λ z. node_at k.cactus z ≡ Some y) (sym d.1) here in
-                  let same : above ≡ y = cc in
+                  let same : above ≡ y = some_same above y (sym below.stands ∙ subst (λ z. node_at k.cactus z ≡ Some y) (sym d.1) here) in
                   (later, subst (λ z. node_at frames z ≡ Some later) d.1 at_up, ap (λ (z : Node Activation). z.path) same)
               | inr d ↦ (y, at_other x (λ e. d.1 (sym e)) ∙ (removed.change.others x away ∙ here), refl)
             ]
@@ -470,8 +457,8 @@ module _ (prog : Program) (places : Places) (k : Run) (slot : ℕ) (node : Node 
             ]
           where
             less : (x : ℕ) → x - 1 ≡ lowered x
-            less zero = refl
-            less (suc x) = omega arith
+            less zero = let e : 0 - 1 ≡ 0 = omega arith in e
+            less (suc x) = let e : suc x - 1 ≡ x = omega arith in e
 
         left : counted_in c r.0 ≡ children_within next.core pa h.made r.0
         left = counts_here r.0 ∙ count_at next.core pa h r.0 later_h
@@ -546,7 +533,7 @@ module _ (prog : Program) (places : Places) (k : Run) (slot : ℕ) (node : Node 
                   runner = runs;
                   fits = record {
                     fits = subst (FrameFits prog) (sym frame_is) before.fits;
-                    callee = subst (λ (x : Frame). CalleeStands frames later x.waits c.callee) (sym frame_is) (subst (λ x. CalleeStands frames later above.frame.frame.waits x) (sym callee_is) (callee_still frames still up above below.stands above.frame.frame.waits refl above.frame.callee before.callee));
+                    callee = subst (λ (x : Frame). CalleeStands frames later x.waits c.callee) (sym frame_is) (subst (λ x. CalleeStands frames later above.frame.frame.waits x) (sym callee_is) (moved_callee frames above later refl above.frame.frame.waits above.frame.callee (callee_still frames still up above below.stands above.frame.frame.waits refl above.frame.callee before.callee)));
                     taker = subst (λ (x : Frame). (y : Function) → slice_get prog.functions x.function.0 ≡ Some y → HasTaker (length y.registers) x.waits) (sym frame_is) before.taker;
                     counts = λ y is. as_many ∙ before.counts y (sym (ap (λ (x : Frame). slice_get prog.functions x.function.0) frame_is) ∙ is);
                   };
@@ -568,8 +555,7 @@ module _ (prog : Program) (places : Places) (k : Run) (slot : ℕ) (node : Node 
             holds x y here =
                 elim (eqb_tells up x) [
                   | inl d ↦
-                      let e : Some later ≡ Some y = sym at_up ∙ subst (λ z. node_at frames z ≡ Some y) (sym d.1) here in
-                      let same : later ≡ y = cc in
+                      let same : later ≡ y = some_same later y (sym at_up ∙ subst (λ z. node_at frames z ≡ Some y) (sym d.1) here) in
                       subst (λ z. HoldsAt z y) d.1 (subst (λ z. HoldsAt up z) same holds_parent)
                   | inr d ↦ holds_other x y (λ e. d.1 (sym e)) (sym (at_other x (λ e. d.1 (sym e))) ∙ here)
                 ]
@@ -599,19 +585,15 @@ module _ (prog : Program) (places : Places) (k : Run) (slot : ℕ) (node : Node 
                 made_stays : frames.made ≡ mid.made
                 made_stays = rw stays_mid refl
 
-        free_runner : (x : Option ℕ) → resumed_by_child x above.frame.frame.waits above.frame.frame.made (counted_in c r.0) number r.0 ≡ true → x ≡ None
-        free_runner None e = refl
-        free_runner (Some v) e = absurd (cc)
-
         -- the worker goes on with the parent
         pub resumes : taken ≡ true → c.runner ≡ Some w → LeadsTo prog places k (changed prog places m next k frames k.peak (with_item k.hands w (Some up))) w m
         resumes goes runs =
-            let alone : above.frame.runner ≡ None = free_runner above.frame.runner goes in
+            let alone : above.frame.runner ≡ None = free_runner above.frame.runner above.frame.frame.waits above.frame.frame.made (counted_in c r.0) number r.0 goes in
             let by = taken_up prog places m k shown slot node stands w hand within (Some up) up refl
-                (λ v differ e. let held : above.frame.runner ≡ Some v = (shown.agrees.runners up v above below.stands).1 e in let f : None ≡ Some v = sym alone ∙ held in cc) in
+            (λ v differ e. none_some v (sym alone ∙ (shown.agrees.runners up v above below.stands).1 e)) in
             ends (Some up)
             (λ v. ((λ e. (by v).0 (sym runs ∙ e)), λ e. runs ∙ (by v).1 e))
-            (λ x e. let f : Some up ≡ Some x = e in cc)
+            (λ x e. some_same up x e)
             (seen_up ∙ sym (next_is ∙ ap (λ t. cond t (Some pa) None) goes))
           where
             seen_up : seen_at frames (Some up) ≡ Some pa
@@ -620,9 +602,30 @@ module _ (prog : Program) (places : Places) (k : Run) (slot : ℕ) (node : Node 
         -- the worker is idle
         pub leaves : taken ≡ false → c.runner ≡ above.frame.runner → LeadsTo prog places k (changed prog places m next k frames k.peak (with_item k.hands w None)) w m
         leaves stops runner =
-            let keeps = others_stay prog places m k shown slot node stands w hand within None up up_away (λ e. cc) in
+            let keeps = others_stay prog places m k shown slot node stands w hand within None up up_away (none_some _) in
             let was = λ v. shown.agrees.runners up v above below.stands in
             ends None
             (λ v. ((λ e. (keeps v).0 ((was v).0 (sym runner ∙ e))), λ e. runner ∙ (was v).1 ((keeps v).1 e)))
-            (λ x e. absurd (cc))
+            (λ x e. absurd (none_some x e))
             (sym (next_is ∙ ap (λ t. cond t (Some pa) None) stops))
+
+      -- ---- as the code has it
+
+      module _ (found lost : Activation) (stood : frame_at mid up ≡ Some found) (last : ℕ) (is_last : slice_get node.path.numbers (length node.path.numbers - 1) ≡ Some last) (goes : Bool) (loses : HasLost r.0 last goes lost found) where
+        its_number : last ≡ number
+        its_number = some_same last number (sym is_last ∙ last_is)
+
+        loses_above : HasLost r.0 number goes lost above.frame
+        loses_above = subst (λ y. HasLost r.0 y goes lost above.frame) its_number (subst (λ (x : Activation). HasLost r.0 last goes lost x) (sym (found_above found stood)) loses)
+
+        frame_is : lost.frame ≡ above.frame.frame
+        frame_is = ap (λ (x : Activation). x.frame) loses_above.only
+
+        callee_is : lost.callee ≡ above.frame.callee
+        callee_is = ap (λ (x : Activation). x.callee) loses_above.only
+
+        pub goes_on : goes ≡ true → LeadsTo prog places k (changed prog places m next k (with_frame mid up (record lost { runner = Some w; stalled_in = None })) k.peak (with_item k.hands w (Some up))) w m
+        goes_on going = resumes (record lost { runner = Some w; stalled_in = None }) frame_is callee_is loses_above.as_many loses_above.counted (sym loses_above.resumed ∙ going) refl
+
+        pub stops : goes ≡ false → LeadsTo prog places k (changed prog places m next k (with_frame mid up lost) k.peak (with_item k.hands w None)) w m
+        stops idle = leaves lost frame_is callee_is loses_above.as_many loses_above.counted (sym loses_above.resumed ∙ idle) (ap (λ (x : Activation). x.runner) loses_above.only)

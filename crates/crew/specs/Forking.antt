@@ -12,13 +12,13 @@ use Rattle.engine.specs.declared.activation.Frame.{Frame}
 -- the child of the parent's detach, with the parent's registers and home
 pub record IsChildFrame (parent : Frame) (region : RegisterId) (child continuation : BlockId) (f : Frame) : Type 0 where
   pub is : f ≡ record parent {
-      place = record { block = child; index = 0 };
-      registers = f.registers;
-      made = 0;
-      waits = wait.Nothing;
-      role = Child region continuation;
-      depth = parent.depth + 1;
-    }
+    place = record { block = child; index = 0 };
+    registers = f.registers;
+    made = 0;
+    waits = wait.Nothing;
+    role = Child region continuation;
+    depth = parent.depth + 1;
+  }
   pub registers : f.registers.items ≡ parent.registers.items
 
 -- a frame that no worker runs, once a child of it ended

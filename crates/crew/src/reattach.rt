@@ -77,10 +77,11 @@ impl Run {
         let above = node.parent;
         let _child = self.cactus.remove(slot);
         self.instructions += 1;
-        let (Some(parent), Some(number)) = (above, last) else {
+        let Some(parent) = above else {
             self.set_hand(worker, None);
             return;
         };
+        let Some(number) = last else { unreachable!() };
         let Some(activation) = self.cactus.frame_mut(parent) else {
             unreachable!()
         };
