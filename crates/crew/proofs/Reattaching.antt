@@ -603,9 +603,8 @@ module _ (prog : Program) (places : Places) (k : Run) (slot : ℕ) (node : Node 
         pub leaves : taken ≡ false → c.runner ≡ above.frame.runner → LeadsTo prog places k (changed prog places m next k frames k.peak (with_item k.hands w None)) w m
         leaves stops runner =
             let keeps = others_stay prog places m k shown slot node stands w hand within None up up_away (none_some _) in
-            let was = λ v. shown.agrees.runners up v above below.stands in
             ends None
-            (λ v. ((λ e. (keeps v).0 ((was v).0 (sym runner ∙ e))), λ e. runner ∙ (was v).1 ((keeps v).1 e)))
+            (λ v. ((λ e. (keeps v).0 ((shown.agrees.runners up v above below.stands).0 (sym runner ∙ e))), λ e. runner ∙ (shown.agrees.runners up v above below.stands).1 ((keeps v).1 e)))
             (λ x e. absurd (none_some x e))
             (sym (next_is ∙ ap (λ t. cond t (Some pa) None) stops))
 
