@@ -19,7 +19,7 @@ use Rattle.crew.specs.declared.run.Block.{Block}
 use Rattle.crew.specs.declared.run.Run.{Run}
 use Rattle.crew.specs.Scheduling.{hand_of, counted_in}
 use Rattle.crew.specs.Layouts.{alloca_at, alloca_cells, layout_of, living, object_at}
-use Rattle.crew.specs.Shown.{Agrees, BlocksStand, CalleeStands, IsBlockOf, IsShown, NodeFits, ShowsAt, ShowsMachine, place_of, hands_of}
+use Rattle.crew.specs.Shown.{Agrees, CalleeStands, IsBlockOf, IsShown, NodeFits, ShowsAt, ShowsMachine, place_of, hands_of}
 
 module _ (prog : Program) (places : Places) (m next : Machine) (k : Run) (frames : Frames Activation) (peak : ℕ) (hands : Vec (Option ℕ) Global) where
   abbrev pub changed : Run

@@ -1,13 +1,13 @@
 -- A detach of the frame in a slot: the worker goes on with the child, and nobody runs the parent.
-use Rattle.std.proofs.Common.{Vec, Global, ◌≡◌, ◌≢◌, ℕ, zero, suc, ◌+◌, ◌<◌, ◌≤◌, List, [], ◌∷◌, ◌++◌, length, max, reverse, Option, Some, None, Bool, true, false, cond, eqb, ◌⊎◌, inl, inr, refl, sym, ap, ◌∙◌, subst, arith, ℤ, ◌+ℤ◌}
-use Rattle.std.specs.Prelude.{◌↔◌, slice_get}
+use Rattle.std.proofs.Common.{◌≡◌, ◌≢◌, ℕ, zero, suc, ◌+◌, ◌<◌, ◌≤◌, List, [], ◌∷◌, ◌++◌, length, max, reverse, Option, Some, None, Bool, true, false, cond, eqb, inl, inr, refl, sym, ap, ◌∙◌, subst, arith, ℤ, ◌+ℤ◌}
+use Rattle.std.specs.Prelude.{slice_get}
 use Rattle.std.specs.Vec.{vec_len, with_item}
 use Rattle.std.proofs.lemmas.Bool.Decides.{eqb_tells}
 use Rattle.std.proofs.lemmas.List.{reverse-reverse}
 use Rattle.linear.specs.declared.form.RegisterId.{RegisterId}
-use Rattle.running.specs.Paths.{Path, same_path}
+use Rattle.running.specs.Paths.{Path}
 use Rattle.running.specs.Frames.{Frame as Shown, Ends, item_at, region_of}
-use Rattle.running.specs.Effect.{Action, Detach, action_of, item_action}
+use Rattle.running.specs.Effect.{Detach, action_of, item_action}
 use Rattle.running.specs.State.{State, Change, continued, detached, detach_change, may_go, override, children_within, outside}
 use Rattle.running.specs.Counts.{count_of, counts_after}
 use Rattle.running.specs.Events as running
@@ -17,11 +17,9 @@ use Rattle.running.proofs.Places.{same_path_tells, same_path_apart, no_own_child
 use Rattle.running.proofs.Actions.{same_path_itself}
 use Rattle.running.proofs.Diamond.{next_free}
 use Rattle.running.proofs.ChildCounts.{count_at, step_counts}
-use Rattle.program.specs.declared.function.Function.{Function}
 use Rattle.program.specs.declared.identifier.BlockId.{BlockId}
 use Rattle.program.specs.declared.function.Program.{Program}
 use Rattle.program.specs.declared.instruction.Terminator.TheVariants as terminator
-use Rattle.frame.specs.declared.path.Path.{Path as Name}
 use Rattle.frame.specs.declared.frame.Role.TheVariants as role
 use Rattle.frame.specs.declared.frame.Wait.{Wait}
 use Rattle.frame.specs.declared.frame.Wait.TheVariants as wait
@@ -38,11 +36,10 @@ use Rattle.engine.specs.Activation.{FrameFits, ShowsFrame, allocas_of}
 use Rattle.engine.specs.Shows.{Layout, ShowsRegisters, TrapFree}
 use Rattle.engine.proofs.Texts.{Located, ends_fit, frame_stands, located, starts_block}
 use Rattle.crew.specs.declared.activation.Activation.{Activation}
-use Rattle.crew.specs.declared.run.Block.{Block}
 use Rattle.crew.specs.declared.run.Run.{Run}
 use Rattle.crew.specs.Scheduling.{hand_of, counted_in}
 use Rattle.crew.specs.Layouts.{alloca_at, alloca_cells, layout_of, number_in, object_at, own_at}
-use Rattle.crew.specs.Shown.{CalleeStands, HasTaker, IsBlockOf, IsShown, NodeFits, ShowsAt, cells_in, item_here, place_of}
+use Rattle.crew.specs.Shown.{CalleeStands, HasTaker, IsShown, ShowsAt, cells_in, item_here, place_of}
 use Rattle.crew.specs.Forking.{IsChildFrame}
 use Rattle.crew.specs.Going.{CanStep, RunsSafely, TextFits}
 use Rattle.crew.proofs.Onward.{free_callee, seen, standing}
@@ -50,8 +47,8 @@ use Rattle.crew.proofs.Standing.{can_step, may_go_on}
 use Rattle.crew.proofs.Syncing.{own}
 use Rattle.crew.proofs.Topmost.{reverse_last}
 use Rattle.crew.proofs.Views.{frame_found, named_at_place}
-use Rattle.crew.proofs.Changed.{Changes, Holds, Kept, Told, alike, anew, changed, changed_shown, kept_holds}
-use Rattle.crew.proofs.Handing.{hand_set, hands_after, held_then, let_go, others_stay, seen_then, taken_up}
+use Rattle.crew.proofs.Changed.{Changes, Holds, Told, alike, anew, changed, changed_shown, kept_holds}
+use Rattle.crew.proofs.Handing.{hands_after, held_then, let_go, others_stay, seen_then, taken_up}
 
 -- ---- what the parent and the text give
 

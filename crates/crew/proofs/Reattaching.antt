@@ -1,5 +1,5 @@
 -- A reattach of the frame in a slot: the child ends, and its worker goes on with the parent or is idle.
-use Rattle.std.proofs.Common.{Vec, Global, ◌≡◌, ◌≢◌, ℕ, zero, suc, ◌+◌, ◌-◌, ◌<◌, ◌≤◌, List, [], ◌∷◌, ◌++◌, length, max, reverse, Option, Some, None, Bool, true, false, cond, ◌&&◌, eqb, eq-eqb, not, is_none, ◌⊎◌, inl, inr, refl, sym, ap, ◌∙◌, subst, arith, ℤ, ◌+ℤ◌}
+use Rattle.std.proofs.Common.{◌≡◌, ◌≢◌, ℕ, zero, suc, ◌+◌, ◌-◌, ◌<◌, List, [], ◌∷◌, ◌++◌, length, max, reverse, Option, Some, None, Bool, true, false, cond, ◌&&◌, eqb, eq-eqb, not, is_none, inl, inr, refl, sym, ap, ◌∙◌, subst, arith, ℤ, ◌+ℤ◌}
 use Rattle.std.specs.Prelude.{◌↔◌, IsSome, pos, slice_get}
 use Rattle.std.specs.Option.{option_map_or}
 use Rattle.std.specs.Vec.{vec_len, with_item}
@@ -10,8 +10,8 @@ use Rattle.linear.specs.declared.form.RegisterId.{RegisterId}
 use Rattle.running.specs.Arithmetic.{Unmatched}
 use Rattle.running.specs.Paths.{Path}
 use Rattle.running.specs.Frames.{Frame as Shown, Role, cells_of, Body, Child, Ends, item_at}
-use Rattle.running.specs.Effect.{Action, Reattach, action_of, item_action, reattaches}
-use Rattle.running.specs.State.{State, Change, act, apply, override, may_go, childless, children_within, none_within, outside, outside_role, change_of, change_of_frame, reattach_change}
+use Rattle.running.specs.Effect.{Reattach, action_of, item_action, reattaches}
+use Rattle.running.specs.State.{State, Change, act, apply, override, may_go, childless, children_within, none_within, outside, outside_role, change_of_frame, reattach_change}
 use Rattle.running.specs.Counts.{changed_at, count_of, counts_after, left_by, lowered}
 use Rattle.running.specs.Events as running
 use Rattle.running.specs.Events.{Machine, Step, event}
@@ -53,7 +53,7 @@ use Rattle.crew.proofs.Standing.{can_step, may_go_on}
 use Rattle.crew.proofs.Syncing.{LeadsTo, chosen}
 use Rattle.crew.proofs.Topmost.{holder_is, reverse_last}
 use Rattle.crew.proofs.Views.{frame_found, named_at_place}
-use Rattle.crew.proofs.Changed.{Changes, Holds, Kept, Told, alike, anew, changed, changed_shown, kept_holds}
+use Rattle.crew.proofs.Changed.{Holds, Told, alike, anew, changed, changed_shown, kept_holds}
 use Rattle.crew.proofs.Handing.{hands_after, held_then, others_stay, seen_at, seen_then, taken_up}
 
 -- ---- which action
