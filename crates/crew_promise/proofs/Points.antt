@@ -5,7 +5,7 @@ use Rattle.linear.specs.declared.form.RegisterId.{RegisterId}
 use Rattle.running.specs.Paths.{Path, Under, itself, deeper}
 use Rattle.running.specs.Cells.{Object, Shared, Local, Cell, Memory}
 use Rattle.running.specs.Arithmetic.{Answer, Gives, Traps, binary, compares, converts}
-use Rattle.running.specs.Frames.{Value, Word, Truth, Pointer, Region, Registers, Frame, Item, Does, and_then, phis_at, cell_of, cells_of, set_register, word_at, object_at, first_cell, cell_at}
+use Rattle.running.specs.Frames.{Value, Word, Truth, Pointer, Region, Registers, Frame, and_then, phis_at, cell_of, cells_of, set_register, word_at, object_at, first_cell, cell_at}
 use Rattle.running.specs.Effect.{Effect, Action, Plain, Detach, Reattach, Sync, Call, Return, sets, answers, given, points, loads, stores, stores_zeros, adds_to, phi_value, with_phis, registers_along, argument_value, argument_values, calls, instruction_action, item_action, action_of}
 use Rattle.running.specs.State.{with_result}
 use Rattle.running.specs.Events.{Event, start}
@@ -19,7 +19,6 @@ use Rattle.program.specs.declared.instruction.Instruction.{Instruction}
 use Rattle.program.specs.declared.instruction.Instruction.TheVariants as instruction
 use Rattle.program.specs.declared.instruction.Phi.{Phi}
 use Rattle.conditions.specs.rules.InProofs.{Moves, is_next, is_along}
-use Rattle.conditions.specs.rules.Moves.{Calls}
 use Rattle.conditions.proofs.rules.Moves.{moves, syncs_along, calls_here}
 use Rattle.serial_promise.specs.schedule_theorem.safe.Kept.{OfAll, NeverTraps}
 use Rattle.serial_promise.specs.schedule_theorem.zones.ByPhases.{IsKeptBySteps}

@@ -1,5 +1,5 @@
 -- A run that shows a state to which a schedule leads.
-use Rattle.std.proofs.Common.{◌≡◌, ◌∙◌, ℕ, ◌≤◌, List, [], ◌∷◌, ◌++◌, length, reverse, Option, Some, None, Bool, true, false, is_none, is_some, refl, sym, ap, subst, ℤ}
+use Rattle.std.proofs.Common.{◌≡◌, ◌∙◌, ℕ, ◌≤◌, List, [], ◌∷◌, ◌++◌, length, Option, Some, None, Bool, true, false, is_none, is_some, refl, sym, ap, subst, ℤ}
 use Rattle.std.specs.Prelude.{IsSome}
 use Rattle.running.specs.Paths.{Path}
 use Rattle.running.specs.Cells.{Shared, Memory}
@@ -90,7 +90,7 @@ runs_hold_globals program accepted places arguments memory events k at g i low =
 -- ---- the schedule theorem
 
 none_shown : (l : Layout) (places : Places) (p : Path) (o : Option Frame) (node : Option (Node Activation)) → node ≡ None → ShowsAt l places p o node → o ≡ None
-none_shown l places p None node e shown = refl
+none_shown l places p None found e shown = refl
 none_shown l places p (Some g) None e shown = absurd shown
 none_shown l places p (Some g) (Some node) e shown = absurd (cc)
 
