@@ -38,7 +38,11 @@ fn answer_long<W: Write + Drop>(
         schedule: None,
     };
     let found = told(alloc, state, asked)?;
-    report.compare(asked.line, "refused 104 line 209716\nstatus 1", found.as_str())?;
+    report.compare(
+        asked.line,
+        "refused 104 line 209716\nstatus 1",
+        found.as_str(),
+    )?;
     let schedule = read_long(alloc, "steal 0 root\n")?;
     report.count("a schedule", 1_048_580, schedule.len() as u64)?;
     let asked = Asked {
@@ -47,7 +51,11 @@ fn answer_long<W: Write + Drop>(
         schedule: Some(schedule.as_slice()),
     };
     let found = told(alloc, state, asked)?;
-    report.compare(asked.line, "schedule 902 line 80660\nstatus 5", found.as_str())?;
+    report.compare(
+        asked.line,
+        "schedule 902 line 80660\nstatus 5",
+        found.as_str(),
+    )?;
     let endless = read_long(alloc, "0")?;
     report.count("a line without an end", 2_097_153, endless.len() as u64)
 }

@@ -203,7 +203,10 @@ impl Case {
         status: u8,
     ) -> io::Result<u64> {
         let mut count: u64 = 0;
-        let module = self.module.as_ref().map_or(&[] as &[u8], |bytes| bytes.as_slice());
+        let module = self
+            .module
+            .as_ref()
+            .map_or(&[] as &[u8], |bytes| bytes.as_slice());
         for end in 0..module.len().saturating_sub(1) {
             let asked = self.asked(line, module.get(..end));
             let answer = answered(alloc, state, asked, self.input.as_bytes())?;
