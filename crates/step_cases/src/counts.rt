@@ -20,7 +20,10 @@ fn answer_stalled<W: Write + Drop>(report: &mut Report<W>) -> io::Result<()> {
     let first = count.closed(3, 0, Parent::Stalled { region: 3 });
     report.holds("the first leaves", first == Outcome::Leave)?;
     let last = count.closed(3, 1, Parent::Stalled { region: 3 });
-    report.holds("the last takes up the stalled parent", last == Outcome::ResumeStalled)?;
+    report.holds(
+        "the last takes up the stalled parent",
+        last == Outcome::ResumeStalled,
+    )?;
     let passes = count.at_sync() == Passage::Pass;
     report.holds("then the sync passes", passes)
 }
@@ -30,7 +33,10 @@ fn answer_ready<W: Write + Drop>(report: &mut Report<W>) -> io::Result<()> {
     let older = count.closed(3, 0, Parent::Ready { newest: 1 });
     report.holds("the older child leaves", older == Outcome::Leave)?;
     let newest = count.closed(3, 1, Parent::Ready { newest: 1 });
-    report.holds("the newest goes on with the ready parent", newest == Outcome::ResumeReady)
+    report.holds(
+        "the newest goes on with the ready parent",
+        newest == Outcome::ResumeReady,
+    )
 }
 
 pub fn answer<W: Write + Drop>(report: &mut Report<W>) -> io::Result<()> {

@@ -37,11 +37,7 @@ fn is_same_task(one: &Option<TaskView<'_>>, other: &Option<TaskView<'_>>) -> boo
 }
 
 /// Whether the debugger shows the machine.
-fn shows(
-    alloc: Global,
-    debugger: &Debugger<'_>,
-    machine: &Machine<'_>,
-) -> anyhow::Result<bool> {
+fn shows(alloc: Global, debugger: &Debugger<'_>, machine: &Machine<'_>) -> anyhow::Result<bool> {
     let root = Path::root(alloc);
     let mut is_same = is_same_task(&debugger.show_task(&root), &machine.task(&root));
     for number in 0..8u64 {

@@ -44,6 +44,13 @@ pub fn replayed<'v>(
 ) -> anyhow::Result<Machine<'v>> {
     let memory = Memory::zeroed(alloc, verified)?;
     let arguments = [argument];
-    let machine = replay(alloc, verified, arguments.as_slice(), memory, workers, events);
+    let machine = replay(
+        alloc,
+        verified,
+        arguments.as_slice(),
+        memory,
+        workers,
+        events,
+    );
     machine.ok().context("a run that stops")
 }

@@ -16,7 +16,9 @@ fn scheduled<'v>(
     argument: i64,
     schedule: &str,
 ) -> anyhow::Result<Machine<'v>> {
-    let events = read_schedule(alloc, schedule.as_bytes()).ok().context("no schedule")?;
+    let events = read_schedule(alloc, schedule.as_bytes())
+        .ok()
+        .context("no schedule")?;
     replayed(alloc, verified, argument, 2, events.as_slice())
 }
 
@@ -38,7 +40,10 @@ fn answer_stolen_root<W: Write + Drop>(
     let child = root.child(alloc, 0)?;
     let stalled = Status::Stalled(RegisterId(1));
     report.holds("it is stalled", stands(&machine, &root, stalled, 20))?;
-    report.holds("its child runs", stands(&machine, &child, Status::Running(0), 12))?;
+    report.holds(
+        "its child runs",
+        stands(&machine, &child, Status::Running(0), 12),
+    )?;
     report.holds("the thief is idle", machine.task_of(1).is_none())?;
     Ok(())
 }

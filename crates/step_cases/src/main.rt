@@ -24,7 +24,9 @@ fn verified_file(
     file: &str,
 ) -> anyhow::Result<Verified> {
     let text = fs::read(rt, file)?;
-    verify(rt.alloc(), state, text.as_slice()).ok().context("a module that is refused")
+    verify(rt.alloc(), state, text.as_slice())
+        .ok()
+        .context("a module that is refused")
 }
 
 fn main(rt: HostRuntime) -> anyhow::Result<ExitCode> {

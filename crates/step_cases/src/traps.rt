@@ -31,8 +31,14 @@ fn answer_divisors<W: Write + Drop>(report: &mut Report<W>) -> io::Result<()> {
         report.holds(name, is_met)?;
     }
     for (name, operator) in [
-        ("sdiv of the least number by -1", BinaryOperator::SignedDivide),
-        ("srem of the least number by -1", BinaryOperator::SignedRemainder),
+        (
+            "sdiv of the least number by -1",
+            BinaryOperator::SignedDivide,
+        ),
+        (
+            "srem of the least number by -1",
+            BinaryOperator::SignedRemainder,
+        ),
     ] {
         let (wide, narrow) = ((i64::MIN, -1), (-2_147_483_648, -1));
         let is_met = traps_in_both(operator, wide, narrow, Trap::BadDivisor);
@@ -57,10 +63,34 @@ fn answer_shifts<W: Write + Drop>(report: &mut Report<W>) -> io::Result<()> {
 fn answer_overflows<W: Write + Drop>(report: &mut Report<W>) -> io::Result<()> {
     report.title("results past the width under nsw")?;
     for (name, operator, width, left, right) in [
-        ("add nsw i64", BinaryOperator::AddNoWrap, Width::Bits64, i64::MAX, 1),
-        ("sub nsw i64", BinaryOperator::SubtractNoWrap, Width::Bits64, i64::MIN, 1),
-        ("mul nsw i64", BinaryOperator::MultiplyNoWrap, Width::Bits64, i64::MAX, 2),
-        ("add nsw i32", BinaryOperator::AddNoWrap, Width::Bits32, 2_147_483_647, 1),
+        (
+            "add nsw i64",
+            BinaryOperator::AddNoWrap,
+            Width::Bits64,
+            i64::MAX,
+            1,
+        ),
+        (
+            "sub nsw i64",
+            BinaryOperator::SubtractNoWrap,
+            Width::Bits64,
+            i64::MIN,
+            1,
+        ),
+        (
+            "mul nsw i64",
+            BinaryOperator::MultiplyNoWrap,
+            Width::Bits64,
+            i64::MAX,
+            2,
+        ),
+        (
+            "add nsw i32",
+            BinaryOperator::AddNoWrap,
+            Width::Bits32,
+            2_147_483_647,
+            1,
+        ),
     ] {
         let is_met = binary(operator, width, left, right) == Err(Trap::Undefined);
         report.holds(name, is_met)?;
