@@ -2,17 +2,18 @@ ghost use Rattle.std.specs.Prelude.{◌≡◌, IfOk};
 ghost use Rattle.explain.specs.Verdict.{IsVerdictOn};
 
 use crate::accepted::remarks;
-use crate::access::zone_findings;
 use crate::alloca::alloca_notes;
-use crate::cost::cost_findings;
-use crate::number_notes::number_findings;
-use crate::report::{Explanation, Finding, Source, push_finding};
-use crate::trial::match_text;
-use crate::word::word_findings;
+use crate::report::Explanation;
+use cost_notes::cost_findings;
+use findings::{Finding, Source, push_finding};
 use lists::{OutOfMemory, Seq};
+use number_notes::number_findings;
+use scenes::match_text;
 use std::alloc::Global;
 use std::hash::RandomState;
 use verifier::{Refused, verify};
+use word_notes::word_findings;
+use zone_notes::zone_findings;
 
 /// The faults of the phase of numbers, zones or costs.
 fn program_findings(

@@ -1,8 +1,8 @@
 //! The rules in words, and how an explanation is printed.
 
-use crate::lines::line_at;
-use crate::report::{Explanation, Finding};
+use crate::report::Explanation;
 use crate::rule_texts::RULES;
+use findings::{Finding, line_at};
 use lists::OutOfMemory;
 use std::alloc::Global;
 

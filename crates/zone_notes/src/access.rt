@@ -1,11 +1,8 @@
 //! Faults of zones, each with the zone and what stands beside it.
 
-use crate::known::{Known, fact_lines};
-use crate::report::{Finding, Source, push_finding};
-use crate::scene::Scene;
-use crate::trial::Matched;
 use crate::zone_text::{as_written, push_why_beside, push_why_not, push_zone};
-use cfg::{Move, Way};
+use fact_notes::{Known, Matched, Scene, fact_lines};
+use findings::{Finding, Source, push_finding};
 use footprints::{
     Cell, Place, PlacedZone, address_cell, cells_zone, conflict, covers, end_use, is_allowed,
     is_clear, is_empty, passes_on, step_use,
@@ -16,8 +13,7 @@ use program::{
     Address, Argument, Block, Ending, Function, Instruction, Mode, ObjectName, Operand, Pending,
     Step, Terminator, Zone,
 };
-use ranges::{EdgeFacts, argument_moves, block_facts};
-use region_match::Task;
+use ranges::{EdgeFacts, Move, Task, Way, argument_moves, block_facts};
 use std::alloc::Global;
 
 /// A place of a block, with what is known there and what it may touch.

@@ -1,7 +1,6 @@
 //! What a program owes of its numbers and what is known there does not show.
 
-use crate::gap::first_facts;
-use crate::trial::Matched;
+use fact_notes::{Matched, first_facts};
 use linear::Fact;
 use lists::{OutOfMemory, Seq};
 use program::{Block, Ending, Function, Inequality, Program, Step};

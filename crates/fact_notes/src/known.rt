@@ -1,12 +1,11 @@
 //! Notes on what is known at a place, and on what it does not show.
 
 use crate::gap::{facts_used, first_facts, raised, shortfall, step_between};
-use crate::scene::Scene;
-use crate::spelling::push_inequality;
 use linear::{Fact, Form};
 use lists::OutOfMemory;
 use program::{Block, Function, Inequality, RegisterId};
 use ranges::{BlockFacts, Sum, sum_form};
+use scenes::{Scene, push_inequality};
 use std::alloc::Global;
 
 /// The facts at a place with their lines: `line` is that of the facts after those of `lines`. The first `stated` of them are known to a

@@ -1,8 +1,7 @@
 //! Faults of the text: the word that was found, and what could stand there. What could is tried, by reading the line with it.
 
 use crate::left_out::push_left_out;
-use crate::lines::lines_before;
-use crate::report::{Finding, Source, push_finding};
+use findings::{Finding, Source, lines_before, push_finding};
 use ir_item::read_line;
 use ir_lex::{Kind, Token, lex};
 use ir_text::read;

@@ -1,15 +1,12 @@
 //! How zones are spelled where they are judged, and why one covers another not.
 
-use crate::known::Known;
-use crate::lines::line_at;
-use crate::scene::Scene;
-use crate::spelling::push_form;
-use cfg::Move;
+use fact_notes::{Known, Scene, push_form};
+use findings::line_at;
 use footprints::{PlacedZone, mode_covers, same_object};
 use linear::{Form, side_of};
 use lists::{OutOfMemory, Seq};
 use program::{Mode, Zone};
-use ranges::{Sum, push_parts, shows, sum_form};
+use ranges::{Move, Sum, push_parts, shows, sum_form};
 use std::alloc::Global;
 
 pub fn mode_word(mode: Mode) -> &'static str {

@@ -1,13 +1,10 @@
 //! Faults of numbers, each with what was to be shown.
 
-use crate::gap::{first_facts, is_against};
-use crate::known::{Known, fact_lines};
-use crate::lines::{line_at, with_line_before};
-use crate::number::{Unmet, all_unmet};
-use crate::report::{Finding, Source, push_finding};
-use crate::scene::Scene;
-use crate::spelling::push_inequality;
-use crate::trial::{Matched, match_text};
+use crate::unmet::{Unmet, all_unmet};
+use fact_notes::{
+    Known, Matched, Scene, fact_lines, first_facts, is_against, match_text, push_inequality,
+};
+use findings::{Finding, Source, line_at, push_finding, with_line_before};
 use linear::{Fact, Form};
 use lists::OutOfMemory;
 use program::{Block, BlockId};

@@ -1,12 +1,8 @@
 //! Faults of costs, each with both sides and the difference.
 
-use crate::known::{Known, fact_lines, start_lines};
-use crate::report::{Finding, push_finding};
-use crate::scene::Scene;
-use crate::spelling::push_form;
-use crate::trial::Matched;
-use cfg::Move;
 use cost_table::{Table, Work, make_table, work_of};
+use fact_notes::{Known, Matched, Scene, fact_lines, push_form, start_lines};
+use findings::{Finding, push_finding};
 use linear::{Fact, Form, side_of};
 use lists::{OutOfMemory, Seq};
 use program::{
@@ -14,7 +10,8 @@ use program::{
     Terminator,
 };
 use ranges::{
-    BlockFacts, EdgeFacts, Sum, argument_moves, block_facts, push_parts, shows, start_facts, stated,
+    BlockFacts, EdgeFacts, Move, Sum, argument_moves, block_facts, push_parts, shows, start_facts,
+    stated,
 };
 use std::alloc::Global;
 
