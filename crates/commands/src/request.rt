@@ -4,7 +4,7 @@ ghost use Rattle.commands.specs.Asked.{word_of};
 use std::alloc::{AllocError, AllocFailed};
 
 /// What the program is asked to do.
-#[derive(Clone, Copy, Debug, PartialEq, Eq)]
+#[derive(Clone, Copy, PartialEq, Eq)]
 pub enum Verb {
     /// Verify the module, and tell its budget and depth.
     Verify,
@@ -46,7 +46,7 @@ impl Verb {
 }
 
 /// A cell of a global, as `@a:5` names it.
-#[derive(Debug, Drop)]
+#[derive(Drop)]
 pub struct CellWord {
     /// The global's name without `@`.
     pub name: String,
@@ -54,14 +54,14 @@ pub struct CellWord {
 }
 
 /// `@a:5=9`: a cell's number before the run.
-#[derive(Debug, Drop)]
+#[derive(Drop)]
 pub struct Setting {
     pub cell: CellWord,
     pub value: i64,
 }
 
 /// The words of a command line, read.
-#[derive(Debug, Drop)]
+#[derive(Drop)]
 pub struct Request {
     pub verb: Verb,
     /// The file of the module.
@@ -85,7 +85,7 @@ pub struct Request {
 }
 
 /// What is told of a run beside its answer.
-#[derive(Debug, Drop)]
+#[derive(Drop)]
 pub struct Telling {
     /// A line for each event of a replay.
     pub trace: bool,
@@ -106,7 +106,7 @@ impl Telling {
 }
 
 /// Why words are no request: a text for the user, or that memory was refused.
-#[derive(Debug, Drop)]
+#[derive(Drop)]
 pub struct WordsFault {
     /// Empty where memory was refused.
     pub text: Option<String>,
