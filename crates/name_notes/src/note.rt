@@ -37,7 +37,8 @@ fn push_row(out: &mut String, row: &Row<'_>, label: &str) -> Result<(), AllocErr
 
 /// Where the name is defined beside the line itself; or that it is not.
 fn push_definitions(out: &mut String, site: Site<'_, '_>, name: &str) -> Result<(), AllocError> {
-    let rows = if name.starts_with('@') {
+    let is_of_module = name.starts_with('@');
+    let rows = if is_of_module {
         site.rows
     } else {
         site.function
@@ -47,8 +48,13 @@ fn push_definitions(out: &mut String, site: Site<'_, '_>, name: &str) -> Result<
         if row.defines(name) {
             is_defined = true;
             if row.number != site.line {
+                let label = if is_of_module {
+                    ""
+                } else {
+                    label_at(site.function, row.number)
+                };
                 write!(out, "    {name}: ")?;
-                push_row(out, row, label_at(site.function, row.number))?;
+                push_row(out, row, label)?;
             }
         }
     }
