@@ -7,6 +7,7 @@ use crate::report::Explanation;
 use cost_notes::cost_findings;
 use findings::{Finding, Source, push_finding};
 use lists::{OutOfMemory, Seq};
+use name_notes::name_notes;
 use number_notes::number_findings;
 use scenes::match_text;
 use std::alloc::Global;
@@ -46,11 +47,13 @@ fn findings_of(
     if number >= 500 {
         return program_findings(alloc, source, number);
     }
+    let notes = if number == 402 {
+        alloca_notes(alloc, source, line)?
+    } else {
+        name_notes(alloc, source, number, line)?
+    };
     let mut findings: Vec<Finding> = Vec::new(alloc);
-    if number == 402 {
-        let notes = alloca_notes(alloc, source, line)?;
-        push_finding(&mut findings, number, line, notes)?;
-    }
+    push_finding(&mut findings, number, line, notes)?;
     Ok(findings)
 }
 

@@ -7,6 +7,9 @@ const LEFT_OUT: &str = "\
 align | leave it out; cells are aligned
 nuw | leave it out; `nsw` alone is judged
 exact | leave it out
+nneg | leave it out
+disjoint | leave it out
+samesign | leave it out
 select | a `br` and a phi
 undef | a number
 poison | a number
@@ -16,6 +19,9 @@ false | an `icmp`, as `icmp ne i64 0, 0`
 float | numbers are i64 and i32
 double | numbers are i64 and i32
 half | numbers are i64 and i32
+bfloat | numbers are i64 and i32
+fp128 | numbers are i64 and i32
+x86_fp80 | numbers are i64 and i32
 i8 | numbers are i64 and i32
 i16 | numbers are i64 and i32
 i128 | numbers are i64 and i32
@@ -32,6 +38,11 @@ fneg | numbers are whole
 fcmp | numbers are whole
 fptosi | numbers are whole
 sitofp | numbers are whole
+fptoui | numbers are whole
+uitofp | numbers are whole
+fpext | numbers are whole
+fptrunc | numbers are whole
+fast | numbers are whole
 xchg | of `atomicrmw` only `add`
 nand | of `atomicrmw` only `add`
 max | of `atomicrmw` only `add`
@@ -60,6 +71,7 @@ callbr | `call`
 indirectbr | `switch`
 resume | there are no exceptions
 landingpad | there are no exceptions
+va_arg | write each argument as a parameter
 extractvalue | cells of an array
 insertvalue | cells of an array
 extractelement | cells of an array
@@ -76,13 +88,38 @@ external | leave it out
 unnamed_addr | leave it out
 local_unnamed_addr | leave it out
 dso_local | leave it out
+common | leave it out
+weak | leave it out
+linkonce_odr | leave it out
+hidden | leave it out
+comdat | leave it out
+section | leave it out
+fastcc | leave it out
 nounwind | leave it out
 readonly | say it by `;! reads`
 nocapture | leave it out
 noundef | leave it out
+nonnull | leave it out
+returned | leave it out
+writeonly | say it by `;! writes`
+writable | leave it out
+captures | leave it out
+nofree | leave it out
+nosync | leave it out
+norecurse | leave it out
+mustprogress | leave it out
+willreturn | leave it out
+memory | say it by `;! reads` and `;! writes`
+uwtable | leave it out
 signext | leave it out
 zeroext | leave it out
 metadata | leave it out
+!tbaa | leave it out
+!dbg | leave it out
+!llvm.loop | leave it out
+#0 | leave it out
+#1 | leave it out
+#2 | leave it out
 syncscope | leave it out
 tapir | `detach`, `reattach` and `sync` are its words
 ";
