@@ -11,9 +11,12 @@
 mod activation;
 mod clear;
 mod hands;
+mod lowest;
 mod plain;
 mod run;
+mod start;
 mod steal;
+mod step;
 mod sync;
 mod tops;
 
