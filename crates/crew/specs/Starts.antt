@@ -1,5 +1,5 @@
 -- How a run begins: with the cells of the globals in one row.
-use Rattle.std.specs.Prelude.{◌≡◌, ℕ, ◌+◌, ◌<◌, List, length, map, sum, take, Some, ℤ, slice_get}
+use Rattle.std.specs.Prelude.{◌≡◌, ℕ, ◌+◌, ◌<◌, ◌≤◌, List, length, map, sum, take, Some, ℤ, slice_get}
 use Rattle.running.specs.Cells.{Shared, Memory}
 use Rattle.running.specs.Events as running
 use Rattle.program.specs.declared.function.Function.{Function}
@@ -34,3 +34,7 @@ pub record ArePlaces (prog : Program) (places : Places) : Type 0 where
 abbrev pub Begins : Program → List ℤ → List ℤ → Run → Type 0
 Begins prog arguments row k =
     (places : Places) (memory : Memory) → ArePlaces prog places → IsRowOf prog memory row → IsShown prog places (running.start prog arguments memory) k
+
+-- as many moves as a function has registers are enough
+abbrev pub HasMoves : Program → ℕ → Type 0
+HasMoves program moves = (k : ℕ) (f : Function) → slice_get program.functions k ≡ Some f → length f.registers ≤ moves

@@ -12,6 +12,7 @@ mod activation;
 mod clear;
 mod hands;
 mod lowest;
+mod moves;
 mod plain;
 mod run;
 mod start;
@@ -21,4 +22,5 @@ mod sync;
 mod tops;
 
 pub use activation::Activation;
+pub use moves::most_moves;
 pub use run::{Block, Run};
