@@ -33,7 +33,7 @@ module _ (prog : Program) (workers : ℕ) (c : Machine) (none : (p : Path) → c
   nothing_enabled (Step w) = by_no_hand w (c.hands w)
   nothing_enabled (Steal w t) = unless (ltb w workers && is_none (c.hands w)) (if_ready (stolen c w t) (status_of workers c t)) (rw (none t) refl)
 
-no_root : (o : Option Frame) → is_none o ≡ true → o ≡ None
+pub no_root : (o : Option Frame) → is_none o ≡ true → o ≡ None
 no_root None e = refl
 no_root (Some f) e = absurd (cc)
 

@@ -1,12 +1,14 @@
 -- A machine stays one, and rests on what accepted programs promise.
-use Rattle.std.proofs.Common.{◌≡◌, ℕ, ◌+◌, ◌<◌, ◌≤◌, List, [], ◌∷◌, ◌++◌, length, Option, Some, None, Bool, true, false, inl, inr, refl, sym, ap, ◌∙◌, subst, arith}
-use Rattle.std.specs.Prelude.{Result, Ok, Err, IfOk, OnErr, OnOk}
+use Rattle.std.proofs.Common.{◌≡◌, ℕ, ◌+◌, ◌<◌, ◌≤◌, List, [], ◌∷◌, ◌++◌, length, reverse, Option, Some, None, Bool, true, false, inl, inr, refl, sym, ap, ◌∙◌, subst, arith}
+use Rattle.std.specs.Prelude.{IsTrue, Result, Ok, Err, IfOk, OnErr, OnOk}
 use Rattle.std.proofs.Math.Logic.{∥∥₁_elim, ∥∥₁_map}
 use Rattle.std.proofs.Props.{props}
 use Rattle.std.proofs.Math.Nat.{ℕ_set}
 use Rattle.std.proofs.Math.IntN.{ℤ_set}
 use mathlib.Core.Sum.{⊎_set}
 use Rattle.lists.specs.declared.memory.OutOfMemory.{OutOfMemory}
+use Rattle.running.specs.Paths.{Path}
+use Rattle.frame.specs.declared.path.Path.{Path as Name}
 use Rattle.running.specs.Events as running
 use Rattle.running.specs.Events.{Machine}
 use Rattle.running.specs.Replay.{has_ended}
@@ -18,7 +20,8 @@ use Rattle.crew.specs.declared.activation.Activation.{Activation}
 use Rattle.crew.specs.declared.run.Run.{Run}
 use Rattle.crew.specs.Events.{DoesEvent, Grows, LeavesStalls}
 use Rattle.crew.specs.Follows.{AreGiven, Follows}
-use Rattle.crew.specs.Going.{StandsSafely, TextFits}
+use Rattle.crew.specs.Going.{DoesSteal, StandsSafely, TextFits}
+use Rattle.crew.specs.Stalls.{KeepsStalls}
 use Rattle.crew.specs.Starts.{ArePlaces, HasMoves}
 use Rattle.engine.specs.declared.activation.Places.{Places}
 use Rattle.schedule_core.specs.declared.event.Event.{Event}
@@ -27,7 +30,7 @@ use Rattle.schedule_core.specs.declared.stage.Stage.{Stage}
 use Rattle.schedule_core.specs.Replaying.{Becomes, GrowsOnly, Happens, IsMachine, Replays, ReplaysOneMore, event_of, state_after}
 use Rattle.schedule_core.specs.Stages.{IsState, program_of, workers_of}
 use Rattle.schedule_core.proofs.Laws.{laws}
-use Rattle.schedule_core.proofs.Over.{ended_enables_nothing}
+use Rattle.schedule_core.proofs.Over.{ended_enables_nothing, no_frames, no_root}
 use Rattle.schedule_core.proofs.Replaying.{happens, replays_next, with_run}
 
 -- ---- what a step rests on
@@ -104,9 +107,44 @@ over_by : (old new : Stage) (m : Machine) (e : running.Event) (done : Bool) → 
 over_by old new m e true none h = absurd (let s : None ≡ Some h.0 = sym none ∙ h.1 in cc)
 over_by old new m e false none h = refl
 
--- an ended machine enables nothing; and no step that makes a frame is one's
-pub nothing_over : (old : Stage) (m : Machine) (e : running.Event) → IsState old m → has_ended m ≡ true → running.event (program_of old) (workers_of old) e m ≡ None
+-- an ended machine enables nothing
+nothing_over : (old : Stage) (m : Machine) (e : running.Event) → IsState old m → has_ended m ≡ true → running.event (program_of old) (workers_of old) e m ≡ None
 nothing_over old m e s over =
     let r = s.reached in
     subst (λ x. running.event (program_of old) (workers_of old) e x ≡ None) r.after
     (ended_enables_nothing (program_of old) r.arguments r.memory (workers_of old) s.manned r.events (ap has_ended r.after ∙ over) e)
+
+-- and makes no frame
+grows_over : (old : Stage) (m : Machine) (e : Event) → IsState old m → has_ended m ≡ true → GrowsOnly (program_of old) m e → ⊥
+grows_over old m (Steal w path) s over grows = grows
+grows_over old m (Step w) s over grows =
+    let none = no_frames m.core (s.well.safe []).tree (no_root (m.core.frames []) over) grows.path in
+    let e : None ≡ Some grows.frame = sym none ∙ grows.stands in
+    cc
+
+pub over_after : (old new : Stage) (m : Machine) (e : Event) (r : Result Bool OutOfMemory) → IfOk r (Happens old new (event_of e)) → OnErr r ((x : Machine) → IsState old x → GrowsOnly (program_of old) x e) →
+    IsState old m → has_ended m ≡ true → r ≡ Ok false
+over_after old new m e (Err x) does only s over = absurd (grows_over old m e s over (only m s))
+over_after old new m e (Ok done) does only s over = ap Ok (over_by old new m (event_of e) done (nothing_over old m (event_of e) s over) (does m s))
+
+-- ---- steals
+
+steal_leaves : (prog : Program) (places : Places) (old k : Run) (w : ℕ) (t : Path) (done : Bool) → KeepsStalls old.cactus k.cactus → LeavesStalls prog places old k (running.Steal w t) done
+steal_leaves prog places old k w t true keeps = λ m shown safe last agree. keeps last agree
+steal_leaves prog places old k w t false keeps = λ m shown safe last agree. keeps last agree
+
+module _ (old : Stage) (k : Run) (w : ℕ) (path : Name) (done : Bool) (steals : (prog : Program) (places : Places) → DoesSteal prog places old.run k w (reverse path.numbers) done) (left : ¬ IsTrue done → k ≡ old.run)
+    (stalls : KeepsStalls old.run.cactus k.cactus) (many : length k.hands.items ≡ length old.run.hands.items) where
+  steal_does : DoesEvent (program_of old) old.places old.run k (running.Steal w (reverse path.numbers)) done
+  steal_does = λ m shown safe. steals (program_of old) old.places m shown
+
+  pub steal_happens : Happens old (with_run old k) (running.Steal w (reverse path.numbers)) done
+  steal_happens = happens old k many (running.Steal w (reverse path.numbers)) done steal_does
+
+  pub unless_done : Ok done ≡ Ok false → k ≡ old.run
+  unless_done off = left (λ yes. (let no : done ≡ false = (let e : ◌≡◌ {A = Result Bool OutOfMemory} (Ok done) (Ok false) = off in cc) in cc))
+
+  pub steal_replays : ReplaysOneMore old (with_run old k) (Steal w path)
+  steal_replays =
+      replays_next old k many (Steal w path) done steal_happens (λ off. ap (with_run old) (left (λ yes. cc)))
+      (steal_leaves (program_of old) old.places old.run k w (reverse path.numbers) done stalls)
