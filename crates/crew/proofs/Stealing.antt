@@ -61,7 +61,7 @@ no_child_empty : (l : List ℕ) (k : ℕ) → l ++ k ∷ [] ≢ []
 no_child_empty [] k e = cc
 no_child_empty (x ∷ l) k e = cc
 
-ready_standing : (o : Option ℕ) (w : Wait) → standing o w ≡ Some running.Ready → (o ≡ None) × (w ≡ wait.Nothing)
+pub ready_standing : (o : Option ℕ) (w : Wait) → standing o w ≡ Some running.Ready → (o ≡ None) × (w ≡ wait.Nothing)
 ready_standing None wait.Nothing e = (refl, refl)
 ready_standing None (wait.Region region) e = absurd (let f : Some (running.Stalled region.0) ≡ Some running.Ready = e in cc)
 ready_standing None (wait.Call child register) e = absurd (cc)
