@@ -1,6 +1,6 @@
 ghost use Rattle.std.specs.Prelude.{◌≡◌, false, IfOk, OnErr, length};
 ghost use Rattle.running.specs.Events.{Step};
-ghost use Rattle.crew.specs.Events.{DoesEvent, Grows, LeavesStalls};
+ghost use Rattle.crew.specs.Events.{DoesEvent, LeavesStalls};
 ghost use Rattle.crew.specs.Follows.{Follows};
 ghost use Rattle.crew.specs.Going.{StandsSafely, TextFits};
 
@@ -27,7 +27,6 @@ impl Run {
         ensures stalls { IfOk result (LeavesStalls program.now places.now self.old self.new (Step worker)) }
         ensures left { result ≡ Ok false → self.new ≡ self.old }
         ensures refused { OnErr result (self.new ≡ self.old) }
-        ensures grows { OnErr result (Grows program.now places.now self.old worker) }
         ensures follows { Follows self.old.cactus self.new.cactus }
         ensures workers { length self.new.hands.items ≡ length self.old.hands.items }
         ensures moves { length self.new.moves.items ≡ length self.old.moves.items }

@@ -17,7 +17,7 @@ use Rattle.schedule_core.specs.declared.event.Event.{Event}
 use Rattle.schedule_core.specs.declared.stage.Stage.{Stage}
 use Rattle.schedule_core.specs.Replaying.{IsMachine, KeepsItsSchedule, Replays, first_state}
 use Rattle.schedule_core.specs.Stages.{IsMadeFor, IsState, given, program_of, workers_of}
-use Rattle.schedule_core.proofs.Laws.{FromStart, laws}
+use Rattle.schedule_core.proofs.Grounds.{FromStart, laws}
 
 -- ---- the row of the globals
 

@@ -29,7 +29,7 @@ use Rattle.schedule_core.specs.declared.event.Event.TheVariants.{Step, Steal}
 use Rattle.schedule_core.specs.declared.stage.Stage.{Stage}
 use Rattle.schedule_core.specs.Replaying.{Becomes, GrowsOnly, Happens, IsMachine, Replays, ReplaysOneMore, event_of, state_after}
 use Rattle.schedule_core.specs.Stages.{IsState, program_of, workers_of}
-use Rattle.schedule_core.proofs.Laws.{laws}
+use Rattle.schedule_core.proofs.Grounds.{laws}
 use Rattle.schedule_core.proofs.Over.{ended_enables_nothing, no_frames, no_root}
 use Rattle.schedule_core.proofs.Replaying.{happens, replays_next, with_run}
 

@@ -4,7 +4,7 @@ use Rattle.program.specs.declared.function.Function.{Function}
 use Rattle.program.specs.declared.function.Program.{Program}
 use Rattle.store.specs.Rows.{row_of, sizes_of}
 use Rattle.crew.specs.Starts.{ArePlaces, Begins, HasMoves}
-use Rattle.schedule_core.proofs.Laws.{laws}
+use Rattle.schedule_core.proofs.Grounds.{laws}
 use Rattle.schedule_core.proofs.Begun.{begun_machine, begun_replays, row_long}
 use Rattle.schedule_core.proofs.events.staged.Goals as goal
 
