@@ -1,6 +1,7 @@
 -- The stage before the first event.
 use Rattle.std.proofs.Common.{◌≡◌, ℕ, zero, suc, ◌+◌, ◌<◌, ◌≤◌, List, [], ◌∷◌, ◌++◌, length, map, take, Option, Some, None, refl, sym, ap, ◌∙◌, subst, arith, slice_get, ℤ}
 use Rattle.std.specs.Prelude.{IsSome, sum}
+use Rattle.std.specs.List.{fold}
 use Rattle.std.proofs.lemmas.List.{length-append}
 use Rattle.running.specs.Cells.{Shared, Memory}
 use Rattle.running.specs.Events.{Machine}
@@ -21,8 +22,12 @@ use Rattle.schedule_core.proofs.Grounds.{FromStart, laws}
 
 -- ---- the row of the globals
 
+summed : (at : ℕ) (cells : List ℕ) → fold ◌+◌ at cells ≡ at + fold ◌+◌ 0 cells
+summed at [] = omega arith
+summed at (c ∷ cells) = let first = summed (at + c) cells in let rest = summed (0 + c) cells in omega (arith, first, rest)
+
 sum_more : (n : ℕ) (l : List ℕ) → sum (n ∷ l) ≡ n + sum l
-sum_more n l = refl
+sum_more n l = let s = summed (0 + n) l in omega (arith, s)
 
 get_front : (xs ys : List ℤ) (i : ℕ) (z : ℤ) → slice_get xs i ≡ Some z → slice_get (xs ++ ys) i ≡ Some z
 get_front [] ys i z e = absurd (cc)

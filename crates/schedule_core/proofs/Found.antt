@@ -9,6 +9,7 @@ use Rattle.cactus.specs.ByPath.{IsTree}
 use Rattle.crew.specs.declared.activation.Activation.{Activation}
 use Rattle.crew.specs.Lowest.{IsLowestBelow}
 use Rattle.crew.specs.Scheduling.{hand_of}
+use Rattle.crew.specs.Shown.{place_of}
 use Rattle.crew.specs.Tasks.{FindsTop, nobody, no_task, task, top_within, IsLowest}
 use Rattle.crew.proofs.Stealing.{top_place}
 use Rattle.crew.proofs.Topmost.{TopIs, ended_at}
@@ -41,7 +42,7 @@ module _ (stage : Stage) (m : Machine) (state : IsState stage m) where
       ends : (slot : ℕ) (node : Node Activation) → node_at stage.run.cactus slot ≡ Some node → Some high ≡ top_within stage.run.cactus stage.run.peak slot → Lives stage.run.cactus high
       ends slot node stands at = by t.node.frame.callee (at ∙ t.last)
         where
-          t : TopIs (program_of stage) stage.places m stage.run state.shown m.core.peak _ (top_within stage.run.cactus stage.run.peak slot)
+          t : TopIs (program_of stage) stage.places m stage.run state.shown m.core.peak (place_of node) (top_within stage.run.cactus stage.run.peak slot)
           t = top_place (program_of stage) stage.places m stage.run state.shown slot node stands
 
           by : (c : Option ℕ) → Some high ≡ ended_at t.slot c → Lives stage.run.cactus high

@@ -141,7 +141,7 @@ module _ (old : Stage) (k : Run) (w : ℕ) (path : Name) (done : Bool) (steals :
   pub steal_happens : Happens old (with_run old k) (running.Steal w (reverse path.numbers)) done
   steal_happens = happens old k many (running.Steal w (reverse path.numbers)) done steal_does
 
-  pub unless_done : Ok done ≡ Ok false → k ≡ old.run
+  pub unless_done : ◌≡◌ {A = Result Bool OutOfMemory} (Ok done) (Ok false) → k ≡ old.run
   unless_done off = left (λ yes. (let no : done ≡ false = (let e : ◌≡◌ {A = Result Bool OutOfMemory} (Ok done) (Ok false) = off in cc) in cc))
 
   pub steal_replays : ReplaysOneMore old (with_run old k) (Steal w path)

@@ -1,5 +1,5 @@
 -- One event after another.
-use Rattle.std.proofs.Common.{◌≡◌, ℕ, ◌+◌, ◌≤◌, List, [], ◌∷◌, ◌++◌, append_assoc, append_nil, length, map, Option, Some, None, Bool, true, false, cond, refl, sym, ap, ◌∙◌, subst, ℤ}
+use Rattle.std.proofs.Common.{◌≡◌, ℕ, ◌+◌, ◌≤◌, List, [], ◌∷◌, ◌++◌, append_assoc, append-nil, length, map, Option, Some, None, Bool, true, false, cond, refl, sym, ap, ◌∙◌, subst, ℤ}
 use Rattle.running.specs.Events as running
 use Rattle.running.specs.Events.{Machine}
 use Rattle.running.specs.Replay.{or_unchanged, replay}
@@ -117,7 +117,7 @@ module _ (old : Stage) (k : Run) (many : length k.hands.items ≡ length old.run
 -- ---- many
 
 pub none_more : (stage : Stage) → ReplaysMore stage stage []
-none_more stage prog arguments globals workers events r = subst (λ (l : List Event). Replays prog arguments globals workers l stage) (sym (append_nil events)) r
+none_more stage prog arguments globals workers events r = subst (λ (l : List Event). Replays prog arguments globals workers l stage) (sym (append-nil events)) r
 
 pub one_more : (old mid new : Stage) (more : List Event) (e : Event) → ReplaysMore old mid more → ReplaysOneMore mid new e → ReplaysMore old new (more ++ e ∷ [])
 one_more old mid new more e before last prog arguments globals workers events r =

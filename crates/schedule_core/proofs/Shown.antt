@@ -138,7 +138,7 @@ module _ (stage : Stage) (m : Machine) (state : IsState stage m) where
       from : (o : Option ℕ) → t.node.frame.callee ≡ o → None ≡ ended_at t.slot o → ⊥
       from None is e = let f : None ≡ Some t.slot = e in cc
       from (Some c) is e =
-          let (x, status) = (parts stage m state).status refl (place_of node) (lowest_is_task stage m state s node stands is_low) in
+          let (x, status) = (parts stage m state).status state.shown.shows.trapped (place_of node) (lowest_is_task stage m state s node stands is_low) in
           calls_on c is t.node.frame.frame.waits refl t.node.frame.runner refl (state.shown.agrees.nodes t.slot t.node t.stands).callee x
           (sym (status_of_top (program_of stage) stage.places m stage.run state.shown s node stands is_low t) ∙ status)
 

@@ -19,7 +19,7 @@ use Rattle.schedule_core.specs.declared.stage.Stage.{Stage}
 use Rattle.schedule_core.specs.Replaying.{IsMachine}
 use Rattle.schedule_core.specs.Spots.{path_of_use, KeepsSpots}
 
-same_node : (o : Option (Node Activation)) (n k : Node Activation) → o ≡ Some n → o ≡ Some k → n ≡ k
+pub same_node : (o : Option (Node Activation)) (n k : Node Activation) → o ≡ Some n → o ≡ Some k → n ≡ k
 same_node o n k a b = let e : Some n ≡ Some k = sym a ∙ b in cc
 
 -- ---- a use of a slot

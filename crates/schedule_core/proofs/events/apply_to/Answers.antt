@@ -16,18 +16,18 @@ use Rattle.schedule_core.proofs.events.apply_to.Goals as goal
 pub step-requires-clause-text : goal.step-requires-clause-text
 step-requires-clause-text c =
     let old = c.args.stage.now in
-    subst (λ (q : Program). TextFits q old.places (length old.run.moves.items)) (sym c.program.ensures.value) (text_fits old c.requires c.program.ensures.accepted)
+    subst (λ (q : Program). TextFits q old.places (length old.run.moves.items)) (sym c.program-program.ensures.value) (text_fits old c.requires c.program-program.ensures.accepted)
 
 pub step-requires-clause-safe : goal.step-requires-clause-safe
 step-requires-clause-safe c =
     let old = c.args.stage.now in
-    subst (λ (q : Program). StandsSafely q old.places old.run) (sym c.program.ensures.value) (stands_safely old c.requires)
+    subst (λ (q : Program). StandsSafely q old.places old.run) (sym c.program-program.ensures.value) (stands_safely old c.requires)
 
 pub returns-in-Step-clause-enabled : goal.returns-in-Step-clause-enabled
 returns-in-Step-clause-enabled c =
     let old = c.args.stage.now in
     let k = c.step.new.self in
-    let does = subst (λ (q : Program). IfOk c.step.result (DoesEvent q old.places old.run k (running.Step c.in-Step.worker))) c.program.ensures.value c.step.ensures.event in
+    let does = subst (λ (q : Program). IfOk c.step.result (DoesEvent q old.places old.run k (running.Step c.in-Step.worker))) c.program-program.ensures.value c.step.ensures.event in
     subst (λ (e : Event). IfOk c.step.result (Happens old (with_run old k) (event_of e))) (sym c.in-Step.is)
     (happens_after old k c.step.ensures.workers c.step.ensures.moves c.step.ensures.follows (Step c.in-Step.worker) c.step.result does)
 
@@ -35,8 +35,8 @@ pub returns-in-Step-clause-replays : goal.returns-in-Step-clause-replays
 returns-in-Step-clause-replays c =
     let old = c.args.stage.now in
     let k = c.step.new.self in
-    let does = subst (λ (q : Program). IfOk c.step.result (DoesEvent q old.places old.run k (running.Step c.in-Step.worker))) c.program.ensures.value c.step.ensures.event in
-    let stalls = subst (λ (q : Program). IfOk c.step.result (LeavesStalls q old.places old.run k (running.Step c.in-Step.worker))) c.program.ensures.value c.step.ensures.stalls in
+    let does = subst (λ (q : Program). IfOk c.step.result (DoesEvent q old.places old.run k (running.Step c.in-Step.worker))) c.program-program.ensures.value c.step.ensures.event in
+    let stalls = subst (λ (q : Program). IfOk c.step.result (LeavesStalls q old.places old.run k (running.Step c.in-Step.worker))) c.program-program.ensures.value c.step.ensures.stalls in
     subst (λ (e : Event). OnOk c.step.result (ReplaysOneMore old (with_run old k) e)) (sym c.in-Step.is)
     (replays_after old k c.step.ensures.workers c.step.ensures.moves c.step.ensures.follows (Step c.in-Step.worker) c.step.result does c.step.ensures.left stalls)
 
@@ -48,8 +48,8 @@ pub returns-in-Step-clause-machine : goal.returns-in-Step-clause-machine
 returns-in-Step-clause-machine c =
     let old = c.args.stage.now in
     let k = c.step.new.self in
-    let does = subst (λ (q : Program). IfOk c.step.result (DoesEvent q old.places old.run k (running.Step c.in-Step.worker))) c.program.ensures.value c.step.ensures.event in
-    let stalls = subst (λ (q : Program). IfOk c.step.result (LeavesStalls q old.places old.run k (running.Step c.in-Step.worker))) c.program.ensures.value c.step.ensures.stalls in
+    let does = subst (λ (q : Program). IfOk c.step.result (DoesEvent q old.places old.run k (running.Step c.in-Step.worker))) c.program-program.ensures.value c.step.ensures.event in
+    let stalls = subst (λ (q : Program). IfOk c.step.result (LeavesStalls q old.places old.run k (running.Step c.in-Step.worker))) c.program-program.ensures.value c.step.ensures.stalls in
     machine_after old k c.step.ensures.workers c.step.ensures.moves c.step.ensures.follows (Step c.in-Step.worker) c.step.result c.step.ensures.refused
     (replays_after old k c.step.ensures.workers c.step.ensures.moves c.step.ensures.follows (Step c.in-Step.worker) c.step.result does c.step.ensures.left stalls) c.requires
 
