@@ -22,7 +22,7 @@ use Rattle.schedule_core.proofs.Grounds.{FromStart, laws}
 
 -- ---- the row of the globals
 
-summed : (at : ℕ) (cells : List ℕ) → fold ◌+◌ at cells ≡ at + fold ◌+◌ 0 cells
+summed : (at : ℕ) (cells : List ℕ) → fold (λ (s x : ℕ). s + x) at cells ≡ at + fold (λ (s x : ℕ). s + x) 0 cells
 summed at [] = omega arith
 summed at (c ∷ cells) = let first = summed (at + c) cells in let rest = summed (0 + c) cells in omega (arith, first, rest)
 
