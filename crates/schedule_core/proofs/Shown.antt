@@ -181,4 +181,3 @@ has_spot stage path high finds = from (Some high) finds refl
 pub low_lives : (frames : Frames Activation) (high low : ℕ) → IsLowestBelow frames high low → Lives frames low
 low_lives frames high low (lowest s n at is_low) = rw at refl
 low_lives frames high low (under s caller l n at off has rest) = low_lives frames caller l rest
-

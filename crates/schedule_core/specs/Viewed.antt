@@ -30,7 +30,6 @@ use Rattle.schedule_core.specs.Lines.{line_by, line_or_zero}
 abbrev pub place_in : Path → RunningPath
 place_in path = reverse path.numbers
 
-
 -- ---- tasks
 
 abbrev pub unheld_status : frame_wait.Wait → Status

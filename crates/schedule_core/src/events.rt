@@ -33,14 +33,7 @@ fn staged<'v>(
     let program = verified.program();
     let places = Places::of_program(alloc, program)?;
     let row = memory.row()?;
-    let run = Run::start(
-        alloc,
-        program,
-        arguments,
-        row,
-        workers,
-        most_moves(program),
-    )?;
+    let run = Run::start(alloc, program, arguments, row, workers, most_moves(program))?;
     Ok(Stage {
         verified,
         places,
