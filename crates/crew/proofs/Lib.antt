@@ -6,3 +6,11 @@ pub mod Zeroing
 pub mod Syncing
 pub mod Topmost
 pub mod Stealing
+pub mod Rows
+pub mod Pointing
+pub mod Roomy
+pub mod Lying
+pub mod Begun
+pub mod Calling
+pub mod Callee
+pub mod Called

@@ -3,3 +3,5 @@ pub mod Tasks
 pub mod Layouts
 pub mod Shown
 pub mod Going
+pub mod Rooms
+pub mod Calls
