@@ -6,3 +6,5 @@ pub mod Zeroing
 pub mod Syncing
 pub mod Topmost
 pub mod Stealing
+pub mod Lengths
+pub mod Following

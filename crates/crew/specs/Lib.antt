@@ -3,3 +3,8 @@ pub mod Tasks
 pub mod Layouts
 pub mod Shown
 pub mod Going
+pub mod Follows
+pub mod Stalls
+pub mod Lowest
+pub mod Events
+pub mod Starts

@@ -11,6 +11,8 @@
 mod activation;
 mod clear;
 mod hands;
+mod lowest;
+mod moves;
 mod plain;
 mod run;
 mod steal;
@@ -18,4 +20,5 @@ mod sync;
 mod tops;
 
 pub use activation::Activation;
+pub use moves::most_moves;
 pub use run::{Block, Run};
