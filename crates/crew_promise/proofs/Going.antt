@@ -8,14 +8,14 @@ use Rattle.running.specs.Frames.{Frame, item_at}
 use Rattle.running.specs.Effect.{Action, Plain, Detach, Reattach, Sync, Call, Return, action_of}
 use Rattle.running.specs.State.{State, Change, change_of}
 use Rattle.running.specs.Events.{Machine, Event, start}
-use Rattle.running.specs.Replay.{replay}
+use Rattle.running.specs.Replay.{NeverTraps, replay}
 use Rattle.running.proofs.Steps.{change_is}
 use Rattle.program.specs.declared.function.Program.{Program}
 use Rattle.program.specs.declared.instruction.Instruction.TheVariants as instruction
 use Rattle.engine.specs.Shows.{KeepsWithin, TrapFree}
 use Rattle.serial_promise.specs.schedule_theorem.Promise.{AreTaken, HasGlobals, KeepsItsPromise}
 use Rattle.serial_promise.specs.schedule_theorem.kinds.Uses.{HasKindedUses}
-use Rattle.serial_promise.specs.schedule_theorem.safe.Kept.{OfAll, NeverTraps}
+use Rattle.serial_promise.specs.schedule_theorem.safe.Kept.{OfAll}
 use Rattle.serial_promise.specs.schedule_theorem.safe.Promise.{IsSafeRun}
 use Rattle.serial_promise.specs.schedule_theorem.safe.Safe.{CanStep as CanStepFrame, IsSafe}
 use Rattle.serial_promise.specs.schedule_theorem.safe.Steps.{Does}

@@ -9,7 +9,7 @@ use Rattle.running.specs.Frames.{Value, Word, Truth, Pointer, Region, Registers,
 use Rattle.running.specs.Effect.{Effect, Action, Plain, Detach, Reattach, Sync, Call, Return, sets, answers, given, points, loads, stores, stores_zeros, adds_to, phi_value, with_phis, registers_along, argument_value, argument_values, calls, instruction_action, item_action, action_of}
 use Rattle.running.specs.State.{with_result}
 use Rattle.running.specs.Events.{Event, start}
-use Rattle.running.specs.Replay.{replay}
+use Rattle.running.specs.Replay.{NeverTraps, replay}
 use Rattle.program.specs.declared.function.Program.{Program}
 use Rattle.program.specs.declared.identifier.ObjectName.{ObjectName}
 use Rattle.program.specs.declared.identifier.ObjectName.TheVariants as object
@@ -20,7 +20,7 @@ use Rattle.program.specs.declared.instruction.Instruction.TheVariants as instruc
 use Rattle.program.specs.declared.instruction.Phi.{Phi}
 use Rattle.conditions.specs.rules.InProofs.{Moves, is_next, is_along}
 use Rattle.conditions.proofs.rules.Moves.{moves, syncs_along, calls_here}
-use Rattle.serial_promise.specs.schedule_theorem.safe.Kept.{OfAll, NeverTraps}
+use Rattle.serial_promise.specs.schedule_theorem.safe.Kept.{OfAll}
 use Rattle.serial_promise.specs.schedule_theorem.zones.ByPhases.{IsKeptBySteps}
 use Rattle.serial_promise.proofs.schedule_theorem.kinds.Registers.{argument_at}
 use Rattle.serial_promise.proofs.schedule_theorem.safe.Everywhere.{everywhere, of_first}

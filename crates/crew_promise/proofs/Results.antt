@@ -6,13 +6,12 @@ use Rattle.running.specs.Frames.{Frame}
 use Rattle.running.specs.State.{State, Change, apply, override, only}
 use Rattle.running.specs.Tree.{Tree}
 use Rattle.running.specs.Events.{Event, start}
-use Rattle.running.specs.Replay.{replay}
+use Rattle.running.specs.Replay.{NeverTraps, replay}
 use Rattle.running.proofs.Diamond.{Spot, is_moved, is_gone, is_fresh, is_above, spot}
 use Rattle.running.proofs.Starting.{start_tree}
 use Rattle.running.proofs.Steps.{Does, plain, detach, reattach, sync, call, ret, end}
 use Rattle.running.proofs.TreeKept.{step_keeps_tree}
 use Rattle.program.specs.declared.function.Program.{Program}
-use Rattle.serial_promise.specs.schedule_theorem.safe.Kept.{NeverTraps}
 use Rattle.serial_promise.proofs.schedule_theorem.safe.Replayed.{replay_good}
 
 -- as long as the root lives there is no result
