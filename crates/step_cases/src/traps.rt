@@ -8,6 +8,11 @@ use std::alloc::Global;
 use std::io;
 use std::io::Write;
 
+/// Whether an operator meets a trap.
+fn is_trapped(operator: BinaryOperator, width: Width, values: (i64, i64), trap: Trap) -> bool {
+    binary(operator, width, values.0, values.1).err() == Some(trap)
+}
+
 /// Whether an operator meets a trap in both widths.
 fn traps_in_both(
     operator: BinaryOperator,
@@ -15,8 +20,9 @@ fn traps_in_both(
     narrow: (i64, i64),
     trap: Trap,
 ) -> bool {
-    binary(operator, Width::Bits64, wide.0, wide.1) == Err(trap)
-        && binary(operator, Width::Bits32, narrow.0, narrow.1) == Err(trap)
+    let is_wide = is_trapped(operator, Width::Bits64, wide, trap);
+    let is_narrow = is_trapped(operator, Width::Bits32, narrow, trap);
+    is_wide && is_narrow
 }
 
 fn answer_divisors<W: Write + Drop>(report: &mut Report<W>) -> io::Result<()> {
@@ -62,37 +68,33 @@ fn answer_shifts<W: Write + Drop>(report: &mut Report<W>) -> io::Result<()> {
 
 fn answer_overflows<W: Write + Drop>(report: &mut Report<W>) -> io::Result<()> {
     report.title("results past the width under nsw")?;
-    for (name, operator, width, left, right) in [
+    for (name, operator, width, values) in [
         (
             "add nsw i64",
             BinaryOperator::AddNoWrap,
             Width::Bits64,
-            i64::MAX,
-            1,
+            (i64::MAX, 1),
         ),
         (
             "sub nsw i64",
             BinaryOperator::SubtractNoWrap,
             Width::Bits64,
-            i64::MIN,
-            1,
+            (i64::MIN, 1),
         ),
         (
             "mul nsw i64",
             BinaryOperator::MultiplyNoWrap,
             Width::Bits64,
-            i64::MAX,
-            2,
+            (i64::MAX, 2),
         ),
         (
             "add nsw i32",
             BinaryOperator::AddNoWrap,
             Width::Bits32,
-            2_147_483_647,
-            1,
+            (2_147_483_647, 1),
         ),
     ] {
-        let is_met = binary(operator, width, left, right) == Err(Trap::Undefined);
+        let is_met = is_trapped(operator, width, values, Trap::Undefined);
         report.holds(name, is_met)?;
     }
     Ok(())
