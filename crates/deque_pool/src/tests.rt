@@ -1,6 +1,3 @@
-mod modules;
-mod runs;
-
 use crate::{Hands, Taken, Thief};
 use shared_run::Ticket;
 use std::alloc::Global;
