@@ -2,10 +2,9 @@
 
 use crate::beside::Beside;
 use crate::draw::run_drawn;
-use crate::hosting::Host;
 use crate::job::{Job, stop_for_memory};
 use crate::reasons::{print_explanation, print_rule};
-use crate::runs::{debug, run_hosted, run_serial};
+use crate::runs::{debug, run_on_workers, run_serial};
 use crate::status::Status;
 use crate::tell::tell_replay;
 use annotate::annotated;
@@ -15,14 +14,17 @@ use std::alloc::Global;
 use std::hash::RandomState;
 use std::io;
 use std::io::{ErrorKind, Read, Write};
+use std::sync::Wait;
+use std::thread::Threads;
+use std::time::Clock;
 use views::{printed, show};
 
 /// Does what is asked and answers the status.
 ///
 /// `module` and `schedule` are the bytes of the files, `None` where one could not be read. What is told beside the output is added to
 /// `beside`.
-pub fn act<H: Host, R: Read, W: Write>(
-    host: &H,
+pub fn act<T: Threads + Wait + Clock + Sync, R: Read, W: Write>(
+    rt: &T,
     alloc: Global,
     state: RandomState,
     request: &Request,
@@ -33,7 +35,7 @@ pub fn act<H: Host, R: Read, W: Write>(
     beside: &mut Beside,
 ) -> u8 {
     match answer(
-        host, alloc, state, request, module, schedule, input, output, beside,
+        rt, alloc, state, request, module, schedule, input, output, beside,
     ) {
         Ok(status) => status as u8,
         Err(error) => fail(alloc, &error, output, beside) as u8,
@@ -68,8 +70,8 @@ fn answer_text<W: Write>(
     Ok(Some(status))
 }
 
-fn answer<H: Host, R: Read, W: Write>(
-    host: &H,
+fn answer<T: Threads + Wait + Clock + Sync, R: Read, W: Write>(
+    rt: &T,
     alloc: Global,
     state: RandomState,
     request: &Request,
@@ -97,14 +99,14 @@ fn answer<H: Host, R: Read, W: Write>(
                 verified: &verified,
                 schedule,
             };
-            answer_verified(host, &job, state, input, output, beside)
+            answer_verified(rt, &job, state, input, output, beside)
         }
         Err(refused) => print_refused(&refused, output),
     }
 }
 
-fn answer_verified<H: Host, R: Read, W: Write>(
-    host: &H,
+fn answer_verified<T: Threads + Wait + Clock + Sync, R: Read, W: Write>(
+    rt: &T,
     job: &Job<'_>,
     state: RandomState,
     input: &mut R,
@@ -116,7 +118,7 @@ fn answer_verified<H: Host, R: Read, W: Write>(
         Verb::Replay => tell_replay(job, output, beside),
         Verb::Run if job.request.telling.seed.is_some() => run_drawn(job, output, beside),
         Verb::Debug => debug(job, input, output, beside),
-        Verb::Run => run_hosted(host, job, output, beside),
+        Verb::Run => run_on_workers(rt, job, output, beside),
         Verb::Serial => run_serial(job, output, beside),
         Verb::Verify | Verb::Print | Verb::Annotate | Verb::Explain => {
             print_verified(job.verified, job.request, output)

@@ -3,7 +3,6 @@
 use crate::answer::act;
 use crate::beside::Beside;
 use crate::files::{read_file, write_file};
-use crate::hosting::Host;
 use crate::status::Status;
 use command_line::{Request, WordsFault, text_of, words};
 use std::env::FillError;
@@ -12,6 +11,9 @@ use std::io;
 use std::io::{BufWriter, ErrorKind, Write};
 use std::random::RandomSource;
 use std::rt::{Env, Files};
+use std::sync::Wait;
+use std::thread::Threads;
+use std::time::Clock;
 
 /// More bytes than a word of a command line has.
 const WORD_ROOM: usize = 131_072;
@@ -107,11 +109,9 @@ fn read_word<R: AllocGlobal + Files>(rt: &R, word: &str) -> io::Result<io::Resul
 }
 
 /// Reads the files, does what is asked and answers the status.
-fn obey<H: Host, R: AllocGlobal + Eprint + Files + Input + Print + RandomSource>(
-    host: &H,
-    rt: &R,
-    request: &Request,
-) -> io::Result<u8> {
+fn obey<
+    R: AllocGlobal + Clock + Eprint + Files + Input + Print + RandomSource + Sync + Threads + Wait,
+>(rt: &R, request: &Request) -> io::Result<u8> {
     let alloc = rt.alloc();
     let module = read_word(rt, request.file.as_str())?;
     let schedule = match &request.schedule {
@@ -123,7 +123,7 @@ fn obey<H: Host, R: AllocGlobal + Eprint + Files + Input + Print + RandomSource>
     let mut input = rt.reader();
     let mut beside = Beside::nothing(alloc);
     let status = act(
-        host,
+        rt,
         alloc,
         state,
         request,
@@ -167,25 +167,43 @@ fn finish<W: Write + Drop>(rt: &impl Eprint, status: u8, output: BufWriter<W>) -
 }
 
 /// Reads the program's words and obeys them.
-fn obey_words<H: Host, R: AllocGlobal + Env + Eprint + Files + Input + Print + RandomSource>(
-    host: &H,
-    rt: &R,
-) -> io::Result<u8> {
+fn obey_words<
+    R: AllocGlobal
+        + Clock
+        + Env
+        + Eprint
+        + Files
+        + Input
+        + Print
+        + RandomSource
+        + Sync
+        + Threads
+        + Wait,
+>(rt: &R) -> io::Result<u8> {
     let alloc = rt.alloc();
     let texts = read_words(rt)?;
     let list: Vec<&str> = texts.iter().map(|t| t.as_str()).collect(alloc)?;
     match words(alloc, list.as_slice()) {
-        Ok(request) => obey(host, rt, &request),
+        Ok(request) => obey(rt, &request),
         Err(fault) => Ok(refuse_words(rt, &fault) as u8),
     }
 }
 
 /// Does what the program's words ask for, and answers its exit status.
-pub fn run<H: Host, R: AllocGlobal + Env + Eprint + Files + Input + Print + RandomSource>(
-    host: &H,
-    rt: &R,
-) -> u8 {
-    match obey_words(host, rt) {
+pub fn run<
+    R: AllocGlobal
+        + Clock
+        + Env
+        + Eprint
+        + Files
+        + Input
+        + Print
+        + RandomSource
+        + Sync
+        + Threads
+        + Wait,
+>(rt: &R) -> u8 {
+    match obey_words(rt) {
         Ok(status) => status,
         Err(error) if error.kind() == ErrorKind::OutOfMemory => stop_for_memory(rt) as u8,
         Err(error) => {

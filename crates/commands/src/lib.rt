@@ -1,8 +1,8 @@
 //! The commands of the program `tapirvm`.
 //!
 //! [`run`] is all that the program does: it reads words and files, obeys, and answers the status. Below it, [`words`] of `command_line` makes
-//! a request of a command line, and [`act`] answers a request over the bytes of files; a [`Host`] does what runs on threads. What runs are made
-//! of is passed on for tests that look inside one.
+//! a request of a command line, and [`act`] answers a request over the bytes of files. What runs are made of is passed on for tests that look
+//! inside one. Of the threads that it may start a run on workers alone makes use.
 #![tactic(auto)]
 
 mod answer;
@@ -11,7 +11,6 @@ mod dialogue;
 mod draw;
 mod files;
 mod host;
-mod hosting;
 mod job;
 mod reasons;
 mod runs;
@@ -29,5 +28,4 @@ pub use debugger::{
 };
 pub use files::{read_file, read_text};
 pub use host::run;
-pub use hosting::Host;
 pub use status::Status;

@@ -7,20 +7,23 @@ ghost use Rattle.serial_promise.specs.store.Made.{HasGlobalCells};
 use crate::answer::print_unreadable;
 use crate::beside::Beside;
 use crate::dialogue::converse;
-use crate::hosting::Host;
 use crate::job::{Job, print_schedule_fault, stop_for_memory};
 use crate::status::Status;
 use command_line::{CellWord, Setting, Verb};
 use debugger::{
     Debugger, Event, Finished, Machine, Memory, RunFault, Verified, read_schedule, replay,
 };
+use deque_pool::OpenGate;
 use serial_promise::run_serially;
 use std::io;
 use std::io::{Read, Write};
+use std::sync::Wait;
+use std::thread::Threads;
+use std::time::Clock;
 
-/// Runs the module on the host's workers.
-pub fn run_hosted<H: Host, W: Write>(
-    host: &H,
+/// Runs the module on workers, each on a thread of its own.
+pub fn run_on_workers<R: Threads + Wait + Clock + Sync, W: Write>(
+    rt: &R,
     job: &Job<'_>,
     output: &mut W,
     beside: &mut Beside,
@@ -31,7 +34,15 @@ pub fn run_hosted<H: Host, W: Write>(
     };
     let args = job.request.args.as_slice();
     let workers = job.request.workers;
-    let run = host.run_on_workers(job.alloc, job.verified, args, memory, workers);
+    let run = deque_pool::run(
+        rt,
+        job.alloc,
+        job.verified,
+        args,
+        memory,
+        workers,
+        &OpenGate,
+    );
     print_run(job, &run, output, beside)
 }
 

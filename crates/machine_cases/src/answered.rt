@@ -1,19 +1,22 @@
 //! What the program does on a command line.
 
-use commands::{Beside, Host, act, words};
+use commands::{Beside, act, words};
 use std::alloc::Global;
 use std::hash::RandomState;
 use std::io;
 use std::io::{Read, Write};
+use std::sync::Wait;
+use std::thread::Threads;
+use std::time::Clock;
 
 /// The status of the words of no command.
 const WORDS: u8 = 2;
 
-/// The program: what names are hashed with, and who runs modules on workers.
+/// The program: what names are hashed with, and what starts threads.
 #[derive(Drop)]
-pub struct Program<'a, H: Host> {
+pub struct Program<'a, T: Threads + Wait + Clock + Sync> {
     pub state: RandomState,
-    pub host: &'a H,
+    pub rt: &'a T,
 }
 
 /// A command line, its words parted by one space, and the bytes of its files; `None` for one that cannot be read.
@@ -35,9 +38,9 @@ pub struct Answer {
 }
 
 /// What the program does, and which file it is to write.
-pub fn told<H: Host, R: Read, W: Write>(
+pub fn told<T: Threads + Wait + Clock + Sync, R: Read, W: Write>(
     alloc: Global,
-    program: &Program<'_, H>,
+    program: &Program<'_, T>,
     asked: Asked<'_>,
     input: &mut R,
     output: &mut W,
@@ -47,7 +50,7 @@ pub fn told<H: Host, R: Read, W: Write>(
     match words(alloc, texts.as_slice()) {
         Ok(request) => {
             let status = act(
-                program.host,
+                program.rt,
                 alloc,
                 program.state,
                 &request,
@@ -69,9 +72,9 @@ pub fn told<H: Host, R: Read, W: Write>(
 }
 
 /// What the program answers to a text as its input.
-pub fn answered<H: Host>(
+pub fn answered<T: Threads + Wait + Clock + Sync>(
     alloc: Global,
-    program: &Program<'_, H>,
+    program: &Program<'_, T>,
     asked: Asked<'_>,
     input: &[u8],
 ) -> io::Result<Answer> {

@@ -2,19 +2,21 @@
 
 use crate::answered::{Asked, Program, answered};
 use cases::Report;
-use commands::Host;
 use std::alloc::Global;
 use std::io::Write;
 use std::rt::Files;
+use std::sync::Wait;
+use std::thread::Threads;
+use std::time::Clock;
 use std::{fs, io};
 
 /// How many seeds draw events for each module.
 const SEEDS: u64 = 20;
 
 /// What a command line writes over a module and a schedule; none where its status is not 0.
-fn written<H: Host>(
+fn written<T: Threads + Wait + Clock + Sync>(
     alloc: Global,
-    program: &Program<'_, H>,
+    program: &Program<'_, T>,
     line: &str,
     module: &[u8],
     schedule: Option<&[u8]>,
@@ -33,9 +35,9 @@ fn written<H: Host>(
 }
 
 /// Whether the events that a seed draws are a schedule of which the drawn run and a replay both write what the serial run does.
-fn is_as_serial<H: Host>(
+fn is_as_serial<T: Threads + Wait + Clock + Sync>(
     alloc: Global,
-    program: &Program<'_, H>,
+    program: &Program<'_, T>,
     module: &[u8],
     serial: &[u8],
     seed: u64,
@@ -57,9 +59,9 @@ fn is_as_serial<H: Host>(
 }
 
 /// How many seeds draw a schedule that answers as the serial run.
-fn seeds_as_serial<H: Host>(
+fn seeds_as_serial<T: Threads + Wait + Clock + Sync>(
     alloc: Global,
-    program: &Program<'_, H>,
+    program: &Program<'_, T>,
     module: &[u8],
 ) -> io::Result<u64> {
     let line = "tapirvm serial m.ll --arg 3";
@@ -76,9 +78,9 @@ fn seeds_as_serial<H: Host>(
 }
 
 /// Draws runs of modules with regions.
-pub fn answer<H: Host, W: Write + Drop>(
+pub fn answer<T: Threads + Wait + Clock + Sync, W: Write + Drop>(
     rt: &(impl AllocGlobal + Files),
-    program: &Program<'_, H>,
+    program: &Program<'_, T>,
     report: &mut Report<W>,
 ) -> io::Result<()> {
     report.title("drawn events are a schedule that answers as the serial run")?;

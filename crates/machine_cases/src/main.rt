@@ -15,14 +15,12 @@ use std::hash::RandomState;
 use std::io::BufWriter;
 use std::process::ExitCode;
 use std::{env, fs, io};
-use threaded_host::OnThreads;
 
 fn main(rt: HostRuntime) -> anyhow::Result<ExitCode> {
     let alloc = rt.alloc();
-    let host = OnThreads { rt: &rt };
     let program = Program {
         state: RandomState::new(&rt)?,
-        host: &host,
+        rt: &rt,
     };
     let mut report = Report::new(alloc, BufWriter::new(alloc, io::writer(&rt))?);
     for file in env::args(&rt)?.skip(1) {

@@ -2,10 +2,12 @@
 
 use crate::answered::{Asked, Program, told};
 use cases::Report;
-use commands::Host;
 use std::alloc::Global;
 use std::io::{ErrorKind, Read, Write};
 use std::rt::Files;
+use std::sync::Wait;
+use std::thread::Threads;
+use std::time::Clock;
 use std::{fs, io};
 
 /// A reader of a text that fails at its end.
@@ -92,10 +94,10 @@ const DIALOGUES: [Dialogue<'static>; 4] = [
 
 impl Dialogue<'_> {
     /// Whether the program goes through the dialogue so.
-    fn is_met<H: Host>(
+    fn is_met<T: Threads + Wait + Clock + Sync>(
         &self,
         alloc: Global,
-        program: &Program<'_, H>,
+        program: &Program<'_, T>,
         module: &[u8],
     ) -> io::Result<bool> {
         let schedule = b"step 0 2\nsteal 1 root\nstep 1 3\nstep 0 9\n";
@@ -115,9 +117,9 @@ impl Dialogue<'_> {
 }
 
 /// Goes through the dialogues.
-pub fn answer<H: Host, W: Write + Drop>(
+pub fn answer<T: Threads + Wait + Clock + Sync, W: Write + Drop>(
     rt: &(impl AllocGlobal + Files),
-    program: &Program<'_, H>,
+    program: &Program<'_, T>,
     report: &mut Report<W>,
 ) -> io::Result<()> {
     report.title("dialogues over streams that fail")?;

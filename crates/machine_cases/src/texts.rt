@@ -2,10 +2,13 @@
 
 use crate::answered::{Asked, Program, answered};
 use cases::Report;
-use commands::{Host, bytes_of, read_file, read_text, text_of};
+use commands::{bytes_of, read_file, read_text, text_of};
 use std::alloc::{AllocError, Global};
 use std::io::{ErrorKind, Write};
 use std::rt::Files;
+use std::sync::Wait;
+use std::thread::Threads;
+use std::time::Clock;
 use std::{fs, io};
 
 /// What is read of a line that comes so often that the text has more than twice the bytes of the limit.
@@ -15,16 +18,20 @@ fn read_long(alloc: Global, line: &str) -> io::Result<Vec<u8>> {
 }
 
 /// The status and the output of a command line, as one text.
-fn told<H: Host>(alloc: Global, program: &Program<'_, H>, asked: Asked<'_>) -> io::Result<String> {
+fn told<T: Threads + Wait + Clock + Sync>(
+    alloc: Global,
+    program: &Program<'_, T>,
+    asked: Asked<'_>,
+) -> io::Result<String> {
     let answer = answered(alloc, program, asked, b"")?;
     let output = String::from_utf8_lossy(alloc, answer.output.as_slice())?;
     Ok(format!(in alloc; "{output}status {}", answer.status)?)
 }
 
 /// A long text is read to the end of the line that passes the limit, so it answers as it would whole.
-fn answer_long<H: Host, W: Write + Drop>(
+fn answer_long<T: Threads + Wait + Clock + Sync, W: Write + Drop>(
     alloc: Global,
-    program: &Program<'_, H>,
+    program: &Program<'_, T>,
     pair: &[u8],
     report: &mut Report<W>,
 ) -> io::Result<()> {
@@ -103,9 +110,9 @@ fn answer_files<W: Write + Drop>(
 }
 
 /// Answers the cases of texts, words and files.
-pub fn answer<H: Host, W: Write + Drop>(
+pub fn answer<T: Threads + Wait + Clock + Sync, W: Write + Drop>(
     rt: &(impl AllocGlobal + Files),
-    program: &Program<'_, H>,
+    program: &Program<'_, T>,
     report: &mut Report<W>,
 ) -> io::Result<()> {
     let pair = fs::read(rt, "examples/pair.ll")?;

@@ -8,10 +8,12 @@
 use crate::answered::{Answer, Asked, Program, answered};
 use anyhow::Context;
 use cases::Report;
-use commands::Host;
 use std::alloc::{AllocError, Global};
 use std::io::Write;
 use std::rt::Files;
+use std::sync::Wait;
+use std::thread::Threads;
+use std::time::Clock;
 use std::{fs, io};
 
 /// What a transcript says before its next status.
@@ -176,10 +178,10 @@ impl Case {
     }
 
     /// Answers each of the commands, and forgets them.
-    fn check<H: Host, W: Write + Drop>(
+    fn check<T: Threads + Wait + Clock + Sync, W: Write + Drop>(
         &mut self,
         alloc: Global,
-        program: &Program<'_, H>,
+        program: &Program<'_, T>,
         status: u8,
         report: &mut Report<W>,
     ) -> anyhow::Result<()> {
@@ -195,10 +197,10 @@ impl Case {
     }
 
     /// How many beginnings of the module, each at least two bytes shorter, are answered by this status.
-    fn beginnings<H: Host>(
+    fn beginnings<T: Threads + Wait + Clock + Sync>(
         &self,
         alloc: Global,
-        program: &Program<'_, H>,
+        program: &Program<'_, T>,
         line: &str,
         status: u8,
     ) -> io::Result<u64> {
@@ -218,10 +220,10 @@ impl Case {
     }
 
     /// Answers each of the commands over each beginning of the module, and forgets them.
-    fn check_beginnings<H: Host, W: Write + Drop>(
+    fn check_beginnings<T: Threads + Wait + Clock + Sync, W: Write + Drop>(
         &mut self,
         alloc: Global,
-        program: &Program<'_, H>,
+        program: &Program<'_, T>,
         status: u8,
         report: &mut Report<W>,
     ) -> anyhow::Result<()> {
@@ -269,9 +271,9 @@ fn shown(alloc: Global, answer: &Answer) -> Result<String, AllocError> {
 }
 
 /// Answers the transcripts of a file.
-pub fn answer<H: Host, W: Write + Drop>(
+pub fn answer<T: Threads + Wait + Clock + Sync, W: Write + Drop>(
     rt: &(impl AllocGlobal + Files),
-    program: &Program<'_, H>,
+    program: &Program<'_, T>,
     file: &str,
     report: &mut Report<W>,
 ) -> anyhow::Result<()> {

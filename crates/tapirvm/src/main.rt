@@ -2,8 +2,7 @@
 #![tactic(auto)]
 
 use std::process::ExitCode;
-use threaded_host::OnThreads;
 
 fn main(rt: HostRuntime) -> ExitCode {
-    ExitCode::from(commands::run(&OnThreads { rt: &rt }, &rt))
+    ExitCode::from(commands::run(&rt))
 }
