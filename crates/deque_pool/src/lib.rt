@@ -5,13 +5,20 @@
 //! thief's taking of the oldest. `specs/TicketList.antt` says what is known of it at each moment, however the threads run.
 #![tactic(auto)]
 
+mod crew;
+mod gate;
 mod hands;
 mod law;
 mod taken;
 #[cfg(test)]
 mod tests;
+mod threads;
 mod ticket_list;
+mod turns;
+mod work;
 
+pub use gate::{Gate, OpenGate};
 pub use hands::{Hands, Thief};
 pub use law::each_as_often;
 pub use taken::Taken;
+pub use threads::run;

@@ -1,0 +1,8 @@
+use Rattle.std.specs.Prelude.{◌≡◌, ◌+◌, ◌≤◌, vec_len, vec_capacity}
+use Rattle.deque_pool.proofs.crew.seats_of.Given as goal
+
+abbrev pub invariant-loop-worker : goal.invariant-loop-worker
+invariant-loop-worker g l = (vec_len l.room + vec_len l.crew ≡ vec_len l.fn.crew) × (vec_len l.fn.crew ≤ vec_capacity l.room)
+
+abbrev pub decreases-loop-worker : goal.decreases-loop-worker
+decreases-loop-worker g l = vec_len l.crew

@@ -1,0 +1,101 @@
+//! The workers of a run.
+ghost use Rattle.std.specs.Prelude.{◌≡◌, vec_len, vec_capacity, ◌≤◌, IfOk};
+
+use crate::hands::{Hands, Thief};
+use crate::taken::Taken;
+use lists::OutOfMemory;
+use shared_run::{Bench, Seat, Ticket};
+use std::alloc::Global;
+use std::sync::Mutex;
+
+/// A worker: its seat, its tickets, and its ends of the others' tickets, from the next worker on.
+#[derive(Drop)]
+pub(crate) struct Worker<L: Bench> {
+    pub(crate) seat: Seat<L>,
+    pub(crate) hands: Hands,
+    pub(crate) thieves: Vec<Thief>,
+}
+
+impl<L: Bench> Worker<L> {
+    /// A ticket that is to be claimed: the worker's own newest, or else the oldest of another.
+    pub(crate) fn next_ticket(&mut self) -> Option<Ticket> {
+        if let Some(own) = self.hands.take_newest() {
+            return Some(own);
+        }
+        for thief in self.thieves.iter_mut() {
+            if let Taken::Ticket(ticket) = thief.take_oldest() {
+                return Some(ticket);
+            }
+        }
+        None
+    }
+}
+
+/// A worker for each seat, each in a lock for its thread, and in the opposite order, so that worker 0 is the last.
+pub(crate) fn crew_of<L: Bench>(
+    alloc: Global,
+    mut seats: Vec<Seat<L>>,
+) -> Result<Vec<Mutex<Worker<L>>>, OutOfMemory>
+    ensures { IfOk result (λ crew. vec_len crew ≡ vec_len seats) }
+{
+    let count = seats.len();
+    let (mut own, mut ends) = all_hands(alloc, count)?;
+    let mut crew = Vec::with_capacity(alloc, count)?;
+    while let Some(seat) = seats.pop() {
+        let Some(hands) = own.pop() else {
+            return Err(OutOfMemory);
+        };
+        let thieves = thieves_from(alloc, &mut ends, seats.len())?;
+        crew.push(Mutex::new(Worker {
+            seat,
+            hands,
+            thieves,
+        }))?;
+    }
+    Ok(crew)
+}
+
+/// The tickets of so many workers, and for each the ends for the others.
+fn all_hands(alloc: Global, count: usize) -> Result<(Vec<Hands>, Vec<Vec<Thief>>), OutOfMemory> {
+    let mut own = Vec::with_capacity(alloc, count)?;
+    let mut ends = Vec::with_capacity(alloc, count)?;
+    for _ in 0..count {
+        let (hands, thieves) = Hands::new(alloc, count.saturating_sub(1))?;
+        own.push(hands)?;
+        ends.push(thieves)?;
+    }
+    Ok((own, ends))
+}
+
+/// An end of the tickets of each worker but `me`, from the next worker on.
+fn thieves_from(
+    alloc: Global,
+    ends: &mut Vec<Vec<Thief>>,
+    me: usize,
+) -> Result<Vec<Thief>, OutOfMemory> {
+    let count = ends.len();
+    let mut thieves = Vec::with_capacity(alloc, count)?;
+    for step in 1..count {
+        let Some(end) = ends.get_mut((me % count + step) % count) else {
+            continue;
+        };
+        if let Some(thief) = end.pop() {
+            thieves.push(thief)?;
+        }
+    }
+    Ok(thieves)
+}
+
+/// The seats of all workers, in `room`, which is empty.
+pub(crate) fn seats_of<L: Bench>(
+    mut crew: Vec<Mutex<Worker<L>>>,
+    mut room: Vec<Seat<L>>,
+) -> Vec<Seat<L>>
+    requires { (vec_len room ≡ 0) × (vec_len crew ≤ vec_capacity room) }
+    ensures { vec_len result ≡ vec_len crew }
+{
+    while let Some(worker) = crew.pop() {
+        room.push_reserved(worker.into_inner().seat);
+    }
+    room
+}
