@@ -1,8 +1,12 @@
 pub mod Standing
 pub mod Views
 pub mod Written
+pub mod Changed
+pub mod Handing
 pub mod Onward
 pub mod Zeroing
 pub mod Syncing
 pub mod Topmost
+pub mod Detaching
+pub mod Reattaching
 pub mod Stealing

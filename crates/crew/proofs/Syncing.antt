@@ -43,11 +43,11 @@ use Rattle.crew.proofs.Written.{HandsAgree, gone_on, goes_on_shown}
 
 -- ---- what does not trap
 
-chosen : (t : Bool) (a : Action) (f : Shown) (x : Trap) → TrapFree (cond t a (traps x f)) → cond t a (traps x f) ≡ a
+pub chosen : (t : Bool) (a : Action) (f : Shown) (x : Trap) → TrapFree (cond t a (traps x f)) → cond t a (traps x f) ≡ a
 chosen true a f x free = refl
 chosen false a f x free = absurd cc
 
-own : (p : Path) (f : Shown) (a : Action) (o : Option Path) → TrapFree (if_own p f a o) → if_own p f a o ≡ a
+pub own : (p : Path) (f : Shown) (a : Action) (o : Option Path) → TrapFree (if_own p f a o) → if_own p f a o ≡ a
 own p f a None free = absurd cc
 own p f a (Some owner) free = chosen (same_path owner p) a f Unmatched free
 

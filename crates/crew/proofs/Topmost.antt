@@ -79,7 +79,7 @@ holder_nobody n hands x none = from (running.holder n hands x) refl
     from None e = e
     from (Some w) e = absurd (none w (holder_some n hands x w e))
 
-reverse_last : (l : List ℕ) (k : ℕ) → reverse (l ++ k ∷ []) ≡ k ∷ reverse l
+pub reverse_last : (l : List ℕ) (k : ℕ) → reverse (l ++ k ∷ []) ≡ k ∷ reverse l
 reverse_last l k = reverse-append l (k ∷ [])
 
 abbrev pub ended_at : ℕ → Option ℕ → Option ℕ

@@ -7,7 +7,7 @@ use Rattle.std.proofs.lemmas.Bool.Decides.{eqb_tells}
 use Rattle.running.specs.Paths.{Path}
 use Rattle.running.proofs.Places.{same_path_tells}
 use Rattle.cactus.specs.declared.node.Node.{Node}
-use Rattle.cactus.specs.Frames.{Frames, node_at, Lives}
+use Rattle.cactus.specs.Frames.{Frames, frame_at, node_at, Lives}
 use Rattle.cactus.specs.ByPath.{named, IsTree, Binds}
 use Rattle.cactus.specs.Lending.{with_frame}
 use Rattle.cactus.proofs.FramesLemmas.{node_at-with_frame, node_at-with_frame_other}
@@ -22,6 +22,10 @@ node_tells frames slot lives = from (node_at frames slot) refl lives
     from : (o : Option (Node Activation)) → node_at frames slot ≡ o → IsSome o → (node : Node Activation) × (node_at frames slot ≡ Some node)
     from None e is = absurd (cc)
     from (Some node) e is = (node, e)
+
+-- a slot has one frame
+pub frame_found : (frames : Frames Activation) (slot : ℕ) (node : Node Activation) → node_at frames slot ≡ Some node → (found : Activation) → frame_at frames slot ≡ Some found → node.frame ≡ found
+frame_found frames slot node here found is = let e : Some node.frame ≡ Some found = sym (ap (option_map (λ (x : Node Activation). x.frame)) here) ∙ is in cc
 
 pub hand_seen : (frames : Frames Activation) (hands : List (Option ℕ)) (worker slot : ℕ) (node : Node Activation) → hand_of hands worker ≡ Some slot → node_at frames slot ≡ Some node → hands_of frames hands worker ≡ Some (place_of node)
 hand_seen frames hands worker slot node has stands = rw (has, stands) refl

@@ -172,6 +172,7 @@ module _ (prog : Program) (places : Places) (m next : Machine) (k : Run) (slot :
                 let own = b.owned slot node stands (sym role ∙ body) in
                 (own.0, own.1, record { home = home ∙ own.2.home; room = subst (λ x. cells_in (slice_get prog.functions x) ≤ own.0.cells) (sym function) own.2.room }));
             below = b.below;
+            globals = b.globals;
             after = b.after;
             beside = b.beside;
           }

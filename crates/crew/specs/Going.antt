@@ -1,36 +1,55 @@
 -- What a run rests on, and what a step comes to.
-use Rattle.std.specs.Prelude.{◌≡◌, ℕ, Bool, true, false, None, ◌+◌, ◌<◌, List, length, Some, IsSome, slice_get, ℤ}
-use Rattle.running.specs.Paths.{Path}
-use Rattle.running.specs.Cells.{Object}
-use Rattle.running.specs.Frames.{Frame, Ends, item_at}
+use Rattle.std.specs.Prelude.{◌≡◌, ⊤, ℕ, Bool, true, false, Option, None, ◌+◌, ◌<◌, ◌≤◌, List, length, map, Some, IsSome, slice_get, ℤ}
+use Rattle.running.specs.Paths.{Path, Under}
+use Rattle.running.specs.Cells.{Cell, Object, Shared, Local}
+use Rattle.running.specs.Frames.{Frame, Pointer, Does, Ends, item_at}
 use Rattle.running.specs.State.{change_of}
 use Rattle.running.specs.Tree.{Tree}
 use Rattle.running.specs.Events.{Machine, Event, Step, Steal, event}
 use Rattle.running.specs.Replay.{replay}
 use Rattle.linear.specs.declared.form.RegisterId.{RegisterId}
 use Rattle.program.specs.declared.identifier.BlockId.{BlockId}
+use Rattle.program.specs.declared.identifier.FunctionId.{FunctionId}
 use Rattle.program.specs.declared.function.Function.{Function}
 use Rattle.program.specs.declared.function.Program.{Program}
+use Rattle.program.specs.declared.instruction.Argument.{Argument}
+use Rattle.program.specs.declared.instruction.Instruction.TheVariants as instruction
 use Rattle.program.specs.declared.instruction.Terminator.TheVariants as terminator
 use Rattle.engine.specs.declared.activation.Places.{Places}
 use Rattle.engine.specs.Activation.{ProgramFits}
+use Rattle.engine.specs.Arguments.{ArgumentsAreWhole}
 use Rattle.engine.specs.Shows.{Safe}
+use Rattle.engine.specs.Starts.{alloca_starts, global_starts}
 use Rattle.crew.specs.declared.run.Run.{Run}
 use Rattle.crew.specs.Layouts.{living}
 use Rattle.crew.specs.Shown.{IsShown}
+
+-- a global, or an alloca of the frame at p or of one above it
+abbrev pub IsAbove : Path → Object → Type 0
+IsAbove p (Shared g) = ⊤
+IsAbove p (Local owner a) = Under owner p
+
+-- what the frame at p points to does not go before it
+pub record PointsUp (p : Path) (f : Frame) : Type 0 where
+  pub home : Under f.home p
+  pub registers : (x : ℕ) (c : Cell) → f.registers x ≡ Some (Pointer c) → IsAbove p c.object
 
 -- a worker's frame can do its next step, wherever objects lie
 pub record CanStep (prog : Program) (m : Machine) (p : Path) (f : Frame) : Type 0 where
   pub safe : (at : Object → ℤ) → Safe prog (record { at = at; cells = living prog m.core }) p f m.core.memory
   pub goes : IsSome (change_of prog m.core p)
+  -- a call passes whole objects
+  pub whole : (d : Option RegisterId) (callee : FunctionId) (arguments : List Argument) →
+      item_at prog f.function f.block f.index ≡ Some (Does (instruction.Call d callee arguments)) → ArgumentsAreWhole f arguments
   -- its numbers are numbers of 64 bits
   pub index : f.index + 1 < 18446744073709551616
   pub made : f.made + 1 < 18446744073709551616
-  pub depth : length p + 1 < 18446744073709551616
+  pub depth : length p + 2 < 18446744073709551616
 
 pub record CanGo (prog : Program) (m : Machine) : Type 0 where
   pub steps : (worker : ℕ) (p : Path) (f : Frame) → m.hands worker ≡ Some p → m.core.frames p ≡ Some f → CanStep prog m p f
   pub tree : Tree m.core
+  pub points : (p : Path) (f : Frame) → m.core.frames p ≡ Some f → PointsUp p f
   pub counted : m.core.done + 2 < 9223372036854775808
 
 -- wherever a schedule leads
@@ -46,11 +65,20 @@ pub record Stands (prog : Program) (places : Places) (k : Run) : Type 0 where
 abbrev pub StandsSafely : Program → Places → Run → Type 0
 StandsSafely prog places k = ∥ Stands prog places k ∥₁
 
--- what the program's text gives: what is named is there, and a region's register is one of the function's
+-- What the program's text gives: what is named is there, a region's register is one of the function's, a call passes no more than its
+-- callee has registers, and objects stand one after the other.
 pub record TextFits (prog : Program) (places : Places) (moves : ℕ) : Type 0 where
   pub fits : ProgramFits prog places moves
+  pub globals : places.globals ≡ global_starts prog.globals
+  pub allocas : places.allocas ≡ map (λ (f : Function). alloca_starts f.allocas) prog.functions
+  pub entries : (k : ℕ) (f : Function) → slice_get prog.functions k ≡ Some f → 0 < length f.blocks
+  pub calls : (k b i : ℕ) (d : Option RegisterId) (callee : FunctionId) (arguments : List Argument) →
+      item_at prog k b i ≡ Some (Does (instruction.Call d callee arguments)) →
+      (f : Function) × (slice_get prog.functions callee.0 ≡ Some f) × (length arguments ≤ length f.registers)
   pub syncs : (k b i : ℕ) (r : RegisterId) (target : BlockId) (f : Function) → slice_get prog.functions k ≡ Some f →
       item_at prog k b i ≡ Some (Ends (terminator.Sync r target)) → r.0 < length f.registers
+  pub detaches : (k b i : ℕ) (r : RegisterId) (child continuation : BlockId) (f : Function) → slice_get prog.functions k ≡ Some f →
+      item_at prog k b i ≡ Some (Ends (terminator.Detach r child continuation)) → r.0 < length f.registers
 
 -- ---- steps
 

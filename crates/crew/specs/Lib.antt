@@ -3,3 +3,4 @@ pub mod Tasks
 pub mod Layouts
 pub mod Shown
 pub mod Going
+pub mod Forking

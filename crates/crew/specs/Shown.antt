@@ -103,6 +103,7 @@ pub record BlocksStand (prog : Program) (k : Run) : Type 0 where
   pub owned : (slot : ℕ) (node : Node Activation) → node_at k.cactus slot ≡ Some node → node.frame.frame.role ≡ Body →
       (b : Block) × (slice_get k.blocks.items slot ≡ Some b) × IsBlockOf prog node.frame.frame b
   pub below : (slot : ℕ) (b : Block) → slice_get k.blocks.items slot ≡ Some b → b.start + b.cells ≤ k.end
+  pub globals : sum (map (λ (g : Global). g.cells) prog.globals) ≤ k.end
   pub after : (slot : ℕ) (b : Block) → slice_get k.blocks.items slot ≡ Some b →
       sum (map (λ (g : Global). g.cells) prog.globals) ≤ b.start
   pub beside : (slot other : ℕ) (a b : Block) → slice_get k.blocks.items slot ≡ Some a → slice_get k.blocks.items other ≡ Some b →

@@ -1,9 +1,12 @@
-ghost use Rattle.std.specs.Prelude.{◌≡◌, ◌↔◌, IsTrue, Some, None};
+ghost use Rattle.std.specs.Prelude.{◌≡◌, ◌↔◌, ℕ, IfOk, IsTrue, Some, None, length};
+ghost use Rattle.crew.specs.Scheduling.{counted_in};
 ghost use Rattle.crew.specs.Tasks.{IsReady};
 
 use engine::Frame;
 use frame::Wait;
+use lists::OutOfMemory;
 use program::BlockId;
+use std::alloc::Global;
 use sync_join::RegionCount;
 
 /// A living frame with what the scheduler knows of it. A task is a frame that no call made, with the frames called on top of it, one on
@@ -22,6 +25,22 @@ pub struct Activation {
 }
 
 impl Activation {
+    /// A frame that the worker begins to run.
+    pub fn new(alloc: Global, frame: Frame, worker: u8) -> Result<Activation, OutOfMemory>
+        ensures is { IfOk result (λ a. a ≡ record { frame = frame; counts = a.counts; callee = None; runner = Some worker; stalled_in = None }) }
+        ensures none { IfOk result (λ a. (region : ℕ) → counted_in a region ≡ 0) }
+        ensures as_many { IfOk result (λ a. length a.counts.items ≡ length frame.registers.items) }
+    {
+        let counts = vec![in alloc; RegionCount::NONE; frame.registers.len()]?;
+        Ok(Activation {
+            frame,
+            counts,
+            callee: None,
+            runner: Some(worker),
+            stalled_in: None,
+        })
+    }
+
     /// Whether the frame is the top of a task that a thief may take.
     pub fn is_ready(&self) -> bool
         ensures { IsTrue result ↔ IsReady self.now }

@@ -4,14 +4,16 @@
 //! An address is an index of the row: globals first, then blocks, one a slot. A function's frame has its allocas in its slot's block as long
 //! as it lives, so no path is walked for a cell, and a copy of a frame names the same cells.
 //!
-//! What stands: how a run is shown (`Shown`), what it rests on (`Going`), the plain step, the array store, the sync and the steal. Open:
-//! detach, reattach, call, return and the start; and that accepted programs meet `Going`.
+//! What stands: how a run is shown (`Shown`), what it rests on (`Going`), the plain step, the array store, the detach, the reattach, the sync
+//! and the steal. Open: call, return and the start; and that accepted programs meet `Going`.
 #![tactic(auto)]
 
 mod activation;
 mod clear;
+mod detach;
 mod hands;
 mod plain;
+mod reattach;
 mod run;
 mod steal;
 mod sync;

@@ -1,0 +1,142 @@
+use Rattle.std.proofs.Common.{rules, [], ◌≡◌, ℕ, ◌+◌, ◌-◌, ◌<◌, List, length, None, Some, sym, ap, ◌∙◌, subst, arith}
+use Rattle.std.specs.Prelude.{slice_get}
+use Rattle.std.specs.Option.{option_copied, option_copied_mut}
+use Rattle.std.specs.Vec.{vec_len, with_item}
+use Rattle.std.proofs.Math.Logic.{∥∥₁_elim}
+use Rattle.std.proofs.Props.{props}
+use Rattle.running.proofs.Steps.{some_same}
+use Rattle.cactus.specs.declared.node.Node.{Node}
+use Rattle.cactus.specs.Frames.{node_at}
+use Rattle.cactus.specs.ByPath.{ShrinksMap}
+use Rattle.cactus.specs.Lending.{with_frame}
+use Rattle.crew.specs.declared.activation.Activation.{Activation}
+use Rattle.crew.specs.declared.run.Run.{Run}
+use Rattle.crew.specs.Scheduling.{counted_in}
+use Rattle.crew.proofs.Onward.{not_there}
+use Rattle.crew.proofs.Views.{node_tells}
+use Rattle.crew.proofs.Syncing.{LeadsTo}
+use Rattle.crew.proofs.Reattaching.{counted_room, found_above, goes_on, last_is, lives_mid, living_room, made_room, none_some, root_ends, stops}
+use Rattle.crew.proofs.run.Run.reattach.Goals as goal
+
+pub unreachable-requires : goal.unreachable-requires
+unreachable-requires c = ∥∥₁_elim c.requires.safe (hlevel props) (λ s.
+    let (node, stands) = node_tells c.args.self.now.cactus c.args.slot (s.shown.agrees.held c.args.worker c.args.slot c.requires.hand) in
+    let none = sym c.node.ensures ∙ ap option_copied c.in_default.is in
+    let e = sym stands ∙ none in
+    cc)
+
+pub overflow_add-self : goal.overflow_add-self
+overflow_add-self c =
+    let low : c.args.self.now.instructions + 2 < 9223372036854775808 = ∥∥₁_elim c.requires.safe (hlevel props) (λ s. let a = (s.safe []).counted in let b = s.shown.shows.done in omega (arith, a, b)) in
+    record { fits = omega (arith, low) }
+
+pub unreachable-requires-in_default-frame_mut : goal.unreachable-requires-in_default-frame_mut
+unreachable-requires-in_default-frame_mut c =
+    let k = c.args.self.now in
+    let node = c.in-Some.node.now in
+    let stands : node_at k.cactus c.args.slot ≡ Some node = sym c.node.ensures ∙ ap option_copied c.in-Some.is in
+    let it = c.requires.item node stands in
+    let same : c.remove-child.result ≡ node = some_same c.remove-child.result node (sym c.remove-child.ensures.value ∙ stands) in
+    let shrinks : ShrinksMap k.cactus c.remove-child.new.self c.args.slot node = subst (λ (x : Node Activation). ShrinksMap k.cactus c.remove-child.new.self c.args.slot x) same c.remove-child.ensures.map in
+    ∥∥₁_elim c.requires.safe (hlevel props) (λ s.
+    let there = lives_mid c.args.program.now c.args.places.now k c.args.slot node stands s.machine s.shown c.args.region it.0 it.1 c.args.worker c.requires.hand s.safe (search rules) c.remove-child.new.self c.remove-child.ensures.rest shrinks c.in-Some-above.parent c.in-Some-above.is in
+    not_there c.remove-child.new.self c.in-Some-above.parent there (sym c.frame_mut.ensures.value ∙ ap option_copied_mut c.in_default-frame_mut.is))
+
+-- a path under a parent has a number
+pub unreachable-requires-in_default-last : goal.unreachable-requires-in_default-last
+unreachable-requires-in_default-last c =
+    let k = c.args.self.now in
+    let node = c.in-Some.node.now in
+    let stands : node_at k.cactus c.args.slot ≡ Some node = sym c.node.ensures ∙ ap option_copied c.in-Some.is in
+    let it = c.requires.item node stands in
+    let same : c.remove-child.result ≡ node = some_same c.remove-child.result node (sym c.remove-child.ensures.value ∙ stands) in
+    let shrinks : ShrinksMap k.cactus c.remove-child.new.self c.args.slot node = subst (λ (x : Node Activation). ShrinksMap k.cactus c.remove-child.new.self c.args.slot x) same c.remove-child.ensures.map in
+    let none : slice_get node.path.numbers (length node.path.numbers - 1) ≡ None = subst (λ (xs : List ℕ). slice_get xs (length xs - 1) ≡ None) c.as_slice.ensures (sym c.last.ensures.value ∙ (sym c.copied-last.ensures ∙ c.in_default-last.is)) in
+    ∥∥₁_elim c.requires.safe (hlevel props) (λ s.
+    let some = last_is c.args.program.now c.args.places.now k c.args.slot node stands s.machine s.shown c.args.region it.0 it.1 c.args.worker c.requires.hand s.safe (search rules) c.remove-child.new.self c.remove-child.ensures.rest shrinks c.in-Some-above.parent c.in-Some-above.is in
+    none_some _ (sym none ∙ some))
+
+pub lose_child-requires-clause-counted : goal.lose_child-requires-clause-counted
+lose_child-requires-clause-counted c =
+    let k = c.args.self.now in
+    let node = c.in-Some.node.now in
+    let stands : node_at k.cactus c.args.slot ≡ Some node = sym c.node.ensures ∙ ap option_copied c.in-Some.is in
+    let it = c.requires.item node stands in
+    let same : c.remove-child.result ≡ node = some_same c.remove-child.result node (sym c.remove-child.ensures.value ∙ stands) in
+    let shrinks : ShrinksMap k.cactus c.remove-child.new.self c.args.slot node = subst (λ (x : Node Activation). ShrinksMap k.cactus c.remove-child.new.self c.args.slot x) same c.remove-child.ensures.map in
+    let found = sym c.frame_mut.ensures.value ∙ ap option_copied_mut c.in-Some-frame_mut.is in
+    ∥∥₁_elim c.requires.safe (hlevel props) (λ s.
+    let there = found_above c.args.program.now c.args.places.now k c.args.slot node stands s.machine s.shown c.args.region it.0 it.1 c.args.worker c.requires.hand s.safe (search rules) c.remove-child.new.self c.remove-child.ensures.rest shrinks c.in-Some-above.parent c.in-Some-above.is c.in-Some-frame_mut.activation.now found in
+    let room = counted_room c.args.program.now c.args.places.now k c.args.slot node stands s.machine s.shown c.args.region it.0 it.1 c.args.worker c.requires.hand s.safe (search rules) c.remove-child.new.self c.remove-child.ensures.rest shrinks c.in-Some-above.parent c.in-Some-above.is in
+    subst (λ (x : Activation). c.args.region.0 < vec_len x.counts) there room)
+
+pub lose_child-requires-clause-living : goal.lose_child-requires-clause-living
+lose_child-requires-clause-living c =
+    let k = c.args.self.now in
+    let node = c.in-Some.node.now in
+    let stands : node_at k.cactus c.args.slot ≡ Some node = sym c.node.ensures ∙ ap option_copied c.in-Some.is in
+    let it = c.requires.item node stands in
+    let same : c.remove-child.result ≡ node = some_same c.remove-child.result node (sym c.remove-child.ensures.value ∙ stands) in
+    let shrinks : ShrinksMap k.cactus c.remove-child.new.self c.args.slot node = subst (λ (x : Node Activation). ShrinksMap k.cactus c.remove-child.new.self c.args.slot x) same c.remove-child.ensures.map in
+    let found = sym c.frame_mut.ensures.value ∙ ap option_copied_mut c.in-Some-frame_mut.is in
+    ∥∥₁_elim c.requires.safe (hlevel props) (λ s.
+    let there = found_above c.args.program.now c.args.places.now k c.args.slot node stands s.machine s.shown c.args.region it.0 it.1 c.args.worker c.requires.hand s.safe (search rules) c.remove-child.new.self c.remove-child.ensures.rest shrinks c.in-Some-above.parent c.in-Some-above.is c.in-Some-frame_mut.activation.now found in
+    let room = living_room c.args.program.now c.args.places.now k c.args.slot node stands s.machine s.shown c.args.region it.0 it.1 c.args.worker c.requires.hand s.safe (search rules) c.remove-child.new.self c.remove-child.ensures.rest shrinks c.in-Some-above.parent c.in-Some-above.is in
+    subst (λ (x : Activation). 0 < counted_in x c.args.region.0) there room)
+
+pub lose_child-requires-clause-made : goal.lose_child-requires-clause-made
+lose_child-requires-clause-made c =
+    let k = c.args.self.now in
+    let node = c.in-Some.node.now in
+    let stands : node_at k.cactus c.args.slot ≡ Some node = sym c.node.ensures ∙ ap option_copied c.in-Some.is in
+    let it = c.requires.item node stands in
+    let same : c.remove-child.result ≡ node = some_same c.remove-child.result node (sym c.remove-child.ensures.value ∙ stands) in
+    let shrinks : ShrinksMap k.cactus c.remove-child.new.self c.args.slot node = subst (λ (x : Node Activation). ShrinksMap k.cactus c.remove-child.new.self c.args.slot x) same c.remove-child.ensures.map in
+    let found = sym c.frame_mut.ensures.value ∙ ap option_copied_mut c.in-Some-frame_mut.is in
+    ∥∥₁_elim c.requires.safe (hlevel props) (λ s.
+    let there = found_above c.args.program.now c.args.places.now k c.args.slot node stands s.machine s.shown c.args.region it.0 it.1 c.args.worker c.requires.hand s.safe (search rules) c.remove-child.new.self c.remove-child.ensures.rest shrinks c.in-Some-above.parent c.in-Some-above.is c.in-Some-frame_mut.activation.now found in
+    let room = made_room c.args.program.now c.args.places.now k c.args.slot node stands s.machine s.shown c.args.region it.0 it.1 c.args.worker c.requires.hand s.safe (search rules) c.remove-child.new.self c.remove-child.ensures.rest shrinks c.in-Some-above.parent c.in-Some-above.is in
+    subst (λ (x : Activation). 0 < x.frame.made) there room)
+
+-- no parent
+pub returns-in_default-above-clause-steps : goal.returns-in_default-above-clause-steps
+returns-in_default-above-clause-steps c = λ m shown safe.
+    let k = c.args.self.now in
+    let node = c.in-Some.node.now in
+    let stands : node_at k.cactus c.args.slot ≡ Some node = sym c.node.ensures ∙ ap option_copied c.in-Some.is in
+    let it = c.requires.item node stands in
+    let same : c.remove-child.result ≡ node = some_same c.remove-child.result node (sym c.remove-child.ensures.value ∙ stands) in
+    let shrinks : ShrinksMap k.cactus c.remove-child.new.self c.args.slot node = subst (λ (x : Node Activation). ShrinksMap k.cactus c.remove-child.new.self c.args.slot x) same c.remove-child.ensures.map in
+    subst (λ (x : Run). LeadsTo c.args.program.now c.args.places.now k x c.args.worker m) (sym c.set_hand.ensures)
+    (root_ends c.args.program.now c.args.places.now k c.args.slot node stands m shown c.args.region it.0 it.1 c.args.worker c.requires.hand safe (search rules) c.remove-child.new.self c.remove-child.ensures.rest shrinks c.in_default-above.is)
+
+pub returns-then-lose_child-clause-steps : goal.returns-then-lose_child-clause-steps
+returns-then-lose_child-clause-steps c = λ m shown safe.
+    let k = c.args.self.now in
+    let node = c.in-Some.node.now in
+    let stands : node_at k.cactus c.args.slot ≡ Some node = sym c.node.ensures ∙ ap option_copied c.in-Some.is in
+    let it = c.requires.item node stands in
+    let same : c.remove-child.result ≡ node = some_same c.remove-child.result node (sym c.remove-child.ensures.value ∙ stands) in
+    let shrinks : ShrinksMap k.cactus c.remove-child.new.self c.args.slot node = subst (λ (x : Node Activation). ShrinksMap k.cactus c.remove-child.new.self c.args.slot x) same c.remove-child.ensures.map in
+    let found = sym c.frame_mut.ensures.value ∙ ap option_copied_mut c.in-Some-frame_mut.is in
+    let last = subst (λ (xs : List ℕ). slice_get xs (length xs - 1) ≡ Some c.in-Some-last.number) c.as_slice.ensures (sym c.last.ensures.value ∙ (sym c.copied-last.ensures ∙ c.in-Some-last.is)) in
+    subst (λ (x : Run). LeadsTo c.args.program.now c.args.places.now k x c.args.worker m) (sym c.set_hand-then-lose_child.ensures)
+    (subst (λ (x : Activation). LeadsTo c.args.program.now c.args.places.now k (record k { cactus = with_frame c.remove-child.new.self c.in-Some-above.parent x; instructions = k.instructions + 1; hands = with_item k.hands c.args.worker (Some c.in-Some-above.parent) }) c.args.worker m) (sym c.run_by.ensures)
+    (goes_on c.args.program.now c.args.places.now k c.args.slot node stands m shown c.args.region it.0 it.1 c.args.worker c.requires.hand safe (search rules) c.remove-child.new.self c.remove-child.ensures.rest shrinks c.in-Some-above.parent c.in-Some-above.is
+    c.in-Some-frame_mut.activation.now c.lose_child.new.self found c.in-Some-last.number last c.lose_child.result
+    (record { only = c.lose_child.ensures.only; as_many = c.lose_child.ensures.as_many; counted = c.lose_child.ensures.counted; resumed = c.lose_child.ensures.resumed }) c.if-lose_child.true))
+
+pub returns-clause-steps : goal.returns-clause-steps
+returns-clause-steps c = λ m shown safe.
+    let k = c.args.self.now in
+    let node = c.in-Some.node.now in
+    let stands : node_at k.cactus c.args.slot ≡ Some node = sym c.node.ensures ∙ ap option_copied c.in-Some.is in
+    let it = c.requires.item node stands in
+    let same : c.remove-child.result ≡ node = some_same c.remove-child.result node (sym c.remove-child.ensures.value ∙ stands) in
+    let shrinks : ShrinksMap k.cactus c.remove-child.new.self c.args.slot node = subst (λ (x : Node Activation). ShrinksMap k.cactus c.remove-child.new.self c.args.slot x) same c.remove-child.ensures.map in
+    let found = sym c.frame_mut.ensures.value ∙ ap option_copied_mut c.in-Some-frame_mut.is in
+    let last = subst (λ (xs : List ℕ). slice_get xs (length xs - 1) ≡ Some c.in-Some-last.number) c.as_slice.ensures (sym c.last.ensures.value ∙ (sym c.copied-last.ensures ∙ c.in-Some-last.is)) in
+    subst (λ (x : Run). LeadsTo c.args.program.now c.args.places.now k x c.args.worker m) (sym c.set_hand-else-lose_child.ensures)
+    (stops c.args.program.now c.args.places.now k c.args.slot node stands m shown c.args.region it.0 it.1 c.args.worker c.requires.hand safe (search rules) c.remove-child.new.self c.remove-child.ensures.rest shrinks c.in-Some-above.parent c.in-Some-above.is
+    c.in-Some-frame_mut.activation.now c.lose_child.new.self found c.in-Some-last.number last c.lose_child.result
+    (record { only = c.lose_child.ensures.only; as_many = c.lose_child.ensures.as_many; counted = c.lose_child.ensures.counted; resumed = c.lose_child.ensures.resumed }) c.if-lose_child.false)
