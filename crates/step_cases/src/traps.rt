@@ -13,41 +13,93 @@ fn is_trapped(operator: BinaryOperator, width: Width, values: (i64, i64), trap: 
     binary(operator, width, values.0, values.1).err() == Some(trap)
 }
 
-/// Whether an operator meets a trap in both widths.
-fn traps_in_both(
-    operator: BinaryOperator,
-    wide: (i64, i64),
-    narrow: (i64, i64),
-    trap: Trap,
-) -> bool {
-    let is_wide = is_trapped(operator, Width::Bits64, wide, trap);
-    let is_narrow = is_trapped(operator, Width::Bits32, narrow, trap);
-    is_wide && is_narrow
-}
-
 fn answer_divisors<W: Write + Drop>(report: &mut Report<W>) -> io::Result<()> {
     report.title("divisors")?;
-    for (name, operator) in [
-        ("sdiv by 0", BinaryOperator::SignedDivide),
-        ("udiv by 0", BinaryOperator::UnsignedDivide),
-        ("srem by 0", BinaryOperator::SignedRemainder),
-        ("urem by 0", BinaryOperator::UnsignedRemainder),
+    for (name, operator, width, values) in [
+        (
+            "sdiv i64 by 0",
+            BinaryOperator::SignedDivide,
+            Width::Bits64,
+            (7, 0),
+        ),
+        (
+            "sdiv i32 by 0",
+            BinaryOperator::SignedDivide,
+            Width::Bits32,
+            (7, 0),
+        ),
+        (
+            "udiv i64 by 0",
+            BinaryOperator::UnsignedDivide,
+            Width::Bits64,
+            (7, 0),
+        ),
+        (
+            "udiv i32 by 0",
+            BinaryOperator::UnsignedDivide,
+            Width::Bits32,
+            (7, 0),
+        ),
+        (
+            "srem i64 by 0",
+            BinaryOperator::SignedRemainder,
+            Width::Bits64,
+            (7, 0),
+        ),
+        (
+            "srem i32 by 0",
+            BinaryOperator::SignedRemainder,
+            Width::Bits32,
+            (7, 0),
+        ),
+        (
+            "urem i64 by 0",
+            BinaryOperator::UnsignedRemainder,
+            Width::Bits64,
+            (7, 0),
+        ),
+        (
+            "urem i32 by 0",
+            BinaryOperator::UnsignedRemainder,
+            Width::Bits32,
+            (7, 0),
+        ),
     ] {
-        let is_met = traps_in_both(operator, (7, 0), (7, 0), Trap::BadDivisor);
+        let is_met = is_trapped(operator, width, values, Trap::BadDivisor);
         report.holds(name, is_met)?;
     }
-    for (name, operator) in [
+    Ok(())
+}
+
+fn answer_least<W: Write + Drop>(report: &mut Report<W>) -> io::Result<()> {
+    report.title("the least number by -1")?;
+    for (name, operator, width, values) in [
         (
-            "sdiv of the least number by -1",
+            "sdiv i64 of the least number by -1",
             BinaryOperator::SignedDivide,
+            Width::Bits64,
+            (i64::MIN, -1),
         ),
         (
-            "srem of the least number by -1",
+            "sdiv i32 of the least number by -1",
+            BinaryOperator::SignedDivide,
+            Width::Bits32,
+            (-2_147_483_648, -1),
+        ),
+        (
+            "srem i64 of the least number by -1",
             BinaryOperator::SignedRemainder,
+            Width::Bits64,
+            (i64::MIN, -1),
+        ),
+        (
+            "srem i32 of the least number by -1",
+            BinaryOperator::SignedRemainder,
+            Width::Bits32,
+            (-2_147_483_648, -1),
         ),
     ] {
-        let (wide, narrow) = ((i64::MIN, -1), (-2_147_483_648, -1));
-        let is_met = traps_in_both(operator, wide, narrow, Trap::BadDivisor);
+        let is_met = is_trapped(operator, width, values, Trap::BadDivisor);
         report.holds(name, is_met)?;
     }
     Ok(())
@@ -55,12 +107,35 @@ fn answer_divisors<W: Write + Drop>(report: &mut Report<W>) -> io::Result<()> {
 
 fn answer_shifts<W: Write + Drop>(report: &mut Report<W>) -> io::Result<()> {
     report.title("shifts by the width")?;
-    for (name, operator) in [
-        ("shl", BinaryOperator::ShiftLeft),
-        ("lshr", BinaryOperator::LogicalShiftRight),
-        ("ashr", BinaryOperator::ArithmeticShiftRight),
+    for (name, operator, width, values) in [
+        ("shl i64", BinaryOperator::ShiftLeft, Width::Bits64, (1, 64)),
+        ("shl i32", BinaryOperator::ShiftLeft, Width::Bits32, (1, 32)),
+        (
+            "lshr i64",
+            BinaryOperator::LogicalShiftRight,
+            Width::Bits64,
+            (1, 64),
+        ),
+        (
+            "lshr i32",
+            BinaryOperator::LogicalShiftRight,
+            Width::Bits32,
+            (1, 32),
+        ),
+        (
+            "ashr i64",
+            BinaryOperator::ArithmeticShiftRight,
+            Width::Bits64,
+            (1, 64),
+        ),
+        (
+            "ashr i32",
+            BinaryOperator::ArithmeticShiftRight,
+            Width::Bits32,
+            (1, 32),
+        ),
     ] {
-        let is_met = traps_in_both(operator, (1, 64), (1, 32), Trap::Undefined);
+        let is_met = is_trapped(operator, width, values, Trap::Undefined);
         report.holds(name, is_met)?;
     }
     Ok(())
@@ -144,6 +219,7 @@ pub fn answer<W: Write + Drop>(
     report: &mut Report<W>,
 ) -> anyhow::Result<()> {
     answer_divisors(report)?;
+    answer_least(report)?;
     answer_shifts(report)?;
     answer_overflows(report)?;
     answer_indices(alloc, parallel_for, report)?;
