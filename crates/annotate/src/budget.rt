@@ -48,8 +48,8 @@ fn bound_of(facts: &[Sum<'_>], name: &str, is_greatest: bool) -> Result<Option<i
     Ok(closest)
 }
 
-/// The greatest number that a sum may come to, from 0 to that of a budget; none where there is none.
-fn greatest(facts: &[Sum<'_>], sum: &Sum<'_>) -> Result<Option<u64>, AllocError> {
+/// The greatest number that a sum may come to, by the bounds of its registers one by one; none where one has none.
+fn greatest_apart(facts: &[Sum<'_>], sum: &Sum<'_>) -> Result<Option<i128>, AllocError> {
     let mut most = sum.constant;
     for (name, coefficient) in &sum.terms()? {
         let Some(bound) = bound_of(facts, name, *coefficient > 0)? else {
@@ -57,10 +57,55 @@ fn greatest(facts: &[Sum<'_>], sum: &Sum<'_>) -> Result<Option<u64>, AllocError>
         };
         most = most.saturating_add(coefficient.saturating_mul(bound));
     }
-    if most > MOST {
+    Ok(Some(most))
+}
+
+/// The sum with the fact added as often as takes this register out of it. That is no less than the sum; none where the fact has it with
+/// the same sign or does not divide it.
+fn without<'a>(sum: &Sum<'a>, fact: &Sum<'a>, name: &str) -> Result<Option<Sum<'a>>, AllocError> {
+    let coefficient = fact.coefficient(name);
+    let times = 0i128.saturating_sub(sum.coefficient(name).checked_div(coefficient).unwrap_or(0));
+    if times <= 0 {
         return Ok(None);
     }
-    Ok(u64::try_from(most).ok())
+    let mut rest = sum.copy()?;
+    rest.add(fact, times)?;
+    Ok(if rest.has(name) { None } else { Some(rest) })
+}
+
+fn lesser(one: Option<i128>, other: Option<i128>) -> Option<i128> {
+    match (one, other) {
+        (Some(one), Some(other)) => Some(one.min(other)),
+        (Some(one), None) => Some(one),
+        (None, other) => other,
+    }
+}
+
+/// The same, where the fact stands for one of its registers: of `3*%hi-3*%lo`, `%hi <= %lo+8` leaves 24.
+fn greatest_by(
+    facts: &[Sum<'_>],
+    sum: &Sum<'_>,
+    fact: &Sum<'_>,
+) -> Result<Option<i128>, AllocError> {
+    let mut most = None;
+    for (name, _coefficient) in &fact.terms()? {
+        if let Some(rest) = without(sum, fact, name)? {
+            most = lesser(most, greatest_apart(facts, &rest)?);
+        }
+    }
+    Ok(most)
+}
+
+/// The greatest number that a sum may come to, from 0 to that of a budget; none where there is none.
+fn greatest(facts: &[Sum<'_>], sum: &Sum<'_>) -> Result<Option<u64>, AllocError> {
+    let mut most = greatest_apart(facts, sum)?;
+    for fact in facts {
+        most = lesser(most, greatest_by(facts, sum, fact)?);
+    }
+    match most {
+        Some(most) if most <= MOST => Ok(u64::try_from(most).ok()),
+        _ => Ok(None),
+    }
 }
 
 /// The budget that covers what is left at the entry, whatever the arguments are by these facts; none where there is none.

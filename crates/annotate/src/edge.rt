@@ -2,7 +2,7 @@
 
 use lists::Name;
 use std::alloc::{AllocError, Global};
-use syntax::{Block, Function, Instruction, Operand, Terminator};
+use syntax::{Argument, Block, Function, Instruction, Operand, Terminator};
 
 /// How a path goes along an edge. None goes along a reattach.
 #[derive(Clone, Copy)]
@@ -114,6 +114,49 @@ pub fn register_of(instruction: &Instruction) -> Option<&str> {
         | Instruction::StoreZeros { .. }
         | Instruction::AtomicAdd { .. } => None,
     }
+}
+
+fn is_register(operand: &Operand, name: &str) -> bool {
+    match operand {
+        Operand::Register(register) => register.as_str() == name,
+        Operand::Number(_) => false,
+    }
+}
+
+/// Whether an instruction takes a register that holds a number.
+fn uses(instruction: &Instruction, name: &str) -> bool {
+    match instruction {
+        Instruction::Binary { left, right, .. } | Instruction::Compare { left, right, .. } => {
+            is_register(left, name) || is_register(right, name)
+        }
+        Instruction::Convert { value, .. }
+        | Instruction::Store { value, .. }
+        | Instruction::AtomicAdd { value, .. } => is_register(value, name),
+        Instruction::ElementPointer { index, .. } => is_register(index, name),
+        Instruction::Call { arguments, .. } => {
+            arguments.as_slice().iter().any(|argument| match argument {
+                Argument::Number(value) => is_register(value, name),
+                Argument::Pointer(_) => false,
+            })
+        }
+        Instruction::Alloca { .. }
+        | Instruction::Load { .. }
+        | Instruction::StoreZeros { .. }
+        | Instruction::StartRegion { .. } => false,
+    }
+}
+
+/// Whether another block's instructions take the register.
+pub fn is_used_beside(function: &Function, own: usize, name: &str) -> bool {
+    let blocks = function.blocks.as_slice();
+    blocks.iter().enumerate().any(|(index, block)| {
+        index != own
+            && block
+                .steps
+                .as_slice()
+                .iter()
+                .any(|step| uses(&step.instruction, name))
+    })
 }
 
 /// Whether a block's own instructions, no phis, define the register.

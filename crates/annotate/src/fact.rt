@@ -1,9 +1,10 @@
 //! What inequalities, and the conditions of branches, say.
 
-use crate::edge::{Edge, Way};
+use crate::edge::{Edge, Way, is_used_beside, register_of};
+use crate::left::definition_of;
 use crate::sum::Sum;
 use std::alloc::{AllocError, Global};
-use syntax::{Block, Function, Inequality, Instruction, Predicate};
+use syntax::{BinaryOperator, Block, Function, Inequality, Instruction, Predicate};
 
 /// The facts that a function's text states anywhere, each once.
 #[derive(Drop)]
@@ -119,6 +120,44 @@ impl<'a> Facts<'a> {
         Ok(())
     }
 
+    /// Adds what an exact instruction says of the register that it makes.
+    fn define(
+        &mut self,
+        stated: &mut Vec<usize>,
+        name: &'a str,
+        instruction: &'a Instruction,
+    ) -> Result<(), AllocError> {
+        if !is_exact(instruction) {
+            return Ok(());
+        }
+        let Some(value) = definition_of(self.alloc, instruction)? else {
+            return Ok(());
+        };
+        let register = Sum::of_register(self.alloc, name)?;
+        self.order(stated, &register, &value, 0)?;
+        self.order(stated, &value, &register, 0)
+    }
+
+    /// The facts that a block's own instructions make of registers that other blocks take.
+    pub fn made_in(
+        &mut self,
+        function: &'a Function,
+        index: usize,
+    ) -> Result<Vec<usize>, AllocError> {
+        let mut stated = Vec::new(self.alloc);
+        let Some(block) = function.blocks.as_slice().get(index) else {
+            return Ok(stated);
+        };
+        for step in block.steps.as_slice() {
+            if let Some(name) = register_of(&step.instruction) {
+                if is_used_beside(function, index, name) {
+                    self.define(&mut stated, name, &step.instruction)?;
+                }
+            }
+        }
+        Ok(stated)
+    }
+
     /// The facts that a block adds on one of its edges: its `shows`, and the outcome of its branch.
     pub fn on_edge(
         &mut self,
@@ -141,6 +180,19 @@ impl<'a> Facts<'a> {
             Way::Branch | Way::Detached | Way::Continued(_) | Way::Synced(_) => {}
         }
         Ok(stated)
+    }
+}
+
+/// Whether an instruction makes its sum or product as it is, without a remainder by the width.
+fn is_exact(instruction: &Instruction) -> bool {
+    match instruction {
+        Instruction::Binary { operator, .. } => match operator {
+            BinaryOperator::AddNoWrap
+            | BinaryOperator::SubtractNoWrap
+            | BinaryOperator::MultiplyNoWrap => true,
+            _ => false,
+        },
+        _ => false,
     }
 }
 

@@ -13,7 +13,9 @@ pub struct Known<'a> {
     /// For each block the numbers of the facts that its head states.
     given: Vec<Vec<usize>>,
     /// For each edge the numbers of the facts that its source adds.
-    pub added: Vec<Vec<usize>>,
+    added: Vec<Vec<usize>>,
+    /// For each block the numbers of the facts that its own instructions make.
+    made: Vec<Vec<usize>>,
     /// For each block whether each fact is brought along to it; no fact that is not is marked.
     marks: Vec<Vec<bool>>,
 }
@@ -54,6 +56,19 @@ fn added_by<'a>(
     Ok(added)
 }
 
+/// For each block the numbers of the facts that its own instructions make.
+fn made_by<'a>(
+    alloc: Global,
+    function: &'a Function,
+    facts: &mut Facts<'a>,
+) -> Result<Vec<Vec<usize>>, AllocError> {
+    let mut made = Vec::new(alloc);
+    for index in 0..function.blocks.len() {
+        made.push(facts.made_in(function, index)?)?;
+    }
+    Ok(made)
+}
+
 impl<'a> Known<'a> {
     fn new(
         alloc: Global,
@@ -63,10 +78,12 @@ impl<'a> Known<'a> {
         let mut facts = Facts::new(alloc);
         let given = given_by(alloc, function, &mut facts)?;
         let added = added_by(alloc, function, edges, &mut facts)?;
+        let made = made_by(alloc, function, &mut facts)?;
         Ok(Known {
             facts,
             given,
             added,
+            made,
             marks: Vec::new(alloc),
         })
     }
@@ -93,6 +110,33 @@ impl<'a> Known<'a> {
         }
     }
 
+    fn is_made(&self, block: usize, fact: usize) -> bool {
+        match self.made.as_slice().get(block) {
+            Some(made) => has(made.as_slice(), fact),
+            None => false,
+        }
+    }
+
+    /// Whether an edge brings the fact to its target.
+    fn is_along(&self, number: usize, edge: Edge<'a>, fact: usize) -> bool {
+        self.is_known(edge.from, fact)
+            || self.is_added(number, fact)
+            || self.is_made(edge.from, fact)
+    }
+
+    /// Whether another fact that is known at the block says more of the same registers with the same coefficients.
+    pub fn is_weaker(&self, block: usize, fact: &Sum<'a>) -> Result<bool, AllocError> {
+        for (number, other) in self.facts.sums.iter().enumerate() {
+            if self.is_known(block, number) {
+                let difference = fact.copy()?.less(other)?;
+                if difference.is_number() && difference.constant > 0 {
+                    return Ok(true);
+                }
+            }
+        }
+        Ok(false)
+    }
+
     /// Marks each fact at each block, but at the entry only what it states.
     fn mark_all(&mut self, alloc: Global, blocks: usize) -> Result<(), AllocError> {
         for block in 0..blocks {
@@ -111,7 +155,7 @@ impl<'a> Known<'a> {
         for (number, edge) in edges.iter().enumerate() {
             if edge.to == block {
                 is_reached = true;
-                if !self.is_known(edge.from, fact) && !self.is_added(number, fact) {
+                if !self.is_along(number, *edge, fact) {
                     return false;
                 }
             }

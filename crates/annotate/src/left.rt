@@ -253,8 +253,8 @@ fn is_multiple<'a>(sum: &Sum<'a>, fact: &Sum<'a>) -> Result<bool, AllocError> {
     Ok(rest.is_number() && rest.constant >= 0)
 }
 
-/// The sum that an instruction makes; none where it makes no sum.
-fn definition_of<'a>(
+/// The sum that an instruction makes, but for what its width cannot hold; none where it makes no sum.
+pub fn definition_of<'a>(
     alloc: Global,
     instruction: &'a Instruction,
 ) -> Result<Option<Sum<'a>>, AllocError> {

@@ -42,10 +42,10 @@ fn push_keeps(
     let mut lines = block.notes.keeps.len();
     for (number, fact) in known.facts.sums.iter().enumerate() {
         let is_new = known.is_known(index, number) && !known.is_given(index, number);
-        if is_new && fact.is_form() && lines < MOST_LINES {
+        if is_new && fact.is_form() && lines < MOST_LINES && !known.is_weaker(index, fact)? {
             out.push_str("  ;! keeps ")?;
-            fact.spell(out)?;
-            out.push_str(" >= 0\n")?;
+            fact.spell_inequality(out)?;
+            out.push_str("\n")?;
             lines = lines.saturating_add(1);
         }
     }

@@ -35,14 +35,16 @@ impl<'a> Sum<'a> {
         Ok(sum)
     }
 
+    pub fn of_register(alloc: Global, name: &'a str) -> Result<Sum<'a>, AllocError> {
+        let mut sum = Sum::number(alloc, 0);
+        sum.add_term(name, 1)?;
+        Ok(sum)
+    }
+
     pub fn of_operand(alloc: Global, operand: &'a Operand) -> Result<Sum<'a>, AllocError> {
         match operand {
             Operand::Number(number) => Ok(Sum::number(alloc, i128::from(*number))),
-            Operand::Register(name) => {
-                let mut sum = Sum::number(alloc, 0);
-                sum.add_term(name.as_str(), 1)?;
-                Ok(sum)
-            }
+            Operand::Register(name) => Sum::of_register(alloc, name.as_str()),
         }
     }
 
@@ -156,18 +158,49 @@ impl<'a> Sum<'a> {
     pub fn spell(&self, out: &mut String) -> Result<(), AllocError> {
         let mut terms = self.terms()?;
         terms.sort()?;
-        let mut is_first = true;
-        for (name, coefficient) in &terms {
-            spell_term(out, is_first, name, *coefficient)?;
-            is_first = false;
-        }
-        if is_first || self.constant != 0 {
-            let sign = sign_of(is_first, self.constant);
-            let size = self.constant.unsigned_abs();
-            write!(out, "{sign}{size}")?;
-        }
-        Ok(())
+        spell_side(out, terms.as_slice(), self.constant)
     }
+
+    /// Adds that the sum is at least 0: what has a minus on the lesser side, the rest on the other.
+    pub fn spell_inequality(&self, out: &mut String) -> Result<(), AllocError> {
+        let mut less = Vec::new(self.alloc);
+        let mut more = Vec::new(self.alloc);
+        for (name, coefficient) in &self.terms()? {
+            if *coefficient < 0 {
+                less.push((*name, coefficient.saturating_neg()))?;
+            } else {
+                more.push((*name, *coefficient))?;
+            }
+        }
+        less.sort()?;
+        more.sort()?;
+        let below = 0i128.saturating_sub(self.constant).max(0);
+        let above = self.constant.max(0);
+        if less.is_empty() {
+            spell_side(out, more.as_slice(), above)?;
+            out.push_str(" >= ")?;
+            spell_side(out, less.as_slice(), below)
+        } else {
+            spell_side(out, less.as_slice(), below)?;
+            out.push_str(" <= ")?;
+            spell_side(out, more.as_slice(), above)
+        }
+    }
+}
+
+/// Terms in the order of their names, and a number.
+fn spell_side(out: &mut String, terms: &[(&str, i128)], constant: i128) -> Result<(), AllocError> {
+    let mut is_first = true;
+    for (name, coefficient) in terms {
+        spell_term(out, is_first, name, *coefficient)?;
+        is_first = false;
+    }
+    if is_first || constant != 0 {
+        let sign = sign_of(is_first, constant);
+        let size = constant.unsigned_abs();
+        write!(out, "{sign}{size}")?;
+    }
+    Ok(())
 }
 
 fn is_within(number: i128, most: i128) -> bool {

@@ -1,5 +1,6 @@
 -- What a contract sees of a cactus: the frames in their slots, which is a map from paths to frames.
-use Rattle.std.specs.Prelude.{◌≡◌, ◌≢◌, ℕ, zero, suc, ◌+◌, ◌-◌, nat_le, List, [], ◌∷◌, ◌++◌, length, Option, Some, None, IsSome, IsSomeAnd, option_and_then, slice_index_or, if◌then◌else◌, ◌==◌}
+use Rattle.std.specs.Prelude.{◌≡◌, ◌≢◌, ℕ, zero, suc, ◌+◌, ◌-◌, nat_le, List, [], ◌∷◌, ◌++◌, length, Option, Some, None, IsSome, IsSomeAnd}
+use Rattle.std.specs.Prelude.{option_and_then, slice_index_or, if◌then◌else◌, ◌==◌}
 use Rattle.std.specs.Option.{option_map}
 use Rattle.frame.specs.declared.path.Path.{Path}
 use Rattle.cactus.specs.declared.node.Node.{Node}

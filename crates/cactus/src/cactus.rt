@@ -1,4 +1,5 @@
-ghost use Rattle.std.specs.Prelude.{count_by, is_some, option_and_then, IsSomeAnd, IfSome, IfNone, ◌≡◌, ◌+◌, ◌<◌, ◌^◌, ◌++◌, ◌∷◌, [], Some, None, IsSome, IfOk, OnOk, OnErr, option_copied};
+ghost use Rattle.std.specs.Prelude.{count_by, is_some, option_and_then, IsSomeAnd, IfSome, IfNone, ◌≡◌, ◌+◌, ◌<◌, ◌^◌, ◌++◌, ◌∷◌, [], Some, None};
+ghost use Rattle.std.specs.Prelude.{IsSome, IfOk, OnOk, OnErr, option_copied};
 ghost use Rattle.std.specs.Option.{option_copied_mut, option_map};
 ghost use Rattle.std.specs.Borrow.{sem};
 ghost use Rattle.slab.specs.Slab.{entries_from};

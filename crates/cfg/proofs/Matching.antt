@@ -71,7 +71,7 @@ mark_left leading entries left m on all =
     let counted : count_by (λ e. e.predecessor.0 == any.0) entries + 1 ≡ cond (get_or leading any.0 false) 1 0 = rw mark at (m.count any.0) in
     omega (arith, counted, all any.0)
 
-no_edges_past : (blocks : List BlockEdges) (a : ℕ) → length blocks ≤ a → edges_of blocks a ≡ []
+pub no_edges_past : (blocks : List BlockEdges) (a : ℕ) → length blocks ≤ a → edges_of blocks a ≡ []
 no_edges_past [] a l = refl
 no_edges_past (x ∷ xs) zero l = absurd (omega (arith, l))
 no_edges_past (x ∷ xs) (suc a) l = no_edges_past xs a (omega arith)

@@ -3,7 +3,8 @@ ghost use Rattle.std.specs.List.{list_any};
 ghost use Rattle.cfg.specs.Edges.{graph_of};
 ghost use Rattle.cfg.specs.Paths.{IsOnPath};
 ghost use Rattle.refusal.specs.Earliest.{IsJudged};
-ghost use Rattle.cfg.specs.Rules.{leads_to, HasPredecessor, ArePhisMatched, IsPhiBroken, IsLabelRight, IsLabelBroken, IsBlockRight, IsBlockBroken, IsEndBroken, IsFunctionRight, IsFunctionBroken};
+ghost use Rattle.cfg.specs.Rules.{leads_to, HasPredecessor, ArePhisMatched, IsPhiBroken, IsLabelRight, IsLabelBroken, IsBlockRight, IsBlockBroken};
+ghost use Rattle.cfg.specs.Rules.{IsEndBroken, IsFunctionRight, IsFunctionBroken};
 
 use crate::reach::reached;
 use crate::structure::{BlockEdges, Edge};

@@ -4,24 +4,27 @@ use crate::beside::Beside;
 use crate::draw::run_drawn;
 use crate::job::{Job, stop_for_memory};
 use crate::reasons::{print_explanation, print_rule};
-use crate::request::{Request, Verb};
-use crate::runs::{debug, run_verified};
+use crate::runs::{debug, run_on_workers, run_serial};
 use crate::status::Status;
 use crate::tell::tell_replay;
-use crate::word::bytes_of;
 use annotate::annotated;
+use command_line::{Request, Verb, bytes_of};
 use debugger::{Refused, Verified, verify};
 use std::alloc::Global;
 use std::hash::RandomState;
 use std::io;
 use std::io::{ErrorKind, Read, Write};
+use std::sync::Wait;
+use std::thread::Threads;
+use std::time::Clock;
 use views::{printed, show};
 
 /// Does what is asked and answers the status.
 ///
 /// `module` and `schedule` are the bytes of the files, `None` where one could not be read. What is told beside the output is added to
 /// `beside`.
-pub fn act<R: Read, W: Write>(
+pub fn act<T: Threads + Wait + Clock + Sync, R: Read, W: Write>(
+    rt: &T,
     alloc: Global,
     state: RandomState,
     request: &Request,
@@ -32,7 +35,7 @@ pub fn act<R: Read, W: Write>(
     beside: &mut Beside,
 ) -> u8 {
     match answer(
-        alloc, state, request, module, schedule, input, output, beside,
+        rt, alloc, state, request, module, schedule, input, output, beside,
     ) {
         Ok(status) => status as u8,
         Err(error) => fail(alloc, &error, output, beside) as u8,
@@ -67,7 +70,8 @@ fn answer_text<W: Write>(
     Ok(Some(status))
 }
 
-fn answer<R: Read, W: Write>(
+fn answer<T: Threads + Wait + Clock + Sync, R: Read, W: Write>(
+    rt: &T,
     alloc: Global,
     state: RandomState,
     request: &Request,
@@ -95,13 +99,14 @@ fn answer<R: Read, W: Write>(
                 verified: &verified,
                 schedule,
             };
-            answer_verified(&job, state, input, output, beside)
+            answer_verified(rt, &job, state, input, output, beside)
         }
         Err(refused) => print_refused(&refused, output),
     }
 }
 
-fn answer_verified<R: Read, W: Write>(
+fn answer_verified<T: Threads + Wait + Clock + Sync, R: Read, W: Write>(
+    rt: &T,
     job: &Job<'_>,
     state: RandomState,
     input: &mut R,
@@ -113,7 +118,8 @@ fn answer_verified<R: Read, W: Write>(
         Verb::Replay => tell_replay(job, output, beside),
         Verb::Run if job.request.telling.seed.is_some() => run_drawn(job, output, beside),
         Verb::Debug => debug(job, input, output, beside),
-        Verb::Serial | Verb::Run => run_verified(job, output, beside),
+        Verb::Run => run_on_workers(rt, job, output, beside),
+        Verb::Serial => run_serial(job, output, beside),
         Verb::Verify | Verb::Print | Verb::Annotate | Verb::Explain => {
             print_verified(job.verified, job.request, output)
         }

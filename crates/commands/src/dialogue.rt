@@ -1,7 +1,7 @@
 //! The dialogue of `tapirvm debug`: a command a line, and a line in answer.
 
-use crate::command_line::is_name;
 use crate::status::Status;
+use command_line::is_name;
 use debugger::{Debugger, Status as Standing, read_number, read_task};
 use frame::Path;
 use lists::OutOfMemory;

@@ -1,6 +1,5 @@
 //! The files that words name.
-
-use crate::word::is_raw;
+use command_line::is_raw;
 use std::alloc::Global;
 use std::fs::File;
 use std::io::{BufRead, BufReader, ErrorKind, Read};

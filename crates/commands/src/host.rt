@@ -2,17 +2,18 @@
 
 use crate::answer::act;
 use crate::beside::Beside;
-use crate::command_line::words;
 use crate::files::{read_file, write_file};
-use crate::request::{Request, WordsFault};
 use crate::status::Status;
-use crate::word::text_of;
+use command_line::{Request, WordsFault, text_of, words};
 use std::env::FillError;
 use std::hash::RandomState;
 use std::io;
 use std::io::{BufWriter, ErrorKind, Write};
 use std::random::RandomSource;
 use std::rt::{Env, Files};
+use std::sync::Wait;
+use std::thread::Threads;
+use std::time::Clock;
 
 /// More bytes than a word of a command line has.
 const WORD_ROOM: usize = 131_072;
@@ -108,10 +109,9 @@ fn read_word<R: AllocGlobal + Files>(rt: &R, word: &str) -> io::Result<io::Resul
 }
 
 /// Reads the files, does what is asked and answers the status.
-fn obey<R: AllocGlobal + Eprint + Files + Input + Print + RandomSource>(
-    rt: &R,
-    request: &Request,
-) -> io::Result<u8> {
+fn obey<
+    R: AllocGlobal + Clock + Eprint + Files + Input + Print + RandomSource + Sync + Threads + Wait,
+>(rt: &R, request: &Request) -> io::Result<u8> {
     let alloc = rt.alloc();
     let module = read_word(rt, request.file.as_str())?;
     let schedule = match &request.schedule {
@@ -123,6 +123,7 @@ fn obey<R: AllocGlobal + Eprint + Files + Input + Print + RandomSource>(
     let mut input = rt.reader();
     let mut beside = Beside::nothing(alloc);
     let status = act(
+        rt,
         alloc,
         state,
         request,
@@ -166,9 +167,19 @@ fn finish<W: Write + Drop>(rt: &impl Eprint, status: u8, output: BufWriter<W>) -
 }
 
 /// Reads the program's words and obeys them.
-fn obey_words<R: AllocGlobal + Env + Eprint + Files + Input + Print + RandomSource>(
-    rt: &R,
-) -> io::Result<u8> {
+fn obey_words<
+    R: AllocGlobal
+        + Clock
+        + Env
+        + Eprint
+        + Files
+        + Input
+        + Print
+        + RandomSource
+        + Sync
+        + Threads
+        + Wait,
+>(rt: &R) -> io::Result<u8> {
     let alloc = rt.alloc();
     let texts = read_words(rt)?;
     let list: Vec<&str> = texts.iter().map(|t| t.as_str()).collect(alloc)?;
@@ -179,7 +190,19 @@ fn obey_words<R: AllocGlobal + Env + Eprint + Files + Input + Print + RandomSour
 }
 
 /// Does what the program's words ask for, and answers its exit status.
-pub fn run<R: AllocGlobal + Env + Eprint + Files + Input + Print + RandomSource>(rt: &R) -> u8 {
+pub fn run<
+    R: AllocGlobal
+        + Clock
+        + Env
+        + Eprint
+        + Files
+        + Input
+        + Print
+        + RandomSource
+        + Sync
+        + Threads
+        + Wait,
+>(rt: &R) -> u8 {
     match obey_words(rt) {
         Ok(status) => status,
         Err(error) if error.kind() == ErrorKind::OutOfMemory => stop_for_memory(rt) as u8,

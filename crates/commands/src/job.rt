@@ -1,8 +1,8 @@
 //! A module that the verifier took, and what is asked of it.
 
 use crate::beside::Beside;
-use crate::request::Request;
 use crate::status::Status;
+use command_line::Request;
 use debugger::{RunFault, ScheduleFault, Verified};
 use std::alloc::{AllocError, Global};
 use std::io;

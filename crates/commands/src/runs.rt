@@ -8,32 +8,79 @@ use crate::answer::print_unreadable;
 use crate::beside::Beside;
 use crate::dialogue::converse;
 use crate::job::{Job, print_schedule_fault, stop_for_memory};
-use crate::request::{CellWord, Setting, Verb};
 use crate::status::Status;
+use command_line::{CellWord, Setting, Verb};
 use debugger::{
     Debugger, Event, Finished, Machine, Memory, RunFault, Verified, read_schedule, replay,
 };
-use lists::OutOfMemory;
+use deque_pool::OpenGate;
 use serial_promise::run_serially;
-use std::alloc::Global;
 use std::io;
 use std::io::{Read, Write};
+use std::sync::Wait;
+use std::thread::Threads;
+use std::time::Clock;
 
-/// Runs the module, by the schedule where the verb takes one.
-pub fn run_verified<W: Write>(
+/// Runs the module on workers, each on a thread of its own.
+pub fn run_on_workers<R: Threads + Wait + Clock + Sync, W: Write>(
+    rt: &R,
     job: &Job<'_>,
     output: &mut W,
     beside: &mut Beside,
 ) -> io::Result<Status> {
-    let Some(file) = &job.request.schedule else {
-        return run_events(job, &[], output, beside);
+    let memory = match prepared(job) {
+        Ok(memory) => memory,
+        Err(status) => return print_unprepared(status, output),
     };
+    let args = job.request.args.as_slice();
+    let workers = job.request.workers;
+    let run = deque_pool::run(
+        rt,
+        job.alloc,
+        job.verified,
+        args,
+        memory,
+        workers,
+        &OpenGate,
+    );
+    print_run(job, &run, output, beside)
+}
+
+/// Runs the module serially.
+pub fn run_serial<W: Write>(
+    job: &Job<'_>,
+    output: &mut W,
+    beside: &mut Beside,
+) -> io::Result<Status> {
+    let memory = match prepared(job) {
+        Ok(memory) => memory,
+        Err(status) => return print_unprepared(status, output),
+    };
+    let args = job.request.args.as_slice();
+    let run = run_serially(job.alloc, job.verified, args, memory);
+    print_run(job, &run, output, beside)
+}
+
+/// Runs the module by the schedule.
+pub fn run_schedule<W: Write>(
+    job: &Job<'_>,
+    output: &mut W,
+    beside: &mut Beside,
+) -> io::Result<Status> {
     let Some(text) = job.schedule else {
-        return print_unreadable(job.alloc, file.as_str(), output);
+        return print_no_schedule(job, output);
     };
     match read_schedule(job.alloc, text) {
         Ok(events) => run_events(job, events.as_slice(), output, beside),
         Err(fault) => print_schedule_fault(&fault, output),
+    }
+}
+
+/// Says that the schedule's file could not be read.
+fn print_no_schedule<W: Write>(job: &Job<'_>, output: &mut W) -> io::Result<Status> {
+    match &job.request.schedule {
+        Some(file) => print_unreadable(job.alloc, file.as_str(), output),
+        None => Ok(Status::Unreadable),
     }
 }
 
@@ -45,10 +92,7 @@ pub fn debug<R: Read, W: Write>(
     beside: &mut Beside,
 ) -> io::Result<Status> {
     let Some(text) = job.schedule else {
-        return match &job.request.schedule {
-            Some(file) => print_unreadable(job.alloc, file.as_str(), output),
-            None => Ok(Status::Unreadable),
-        };
+        return print_no_schedule(job, output);
     };
     match read_schedule(job.alloc, text) {
         Ok(events) => debug_events(job, events, input, output, beside),
@@ -65,8 +109,7 @@ fn debug_events<R: Read, W: Write>(
 ) -> io::Result<Status> {
     let memory = match prepared(job) {
         Ok(memory) => memory,
-        Err(Status::Stopped) => return stop_for_memory(output),
-        Err(status) => return Ok(status),
+        Err(status) => return print_unprepared(status, output),
     };
     let Job {
         alloc,
@@ -97,7 +140,15 @@ pub fn prepared(job: &Job<'_>) -> Result<Memory, Status>
     }
 }
 
-/// Runs the module. The events are those of a replay.
+/// Says that memory was refused where that is why a run does not begin, and answers the status.
+fn print_unprepared<W: Write>(status: Status, output: &mut W) -> io::Result<Status> {
+    match status {
+        Status::Stopped => stop_for_memory(output),
+        _ => Ok(status),
+    }
+}
+
+/// Runs the module by these events.
 fn run_events<W: Write>(
     job: &Job<'_>,
     events: &[Event],
@@ -106,22 +157,9 @@ fn run_events<W: Write>(
 ) -> io::Result<Status> {
     let memory = match prepared(job) {
         Ok(memory) => memory,
-        Err(Status::Stopped) => return stop_for_memory(output),
-        Err(status) => return Ok(status),
+        Err(status) => return print_unprepared(status, output),
     };
-    let args = job.request.args.as_slice();
-    match job.request.verb {
-        Verb::Replay => run_replay(job, memory, events, output, beside),
-        Verb::Serial => {
-            let run = run_serially(job.alloc, job.verified, args, memory);
-            print_run(job, &run, output, beside)
-        }
-        _ => {
-            let workers = job.request.workers;
-            let run = run_by_one(job.alloc, job.verified, args, memory, workers);
-            print_run(job, &run, output, beside)
-        }
-    }
+    run_replay(job, memory, events, output, beside)
 }
 
 /// The answer of a run by these events.
@@ -200,27 +238,6 @@ fn has_cells(memory: &Memory, cells: &[CellWord]) -> bool {
         }
     }
     true
-}
-
-/// Worker 0 makes every step, whatever the number of workers is.
-fn run_by_one(
-    alloc: Global,
-    verified: &Verified,
-    args: &[i64],
-    memory: Memory,
-    workers: usize,
-) -> Result<Finished, RunFault>
-    requires { HasGlobalCells verified.now memory }
-{
-    let mut machine = Machine::start(alloc, verified, args, memory, workers)?;
-    for _ in 0..verified.budget() {
-        match machine.apply(&Event::Step(0)) {
-            Ok(true) => {}
-            Ok(false) => break,
-            Err(OutOfMemory) => return Err(RunFault::OutOfMemory),
-        }
-    }
-    finished(machine)
 }
 
 /// What a run came to. One that has not ended within its budget met a trap.

@@ -5,7 +5,7 @@ use Rattle.std.proofs.Math.ListN.{get_or-map}
 use Rattle.program.specs.declared.function.Block.{Block}
 use Rattle.program.specs.declared.instruction.Step.{Step}
 use Rattle.ranges.specs.region_match.declared.task.Task.{Task}
-use Rattle.cost_table.specs.Cost.{callee_of}
+use Rattle.program.specs.Calls.{callee_of}
 use Rattle.cost_table.specs.Depth.{greatest, greatest_block, callee_depth, block_depth, self_depth, self_call_depth, flat_depth, self_calls_depth, detaches_around}
 use Rattle.cost_table.specs.Tables.{as_u64, above_self_call}
 use Rattle.cost_table.proofs.Capped.{capped_sum, capped_max, above_max}

@@ -1,10 +1,9 @@
 -- What a call costs, and what a block does.
 use Rattle.std.specs.Prelude.{ℕ, zero, suc, ◌+◌, ◌*◌, ◌==◌, if◌then◌else◌, List, Option, Some, None, slice_get, sum_by}
+use Rattle.program.specs.Calls.{callee_of}
 use Rattle.program.specs.declared.annotation.Budget.{Budget}
 use Rattle.program.specs.declared.function.Block.{Block}
 use Rattle.program.specs.declared.function.Function.{Function}
-use Rattle.program.specs.declared.instruction.Instruction.{Instruction}
-use Rattle.program.specs.declared.instruction.Instruction.TheVariants as instruction
 use Rattle.program.specs.declared.instruction.Step.{Step}
 
 -- ---- calls
@@ -27,20 +26,6 @@ abbrev pub whole_cost : Function → ℕ
 whole_cost function = cost function function.measure.bound
 
 -- ---- blocks
-
--- the function that an instruction calls
-abbrev pub callee_of : Instruction → Option ℕ
-callee_of (instruction.Binary d operator width x y) = None
-callee_of (instruction.Compare d predicate width x y) = None
-callee_of (instruction.Convert d conversion x) = None
-callee_of (instruction.Alloca d alloca) = None
-callee_of (instruction.ElementPointer d object index) = None
-callee_of (instruction.Load d address) = None
-callee_of (instruction.Store x address) = None
-callee_of (instruction.StoreZeros cells object) = None
-callee_of (instruction.AtomicAdd address x) = None
-callee_of (instruction.Call d callee arguments) = Some callee.0
-callee_of (instruction.StartRegion d) = None
 
 abbrev pub whole_cost_of : Option Function → ℕ
 whole_cost_of None = 0

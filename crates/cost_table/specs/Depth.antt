@@ -6,10 +6,9 @@ use Rattle.program.specs.declared.function.Program.{Program}
 use Rattle.program.specs.declared.instruction.Step.{Step}
 use Rattle.ranges.specs.region_match.declared.task.Task.{Task}
 use Rattle.ranges.specs.region_match.declared.task.Task.TheVariants.{Unreached, Body, Child}
-use Rattle.ranges.specs.region_match.declared.tables.FunctionTasks.{FunctionTasks}
 use Rattle.ranges.specs.region_match.declared.tables.Regions.{Regions}
-use Rattle.ranges.specs.region_match.Tasks.{task_at}
-use Rattle.cost_table.specs.Cost.{callee_of}
+use Rattle.ranges.specs.region_match.Tasks.{task_at, tasks_in}
+use Rattle.program.specs.Calls.{callee_of}
 
 -- ---- detaches
 
@@ -69,10 +68,6 @@ depth_from before self tasks blocks (suc m) =
     max (flat_depth before self tasks blocks) (self_calls_depth self tasks blocks (depth_from before self tasks blocks m))
 
 -- ---- all functions: each calls itself or those before it
-
-abbrev pub tasks_in : Option FunctionTasks → List Task
-tasks_in None = []
-tasks_in (Some function) = function.tasks
 
 abbrev pub tasks_of : Regions → ℕ → List Task
 tasks_of regions f = tasks_in (slice_get regions.functions f)

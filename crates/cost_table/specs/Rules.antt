@@ -1,7 +1,8 @@
 -- The rules on cost. `left K S` says of a block how many self calls and how many other instructions the call may still do from the block's start on.
 use Rattle.std.specs.Prelude.{◌≡◌, ◌⊎◌, ℕ, pos, negsuc, ◌-ℤ◌, Bool, false, ◌<◌, ◌≤◌, List, [], ◌++◌, Option, Some, None, Any, slice_get}
-use Rattle.linear.specs.Forms.{Combination, constant_form}
+use Rattle.linear.specs.Forms.{Combination}
 use Rattle.linear.specs.declared.form.Fact.{Fact}
+use Rattle.program.specs.Blocks.{left_calls, left_instructions}
 use Rattle.program.specs.declared.function.Block.{Block}
 use Rattle.program.specs.declared.function.Function.{Function}
 use Rattle.program.specs.declared.function.Program.{Program}
@@ -50,14 +51,6 @@ IsOverdrawn known block broken =
     IsPairBroken 701 block.left.line (shows known (left_behind block.left.self_calls 0)) (shows known (left_behind block.left.instructions 0)) broken
 
 -- ---- 702: what is left of a block covers what it does and what is left where it goes on
-
-abbrev pub left_calls : Option Block → Combination
-left_calls None = constant_form (pos 0)
-left_calls (Some block) = block.left.self_calls
-
-abbrev pub left_instructions : Option Block → Combination
-left_instructions None = constant_form (pos 0)
-left_instructions (Some block) = block.left.instructions
 
 -- along an edge, with the phis of its target replaced
 abbrev pub IsEdgeUncovered : List Function → Function → ℕ → Block → ℕ → EdgeFacts → Broken → Type 0

@@ -1,5 +1,5 @@
 ghost use Rattle.std.specs.Prelude.{◌≡◌};
-ghost use Rattle.cost_table.specs.Cost.{callee_of};
+ghost use Rattle.program.specs.Calls.{callee_of};
 
 use program::Instruction;
 

@@ -2,7 +2,8 @@ ghost use Rattle.std.specs.Prelude.{Some, IfOk, IfErr, OnOk, slice_get};
 ghost use Rattle.refusal.specs.declared.broken.Broken.{Broken};
 ghost use Rattle.refusal.specs.Earliest.{IsEarliest, NamesEarliest};
 ghost use Rattle.ranges.specs.Places.{IsFunctionTable, AreFacts, facts_in_table};
-ghost use Rattle.cost_table.specs.Rules.{IsEndingUncovered, AreStepsNotFalling, IsEntryBroken, IsBlockBrokenBy, AreBlocksBroken, IsFunctionBroken, IsCostBroken};
+ghost use Rattle.cost_table.specs.Rules.{IsEndingUncovered, AreStepsNotFalling, IsEntryBroken, IsBlockBrokenBy, AreBlocksBroken, IsFunctionBroken};
+ghost use Rattle.cost_table.specs.Rules.{IsCostBroken};
 ghost use Rattle.cost_table.specs.Tables.{IsTable};
 
 use crate::CostFault;

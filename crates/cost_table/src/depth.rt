@@ -1,6 +1,6 @@
 ghost use Rattle.std.specs.Prelude.{◌≡◌, ◌≤◌, ◌+◌, suc, length};
 ghost use Rattle.program.specs.declared.instruction.Step.{Step};
-ghost use Rattle.cost_table.specs.Cost.{callee_of};
+ghost use Rattle.program.specs.Calls.{callee_of};
 ghost use Rattle.cost_table.specs.Depth.{greatest, callee_depth, block_depth, self_depth, self_call_depth, flat_depth, self_calls_depth};
 ghost use Rattle.cost_table.specs.Tables.{as_u64};
 

@@ -3,7 +3,9 @@ ghost use Rattle.linear.specs.Forms.{constant_form};
 ghost use Rattle.program.specs.declared.function.Function.{Function};
 ghost use Rattle.refusal.specs.declared.broken.Broken.{Broken};
 ghost use Rattle.refusal.specs.Earliest.{IsEarliest};
-ghost use Rattle.cost_table.specs.Rules.{IsPairBroken, IsOverdrawn, left_calls, left_instructions, IsEdgeUncovered, IsForkUncovered, IsEndUncovered, IsUncoveredAt, IsUnbounded, IsNotFalling, IsCallNotFalling, IsOverBudget, IsTooCostly};
+ghost use Rattle.cost_table.specs.Rules.{IsPairBroken, IsOverdrawn, IsEdgeUncovered, IsForkUncovered, IsEndUncovered};
+ghost use Rattle.program.specs.Blocks.{left_calls, left_instructions};
+ghost use Rattle.cost_table.specs.Rules.{IsUncoveredAt, IsUnbounded, IsNotFalling, IsCallNotFalling, IsOverBudget, IsTooCostly};
 ghost use Rattle.cost_table.specs.Doing.{IsWork};
 
 use crate::sum::{covers_both, covers_next, covers_work, is_at_least_zero, is_at_most};

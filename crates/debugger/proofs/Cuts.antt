@@ -3,8 +3,7 @@ use Rattle.std.proofs.Common.{◌≡◌, ℕ, suc, ◌+◌, ◌<◌, Bool, true,
 use Rattle.std.proofs.lemmas.List.{take_rest, take-append-drop}
 use Rattle.std.proofs.Math.Seq.{take-append_seam, drop-append_seam}
 use Rattle.std.specs.List.{prefix_len, list_all}
-use Rattle.std.proofs.lemmas.Bool.{eqb-true, eq-eqb}
-use Rattle.ir_annotation.proofs.Digits.{both}
+use Rattle.std.proofs.lemmas.Bool.{eqb-true, eq-eqb, and_parts}
 use Rattle.debugger.specs.Reading.{is_not, CutAt}
 
 pub by_test : {P : Type 0} (b : Bool) → (b ≡ true → P) → (b ≡ false → P) → P
@@ -48,7 +47,7 @@ found byte xs front rest e = subst (λ (ys : List ℕ). prefix_len (is_not byte)
 length_of : (byte : ℕ) (front rest : List ℕ) → lacks byte front → prefix_len (is_not byte) rest ≡ 0 → prefix_len (is_not byte) (front ++ rest) ≡ length front
 length_of byte [] rest h none = none
 length_of byte (x ∷ front) rest h none =
-    let b = both (is_not byte x) (list_all (is_not byte) front) h in
+    let b = and_parts (is_not byte x) (list_all (is_not byte) front) h in
     let later : prefix_len (is_not byte) (front ++ rest) ≡ length front = length_of byte front rest b.1 none in
     rw b.0 (omega (arith, later))
 

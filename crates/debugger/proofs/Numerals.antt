@@ -3,14 +3,15 @@ use Rattle.std.proofs.Common.{◌≡◌, ℕ, ◌<◌, true, false, eqb, List, [
 use Rattle.std.specs.Char.{is_ascii_digit}
 use Rattle.std.specs.Str.{all_ascii_digits}
 use Rattle.std.proofs.lemmas.Bool.Decides.{nat_tests}
-use Rattle.ir_annotation.proofs.Digits.{both, numeral_digits}
+use Rattle.std.proofs.lemmas.Bool.{and_parts}
+use Rattle.ir_annotation.proofs.Digits.{numeral_digits}
 use Rattle.debugger.specs.ScheduleText.{IsNumeral}
 use Rattle.debugger.proofs.Cuts.{lacks}
 
 digits_lack : (byte : ℕ) (ds : List ℕ) → byte < 48 → all_ascii_digits ds ≡ true → lacks byte ds
 digits_lack byte [] low h = refl
 digits_lack byte (d ∷ ds) low h =
-    let b = both (is_ascii_digit d) (all_ascii_digits ds) h in
+    let b = and_parts (is_ascii_digit d) (all_ascii_digits ds) h in
     let digit : is_ascii_digit d ≡ true = b.0 in
     let other : eqb d byte ≡ false = grind (arith, nat_tests) in
     rw other (digits_lack byte ds low b.1)

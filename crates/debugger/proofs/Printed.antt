@@ -3,7 +3,7 @@ use Rattle.std.proofs.Common.{◌≡◌, ℕ, zero, suc, ◌+◌, ◌≤◌, ◌
 use Rattle.std.specs.Prelude.{replicate, decimal, flat_map, ◌&&◌, nat_le}
 use Rattle.std.specs.List.{prefix_len, list_all}
 use Rattle.std.proofs.lemmas.Fmt.{decimal-digits_value}
-use Rattle.std.proofs.lemmas.Bool.{eqb-true, eq-eqb}
+use Rattle.std.proofs.lemmas.Bool.{eqb-true, eq-eqb, and_parts, or_cases}
 use Rattle.std.proofs.lemmas.Bool.Decides.{nat_tests}
 use Rattle.std.specs.Char.{is_ascii_digit}
 use Rattle.debugger.proofs.Cuts.{by_test}
@@ -12,7 +12,7 @@ use Rattle.std.proofs.Math.Seq.{drop-append_seam}
 use Rattle.schedule_core.specs.declared.event.Event.{Event}
 use Rattle.schedule_core.specs.declared.event.Event.TheVariants.{Step, Steal}
 use Rattle.ir_annotation.specs.Words.{is_numeral}
-use Rattle.ir_annotation.proofs.Digits.{both, either, numeral_digits, own}
+use Rattle.ir_annotation.proofs.Digits.{numeral_digits, own}
 use Rattle.debugger.specs.declared.line.Line.{Line}
 use Rattle.debugger.specs.declared.line.Line.TheVariants.{Steps, Steals}
 use Rattle.debugger.specs.ScheduleText.{IsNumeral, AreChildren, IsSpelled, IsText, AreApart, IsSchedule, stepper, line_events, events_of, most}
@@ -24,11 +24,11 @@ numeral_some (d ∷ ds) h = omega arith
 
 numeral_zero : (digits : List ℕ) → is_numeral digits ≡ true → get_or digits 0 0 ≡ 48 → length digits ≡ 1
 numeral_zero [] h e = absurd cc
-numeral_zero (d ∷ ds) h e = elim (either (eqb d 48 && eqb (length ds) 0) ((nat_le 49 d && nat_le d 57) && list_all is_ascii_digit ds) h) [
-  | inl w ↦ let none : length ds ≡ 0 = eqb-true (length ds) 0 (both (eqb d 48) (eqb (length ds) 0) w).1 in omega (arith, none)
+numeral_zero (d ∷ ds) h e = elim (or_cases (eqb d 48 && eqb (length ds) 0) ((nat_le 49 d && nat_le d 57) && list_all is_ascii_digit ds) h) [
+  | inl w ↦ let none : length ds ≡ 0 = eqb-true (length ds) 0 (and_parts (eqb d 48) (eqb (length ds) 0) w).1 in omega (arith, none)
   | inr w ↦
-      let range = both (nat_le 49 d && nat_le d 57) (list_all is_ascii_digit ds) w in
-      let low : nat_le 49 d ≡ true = (both (nat_le 49 d) (nat_le d 57) range.0).0 in
+      let range = and_parts (nat_le 49 d && nat_le d 57) (list_all is_ascii_digit ds) w in
+      let low : nat_le 49 d ≡ true = (and_parts (nat_le 49 d) (nat_le d 57) range.0).0 in
       let more : 49 ≤ d = grind (arith, nat_tests) in
       let less : d ≡ 48 = e in
       absurd (omega (arith, more, less))

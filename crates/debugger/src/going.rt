@@ -85,7 +85,8 @@ impl<'v> Debugger<'v> {
         ensures in_range { OnOk result (IsNumberOfWorkers workers) }
         ensures bad_workers { (m : Memory) → result ≡ Err (RunFault.BadWorkers m) → (m ≡ memory) × ¬ IsNumberOfWorkers workers }
         ensures bad_arguments { (requirement : ℕ) (m : Memory) → result ≡ Err (RunFault.BadArguments requirement m) → m ≡ memory }
-        ensures unmet { (requirement : ℕ) (m : Memory) → result ≡ Err (RunFault.BadArguments requirement m) → unmet_in verified.now arguments.now ≡ Some requirement }
+        ensures unmet { (requirement : ℕ) (m : Memory) → result ≡ Err (RunFault.BadArguments requirement m) →
+            unmet_in verified.now arguments.now ≡ Some requirement }
         ensures met { OnOk result (unmet_in verified.now arguments.now ≡ None) }
         ensures no_trap { result ≢ Err RunFault.Trapped }
     {

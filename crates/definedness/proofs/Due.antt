@@ -1,7 +1,7 @@
 -- What a block has of what is given.
 use Rattle.std.proofs.Common.{◌≡◌, ◌==◌, ◌&&◌, ◌||◌, ℕ, ◌+◌, ◌<◌, ◌≤◌, Bool, true, false, cond, List, [], ◌∷◌, ◌++◌, Option, Some, None, length, set, inl, inr, refl, sym, ap, ◌∙◌, arith}
 use Rattle.std.specs.List.{filter, list_any, list_all}
-use Rattle.std.proofs.lemmas.Bool.{cases_lt, true≢false, false≢true, eqb-true}
+use Rattle.std.proofs.lemmas.Bool.{cases_lt, true≢false, false≢true, eqb-true, and_from, cases_Bool}
 use Rattle.std.proofs.lemmas.List.{length_push, get_or_past}
 use Rattle.std.proofs.lemmas.List.Elements.{Contains-append_left, Contains-push}
 use Rattle.std.proofs.lemmas.List.Sums.{sum_by-set, length-filter, count_by-le-length}
@@ -13,7 +13,7 @@ use Rattle.definedness.specs.declared.sets.Label.TheVariants.{Sure, Due}
 use Rattle.definedness.specs.declared.sets.Sets.{Sets}
 use Rattle.definedness.specs.Sure.{Labels}
 use Rattle.definedness.specs.Settling.{has, due_in, label_in, is_sure_label, label_at, label_of, count_sure, weight, load, due_and_given, KeepsBoth, IsTableLabelling, IsBelow, IsFit, Lowers}
-use Rattle.definedness.proofs.Settling.{bool_cases, puts_lowers, label_here, lowers_none, unsure_held}
+use Rattle.definedness.proofs.Settling.{puts_lowers, label_here, lowers_none, unsure_held}
 
 has_cond : (g : Bool) (x : RegisterId) (rest : List RegisterId) (r : RegisterId) → has (cond g (x ∷ rest) rest) r ≡ ((g && (x.0 == r.0)) || has rest r)
 has_cond true x rest r = refl
@@ -38,8 +38,8 @@ has_both given (x ∷ xs) r =
 
 all_kept : (given old : List RegisterId) → length old ≤ length (filter (λ its. has given its) old) → (r : RegisterId) → has old r ≡ true → has given r ≡ true
 all_kept given [] le r h = absurd (false≢true h)
-all_kept given (x ∷ xs) le r h = elim (bool_cases (has given x)) [
-  | inl t ↦ elim (bool_cases (x.0 == r.0)) [
+all_kept given (x ∷ xs) le r h = elim (cases_Bool (has given x)) [
+  | inl t ↦ elim (cases_Bool (x.0 == r.0)) [
     | inl e ↦ ap (λ n. list_any (λ its. its.0 == n) given) (sym (eqb-true x.0 r.0 e)) ∙ t
     | inr ne ↦ all_kept given xs (omega (arith, rw t at le)) r (rw ne at h)
   ]
@@ -48,14 +48,14 @@ all_kept given (x ∷ xs) le r h = elim (bool_cases (has given x)) [
 
 pub kept_same : (given old : List RegisterId) → list_all (has given) old ≡ true → length old ≤ length (filter (λ its. has given its) old)
 kept_same given [] h = omega arith
-kept_same given (x ∷ xs) h = elim (bool_cases (has given x)) [
+kept_same given (x ∷ xs) h = elim (cases_Bool (has given x)) [
   | inl t ↦ let rest = kept_same given xs (rw t at h) in rw t (omega (arith, rest))
   | inr f ↦ absurd (false≢true (rw f at h))
 ]
 
 pub kept_fewer : (given old : List RegisterId) → list_all (has given) old ≡ false → length (filter (λ its. has given its) old) < length old
 kept_fewer given [] h = absurd (true≢false h)
-kept_fewer given (x ∷ xs) h = elim (bool_cases (has given x)) [
+kept_fewer given (x ∷ xs) h = elim (cases_Bool (has given x)) [
   | inl t ↦ let rest = kept_fewer given xs (rw t at h) in rw t (omega (arith, rest))
   | inr f ↦ rw f (omega (arith, length-filter (λ its. has given its) xs, count_by-le-length (λ its. has given its) xs))
 ]
@@ -67,9 +67,6 @@ and_left false b h = h
 and_right : (a b : Bool) → (a && b) ≡ true → b ≡ true
 and_right true b h = h
 and_right false b h = absurd (false≢true h)
-
-and_both : (a b : Bool) → a ≡ true → b ≡ true → (a && b) ≡ true
-and_both a b h k = rw (h, k) refl
 
 some_label : (x : Label) → label_in x None ≡ false → (r : RegisterId) → label_in x (Some r) ≡ has (due_in x) r
 some_label Sure off r = absurd (true≢false off)
@@ -97,7 +94,7 @@ module _ (stops : List Bool) (forks : List Fork) (blocks : List BlockEdges) (bef
 
   both_kept : (k : Option RegisterId) → label_of before k to ≡ true → label_in (Due given) k ≡ true → label_in (Due (due_and_given before to given)) k ≡ true
   both_kept None h g = absurd (false≢true g)
-  both_kept (Some r) h g = has_both given (due_in (label_at before to)) r ∙ and_both (has (due_in (label_at before to)) r) (has given r) (sym (some_label (label_at before to) unsure r) ∙ h) g
+  both_kept (Some r) h g = has_both given (due_in (label_at before to)) r ∙ and_from (has (due_in (label_at before to)) r) (has given r) (sym (some_label (label_at before to) unsure r) ∙ h) g
 
   all_given : length (due_in (label_at before to)) ≤ length (due_and_given before to given) → (k : Option RegisterId) → label_of before k to ≡ true → label_in (Due given) k ≡ true
   all_given le None h = absurd (false≢true (sym unsure ∙ h))

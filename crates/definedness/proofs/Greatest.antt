@@ -2,7 +2,7 @@
 use Rattle.std.proofs.Common.{◌≡◌, ℕ, ◌-◌, ◌<◌, ◌≤◌, Bool, true, false, List, [], ◌∷◌, ◌++◌, Option, Some, None, length, get_or, inl, inr, refl, sym, ap, ⊎_elim, ◌∙◌, arith}
 use Rattle.std.specs.Prelude.{slice_get}
 use Rattle.std.specs.List.{All, AllWithin, Contains}
-use Rattle.std.proofs.lemmas.Bool.{cases_eq, cases_lt, true≢false, false≢true}
+use Rattle.std.proofs.lemmas.Bool.{cases_eq, cases_lt, true≢false, false≢true, false_from_ne_true}
 use Rattle.std.proofs.lemmas.List.{get_or_past}
 use Rattle.std.proofs.lemmas.List.Elements.{All-weaker, All-contains, Contains-get_or, Contains-push_cases}
 use Rattle.std.proofs.lemmas.List.Sums.{count_by-le-length}
@@ -21,10 +21,6 @@ use Rattle.definedness.specs.declared.sets.Sets.{Sets}
 use Rattle.definedness.specs.Sure.{Labels}
 use Rattle.definedness.specs.Settling.{due_in, label_in, is_sure_label, label_at, label_of, ended_in, IsHeldBy, EdgeGives, IsTableLabelling, IsBelow, IsFit, Lowers, IsSettledAt, IsAllSure, IsGreatest}
 use Rattle.definedness.proofs.Settling.{lowers_then}
-
-not_true : (b : Bool) → (b ≡ true → ⊥) → b ≡ false
-not_true true n = absurd (n refl)
-not_true false n = refl
 
 read_same : {X : Type 0} (xs : List X) (i : ℕ) (d e : X) → i < length xs → get_or xs i d ≡ get_or xs i e
 read_same xs i d e l = let same : Some (get_or xs i d) ≡ Some (get_or xs i e) = sym (slice_get-get_or xs i d l) ∙ slice_get-get_or xs i e l in cc
@@ -147,7 +143,7 @@ no_edges stops forks blocks sets work from past k d l = absurd (let w = edges_wi
 pub settling_done : (stops : List Bool) (forks : List Fork) (blocks : List BlockEdges) (sets : Sets) (work : List ℕ) → length work ≤ 0 → Settling stops forks blocks sets work → IsGreatest stops forks blocks sets
 settling_done stops forks blocks sets work none g = record {
   labelling = record {
-    entry = λ k. not_true (label_of sets k 0) (g.entry k);
+    entry = λ k. false_from_ne_true (label_of sets k 0) (g.entry k);
     edges = λ a. All-weaker (IsSettledAt stops forks sets work a) (λ (e : Edge). (k : Option RegisterId) → label_of sets k e.to.0 ≡ true → EdgeGives stops forks (label_of sets) k a e.way) (λ e h. ⊎_elim (λ c. absurd (omega (arith, none, c.1))) (λ kept. kept) h) (edges_of blocks a) (all_edges (IsSettledAt stops forks sets work) blocks g.settled a);
   };
   greatest = g.above;

@@ -2,7 +2,7 @@
 use Rattle.std.proofs.Common.{◌≡◌, ◌↔◌, ℕ, ◌+◌, ◌<◌, Bool, true, false, not, List, [], ◌∷◌, ◌++◌, length, get_or, Option, Some, None, inl, inr, refl, sym, ◌∙◌, arith}
 use Rattle.std.specs.Prelude.{slice_get}
 use Rattle.std.specs.List.{Contains}
-use Rattle.std.proofs.lemmas.Bool.{cases_eq, cases_lt, true≢false, false≢true}
+use Rattle.std.proofs.lemmas.Bool.{cases_eq, cases_lt, true≢false, false≢true, false_from_ne_true}
 use Rattle.std.proofs.lemmas.List.{length_push, get_or_append_left, get_or_push}
 use Rattle.std.proofs.lemmas.Option.{slice_get-get_or, slice_get_past}
 use Rattle.linear.specs.declared.form.RegisterId.{RegisterId}
@@ -17,10 +17,6 @@ use Rattle.definedness.specs.Sure.{Labels, IsStored, IsFork, IsEndOf, IsNeverSur
 use Rattle.definedness.specs.Settling.{label_of, Stores, region_in, Forks, ended_in, Ends, IsTableLabelling, IsGreatest}
 use Rattle.definedness.proofs.Forking.{end_within}
 use Rattle.definedness.proofs.Labelled.{labelling_to}
-
-not_true : (b : Bool) → (b ≡ true → ⊥) → b ≡ false
-not_true true n = absurd (n refl)
-not_true false n = refl
 
 pub record UnsureBelow (label : ℕ → Bool) (n : ℕ) (marks : List Bool) : Type 0 where
   pub size : length marks ≡ n
@@ -90,5 +86,5 @@ module _ (bodies : List Block) (blocks : List BlockEdges) (forks : List Fork) (e
 pub never_greatest : (stops : List Bool) (forks : List Fork) (blocks : List BlockEdges) (sets : Sets) → IsGreatest stops forks blocks sets → (b : ℕ) → b < length blocks → (label_of sets None b ≡ false) ↔ ((l : Labels) → IsTableLabelling stops forks blocks l → l None b ≡ true → ⊥)
 never_greatest stops forks blocks sets g b w = (
   λ h l is sure. true≢false (sym (g.greatest l is None b w sure) ∙ h),
-  λ never. not_true (label_of sets None b) (λ h. never (label_of sets) g.labelling h),
+  λ never. false_from_ne_true (label_of sets None b) (λ h. never (label_of sets) g.labelling h),
 )

@@ -2,7 +2,7 @@
 use Rattle.std.proofs.Common.{◌≡◌, ◌⊎◌, ℕ, ◌+◌, ◌<◌, ◌≤◌, Bool, true, false, cond, List, [], ◌∷◌, ◌++◌, Option, Some, None, length, get_or, set, inl, inr, refl, sym, ap, ◌∙◌, arith, get_or-set_same, get_or-set_other}
 use Rattle.std.specs.Prelude.{slice_get}
 use Rattle.std.specs.List.{Contains}
-use Rattle.std.proofs.lemmas.Bool.{cases_eq, cases_lt, true≢false, false≢true}
+use Rattle.std.proofs.lemmas.Bool.{cases_eq, cases_lt, true≢false, false≢true, cases_Bool}
 use Rattle.std.proofs.lemmas.List.{length-set, length_push, get_or_past}
 use Rattle.std.proofs.lemmas.List.Elements.{Contains-append_left, Contains-push}
 use Rattle.std.proofs.lemmas.List.Sums.{sum_by-set}
@@ -16,10 +16,6 @@ use Rattle.definedness.specs.declared.sets.Label.TheVariants.{Sure, Due}
 use Rattle.definedness.specs.declared.sets.Sets.{Sets}
 use Rattle.definedness.specs.Sure.{Labels}
 use Rattle.definedness.specs.Settling.{due_in, label_in, is_sure_label, label_at, label_of, count_sure, weight, load, Stores, ended_in, Ends, IsHeldBy, EdgeGives, IsTableLabelling, IsBelow, IsFit, Lowers, NotesEnd}
-
-pub bool_cases : (b : Bool) → (b ≡ true) ⊎ (b ≡ false)
-bool_cases true = inl refl
-bool_cases false = inr refl
 
 pub option_cases : (o : Option ℕ) (n : ℕ) → (o ≡ Some n) ⊎ (o ≡ Some n → ⊥)
 option_cases None n = inr (λ e. absurd (cc))
@@ -129,7 +125,7 @@ module _ (stops : List Bool) (forks : List Fork) (blocks : List BlockEdges) (bef
   puts_whole : (d end : ℕ) → d < length blocks → get_or after.lacking.items d false ≡ false → Ends forks d end → IsHeldBy stops (label_of after) None end
   puts_whole d end w h ends = elim (cases_eq end to) [
     | inl e ↦ rw e (p.whole d w h (rw e at ends))
-    | inr ne ↦ elim (bool_cases (get_or before.lacking.items d false)) [
+    | inr ne ↦ elim (cases_Bool (get_or before.lacking.items d false)) [
       | inl t ↦ absurd (true≢false (sym (p.marked d t) ∙ h))
       | inr f ↦ held_beside stops forks before after to new p.within p.put None end ne (fit.whole d end w f ends)
     ]
@@ -210,13 +206,13 @@ module _ (stops : List Bool) (forks : List Fork) (blocks : List BlockEdges) (bef
       | inl old ↦ inl old
       | inr here ↦ inr (here.0, λ held. here.1 (unsure_held stops after to unsure_now held))
     ];
-    whole = λ d within h ends. elim (bool_cases (get_or stops to false)) [
+    whole = λ d within h ends. elim (cases_Bool (get_or stops to false)) [
       | inl st ↦ inr (inr st)
       | inr off ↦ absurd (true≢false (sym (o.opened d (let s = fit.lacking in omega arith) ends (λ st. true≢false (sym st ∙ off))).0 ∙ h))
     ];
     waiting = λ a c. o.waiting a (Contains-append_left work (to ∷ []) a c);
     listed = o.waiting to (Contains-push work to);
-    woken = λ a within. elim (bool_cases (get_or stops to false)) [
+    woken = λ a within. elim (cases_Bool (get_or stops to false)) [
       | inl st ↦ inr (λ ends held. inr (inr st))
       | inr off ↦ elim (option_cases (ended_in (slice_get forks to)) a) [
         | inl ends ↦ inl (o.opened a (let s = fit.lacking in omega arith) ends (λ st. true≢false (sym st ∙ off))).1

@@ -12,7 +12,8 @@ use Rattle.program.specs.declared.instruction.Address.TheVariants.{First, Elemen
 use Rattle.program.specs.declared.instruction.Argument.{Argument}
 use Rattle.program.specs.declared.instruction.Argument.TheVariants as argument
 use Rattle.program.specs.declared.instruction.Instruction.{Instruction}
-use Rattle.program.specs.declared.instruction.Instruction.TheVariants.{Binary, Compare, Convert, Alloca, ElementPointer, Load, Store, StoreZeros, AtomicAdd, Call, StartRegion}
+use Rattle.program.specs.declared.instruction.Instruction.TheVariants.{Binary, Compare, Convert, Alloca, ElementPointer, Load, Store, StoreZeros}
+use Rattle.program.specs.declared.instruction.Instruction.TheVariants.{AtomicAdd, Call, StartRegion}
 use Rattle.program.specs.declared.instruction.Step.{Step}
 use Rattle.program.specs.Steps.{first_said}
 use Rattle.definedness.specs.declared.act.Act.{Act}

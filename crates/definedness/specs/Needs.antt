@@ -13,13 +13,10 @@ use Rattle.definedness.specs.declared.table.Row.{Row}
 abbrev pub gives : List Act → List ℕ
 gives acts = filter_map given acts
 
--- what the block of this number does; nothing past the last block
+-- what a block does; nothing where there is none
 abbrev pub acts_of : Option BlockActs → List Act
 acts_of None = []
 acts_of (Some block) = block.acts
-
-abbrev pub acts_at : List BlockActs → ℕ → List Act
-acts_at table b = acts_of (slice_get table b)
 
 -- an act needs what is not defined before it, and the block lacks it at its start
 abbrev pub IsNeedBroken : (ℕ → Type 0) → ℕ → List ℕ → Act → Broken → Type 0

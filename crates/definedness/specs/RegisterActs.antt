@@ -20,7 +20,8 @@ use Rattle.program.specs.declared.instruction.Argument.{Argument}
 use Rattle.program.specs.declared.instruction.Argument.TheVariants as argument
 use Rattle.program.specs.declared.instruction.Ending.{Ending}
 use Rattle.program.specs.declared.instruction.Instruction.{Instruction}
-use Rattle.program.specs.declared.instruction.Instruction.TheVariants.{Binary, Compare, Convert, Alloca, ElementPointer, Load, Store, StoreZeros, AtomicAdd, Call, StartRegion}
+use Rattle.program.specs.declared.instruction.Instruction.TheVariants.{Binary, Compare, Convert, Alloca, ElementPointer, Load, Store, StoreZeros}
+use Rattle.program.specs.declared.instruction.Instruction.TheVariants.{AtomicAdd, Call, StartRegion}
 use Rattle.program.specs.declared.instruction.Operand.{Operand}
 use Rattle.program.specs.declared.instruction.Operand.TheVariants.{Number, Register}
 use Rattle.program.specs.declared.instruction.Phi.{Phi}

@@ -1,5 +1,6 @@
 -- For the functions of this crate and their loops alone: the labelling of an alloca that is being made smaller.
-use Rattle.std.specs.Prelude.{◌≡◌, ◌⊎◌, ◌↔◌, ◌==◌, ◌++◌, ℕ, ◌+◌, ◌<◌, ◌≤◌, Bool, true, false, List, [], ◌∷◌, Option, Some, None, length, set, Contains, count_by, sum_by, slice_get, slice_index_or}
+use Rattle.std.specs.Prelude.{◌≡◌, ◌⊎◌, ◌↔◌, ◌==◌, ◌++◌, ℕ, ◌+◌, ◌<◌, ◌≤◌, Bool, true, false, List, [], ◌∷◌, Option, Some, None, length, set}
+use Rattle.std.specs.Prelude.{Contains, count_by, sum_by, slice_get, slice_index_or}
 use Rattle.std.specs.List.{list_any, filter}
 use Rattle.linear.specs.declared.form.RegisterId.{RegisterId}
 use Rattle.cfg.specs.declared.structure.BlockEdges.{BlockEdges}

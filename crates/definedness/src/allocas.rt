@@ -1,6 +1,7 @@
 ghost use Rattle.std.specs.Prelude.{◌≡◌, ◌++◌, OnOk, IfOk};
 ghost use Rattle.std.specs.List.{flat_map};
-ghost use Rattle.definedness.specs.AllocaActs.{element_in, element_object, object_read, element_read, address_read, argument_read, object_set, single_set, first_set, address_set, instruction_cells, step_cells, alloca_acts};
+ghost use Rattle.definedness.specs.AllocaActs.{element_in, element_object, object_read, element_read, address_read, argument_read, object_set};
+ghost use Rattle.definedness.specs.AllocaActs.{single_set, first_set, address_set, instruction_cells, step_cells, alloca_acts};
 
 use crate::act::Act;
 use program::{Address, Alloca, Argument, Block, Instruction, ObjectName, RegisterId, Step};

@@ -4,7 +4,8 @@ ghost use Rattle.refusal.specs.Earliest.{IsEarliest, NamesEarliest};
 ghost use Rattle.region_match.specs.Tasks.{AreTasks, AreAllTasks};
 ghost use Rattle.definedness.specs.Needs.{mark_at};
 ghost use Rattle.definedness.specs.Sure.{IsNeverSure};
-ghost use Rattle.definedness.specs.Definedness.{register_table, alloca_table, AreRegistersDefined, IsUndefined, IsUnsure, IsFunctionBroken, IsDefinednessBroken};
+ghost use Rattle.definedness.specs.Definedness.{register_table, alloca_table, AreRegistersDefined, IsUndefined, IsUnsure, IsFunctionBroken};
+ghost use Rattle.definedness.specs.Definedness.{IsDefinednessBroken};
 
 use crate::DefinedFault;
 use crate::act::BlockActs;

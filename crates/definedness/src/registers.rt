@@ -1,7 +1,10 @@
 ghost use Rattle.std.specs.Prelude.{◌≡◌, ◌++◌, length, OnOk, IfOk};
 ghost use Rattle.std.specs.Option.{option_copied};
 ghost use Rattle.std.specs.List.{flat_map};
-ghost use Rattle.definedness.specs.RegisterActs.{register_needs, operand_needs, form_needs, inequality_needs, alloca_needs, object_needs, zone_needs, pending_needs, left_needs, address_needs, argument_needs, instruction_needs, definition_of, definition_gives, step_acts, result_needs, terminator_needs, ending_needs, entry_needs, phi_needs, value_needs, phi_gives, note_needs, gives_below, start_gives, body_acts, register_acts};
+ghost use Rattle.definedness.specs.RegisterActs.{register_needs, operand_needs, form_needs, inequality_needs, alloca_needs, object_needs, zone_needs};
+ghost use Rattle.definedness.specs.RegisterActs.{pending_needs, left_needs, address_needs, argument_needs, instruction_needs, definition_of};
+ghost use Rattle.definedness.specs.RegisterActs.{definition_gives, step_acts, result_needs, terminator_needs, ending_needs, entry_needs, phi_needs};
+ghost use Rattle.definedness.specs.RegisterActs.{value_needs, phi_gives, note_needs, gives_below, start_gives, body_acts, register_acts};
 
 use crate::act::Act;
 use program::{

@@ -1,9 +1,12 @@
-ghost use Rattle.std.specs.Prelude.{◌≡◌, ◌⊎◌, ◌↔◌, ◌+◌, ◌<◌, ◌≤◌, ◌++◌, ◌∷◌, ℕ, List, [], Option, Some, None, true, false, length, set, All, Contains, IsTrue, IfOk, OnOk, slice_index_or};
+ghost use Rattle.std.specs.Prelude.{◌≡◌, ◌⊎◌, ◌↔◌, ◌+◌, ◌<◌, ◌≤◌, ◌++◌, ◌∷◌, ℕ, List, [], Option, Some, None, true, false, length, set, All};
+ghost use Rattle.std.specs.Prelude.{Contains, IsTrue, IfOk, OnOk, slice_index_or};
 ghost use Rattle.linear.specs.declared.form.RegisterId.{RegisterId};
 ghost use Rattle.cfg.specs.Paths.{edges_of};
 ghost use Rattle.definedness.specs.Sure.{Labels};
 ghost use Rattle.definedness.specs.declared.sets.Label.TheVariants.{Due};
-ghost use Rattle.definedness.specs.Settling.{has, due_in, label_in, label_at, label_of, count_sure, Ends, Forks, IsHeldBy, IsOver, IsJoined, EdgeGives, IsFit, IsBelow, IsTableLabelling, IsSettledAt, IsAllSure, KeepsBoth, Lowers, NotesEnd, IsGreatest};
+ghost use Rattle.definedness.specs.Settling.{has, due_in, label_in, label_at, label_of, count_sure, Ends, Forks, IsHeldBy, IsOver, IsJoined};
+ghost use Rattle.definedness.specs.Settling.{EdgeGives, IsFit, IsBelow, IsTableLabelling, IsSettledAt, IsAllSure, KeepsBoth, Lowers, NotesEnd};
+ghost use Rattle.definedness.specs.Settling.{IsGreatest};
 
 use crate::fork::Fork;
 use crate::sets::{Label, Sets, add_region};

@@ -5,7 +5,8 @@ ghost use Rattle.running.specs.Arithmetic.{word, Gives};
 ghost use Rattle.frame.specs.Answers.{Fits};
 ghost use Rattle.program.specs.Widths.{source_width};
 ghost use Rattle.engine.specs.Arithmetic.{IsGiven};
-ghost use Rattle.syntax.specs.declared.operator.BinaryOperator.TheVariants.{SignedDivide, UnsignedDivide, SignedRemainder, UnsignedRemainder, ShiftLeft, LogicalShiftRight, ArithmeticShiftRight};
+ghost use Rattle.syntax.specs.declared.operator.BinaryOperator.TheVariants.{SignedDivide, UnsignedDivide, SignedRemainder, UnsignedRemainder};
+ghost use Rattle.syntax.specs.declared.operator.BinaryOperator.TheVariants.{ShiftLeft, LogicalShiftRight, ArithmeticShiftRight};
 ghost use mir.Val.{bits as bits_of};
 
 use program::{BinaryOperator, Conversion, Predicate, Width};

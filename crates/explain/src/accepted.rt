@@ -1,19 +1,12 @@
 //! What an accepted module could do without.
 
-use crate::cost::number_less;
-use crate::lines::with_line_at;
-use crate::report::Source;
-use crate::scene::Scene;
-use crate::spelling::push_form;
+use cost_notes::push_budgets;
+use findings::{Source, with_line_at};
 use ir_text::read;
-use linear::Form;
 use lists::OutOfMemory;
 use program::Program;
-use ranges::sum_form;
-use refusal::Refused;
 use std::alloc::Global;
-use syntax::Module;
-use verifier::verify;
+use verifier::{Refused, verify};
 
 /// How many annotations are tried: each asks the verifier once.
 const MOST_TRIED: usize = 1_000;
@@ -43,54 +36,6 @@ fn push_unneeded(alloc: Global, source: Source<'_>, out: &mut String) -> Result<
             if is_unneeded(alloc, source, number)? {
                 writeln!(out, "accepted without line {number}: {words}")?;
             }
-        }
-    }
-    Ok(())
-}
-
-/// What a number is more than a form.
-fn push_over(
-    alloc: Global,
-    scene: &Scene<'_>,
-    number: u64,
-    form: &Form,
-    out: &mut String,
-) -> Result<(), OutOfMemory> {
-    let sum = number_less(alloc, i128::from(number), &[], form)?;
-    match sum_form(alloc, &sum)? {
-        Some(form) => push_form(alloc, scene, &form, out),
-        None => Ok(out.push_str("?")?),
-    }
-}
-
-/// What a function's budget has over what is left at its entry.
-fn push_budget(alloc: Global, scene: &Scene<'_>, out: &mut String) -> Result<(), OutOfMemory> {
-    let function = scene.function;
-    let Some(entry) = function.blocks.as_slice().first() else {
-        return Ok(());
-    };
-    let name = function.name.as_str();
-    let (calls, instructions) = (function.budget.self_calls, function.budget.instructions);
-    write!(
-        out,
-        "@{name} budget {calls} {instructions}, over what is left at the entry: "
-    )?;
-    push_over(alloc, scene, calls, &entry.left.self_calls, out)?;
-    out.push_str(" ")?;
-    push_over(alloc, scene, instructions, &entry.left.instructions, out)?;
-    out.push_str("\n")?;
-    Ok(())
-}
-
-fn push_budgets(
-    alloc: Global,
-    program: &Program,
-    whole: &Module,
-    out: &mut String,
-) -> Result<(), OutOfMemory> {
-    for index in 0..program.functions.len() {
-        if let Some(scene) = Scene::of(alloc, program, whole, index)? {
-            push_budget(alloc, &scene, out)?;
         }
     }
     Ok(())

@@ -1,12 +1,10 @@
 //! What is to be stored before the cells of an alloca are read.
 
-use crate::lines::with_line_before;
-use crate::report::Source;
-use crate::scene::Scene;
-use crate::trial::{Matched, match_text};
+use findings::{Source, with_line_before};
 use footprints::address_cell;
 use lists::OutOfMemory;
 use program::{Address, AllocaId, Argument, Block, Instruction, ObjectName, Step};
+use scenes::{Matched, Scene, match_text};
 use std::alloc::Global;
 use verifier::{Refused, verify};
 

@@ -2,17 +2,19 @@ ghost use Rattle.std.specs.Prelude.{◌≡◌, IfOk};
 ghost use Rattle.explain.specs.Verdict.{IsVerdictOn};
 
 use crate::accepted::remarks;
-use crate::access::zone_findings;
 use crate::alloca::alloca_notes;
-use crate::cost::cost_findings;
-use crate::number_notes::number_findings;
-use crate::report::{Explanation, Finding, Source, push_finding};
-use crate::trial::match_text;
-use crate::word::word_findings;
+use crate::report::Explanation;
+use cost_notes::cost_findings;
+use findings::{Finding, Source, push_finding};
 use lists::{OutOfMemory, Seq};
+use name_notes::name_notes;
+use number_notes::number_findings;
+use scenes::match_text;
 use std::alloc::Global;
 use std::hash::RandomState;
 use verifier::{Refused, verify};
+use word_notes::word_findings;
+use zone_notes::zone_findings;
 
 /// The faults of the phase of numbers, zones or costs.
 fn program_findings(
@@ -45,11 +47,13 @@ fn findings_of(
     if number >= 500 {
         return program_findings(alloc, source, number);
     }
+    let notes = if number == 402 {
+        alloca_notes(alloc, source, line)?
+    } else {
+        name_notes(alloc, source, number, line)?
+    };
     let mut findings: Vec<Finding> = Vec::new(alloc);
-    if number == 402 {
-        let notes = alloca_notes(alloc, source, line)?;
-        push_finding(&mut findings, number, line, notes)?;
-    }
+    push_finding(&mut findings, number, line, notes)?;
     Ok(findings)
 }
 

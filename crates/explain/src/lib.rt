@@ -5,25 +5,13 @@
 #![tactic(auto)]
 
 mod accepted;
-mod access;
 mod alloca;
-mod cost;
 mod explaining;
-mod gap;
-mod known;
-mod left_out;
-mod lines;
-mod number;
-mod number_notes;
+mod printing;
 mod report;
-mod rule;
-mod rule_texts;
-mod scene;
-mod spelling;
-mod trial;
-mod word;
-mod zone_text;
 
 pub use explaining::explain;
-pub use report::{Explanation, Finding};
-pub use rule::{rule_text, told};
+pub use findings::Finding;
+pub use printing::told;
+pub use report::Explanation;
+pub use rules::rule_text;

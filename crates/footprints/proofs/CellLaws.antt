@@ -1,7 +1,7 @@
 -- What facts show of zones, at values of the registers that meet the facts.
-use Rattle.std.proofs.Common.{◌≡◌, ◌∙◌, ℕ, ℤ, pos, negsuc, ◌+ℤ◌, ◌-ℤ◌, ◌*ℤ◌, ◌≤ℤ◌, Bool, true, false, not, ◌&&◌, ◌||◌, List, [], ◌∷◌, ◌++◌, ◌⊎◌, inl, inr, refl, sym, ap, subst, ⊎_elim, arith}
+use Rattle.std.proofs.Common.{◌≡◌, ◌∙◌, ℕ, ℤ, pos, negsuc, ◌+ℤ◌, ◌-ℤ◌, ◌*ℤ◌, ◌≤ℤ◌, true, false, not, List, [], ◌∷◌, ◌++◌, ◌⊎◌, refl, sym, ap, subst, ⊎_elim, arith}
 use Rattle.std.specs.List.{Any}
-use Rattle.std.proofs.lemmas.Bool.{false≢true, eqb-true, eq-eqb, not-true, not-false}
+use Rattle.std.proofs.lemmas.Bool.{false≢true, eqb-true, eq-eqb, not-true, not-false, and_parts, or_cases}
 use Rattle.std.proofs.lemmas.Int.{ints}
 use Rattle.std.proofs.lemmas.List.Folds.{Any-from_list_any}
 use Rattle.linear.specs.declared.form.Term.{Term}
@@ -59,14 +59,6 @@ order_true facts for_high high for_low low h v all =
 
 -- ---- tests taken apart
 
-both : (a b : Bool) → (a && b) ≡ true → (a ≡ true) × (b ≡ true)
-both true b h = (refl, h)
-both false b h = absurd (false≢true h)
-
-either : (a b : Bool) → (a || b) ≡ true → (a ≡ true) ⊎ (b ≡ true)
-either true b h = inl refl
-either false b h = inr h
-
 same_names : (a b : ObjectName) → same_object a b ≡ true → a ≡ b
 same_names (Global a) (Global b) h = let e = eqb-true a.0 b.0 h in ap (λ (n : ℕ). Global (record { 0 = n })) e
 same_names (Global a) (Alloca b) h = absurd (false≢true h)
@@ -99,9 +91,9 @@ empty_cells facts z h v all o i cell =
 pub covered_cells : (facts : List Fact) (z y : Span) → covers facts z y ≡ true → (v : ℕ → ℤ) → AllHold v facts → (o : ObjectName) (i : ℤ) → HasCell v y o i → HasCell v z o i
 unfolding covers
 covered_cells facts z y h v all o i cell =
-    let object = both (same_object z.object y.object) _ h in
-    let mode = both (mode_covers z.zone.mode y.zone.mode) _ object.1 in
-    let ends = both (shows_order facts y.moves y.zone.low z.moves z.zone.low) _ mode.1 in
+    let object = and_parts (same_object z.object y.object) _ h in
+    let mode = and_parts (mode_covers z.zone.mode y.zone.mode) _ object.1 in
+    let ends = and_parts (shows_order facts y.moves y.zone.low z.moves z.zone.low) _ mode.1 in
     record {
       object_is = cell.object_is ∙ sym (same_names z.object y.object object.0);
       from_low = chain _ _ _ (order_true facts y.moves y.zone.low z.moves z.zone.low ends.0 v all) cell.from_low;
@@ -110,7 +102,7 @@ covered_cells facts z y h v all o i cell =
 
 pub covers_mode : (facts : List Fact) (z y : Span) → covers facts z y ≡ true → mode_covers z.zone.mode y.zone.mode ≡ true
 unfolding covers
-covers_mode facts z y h = (both (mode_covers z.zone.mode y.zone.mode) _ (both (same_object z.object y.object) _ h).1).0
+covers_mode facts z y h = (and_parts (mode_covers z.zone.mode y.zone.mode) _ (and_parts (same_object z.object y.object) _ h).1).0
 
 other_object : (z y o : ObjectName) → not (same_object z y) ≡ true → o ≡ z → o ≡ y → ⊥
 other_object z y o h e k =
@@ -127,16 +119,16 @@ apart_cells facts z y h v all o i in_z in_y =
     (λ rest3. ⊎_elim
     (λ e. nothing_between _ _ i (order_true facts z.moves z.zone.low y.moves y.zone.high e v all) in_z.from_low in_y.before_high)
     (λ e. nothing_between _ _ i (order_true facts y.moves y.zone.low z.moves z.zone.high e v all) in_y.from_low in_z.before_high)
-    (either (shows_order facts z.moves z.zone.low y.moves y.zone.high) _ rest3))
-    (either (is_empty facts y) _ rest2))
-    (either (is_empty facts z) _ rest))
-    (either (not (same_object z.object y.object)) _ h)
+    (or_cases (shows_order facts z.moves z.zone.low y.moves y.zone.high) _ rest3))
+    (or_cases (is_empty facts y) _ rest2))
+    (or_cases (is_empty facts z) _ rest))
+    (or_cases (not (same_object z.object y.object)) _ h)
 
 pub shared_cells : (facts : List Fact) (z y : Span) → conflict facts z y ≡ false → (v : ℕ → ℤ) → AllHold v facts → (o : ObjectName) (i : ℤ) → HasCell v z o i → HasCell v y o i → modes_agree z.zone.mode y.zone.mode ≡ true
 unfolding conflict
 shared_cells facts z y h v all o i in_z in_y =
     ⊎_elim (λ e. e) (λ e. absurd (apart_cells facts z y e v all o i in_z in_y))
-    (either (modes_agree z.zone.mode y.zone.mode) (is_apart facts z y) (not-false _ h))
+    (or_cases (modes_agree z.zone.mode y.zone.mode) (is_apart facts z y) (not-false _ h))
 
 pub covered_by_one : (facts : List Fact) (zones : List Zone) (y : Span) → is_covered facts zones y ≡ true → (v : ℕ → ℤ) → AllHold v facts → (o : ObjectName) (i : ℤ) → HasCell v y o i →
     Any (λ z. HasCell v (as_written z) o i × (mode_covers z.mode y.zone.mode ≡ true)) zones
@@ -146,4 +138,4 @@ covered_by_one facts zones y h v all o i cell =
     (λ e.
     let any = Any-from_list_any (λ (z : Zone). covers facts (as_written z) y) zones e in
     (any.0, any.1, any.2, any.3, (covered_cells facts (as_written any.1) y any.4 v all o i cell, covers_mode facts (as_written any.1) y any.4)))
-    (either (is_empty facts y) _ h)
+    (or_cases (is_empty facts y) _ h)

@@ -11,9 +11,8 @@ use Rattle.program.specs.declared.function.Program.{Program}
 use Rattle.refusal.specs.declared.broken.Broken.{Broken}
 use Rattle.ranges.specs.region_match.declared.task.Task.{Task}
 use Rattle.ranges.specs.region_match.declared.task.Task.TheVariants.{Unreached, Body, Child}
-use Rattle.ranges.specs.region_match.declared.tables.FunctionTasks.{FunctionTasks}
 use Rattle.ranges.specs.region_match.declared.tables.Regions.{Regions}
-use Rattle.ranges.specs.region_match.Tasks.{task_at}
+use Rattle.ranges.specs.region_match.Tasks.{task_at, tasks_in}
 use Rattle.ranges.specs.region_match.Rules.{ending_at}
 use Rattle.ranges.specs.declared.table.EdgeFacts.{EdgeFacts}
 use Rattle.ranges.specs.Places.{facts_at_step, facts_at_end, edges_known}
@@ -87,15 +86,11 @@ abbrev pub IsFunctionBroken : List Function → Function → List Task → Broke
 IsFunctionBroken functions function tasks broken =
     (b : ℕ) × (block : Block) × (slice_get function.blocks b ≡ Some block) × IsBlockBroken functions function (task_at tasks b) b block broken
 
-abbrev pub tasks_of : Option FunctionTasks → List Task
-tasks_of None = []
-tasks_of (Some table) = table.tasks
-
 -- 601 to 604
 abbrev pub IsZoneBroken : Program → Regions → Broken → Type 0
 IsZoneBroken program regions broken =
     (f : ℕ) × (function : Function) × (slice_get program.functions f ≡ Some function)
-    × IsFunctionBroken program.functions function (tasks_of (slice_get regions.functions f)) broken
+    × IsFunctionBroken program.functions function (tasks_in (slice_get regions.functions f)) broken
 
 -- by this table of tasks none of these rules is broken
 abbrev pub AreZonesRightBy : Program → Regions → Type 0

@@ -5,7 +5,9 @@ ghost use Rattle.ranges.specs.region_match.Rules.{ending_at};
 ghost use Rattle.ranges.specs.region_match.Tasks.{task_at};
 ghost use Rattle.ranges.specs.Places.{IsBlockTable, IsFunctionTable, AreFacts, facts_in_table};
 ghost use Rattle.footprints.specs.Footprints.{place_of};
-ghost use Rattle.footprints.specs.Rules.{foot_at_end, covering_of, is_own_block, place_in, tasks_of, IsStepBroken, AreStepsBroken, IsEndBroken, IsBlockBrokenBy, IsBlockBroken, IsFunctionBroken, IsZoneBroken};
+ghost use Rattle.ranges.specs.region_match.Tasks.{tasks_in};
+ghost use Rattle.footprints.specs.Rules.{foot_at_end, covering_of, is_own_block, place_in, IsStepBroken, AreStepsBroken, IsEndBroken};
+ghost use Rattle.footprints.specs.Rules.{IsBlockBrokenBy, IsBlockBroken, IsFunctionBroken, IsZoneBroken};
 
 use crate::ZoneFault;
 use crate::judge::{edges_fault, step_fault, use_fault};
@@ -30,7 +32,7 @@ fn task_at(tasks: &[Task], index: usize) -> Task
 
 /// The tasks of a function.
 fn tasks_of(regions: &Regions, index: usize) -> &[Task]
-    ensures { result.now ≡ tasks_of (slice_get regions.now.functions index) }
+    ensures { result.now ≡ tasks_in (slice_get regions.now.functions index) }
 {
     match regions.functions.as_slice().get(index) {
         Some(table) => table.tasks.as_slice(),

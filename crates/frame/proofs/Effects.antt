@@ -5,6 +5,7 @@ use Rattle.std.specs.Option.{option_map_or}
 use Rattle.std.specs.Ordering.{int_eq}
 use Rattle.running.specs.Paths.{Path, same_path}
 use Rattle.std.specs.Prelude.{Ok, slice_get}
+use Rattle.std.proofs.lemmas.Bool.{false_from_ne_true}
 use Rattle.running.specs.Arithmetic.{Unmatched, Undefined}
 use Rattle.program.specs.declared.identifier.FunctionId.{FunctionId}
 use Rattle.program.specs.declared.instruction.Instruction.TheVariants as instruction
@@ -25,6 +26,7 @@ use Rattle.running.specs.Effect.{Action, Call, calls, item_action, case_for, arg
 use Rattle.program.specs.declared.instruction.Case.{Case}
 use Rattle.program.specs.declared.instruction.Argument.{Argument}
 use Rattle.frame.specs.Reading.{above, found, frame_of}
+use Rattle.running.proofs.Actions.{same_path_itself}
 
 case_step : (b : Bool) (t d : ℕ) (c : Case) (r : ℕ) (o : Option Case) → t ≡ c.target.0 → r ≡ option_map_or (λ (x : Case). x.target.0) o d → cond b t r ≡ option_map_or (λ (x : Case). x.target.0) (cond b (Some c) o) d
 case_step true t d c r o e h = e
@@ -44,10 +46,6 @@ and_right false b e = absurd cc
 eqb_same : (n : ℕ) → eqb n n ≡ true
 eqb_same n = grind arith
 
-same_path_refl : (p : Path) → same_path p p ≡ true
-same_path_refl [] = refl
-same_path_refl (x ∷ xs) = rw (eqb_same x) (same_path_refl xs)
-
 same_length : (p q : Path) → same_path p q ≡ true → length p ≡ length q
 same_length [] [] e = refl
 same_length [] (y ∷ ys) e = absurd cc
@@ -55,14 +53,10 @@ same_length (x ∷ xs) [] e = absurd cc
 same_length (x ∷ xs) (y ∷ ys) e = ap suc (same_length xs ys (and_right (eqb x y) (same_path xs ys) e))
 
 above_own : (p : Path) (depth : ℕ) → length p ≤ depth → same_path (above p depth) p ≡ true
-above_own p depth h = let e : length p - depth ≡ 0 = omega arith in rw e (same_path_refl p)
-
-not_true : (b : Bool) → (b ≡ true → ⊥) → b ≡ false
-not_true true h = absurd (h refl)
-not_true false h = refl
+above_own p depth h = let e : length p - depth ≡ 0 = omega arith in rw e (same_path_itself p)
 
 above_other : (p : Path) (depth : ℕ) → depth < length p → same_path (above p depth) p ≡ false
-above_other p depth h = not_true (same_path (above p depth) p) (λ e. let l = same_length (above p depth) p e in let d = length-drop (length p - depth) p in omega (arith, l, d, h))
+above_other p depth h = false_from_ne_true (same_path (above p depth) p) (λ e. let l = same_length (above p depth) p e in let d = length-drop (length p - depth) p in omega (arith, l, d, h))
 
 pub own_region : (p : Path) (f : Frame) (a : Action) (r : RegisterId) (depth : ℕ) → f.registers r.0 ≡ Some (Region (above p depth)) → length p ≤ depth → a ≡ within p f r a
 own_region p f a r depth e h = rw (e, above_own p depth h) refl

@@ -4,7 +4,8 @@ use Rattle.running.specs.Paths.{Path}
 use Rattle.running.specs.Cells.{Memory}
 use Rattle.running.specs.Frames.{Value, Frame, Item, Does, Ends, item_at, word_at}
 use Rattle.running.specs.Effect as running
-use Rattle.running.specs.Effect.{Action, Plain, sets, loads, stores, stores_zeros, adds_to, jumps, registers_along, syncs, traps, argument_values, instruction_action, terminator_action, action_of}
+use Rattle.running.specs.Effect.{Action, Plain, sets, loads, stores, stores_zeros, adds_to, jumps, registers_along, syncs, traps, argument_values}
+use Rattle.running.specs.Effect.{instruction_action, terminator_action, action_of}
 use Rattle.program.specs.declared.function.Program.{Program}
 use Rattle.program.specs.declared.instruction.Instruction.{Instruction}
 use Rattle.program.specs.declared.instruction.Instruction.TheVariants as instruction

@@ -1,12 +1,12 @@
 -- A form that is spelled is read back.
 use Rattle.std.proofs.Common.{◌≡◌, ℕ, suc, ◌^◌, ◌<◌, ◌≤◌, inl, inr, Bool, true, false, cond, eqb, ltb, List, [], ◌∷◌, ◌++◌, length, get_or, Option, Some, None, Result, Ok, Err, refl, sym, subst, ap, ◌∙◌, arith, append_assoc, append-nil, length-append}
-use Rattle.std.specs.Prelude.{ℤ, pos, negsuc, unsigned_abs, int_lt, All, ◌&&◌, ◌||◌, nat_le, codes, flat_map}
+use Rattle.std.specs.Prelude.{ℤ, pos, negsuc, unsigned_abs, int_lt, All, ◌&&◌, nat_le, codes, flat_map}
 use Rattle.std.specs.Char.{is_ascii_digit}
 use Rattle.std.specs.List.{list_all}
 use Rattle.std.specs.Str.{all_ascii_digits}
 use Rattle.std.specs.Str.Parse.{digits_value}
 use Rattle.std.specs.Fmt.{decimal, signed_decimal}
-use Rattle.std.proofs.lemmas.Bool.{eqb-true, ltb-true, lt-ltb, le-leb, cases_eq}
+use Rattle.std.proofs.lemmas.Bool.{ltb-true, lt-ltb, le-leb, cases_eq, and_from, or_right, or_left, and_parts}
 use Rattle.std.proofs.lemmas.Bool.Decides.{nat_tests}
 use Rattle.std.proofs.lemmas.Fmt.{decimal_digit, digits_decimal, digits_value-decimal, first_decimal, decimal_nonempty}
 use Rattle.std.proofs.lemmas.List.Elements.{All-head, All-tail}
@@ -20,61 +20,42 @@ use Rattle.ir_lex.specs.Spelling.{begins_name, continues_name, is_name}
 use Rattle.ir_annotation.specs.Words.{is_numeral, small_value, number_of, name_of}
 use Rattle.ir_annotation.specs.Forms.{SignedText, Cut, as_signed, cut_of, signed_texts, signed, is_no_star}
 use Rattle.ir_annotation.specs.Spelling.{sign_text, factor_text, term_text, constant_text, terms_text}
-use Rattle.ir_annotation.proofs.Digits.{both, own}
+use Rattle.ir_annotation.proofs.Digits.{own}
 use Rattle.ir_annotation.proofs.Adding.{plain_here}
+use Rattle.ir_lex.proofs.Names.{by_test, differs}
 
 -- ---- bytes
-
-by_test : {P : Type 0} (b : Bool) → (b ≡ true → P) → (b ≡ false → P) → P
-by_test true if_true unless = if_true refl
-by_test false if_true unless = unless refl
-
-pub differs : (p : ℕ → Bool) (b c : ℕ) → p b ≡ true → p c ≡ false → eqb b c ≡ false
-differs p b c at_b at_c = by_test (eqb b c) (λ (h : eqb b c ≡ true). let e : p b ≡ p c = ap p (eqb-true b c h) in absurd cc) (λ (h : eqb b c ≡ false). h)
-
-pub both_true : (x y : Bool) → x ≡ true → y ≡ true → (x && y) ≡ true
-both_true true true hx hy = refl
-both_true true false hx hy = absurd cc
-both_true false y hx hy = absurd cc
-
-or_right : (x y : Bool) → y ≡ true → (x || y) ≡ true
-or_right true y h = refl
-or_right false y h = h
-
-or_left : (x y : Bool) → x ≡ true → (x || y) ≡ true
-or_left true y h = refl
-or_left false y h = absurd cc
 
 name_byte : (b : ℕ) → continues_name b ≡ true → is_no_sign b ≡ true
 name_byte b h = rw (differs continues_name b 43 h refl, differs continues_name b 45 h refl) refl
 
 name_bytes : (bs : List ℕ) → list_all continues_name bs ≡ true → list_all is_no_sign bs ≡ true
 name_bytes [] h = refl
-name_bytes (b ∷ bs) h = let t = both (continues_name b) (list_all continues_name bs) h in both_true (is_no_sign b) (list_all is_no_sign bs) (name_byte b t.0) (name_bytes bs t.1)
+name_bytes (b ∷ bs) h = let t = and_parts (continues_name b) (list_all continues_name bs) h in and_from (is_no_sign b) (list_all is_no_sign bs) (name_byte b t.0) (name_bytes bs t.1)
 
 name_plain : (name : List ℕ) → is_name name ≡ true → list_all is_no_sign name ≡ true
 name_plain [] h = absurd cc
 name_plain (b ∷ bs) h =
-    let t = both (begins_name b) (list_all continues_name bs) h in
-    both_true (is_no_sign b) (list_all is_no_sign bs) (name_byte b (or_left (begins_name b) (is_ascii_digit b) t.0)) (name_bytes bs t.1)
+    let t = and_parts (begins_name b) (list_all continues_name bs) h in
+    and_from (is_no_sign b) (list_all is_no_sign bs) (name_byte b (or_left (begins_name b) (is_ascii_digit b) t.0)) (name_bytes bs t.1)
 
 digit_byte : (b : ℕ) → is_ascii_digit b ≡ true → is_no_sign b ≡ true
 digit_byte b h = rw (differs is_ascii_digit b 43 h refl, differs is_ascii_digit b 45 h refl) refl
 
 digits_plain : (ds : List ℕ) → all_ascii_digits ds ≡ true → list_all is_no_sign ds ≡ true
 digits_plain [] h = refl
-digits_plain (b ∷ bs) h = let t = both (is_ascii_digit b) (all_ascii_digits bs) h in both_true (is_no_sign b) (list_all is_no_sign bs) (digit_byte b t.0) (digits_plain bs t.1)
+digits_plain (b ∷ bs) h = let t = and_parts (is_ascii_digit b) (all_ascii_digits bs) h in and_from (is_no_sign b) (list_all is_no_sign bs) (digit_byte b t.0) (digits_plain bs t.1)
 
 no_star_byte : (b : ℕ) → is_ascii_digit b ≡ true → is_no_star b ≡ true
 no_star_byte b h = rw (differs is_ascii_digit b 42 h refl) refl
 
 pub digits_no_star : (ds : List ℕ) → all_ascii_digits ds ≡ true → list_all is_no_star ds ≡ true
 digits_no_star [] h = refl
-digits_no_star (b ∷ bs) h = let t = both (is_ascii_digit b) (all_ascii_digits bs) h in both_true (is_no_star b) (list_all is_no_star bs) (no_star_byte b t.0) (digits_no_star bs t.1)
+digits_no_star (b ∷ bs) h = let t = and_parts (is_ascii_digit b) (all_ascii_digits bs) h in and_from (is_no_star b) (list_all is_no_star bs) (no_star_byte b t.0) (digits_no_star bs t.1)
 
-digits_listed : (ds : List ℕ) → all_ascii_digits ds ≡ true → list_all is_ascii_digit ds ≡ true
+pub digits_listed : (ds : List ℕ) → all_ascii_digits ds ≡ true → list_all is_ascii_digit ds ≡ true
 digits_listed [] h = refl
-digits_listed (b ∷ bs) h = let t = both (is_ascii_digit b) (all_ascii_digits bs) h in both_true (is_ascii_digit b) (list_all is_ascii_digit bs) t.0 (digits_listed bs t.1)
+digits_listed (b ∷ bs) h = let t = and_parts (is_ascii_digit b) (all_ascii_digits bs) h in and_from (is_ascii_digit b) (list_all is_ascii_digit bs) t.0 (digits_listed bs t.1)
 
 -- ---- numbers
 
@@ -84,12 +65,12 @@ decimal_digits n h = digits_decimal own n (omega arith)
 numeral_by : (ds : List ℕ) → all_ascii_digits ds ≡ true → 48 < get_or ds 0 0 → is_numeral ds ≡ true
 numeral_by [] h first = absurd (omega arith)
 numeral_by (b ∷ bs) h first =
-    let t = both (is_ascii_digit b) (all_ascii_digits bs) h in
+    let t = and_parts (is_ascii_digit b) (all_ascii_digits bs) h in
     let digit = t.0 in
     let low : nat_le 49 b ≡ true = le-leb 49 b first in
     let high : nat_le b 57 ≡ true = grind (arith, nat_tests) in
     or_right (eqb b 48 && eqb (length bs) 0) ((nat_le 49 b && nat_le b 57) && list_all is_ascii_digit bs)
-    (both_true (nat_le 49 b && nat_le b 57) (list_all is_ascii_digit bs) (both_true (nat_le 49 b) (nat_le b 57) low high) (digits_listed bs t.1))
+    (and_from (nat_le 49 b && nat_le b 57) (list_all is_ascii_digit bs) (and_from (nat_le 49 b) (nat_le b 57) low high) (digits_listed bs t.1))
 
 pub numeral_decimal : (n : ℕ) → n < 2 ^ 63 → is_numeral (decimal n) ≡ true
 numeral_decimal n h = elim (cases_eq n 0) [
@@ -134,7 +115,7 @@ abbrev pub body : Term → List ℕ
 body t = factor_text (unsigned_abs t.coefficient) ++ (37 ∷ t.register)
 
 plain_append : (xs ys : List ℕ) → list_all is_no_sign xs ≡ true → list_all is_no_sign ys ≡ true → list_all is_no_sign (xs ++ ys) ≡ true
-plain_append xs ys hx hy = list_all-append is_no_sign xs ys ∙ both_true (list_all is_no_sign xs) (list_all is_no_sign ys) hx hy
+plain_append xs ys hx hy = list_all-append is_no_sign xs ys ∙ and_from (list_all is_no_sign xs) (list_all is_no_sign ys) hx hy
 
 factor_plain : (n : ℕ) → n < 2 ^ 63 → list_all is_no_sign (factor_text n) ≡ true
 factor_plain n h =
@@ -164,7 +145,7 @@ cut_plain : (ws rest : List ℕ) → list_all is_no_sign ws ≡ true → cut_of 
 unfolding cut_of
 cut_plain [] rest h = refl
 cut_plain (b ∷ ws) rest h =
-    let t = both (is_no_sign b) (list_all is_no_sign ws) h in
+    let t = and_parts (is_no_sign b) (list_all is_no_sign ws) h in
     plain_here b (cut_of (ws ++ rest)) t.0 ∙ ap (λ (c : Cut). cut_from (b ∷ c.first) c.rest) (cut_plain ws rest t.1)
 
 cut_whole : (ws : List ℕ) → list_all is_no_sign ws ≡ true → cut_of ws ≡ cut_from ws []
@@ -219,7 +200,7 @@ no_minus b h = differs is_no_sign b 45 h refl
 plain_first : (ws : List ℕ) → 0 < length ws → list_all is_no_sign ws ≡ true → (rest : List ℕ) → signed_texts (ws ++ rest) ≡ as_signed false (cut_of (ws ++ rest))
 plain_first [] some h rest = absurd (omega arith)
 plain_first (b ∷ ws) some h rest =
-    let t = both (is_no_sign b) (list_all is_no_sign ws) h in
+    let t = and_parts (is_no_sign b) (list_all is_no_sign ws) h in
     ap (λ (v : Bool). cond v (as_signed true (cut_of (ws ++ rest))) (as_signed false (cut_of (b ∷ (ws ++ rest))))) (no_minus b t.0)
 
 body_some : (t : Term) → 0 < length (body t)

@@ -7,7 +7,7 @@ use Rattle.std.specs.List.{prefix_len, list_all, filter_map, cons_option}
 use Rattle.std.specs.Str.{all_ascii_digits}
 use Rattle.std.specs.Fmt.{decimal}
 use Rattle.std.proofs.lemmas.Int.{ints}
-use Rattle.std.proofs.lemmas.Bool.{eqb-true, le-leb}
+use Rattle.std.proofs.lemmas.Bool.{eqb-true, le-leb, and_from, and_parts}
 use Rattle.std.proofs.lemmas.Fmt.{decimal_nonempty}
 use Rattle.std.proofs.lemmas.List.{take_all, drop_all}
 use Rattle.std.proofs.lemmas.List.Elements.{All-head, All-tail}
@@ -24,8 +24,8 @@ use Rattle.ir_annotation.specs.Reading.{◌>>=◌}
 use Rattle.ir_annotation.specs.Words.{number_of, name_of}
 use Rattle.ir_annotation.specs.Forms.{SignedText, signed_texts, signed, term_behind, is_no_star, term_by_number, term_of, Total, is_before, has_name, is_at, with_more, added, plus, all_added, nothing, kept, is_narrow, form_from, form_of}
 use Rattle.ir_annotation.specs.Spelling.{terms_text, form_text}
-use Rattle.ir_annotation.proofs.Digits.{both}
-use Rattle.ir_annotation.proofs.Again.{differs, both_true, digits_no_star, decimal_digits, number_again, name_again, is_minus, signed_size, body, one_text, constant_texts, texts, first_texts, constant_first}
+use Rattle.ir_annotation.proofs.Again.{digits_no_star, decimal_digits, number_again, name_again, is_minus, signed_size, body, one_text, constant_texts, texts, first_texts, constant_first}
+use Rattle.ir_lex.proofs.Names.{differs}
 
 -- ---- a term is read
 
@@ -35,7 +35,7 @@ term_read register amount = within (record { register = register; amount = amoun
 prefix_at : (p : ℕ → Bool) (ds rest : List ℕ) → list_all p ds ≡ true → prefix_len p rest ≡ 0 → prefix_len p (ds ++ rest) ≡ length ds
 prefix_at p [] rest h stop = stop
 prefix_at p (b ∷ ds) rest h stop =
-    let t = both (p b) (list_all p ds) h in
+    let t = and_parts (p b) (list_all p ds) h in
     let one : (n : ℕ) → 1 + n ≡ suc n = λ n. omega arith in
     ap (λ (v : Bool). cond v (1 + prefix_len p (ds ++ rest)) 0) t.0 ∙ ap (λ (n : ℕ). 1 + n) (prefix_at p ds rest t.1 stop) ∙ one (length ds)
 
@@ -53,7 +53,7 @@ digit_first : (is_negative : Bool) (ds rest : List ℕ) → all_ascii_digits ds 
 unfolding term_of
 digit_first is_negative [] rest h some = absurd (omega arith)
 digit_first is_negative (b ∷ ds) rest h some =
-    let t = both (is_ascii_digit b) (all_ascii_digits ds) h in
+    let t = and_parts (is_ascii_digit b) (all_ascii_digits ds) h in
     ap (λ (v : Bool). cond v (name_of (ds ++ rest) >>= λ name. let r : Result (Limited SignedTerm) ℕ = Ok (record { value = record { register = Some name.value; amount = signed is_negative 1 }; is_within_limits = name.is_within_limits }) in r) (term_by_number is_negative (b ∷ (ds ++ rest)))) (differs is_ascii_digit b 37 t.0 refl)
 
 number_read : (is_negative : Bool) (n : ℕ) (rest : List ℕ) → n < 2 ^ 63 → prefix_len is_no_star rest ≡ 0 → term_of is_negative (decimal n ++ rest) ≡ term_behind is_negative (within n) rest
@@ -90,7 +90,7 @@ term_again t is =
 prefix_all : (p : SumTerm → Bool) (ts : List SumTerm) → list_all p ts ≡ true → prefix_len p ts ≡ length ts
 prefix_all p [] h = refl
 prefix_all p (t ∷ ts) h =
-    let b = both (p t) (list_all p ts) h in
+    let b = and_parts (p t) (list_all p ts) h in
     let one : (n : ℕ) → 1 + n ≡ suc n = λ n. omega arith in
     ap (λ (v : Bool). cond v (1 + prefix_len p ts) 0) b.0 ∙ ap (λ (n : ℕ). 1 + n) (prefix_all p ts b.1) ∙ one (length ts)
 
@@ -119,7 +119,7 @@ before_more : (done : List SumTerm) (t : Term) (ts : List Term) → AllBefore do
 before_more done t ts before rising = λ k d l.
     let u : Term = slice_index_or ts k d in
     list_all-append (is_before u.register) done (sum_term t ∷ [])
-    ∙ both_true (list_all (is_before u.register) done) (is_earlier t u && true) (before k d l) (both_true (is_earlier t u) true (rising k d l) refl)
+    ∙ and_from (list_all (is_before u.register) done) (is_earlier t u && true) (before k d l) (and_from (is_earlier t u) true (rising k d l) refl)
 
 step : (read : Result (Limited SignedTerm) ℕ) (term : Limited SignedTerm) (total : Total) (more : List SignedText) → read ≡ Ok term → (read >>= λ term. all_added (plus total term) more) ≡ all_added (plus total term) more
 step read term total more e = ap (λ (r : Result (Limited SignedTerm) ℕ). r >>= λ term. all_added (plus total term) more) e
@@ -161,7 +161,7 @@ all_again done (t ∷ ts) z are rising before h =
 
 fits_again : (z : ℤ) → unsigned_abs z < 2 ^ 63 → fits_form z ≡ true
 fits_again (pos n) h = le-leb n 9223372036854775807 (omega arith)
-fits_again (negsuc n) h = both_true (leb n 9223372036854775806) true (le-leb n 9223372036854775806 (omega arith)) refl
+fits_again (negsuc n) h = and_from (leb n 9223372036854775806) true (le-leb n 9223372036854775806 (omega arith)) refl
 
 narrow_again : (z : ℤ) → unsigned_abs z < 2 ^ 63 → narrowed z ≡ within z
 narrow_again z h = ap (λ (b : Bool). cond b (within z) (past_limit (pos 0))) (fits_again z h)
@@ -179,7 +179,7 @@ narrow_all : (ts : List Term) → All IsTerm ts → list_all is_narrow (map sum_
 narrow_all [] are = refl
 narrow_all (t ∷ ts) are =
     let is : IsTerm t = All-head IsTerm t ts are in
-    both_true (is_narrow (sum_term t)) (list_all is_narrow (map sum_term ts)) (ap (λ (l : Limited ℤ). l.is_within_limits) (narrow_again t.coefficient is.fits)) (narrow_all ts (All-tail IsTerm t ts are))
+    and_from (is_narrow (sum_term t)) (list_all is_narrow (map sum_term ts)) (ap (λ (l : Limited ℤ). l.is_within_limits) (narrow_again t.coefficient is.fits)) (narrow_all ts (All-tail IsTerm t ts are))
 
 form_again : (f : Form) → IsCanonical f → form_from (total_is (map sum_term f.terms) f.constant) ≡ within f
 unfolding form_from

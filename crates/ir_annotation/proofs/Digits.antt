@@ -1,11 +1,11 @@
 -- A numeral is digits, a name is ASCII.
-use Rattle.std.proofs.Common.{◌≡◌, ℕ, ◌^◌, ◌<◌, ◌⊎◌, inl, inr, Bool, true, false, eqb, ltb, List, [], ◌∷◌, length, Some, None, Ok, Err, refl, sym, subst, ap, ◌∙◌, arith}
-use Rattle.std.specs.Prelude.{◌&&◌, ◌||◌, nat_le, IsUtf8}
+use Rattle.std.proofs.Common.{◌≡◌, ℕ, ◌^◌, ◌<◌, inl, inr, true, false, eqb, ltb, List, [], ◌∷◌, length, Some, None, Ok, Err, refl, sym, subst, ap, ◌∙◌, arith}
+use Rattle.std.specs.Prelude.{◌&&◌, nat_le, IsUtf8}
 use Rattle.std.specs.Char.{is_ascii_digit}
 use Rattle.std.specs.List.{list_all}
 use Rattle.std.specs.Str.{all_ascii_digits}
 use Rattle.std.specs.Str.Parse.{digits_value, ParsesUnsigned}
-use Rattle.std.proofs.lemmas.Bool.{eqb-true, ltb-true, lt-ltb}
+use Rattle.std.proofs.lemmas.Bool.{eqb-true, ltb-true, lt-ltb, and_parts, or_cases, false_from_ne_true}
 use Rattle.std.proofs.lemmas.Bool.Decides.{nat_tests}
 use Rattle.std.proofs.lemmas.Str.{IsUtf8-from_ascii}
 use Rattle.std.proofs.lemmas.Str.Parse.{IsNumeralModel, numerals_by_value, tells_all_ascii_digits, parse_digits}
@@ -14,33 +14,18 @@ use Rattle.ir_lex.specs.Spelling.{is_name}
 use Rattle.ir_lex.proofs.Plain.{name_printed, printed_ascii}
 use Rattle.ir_annotation.specs.Words.{is_numeral, small_value}
 
-pub both : (x y : Bool) → (x && y) ≡ true → (x ≡ true) × (y ≡ true)
-both true true h = (refl, refl)
-both true false h = absurd cc
-both false true h = absurd cc
-both false false h = absurd cc
-
-pub either : (x y : Bool) → (x || y) ≡ true → (x ≡ true) ⊎ (y ≡ true)
-either true y h = inl refl
-either false true h = inr refl
-either false false h = absurd cc
-
-pub false_unless : (b : Bool) → (b ≡ true → ⊥) → b ≡ false
-false_unless true h = absurd (h refl)
-false_unless false h = refl
-
-digits : (bs : List ℕ) → list_all is_ascii_digit bs ≡ true → all_ascii_digits bs ≡ true
+pub digits : (bs : List ℕ) → list_all is_ascii_digit bs ≡ true → all_ascii_digits bs ≡ true
 digits [] h = refl
-digits (b ∷ bs) h = let t = both (is_ascii_digit b) (list_all is_ascii_digit bs) h in rw (t.0, digits bs t.1) refl
+digits (b ∷ bs) h = let t = and_parts (is_ascii_digit b) (list_all is_ascii_digit bs) h in rw (t.0, digits bs t.1) refl
 
 pub numeral_digits : (word : List ℕ) → is_numeral word ≡ true → all_ascii_digits word ≡ true
 numeral_digits [] h = absurd cc
 numeral_digits (b ∷ bs) h =
-    elim (either (eqb b 48 && eqb (length bs) 0) ((nat_le 49 b && nat_le b 57) && list_all is_ascii_digit bs) h) [
-      | inl w ↦ let t = both (eqb b 48) (eqb (length bs) 0) w in lone b bs (eqb-true b 48 t.0) (eqb-true (length bs) 0 t.1)
+    elim (or_cases (eqb b 48 && eqb (length bs) 0) ((nat_le 49 b && nat_le b 57) && list_all is_ascii_digit bs) h) [
+      | inl w ↦ let t = and_parts (eqb b 48) (eqb (length bs) 0) w in lone b bs (eqb-true b 48 t.0) (eqb-true (length bs) 0 t.1)
       | inr w ↦
-          let t = both (nat_le 49 b && nat_le b 57) (list_all is_ascii_digit bs) w in
-          let r = both (nat_le 49 b) (nat_le b 57) t.0 in
+          let t = and_parts (nat_le 49 b && nat_le b 57) (list_all is_ascii_digit bs) w in
+          let r = and_parts (nat_le 49 b) (nat_le b 57) t.0 in
           let first : is_ascii_digit b ≡ true = grind (arith, nat_tests) in
           rw (first, digits bs t.1) refl
     ]
@@ -73,7 +58,7 @@ large_parsed t word same h parsed =
     let never : digits_value 10 word < 2 ^ 64 → ⊥ = λ (small : digits_value 10 word < 2 ^ 64).
     p (subst (λ (u : List ℕ). 0 < length u) (sym same) (numeral_length word h), subst (λ (u : List ℕ). digits_value 10 u < 2 ^ 64) (sym same) small) in
     let none : ltb (digits_value 10 word) (2 ^ 64) ≡ false =
-    false_unless (ltb (digits_value 10 word) (2 ^ 64)) (λ (l : ltb (digits_value 10 word) (2 ^ 64) ≡ true). never (ltb-true (digits_value 10 word) (2 ^ 64) l)) in
+    false_from_ne_true (ltb (digits_value 10 word) (2 ^ 64)) (λ (l : ltb (digits_value 10 word) (2 ^ 64) ≡ true). never (ltb-true (digits_value 10 word) (2 ^ 64) l)) in
     rw none refl
 
 -- ---- names

@@ -22,7 +22,7 @@ use Rattle.ir_annotation.specs.Limits.{within, past_limit, up_to}
 use Rattle.ir_annotation.specs.Reading.{made}
 use Rattle.ir_annotation.specs.Words.{small_value, number_of, name_of, register_of, object_of, relation_of, mode_of}
 use Rattle.ir_annotation.specs.Spelling.{form_text, relation_text, mode_text, object_text}
-use Rattle.ir_annotation.specs.Lines.{inequality_of, zone_of, measure_of, budget_of, left_of, moded_zone_of, pending_of, as_line, annotation_behind, annotation_of}
+use Rattle.ir_annotation.specs.Lines.{inequality_of, zone_of, measure_of, budget_from_words, left_of, moded_zone_of, pending_of, as_line, annotation_behind, annotation_of}
 use Rattle.ir_annotation.specs.Annotations.{read_as, IsShortName, address_name, IsInequality, IsZone, IsPending, IsMeasure, IsBudget, IsLeft, IsKeptAnnotation, inequality_words, zone_words, moded_zone_words, annotation_words, inequality_on, zone_on, pending_on, measure_on, budget_on, left_on, annotation_on}
 use Rattle.ir_annotation.proofs.Again.{numeral_decimal, small_again, name_again}
 use Rattle.ir_annotation.proofs.AgainTerms.{spelled_again}
@@ -80,8 +80,8 @@ measure_again : (line : ℕ) (m : Measure) → IsMeasure m → measure_of line (
 unfolding measure_of
 measure_again line m is = rw (spelled_again m.form is.form, bounded_again 4096 m.bound is.bound (omega (arith, is.bound))) refl
 
-budget_again : (line : ℕ) (b : Budget) → IsBudget b → budget_of line (decimal b.self_calls ∷ decimal b.instructions ∷ []) ≡ Ok (within (budget_on line b))
-unfolding budget_of
+budget_again : (line : ℕ) (b : Budget) → IsBudget b → budget_from_words line (decimal b.self_calls ∷ decimal b.instructions ∷ []) ≡ Ok (within (budget_on line b))
+unfolding budget_from_words
 budget_again line b is =
     rw (bounded_again 1000000000000 b.self_calls is.self_calls (omega (arith, is.self_calls)), bounded_again 1000000000000 b.instructions is.instructions (omega (arith, is.instructions))) refl
 

@@ -2,7 +2,7 @@
 use Rattle.std.proofs.Common.{◌≡◌, ℕ, ◌≤◌, Bool, true, false, cond, eqb, List, [], ◌∷◌, Option, Some, None, Result, Ok, Err, refl, subst}
 use Rattle.std.specs.Prelude.{codes, nat_le, ◌&&◌}
 use Rattle.std.specs.Str.{bytes_eq}
-use Rattle.std.proofs.lemmas.Bool.{leb-true}
+use Rattle.std.proofs.lemmas.Bool.{leb-true, and_parts}
 use Rattle.syntax.specs.declared.annotation.Form.{Form}
 use Rattle.syntax.specs.declared.annotation.Relation.{Relation}
 use Rattle.syntax.specs.declared.annotation.Inequality.{Inequality}
@@ -26,9 +26,8 @@ use Rattle.ir_annotation.specs.Reading.{◌>>=◌, made}
 use Rattle.ir_annotation.specs.Words.{is_numeral, small_value, number_of, name_of, register_of, object_of, relation_of, mode_of}
 use Rattle.ir_annotation.specs.Keywords.{keyword_of}
 use Rattle.ir_annotation.specs.Forms.{form_of}
-use Rattle.ir_annotation.specs.Lines.{inequality_of, zone_of, measure_of, budget_of, left_of, moded_zone_of, pending_of, as_line, annotation_behind, behind_keyword, annotation_of}
+use Rattle.ir_annotation.specs.Lines.{inequality_of, zone_of, measure_of, budget_from_words, left_of, moded_zone_of, pending_of, as_line, annotation_behind, behind_keyword, annotation_of}
 use Rattle.ir_annotation.specs.Annotations.{IsShortName, address_name, IsInequality, IsZone, IsPending, IsMeasure, IsBudget, IsLeft, IsKeptAnnotation}
-use Rattle.ir_annotation.proofs.Digits.{both}
 use Rattle.ir_annotation.proofs.Ordered.{bound, IsNameRead, name_read, register_read, read_canonical}
 
 -- what was read has this, where it is within its limits
@@ -110,7 +109,7 @@ inequality_three line left relation right out e w =
     let all : Limited Inequality = record { value = record { line = line; left = l.value; relation = r; right = h.value }; is_within_limits = l.is_within_limits && h.is_within_limits } in
     let same : all ≡ out = cc in
     let good : HasWithin IsInequality all = λ (v : (l.is_within_limits && h.is_within_limits) ≡ true).
-    let parts = both l.is_within_limits h.is_within_limits v in
+    let parts = and_parts l.is_within_limits h.is_within_limits v in
     record { left = read_canonical left l first.read_is parts.0; right = read_canonical right h third.read_is parts.1 } in
     subst (HasWithin IsInequality) same good w
 
@@ -137,8 +136,8 @@ zone_three line m object low high out e w =
     let all : Limited Zone = record { value = record { line = line; mode = m; object = o.value; low = l.value; high = h.value }; is_within_limits = o.is_within_limits && l.is_within_limits && h.is_within_limits } in
     let same : all ≡ out = cc in
     let good : HasWithin IsZone all = λ (v : (o.is_within_limits && l.is_within_limits && h.is_within_limits) ≡ true).
-    let outer = both (o.is_within_limits && l.is_within_limits) h.is_within_limits v in
-    let inner = both o.is_within_limits l.is_within_limits outer.0 in
+    let outer = and_parts (o.is_within_limits && l.is_within_limits) h.is_within_limits v in
+    let inner = and_parts o.is_within_limits l.is_within_limits outer.0 in
     record { object = object_read object o first.read_is inner.0; low = read_canonical low l second.read_is inner.1; high = read_canonical high h third.read_is outer.1 } in
     subst (HasWithin IsZone) same good w
 
@@ -174,7 +173,7 @@ measure_three line form max most out e w =
     let same : all ≡ out = cc in
     let few : Reads-only (λ k. k ≤ 4096) (bound_of max most) = if_read (λ k. k ≤ 4096) (bytes_eq max (codes "max")) (number_of 4096 most) (Err 103) (bounded 4096 most) (fails_read (λ k. k ≤ 4096) 103) in
     let good : HasWithin IsMeasure all = λ (v : (f.is_within_limits && n.is_within_limits) ≡ true).
-    let parts = both f.is_within_limits n.is_within_limits v in
+    let parts = and_parts f.is_within_limits n.is_within_limits v in
     record { form = read_canonical form f first.read_is parts.0; bound = few n second.read_is parts.1 } in
     subst (HasWithin IsMeasure) same good w
 
@@ -199,12 +198,12 @@ budget_two line calls instructions out e w =
     let all : Limited Budget = record { value = record { line = line; self_calls = k.value; instructions = s.value }; is_within_limits = k.is_within_limits && s.is_within_limits } in
     let same : all ≡ out = cc in
     let good : HasWithin IsBudget all = λ (v : (k.is_within_limits && s.is_within_limits) ≡ true).
-    let parts = both k.is_within_limits s.is_within_limits v in
+    let parts = and_parts k.is_within_limits s.is_within_limits v in
     record { self_calls = bounded 1000000000000 calls k first.read_is parts.0; instructions = bounded 1000000000000 instructions s second.read_is parts.1 } in
     subst (HasWithin IsBudget) same good w
 
-budget_read : (line : ℕ) (words : List (List ℕ)) → Reads-only IsBudget (budget_of line words)
-unfolding budget_of
+budget_read : (line : ℕ) (words : List (List ℕ)) → Reads-only IsBudget (budget_from_words line words)
+unfolding budget_from_words
 budget_read line (calls ∷ instructions ∷ []) = budget_two line calls instructions
 budget_read line [] = fails_read IsBudget 103
 budget_read line (a ∷ []) = fails_read IsBudget 103
@@ -223,7 +222,7 @@ left_two line calls instructions out e w =
     let all : Limited Left = record { value = record { line = line; self_calls = k.value; instructions = s.value }; is_within_limits = k.is_within_limits && s.is_within_limits } in
     let same : all ≡ out = cc in
     let good : HasWithin IsLeft all = λ (v : (k.is_within_limits && s.is_within_limits) ≡ true).
-    let parts = both k.is_within_limits s.is_within_limits v in
+    let parts = and_parts k.is_within_limits s.is_within_limits v in
     record { self_calls = read_canonical calls k first.read_is parts.0; instructions = read_canonical instructions s second.read_is parts.1 } in
     subst (HasWithin IsLeft) same good w
 
@@ -247,7 +246,7 @@ pending_two line region words out e w =
     let all : Limited Pending = record { value = record { region = s.value; zone = z.value }; is_within_limits = s.is_within_limits && z.is_within_limits } in
     let same : all ≡ out = cc in
     let good : HasWithin IsPending all = λ (v : (s.is_within_limits && z.is_within_limits) ≡ true).
-    let parts = both s.is_within_limits z.is_within_limits v in
+    let parts = and_parts s.is_within_limits z.is_within_limits v in
     record { region = short_register region s first.read_is parts.0; zone = moded_zone_read line words z second.read_is parts.1 } in
     subst (HasWithin IsPending) same good w
 
@@ -278,7 +277,7 @@ behind_read line keyword.Reads words = kind_read IsZone annotation.FunctionZone 
 behind_read line keyword.Writes words = kind_read IsZone annotation.FunctionZone (λ x is. is) (zone_of line mode.Writes words) (zone_read line mode.Writes words)
 behind_read line keyword.Adds words = kind_read IsZone annotation.FunctionZone (λ x is. is) (zone_of line mode.Adds words) (zone_read line mode.Adds words)
 behind_read line keyword.Measure words = kind_read IsMeasure annotation.Measure (λ x is. is) (measure_of line words) (measure_read line words)
-behind_read line keyword.Budget words = kind_read IsBudget annotation.Budget (λ x is. is) (budget_of line words) (budget_read line words)
+behind_read line keyword.Budget words = kind_read IsBudget annotation.Budget (λ x is. is) (budget_from_words line words) (budget_read line words)
 behind_read line keyword.Keeps words = kind_read IsInequality annotation.Keeps (λ x is. is) (inequality_of line words) (inequality_read line words)
 behind_read line keyword.Pending words = kind_read IsPending annotation.Pending (λ x is. is) (pending_of line words) (pending_read line words)
 behind_read line keyword.Left words = kind_read IsLeft annotation.Left (λ x is. is) (left_of line words) (left_read line words)

@@ -7,7 +7,7 @@ use Rattle.std.specs.Ordering.{nat_cmp, int_eq, is_eq, ordering_reverse}
 use Rattle.std.specs.Cmp.Lexicographic.{slice_cmp}
 use Rattle.std.specs.List.{prefix_len, list_all, filter_map, cons_option}
 use Rattle.std.specs.Str.{bytes_eq}
-use Rattle.std.proofs.lemmas.Bool.{leb-true}
+use Rattle.std.proofs.lemmas.Bool.{leb-true, and_parts}
 use Rattle.std.proofs.lemmas.Cmp.{nat_list_cmp_total}
 use Rattle.std.proofs.lemmas.Map.Text.{is_eq-slice_cmp}
 use Rattle.std.proofs.lemmas.Option.{slice_get_cases, get_or_from_slice_get}
@@ -23,7 +23,6 @@ use Rattle.ir_annotation.specs.Reading.{◌>>=◌}
 use Rattle.ir_lex.specs.Spelling.{is_name}
 use Rattle.ir_annotation.specs.Words.{number_of, name_of, register_of}
 use Rattle.ir_annotation.specs.Forms.{SignedText, signed_texts, signed, term_behind, is_no_star, term_by_number, term_of, Total, is_less, is_before, has_name, is_at, with_more, added, with_amount, plus, all_added, nothing, kept, is_narrow, form_from, form_of}
-use Rattle.ir_annotation.proofs.Digits.{both}
 
 -- ---- reading gives what its parts give
 
@@ -91,7 +90,7 @@ behind_term is_negative number (star ∷ word) l h =
     let made : Limited SignedTerm = record { value = record { register = Some name.value; amount = signed is_negative number.value }; is_within_limits = number.is_within_limits && name.is_within_limits } in
     let goes : (let r : Result (Limited SignedTerm) ℕ = Ok made in r) ≡ Ok l = b.goes in
     let same : made ≡ l = cc in
-    let whole : IsTermRead made = record { spelled = is.spelled; short = λ w. is.short (both number.is_within_limits name.is_within_limits w).1 } in
+    let whole : IsTermRead made = record { spelled = is.spelled; short = λ w. is.short (and_parts number.is_within_limits name.is_within_limits w).1 } in
     subst IsTermRead same whole
 
 term_is : (is_negative : Bool) (text : List ℕ) (l : Limited SignedTerm) → term_of is_negative text ≡ Ok l → IsTermRead l
@@ -218,10 +217,10 @@ weaker_terms a b ts less are = record {
 
 amount_terms : (total : Total) (is_within : Bool) (register : Option (List ℕ)) (amount : ℤ) → AreTerms total.is_within_limits total.terms → IsRegisterRead register is_within →
     AreTerms (with_amount total is_within register amount).is_within_limits (with_amount total is_within register amount).terms
-amount_terms total is_within None amount are is = weaker_terms total.is_within_limits (total.is_within_limits && is_within) total.terms (λ w. (both total.is_within_limits is_within w).0) are
+amount_terms total is_within None amount are is = weaker_terms total.is_within_limits (total.is_within_limits && is_within) total.terms (λ w. (and_parts total.is_within_limits is_within w).0) are
 amount_terms total is_within (Some name) amount are is =
     let w : Bool = total.is_within_limits && is_within in
-    added_terms w total.terms name amount (weaker_terms total.is_within_limits w total.terms (λ h. (both total.is_within_limits is_within h).0) are) (weaker_name name is_within w (λ h. (both total.is_within_limits is_within h).1) is)
+    added_terms w total.terms name amount (weaker_terms total.is_within_limits w total.terms (λ h. (and_parts total.is_within_limits is_within h).0) are) (weaker_name name is_within w (λ h. (and_parts total.is_within_limits is_within h).1) is)
 
 all_terms : (total out : Total) (texts : List SignedText) → AreTerms total.is_within_limits total.terms → all_added total texts ≡ Ok out → AreTerms out.is_within_limits out.terms
 unfolding all_added
@@ -237,7 +236,7 @@ all_terms total out (t ∷ ts) are h =
 
 fits_size : (z : ℤ) → fits_form z ≡ true → unsigned_abs z < 2 ^ 63
 fits_size (pos n) h = let l : n ≤ 9223372036854775807 = leb-true n 9223372036854775807 h in omega arith
-fits_size (negsuc n) h = let l : n ≤ 9223372036854775806 = leb-true n 9223372036854775806 (both (leb n 9223372036854775806) true h).0 in omega arith
+fits_size (negsuc n) h = let l : n ≤ 9223372036854775806 = leb-true n 9223372036854775806 (and_parts (leb n 9223372036854775806) true h).0 in omega arith
 
 -- what a number within its limit is narrowed to
 pub record IsNarrowed (z : ℤ) : Type 0 where
@@ -289,7 +288,7 @@ good_term t good there = record {
 good_terms : (ts : List SumTerm) → All (λ t. IsNameRead t.register true) ts → list_all is_narrow ts ≡ true → All IsGood ts
 good_terms [] names narrow = All-nil IsGood
 good_terms (t ∷ ts) names narrow =
-    let b = both (is_narrow t) (list_all is_narrow ts) narrow in
+    let b = and_parts (is_narrow t) (list_all is_narrow ts) narrow in
     let P : SumTerm → Type 0 = λ t. IsNameRead t.register true in
     let named : IsNameRead t.register true = All-head P t ts names in
     All-cons IsGood t ts (record { name = named.spelled; short = named.short refl; narrow = narrowed_is t.coefficient b.0 }) (good_terms ts (All-tail P t ts names) b.1)
@@ -297,8 +296,8 @@ good_terms (t ∷ ts) names narrow =
 canonical_from : (total : Total) → AreTerms total.is_within_limits total.terms → (form_from total).is_within_limits ≡ true → IsCanonical (form_from total).value
 unfolding form_from
 canonical_from total are h =
-    let outer = both (total.is_within_limits && (narrowed total.constant).is_within_limits) (list_all is_narrow total.terms) h in
-    let inner = both total.is_within_limits (narrowed total.constant).is_within_limits outer.0 in
+    let outer = and_parts (total.is_within_limits && (narrowed total.constant).is_within_limits) (list_all is_narrow total.terms) h in
+    let inner = and_parts total.is_within_limits (narrowed total.constant).is_within_limits outer.0 in
     let narrow : IsNarrowed total.constant = narrowed_is total.constant inner.1 in
     let names : All (λ t. IsNameRead t.register true) total.terms = subst (λ (w : Bool). All (λ t. IsNameRead t.register w) total.terms) inner.0 are.names in
     record {

@@ -46,11 +46,11 @@ measure_of line (form ∷ max ∷ bound ∷ []) =
 measure_of line _ = Err 103
 
 -- K S, each up to 10^12
-unfoldable pub budget_of : ℕ → List (List ℕ) → Result (Limited Budget) ℕ
-budget_of line (calls ∷ instructions ∷ []) =
+unfoldable pub budget_from_words : ℕ → List (List ℕ) → Result (Limited Budget) ℕ
+budget_from_words line (calls ∷ instructions ∷ []) =
     number_of 1000000000000 calls >>= λ k. number_of 1000000000000 instructions >>= λ s.
     Ok (record { value = record { line = line; self_calls = k.value; instructions = s.value }; is_within_limits = k.is_within_limits && s.is_within_limits })
-budget_of line _ = Err 103
+budget_from_words line _ = Err 103
 
 -- F F
 unfoldable pub left_of : ℕ → List (List ℕ) → Result (Limited Left) ℕ
@@ -82,7 +82,7 @@ annotation_behind line keyword.Reads words = made (as_line annotation.FunctionZo
 annotation_behind line keyword.Writes words = made (as_line annotation.FunctionZone) (zone_of line mode.Writes words)
 annotation_behind line keyword.Adds words = made (as_line annotation.FunctionZone) (zone_of line mode.Adds words)
 annotation_behind line keyword.Measure words = made (as_line annotation.Measure) (measure_of line words)
-annotation_behind line keyword.Budget words = made (as_line annotation.Budget) (budget_of line words)
+annotation_behind line keyword.Budget words = made (as_line annotation.Budget) (budget_from_words line words)
 annotation_behind line keyword.Keeps words = made (as_line annotation.Keeps) (inequality_of line words)
 annotation_behind line keyword.Pending words = made (as_line annotation.Pending) (pending_of line words)
 annotation_behind line keyword.Left words = made (as_line annotation.Left) (left_of line words)

@@ -2,7 +2,8 @@
 
 ghost use Rattle.std.specs.Prelude.{◌≡◌};
 ghost use Rattle.ir_annotation.specs.Reading.{Gives, made};
-ghost use Rattle.ir_annotation.specs.Lines.{as_line, inequality_of, zone_of, measure_of, budget_of, left_of, moded_zone_of, pending_of, annotation_behind, annotation_of};
+ghost use Rattle.ir_annotation.specs.Lines.{as_line, inequality_of, zone_of, measure_of, budget_from_words, left_of, moded_zone_of, pending_of};
+ghost use Rattle.ir_annotation.specs.Lines.{annotation_behind, annotation_of};
 
 use crate::forms::read_form;
 use crate::keywords::{Keyword, read_keyword};
@@ -83,9 +84,9 @@ fn read_measure(alloc: Global, words: &[Name], line: u32) -> Result<Limited<Meas
 }
 
 /// `K S`
-#[tactic(auto, unfolding(crate::specs::Lines::budget_of))]
+#[tactic(auto, unfolding(crate::specs::Lines::budget_from_words))]
 fn read_budget(words: &[Name], line: u32) -> Result<Limited<Budget>, Refused>
-    ensures { Gives (λ b. b) line result (budget_of line words.now) }
+    ensures { Gives (λ b. b) line result (budget_from_words line words.now) }
 {
     let [calls, instructions] = words else {
         return Err(unexpected(line));

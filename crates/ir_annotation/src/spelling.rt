@@ -3,7 +3,9 @@
 //! A public call writes its words to a text of their own first, so the text that it is lent gets all of them or none.
 
 ghost use Rattle.std.specs.Prelude.{◌≡◌, ◌++◌, OnOk, OnErr, string_bytes, flat_map, false};
-ghost use Rattle.ir_annotation.specs.Spelling.{sign_text, factor_text, term_text, constant_text, terms_text, form_text, relation_text, mode_text, object_text, inequality_text, zone_text, measure_text, budget_text, pending_text, left_text, foot_text};
+ghost use Rattle.ir_annotation.specs.Spelling.{sign_text, factor_text, term_text, constant_text, terms_text, form_text, relation_text, mode_text};
+ghost use Rattle.ir_annotation.specs.Spelling.{object_text, inequality_text, zone_text, measure_text, budget_text, pending_text, left_text};
+ghost use Rattle.ir_annotation.specs.Spelling.{foot_text};
 
 use itoa::Buffer;
 use std::alloc::AllocError;

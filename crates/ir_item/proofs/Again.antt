@@ -3,7 +3,7 @@ use Rattle.std.proofs.Common.{◌≡◌, ℕ, zero, suc, ◌*◌, ◌/◌, ◌%�
 use Rattle.std.specs.Prelude.{codes, flat_map, pos, nat_lt, ◌&&◌}
 use Rattle.std.specs.List.{list_all}
 use Rattle.std.specs.Str.{bytes_eq}
-use Rattle.std.proofs.lemmas.Bool.{ltb-true, lt-ltb}
+use Rattle.std.proofs.lemmas.Bool.{ltb-true, lt-ltb, and_parts}
 use Rattle.std.proofs.lemmas.Slice.Eq.{bytes_eq-Decides}
 use Rattle.syntax.specs.declared.instruction.Operand.{Operand}
 use Rattle.syntax.specs.declared.instruction.Operand.TheVariants as operands
@@ -31,7 +31,6 @@ use Rattle.ir_item.specs.Lists.{list_at, comma_at, case_follows, parameter_at, a
 use Rattle.ir_item.specs.Shape.{Gap, register, function, label, operand, pointer, array, width, result_type, predicate, parameters, arguments, cases, entries, Piece, word, mark, named, gap, space, Held, Gaps, gap_at, gaps_of}
 use Rattle.ir_item.specs.Spelling.{Atom, Token, Blank, symbols_in, operand_symbol, address_symbol, width_word, predicate_word, array_atoms, parameter_atoms, argument_atoms, entry_atoms, case_atoms, other_atoms, parted, cases_atoms, gap_atoms, atoms_of}
 use Rattle.ir_item.specs.Fits.{has_cells, fits, may_stand, all_fit}
-use Rattle.ir_lex.proofs.Printed.{both}
 
 pub symbols_appended : (xs ys : List Atom) → symbols_in (xs ++ ys) ≡ symbols_in xs ++ symbols_in ys
 symbols_appended [] ys = refl
@@ -151,7 +150,7 @@ longer_parameter (parameter.Pointer name cells) = omega arith
 parameters_fit : (ps : List Parameter) → list_all has_cells ps ≡ true → AreElements parameter_at (λ p. symbols_in (parameter_atoms p)) ps
 parameters_fit [] h = tt
 parameters_fit (p ∷ ps) h =
-    let t = both (has_cells p) (list_all has_cells ps) h in
+    let t = and_parts (has_cells p) (list_all has_cells ps) h in
     (record { some = longer_parameter p; again = λ rest. parameter_again p rest t.0 }, parameters_fit ps t.1)
 
 longer_argument : (x : Argument) → 0 < length (symbols_in (argument_atoms x))
@@ -281,8 +280,8 @@ gaps_again (mark byte ∷ shape) gaps h = rw (eq-eqb byte byte refl) (gaps_again
 gaps_again (named text ∷ shape) gaps h = rw (same_word text) (gaps_again shape gaps h)
 gaps_again (space ∷ shape) gaps h = gaps_again shape gaps h
 gaps_again (gap g ∷ shape) gaps h =
-    let t = both (fits g gaps.0 && may_stand g shape) (all_fit shape gaps.1) h in
-    let u = both (fits g gaps.0) (may_stand g shape) t.0 in
+    let t = and_parts (fits g gaps.0 && may_stand g shape) (all_fit shape gaps.1) h in
+    let u = and_parts (fits g gaps.0) (may_stand g shape) t.0 in
     let rest : List Symbol = symbols_in (atoms_of shape gaps.1) in
     let one : gap_at g (symbols_in (gap_atoms g gaps.0) ++ rest) ≡ Some (gaps.0, rest) = gap_again g gaps.0 rest u.0 (stands g shape gaps.1 u.1) in
     ap (λ (line : List Symbol). gap_at g line >>= λ found. gaps_of shape found.1 >>= λ gaps. Some (found.0, gaps)) (symbols_appended (gap_atoms g gaps.0) (atoms_of shape gaps.1))

@@ -6,24 +6,17 @@ use Rattle.std.specs.List.{list_all}
 use Rattle.std.specs.Str.{all_ascii_digits}
 use Rattle.std.specs.Fmt.{decimal, signed_decimal}
 use Rattle.std.specs.Str.Parse.{digits_value, signed_digits_value}
-use Rattle.std.proofs.lemmas.Bool.{ltb-true, leb-true}
+use Rattle.std.proofs.lemmas.Bool.{ltb-true, leb-true, and_parts}
 use Rattle.std.proofs.lemmas.Bool.Decides.{nat_tests}
 use Rattle.std.proofs.lemmas.Fmt.{decimal_digit, first_decimal, decimal_is_IsNumeral}
-use Rattle.std.proofs.lemmas.Str.Parse.{IsNumeralModel, numerals_by_value, tells_all_ascii_digits}
 use Rattle.ir_lex.specs.Spelling.{is_positive, is_number}
-use Rattle.ir_lex.proofs.Printed.{both}
 use Rattle.ir_item.specs.Symbols.{fits_i64, number_of}
-
-own : IsNumeralModel (λ ds. all_ascii_digits ds ≡ true) (digits_value 10)
-own = numerals_by_value _ tells_all_ascii_digits
-
-all_digits : (ds : List ℕ) → all_ascii_digits ds ≡ true → list_all is_ascii_digit ds ≡ true
-all_digits [] h = refl
-all_digits (d ∷ ds) h = let t = both (is_ascii_digit d) (all_ascii_digits ds) h in rw (t.0, all_digits ds t.1) refl
+use Rattle.ir_annotation.proofs.Digits.{own}
+use Rattle.ir_annotation.proofs.Again.{digits_listed}
 
 at_least_one : (b : ℕ) → 48 < b → is_ascii_digit b ≡ true → (nat_le 49 b && nat_le b 57) ≡ true
 at_least_one b h d =
-    let t = both (leb 48 b) (leb b 57) d in
+    let t = and_parts (leb 48 b) (leb b 57) d in
     let high : leb b 57 ≡ true = t.1 in
     let low : leb 49 b ≡ true = grind (arith, nat_tests) in
     rw (low, high) refl
@@ -31,8 +24,8 @@ at_least_one b h d =
 positive_of : (ds : List ℕ) → 0 < length ds → 48 < get_or ds 0 0 → all_ascii_digits ds ≡ true → is_positive ds ≡ true
 positive_of [] some h d = absurd (omega arith)
 positive_of (b ∷ bs) some h d =
-    let t = both (is_ascii_digit b) (all_ascii_digits bs) d in
-    rw (at_least_one b h t.0, all_digits bs t.1) refl
+    let t = and_parts (is_ascii_digit b) (all_ascii_digits bs) d in
+    rw (at_least_one b h t.0, digits_listed bs t.1) refl
 
 -- what the digits of a number from 1 on are
 pub record IsDigits (n : ℕ) (ds : List ℕ) : Type 0 where
@@ -57,8 +50,8 @@ or_true false = refl
 
 one_to_nine : (b : ℕ) (bs : List ℕ) → is_positive (b ∷ bs) ≡ true → (49 ≤ b) × (b ≤ 57)
 one_to_nine b bs h =
-    let t = both (leb 49 b && leb b 57) (list_all is_ascii_digit bs) h in
-    let r = both (leb 49 b) (leb b 57) t.0 in
+    let t = and_parts (leb 49 b && leb b 57) (list_all is_ascii_digit bs) h in
+    let r = and_parts (leb 49 b) (leb b 57) t.0 in
     (leb-true 49 b r.0, leb-true b 57 r.1)
 
 plain_number : (n : ℕ) (ds : List ℕ) → IsDigits n ds → IsNumberOf (pos n) ds

@@ -2,6 +2,7 @@
 use Rattle.std.proofs.Common.{◌≡◌, ℕ, inl, inr, List, [], ◌∷◌, ◌++◌, Bool, true, eq-eqb, Option, Some, None, refl, sym, subst, ap, ◌∙◌}
 use Rattle.std.specs.Prelude.{codes, option_map, nat_lt}
 use Rattle.std.specs.Str.{bytes_eq}
+use Rattle.std.proofs.lemmas.Bool.{and_parts}
 use Rattle.syntax.specs.declared.instruction.Instruction.{Instruction}
 use Rattle.syntax.specs.declared.operator.BinaryOperator.{BinaryOperator}
 use Rattle.syntax.specs.declared.operator.BinaryOperator.TheVariants.{Add, Subtract, Multiply, AddNoWrap, SubtractNoWrap, MultiplyNoWrap, SignedDivide, UnsignedDivide, SignedRemainder, UnsignedRemainder, ShiftLeft, LogicalShiftRight, ArithmeticShiftRight, And, Or, ExclusiveOr}
@@ -17,7 +18,6 @@ use Rattle.ir_item.specs.Shape.{Piece, Gaps, gaps_of}
 use Rattle.ir_item.specs.Grammar.{binary_shape, binary_from, compare_shape, compare_from, truncate_shape, truncate_from, extend_shape, extend_from, alloca_shape, alloca_from, alloca_array_shape, alloca_array_from, element_pointer_shape, element_pointer_from, load_shape, load_from, start_region_shape, start_region_from, call_shape, call_from, phi_shape, phi_from, binary, alloca, call, fixed, definition}
 use Rattle.ir_item.specs.Spelling.{Atom, Blank, symbols_in, operator_atoms, atoms_of, instruction_atoms, item_atoms}
 use Rattle.ir_item.specs.Fits.{is_some_list, gaps_fit, instruction_fits, item_fits}
-use Rattle.ir_lex.proofs.Printed.{both}
 use Rattle.ir_item.proofs.Again.{symbols_appended}
 use Rattle.ir_item.proofs.Takes.{bind_some, map_some, chosen, pick, some_is, same_bytes, are_within, behind_within, word_is, gaps_take}
 
@@ -115,7 +115,7 @@ defining d text = Register d ∷ Mark 61 ∷ Word text ∷ []
 alloca_takes : (d : List ℕ) (rest : List Symbol) (i : Instruction) → are_within rest → alloca d rest ≡ Some i → Defines d (codes "alloca") rest i
 alloca_takes d rest i w h = elim (chosen (is_word (codes "i64") rest) (option_map (alloca_from d) (gaps_of alloca_shape rest)) (option_map (alloca_array_from d) (gaps_of alloca_array_shape rest)) (Some i) h) [
   | inl v ↦ spelled instruction_atoms instruction_fits alloca_shape (alloca_from d) (defining d (codes "alloca")) rest i w v.1 (λ g. refl) (λ g f. refl)
-  | inr v ↦ spelled instruction_atoms instruction_fits alloca_array_shape (alloca_array_from d) (defining d (codes "alloca")) rest i w v.1 (λ g. refl) (λ g f. (both (nat_lt 0 g.0) true f).0)
+  | inr v ↦ spelled instruction_atoms instruction_fits alloca_array_shape (alloca_array_from d) (defining d (codes "alloca")) rest i w v.1 (λ g. refl) (λ g f. (and_parts (nat_lt 0 g.0) true f).0)
 ]
 
 call_takes : (d : List ℕ) (rest : List Symbol) (i : Instruction) → are_within rest → call d rest ≡ Some i → Defines d (codes "call") rest i
@@ -160,7 +160,7 @@ pub of_instruction : (at : ℕ) (line : List Symbol) (j : Instruction) (i : Item
 of_instruction at line j i e s = subst (λ (i : Item). ItemSpells at line i) e s
 
 phi_good : (at : ℕ) (d : List ℕ) (g : Gaps phi_shape) → gaps_fit phi_shape g ≡ true → item_fits at (item.Phi (phi_from at d g)) ≡ true
-phi_good at d g f = let t = both (is_some_list g.1.0) true f in rw (eq-eqb at at refl, t.0) refl
+phi_good at d g f = let t = and_parts (is_some_list g.1.0) true f in rw (eq-eqb at at refl, t.0) refl
 
 pub definition_takes : (at : ℕ) (d text : List ℕ) (rest : List Symbol) (i : Item) → are_within rest → definition at d (Word text ∷ rest) ≡ Some i → ItemSpells at (Register d ∷ Mark 61 ∷ Word text ∷ rest) i
 unfolding definition

@@ -1,8 +1,8 @@
 -- An item's spelling is read as the item.
-use Rattle.std.proofs.Common.{◌≡◌, ℕ, List, [], ◌∷◌, Bool, true, false, cond, eqb, Option, Some, None, refl, sym, ap, ◌∙◌}
-use Rattle.std.specs.Prelude.{codes, not, option_map, nat_lt}
+use Rattle.std.proofs.Common.{◌≡◌, ℕ, List, [], ◌∷◌, Bool, true, cond, eqb, Option, Some, None, refl, sym, ap, ◌∙◌}
+use Rattle.std.specs.Prelude.{codes, option_map, nat_lt}
 use Rattle.std.specs.Str.{bytes_eq}
-use Rattle.std.proofs.lemmas.Bool.{eqb-true}
+use Rattle.std.proofs.lemmas.Bool.{eqb-true, not-true, and_parts}
 use Rattle.syntax.specs.declared.instruction.AllocaSize.TheVariants.{One, Array}
 use Rattle.syntax.specs.declared.instruction.Operand.{Operand}
 use Rattle.syntax.specs.declared.instruction.Instruction.{Instruction}
@@ -26,11 +26,6 @@ use Rattle.ir_item.specs.Grammar.{binary_shape, binary_from, compare_shape, comp
 use Rattle.ir_item.specs.Spelling.{symbols_in, atoms_of, instruction_atoms, terminator_atoms, item_atoms, spelled_cases}
 use Rattle.ir_item.specs.Fits.{instruction_fits, terminator_fits, item_fits, is_some_list}
 use Rattle.ir_item.proofs.Again.{gaps_again}
-use Rattle.ir_lex.proofs.Printed.{both}
-
-not_true : (b : Bool) → not b ≡ true → b ≡ false
-not_true true h = absurd cc
-not_true false h = refl
 
 -- binary operations
 
@@ -94,9 +89,9 @@ unfolding item_in worded terminator_in
 terminator_again at (terminator.Jump l) h = ap (λ (r : Option (Gaps jump_shape)). option_map item.Terminator (option_map jump_from r)) (gaps_again jump_shape (l, tt) refl)
 terminator_again at (terminator.Branch c t f) h =
     ap (λ (r : Option (Gaps branch_shape)). option_map item.Terminator (r >>= branch_from)) (gaps_again branch_shape (c, (t, (f, tt))) refl)
-    ∙ ap (λ (b : Bool). option_map item.Terminator (cond b None (Some (terminator.Branch c t f)))) (not_true (bytes_eq t f) h)
+    ∙ ap (λ (b : Bool). option_map item.Terminator (cond b None (Some (terminator.Branch c t f)))) (not-true (bytes_eq t f) h)
 terminator_again at (terminator.Switch w v d cs) h =
-    let t = both (is_some_list (spelled_cases w cs)) (are_cases_of w d (spelled_cases w cs)) h in
+    let t = and_parts (is_some_list (spelled_cases w cs)) (are_cases_of w d (spelled_cases w cs)) h in
     ap (λ (r : Option (Gaps switch_shape)). option_map item.Terminator (r >>= switch_from)) (gaps_again switch_shape (w, (v, (d, (spelled_cases w cs, tt)))) (rw t.0 refl))
     ∙ ap (λ (b : Bool). option_map item.Terminator (cond b (Some (terminator.Switch w v d (cases_from (spelled_cases w cs)))) None)) t.1
     ∙ ap (λ (cs : List Case). Some (item.Terminator (terminator.Switch w v d cs))) (spelled_back w cs)
@@ -104,7 +99,7 @@ terminator_again at (terminator.Return None) h = ap (λ (r : Option (Gaps return
 terminator_again at (terminator.Return (Some v)) h = ap (λ (r : Option (Gaps return_shape)). option_map item.Terminator (option_map return_from r)) (gaps_again return_shape (v, tt) refl)
 terminator_again at (terminator.Detach s d c) h =
     ap (λ (r : Option (Gaps detach_shape)). option_map item.Terminator (r >>= detach_from)) (gaps_again detach_shape (s, (d, (c, tt))) refl)
-    ∙ ap (λ (b : Bool). option_map item.Terminator (cond b None (Some (terminator.Detach s d c)))) (not_true (bytes_eq d c) h)
+    ∙ ap (λ (b : Bool). option_map item.Terminator (cond b None (Some (terminator.Detach s d c)))) (not-true (bytes_eq d c) h)
 terminator_again at (terminator.Reattach s c) h = ap (λ (r : Option (Gaps region_shape)). option_map item.Terminator (option_map reattach_from r)) (gaps_again region_shape (s, (c, tt)) refl)
 terminator_again at (terminator.Sync s n) h = ap (λ (r : Option (Gaps region_shape)). option_map item.Terminator (option_map sync_from r)) (gaps_again region_shape (s, (n, tt)) refl)
 
@@ -112,14 +107,14 @@ terminator_again at (terminator.Sync s n) h = ap (λ (r : Option (Gaps region_sh
 pub item_again : (at : ℕ) (i : Item) → item_fits at i ≡ true → item_in at (symbols_in (item_atoms i)) ≡ Some i
 unfolding item_in definition worded
 item_again at (item.Global g) h =
-    let t = both (eqb g.line at) (nat_lt 0 g.cells) h in
+    let t = and_parts (eqb g.line at) (nat_lt 0 g.cells) h in
     let line : g.line ≡ at = eqb-true g.line at t.0 in
     ap (option_map (global_from at g.name)) (gaps_again global_shape (g.cells, tt) (rw t.1 refl))
     ∙ ap (λ (n : ℕ). Some (item.Global (record { line = n; name = g.name; cells = g.cells }))) (sym line)
 item_again at (item.Define name r ps) h = ap (option_map define_from) (gaps_again define_shape (r, (name, (ps, tt))) (rw h refl))
 item_again at (item.Label name) h = refl
 item_again at (item.Phi phi) h =
-    let t = both (eqb phi.line at) (is_some_list phi.entries) h in
+    let t = and_parts (eqb phi.line at) (is_some_list phi.entries) h in
     let line : phi.line ≡ at = eqb-true phi.line at t.0 in
     ap (λ (r : Option (Gaps phi_shape)). option_map (λ g. item.Phi (phi_from at phi.register g)) r) (gaps_again phi_shape (phi.width, (phi.entries, tt)) (rw t.1 refl))
     ∙ ap (λ (n : ℕ). Some (item.Phi (record { line = n; register = phi.register; width = phi.width; entries = phi.entries }))) (sym line)

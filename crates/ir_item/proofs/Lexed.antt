@@ -3,13 +3,14 @@ use Rattle.std.proofs.Common.{◌≡◌, ℕ, ◌+◌, ◌-◌, ◌<◌, true, f
 use Rattle.std.specs.Prelude.{◌&&◌, option_map}
 use Rattle.std.proofs.lemmas.List.{length-append, drop_at, take_at}
 use Rattle.std.specs.Fmt.{signed_decimal}
+use Rattle.std.proofs.lemmas.Bool.{and_parts}
 use Rattle.ir_lex.specs.declared.token.Kind.{Kind}
 use Rattle.ir_lex.specs.declared.token.Kind.TheVariants as kinds
 use Rattle.ir_lex.specs.declared.token.Token.{Token}
 use Rattle.ir_lex.specs.Spelling.{is_name, is_number}
 use Rattle.ir_lex.specs.Tokens.{tokens_from}
 use Rattle.ir_lex.specs.Lexemes.{text_at}
-use Rattle.ir_lex.proofs.Printed.{both, is_parted, IsLexeme, Run, Sign, space_then, one_then}
+use Rattle.ir_lex.proofs.Printed.{is_parted, IsLexeme, Run, Sign, space_then, one_then}
 use Rattle.ir_lex.proofs.Names.{name_runs, name_kind}
 use Rattle.ir_lex.proofs.KindLaws.{number_kind, number_runs, sigil_kind, mark_is_no_space, mark_is_no_run}
 use Rattle.ir_item.specs.declared.symbol.Numeral.TheVariants.{Small, Large}
@@ -110,6 +111,6 @@ unfolding tokens_from
 atoms_cut before [] h = record { tokens = []; found = refl; same = refl }
 atoms_cut before (Blank ∷ atoms) h = after_blank before atoms (atoms_cut (before ++ 32 ∷ []) atoms h)
 atoms_cut before (spelling.Token s ∷ atoms) h =
-    let t = both (is_spelled s && is_parted_from s atoms) (are_spelled atoms) h in
-    let u = both (is_spelled s) (is_parted_from s atoms) t.0 in
+    let t = and_parts (is_spelled s && is_parted_from s atoms) (are_spelled atoms) h in
+    let u = and_parts (is_spelled s) (is_parted_from s atoms) t.0 in
     after_symbol before s atoms (symbol_text_is s atoms u.0 u.1) (atoms_cut (before ++ symbol_text s) atoms t.1)

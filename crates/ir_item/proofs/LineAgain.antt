@@ -2,7 +2,7 @@
 use Rattle.std.proofs.Common.{◌≡◌, ℕ, zero, suc, ◌+◌, Bool, true, false, cond, eqb, List, [], ◌∷◌, ◌++◌, length, drop, map, Option, Some, None, Ok, refl, sym, ap, ◌∙◌, arith}
 use Rattle.std.specs.Prelude.{◌&&◌, ◌||◌, not, option_map}
 use Rattle.std.specs.List.{list_all, prefix_len}
-use Rattle.std.proofs.lemmas.Bool.{eqb-true}
+use Rattle.std.proofs.lemmas.Bool.{eqb-true, and_parts}
 use Rattle.std.proofs.lemmas.List.{drop_at}
 use Rattle.ir_lex.specs.declared.token.Kind.{Kind}
 use Rattle.ir_lex.specs.declared.token.Kind.TheVariants as kinds
@@ -10,7 +10,7 @@ use Rattle.ir_lex.specs.declared.token.Token.{Token}
 use Rattle.ir_lex.specs.Spelling.{is_space, is_mark, is_run_byte, is_note_mark}
 use Rattle.ir_lex.specs.Tokens.{tokens_from, tokens_of}
 use Rattle.ir_lex.specs.Lexemes.{text_at}
-use Rattle.ir_lex.proofs.Printed.{both, no_note, IsLexeme, Run, Sign}
+use Rattle.ir_lex.proofs.Printed.{no_note, IsLexeme, Run, Sign}
 use Rattle.ir_item.specs.declared.item.Item.{Item}
 use Rattle.ir_item.specs.declared.line.Line.{Line}
 use Rattle.ir_item.specs.declared.symbol.Symbol.{Symbol}
@@ -53,7 +53,7 @@ no_semicolon_mark b h = by_case (eqb b 59) (λ e. let same : is_mark b ≡ is_ma
 begins : (rest : List ℕ) (kind : Kind) (text : List ℕ) → IsLexeme rest kind text → Begins text
 begins rest _ _ (Run kind [] k all some parted) = absurd (omega arith)
 begins rest _ _ (Run kind (b ∷ w) k all some parted) =
-    let t = both (is_run_byte b) (list_all is_run_byte w) all in
+    let t = and_parts (is_run_byte b) (list_all is_run_byte w) all in
     let n = nor (is_space b) (is_mark b) (eqb b 59) t.0 in
     record { first = b; others = w; is = refl; no_space = n.0; no_semicolon = n.1 }
 begins rest _ _ (Sign m h s) = record { first = m; others = []; is = refl; no_space = s; no_semicolon = no_semicolon_mark m h }
@@ -122,8 +122,8 @@ tokens_again k (Blank ∷ atoms) h =
       same = ap (λ (l : List ℕ). map (symbol_at l) later.tokens) (sym line) ∙ later.same;
     }
 tokens_again k (spelling.Token s ∷ atoms) h =
-    let t = both (is_spelled s && is_parted_from s atoms) (are_spelled atoms) h in
-    let u = both (is_spelled s) (is_parted_from s atoms) t.0 in
+    let t = and_parts (is_spelled s && is_parted_from s atoms) (are_spelled atoms) h in
+    let u = and_parts (is_spelled s) (is_parted_from s atoms) t.0 in
     let is = symbol_text_is s atoms u.0 u.1 in
     begun_tokens k (spelling.Token s ∷ atoms) (text_begins s atoms (begins (text_of atoms) _ (symbol_text s) is.lexeme)) (atoms_cut (spaces k) (spelling.Token s ∷ atoms) h)
 

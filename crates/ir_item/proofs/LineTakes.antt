@@ -3,7 +3,7 @@ use Rattle.std.proofs.Common.{◌≡◌, ℕ, inl, inr, List, [], ◌∷◌, ◌
 use Rattle.std.specs.Prelude.{codes, not, ◌&&◌, option_map, nat_lt, nat_le, length}
 use Rattle.std.specs.List.{list_all}
 use Rattle.std.specs.Str.{bytes_eq}
-use Rattle.std.proofs.lemmas.Bool.{eqb-true}
+use Rattle.std.proofs.lemmas.Bool.{eqb-true, and_parts}
 use Rattle.std.proofs.lemmas.List.{append-nil}
 use Rattle.syntax.specs.declared.instruction.Instruction.{Instruction}
 use Rattle.syntax.specs.declared.operator.Width.{Width}
@@ -20,12 +20,12 @@ use Rattle.ir_item.specs.declared.switch.SpelledCase.{SpelledCase}
 use Rattle.ir_item.specs.Outcome.{◌>>=◌}
 use Rattle.ir_item.specs.Symbols.{is_within_limits}
 use Rattle.ir_item.specs.Fronts.{mark_at, is_word, is_mark, behind}
-use Rattle.ir_item.specs.Cases.{is_same_width, is_case_of, are_distinct, are_cases_of, cases_from}
+use Rattle.ir_item.specs.Cases.{is_case_of, are_distinct, are_cases_of, cases_from}
+use Rattle.syntax.specs.Widths.{is_same_width}
 use Rattle.ir_item.specs.Shape.{Gaps, gaps_of}
 use Rattle.ir_item.specs.Grammar.{store_shape, store_from, store_zeros_shape, store_zeros_from, atomic_shape, atomic_from, call_void_shape, call_void_from, store, jump_shape, jump_from, branch_shape, branch_from, branch_in, br, switch_shape, switch_from, return_void_shape, return_void_from, return_shape, return_from, return, detach_shape, detach_from, region_shape, reattach_from, sync_from, global_shape, global_from, define_shape, define_from, definition, terminator_in, worded, item_in}
 use Rattle.ir_item.specs.Spelling.{symbols_in, operand_symbol, width_word, cases_atoms, atoms_of, instruction_atoms, terminator_atoms, item_atoms, spelled_cases}
 use Rattle.ir_item.specs.Fits.{has_cells, is_some_list, gaps_fit, instruction_fits, terminator_fits, item_fits}
-use Rattle.ir_lex.proofs.Printed.{both}
 use Rattle.ir_item.proofs.Again.{symbols_appended}
 use Rattle.ir_item.proofs.Takes.{bind_some, map_some, chosen, tested, are_within, behind_within, mark_is, mark_takes, gaps_take}
 use Rattle.ir_item.proofs.ItemTakes.{Spells, spelled, by_word, ItemSpells, of_instruction, definition_takes}
@@ -75,16 +75,16 @@ one_back w v (Small n) l e h = ap (λ (u : Width). record { width = u; number = 
 one_back w v (Large digits) l e h = absurd cc
 
 case_back : (w : Width) (d : List ℕ) (c : SpelledCase) → is_case_of w d c ≡ true → is_within_limits (Number c.number) ≡ true → spelled_cases w (cases_from (c ∷ [])) ≡ c ∷ []
-case_back w d c h n = one_back w c.width c.number c.target (same_width c.width w (both (is_same_width c.width w) (not (bytes_eq c.target d)) h).0) n
+case_back w d c h n = one_back w c.width c.number c.target (same_width c.width w (and_parts (is_same_width c.width w) (not (bytes_eq c.target d)) h).0) n
 
 cases_back : (w : Width) (d : List ℕ) (cs : List SpelledCase) → list_all (is_case_of w d) cs ≡ true → are_within (symbols_in (cases_atoms cs)) → spelled_cases w (cases_from cs) ≡ cs
 cases_back w d [] h n = refl
 cases_back w d (c ∷ cs) h n =
-    let t = both (is_case_of w d c) (list_all (is_case_of w d) cs) h in
+    let t = and_parts (is_case_of w d c) (list_all (is_case_of w d) cs) h in
     let later : List Symbol = symbols_in (cases_atoms cs) in
-    let n1 = both (is_within_limits (Word (width_word c.width))) (list_all is_within_limits (Number c.number ∷ Mark 44 ∷ Word (codes "label") ∷ Register c.target ∷ later)) n in
-    let n2 = both (is_within_limits (Number c.number)) (list_all is_within_limits (Mark 44 ∷ Word (codes "label") ∷ Register c.target ∷ later)) n1.1 in
-    let n3 = both (is_within_limits (Register c.target)) (list_all is_within_limits later) n2.1 in
+    let n1 = and_parts (is_within_limits (Word (width_word c.width))) (list_all is_within_limits (Number c.number ∷ Mark 44 ∷ Word (codes "label") ∷ Register c.target ∷ later)) n in
+    let n2 = and_parts (is_within_limits (Number c.number)) (list_all is_within_limits (Mark 44 ∷ Word (codes "label") ∷ Register c.target ∷ later)) n1.1 in
+    let n3 = and_parts (is_within_limits (Register c.target)) (list_all is_within_limits later) n2.1 in
     let first : spelled_cases w (cases_from (c ∷ [])) ≡ c ∷ [] = case_back w d c t.0 n2.0 in
     ap (λ (l : List SpelledCase). l ++ spelled_cases w (cases_from cs)) first ∙ ap (λ (l : List SpelledCase). c ∷ l) (cases_back w d cs t.1 n3.1)
 
@@ -97,13 +97,13 @@ switch_takes rest t w h =
     let cs : List SpelledCase = b.0.1.1.1.0 in
     let made : Terminator = terminator.Switch wide b.0.1.0 default (cases_from cs) in
     let u = tested (are_cases_of wide default cs) made t b.2 in
-    let v = both (nat_le (length cs) 64 && list_all (is_case_of wide default) cs) (are_distinct cs) u.0 in
-    let each = (both (nat_le (length cs) 64) (list_all (is_case_of wide default) cs) v.0).1 in
+    let v = and_parts (nat_le (length cs) 64 && list_all (is_case_of wide default) cs) (are_distinct cs) u.0 in
+    let each = (and_parts (nat_le (length cs) 64) (list_all (is_case_of wide default) cs) v.0).1 in
     let front : List Symbol = Word (width_word wide) ∷ operand_symbol b.0.1.0 ∷ Mark 44 ∷ Word (codes "label") ∷ Register default ∷ Mark 91 ∷ [] in
     let plain : symbols_in (cases_atoms cs ++ []) ≡ symbols_in (cases_atoms cs) = symbols_appended (cases_atoms cs) [] ∙ append-nil (symbols_in (cases_atoms cs)) in
     let numbers : are_within (symbols_in (cases_atoms cs)) = behind_within rest front (symbols_in (cases_atoms cs)) w (s.0 ∙ ap (λ (l : List Symbol). front ++ l) plain) in
     let back : spelled_cases wide (cases_from cs) ≡ cs = cases_back wide default cs each numbers in
-    let some : is_some_list cs ≡ true = (both (is_some_list cs) true s.1).0 in
+    let some : is_some_list cs ≡ true = (and_parts (is_some_list cs) true s.1).0 in
     let good : (is_some_list cs && are_cases_of wide default cs) ≡ true = rw (some, u.0) refl in (
       ap (λ (l : List Symbol). Word (codes "switch") ∷ l) s.0
           ∙ ap (λ (ds : List SpelledCase). Word (codes "switch") ∷ symbols_in (atoms_of switch_shape (wide, (b.0.1.0, (default, (ds, tt)))))) (sym back)
@@ -138,7 +138,7 @@ terminator_takes text rest t w h =
 store_takes : (rest : List Symbol) (j : Instruction) → are_within rest → store rest ≡ Some j → Spells instruction_atoms instruction_fits (Word (codes "store") ∷ rest) j
 store_takes rest j w h = elim (chosen (is_word (codes "i64") rest) (option_map store_from (gaps_of store_shape rest)) (option_map store_zeros_from (gaps_of store_zeros_shape rest)) (Some j) h) [
   | inl v ↦ spelled instruction_atoms instruction_fits store_shape store_from (Word (codes "store") ∷ []) rest j w v.1 (λ g. refl) (λ g f. refl)
-  | inr v ↦ spelled instruction_atoms instruction_fits store_zeros_shape store_zeros_from (Word (codes "store") ∷ []) rest j w v.1 (λ g. refl) (λ g f. (both (nat_lt 0 g.0) true f).0)
+  | inr v ↦ spelled instruction_atoms instruction_fits store_zeros_shape store_zeros_from (Word (codes "store") ∷ []) rest j w v.1 (λ g. refl) (λ g f. (and_parts (nat_lt 0 g.0) true f).0)
 ]
 
 worded_takes : (at : ℕ) (text : List ℕ) (rest : List Symbol) (i : Item) → are_within rest → worded text rest ≡ Some i → ItemSpells at (Word text ∷ rest) i
@@ -146,7 +146,7 @@ unfolding worded
 worded_takes at text rest i w h =
     let P = λ (s : List ℕ). ItemSpells at (Word s ∷ rest) i in
     elim (chosen (bytes_eq text (codes "define")) _ _ (Some i) h) [
-      | inl v ↦ by_word text (codes "define") P v.0 (spelled item_atoms (item_fits at) define_shape define_from (Word (codes "define") ∷ []) rest i w v.1 (λ g. refl) (λ g f. (both (list_all has_cells g.1.1.0) true f).0))
+      | inl v ↦ by_word text (codes "define") P v.0 (spelled item_atoms (item_fits at) define_shape define_from (Word (codes "define") ∷ []) rest i w v.1 (λ g. refl) (λ g f. (and_parts (list_all has_cells g.1.1.0) true f).0))
       | inr v ↦ elim (chosen (bytes_eq text (codes "store")) _ _ (Some i) v.1) [
         | inl v ↦
             let m = map_some item.Instruction (store rest) i v.1 in
@@ -165,11 +165,11 @@ worded_takes at text rest i w h =
 
 defined_takes : (at : ℕ) (d : List ℕ) (more : List Symbol) (i : Item) → are_within more → definition at d more ≡ Some i → ItemSpells at (Register d ∷ Mark 61 ∷ more) i
 unfolding definition
-defined_takes at d (Word text ∷ rest) i w h = definition_takes at d text rest i (both (is_within_limits (Word text)) (list_all is_within_limits rest) w).1 h
+defined_takes at d (Word text ∷ rest) i w h = definition_takes at d text rest i (and_parts (is_within_limits (Word text)) (list_all is_within_limits rest) w).1 h
 defined_takes at d _ i w h = absurd cc
 
 global_good : (at : ℕ) (name : List ℕ) (g : Gaps global_shape) → gaps_fit global_shape g ≡ true → item_fits at (global_from at name g) ≡ true
-global_good at name g f = rw (eq-eqb at at refl, (both (nat_lt 0 g.0) true f).0) refl
+global_good at name g f = rw (eq-eqb at at refl, (and_parts (nat_lt 0 g.0) true f).0) refl
 
 -- A line that says an item is its spelling, and the item fits the line.
 pub item_takes : (at : ℕ) (line : List Symbol) (i : Item) → are_within line → item_in at line ≡ Some i → ItemSpells at line i
@@ -181,9 +181,9 @@ item_takes at (Register d ∷ rest) i w h =
     let s = defined_takes at d b.0 i within b.2 in
     (ap (λ (l : List Symbol). Register d ∷ l) e ∙ s.0, s.1)
 item_takes at (Global name ∷ rest) i w h =
-    spelled item_atoms (item_fits at) global_shape (global_from at name) (Global name ∷ []) rest i (both (is_within_limits (Global name)) (list_all is_within_limits rest) w).1 h (λ g. refl) (global_good at name)
+    spelled item_atoms (item_fits at) global_shape (global_from at name) (Global name ∷ []) rest i (and_parts (is_within_limits (Global name)) (list_all is_within_limits rest) w).1 h (λ g. refl) (global_good at name)
 item_takes at (Word text ∷ rest) i w h =
-    let within : are_within rest = (both (is_within_limits (Word text)) (list_all is_within_limits rest) w).1 in
+    let within : are_within rest = (and_parts (is_within_limits (Word text)) (list_all is_within_limits rest) w).1 in
     elim (chosen (is_mark 58 rest) (option_map (λ g. item.Label text) (gaps_of [] (behind rest))) (worded text rest) (Some i) h) [
       | inl v ↦
           let e = mark_is 58 rest v.0 in
@@ -193,7 +193,7 @@ item_takes at (Word text ∷ rest) i w h =
     ]
 item_takes at (Mark byte ∷ rest) i w h = elim (chosen (eqb byte 125) (option_map (λ g. item.Close) (gaps_of [] rest)) None (Some i) h) [
   | inl v ↦
-      let s = spelled item_atoms (item_fits at) [] (λ g. item.Close) (Mark 125 ∷ []) rest i (both (is_within_limits (Mark byte)) (list_all is_within_limits rest) w).1 v.1 (λ g. refl) (λ g f. refl) in
+      let s = spelled item_atoms (item_fits at) [] (λ g. item.Close) (Mark 125 ∷ []) rest i (and_parts (is_within_limits (Mark byte)) (list_all is_within_limits rest) w).1 v.1 (λ g. refl) (λ g f. refl) in
       (ap (λ (b : ℕ). Mark b ∷ rest) (eqb-true byte 125 v.0) ∙ s.0, s.1)
   | inr v ↦ absurd cc
 ]

@@ -2,13 +2,12 @@
 use Rattle.std.proofs.Common.{◌≡◌, ℕ, Bool, true, List, [], ◌∷◌, ◌++◌, length, map, Option, Some, None, refl, sym, subst, ap, ◌∙◌}
 use Rattle.std.specs.Prelude.{◌&&◌, ◌*◌, nat_le, flat_map, codes, pos}
 use Rattle.std.specs.List.{list_all, All}
-use Rattle.std.proofs.lemmas.Bool.{leb-true}
+use Rattle.std.proofs.lemmas.Bool.{leb-true, and_parts}
 use Rattle.std.proofs.lemmas.List.Elements.{All-nil, All-cons}
 use Rattle.std.proofs.lemmas.List.Folds.{list_all-append}
 use Rattle.syntax.specs.declared.module.Parameter.{Parameter}
 use Rattle.syntax.specs.declared.module.Parameter.TheVariants as parameter
 use Rattle.ir_lex.specs.Spelling.{is_name}
-use Rattle.ir_lex.proofs.Printed.{both}
 use Rattle.ir_annotation.specs.Annotations.{IsShortName}
 use Rattle.syntax.specs.declared.module.ResultType.{ResultType}
 use Rattle.ir_item.specs.declared.item.Item.{Item}
@@ -32,24 +31,24 @@ good_list : (atoms : List Atom) → are_spelled atoms ≡ true → list_all is_w
 good_list [] h w = refl
 good_list (Blank ∷ atoms) h w = good_list atoms h w
 good_list (Token s ∷ atoms) h w =
-    let t = both (is_spelled s && is_parted_from s atoms) (are_spelled atoms) h in
-    let u = both (is_spelled s) (is_parted_from s atoms) t.0 in
-    let v = both (is_within_limits s) (list_all is_within_limits (symbols_in atoms)) w in
+    let t = and_parts (is_spelled s && is_parted_from s atoms) (are_spelled atoms) h in
+    let u = and_parts (is_spelled s) (is_parted_from s atoms) t.0 in
+    let v = and_parts (is_within_limits s) (list_all is_within_limits (symbols_in atoms)) w in
     rw (u.0, v.0, good_list atoms t.1 v.1) refl
 
 good_item : (i : Item) → IsSpelledItem i → Good (symbols_in (item_atoms i))
 good_item i is = good_list (item_atoms i) is.spelled is.within
 
 later_good : (s : Symbol) (ss : List Symbol) → Good (s ∷ ss) → Good ss
-later_good s ss h = (both (is_good s) (list_all is_good ss) h).1
+later_good s ss h = (and_parts (is_good s) (list_all is_good ss) h).1
 
 short : (name : List ℕ) → (is_name name && nat_le (length name) 64) ≡ true → IsShortName name
 short name h =
-    let t = both (is_name name) (nat_le (length name) 64) h in
+    let t = and_parts (is_name name) (nat_le (length name) 64) h in
     record { spelled = t.0; short = leb-true (length name) 64 t.1 }
 
 good_append : (xs ys : List Symbol) → Good (xs ++ ys) → Good xs × Good ys
-good_append xs ys h = both (list_all is_good xs) (list_all is_good ys) (sym (list_all-append is_good xs ys) ∙ h)
+good_append xs ys h = and_parts (list_all is_good xs) (list_all is_good ys) (sym (list_all-append is_good xs ys) ∙ h)
 
 -- ---- parameters
 
@@ -58,10 +57,10 @@ name_of (parameter.Number name) = name
 name_of (parameter.Pointer name cells) = name
 
 parameter_short : (p : Parameter) → Good (symbols_in (parameter_atoms p)) → IsShortName (name_of p)
-parameter_short (parameter.Number name) h = short name (both (is_good (symbols.Register name)) true h).0
+parameter_short (parameter.Number name) h = short name (and_parts (is_good (symbols.Register name)) true h).0
 parameter_short (parameter.Pointer name cells) h =
-    let rest = both (is_good (symbols.Number (Small (pos (8 * cells))))) (list_all is_good (symbols.Mark 41 ∷ symbols.Register name ∷ [])) h in
-    short name (both (is_good (symbols.Register name)) true rest.1).0
+    let rest = and_parts (is_good (symbols.Number (Small (pos (8 * cells))))) (list_all is_good (symbols.Mark 41 ∷ symbols.Register name ∷ [])) h in
+    short name (and_parts (is_good (symbols.Register name)) true rest.1).0
 
 others_short : (ps : List Parameter) → Good (symbols_in (flat_map (other_atoms parameter_atoms) ps)) → All IsShortName (map name_of ps)
 others_short [] h = All-nil IsShortName
@@ -88,9 +87,9 @@ name_at_front (_ ∷ ss) = None
 
 front_short : (ss : List Symbol) (name : List ℕ) → Good ss → name_at_front ss ≡ Some name → IsShortName name
 front_short [] name h e = absurd cc
-front_short (symbols.Register n ∷ ss) name h e = let same : n ≡ name = cc in subst IsShortName same (short n (both (is_good (symbols.Register n)) (list_all is_good ss) h).0)
-front_short (symbols.Global n ∷ ss) name h e = let same : n ≡ name = cc in subst IsShortName same (short n (both (is_good (symbols.Global n)) (list_all is_good ss) h).0)
-front_short (symbols.Word n ∷ ss) name h e = let same : n ≡ name = cc in subst IsShortName same (short n (both (is_good (symbols.Word n)) (list_all is_good ss) h).0)
+front_short (symbols.Register n ∷ ss) name h e = let same : n ≡ name = cc in subst IsShortName same (short n (and_parts (is_good (symbols.Register n)) (list_all is_good ss) h).0)
+front_short (symbols.Global n ∷ ss) name h e = let same : n ≡ name = cc in subst IsShortName same (short n (and_parts (is_good (symbols.Global n)) (list_all is_good ss) h).0)
+front_short (symbols.Word n ∷ ss) name h e = let same : n ≡ name = cc in subst IsShortName same (short n (and_parts (is_good (symbols.Word n)) (list_all is_good ss) h).0)
 front_short (symbols.Number n ∷ ss) name h e = absurd cc
 front_short (symbols.Mark b ∷ ss) name h e = absurd cc
 front_short (symbols.Note ∷ ss) name h e = absurd cc

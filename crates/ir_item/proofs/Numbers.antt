@@ -7,19 +7,14 @@ use Rattle.std.specs.Char.{is_ascii_digit}
 use Rattle.std.specs.List.{list_all}
 use Rattle.std.specs.Str.{all_ascii_digits}
 use Rattle.std.specs.Str.Parse.{digits_value, IsNumeral, without_leading_sign, signed_digits_value}
-use Rattle.std.proofs.lemmas.Bool.{eqb-true, ltb-true, lt-ltb}
+use Rattle.std.proofs.lemmas.Bool.{eqb-true, ltb-true, lt-ltb, and_parts, false_from_ne_true}
 use Rattle.std.proofs.lemmas.Bool.Decides.{nat_tests}
 use Rattle.std.proofs.lemmas.Str.Parse.{IsNumeralModel, numerals_by_value, tells_all_ascii_digits}
 use Rattle.std.proofs.lemmas.Str.Ascii.{IsAscii-cons}
 use Rattle.std.proofs.lemmas.Fmt.{IsAscii-from_digits}
 use Rattle.ir_lex.specs.Spelling.{is_number, is_positive}
 use Rattle.ir_item.specs.Symbols.{fits_i64, number_of}
-
-both : (x y : Bool) → (x && y) ≡ true → (x ≡ true) × (y ≡ true)
-both true true h = (refl, refl)
-both true false h = absurd cc
-both false true h = absurd cc
-both false false h = absurd cc
+use Rattle.ir_annotation.proofs.Digits.{digits}
 
 one_of : (x y z : Bool) → (x || y || z) ≡ true → (x ≡ true) ⊎ ((y ≡ true) ⊎ (z ≡ true))
 one_of true y z h = inl refl
@@ -27,14 +22,10 @@ one_of false true z h = inr (inl refl)
 one_of false false true h = inr (inr refl)
 one_of false false false h = absurd cc
 
-digits : (bs : List ℕ) → list_all is_ascii_digit bs ≡ true → all_ascii_digits bs ≡ true
-digits [] h = refl
-digits (b ∷ bs) h = let t = both (is_ascii_digit b) (list_all is_ascii_digit bs) h in rw (t.0, digits bs t.1) refl
-
 positive_digits : (b : ℕ) (bs : List ℕ) → is_positive (b ∷ bs) ≡ true → (all_ascii_digits (b ∷ bs) ≡ true) × (49 ≤ b) × (b ≤ 57)
 positive_digits b bs h =
-    let t = both (nat_le 49 b && nat_le b 57) (list_all is_ascii_digit bs) h in
-    let r = both (nat_le 49 b) (nat_le b 57) t.0 in
+    let t = and_parts (nat_le 49 b && nat_le b 57) (list_all is_ascii_digit bs) h in
+    let r = and_parts (nat_le 49 b) (nat_le b 57) t.0 in
     let low : 49 ≤ b = grind (arith, nat_tests) in
     let high : b ≤ 57 = grind (arith, nat_tests) in
     let first : is_ascii_digit b ≡ true = grind (arith, nat_tests) in
@@ -68,10 +59,10 @@ pub numeral_token : (text : List ℕ) → is_number text ≡ true → IsNumeralT
 numeral_token [] h = absurd cc
 numeral_token (b ∷ bs) h =
     elim (one_of (eqb b 48 && eqb (length bs) 0) (eqb b 45 && is_positive bs) (is_positive (b ∷ bs)) h) [
-      | inl w ↦ let t = both (eqb b 48) (eqb (length bs) 0) w in zero_token b bs (eqb-true b 48 t.0) (eqb-true (length bs) 0 t.1)
+      | inl w ↦ let t = and_parts (eqb b 48) (eqb (length bs) 0) w in zero_token b bs (eqb-true b 48 t.0) (eqb-true (length bs) 0 t.1)
       | inr v ↦ elim v [
         | inl w ↦
-            let t = both (eqb b 45) (is_positive bs) w in
+            let t = and_parts (eqb b 45) (is_positive bs) w in
             subst (λ (c : ℕ). IsNumeralToken (c ∷ bs)) (sym (eqb-true b 45 t.0)) (minus_token bs t.1)
         | inr w ↦
             let d = positive_digits b bs w in
@@ -90,14 +81,10 @@ pub range_in : (z : ℤ) → FitsSigned w64 z → fits_i64 z ≡ true
 range_in (pos n) h = lt-ltb n (2 ^ 63) h.sfits
 range_in (negsuc n) h = lt-ltb n (2 ^ 63) h.sfits
 
-false_unless : (b : Bool) → (b ≡ true → ⊥) → b ≡ false
-false_unless true h = absurd (h refl)
-false_unless false h = refl
-
 pub out_of_range : (t text : List ℕ) → t ≡ text → is_number text ≡ true → (IsNumeral 10 (without_leading_sign t) × FitsSigned w64 (signed_digits_value 10 t) → ⊥) → None ≡ number_of text
 unfolding number_of
 out_of_range t text e is_one never =
-    let none : fits_i64 (signed_digits_value 10 text) ≡ false = false_unless (fits_i64 (signed_digits_value 10 text)) (λ (h : fits_i64 (signed_digits_value 10 text) ≡ true).
+    let none : fits_i64 (signed_digits_value 10 text) ≡ false = false_from_ne_true (fits_i64 (signed_digits_value 10 text)) (λ (h : fits_i64 (signed_digits_value 10 text) ≡ true).
     subst (λ (u : List ℕ). IsNumeral 10 (without_leading_sign u) × FitsSigned w64 (signed_digits_value 10 u) → ⊥) e never ((numeral_token text is_one).numeral, in_range (signed_digits_value 10 text) h)) in
     sym (ap (λ (b : Bool). cond b (Some (signed_digits_value 10 text)) None) none)
 

@@ -2,6 +2,7 @@
 use Rattle.std.proofs.Common.{◌≡◌, Bool, true, false, List, [], ◌∷◌, ◌++◌, refl, sym, ap, ◌∙◌, append_assoc}
 use Rattle.std.specs.Prelude.{◌&&◌, flat_map, Some, None}
 use Rattle.std.specs.List.{list_all}
+use Rattle.std.proofs.lemmas.Bool.{and_parts}
 use Rattle.syntax.specs.declared.instruction.AllocaSize.TheVariants.{One, Array}
 use Rattle.syntax.specs.declared.instruction.Instruction.{Instruction}
 use Rattle.syntax.specs.declared.instruction.Instruction.TheVariants as instruction
@@ -17,7 +18,6 @@ use Rattle.syntax.specs.declared.operator.Conversion.TheVariants.{Truncate, Sign
 use Rattle.syntax.specs.declared.terminator.Terminator.{Terminator}
 use Rattle.syntax.specs.declared.terminator.Terminator.TheVariants as terminator
 use Rattle.ir_lex.specs.Spelling.{is_mark}
-use Rattle.ir_lex.proofs.Printed.{both}
 use Rattle.ir_item.specs.declared.item.Item.{Item}
 use Rattle.ir_item.specs.declared.item.Item.TheVariants as item
 use Rattle.ir_item.specs.declared.symbol.Symbol.{Symbol}
@@ -59,7 +59,7 @@ pub no_notes : (atoms : List Atom) → are_parted atoms ≡ true → list_all is
 no_notes [] h = refl
 no_notes (Blank ∷ atoms) h = no_notes atoms h
 no_notes (Token s ∷ atoms) h =
-    let t = both (stands s atoms) (are_parted atoms) h in
+    let t = and_parts (stands s atoms) (are_parted atoms) h in
     rw ((stands_parted s atoms t.0).1, no_notes atoms t.1) refl
 
 -- Symbols that are spelled, and parted, make a line that is cut at them.
@@ -67,8 +67,8 @@ pub spelled_if_parted : (atoms : List Atom) → are_parted atoms ≡ true → li
 spelled_if_parted [] p h = refl
 spelled_if_parted (Blank ∷ atoms) p h = spelled_if_parted atoms p h
 spelled_if_parted (Token s ∷ atoms) p h =
-    let t = both (stands s atoms) (are_parted atoms) p in
-    let u = both (is_spelled s) (list_all is_spelled (symbols_in atoms)) h in
+    let t = and_parts (stands s atoms) (are_parted atoms) p in
+    let u = and_parts (is_spelled s) (list_all is_spelled (symbols_in atoms)) h in
     rw (u.0, (stands_parted s atoms t.0).0, spelled_if_parted atoms t.1 u.1) refl
 
 -- ---- gaps
@@ -166,13 +166,13 @@ shape_parted [] h gaps = refl
 shape_parted (space ∷ shape) h gaps = shape_parted shape h gaps
 shape_parted (mark byte ∷ shape) h gaps = shape_parted shape h gaps
 shape_parted (word text ∷ shape) h gaps =
-    let t = both (shape_parts shape) (is_parted_shape shape) h in
+    let t = and_parts (shape_parts shape) (is_parted_shape shape) h in
     rw (shape_begins shape gaps t.0, shape_parted shape t.1 gaps) refl
 shape_parted (named text ∷ shape) h gaps =
-    let t = both (shape_parts shape) (is_parted_shape shape) h in
+    let t = and_parts (shape_parts shape) (is_parted_shape shape) h in
     rw (shape_begins shape gaps t.0, shape_parted shape t.1 gaps) refl
 shape_parted (gap g ∷ shape) h gaps =
-    let t = both (shape_parts shape) (is_parted_shape shape) h in
+    let t = and_parts (shape_parts shape) (is_parted_shape shape) h in
     gap_parted g gaps.0 (atoms_of shape gaps.1) (record { begins = shape_begins shape gaps.1 t.0; others = shape_parted shape t.1 gaps.1 })
 
 -- ---- items

@@ -4,13 +4,13 @@ use Rattle.std.specs.Prelude.{◌||◌, ℤ, nat_lt, slice_index}
 use Rattle.std.specs.List.{list_all, AllByRecursion}
 use Rattle.std.specs.Str.Parse.{signed_digits_value}
 use Rattle.std.proofs.lemmas.List.Elements.{All-head, All-tail}
+use Rattle.std.proofs.lemmas.Bool.{and_parts}
 use Rattle.ir_lex.specs.declared.token.Kind.{Kind}
 use Rattle.ir_lex.specs.declared.token.Kind.TheVariants as kinds
 use Rattle.ir_lex.specs.declared.token.Token.{Token}
 use Rattle.ir_lex.specs.Spelling.{is_name, is_marked_name, is_mark}
 use Rattle.ir_lex.specs.Tokens.{tokens_of}
 use Rattle.ir_lex.specs.Lexemes.{HasKind, IsTokenOf, text_at}
-use Rattle.ir_lex.proofs.Printed.{both}
 use Rattle.ir_lex.proofs.Hold.{all_hold}
 use Rattle.ir_lex.proofs.PlainWords.{IsNameIfWord, IsPlainToken, ArePlain, plain_words}
 use Rattle.ir_annotation.specs.declared.meaning.AnnotationLine.{AnnotationLine}
@@ -37,7 +37,7 @@ use Rattle.ir_item.proofs.LineTakes.{item_takes}
 named_spelled : (text : List ℕ) → is_marked_name text ≡ true → is_spelled (named text) ≡ true
 named_spelled [] h = absurd cc
 named_spelled (b ∷ bs) h =
-    let t = both (eqb b 37 || eqb b 64) (is_name bs) h in
+    let t = and_parts (eqb b 37 || eqb b 64) (is_name bs) h in
     elim (eqb b 37) as (λ v. is_spelled (cond v (symbols.Register bs) (symbols.Global bs)) ≡ true) [ true ↦ t.1 | false ↦ t.1 ]
 
 numeral_spelled : (text : List ℕ) → is_within_limits (symbols.Number (numeral_of text)) ≡ true → is_spelled (symbols.Number (numeral_of text)) ≡ true
@@ -52,7 +52,7 @@ numeral_spelled text w =
 
 mark_spelled : (text : List ℕ) → length text ≡ 1 → list_all is_mark text ≡ true → is_mark (slice_index text 0) ≡ true
 mark_spelled [] n h = absurd (omega arith)
-mark_spelled (b ∷ bs) n h = (both (is_mark b) (list_all is_mark bs) h).0
+mark_spelled (b ∷ bs) n h = (and_parts (is_mark b) (list_all is_mark bs) h).0
 
 symbol_spelled : (kind : Kind) (text : List ℕ) → HasKind kind text → IsNameIfWord kind text → is_no_note (symbol_of kind text) ≡ true → is_within_limits (symbol_of kind text) ≡ true → is_spelled (symbol_of kind text) ≡ true
 symbol_spelled kinds.Name text h n other w = named_spelled text h
@@ -66,16 +66,16 @@ symbols_spelled : (line : List ℕ) (ts : List Token) → All (IsTokenOf line) t
 symbols_spelled line [] each plain other w = refl
 symbols_spelled line (t ∷ ts) each plain other w =
     let one : IsTokenOf line t = All-head (IsTokenOf line) t ts each in
-    let o = both (is_no_note (symbol_at line t)) (list_all is_no_note (map (symbol_at line) ts)) other in
-    let v = both (is_within_limits (symbol_at line t)) (list_all is_within_limits (map (symbol_at line) ts)) w in
+    let o = and_parts (is_no_note (symbol_at line t)) (list_all is_no_note (map (symbol_at line) ts)) other in
+    let v = and_parts (is_within_limits (symbol_at line t)) (list_all is_within_limits (map (symbol_at line) ts)) w in
     let here : is_spelled (symbol_at line t) ≡ true = symbol_spelled t.kind (text_at line t) one.kind plain.0 o.0 v.0 in
     rw (here, symbols_spelled line ts (All-tail (IsTokenOf line) t ts each) plain.1 o.1 v.1) refl
 
 -- ---- items
 
 fits_on : (at : ℕ) (i : Item) → item_fits at i ≡ true → item_fits 0 (item_on 0 i) ≡ true
-fits_on at (item.Global g) h = (both (eqb g.line at) (nat_lt 0 g.cells) h).1
-fits_on at (item.Phi p) h = (both (eqb p.line at) (is_some_list p.entries) h).1
+fits_on at (item.Global g) h = (and_parts (eqb g.line at) (nat_lt 0 g.cells) h).1
+fits_on at (item.Phi p) h = (and_parts (eqb p.line at) (is_some_list p.entries) h).1
 fits_on at (item.Define name r ps) h = h
 fits_on at (item.Label name) h = h
 fits_on at (item.Instruction i) h = h

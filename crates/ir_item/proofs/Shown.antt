@@ -5,7 +5,7 @@ use Rattle.std.specs.List.{list_all, AllByRecursion}
 use Rattle.std.specs.Char.{is_ascii_digit}
 use Rattle.std.specs.Str.{all_ascii_digits}
 use Rattle.std.specs.Fmt.{decimal, signed_decimal}
-use Rattle.std.proofs.lemmas.Bool.{leb-true, eqb-true, le-leb}
+use Rattle.std.proofs.lemmas.Bool.{leb-true, eqb-true, le-leb, and_parts, or_cases}
 use Rattle.std.proofs.lemmas.Fmt.{decimal_nonempty}
 use Rattle.std.proofs.lemmas.Str.{IsUtf8-from_ascii}
 use Rattle.std.proofs.lemmas.Str.Ascii.{IsAscii-from_all}
@@ -23,8 +23,7 @@ use Rattle.syntax.specs.declared.operator.Mode.{Mode}
 use Rattle.syntax.specs.declared.operator.Mode.TheVariants.{Reads, Writes, Adds}
 use Rattle.ir_lex.specs.Spelling.{is_mark, is_printed}
 use Rattle.ir_lex.specs.Words.{words_text, are_words}
-use Rattle.ir_lex.proofs.Printed.{both}
-use Rattle.ir_lex.proofs.Plain.{one_of, name_printed, number_printed, digit_printed}
+use Rattle.ir_lex.proofs.Plain.{name_printed, number_printed, digit_printed}
 use Rattle.ir_annotation.specs.declared.meaning.Annotation.{Annotation}
 use Rattle.ir_annotation.specs.declared.meaning.Annotation.TheVariants as annotation
 use Rattle.ir_annotation.specs.Canonical.{IsTerm, IsCanonical}
@@ -51,7 +50,7 @@ join xs ys hx hy = list_all-append is_printed xs ys ∙ rw (hx, hy) refl
 
 digits_printed : (ds : List ℕ) → all_ascii_digits ds ≡ true → Printed ds
 digits_printed [] h = refl
-digits_printed (b ∷ bs) h = let t = both (is_ascii_digit b) (all_ascii_digits bs) h in rw (digit_printed b t.0, digits_printed bs t.1) refl
+digits_printed (b ∷ bs) h = let t = and_parts (is_ascii_digit b) (all_ascii_digits bs) h in rw (digit_printed b t.0, digits_printed bs t.1) refl
 
 decimal_printed : (n : ℕ) → n < 2 ^ 63 → Printed (decimal n)
 decimal_printed n h = digits_printed (decimal n) (decimal_digits n h)
@@ -183,26 +182,26 @@ put xs ys hx hy = list_all-append is_shown xs ys ∙ rw (hx, hy) refl
 
 printed_byte_shown : (b : ℕ) → is_printed b ≡ true → is_shown b ≡ true
 printed_byte_shown b h =
-    let t = both (leb 33 b && leb b 126) (not (eqb b 59)) h in
-    let r = both (leb 33 b) (leb b 126) t.0 in
+    let t = and_parts (leb 33 b && leb b 126) (not (eqb b 59)) h in
+    let r = and_parts (leb 33 b) (leb b 126) t.0 in
     rw (le-leb 32 b (omega (arith, leb-true 33 b r.0)), r.1) refl
 
 printed_shown : (bs : List ℕ) → Printed bs → Shown bs
 printed_shown [] h = refl
-printed_shown (b ∷ bs) h = let t = both (is_printed b) (list_all is_printed bs) h in rw (printed_byte_shown b t.0, printed_shown bs t.1) refl
+printed_shown (b ∷ bs) h = let t = and_parts (is_printed b) (list_all is_printed bs) h in rw (printed_byte_shown b t.0, printed_shown bs t.1) refl
 
 at_mark : (b c : ℕ) → eqb b c ≡ true → is_shown c ≡ true → is_shown b ≡ true
 at_mark b c h s = ap is_shown (eqb-true b c h) ∙ s
 
 mark_shown : (b : ℕ) → is_mark b ≡ true → is_shown b ≡ true
-mark_shown b h = elim (one_of (eqb b 61 || eqb b 44 || eqb b 40 || eqb b 41 || eqb b 91 || eqb b 93 || eqb b 123 || eqb b 125) (eqb b 58) h) [
-  | inl w ↦ elim (one_of (eqb b 61 || eqb b 44 || eqb b 40 || eqb b 41 || eqb b 91 || eqb b 93 || eqb b 123) (eqb b 125) w) [
-    | inl w ↦ elim (one_of (eqb b 61 || eqb b 44 || eqb b 40 || eqb b 41 || eqb b 91 || eqb b 93) (eqb b 123) w) [
-      | inl w ↦ elim (one_of (eqb b 61 || eqb b 44 || eqb b 40 || eqb b 41 || eqb b 91) (eqb b 93) w) [
-        | inl w ↦ elim (one_of (eqb b 61 || eqb b 44 || eqb b 40 || eqb b 41) (eqb b 91) w) [
-          | inl w ↦ elim (one_of (eqb b 61 || eqb b 44 || eqb b 40) (eqb b 41) w) [
-            | inl w ↦ elim (one_of (eqb b 61 || eqb b 44) (eqb b 40) w) [
-              | inl w ↦ elim (one_of (eqb b 61) (eqb b 44) w) [ inl w ↦ at_mark b 61 w refl | inr w ↦ at_mark b 44 w refl ]
+mark_shown b h = elim (or_cases (eqb b 61 || eqb b 44 || eqb b 40 || eqb b 41 || eqb b 91 || eqb b 93 || eqb b 123 || eqb b 125) (eqb b 58) h) [
+  | inl w ↦ elim (or_cases (eqb b 61 || eqb b 44 || eqb b 40 || eqb b 41 || eqb b 91 || eqb b 93 || eqb b 123) (eqb b 125) w) [
+    | inl w ↦ elim (or_cases (eqb b 61 || eqb b 44 || eqb b 40 || eqb b 41 || eqb b 91 || eqb b 93) (eqb b 123) w) [
+      | inl w ↦ elim (or_cases (eqb b 61 || eqb b 44 || eqb b 40 || eqb b 41 || eqb b 91) (eqb b 93) w) [
+        | inl w ↦ elim (or_cases (eqb b 61 || eqb b 44 || eqb b 40 || eqb b 41) (eqb b 91) w) [
+          | inl w ↦ elim (or_cases (eqb b 61 || eqb b 44 || eqb b 40) (eqb b 41) w) [
+            | inl w ↦ elim (or_cases (eqb b 61 || eqb b 44) (eqb b 40) w) [
+              | inl w ↦ elim (or_cases (eqb b 61) (eqb b 44) w) [ inl w ↦ at_mark b 61 w refl | inr w ↦ at_mark b 44 w refl ]
               | inr w ↦ at_mark b 40 w refl
             ]
             | inr w ↦ at_mark b 41 w refl
@@ -231,15 +230,15 @@ atoms_shown : (atoms : List Atom) → are_spelled atoms ≡ true → Shown (text
 atoms_shown [] h = refl
 atoms_shown (Blank ∷ atoms) h = atoms_shown atoms h
 atoms_shown (Token s ∷ atoms) h =
-    let t = both (is_spelled s && is_parted_from s atoms) (are_spelled atoms) h in
-    let u = both (is_spelled s) (is_parted_from s atoms) t.0 in
+    let t = and_parts (is_spelled s && is_parted_from s atoms) (are_spelled atoms) h in
+    let u = and_parts (is_spelled s) (is_parted_from s atoms) t.0 in
     put (symbol_text s) (text_of atoms) (symbol_shown s u.0) (atoms_shown atoms t.1)
 
 words_shown : (ws : List (List ℕ)) → are_words ws ≡ true → Shown (words_text ws)
 words_shown [] h = refl
 words_shown ([] ∷ ws) h = absurd cc
 words_shown ((b ∷ w) ∷ ws) h =
-    let t = both (list_all is_printed (b ∷ w)) (are_words ws) h in
+    let t = and_parts (list_all is_printed (b ∷ w)) (are_words ws) h in
     put (b ∷ w) (words_text ws) (printed_shown (b ∷ w) t.0) (words_shown ws t.1)
 
 pub spaces_shown : (k : ℕ) (text : List ℕ) → list_all is_shown text ≡ true → list_all is_shown (spaces k ++ text) ≡ true
@@ -257,11 +256,11 @@ item_shown (item.Terminator t) is = atoms_shown (item_atoms (item.Terminator t))
 item_shown item.Close is = refl
 
 shown_small : (b : ℕ) → is_shown b ≡ true → b < 128
-shown_small b h = let t = both (leb 32 b) (leb b 126) h in omega (arith, leb-true b 126 t.1)
+shown_small b h = let t = and_parts (leb 32 b) (leb b 126) h in omega (arith, leb-true b 126 t.1)
 
 all_small : (bs : List ℕ) → list_all is_shown bs ≡ true → AllByRecursion (λ b. b < 128) bs
 all_small [] h = tt
-all_small (b ∷ bs) h = let t = both (is_shown b) (list_all is_shown bs) h in (shown_small b t.0, all_small bs t.1)
+all_small (b ∷ bs) h = let t = and_parts (is_shown b) (list_all is_shown bs) h in (shown_small b t.0, all_small bs t.1)
 
 pub shown_utf8 : (bs : List ℕ) → list_all is_shown bs ≡ true → IsUtf8 bs
 shown_utf8 bs h = IsUtf8-from_ascii bs (IsAscii-from_all bs (All-from_recursion (λ b. b < 128) bs (all_small bs h)))

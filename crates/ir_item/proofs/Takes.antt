@@ -3,7 +3,7 @@ use Rattle.std.proofs.Common.{◌≡◌, ℕ, zero, suc, ◌*◌, ◌/◌, ◌%�
 use Rattle.std.specs.Prelude.{codes, pos, negsuc, nat_lt, ◌&&◌, option_map}
 use Rattle.std.specs.List.{list_all}
 use Rattle.std.specs.Str.{bytes_eq}
-use Rattle.std.proofs.lemmas.Bool.{eqb-true, ltb-true, lt-ltb}
+use Rattle.std.proofs.lemmas.Bool.{eqb-true, ltb-true, lt-ltb, and_parts}
 use Rattle.std.proofs.lemmas.Slice.Eq.{bytes_eq-Decides}
 use Rattle.syntax.specs.declared.instruction.Operand.{Operand}
 use Rattle.syntax.specs.declared.instruction.Operand.TheVariants as operands
@@ -34,7 +34,6 @@ use Rattle.ir_item.specs.Lists.{list_at, more_at, comma_at, case_follows, pointe
 use Rattle.ir_item.specs.Shape.{Gap, register, function, label, operand, pointer, array, width, result_type, predicate, parameters, arguments, cases, entries, Piece, word, mark, named, gap, space, Held, Gaps, gap_at, gaps_of}
 use Rattle.ir_item.specs.Spelling.{Atom, Token, symbols_in, operand_symbol, address_symbol, width_word, result_word, predicate_word, array_atoms, parameter_atoms, argument_atoms, entry_atoms, case_atoms, parted, cases_atoms, gap_atoms, atoms_of}
 use Rattle.ir_item.specs.Fits.{has_cells, is_some_list, fits, gaps_fit}
-use Rattle.ir_lex.proofs.Printed.{both}
 use Rattle.ir_item.proofs.Again.{symbols_appended, others, some_parted}
 
 -- steps that did not fail
@@ -68,7 +67,7 @@ are_within line = list_all is_within_limits line ≡ true
 
 pub rest_within : (xs ys : List Symbol) → are_within (xs ++ ys) → are_within ys
 rest_within [] ys h = h
-rest_within (x ∷ xs) ys h = rest_within xs ys (both (is_within_limits x) (list_all is_within_limits (xs ++ ys)) h).1
+rest_within (x ∷ xs) ys h = rest_within xs ys (and_parts (is_within_limits x) (list_all is_within_limits (xs ++ ys)) h).1
 
 -- the rest of a line that begins with these symbols
 pub behind_within : (line xs ys : List Symbol) → are_within line → line ≡ xs ++ ys → are_within ys
@@ -149,14 +148,14 @@ count_is (Large digits) k w h = absurd cc
 count_takes : (line : List Symbol) (x : ℕ × List Symbol) → are_within line → count_at line ≡ Some x → (line ≡ Number (Small (pos x.0)) ∷ x.1) × (nat_lt 0 x.0 ≡ true)
 count_takes (Number n ∷ more) x w h =
     let m = map_some (λ (count : ℕ). (count, more)) (count_of n) x h in
-    let c = count_is n m.0 (both (is_within_limits (Number n)) (list_all is_within_limits more) w).0 m.1 in
+    let c = count_is n m.0 (and_parts (is_within_limits (Number n)) (list_all is_within_limits more) w).0 m.1 in
     (ap (λ (k : Numeral). Number k ∷ more) c.0 ∙ ap (λ (y : ℕ × List Symbol). Number (Small (pos y.0)) ∷ y.1) m.2, ap (λ (y : ℕ × List Symbol). nat_lt 0 y.0) (sym m.2) ∙ c.1)
 count_takes _ x w h = absurd cc
 
 cells_are : (n : Numeral) (k : ℕ) → is_within_limits (Number n) ≡ true → cells_of_bytes n ≡ Some k → (n ≡ Small (pos (8 * k))) × (0 < k)
 cells_are (Small (pos m)) k w h =
     let t = tested (nat_lt 0 m && eqb (m % 8) 0) (m / 8) k h in
-    let u = both (nat_lt 0 m) (eqb (m % 8) 0) t.0 in
+    let u = and_parts (nat_lt 0 m) (eqb (m % 8) 0) t.0 in
     let some : 0 < m = ltb-true 0 m u.0 in
     let whole : m % 8 ≡ 0 = eqb-true (m % 8) 0 u.1 in
     let eighth : m / 8 ≡ k = t.1 in
@@ -168,7 +167,7 @@ cells_are (Large digits) k w h = absurd cc
 bytes_takes : (line : List Symbol) (x : ℕ × List Symbol) → are_within line → bytes_at line ≡ Some x → (line ≡ Number (Small (pos (8 * x.0))) ∷ x.1) × (0 < x.0)
 bytes_takes (Number n ∷ more) x w h =
     let m = map_some (λ (cells : ℕ). (cells, more)) (cells_of_bytes n) x h in
-    let c = cells_are n m.0 (both (is_within_limits (Number n)) (list_all is_within_limits more) w).0 m.1 in
+    let c = cells_are n m.0 (and_parts (is_within_limits (Number n)) (list_all is_within_limits more) w).0 m.1 in
     (ap (λ (k : Numeral). Number k ∷ more) c.0 ∙ ap (λ (y : ℕ × List Symbol). Number (Small (pos (8 * y.0))) ∷ y.1) m.2, subst (λ (y : ℕ × List Symbol). 0 < y.0) m.2 c.1)
 bytes_takes _ x w h = absurd cc
 

@@ -1,17 +1,12 @@
 -- The cases of a switch.
-use Rattle.std.specs.Prelude.{ℕ, Bool, true, false, not, ◌&&◌, ◌||◌, nat_le, List, [], ◌∷◌, length, map}
+use Rattle.std.specs.Prelude.{ℕ, Bool, true, not, ◌&&◌, ◌||◌, nat_le, List, [], ◌∷◌, length, map}
 use Rattle.std.specs.List.{list_all, list_any}
 use Rattle.std.specs.Str.{bytes_eq}
 use Rattle.syntax.specs.declared.operator.Width.{Width}
-use Rattle.syntax.specs.declared.operator.Width.TheVariants.{Bits64, Bits32}
+use Rattle.syntax.specs.Widths.{is_same_width}
 use Rattle.syntax.specs.declared.terminator.Case.{Case}
 use Rattle.ir_item.specs.declared.switch.SpelledCase.{SpelledCase}
 use Rattle.ir_item.specs.Numerals.{value_of, is_same_number}
-
-abbrev pub is_same_width : Width → Width → Bool
-is_same_width Bits64 Bits64 = true
-is_same_width Bits32 Bits32 = true
-is_same_width _ _ = false
 
 abbrev pub share_number_or_label : SpelledCase → SpelledCase → Bool
 share_number_or_label c d = bytes_eq c.target d.target || is_same_number c.number d.number

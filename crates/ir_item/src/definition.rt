@@ -3,7 +3,10 @@
 ghost use Rattle.std.specs.Prelude.{◌≡◌, option_map};
 ghost use Rattle.ir_item.specs.Outcome.{Gives};
 ghost use Rattle.ir_item.specs.Shape.{gaps_of};
-ghost use Rattle.ir_item.specs.Grammar.{binary_shape, binary_from, compare_shape, compare_from, truncate_shape, truncate_from, extend_shape, extend_from, alloca_shape, alloca_from, alloca_array_shape, alloca_array_from, element_pointer_shape, element_pointer_from, load_shape, load_from, start_region_shape, start_region_from, call_shape, call_from, phi_shape, phi_from, binary, alloca, call, fixed, definition};
+ghost use Rattle.ir_item.specs.Grammar.{binary_shape, binary_from, compare_shape, compare_from, truncate_shape, truncate_from, extend_shape};
+ghost use Rattle.ir_item.specs.Grammar.{extend_from, alloca_shape, alloca_from, alloca_array_shape, alloca_array_from, element_pointer_shape};
+ghost use Rattle.ir_item.specs.Grammar.{element_pointer_from, load_shape, load_from, start_region_shape, start_region_from, call_shape, call_from};
+ghost use Rattle.ir_item.specs.Grammar.{phi_shape, phi_from, binary, alloca, call, fixed, definition};
 
 use crate::fault::LineFault;
 use crate::front::{

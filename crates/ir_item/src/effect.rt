@@ -3,7 +3,8 @@
 ghost use Rattle.std.specs.Prelude.{◌≡◌, option_map};
 ghost use Rattle.ir_item.specs.Outcome.{Gives};
 ghost use Rattle.ir_item.specs.Shape.{gaps_of};
-ghost use Rattle.ir_item.specs.Grammar.{store_shape, store_from, store_zeros_shape, store_zeros_from, atomic_shape, atomic_from, call_void_shape, call_void_from, store};
+ghost use Rattle.ir_item.specs.Grammar.{store_shape, store_from, store_zeros_shape, store_zeros_from, atomic_shape, atomic_from, call_void_shape};
+ghost use Rattle.ir_item.specs.Grammar.{call_void_from, store};
 
 use crate::fault::LineFault;
 use crate::front::{

@@ -2,7 +2,8 @@
 
 ghost use Rattle.std.specs.Prelude.{◌≡◌};
 ghost use Rattle.ir_item.specs.Outcome.{Gives};
-ghost use Rattle.ir_item.specs.Fronts.{mark_at, word_at, named_at, end_at, is_word, is_mark, behind, register_at, global_at, label_at, numeral_at, operand_at, address_at, pointer_at, count_at, array_at, bytes_at, width_at, result_type_at};
+ghost use Rattle.ir_item.specs.Fronts.{mark_at, word_at, named_at, end_at, is_word, is_mark, behind, register_at, global_at, label_at, numeral_at};
+ghost use Rattle.ir_item.specs.Fronts.{operand_at, address_at, pointer_at, count_at, array_at, bytes_at, width_at, result_type_at};
 
 use crate::fault::LineFault;
 use crate::numeral::{cells_of_bytes, copy_of, count_of, value_of};

@@ -3,7 +3,8 @@
 ghost use Rattle.std.specs.Prelude.{◌≡◌, List, length, Option, option_map};
 ghost use Rattle.ir_item.specs.declared.symbol.Symbol.{Symbol};
 ghost use Rattle.ir_item.specs.Outcome.{Gives};
-ghost use Rattle.ir_item.specs.Lists.{list_at, comma_at, pointer_parameter_at, number_parameter_at, parameter_at, pointer_argument_at, number_argument_at, argument_at, entry_at, all_at, all_entries_at};
+ghost use Rattle.ir_item.specs.Lists.{list_at, comma_at, pointer_parameter_at, number_parameter_at, parameter_at, pointer_argument_at};
+ghost use Rattle.ir_item.specs.Lists.{number_argument_at, argument_at, entry_at, all_at, all_entries_at};
 
 use crate::fault::LineFault;
 use crate::front::{

@@ -4,7 +4,8 @@ ghost use Rattle.std.specs.Prelude.{◌≡◌, IfOk, option_map};
 ghost use Rattle.ir_item.specs.Outcome.{Gives};
 ghost use Rattle.ir_item.specs.Lists.{case_at, case_follows, all_cases_at};
 ghost use Rattle.std.specs.List.{list_all, list_any};
-ghost use Rattle.ir_item.specs.Cases.{is_same_width, share_number_or_label, are_distinct, is_case_of, are_cases_of, case_from, cases_from};
+ghost use Rattle.ir_item.specs.Cases.{share_number_or_label, are_distinct, is_case_of, are_cases_of, case_from, cases_from};
+ghost use Rattle.syntax.specs.Widths.{is_same_width};
 
 use crate::fault::LineFault;
 use crate::front::{is_mark, label_at, mark_at, numeral_at, width_at};

@@ -3,7 +3,8 @@
 ghost use Rattle.std.specs.Prelude.{◌≡◌, option_map};
 ghost use Rattle.ir_item.specs.Outcome.{Gives};
 ghost use Rattle.ir_item.specs.Shape.{gaps_of};
-ghost use Rattle.ir_item.specs.Grammar.{jump_shape, jump_from, branch_in, switch_in, return_void_shape, return_void_from, return_shape, return_from, detach_in, region_shape, reattach_from, sync_from, br, return, terminator_in};
+ghost use Rattle.ir_item.specs.Grammar.{jump_shape, jump_from, branch_in, switch_in, return_void_shape, return_void_from, return_shape, return_from};
+ghost use Rattle.ir_item.specs.Grammar.{detach_in, region_shape, reattach_from, sync_from, br, return, terminator_in};
 
 use crate::fault::LineFault;
 use crate::front::{

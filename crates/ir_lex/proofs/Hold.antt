@@ -13,8 +13,7 @@ use Rattle.ir_lex.specs.declared.scan.Front.TheVariants.{Space, Comment, Begins,
 use Rattle.ir_lex.specs.Spelling.{is_space, is_mark, is_name, is_number, is_marked_name, is_note_mark, is_run_byte, is_word_byte, is_printed, kind_of}
 use Rattle.ir_lex.specs.Tokens.{lead_of_run, lead, lead_in_note, front_at, begun, tokens_from, tokens_of}
 use Rattle.ir_lex.specs.Lexemes.{HasKind, IsTokenOf}
-use Rattle.std.proofs.lemmas.Bool.{eqb-true}
-use Rattle.ir_lex.proofs.Printed.{both}
+use Rattle.std.proofs.lemmas.Bool.{eqb-true, and_parts}
 use Rattle.ir_lex.proofs.Plain.{name_printed}
 
 pub chosen : {A : Type 0} (b : Bool) (x y z : A) → cond b x y ≡ z → ((b ≡ true) × (x ≡ z)) ⊎ ((b ≡ false) × (y ≡ z))
@@ -57,7 +56,7 @@ note_is_front : (bs : List ℕ) → is_note_mark bs ≡ true → IsFront bs Note
 note_is_front [] h = absurd cc
 note_is_front (b ∷ []) h = absurd cc
 note_is_front (b ∷ c ∷ bs) h =
-    let t = both (eqb b 59) (eqb c 33) h in
+    let t = and_parts (eqb b 59) (eqb c 33) h in
     let first : b ≡ 59 = eqb-true b 59 t.0 in
     let second : c ≡ 33 = eqb-true c 33 t.1 in
     record { some = omega arith; within = omega arith; kind_is = rw (first, second) refl }

@@ -3,34 +3,32 @@ use Rattle.std.proofs.Common.{◌≡◌, ℕ, ◌≤◌, inl, inr, Bool, true, f
 use Rattle.std.specs.Prelude.{◌&&◌, ◌||◌}
 use Rattle.std.specs.Char.{is_ascii_digit}
 use Rattle.std.specs.List.{list_all}
-use Rattle.std.proofs.lemmas.Bool.{eqb-true, leb-true}
+use Rattle.std.proofs.lemmas.Bool.{eqb-true, leb-true, or_right, and_parts, or_cases}
 use Rattle.std.proofs.lemmas.Bool.Decides.{nat_tests}
 use Rattle.ir_lex.specs.declared.token.Kind.TheVariants.{Name, Number}
 use Rattle.ir_lex.specs.Spelling.{is_space, is_mark, is_run_byte, begins_name, continues_name, is_name, is_positive, is_number, is_marked_name, kind_of}
 use Rattle.ir_lex.proofs.Names.{byte_runs, name_runs}
-use Rattle.ir_lex.proofs.Plain.{one_of}
-use Rattle.ir_lex.proofs.Printed.{both}
 
 -- marks
 
 by_mark : (p : ℕ → Bool) (wanted : Bool) (b : ℕ) → is_mark b ≡ true
     → p 61 ≡ wanted → p 44 ≡ wanted → p 40 ≡ wanted → p 41 ≡ wanted → p 91 ≡ wanted → p 93 ≡ wanted → p 123 ≡ wanted → p 125 ≡ wanted → p 58 ≡ wanted → p b ≡ wanted
 by_mark p wanted b h e1 e2 e3 e4 e5 e6 e7 e8 e9 =
-    elim (one_of (eqb b 61 || eqb b 44 || eqb b 40 || eqb b 41 || eqb b 91 || eqb b 93 || eqb b 123 || eqb b 125) (eqb b 58) h) [
+    elim (or_cases (eqb b 61 || eqb b 44 || eqb b 40 || eqb b 41 || eqb b 91 || eqb b 93 || eqb b 123 || eqb b 125) (eqb b 58) h) [
       | inr w ↦ ap p (eqb-true b 58 w) ∙ e9
-      | inl w ↦ elim (one_of (eqb b 61 || eqb b 44 || eqb b 40 || eqb b 41 || eqb b 91 || eqb b 93 || eqb b 123) (eqb b 125) w) [
+      | inl w ↦ elim (or_cases (eqb b 61 || eqb b 44 || eqb b 40 || eqb b 41 || eqb b 91 || eqb b 93 || eqb b 123) (eqb b 125) w) [
         | inr w ↦ ap p (eqb-true b 125 w) ∙ e8
-        | inl w ↦ elim (one_of (eqb b 61 || eqb b 44 || eqb b 40 || eqb b 41 || eqb b 91 || eqb b 93) (eqb b 123) w) [
+        | inl w ↦ elim (or_cases (eqb b 61 || eqb b 44 || eqb b 40 || eqb b 41 || eqb b 91 || eqb b 93) (eqb b 123) w) [
           | inr w ↦ ap p (eqb-true b 123 w) ∙ e7
-          | inl w ↦ elim (one_of (eqb b 61 || eqb b 44 || eqb b 40 || eqb b 41 || eqb b 91) (eqb b 93) w) [
+          | inl w ↦ elim (or_cases (eqb b 61 || eqb b 44 || eqb b 40 || eqb b 41 || eqb b 91) (eqb b 93) w) [
             | inr w ↦ ap p (eqb-true b 93 w) ∙ e6
-            | inl w ↦ elim (one_of (eqb b 61 || eqb b 44 || eqb b 40 || eqb b 41) (eqb b 91) w) [
+            | inl w ↦ elim (or_cases (eqb b 61 || eqb b 44 || eqb b 40 || eqb b 41) (eqb b 91) w) [
               | inr w ↦ ap p (eqb-true b 91 w) ∙ e5
-              | inl w ↦ elim (one_of (eqb b 61 || eqb b 44 || eqb b 40) (eqb b 41) w) [
+              | inl w ↦ elim (or_cases (eqb b 61 || eqb b 44 || eqb b 40) (eqb b 41) w) [
                 | inr w ↦ ap p (eqb-true b 41 w) ∙ e4
-                | inl w ↦ elim (one_of (eqb b 61 || eqb b 44) (eqb b 40) w) [
+                | inl w ↦ elim (or_cases (eqb b 61 || eqb b 44) (eqb b 40) w) [
                   | inr w ↦ ap p (eqb-true b 40 w) ∙ e3
-                  | inl w ↦ elim (one_of (eqb b 61) (eqb b 44) w) [
+                  | inl w ↦ elim (or_cases (eqb b 61) (eqb b 44) w) [
                     | inr w ↦ ap p (eqb-true b 44 w) ∙ e2
                     | inl w ↦ ap p (eqb-true b 61 w) ∙ e1
                   ]
@@ -58,34 +56,30 @@ kind_of_other : (w : List ℕ) (number marked : Bool) → is_name w ≡ false �
 kind_of_other w number marked a b c = rw (a, b, c) refl
 
 pub sigil_kind : (b : ℕ) (name : List ℕ) → (eqb b 37 || eqb b 64) ≡ true → is_name name ≡ true → (kind_of (b ∷ name) ≡ Some Name) × (list_all is_run_byte (b ∷ name) ≡ true)
-sigil_kind b name sigil h = elim (one_of (eqb b 37) (eqb b 64) sigil) [
+sigil_kind b name sigil h = elim (or_cases (eqb b 37) (eqb b 64) sigil) [
   | inl w ↦ rw (eqb-true b 37 w) (kind_of_other (37 ∷ name) false true refl refl h, name_runs name h)
   | inr w ↦ rw (eqb-true b 64 w) (kind_of_other (64 ∷ name) false true refl refl h, name_runs name h)
 ]
 
 -- numbers
 
-or_right : (x y : Bool) → y ≡ true → (x || y) ≡ true
-or_right true y h = refl
-or_right false y h = h
-
 digit_continues : (b : ℕ) → is_ascii_digit b ≡ true → continues_name b ≡ true
 digit_continues b h = or_right (begins_name b) (is_ascii_digit b) h
 
 digits_run : (bs : List ℕ) → list_all is_ascii_digit bs ≡ true → list_all is_run_byte bs ≡ true
 digits_run [] h = refl
-digits_run (b ∷ bs) h = let t = both (is_ascii_digit b) (list_all is_ascii_digit bs) h in rw (byte_runs b (digit_continues b t.0), digits_run bs t.1) refl
+digits_run (b ∷ bs) h = let t = and_parts (is_ascii_digit b) (list_all is_ascii_digit bs) h in rw (byte_runs b (digit_continues b t.0), digits_run bs t.1) refl
 
 first_digit : (b : ℕ) → (leb 49 b && leb b 57) ≡ true → is_ascii_digit b ≡ true
 first_digit b h =
-    let r = both (leb 49 b) (leb b 57) h in
+    let r = and_parts (leb 49 b) (leb b 57) h in
     let low : leb 48 b ≡ true = grind (arith, nat_tests) in
     rw (low, r.1) refl
 
 positive_runs : (w : List ℕ) → is_positive w ≡ true → list_all is_run_byte w ≡ true
 positive_runs [] h = absurd cc
 positive_runs (b ∷ bs) h =
-    let t = both (leb 49 b && leb b 57) (list_all is_ascii_digit bs) h in
+    let t = and_parts (leb 49 b && leb b 57) (list_all is_ascii_digit bs) h in
     rw (byte_runs b (digit_continues b (first_digit b t.0)), digits_run bs t.1) refl
 
 nothing_runs : (bs : List ℕ) → length bs ≡ 0 → list_all is_run_byte bs ≡ true
@@ -94,10 +88,10 @@ nothing_runs (b ∷ bs) h = absurd (omega arith)
 
 pub number_runs : (w : List ℕ) → is_number w ≡ true → list_all is_run_byte w ≡ true
 number_runs [] h = absurd cc
-number_runs (b ∷ bs) h = elim (one_of (eqb b 48 && eqb (length bs) 0 || eqb b 45 && is_positive bs) (is_positive (b ∷ bs)) h) [
-  | inl w ↦ elim (one_of (eqb b 48 && eqb (length bs) 0) (eqb b 45 && is_positive bs) w) [
-    | inl w ↦ let t = both (eqb b 48) (eqb (length bs) 0) w in rw (eqb-true b 48 t.0, nothing_runs bs (eqb-true (length bs) 0 t.1)) refl
-    | inr w ↦ let t = both (eqb b 45) (is_positive bs) w in rw (eqb-true b 45 t.0, positive_runs bs t.1) refl
+number_runs (b ∷ bs) h = elim (or_cases (eqb b 48 && eqb (length bs) 0 || eqb b 45 && is_positive bs) (is_positive (b ∷ bs)) h) [
+  | inl w ↦ elim (or_cases (eqb b 48 && eqb (length bs) 0) (eqb b 45 && is_positive bs) w) [
+    | inl w ↦ let t = and_parts (eqb b 48) (eqb (length bs) 0) w in rw (eqb-true b 48 t.0, nothing_runs bs (eqb-true (length bs) 0 t.1)) refl
+    | inr w ↦ let t = and_parts (eqb b 45) (is_positive bs) w in rw (eqb-true b 45 t.0, positive_runs bs t.1) refl
   ]
   | inr w ↦ positive_runs (b ∷ bs) w
 ]
@@ -112,14 +106,14 @@ digit_begins_none b low high =
     rw (a, c, d, e) refl
 
 number_begins : (b : ℕ) (bs : List ℕ) → is_number (b ∷ bs) ≡ true → begins_name b ≡ false
-number_begins b bs h = elim (one_of (eqb b 48 && eqb (length bs) 0 || eqb b 45 && is_positive bs) (is_positive (b ∷ bs)) h) [
-  | inl w ↦ elim (one_of (eqb b 48 && eqb (length bs) 0) (eqb b 45 && is_positive bs) w) [
-    | inl w ↦ let t = both (eqb b 48) (eqb (length bs) 0) w in rw (eqb-true b 48 t.0) refl
-    | inr w ↦ let t = both (eqb b 45) (is_positive bs) w in rw (eqb-true b 45 t.0) refl
+number_begins b bs h = elim (or_cases (eqb b 48 && eqb (length bs) 0 || eqb b 45 && is_positive bs) (is_positive (b ∷ bs)) h) [
+  | inl w ↦ elim (or_cases (eqb b 48 && eqb (length bs) 0) (eqb b 45 && is_positive bs) w) [
+    | inl w ↦ let t = and_parts (eqb b 48) (eqb (length bs) 0) w in rw (eqb-true b 48 t.0) refl
+    | inr w ↦ let t = and_parts (eqb b 45) (is_positive bs) w in rw (eqb-true b 45 t.0) refl
   ]
   | inr w ↦
-      let t = both (leb 49 b && leb b 57) (list_all is_ascii_digit bs) w in
-      let r = both (leb 49 b) (leb b 57) t.0 in
+      let t = and_parts (leb 49 b && leb b 57) (list_all is_ascii_digit bs) w in
+      let r = and_parts (leb 49 b) (leb b 57) t.0 in
       let low : 49 ≤ b = leb-true 49 b r.0 in
       digit_begins_none b (omega arith) (leb-true b 57 r.1)
 ]

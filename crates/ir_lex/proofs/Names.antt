@@ -1,16 +1,15 @@
 -- A name is a run, and so is one behind % or @.
 use Rattle.std.proofs.Common.{◌≡◌, ℕ, Bool, true, false, cond, eqb, List, [], ◌∷◌, Some, None, refl, ap}
 use Rattle.std.specs.List.{list_all}
-use Rattle.std.proofs.lemmas.Bool.{eqb-true}
+use Rattle.std.proofs.lemmas.Bool.{eqb-true, and_parts}
 use Rattle.ir_lex.specs.declared.token.Kind.TheVariants.{Name, Number, Word}
 use Rattle.ir_lex.specs.Spelling.{is_run_byte, begins_name, continues_name, is_name, is_number, is_marked_name, kind_of}
-use Rattle.ir_lex.proofs.Printed.{both}
 
-by_test : {P : Type 0} (b : Bool) → (b ≡ true → P) → (b ≡ false → P) → P
+pub by_test : {P : Type 0} (b : Bool) → (b ≡ true → P) → (b ≡ false → P) → P
 by_test true if_true unless = if_true refl
 by_test false if_true unless = unless refl
 
-differs : (p : ℕ → Bool) (b c : ℕ) → p b ≡ true → p c ≡ false → eqb b c ≡ false
+pub differs : (p : ℕ → Bool) (b c : ℕ) → p b ≡ true → p c ≡ false → eqb b c ≡ false
 differs p b c yes_at no_at = by_test (eqb b c) (λ (h : eqb b c ≡ true). let e : p b ≡ p c = ap p (eqb-true b c h) in absurd cc) (λ (h : eqb b c ≡ false). h)
 
 pub byte_runs : (b : ℕ) → continues_name b ≡ true → is_run_byte b ≡ true
@@ -20,7 +19,7 @@ byte_runs b h =
 
 bytes_run : (bs : List ℕ) → list_all continues_name bs ≡ true → list_all is_run_byte bs ≡ true
 bytes_run [] h = refl
-bytes_run (b ∷ bs) h = let t = both (continues_name b) (list_all continues_name bs) h in rw (byte_runs b t.0, bytes_run bs t.1) refl
+bytes_run (b ∷ bs) h = let t = and_parts (continues_name b) (list_all continues_name bs) h in rw (byte_runs b t.0, bytes_run bs t.1) refl
 
 begins_continues : (b : ℕ) → begins_name b ≡ true → continues_name b ≡ true
 begins_continues b h = rw h refl
@@ -28,7 +27,7 @@ begins_continues b h = rw h refl
 pub name_runs : (w : List ℕ) → is_name w ≡ true → list_all is_run_byte w ≡ true
 name_runs [] h = absurd cc
 name_runs (b ∷ bs) h =
-    let t = both (begins_name b) (list_all continues_name bs) h in
+    let t = and_parts (begins_name b) (list_all continues_name bs) h in
     rw (byte_runs b (begins_continues b t.0), bytes_run bs t.1) refl
 
 pub name_kind : (w : List ℕ) → is_name w ≡ true → kind_of w ≡ Some Word

@@ -1,8 +1,9 @@
 -- Tokens that are printed with what parts them are read again.
 use Rattle.std.proofs.Common.{◌≡◌, ℕ, ◌+◌, ◌-◌, ◌<◌, Bool, true, false, cond, eqb, List, [], ◌∷◌, ◌++◌, length, take, map, Option, Some, refl, subst, ap, ◌∙◌, arith, append_assoc}
-use Rattle.std.specs.Prelude.{option_map, ◌&&◌, ◌||◌, not}
+use Rattle.std.specs.Prelude.{option_map, ◌||◌, not}
 use Rattle.std.specs.List.{prefix_len, list_all}
 use Rattle.std.proofs.lemmas.List.{length-append, drop_at, take_at}
+use Rattle.std.proofs.lemmas.Bool.{and_parts}
 use Rattle.ir_lex.specs.declared.token.Kind.{Kind}
 use Rattle.ir_lex.specs.declared.token.Kind.TheVariants.{Mark, Note}
 use Rattle.ir_lex.specs.declared.token.Token.{Token}
@@ -40,12 +41,6 @@ nor false true false h = absurd cc
 nor false false true h = absurd cc
 nor false false false h = (refl, refl, refl)
 
-pub both : (x y : Bool) → (x && y) ≡ true → (x ≡ true) × (y ≡ true)
-both true true h = (refl, refl)
-both true false h = absurd cc
-both false true h = absurd cc
-both false false h = absurd cc
-
 not_true : (x : Bool) → cond x false true ≡ true → x ≡ false
 not_true true h = absurd cc
 not_true false h = refl
@@ -54,7 +49,7 @@ prefix_of_run : (w rest : List ℕ) → list_all is_run_byte w ≡ true → is_p
 prefix_of_run [] [] all parted = refl
 prefix_of_run [] (b ∷ bs) all parted = let no : is_run_byte b ≡ false = not_true (is_run_byte b) parted in rw no refl
 prefix_of_run (b ∷ w) rest all parted =
-    let t = both (is_run_byte b) (list_all is_run_byte w) all in
+    let t = and_parts (is_run_byte b) (list_all is_run_byte w) all in
     rw (t.0, prefix_of_run w rest t.1 parted) (omega arith)
 
 pub no_note : (b : ℕ) (bs : List ℕ) → eqb b 59 ≡ false → is_note_mark (b ∷ bs) ≡ false
@@ -68,7 +63,7 @@ pub front_of_run : (kind : Kind) (w rest : List ℕ) → kind_of w ≡ Some kind
 unfolding lead
 front_of_run kind [] rest k all some parted = absurd (omega arith)
 front_of_run kind (b ∷ w) rest k all some parted =
-    let t = both (is_run_byte b) (list_all is_run_byte w) all in
+    let t = and_parts (is_run_byte b) (list_all is_run_byte w) all in
     let n = nor (is_space b) (is_mark b) (eqb b 59) t.0 in
     let len : prefix_len is_run_byte (b ∷ (w ++ rest)) ≡ length (b ∷ w) = prefix_of_run (b ∷ w) rest all parted in
     let run : take (length (b ∷ w)) (b ∷ (w ++ rest)) ≡ b ∷ w = take_at (b ∷ w) rest (length (b ∷ w)) refl in

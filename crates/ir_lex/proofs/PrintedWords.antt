@@ -4,6 +4,7 @@ use Rattle.std.specs.Prelude.{◌&&◌, not, option_map}
 use Rattle.std.specs.List.{list_all, prefix_len}
 use Rattle.std.proofs.lemmas.Bool.Decides.{nat_tests}
 use Rattle.std.proofs.lemmas.List.{length-append, drop_at, take_at}
+use Rattle.std.proofs.lemmas.Bool.{and_parts}
 use Rattle.ir_lex.specs.declared.token.Kind.TheVariants as kinds
 use Rattle.ir_lex.specs.declared.token.Token.{Token}
 use Rattle.ir_lex.specs.declared.scan.Front.{Front}
@@ -12,13 +13,12 @@ use Rattle.ir_lex.specs.Spelling.{is_space, is_word_byte, is_printed}
 use Rattle.ir_lex.specs.Tokens.{lead_of_run, lead_in_note, front_at, tokens_from}
 use Rattle.ir_lex.specs.Lexemes.{text_at}
 use Rattle.ir_lex.specs.Words.{words_text, are_words}
-use Rattle.ir_lex.proofs.Printed.{both}
 use Rattle.ir_lex.proofs.Walk.{at_space, at_token}
 
 printed_is_no_space : (b : ℕ) → is_printed b ≡ true → is_space b ≡ false
 printed_is_no_space b h =
-    let t = both (leb 33 b && leb b 126) (not (eqb b 59)) h in
-    let r = both (leb 33 b) (leb b 126) t.0 in
+    let t = and_parts (leb 33 b && leb b 126) (not (eqb b 59)) h in
+    let r = and_parts (leb 33 b) (leb b 126) t.0 in
     let first : eqb b 32 ≡ false = grind (arith, nat_tests) in
     let second : eqb b 9 ≡ false = grind (arith, nat_tests) in
     rw (first, second) refl
@@ -28,7 +28,7 @@ word_prefix : (w : List ℕ) (ws : List (List ℕ)) → list_all is_printed w �
 word_prefix [] [] h = refl
 word_prefix [] (v ∷ vs) h = refl
 word_prefix (b ∷ w) ws h =
-    let t = both (is_printed b) (list_all is_printed w) h in
+    let t = and_parts (is_printed b) (list_all is_printed w) h in
     rw (printed_is_no_space b t.0, word_prefix w ws t.1) (omega arith)
 
 past_space : (s : Bool) (run : Front) → s ≡ false → cond s Space run ≡ run
@@ -37,7 +37,7 @@ past_space s run h = rw h refl
 front_of_word : (b : ℕ) (w : List ℕ) (ws : List (List ℕ)) → list_all is_printed (b ∷ w) ≡ true → front_at true ((b ∷ w) ++ words_text ws) ≡ Begins kinds.Word (length (b ∷ w))
 unfolding lead_in_note
 front_of_word b w ws h =
-    let t = both (is_printed b) (list_all is_printed w) h in
+    let t = and_parts (is_printed b) (list_all is_printed w) h in
     let text : List ℕ = (b ∷ w) ++ words_text ws in
     let len : prefix_len is_word_byte text ≡ length (b ∷ w) = word_prefix (b ∷ w) ws h in
     let run : take (length (b ∷ w)) text ≡ b ∷ w = take_at (b ∷ w) (words_text ws) (length (b ∷ w)) refl in
@@ -85,5 +85,5 @@ unfolding tokens_from
 words_cut before [] h = record { tokens = []; found = refl; same = refl }
 words_cut before ([] ∷ ws) h = absurd cc
 words_cut before ((b ∷ w) ∷ ws) h =
-    let t = both (list_all is_printed (b ∷ w)) (are_words ws) h in
+    let t = and_parts (list_all is_printed (b ∷ w)) (are_words ws) h in
     one_word before b w ws t.0 (words_cut (before ++ 32 ∷ (b ∷ w)) ws t.1)

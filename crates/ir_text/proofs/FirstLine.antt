@@ -1,13 +1,10 @@
 -- The first line of a text.
-use Rattle.std.proofs.Common.{◌≡◌, ℕ, suc, ◌+◌, ◌-◌, ◌<◌, ◌≤◌, min, leb, Bool, true, false, eqb, List, [], ◌∷◌, length, take, drop, refl, sym, ap, ◌∙◌, arith}
+use Rattle.std.proofs.Common.{◌≡◌, ℕ, suc, ◌+◌, ◌-◌, ◌<◌, ◌≤◌, min, leb, true, false, eqb, List, [], ◌∷◌, length, take, drop, refl, sym, ap, ◌∙◌, arith}
 use Rattle.std.proofs.lemmas.Bool.{leb-true, leb-false}
 use Rattle.std.proofs.lemmas.List.{take_rest, take_all, drop_all}
 use Rattle.std.specs.List.{prefix_len}
 use Rattle.ir_text.specs.Lines.{onto_first, lines_of, is_inner}
-
-by_test : {P : Type 0} (b : Bool) → (b ≡ true → P) → (b ≡ false → P) → P
-by_test true if_true unless = if_true refl
-by_test false if_true unless = unless refl
+use Rattle.ir_lex.proofs.Names.{by_test}
 
 -- it ends with the first line end, or with the text
 pub first_line : (t : List ℕ) → 0 < length t → lines_of t ≡ take (prefix_len is_inner t + 1) t ∷ lines_of (drop (prefix_len is_inner t + 1) t)

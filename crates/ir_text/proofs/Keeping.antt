@@ -4,6 +4,7 @@ use Rattle.std.specs.Prelude.{◌==◌, ◌&&◌, ◌||◌, Result, Ok, Err, Opt
 use Rattle.std.specs.List.{All}
 use Rattle.std.proofs.lemmas.List.{append-nil}
 use Rattle.std.proofs.lemmas.List.Elements.{All-push, All-nil}
+use Rattle.std.proofs.lemmas.Bool.{or_parts, and_parts}
 use Rattle.ir_annotation.specs.declared.meaning.Annotation.{Annotation}
 use Rattle.ir_annotation.specs.declared.meaning.Annotation.TheVariants as annotation
 use Rattle.ir_item.specs.declared.item.Item.{Item}
@@ -33,7 +34,7 @@ use Rattle.ir_text.proofs.Follows.{Follows, placed_follows}
 use Rattle.ir_item.specs.Lines.{line_of}
 use Rattle.ir_item.specs.Printed.{IsKeptItem}
 use Rattle.ir_item.proofs.ReadSpelled.{line_kept as read_kept}
-use Rattle.ir_text.proofs.Tracked.{both, counts_small}
+use Rattle.ir_text.proofs.Tracked.{counts_small}
 use Rattle.ir_text.proofs.Naming.{function_short, module_short}
 use Rattle.ir_text.proofs.Writing.{IsDraftWritten, placed_written, start_written}
 use Rattle.ir_text.proofs.Limiting.{IsOpenFunction, IsOpenKept, IsDraftWithin, placed_within, start_within}
@@ -130,11 +131,6 @@ repeats-append known (x ∷ xs) ys =
     ∙ or_assoc (is_known known x) (is_repeated (known ++ x ∷ []) xs) (is_repeated ((known ++ x ∷ []) ++ xs) ys)
     ∙ ap (λ (ns : List (List ℕ)). (is_known known x || is_repeated (known ++ x ∷ []) xs) || is_repeated ns ys) (append_assoc known (x ∷ []) xs)
 
-pub neither : (x y : Bool) → (x || y) ≡ false → (x ≡ false) × (y ≡ false)
-neither true y h = absurd cc
-neither false true h = absurd cc
-neither false false h = (refl, refl)
-
 distinct-append : (xs ys : List (List ℕ)) → is_repeated [] xs ≡ false → is_repeated xs ys ≡ false → is_repeated [] (xs ++ ys) ≡ false
 distinct-append xs ys first later = repeats-append [] xs ys ∙ ap (λ (t : Bool). t || is_repeated xs ys) first ∙ later
 
@@ -152,9 +148,9 @@ open_kept m (Some f) names small = record { distinct = names; registers = small.
 item_kept : (d e : Draft) (at : ℕ) (i : Item) → IsKeptDraft d → IsKeptItem i → placed d at i ≡ Some e → is_within_limits e ≡ true → defines_again d i ≡ false → IsKeptDraft e
 item_kept d e at i kept is put within once =
     let follows : Follows _ _ i e = placed_follows d e at i kept.stepless put in
-    let new_names = neither (is_repeated (names_outside d) (defined_outside i)) (is_repeated (inside_before (names_inside d) i) (defined_inside i)) once in
+    let new_names = or_parts (is_repeated (names_outside d) (defined_outside i)) (is_repeated (inside_before (names_inside d) i) (defined_inside i)) once in
     let grown : Grows d.whole (open_function d.place) (Some e) = subst (Grows d.whole (open_function d.place)) put (in_place d.whole d.place at i) in
-    let limits = both (are_counts_within (counts_of e)) (is_place_within e.whole e.place) within in
+    let limits = and_parts (are_counts_within (counts_of e)) (is_place_within e.whole e.place) within in
     record {
       outside = ap (is_repeated []) follows.adds.outside ∙ distinct-append (names_outside d) (defined_outside i) kept.outside new_names.0;
       inside = ap (is_repeated []) follows.adds.inside ∙ distinct-append (inside_before (names_inside d) i) (defined_inside i) (before_distinct (names_inside d) i kept.inside) new_names.1;
@@ -179,8 +175,8 @@ judged_kept d e g at i true false kept put is within once h =
 placed_kept : (d e : Draft) (at : ℕ) (line : Line) (o : Option Draft) → IsKeptDraft d → (line.is_within_limits ≡ true → IsKeptItem line.item) → placed d at line.item ≡ o → judged_if_placed d line o ≡ ok e → IsKeptDraft e
 placed_kept d e at line None kept is put h = absurd cc
 placed_kept d e at line (Some g) kept is put h =
-    judged_kept d e g at line.item (line.is_within_limits && is_within_limits g) (defines_again d line.item) kept put (λ w. is (both line.is_within_limits (is_within_limits g) w).0)
-    (λ w. (both line.is_within_limits (is_within_limits g) w).1) (λ o. o) h
+    judged_kept d e g at line.item (line.is_within_limits && is_within_limits g) (defines_again d line.item) kept put (λ w. is (and_parts line.is_within_limits (is_within_limits g) w).0)
+    (λ w. (and_parts line.is_within_limits (is_within_limits g) w).1) (λ o. o) h
 
 line_kept : (d e : Draft) (at : ℕ) (line : Line) → IsKeptDraft d → (line.is_within_limits ≡ true → IsKeptItem line.item) → with_item d at line ≡ ok e → IsKeptDraft e
 unfolding with_item

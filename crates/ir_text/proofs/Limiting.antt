@@ -2,7 +2,7 @@
 use Rattle.std.proofs.Common.{◌≡◌, ℕ, ◌<◌, ◌≤◌, Bool, true, false, List, [], ◌∷◌, ◌++◌, length, length-append, Option, Some, None, refl, subst, arith}
 use Rattle.std.specs.Prelude.{◌==◌, ◌&&◌, nat_le, nat_lt, if◌then◌else◌}
 use Rattle.std.specs.List.{All}
-use Rattle.std.proofs.lemmas.Bool.{leb-true, ltb-true, le-leb, lt-ltb, eqb-true}
+use Rattle.std.proofs.lemmas.Bool.{leb-true, ltb-true, le-leb, lt-ltb, eqb-true, and_parts}
 use Rattle.std.proofs.lemmas.List.{get_or_append_left, get_or_at}
 use Rattle.std.proofs.lemmas.List.Elements.{All-nil, All-push}
 use Rattle.ir_annotation.specs.declared.meaning.Annotation.{Annotation}
@@ -32,7 +32,6 @@ use Rattle.ir_text.specs.Limits.{register_count, function_cells, are_function_no
 use Rattle.ir_text.specs.Names.{is_repeated}
 use Rattle.ir_text.specs.Reading.{start}
 use Rattle.ir_text.specs.Kept.{AreFunctionNotesFew, AreBlockNotesFew, AreStepShowsFew, AreEndingShowsFew, IsBlockWithin, IsFunctionWithin}
-use Rattle.ir_text.proofs.Tracked.{both}
 
 -- the names and registers of a function, as far as it was read
 pub record IsOpenFunction (f : Function) : Type 0 where
@@ -57,10 +56,10 @@ function_notes_few n h =
     let reads : Bool = nat_le (length n.reads) 32 in
     let writes : Bool = nat_le (length n.writes) 32 in
     let adds : Bool = nat_le (length n.adds) 32 in
-    let four = both (r && g && reads && writes) adds h in
-    let three = both (r && g && reads) writes four.0 in
-    let two = both (r && g) reads three.0 in
-    let one = both r g two.0 in
+    let four = and_parts (r && g && reads && writes) adds h in
+    let three = and_parts (r && g && reads) writes four.0 in
+    let two = and_parts (r && g) reads three.0 in
+    let one = and_parts r g two.0 in
     record {
       requirements = leb-true (length n.requirements) 32 one.0;
       guarantees = leb-true (length n.guarantees) 32 one.1;
@@ -75,8 +74,8 @@ function_notes_pass n is =
 
 pub block_notes_few : (n : BlockNotes) → are_block_notes_within n ≡ true → AreBlockNotesFew n
 block_notes_few n h =
-    let two = both (nat_le (length n.keeps) 32 && nat_le (length n.pending) 32) (nat_le (length n.foot) 32) h in
-    let one = both (nat_le (length n.keeps) 32) (nat_le (length n.pending) 32) two.0 in
+    let two = and_parts (nat_le (length n.keeps) 32 && nat_le (length n.pending) 32) (nat_le (length n.foot) 32) h in
+    let one = and_parts (nat_le (length n.keeps) 32) (nat_le (length n.pending) 32) two.0 in
     record { keeps = leb-true (length n.keeps) 32 one.0; pending = leb-true (length n.pending) 32 one.1; foot = leb-true (length n.foot) 32 two.1 }
 
 block_notes_pass : (n : BlockNotes) → AreBlockNotesFew n → are_block_notes_within n ≡ true
@@ -132,7 +131,7 @@ new_within at label = record { notes = record { keeps = omega arith; pending = o
 ended_within : (m : Module) (f : Function) (b : Block) (at : ℕ) (i : Item) → IsWholeWithin m → IsOpenWithin m f b → WithinIfSome (placed_in_ended m f b at i)
 ended_within m f b at (item.Label label) whole o = λ w.
     let g : Function = with_block f b in
-    let t = both (nat_lt (length g.blocks) 1024) (are_block_notes_within (new_block at label).notes) w in
+    let t = and_parts (nat_lt (length g.blocks) 1024) (are_block_notes_within (new_block at label).notes) w in
     record { whole = whole; place = record { function = function_with m f b o; room = o.room; blocks = ltb-true (length g.blocks) 1024 t.0; block = new_within at label } }
 ended_within m f b at item.Close whole o = λ w.
     let g : Function = with_block f b in
@@ -161,7 +160,7 @@ phis_within m f b at i whole o = body_within m f b [] at i whole o (omega arith)
 at_block : (m : Module) (f : Function) (h : BlockHead) (n : BlockNotes) (has_left : Bool) → IsWholeWithin m → IsOpenWithin m f h.block
     → is_block_head_within f (with_block_notes h.block n) ≡ true → IsDraftWithin (drafted m (place.BlockHead f (record { block = with_block_notes h.block n; has_left = has_left })))
 at_block m f h n has_left whole o w =
-    let t = both (nat_lt (length f.blocks) 1024) (are_block_notes_within n) w in
+    let t = and_parts (nat_lt (length f.blocks) 1024) (are_block_notes_within n) w in
     let next : IsBlockWithin (with_block_notes h.block n) = record { notes = block_notes_few n t.1; shows = o.block.shows; ending = o.block.ending } in
     record { whole = whole; place = record { function = o.function; room = o.room; blocks = o.blocks; block = next } }
 
@@ -186,7 +185,7 @@ block_head_within m f h at i whole o = phis_within m f h.block at i whole o
 at_function : (m : Module) (h : FunctionHead) (n : FunctionNotes) (has_measure has_budget : Bool) → IsWholeWithin m → IsFunctionWithin h.function → length m.functions < 256
     → is_function_head_within m (with_function_notes h.function n) ≡ true → IsDraftWithin (drafted m (place.FunctionHead (record { function = with_function_notes h.function n; has_measure = has_measure; has_budget = has_budget })))
 at_function m h n has_measure has_budget whole f_is room w =
-    let t = both (nat_lt (length m.functions) 256 && nat_le (length h.function.parameters) 16) (are_function_notes_within n) w in
+    let t = and_parts (nat_lt (length m.functions) 256 && nat_le (length h.function.parameters) 16) (are_function_notes_within n) w in
     let next : IsFunctionWithin (with_function_notes h.function n) = record { parameters = f_is.parameters; notes = function_notes_few n t.1; blocks = f_is.blocks; each_block = f_is.each_block } in
     record { whole = whole; place = (next, room) }
 
@@ -215,7 +214,7 @@ function_annotated m h _ whole f_is room = tt
 function_head_within : (m : Module) (h : FunctionHead) (at : ℕ) (i : Item) → IsWholeWithin m → IsFunctionWithin h.function → length m.functions < 256 → WithinIfSome (placed_in_function_head m h at i)
 function_head_within m h at (item.Annotation a) whole f_is room = function_annotated m h a whole f_is room
 function_head_within m h at (item.Label label) whole f_is room = λ w.
-    let t = both (nat_lt (length h.function.blocks) 1024) (are_block_notes_within (new_block at label).notes) w in
+    let t = and_parts (nat_lt (length h.function.blocks) 1024) (are_block_notes_within (new_block at label).notes) w in
     record { whole = whole; place = record { function = f_is; room = room; blocks = ltb-true (length h.function.blocks) 1024 t.0; block = new_within at label } }
 function_head_within m h at _ whole f_is room = tt
 
@@ -224,8 +223,8 @@ outside_within m at (item.Global g) whole =
     if_within (length m.functions == 0) (Some (drafted (with_global m g) place.Outside)) (λ w. record { whole = record { few = whole.few; functions = whole.functions }; place = tt })
 outside_within m at (item.Define name result_type parameters) whole = λ w.
     let f : Function = new_function at name result_type parameters in
-    let t = both (nat_lt (length m.functions) 256 && nat_le (length parameters) 16) (are_function_notes_within f.notes) w in
-    let u = both (nat_lt (length m.functions) 256) (nat_le (length parameters) 16) t.0 in
+    let t = and_parts (nat_lt (length m.functions) 256 && nat_le (length parameters) 16) (are_function_notes_within f.notes) w in
+    let u = and_parts (nat_lt (length m.functions) 256) (nat_le (length parameters) 16) t.0 in
     let next : IsFunctionWithin f = record { parameters = leb-true (length parameters) 16 u.1; notes = function_notes_few f.notes t.1; blocks = omega arith; each_block = All-nil IsBlockWithin } in
     record { whole = whole; place = (next, ltb-true (length m.functions) 256 u.0) }
 outside_within m at _ whole = tt

@@ -2,18 +2,14 @@
 use Rattle.std.proofs.Common.{◌≡◌, ℕ, Bool, true, false, eqb, List, [], ◌∷◌, ◌++◌, length, take, map, refl, ap, ◌∙◌, arith}
 use Rattle.std.specs.Prelude.{if◌then◌else◌}
 use Rattle.std.specs.List.{list_all, prefix_len, flat_map}
-use Rattle.std.proofs.lemmas.Bool.{eqb-true}
+use Rattle.std.proofs.lemmas.Bool.{eqb-true, and_parts}
 use Rattle.std.proofs.lemmas.List.{take_at}
 use Rattle.ir_item.specs.declared.item.Item.{Item}
 use Rattle.ir_item.specs.Printed.{IsKeptItem, item_text}
 use Rattle.ir_item.proofs.Shown.{is_shown, item_shown, spaces_shown}
 use Rattle.ir_text.specs.Items.{indentation, printed_content, printed_line}
 use Rattle.ir_text.specs.Lines.{is_inner, onto_first, lines_of, content}
-use Rattle.ir_text.proofs.Tracked.{both}
-
-by_test : {P : Type 0} (b : Bool) → (b ≡ true → P) → (b ≡ false → P) → P
-by_test true if_true unless = if_true refl
-by_test false if_true unless = unless refl
+use Rattle.ir_lex.proofs.Names.{by_test}
 
 no_end : (b : ℕ) → is_shown b ≡ true → eqb b 10 ≡ false
 no_end b h = by_test (eqb b 10) (λ (e : eqb b 10 ≡ true). let same : is_shown b ≡ is_shown 10 = ap is_shown (eqb-true b 10 e) in absurd cc) (λ (e : eqb b 10 ≡ false). e)
@@ -21,14 +17,14 @@ no_end b h = by_test (eqb b 10) (λ (e : eqb b 10 ≡ true). let same : is_shown
 line_first : (c rest : List ℕ) → list_all is_shown c ≡ true → lines_of ((c ++ 10 ∷ []) ++ rest) ≡ (c ++ 10 ∷ []) ∷ lines_of rest
 line_first [] rest h = refl
 line_first (b ∷ c) rest h =
-    let t = both (is_shown b) (list_all is_shown c) h in
+    let t = and_parts (is_shown b) (list_all is_shown c) h in
     let text : List ℕ = (c ++ 10 ∷ []) ++ rest in
     ap (λ (v : Bool). if v then (b ∷ []) ∷ lines_of text else onto_first b (lines_of text)) (no_end b t.0) ∙ ap (onto_first b) (line_first c rest t.1)
 
 inner_len : (c : List ℕ) → list_all is_shown c ≡ true → prefix_len is_inner (c ++ 10 ∷ []) ≡ length c
 inner_len [] h = refl
 inner_len (b ∷ c) h =
-    let t = both (is_shown b) (list_all is_shown c) h in
+    let t = and_parts (is_shown b) (list_all is_shown c) h in
     rw (no_end b t.0, inner_len c t.1) (omega arith)
 
 pub content_is : (c : List ℕ) → list_all is_shown c ≡ true → content (c ++ 10 ∷ []) ≡ c

@@ -1,6 +1,6 @@
 -- Items that make a module which is kept are each judged good on the way.
 use Rattle.std.proofs.Common.{◌≡◌, ℕ, ◌≤◌, true, false, List, [], ◌∷◌, ◌++◌, Option, Some, None, refl, sym, subst, ap, ◌∙◌, arith}
-use Rattle.std.proofs.lemmas.Bool.{le-leb}
+use Rattle.std.proofs.lemmas.Bool.{le-leb, or_parts}
 use Rattle.ir_item.specs.declared.item.Item.{Item}
 use Rattle.ir_item.specs.declared.item.Item.TheVariants as item
 use Rattle.ir_item.specs.Printed.{item_on}
@@ -15,7 +15,7 @@ use Rattle.ir_text.specs.Counting.{counts_in, counts_of, counts_with, are_counts
 use Rattle.ir_text.specs.Tracking.{IsStepless}
 use Rattle.ir_text.specs.Reading.{defines_again}
 use Rattle.ir_text.proofs.Follows.{Follows, placed_follows}
-use Rattle.ir_text.proofs.Keeping.{repeats-append, neither}
+use Rattle.ir_text.proofs.Keeping.{repeats-append}
 use Rattle.ir_text.proofs.Limiting.{IsOpenKept, AtItsEnds, IsDraftFew, placed_before, place_passes}
 use Rattle.ir_text.proofs.Fills.{Puts, Fills}
 
@@ -28,7 +28,7 @@ pub record IsGoodDraft (d : Draft) : Type 0 where
 -- names
 
 apart : (xs ys : List (List ℕ)) → is_repeated [] (xs ++ ys) ≡ false → (is_repeated [] xs ≡ false) × (is_repeated xs ys ≡ false)
-apart xs ys h = neither (is_repeated [] xs) (is_repeated xs ys) (sym (repeats-append [] xs ys) ∙ h)
+apart xs ys h = or_parts (is_repeated [] xs) (is_repeated xs ys) (sym (repeats-append [] xs ys) ∙ h)
 
 open_distinct : (o : Option Function) → IsOpenKept o → is_repeated [] (names_in o) ≡ false
 open_distinct None h = refl

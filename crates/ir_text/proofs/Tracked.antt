@@ -1,7 +1,7 @@
 -- An item is judged by the names that stand and by what is counted.
 use Rattle.std.proofs.Common.{◌≡◌, ℕ, Bool, true, false, leb, not, List, [], ◌∷◌, ◌++◌, refl, sym, subst, ap, ◌∙◌, arith}
 use Rattle.std.specs.Prelude.{◌&&◌, ◌||◌, Result, Ok, Err, Option, Some, None, IfOk, IfErr, IsTrue, if◌then◌else◌}
-use Rattle.std.proofs.lemmas.Bool.{leb-true}
+use Rattle.std.proofs.lemmas.Bool.{leb-true, and_parts}
 use Rattle.ir_item.specs.declared.item.Item.{Item}
 use Rattle.ir_item.specs.declared.line.Line.{Line}
 use Rattle.ir_text.specs.declared.draft.Draft.{Draft}
@@ -20,19 +20,14 @@ use Rattle.ir_text.specs.Tracking.{IsTracked, OrMemory, judged_reader, judged_pl
 use Rattle.ir_text.specs.Reading.{start, defines_again, judged, judged_if_placed, with_item}
 use Rattle.ir_text.proofs.Follows.{Follows, placed_follows}
 
-pub both : (x y : Bool) → (x && y) ≡ true → (x ≡ true) × (y ≡ true)
-both true true h = (refl, refl)
-both true false h = absurd cc
-both false y h = absurd cc
-
 abbrev pub reader : Draft → Counts → Scope → Reader
 reader d c s = record { draft = d; counts = c; scope = s }
 
 -- counts within the limits are small
 pub counts_small : (c : Counts) → are_counts_within c ≡ true → IsSmall c
 counts_small c h =
-    let outer = both (leb c.global_cells 1048576 && leb c.registers 4096) (leb c.alloca_cells 4096) h in
-    let inner = both (leb c.global_cells 1048576) (leb c.registers 4096) outer.0 in
+    let outer = and_parts (leb c.global_cells 1048576 && leb c.registers 4096) (leb c.alloca_cells 4096) h in
+    let inner = and_parts (leb c.global_cells 1048576) (leb c.registers 4096) outer.0 in
     record { global_cells = leb-true c.global_cells 1048576 inner.0; registers = leb-true c.registers 4096 inner.1; alloca_cells = leb-true c.alloca_cells 4096 outer.1 }
 
 pub start_tracked : (c : Counts) (s : Scope) → c ≡ record { global_cells = 0; registers = 0; alloca_cells = 0 } → s ≡ record { outside = reserved_outside ∷ []; inside = [] } → IsTracked (reader start c s)
@@ -82,7 +77,7 @@ good_tracked : (r : Reader) (e : Draft) (c : Counts) (s : Scope) (at : ℕ) (i :
 good_tracked r e c s at i tracked counted scoped put within =
     let follows : Follows _ _ i e = placed_follows r.draft e at i tracked.stepless put in
     let counts : c ≡ counts_of e = counts_follow r e at i c tracked counted put in
-    let small : IsSmall (counts_of e) = counts_small (counts_of e) (both (are_counts_within (counts_of e)) (is_place_within e.whole e.place) within).0 in
+    let small : IsSmall (counts_of e) = counts_small (counts_of e) (and_parts (are_counts_within (counts_of e)) (is_place_within e.whole e.place) within).0 in
     record {
       outside = ap (λ (t : Scope). t.outside) scoped ∙ ap (λ (ns : List (List ℕ)). ns ++ defined_outside i) tracked.outside ∙ sym follows.adds.outside;
       inside = ap (λ (t : Scope). t.inside) scoped ∙ ap (λ (ns : List (List ℕ)). inside_before ns i ++ defined_inside i) tracked.inside ∙ sym follows.adds.inside;
@@ -108,7 +103,7 @@ pub judged_put : (r : Reader) (e : Draft) (c : Counts) (s : Scope) (at : ℕ) (l
     → out ≡ judged_reader at line.is_within_limits is_new (reader e c s) → IsPut r at line out
 judged_put r e c s at line is_new out tracked counted news scoped put answered =
     judged_by r e c s at line (line.is_within_limits && is_within_limits e) is_new (defines_again r.draft line.item) out tracked counted scoped (sym put)
-    (λ h. (both line.is_within_limits (is_within_limits e) h).1)
+    (λ h. (and_parts line.is_within_limits (is_within_limits e) h).1)
     (news ∙ ap not (repeats-tracked r line.item tracked)) (with_item-placed r.draft e at line (sym put)) answered
 
 pub or_memory : (r out : Result Reader Refused) → r ≡ out → OrMemory r out

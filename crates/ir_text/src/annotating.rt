@@ -1,7 +1,8 @@
 //! Annotations, each put behind those of its kind.
 
 ghost use Rattle.std.specs.Prelude.{◌≡◌, IfOk};
-ghost use Rattle.ir_text.specs.Annotating.{with_zone, annotated_function, annotated_block, with_requirement, with_guarantee, with_measure, with_budget, with_keeps, with_pending, with_foot, with_left};
+ghost use Rattle.ir_text.specs.Annotating.{with_zone, annotated_function, annotated_block, with_requirement, with_guarantee, with_measure};
+ghost use Rattle.ir_text.specs.Annotating.{with_budget, with_keeps, with_pending, with_foot, with_left};
 
 use ir_annotation::Annotation;
 use lists::OutOfMemory;

@@ -5,7 +5,9 @@
 ghost use Rattle.std.specs.Prelude.{◌≡◌, IfOk, []};
 ghost use Rattle.ir_annotation.specs.declared.meaning.Annotation.TheVariants.{Shows};
 ghost use Rattle.ir_text.specs.Annotating.{annotated_function, annotated_block};
-ghost use Rattle.ir_text.specs.Draft.{placed, placed_outside, placed_at_function, placed_in_function_head, placed_at_block, annotated_in_block_head, placed_in_block_head, placed_in_phis, annotated_in_body, placed_behind, placed_in_body, placed_in_ended, new_place};
+ghost use Rattle.ir_text.specs.Draft.{placed, placed_outside, placed_at_function, placed_in_function_head, placed_at_block, annotated_in_block_head};
+ghost use Rattle.ir_text.specs.Draft.{placed_in_block_head, placed_in_phis, annotated_in_body, placed_behind, placed_in_body, placed_in_ended};
+ghost use Rattle.ir_text.specs.Draft.{new_place};
 
 use crate::annotating::{BlockHead, FunctionHead, annotated_block, annotated_function};
 use crate::opening::{

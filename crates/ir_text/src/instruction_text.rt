@@ -1,7 +1,9 @@
 //! How instructions are spelled.
 
 ghost use Rattle.std.specs.Prelude.{◌≡◌, ◌++◌, OnOk, string_bytes, flat_map};
-ghost use Rattle.ir_text.specs.InstructionText.{conversion_texts, binary_text, compare_text, convert_text, alloca_text, element_pointer_text, load_text, store_text, store_zeros_text, atomic_add_text, call_text, call_void_text, start_region_text, instruction_text, entry_text, entries_text, phi_text};
+ghost use Rattle.ir_text.specs.InstructionText.{conversion_texts, binary_text, compare_text, convert_text, alloca_text, element_pointer_text};
+ghost use Rattle.ir_text.specs.InstructionText.{load_text, store_text, store_zeros_text, atomic_add_text, call_text, call_void_text};
+ghost use Rattle.ir_text.specs.InstructionText.{start_region_text, instruction_text, entry_text, entries_text, phi_text};
 ghost use Rattle.ir_text.specs.Spelling.{behind_comma};
 
 use crate::spelling::{

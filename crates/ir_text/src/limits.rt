@@ -3,7 +3,8 @@
 ghost use Rattle.std.specs.Prelude.{◌≡◌, length};
 ghost use Rattle.ir_text.specs.Counting.{IsSmall, counts_of, counts_with, with_instruction, are_counts_within, is_within_limits};
 ghost use Rattle.ir_text.specs.Defined.{defined_register, option_list};
-ghost use Rattle.ir_text.specs.Limits.{instruction_cells, are_function_notes_within, are_block_notes_within, is_function_head_within, is_block_head_within, is_place_within};
+ghost use Rattle.ir_text.specs.Limits.{instruction_cells, are_function_notes_within, are_block_notes_within, is_function_head_within};
+ghost use Rattle.ir_text.specs.Limits.{is_block_head_within, is_place_within};
 
 use crate::draft::{Draft, Place};
 use crate::scope::defined_register;

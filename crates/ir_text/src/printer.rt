@@ -3,7 +3,9 @@
 ghost use Rattle.std.specs.Prelude.{◌≡◌, ◌++◌, OnOk, IfOk, string_bytes, flat_map};
 ghost use Rattle.ir_text.specs.Items.{module_text};
 ghost use Rattle.ir_text.specs.RoundTrip.{IsReadBackAs};
-ghost use Rattle.ir_text.specs.Printed.{note_line, inequality_line, zone_line, measure_line, budget_line, pending_line, left_line, foot_line, phi_line, step_lines, ending_lines, block_notes_lines, label_line, block_lines, function_notes_lines, define_line, function_lines, global_line, module_lines};
+ghost use Rattle.ir_text.specs.Printed.{note_line, inequality_line, zone_line, measure_line, budget_line, pending_line, left_line, foot_line};
+ghost use Rattle.ir_text.specs.Printed.{phi_line, step_lines, ending_lines, block_notes_lines, label_line, block_lines, function_notes_lines};
+ghost use Rattle.ir_text.specs.Printed.{define_line, function_lines, global_line, module_lines};
 
 use crate::instruction_text::{push_instruction, push_phi};
 use crate::spelling::{push_array, push_parameters, result_word};

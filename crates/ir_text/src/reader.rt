@@ -7,7 +7,8 @@ ghost use Rattle.ir_text.specs.Faults.{IsOnLineOf};
 ghost use Rattle.ir_text.specs.Kept.{IsKeptModule};
 ghost use Rattle.ir_text.specs.Lines.{lines_of};
 ghost use Rattle.ir_text.specs.Counting.{counts_of};
-ghost use Rattle.ir_text.specs.Tracking.{IsTracked, OrMemory, judged_reader, judged_place, FailsAt, FaultSteps, FaultOverlong, FaultTooLate, FaultEnded, or_too_late};
+ghost use Rattle.ir_text.specs.Tracking.{IsTracked, OrMemory, judged_reader, judged_place, FailsAt, FaultSteps, FaultOverlong, FaultTooLate};
+ghost use Rattle.ir_text.specs.Tracking.{FaultEnded, or_too_late};
 ghost use Rattle.ir_text.specs.Reading.{start, with_item, Steps, ended, Answers, IsFaultOfText};
 
 use crate::draft::{Draft, Place};

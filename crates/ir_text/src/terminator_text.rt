@@ -1,7 +1,8 @@
 //! How terminators are spelled.
 
 ghost use Rattle.std.specs.Prelude.{◌≡◌, ◌++◌, OnOk, string_bytes, flat_map};
-ghost use Rattle.ir_text.specs.TerminatorText.{jump_text, branch_text, case_text, switch_text, return_text, detach_text, reattach_text, sync_text, terminator_text};
+ghost use Rattle.ir_text.specs.TerminatorText.{jump_text, branch_text, case_text, switch_text, return_text, detach_text, reattach_text, sync_text};
+ghost use Rattle.ir_text.specs.TerminatorText.{terminator_text};
 
 use crate::spelling::{push_label, push_operand, push_register, width_word};
 use itoa::Buffer;

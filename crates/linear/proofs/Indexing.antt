@@ -15,7 +15,7 @@ use Rattle.linear.specs.declared.index.Entry.{Entry}
 use Rattle.linear.specs.Forms.{Combination, coefficient_of, constant_form, IsRising}
 use Rattle.linear.specs.Shown.{IsSum, IsShown, sides}
 use Rattle.linear.specs.Search.{has_some, IsLeft, IsFound}
-use Rattle.linear.specs.Index.{weight, weigh, IsKeyOf, place_at, IsEntry, IsAsStrong, IsKept, IsIndex, IsMadeUp, IsMadeUpByFirst}
+use Rattle.linear.specs.Index.{weight, weigh, IsKeyOf, place_at, IsEntry, IsAsStrong, IsIndexed, IsIndex, IsMadeUp, IsMadeUpByFirst}
 use Rattle.linear.proofs.Values.{distributes, keeps_sign, value_combines}
 use Rattle.linear.proofs.Newest.{in_newest, in_sides}
 use Rattle.linear.proofs.Found.{found_shown, shown_found}
@@ -84,7 +84,7 @@ index_none facts = record {
 
 -- what is kept, in a list that keeps what was there
 more_kept : (facts : List Fact) (old new : List Entry) (n : ℕ) → ((e : Entry) → Contains old e → (e' : Entry) × Contains new e' × IsAsStrong (place_at facts e'.place) (place_at facts e.place)) →
-    IsKept facts new n → ((p : ℕ) → p < n → IsKept facts old p) → (p : ℕ) → p < suc n → IsKept facts new p
+    IsIndexed facts new n → ((p : ℕ) → p < n → IsIndexed facts old p) → (p : ℕ) → p < suc n → IsIndexed facts new p
 more_kept facts old new n on last before p l = elim (cases_eq p n) [
   | inl same ↦ rw same last
   | inr other ↦

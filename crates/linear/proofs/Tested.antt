@@ -18,11 +18,11 @@ use Rattle.linear.specs.Forms.{Combination, coefficient_of, constant_form}
 use Rattle.linear.specs.Shown.{IsSum, IsFactor, sides, IsShown}
 use Rattle.linear.specs.Tested.{agrees, agree_along, is_sum, factors_of, is_pair, is_shown}
 
-true_from_T : (b : Bool) → T b → b ≡ true
+pub true_from_T : (b : Bool) → T b → b ≡ true
 true_from_T true t = refl
 true_from_T false t = absurd t
 
-T_from_true : (b : Bool) → b ≡ true → T b
+pub T_from_true : (b : Bool) → b ≡ true → T b
 T_from_true true e = tt
 T_from_true false e = cc
 

@@ -35,14 +35,14 @@ pub record IsAsStrong (f g : Combination) : Type 0 where
   pub constant : f.constant ≤ℤ g.constant
 
 -- some entry is as strong as what stands at the place
-abbrev pub IsKept : List Fact → List Entry → ℕ → Type 0
-IsKept facts entries place = (entry : Entry) × Contains entries entry × IsAsStrong (place_at facts entry.place) (place_at facts place)
+abbrev pub IsIndexed : List Fact → List Entry → ℕ → Type 0
+IsIndexed facts entries place = (entry : Entry) × Contains entries entry × IsAsStrong (place_at facts entry.place) (place_at facts place)
 
 -- entries of the first places, by rising keys
 pub record IsIndex (facts : List Fact) (count : ℕ) (entries : List Entry) : Type 0 where
   pub sorted : IsNonDecreasingBy (λ (e : Entry). e.key) entries
   pub own : All (IsEntry facts) entries
-  pub kept : (place : ℕ) → place < count → IsKept facts entries place
+  pub kept : (place : ℕ) → place < count → IsIndexed facts entries place
 
 -- ---- the search: some second fact, some second factor, some first factor, some first fact that has some of a register
 

@@ -1,5 +1,6 @@
 -- How forms are made.
-use Rattle.std.specs.Prelude.{◌≡◌, ℕ, ◌<◌, ◌^◌, ℤ, pos, ◌+ℤ◌, ◌==◌, Bool, nat_lt, List, [], ◌∷◌, unsigned_abs, Option, Some, None, slice_get, slice_set, insert, if◌then◌else◌}
+use Rattle.std.specs.Prelude.{◌≡◌, ℕ, ◌<◌, ◌^◌, ℤ, pos, ◌+ℤ◌, ◌==◌, Bool, nat_lt, List, [], ◌∷◌, unsigned_abs, Option, Some, None, slice_get}
+use Rattle.std.specs.Prelude.{slice_set, insert, if◌then◌else◌}
 use Rattle.std.specs.List.{prefix_len}
 use Rattle.linear.specs.declared.form.RegisterId.{RegisterId}
 use Rattle.linear.specs.declared.form.Term.{Term}

@@ -1,6 +1,7 @@
 //! Facts by the values of their terms, so that one is looked up. Of facts with the same coefficients the strongest alone decides.
 
-ghost use Rattle.std.specs.Prelude.{◌≡◌, ◌<◌, ◌≤◌, ◌+◌, ◌*◌, ◌^◌, ◌↔◌, ℕ, suc, All, Contains, IsTrue, IfSome, IfNone, IfOk, OnOk, length, unsigned_abs, ◌≤ℤ◌, false, slice_index_or};
+ghost use Rattle.std.specs.Prelude.{◌≡◌, ◌<◌, ◌≤◌, ◌+◌, ◌*◌, ◌^◌, ◌↔◌, ℕ, suc, All, Contains, IsTrue, IfSome, IfNone, IfOk, OnOk, length};
+ghost use Rattle.std.specs.Prelude.{unsigned_abs, ◌≤ℤ◌, false, slice_index_or};
 ghost use Rattle.std.specs.List.Sorted.{IsNonDecreasingBy};
 ghost use Rattle.linear.specs.Forms.{AreSmall, IsRising, coefficient_of};
 ghost use Rattle.linear.specs.Index.{place_at, IsKeyOf, IsEntry, IsIndex, IsAsStrong};

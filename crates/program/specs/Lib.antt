@@ -1,3 +1,5 @@
+pub mod Blocks
+pub mod Calls
 pub mod Cells
 pub mod Steps
 pub mod Widths

@@ -3,14 +3,15 @@ use Rattle.std.specs.Prelude.{ℕ, ◌==◌, if◌then◌else◌, ℤ, pos, negs
 use Rattle.linear.specs.declared.form.RegisterId.{RegisterId}
 use Rattle.linear.specs.declared.form.Fact.{Fact}
 use Rattle.syntax.specs.declared.operator.Predicate.{Predicate}
-use Rattle.syntax.specs.declared.operator.Predicate.TheVariants.{Equal, NotEqual, UnsignedGreater, UnsignedAtLeast, UnsignedLess, UnsignedAtMost, SignedGreater, SignedAtLeast, SignedLess, SignedAtMost}
+use Rattle.syntax.specs.declared.operator.Predicate.TheVariants.{Equal, NotEqual, UnsignedGreater, UnsignedAtLeast, UnsignedLess, UnsignedAtMost}
+use Rattle.syntax.specs.declared.operator.Predicate.TheVariants.{SignedGreater, SignedAtLeast, SignedLess, SignedAtMost}
+use Rattle.program.specs.Blocks.{block_phis}
 use Rattle.program.specs.declared.annotation.Inequality.{Inequality}
 use Rattle.program.specs.declared.identifier.BlockId.{BlockId}
 use Rattle.program.specs.declared.instruction.Instruction.{Instruction}
 use Rattle.program.specs.declared.instruction.Instruction.TheVariants as instruction
 use Rattle.program.specs.declared.instruction.Operand.{Operand}
 use Rattle.program.specs.declared.instruction.Operand.TheVariants.{Number, Register}
-use Rattle.program.specs.declared.instruction.Phi.{Phi}
 use Rattle.program.specs.declared.instruction.Step.{Step}
 use Rattle.program.specs.declared.instruction.Terminator.{Terminator}
 use Rattle.program.specs.declared.instruction.Terminator.TheVariants as terminator
@@ -99,10 +100,6 @@ edges_out steps (terminator.Sync region target) = edge_to target (Synced region)
 
 -- ---- at the target
 
-abbrev pub phis_of : Option Block → List Phi
-phis_of None = []
-phis_of (Some block) = block.phis
-
 abbrev pub keeps_of : Option Block → List Inequality
 keeps_of None = []
 keeps_of (Some block) = block.keeps
@@ -110,7 +107,7 @@ keeps_of (Some block) = block.keeps
 -- an edge from a block where this is known at its end: what its target's phis take, and what is known on it
 abbrev pub edge_facts : List Block → ℕ → List Fact → EdgeSums → EdgeFacts
 edge_facts blocks from known e =
-    record { to = e.to; way = e.way; moves = moves_from from (phis_of (slice_get blocks e.to.0)); facts = known ++ facts_of e.sums }
+    record { to = e.to; way = e.way; moves = moves_from from (block_phis (slice_get blocks e.to.0)); facts = known ++ facts_of e.sums }
 
 abbrev pub all_edge_facts : List Block → ℕ → List Fact → List EdgeSums → List EdgeFacts
 all_edge_facts blocks from known edges = map (edge_facts blocks from known) edges

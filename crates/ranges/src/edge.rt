@@ -3,7 +3,8 @@ ghost use Rattle.syntax.specs.declared.operator.Predicate.TheVariants.{Equal};
 ghost use Rattle.region_match.specs.cfg.declared.structure.Way.TheVariants.{Branch};
 ghost use Rattle.program.specs.declared.instruction.Case.{Case};
 ghost use Rattle.ranges.specs.Sums.{facts_of};
-ghost use Rattle.ranges.specs.Edges.{compare_of, compared, at_least, above, compare_sums, branch_sums, case_sums, edge_to, edges_out, phis_of, keeps_of, edge_facts, all_edge_facts};
+ghost use Rattle.ranges.specs.Edges.{compare_of, compared, at_least, above, compare_sums, branch_sums, case_sums, edge_to, edges_out};
+ghost use Rattle.ranges.specs.Edges.{keeps_of, edge_facts, all_edge_facts};
 
 use crate::know::push_facts;
 use crate::sum::Sum;

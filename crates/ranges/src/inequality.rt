@@ -1,6 +1,7 @@
 ghost use Rattle.std.specs.Prelude.{◌≡◌, ◌++◌, ◌<◌, ◌^◌, ◌⊎◌, ◌*ℤ◌, pos, negsuc, IfOk, OnOk, OnErr, All, length, take, unsigned_abs};
 ghost use Rattle.linear.specs.Forms.{AreSmall};
-ghost use Rattle.ranges.specs.Inequalities.{operand_for, part_of, parts_of, difference_of, differences_of, argument_operand, argument_moves, result_of, result_moves, register_operand, call_moves};
+ghost use Rattle.ranges.specs.Inequalities.{operand_for, part_of, parts_of, difference_of, differences_of, argument_operand, argument_moves};
+ghost use Rattle.ranges.specs.Inequalities.{result_of, result_moves, register_operand, call_moves};
 
 use crate::sum::{Part, Sum};
 use linear::{RegisterId, Term, side_of};

@@ -1,6 +1,7 @@
 ghost use Rattle.std.specs.Prelude.{◌≡◌, ◌++◌, [], pos, ◌≤ℤ◌, ◌-ℤ◌, true, IfOk, OnOk, IfSome, slice_get};
 ghost use Rattle.syntax.specs.declared.operator.BinaryOperator.TheVariants.{AddNoWrap, SubtractNoWrap};
-ghost use Rattle.ranges.specs.Learned.{is_scale, scale_number, scale_of, is_multiple, is_product, is_between, is_quotient, is_divisor, quotient_by, remainder_by, masked_by, binary_sums, is_32_bits, conversion_sums, call_sums, learned};
+ghost use Rattle.ranges.specs.Learned.{is_scale, scale_number, scale_of, is_multiple, is_product, is_between, is_quotient, is_divisor, quotient_by};
+ghost use Rattle.ranges.specs.Learned.{remainder_by, masked_by, binary_sums, is_32_bits, conversion_sums, call_sums, learned};
 
 use crate::inequality::{call_moves, differences_of};
 use crate::know::shows;

@@ -2,7 +2,8 @@ ghost use Rattle.std.specs.Prelude.{◌≡◌, ◌++◌, ◌∷◌, [], true, So
 ghost use Rattle.syntax.specs.declared.operator.BinaryOperator.TheVariants.{AddNoWrap, SubtractNoWrap};
 ghost use Rattle.ranges.specs.Inequalities.{difference_of};
 ghost use Rattle.ranges.specs.Learned.{is_scale, scale_of};
-ghost use Rattle.ranges.specs.Owed.{must, half, greatest, last_bit, is_not_zero, is_not_least_by_minus_one, product_owed, is_amount, binary_owed, index_owed, inequalities_owed, call_owed, owed, owed_at_end};
+ghost use Rattle.ranges.specs.Owed.{must, half, greatest, last_bit, is_not_zero, is_not_least_by_minus_one, product_owed, is_amount, binary_owed};
+ghost use Rattle.ranges.specs.Owed.{index_owed, inequalities_owed, call_owed, owed, owed_at_end};
 ghost use Rattle.program.specs.Cells.{object_cells};
 
 use crate::inequality::{argument_moves, difference_of, result_moves};

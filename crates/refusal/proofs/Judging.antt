@@ -1,9 +1,9 @@
 -- Judgements put together.
 use Rattle.std.proofs.Common.{◌≡◌, ◌⊎◌, ℕ, Bool, true, false, refl, ◌+◌, ◌<◌, List, [], ◌∷◌, ◌++◌, length, take, get_or, Option, Some, None, inl, inr, sym, ap, subst, ⊎_elim, ◌∙◌, arith, length-append}
-use Rattle.std.specs.Prelude.{nat_lt, nat_eq, ◌&&◌, ◌||◌, if◌then◌else◌}
+use Rattle.std.specs.Prelude.{nat_lt, nat_eq, ◌&&◌, if◌then◌else◌}
 use Rattle.std.specs.List.{All, Any}
 use Rattle.std.proofs.lemmas.Bool.Decides.{nat_tests}
-use Rattle.std.proofs.lemmas.Bool.{cases_lt, true≢false}
+use Rattle.std.proofs.lemmas.Bool.{cases_lt, true≢false, or_parts, or_cases, and_parts}
 use Rattle.std.proofs.lemmas.List.{take_more, length_push, get_or_append_left, get_or_push}
 use Rattle.std.proofs.lemmas.List.Elements.{All-push}
 use Rattle.std.proofs.lemmas.List.Quantifiers.{Any-push}
@@ -18,25 +18,13 @@ before_trans a b c h k = (
       omega (arith, h.1 first, k.1 second),
 )
 
-or_false : (x y : Bool) → x || y ≡ false → (x ≡ false) × (y ≡ false)
-or_false true y h = absurd (true≢false h)
-or_false false y h = (refl, h)
-
-or_true : (x y : Bool) → x || y ≡ true → (x ≡ true) ⊎ (y ≡ true)
-or_true true y h = inl refl
-or_true false y h = inr h
-
-and_true : (x y : Bool) → x && y ≡ true → (x ≡ true) × (y ≡ true)
-and_true true y h = (refl, h)
-and_true false y h = absurd (true≢false (sym h))
-
 and_false : (x y : Bool) → x && y ≡ false → x ≡ true → y ≡ false
 and_false true y h e = h
 and_false false y h e = absurd (true≢false (sym e))
 
 not_after : (a b : Broken) → is_before b a ≡ false → IsAtOrBefore a b
 not_after a b h =
-    let parts = or_false (nat_lt b.line a.line) (nat_eq b.line a.line && nat_lt b.number a.number) h in (
+    let parts = or_parts (nat_lt b.line a.line) (nat_eq b.line a.line && nat_lt b.number a.number) h in (
       grind (arith, nat_tests, parts.0),
       λ same. let line : nat_eq b.line a.line ≡ true = grind (arith, nat_tests, same) in
           let number : nat_lt b.number a.number ≡ false = and_false (nat_eq b.line a.line) (nat_lt b.number a.number) parts.1 line in
@@ -44,10 +32,10 @@ not_after a b h =
     )
 
 before : (a b : Broken) → is_before b a ≡ true → IsAtOrBefore b a
-before a b h = elim (or_true (nat_lt b.line a.line) (nat_eq b.line a.line && nat_lt b.number a.number) h) [
+before a b h = elim (or_cases (nat_lt b.line a.line) (nat_eq b.line a.line && nat_lt b.number a.number) h) [
   | inl below ↦ let line : b.line < a.line = grind (arith, nat_tests, below) in (omega (arith, line), λ same. absurd (omega (arith, line, same)))
   | inr beside ↦
-      let both = and_true (nat_eq b.line a.line) (nat_lt b.number a.number) beside in
+      let both = and_parts (nat_eq b.line a.line) (nat_lt b.number a.number) beside in
       let line : b.line ≡ a.line = grind (arith, nat_tests, both.0) in
       let number : b.number < a.number = grind (arith, nat_tests, both.1) in
       (omega (arith, line), λ same. omega (arith, number))

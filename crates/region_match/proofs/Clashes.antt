@@ -1,5 +1,5 @@
 -- The marks of clashes, edge by edge and block by block.
-use Rattle.std.proofs.Common.{◌≡◌, ◌⊎◌, ◌↔◌, ℕ, ◌+◌, ◌<◌, ◌≤◌, Bool, true, false, List, [], ◌∷◌, ◌++◌, zero, suc, length, take, get_or, set, inl, inr, refl, sym, ap, ◌∙◌, ⊎_elim, arith, get_or-set_same, get_or-set_other, take_all}
+use Rattle.std.proofs.Common.{◌≡◌, ◌⊎◌, ◌↔◌, ℕ, ◌+◌, ◌<◌, ◌≤◌, Bool, true, false, List, [], ◌∷◌, ◌++◌, length, take, get_or, set, inl, inr, refl, sym, ap, ◌∙◌, ⊎_elim, arith, get_or-set_same, get_or-set_other, take_all}
 use Rattle.std.specs.List.{Any}
 use Rattle.std.proofs.lemmas.Bool.{cases_eq, cases_lt, true≢false}
 use Rattle.std.proofs.lemmas.List.{length-set, take_more}
@@ -11,6 +11,7 @@ use Rattle.refusal.proofs.Judging.{Any-append_left, Any-push_cases}
 use Rattle.region_match.specs.declared.task.Task.{Task}
 use Rattle.region_match.specs.Tasks.{task_at}
 use Rattle.region_match.specs.Labels.{is_seen, IsClash, HasClash}
+use Rattle.cfg.proofs.Matching.{no_edges_past}
 
 -- the edges so far
 pub record ClashMarks (from : ℕ) (edges : List Edge) (tasks : List Task) (marks marks' : List Bool) : Type 0 where
@@ -93,17 +94,12 @@ AllClashMarks-next blocks n edges tasks marks marks' sized read m size step = re
       );
 }
 
-no_edges : (blocks : List BlockEdges) (a : ℕ) → length blocks ≤ a → edges_of blocks a ≡ []
-no_edges [] a l = refl
-no_edges (x ∷ xs) zero l = absurd (omega (arith, l))
-no_edges (x ∷ xs) (suc a) l = no_edges xs a (omega arith)
-
 pub AllClashMarks-all : (blocks : List BlockEdges) (n : ℕ) (tasks : List Task) (marks : List Bool) → length blocks ≤ n → AllClashMarks blocks n tasks marks → (b : ℕ) → b < length blocks → (get_or marks b false ≡ true) ↔ HasClash blocks tasks b
 AllClashMarks-all blocks n tasks marks past m b l = (
   λ h. let p = (m.exact b l).0 h in (p.0, p.2),
   λ p. ⊎_elim
       (λ w. (m.exact b l).1 (p.0, w, p.1))
-      (λ g. let none = rw (no_edges blocks p.0 (omega (arith, g, past))) at p.1 in absurd (omega (arith, none.2)))
+      (λ g. let none = rw (no_edges_past blocks p.0 (omega (arith, g, past))) at p.1 in absurd (omega (arith, none.2)))
       (cases_lt p.0 n),
 )
 

@@ -1,5 +1,5 @@
 -- What stands where it may not.
-use Rattle.std.proofs.Common.{◌≡◌, ◌≢◌, ◌⊎◌, ◌↔◌, ℕ, ◌+◌, ◌<◌, ◌≤◌, Bool, true, false, not, IsTrue, List, [], ◌∷◌, zero, suc, length, Option, inl, inr, refl, sym, ⊎_elim, ◌∙◌, arith}
+use Rattle.std.proofs.Common.{◌≡◌, ◌≢◌, ◌⊎◌, ◌↔◌, ℕ, ◌+◌, ◌<◌, ◌≤◌, Bool, true, false, not, IsTrue, List, length, Option, inl, inr, refl, sym, ⊎_elim, ◌∙◌, arith}
 use Rattle.std.specs.List.{Any}
 use Rattle.std.proofs.lemmas.Bool.{cases_Bool, cases_eq, cases_lt, true≢false, false≢true}
 use Rattle.linear.specs.declared.form.RegisterId.{RegisterId}
@@ -18,6 +18,7 @@ use Rattle.cfg.specs.Rules.{IsPredecessor}
 use Rattle.region_match.specs.Rules.{IsEntered, IsShared, IsStartBroken, IsPhiBroken, IsFootBroken, IsLabelBroken}
 use Rattle.refusal.specs.Earliest.{IsEarliest}
 use Rattle.refusal.proofs.Elements.{earliest_same}
+use Rattle.cfg.proofs.Matching.{no_edges_past}
 
 abbrev pub AreStartsWrong : Bool → List Step → Broken → Type 0
 AreStartsWrong wrong steps b = Any (λ step. (IsTrue wrong) × (b.number ≡ 307) × (b.line ≡ step.line) × (region : RegisterId) × (step.instruction ≡ StartRegion region)) steps
@@ -28,30 +29,25 @@ ArePhisWrong wrong phis b = Any (λ phi. (IsTrue wrong) × (b.number ≡ 307) ×
 abbrev pub IsFootWrong : Bool → List Zone → Broken → Type 0
 IsFootWrong wrong foot b = Any (λ zone. (IsTrue wrong) × (b.number ≡ 307) × (b.line ≡ zone.line)) foot
 
-no_edges : (blocks : List BlockEdges) (a : ℕ) → length blocks ≤ a → edges_of blocks a ≡ []
-no_edges [] a l = refl
-no_edges (x ∷ xs) zero l = absurd (omega (arith, l))
-no_edges (x ∷ xs) (suc a) l = no_edges xs a (omega arith)
-
 pub not_entered : (blocks : List BlockEdges) (b n : ℕ) (way : Way) → length blocks ≤ n → ((a : ℕ) → a < n → Any (λ (e : Edge). (e.to.0 ≡ b) × (e.way ≡ way)) (edges_of blocks a) → ⊥) → IsEntered blocks b way → ⊥
 not_entered blocks b n way past none entered =
     ⊎_elim
     (λ l. none entered.0 l entered.1)
-    (λ g. let empty = rw (no_edges blocks entered.0 (omega (arith, g, past))) at entered.1 in absurd (omega (arith, empty.2)))
+    (λ g. let empty = rw (no_edges_past blocks entered.0 (omega (arith, g, past))) at entered.1 in absurd (omega (arith, empty.2)))
     (cases_lt entered.0 n)
 
 pub not_followed : (blocks : List BlockEdges) (b one n : ℕ) → length blocks ≤ n → ((a : ℕ) → a < n → a ≢ one → IsPredecessor blocks a b → ⊥) → (other : ℕ) × (other ≢ one) × IsPredecessor blocks other b → ⊥
 not_followed blocks b one n past none has =
     ⊎_elim
     (λ l. none has.0 l has.1 has.2)
-    (λ g. true≢false (sym has.2 ∙ (rw (no_edges blocks has.0 (omega (arith, g, past))) refl)))
+    (λ g. true≢false (sym has.2 ∙ (rw (no_edges_past blocks has.0 (omega (arith, g, past))) refl)))
     (cases_lt has.0 n)
 
 pub not_shared : (blocks : List BlockEdges) (b n : ℕ) → length blocks ≤ n → ((a : ℕ) → a < n → Any (λ (e : Edge). (e.to.0 ≡ b) × (e.way ≡ Detached)) (edges_of blocks a) → (other : ℕ) × (other ≢ a) × IsPredecessor blocks other b → ⊥) → IsShared blocks b → ⊥
 not_shared blocks b n past none shared =
     ⊎_elim
     (λ l. none shared.0 l shared.1 (shared.2, shared.3, shared.4))
-    (λ g. let empty = rw (no_edges blocks shared.0 (omega (arith, g, past))) at shared.1 in absurd (omega (arith, empty.2)))
+    (λ g. let empty = rw (no_edges_past blocks shared.0 (omega (arith, g, past))) at shared.1 in absurd (omega (arith, empty.2)))
     (cases_lt shared.0 n)
 
 pub entered_more : (blocks : List BlockEdges) (b i : ℕ) (way : Way) (edges : List Edge) → edges_of blocks i ≡ edges → ((a : ℕ) → a < i → Any (λ (e : Edge). (e.to.0 ≡ b) × (e.way ≡ way)) (edges_of blocks a) → ⊥) → (Any (λ (e : Edge). (e.to.0 ≡ b) × (e.way ≡ way)) edges → ⊥) → (a : ℕ) → a < i + 1 → Any (λ (e : Edge). (e.to.0 ≡ b) × (e.way ≡ way)) (edges_of blocks a) → ⊥

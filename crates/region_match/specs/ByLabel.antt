@@ -12,7 +12,7 @@ use Rattle.region_match.specs.declared.task.Task.{Task}
 use Rattle.region_match.specs.declared.task.Task.TheVariants.{Unreached, Body, Child}
 use Rattle.region_match.specs.Tasks.{task_at}
 use Rattle.region_match.specs.Labels.{is_seen}
-use Rattle.region_match.specs.Rules.{ending_at, IsDetach, Starts, IsStartBroken, IsPhiBroken, IsFootBroken, IsLabelBroken, IsOpen, is_leave}
+use Rattle.region_match.specs.Rules.{ending_at, IsDetach, Starts, IsOpen, is_leave}
 use Rattle.cfg.specs.declared.structure.BlockEdges.{BlockEdges}
 
 abbrev pub IsStartedBy : List Block → List Task → RegisterId → Task → Type 0
@@ -53,12 +53,6 @@ IsEndingBrokenBy bodies tasks task (Some ending) broken = (broken.line ≡ endin
 abbrev pub IsPendingBrokenBy : List Block → List Task → Task → List Pending → Broken → Type 0
 IsPendingBrokenBy bodies tasks task pending broken =
     Any (λ p. (broken.number ≡ 303) × (broken.line ≡ p.zone.line) × IsForeignBy bodies tasks task p.region) pending
-
--- 307, in all its forms
-abbrev pub IsPlaceBroken : List BlockEdges → ℕ → Block → Broken → Type 0
-IsPlaceBroken blocks b block broken =
-    (IsStartBroken blocks b block.steps broken ⊎ IsPhiBroken blocks b block.phis broken)
-    ⊎ (IsFootBroken blocks b block.foot broken ⊎ IsLabelBroken blocks b block broken)
 
 -- 304, at the ends that one detach is open at
 abbrev pub IsOpenEndOf : List Block → List BlockEdges → ℕ → Broken → Type 0

@@ -7,8 +7,7 @@ use Rattle.cfg.specs.declared.structure.BlockEdges.{BlockEdges}
 use Rattle.refusal.specs.declared.broken.Broken.{Broken}
 use Rattle.cfg.specs.Edges.{graph_of}
 use Rattle.region_match.specs.Mixed.{IsMixed}
-use Rattle.region_match.specs.Rules.{IsEndingBroken, IsPendingBroken, IsOpenEnd}
-use Rattle.region_match.specs.ByLabel.{IsPlaceBroken}
+use Rattle.region_match.specs.Rules.{IsEndingBroken, IsPendingBroken, IsOpenEnd, IsPlaceBroken}
 
 abbrev pub IsBlockBroken : List Block → List BlockEdges → ℕ → Block → Broken → Type 0
 IsBlockBroken bodies blocks b block broken =

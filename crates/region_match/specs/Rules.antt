@@ -144,3 +144,9 @@ IsShared blocks b = (a : ℕ) × Any (λ e. (e.to.0 ≡ b) × (e.way ≡ Detache
 
 abbrev pub IsLabelBroken : List BlockEdges → ℕ → Block → Broken → Type 0
 IsLabelBroken blocks b block broken = (broken.number ≡ 307) × (broken.line ≡ block.line) × IsShared blocks b
+
+-- 307, in all its forms
+abbrev pub IsPlaceBroken : List BlockEdges → ℕ → Block → Broken → Type 0
+IsPlaceBroken blocks b block broken =
+    (IsStartBroken blocks b block.steps broken ⊎ IsPhiBroken blocks b block.phis broken)
+    ⊎ (IsFootBroken blocks b block.foot broken ⊎ IsLabelBroken blocks b block broken)

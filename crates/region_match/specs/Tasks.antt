@@ -1,5 +1,5 @@
 -- Tasks: the detaches on a path that lead into detached blocks.
-use Rattle.std.specs.Prelude.{◌≡◌, ◌≢◌, ℕ, ◌<◌, List, [], ◌∷◌, length, slice_index_or}
+use Rattle.std.specs.Prelude.{◌≡◌, ◌≢◌, ℕ, ◌<◌, List, [], ◌∷◌, length, Option, Some, None, slice_index_or}
 use Rattle.cfg.specs.declared.structure.Way.{Way}
 use Rattle.cfg.specs.declared.structure.Way.TheVariants.{Branch, Detached, Continued, Synced}
 use Rattle.cfg.specs.declared.structure.BlockEdges.{BlockEdges}
@@ -35,6 +35,11 @@ innermost (detach ∷ detaches) = Child (record { 0 = detach })
 
 abbrev pub task_at : List Task → ℕ → Task
 task_at tasks b = slice_index_or tasks b Unreached
+
+-- of a function's blocks; none where there is no function
+abbrev pub tasks_in : Option FunctionTasks → List Task
+tasks_in None = []
+tasks_in (Some function) = function.tasks
 
 -- the table has the innermost detach of each path to a block
 abbrev pub IsInnermostAt : List BlockEdges → List Task → ℕ → Type 0

@@ -3,9 +3,8 @@ ghost use Rattle.linear.specs.declared.form.RegisterId.{RegisterId};
 ghost use Rattle.program.specs.declared.instruction.Instruction.TheVariants.{StartRegion};
 ghost use Rattle.cfg.specs.Paths.{edges_of};
 ghost use Rattle.cfg.specs.Rules.{leads_to, IsPredecessor};
-ghost use Rattle.region_match.specs.Rules.{IsEntered, IsShared, IsStartBroken, IsPhiBroken, IsFootBroken, IsLabelBroken};
+ghost use Rattle.region_match.specs.Rules.{IsEntered, IsShared, IsStartBroken, IsPhiBroken, IsFootBroken, IsLabelBroken, IsPlaceBroken};
 ghost use Rattle.refusal.specs.Earliest.{IsEarliest};
-ghost use Rattle.region_match.specs.ByLabel.{IsPlaceBroken};
 
 use cfg::{BlockEdges, Edge, Way};
 use program::{Block, Instruction, Phi, Step, Zone};

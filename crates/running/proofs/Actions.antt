@@ -1,5 +1,6 @@
 -- What is true of the actions of all kinds of instruction.
 use Rattle.std.proofs.Common.{◌≡◌, ℕ, ◌∷◌, [], Option, Some, None, Bool, true, false, cond, ◌&&◌, refl, ap, subst, eqb, eq-eqb, eqb-true, is_none, is_some, ℤ}
+use Rattle.std.proofs.lemmas.Bool.{and_parts}
 use Rattle.running.specs.Paths.{Path, same_path}
 use Rattle.running.specs.Cells.{Object, Shared, Local, Cell, same_object, same_cell, Memory}
 use Rattle.running.specs.Arithmetic.{Unmatched}
@@ -50,14 +51,10 @@ returns_value_end f (Some z) = returns_end f (Some z) f.role refl
 pub same_effect : (e g : Effect) → Plain e ≡ Plain g → e ≡ g
 same_effect e g h = cc
 
-pub both_true : (a b : Bool) → a && b ≡ true → (a ≡ true) × (b ≡ true)
-both_true true b e = (refl, e)
-both_true false b e = absurd (cc)
-
 matched_end : (f : Frame) (r c region continuation : ℕ) → f.role ≡ Child r c → (b : Bool) → eqb r region && eqb c continuation ≡ b → FromEnd f (cond b (Reattach region) (traps Unmatched f))
 matched_end f r c region continuation role false e = tt
 matched_end f r c region continuation role true e =
-    let (same, rest) = both_true (eqb r region) (eqb c continuation) e in
+    let (same, rest) = and_parts (eqb r region) (eqb c continuation) e in
     (c, subst (λ n. f.role ≡ Child n c) (eqb-true r region same) role)
 
 reattaches_end : (f : Frame) (region continuation : ℕ) (role : Role) → f.role ≡ role → FromEnd f (reattaches f region continuation role)

@@ -58,7 +58,7 @@ counted_none s q r (suc n) e = from (outside r (s.frames (n ∷ q))) refl e (cou
     from true is h rest = rw is (rest h)
     from false is h rest = absurd (omega arith)
 
-childless_counted : (s : State) (q : Path) (r n : ℕ) → childless s q n ≡ true → children_within s q n r ≡ 0
+pub childless_counted : (s : State) (q : Path) (r n : ℕ) → childless s q n ≡ true → children_within s q n r ≡ 0
 childless_counted s q r zero e = refl
 childless_counted s q r (suc n) e = from (is_none (s.frames (n ∷ q))) refl e (childless_counted s q r n)
   where

@@ -1,6 +1,7 @@
 -- Each event that does not trap keeps what is known of workers and tasks.
 use Rattle.std.proofs.Common.{◌≡◌, ℕ, zero, suc, ◌<◌, [], ◌∷◌, Option, Some, None, ◌≢◌, Bool, true, false, cond, ◌&&◌, ltb-true, eqb, eq-eqb, ◌⊎◌, inl, inr, refl, sym, ap, ◌∙◌, subst, arith, is_none}
 use Rattle.std.proofs.lemmas.Bool.Decides.{eqb_tells}
+use Rattle.std.proofs.lemmas.Bool.{and_parts}
 use Rattle.running.specs.Paths.{Path}
 use Rattle.running.specs.Arithmetic.{Trap}
 use Rattle.running.specs.Frames.{Wait, Free, OnRegion, OnCall, Halted, Child, Frame}
@@ -11,7 +12,6 @@ use Rattle.running.proofs.Places.{same_path_is, only_here, both_second, no_own_c
 use Rattle.running.proofs.Steps.{Does, plain, detach, reattach, sync, call, ret, end}
 use Rattle.running.proofs.Diamond.{Goes, left_alone, same_frame, next_free}
 use Rattle.running.proofs.Workers.{Unheld, Parked, calls, ready, stalled, Manned, some_below, inside_frame, not_place, parked_stays, left_place, plain_manned, child_manned, gone_manned, sync_manned, return_manned, end_manned}
-use Rattle.running.proofs.Actions.{both_true}
 use Rattle.program.specs.declared.function.Program.{Program}
 
 -- ---- who holds a frame
@@ -67,7 +67,7 @@ module _ (prog : Program) (workers : ℕ) (m : Machine) (man : Manned workers m.
 
     taken_goes : (x : Wait) → g.waits ≡ x → may_be_taken new k above region g x ≡ true → may_go new above g.made g.waits ≡ true
     taken_goes Free e t = rw e
-    taken_goes (OnRegion r) e t = rw e ((both_true (eqb r region) _ t).1)
+    taken_goes (OnRegion r) e t = rw e ((and_parts (eqb r region) _ t).1)
     taken_goes (OnCall j d) e t = absurd (cc)
     taken_goes Halted e t = absurd (cc)
 
@@ -233,7 +233,7 @@ module _ (workers : ℕ) (m : Machine) (man : Manned workers m.core m.hands) whe
   pub found : (prog : Program) (w : ℕ) (t : Path) (after : Machine) → sound_event prog workers (Steal w t) m ≡ Some after → Found w t after
   found prog w t after e =
       let (test, then) = cond_true _ _ after e in
-      let (lt, idle) = both_true _ _ test in
+      let (lt, idle) = and_parts _ _ test in
       let (status, made) = ready_is (stolen m w t) after (status_of workers m t) then in
       let (task, top) = cond_true _ (top_status workers m (top_of m.core t)) Ready status in
       let (none, free) = ready_at (m.core.frames (top_of m.core t)) (holder workers m.hands (top_of m.core t)) top in

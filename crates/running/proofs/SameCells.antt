@@ -1,21 +1,18 @@
 -- The tests of cells tell them apart.
-use Rattle.std.proofs.Common.{◌≡◌, Bool, true, false, ◌&&◌, ◌⊎◌, inl, inr, refl, sym, ◌∙◌, subst, eqb-true}
+use Rattle.std.proofs.Common.{◌≡◌, Bool, true, false, ◌⊎◌, inl, inr, refl, sym, ◌∙◌, subst, eqb-true}
+use Rattle.std.proofs.lemmas.Bool.{and_parts}
 use Rattle.running.specs.Cells.{Object, Shared, Local, Cell, same_object, same_cell}
 use Rattle.running.proofs.Actions.{same_cell_itself}
 use Rattle.running.proofs.Places.{same_path_is}
 
-both_true : (a b : Bool) → a && b ≡ true → (a ≡ true) × (b ≡ true)
-both_true true b e = (refl, e)
-both_true false b e = absurd (cc)
-
-same_object_is : (o q : Object) → same_object o q ≡ true → o ≡ q
+pub same_object_is : (o q : Object) → same_object o q ≡ true → o ≡ q
 same_object_is (Shared g) (Shared h) e = λ i. Shared (eqb-true g h e i)
 same_object_is (Shared g) (Local p n) e = absurd (cc)
 same_object_is (Local p n) (Shared g) e = absurd (cc)
-same_object_is (Local p n) (Local q k) e = let (path, alloca) = both_true _ _ e in λ i. Local (same_path_is p q path i) (eqb-true n k alloca i)
+same_object_is (Local p n) (Local q k) e = let (path, alloca) = and_parts _ _ e in λ i. Local (same_path_is p q path i) (eqb-true n k alloca i)
 
 pub same_cell_is : (c x : Cell) → same_cell c x ≡ true → c ≡ x
-same_cell_is c x e = let (object, index) = both_true _ _ e in λ i. record { object = same_object_is c.object x.object object i; index = eqb-true c.index x.index index i }
+same_cell_is c x e = let (object, index) = and_parts _ _ e in λ i. record { object = same_object_is c.object x.object object i; index = eqb-true c.index x.index index i }
 
 pub same_cell_tells : (c x : Cell) → ((same_cell c x ≡ true) × (c ≡ x)) ⊎ (same_cell c x ≡ false)
 same_cell_tells c x = from (same_cell c x) refl

@@ -148,7 +148,7 @@ lowest_lives : (t : Path) (o : Option Frame) → is_task t o ≡ true → (f : F
 lowest_lives t None e = absurd (cc)
 lowest_lives t (Some f) e = (f, refl)
 
-under_trans : {x : Path} {y : Path} (z : Path) → Under x y → Under y z → Under x z
+pub under_trans : {x : Path} {y : Path} (z : Path) → Under x y → Under y z → Under x z
 under_trans z u itself = u
 under_trans z u (deeper k {y = v} w) = deeper k (under_trans v u w)
 

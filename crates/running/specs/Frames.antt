@@ -5,6 +5,7 @@ use Rattle.running.specs.Cells.{Object, Shared, Local, Cell}
 use Rattle.linear.specs.declared.form.RegisterId.{RegisterId}
 use Rattle.program.specs.declared.identifier.ObjectName.{ObjectName}
 use Rattle.program.specs.declared.identifier.ObjectName.TheVariants.{Global, Alloca, Parameter}
+pub use Rattle.program.specs.Blocks.{block_phis}
 pub use Rattle.program.specs.Cells.{parameter_cells, alloca_cells, global_cells}
 use Rattle.program.specs.declared.function.Block.{Block}
 use Rattle.program.specs.declared.function.Function.{Function}
@@ -82,10 +83,6 @@ block_at prog function block = and_then (slice_get prog.functions function) (λ 
 
 abbrev pub item_at : Program → ℕ → ℕ → ℕ → Option Item
 item_at prog function block index = and_then (block_at prog function block) (λ (b : Block). item_of b.steps b.ending index)
-
-abbrev pub block_phis : Option Block → List Phi
-block_phis None = []
-block_phis (Some b) = b.phis
 
 abbrev pub phis_at : Program → ℕ → ℕ → List Phi
 phis_at prog function block = block_phis (block_at prog function block)

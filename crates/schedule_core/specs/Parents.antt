@@ -43,4 +43,5 @@ pub record IsReadyParent (run : Run) (worker slot generation : ℕ) : Type 0 whe
 abbrev pub HasNoReadyParent : Run → ℕ → Type 0
 HasNoReadyParent run worker =
     (number : ℕ) (above : RunningPath) (child : defined.Frame) → (seen run).hands worker ≡ Some (number ∷ above) →
-    (seen run).core.frames (number ∷ above) ≡ Some child → running.is_child child.role ≡ true → ¬ (running.top_status (length run.hands.items) (seen run) above ≡ Some running.Ready)
+    (seen run).core.frames (number ∷ above) ≡ Some child → running.is_child child.role ≡ true →
+    ¬ (running.top_status (length run.hands.items) (seen run) above ≡ Some running.Ready)

@@ -6,7 +6,8 @@ ghost use Rattle.worker_steps.specs.Running.{IsTrapped};
 ghost use Rattle.worker_steps.specs.Scheduling.{IsReady};
 ghost use Rattle.worker_steps.specs.Seen.{seen};
 ghost use Rattle.schedule_core.specs.Replaying.{HasLine};
-ghost use Rattle.schedule_core.specs.Viewed.{Advances, HoldsNothing, IsFirstReady, IsLesser, IsNamedBelow, IsNoneReady, IsReadyAt, IsRunBy, IsTask, Shows, held_at, place_in, status_in};
+ghost use Rattle.schedule_core.specs.Viewed.{Advances, HoldsNothing, IsFirstReady, IsLesser, IsNamedBelow, IsNoneReady, IsReadyAt, IsRunBy, IsTask};
+ghost use Rattle.schedule_core.specs.Viewed.{Shows, held_at, place_in, status_in};
 
 use crate::machine::Machine;
 use crate::task::{TaskView, line, standing};

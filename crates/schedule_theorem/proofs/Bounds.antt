@@ -6,16 +6,12 @@ use Rattle.program.specs.declared.function.Function.{Function}
 use Rattle.program.specs.declared.function.Program.{Program}
 use Rattle.refusal.specs.declared.broken.Broken.{Broken}
 use Rattle.phase_laws.specs.region_match.declared.tables.Regions.{Regions}
-use Rattle.verifier.specs.Budgets.{budget_in, budget_of, depth_in, depth_of}
+use Rattle.verifier.specs.Budgets.{budget_of, depth_in, depth_of}
 use Rattle.conditions.specs.rules.Costs.{bound_in, bound_of}
 use Rattle.phase_laws.specs.cost_table.Cost.{whole_cost, whole_cost_of}
 use Rattle.phase_laws.specs.cost_table.Depth.{first_depths, tasks_of}
 use Rattle.phase_laws.specs.costs.Depths.{depth_in as depth_over, depth_of as depth_at}
 use Rattle.phase_laws.specs.cost_table.Rules.{AreCostsRight}
-
-pub budget_is : (o : Option Function) → whole_cost_of o ≡ budget_in o
-budget_is None = refl
-budget_is (Some main) = refl
 
 module _ (program : Program) (costs : AreCostsRight program) where
   -- no call costs more than a million million
@@ -32,7 +28,7 @@ module _ (program : Program) (costs : AreCostsRight program) where
   pub budget_bounded : budget_of program ≤ 1000000000000
   budget_bounded = from (slice_get program.functions program.main.0) refl
     where
-      from : (o : Option Function) → slice_get program.functions program.main.0 ≡ o → budget_in o ≤ 1000000000000
+      from : (o : Option Function) → slice_get program.functions program.main.0 ≡ o → whole_cost_of o ≤ 1000000000000
       from None at = omega arith
       from (Some main) at = cost_bounded program.main.0 main at
 
@@ -46,6 +42,6 @@ module _ (program : Program) (costs : AreCostsRight program) where
     where
       from : (o : Option Function) → slice_get program.functions program.main.0 ≡ o →
           d ≤ depth_over (first_depths program regions program.main.0) program.main.0 (tasks_of regions program.main.0) o
-          (bound_in o) → d ≤ c → c ≤ budget_in o → d ≤ depth_in program regions o
+          (bound_in o) → d ≤ c → c ≤ whole_cost_of o → d ≤ depth_in program regions o
       from None at low less within = low
       from (Some main) at low less within = capped d _ c low less (le_trans within (cost_bounded program.main.0 main at))

@@ -1,6 +1,5 @@
 -- The serial run of a program that the verifier takes.
-use Rattle.std.proofs.Common.{◌≡◌, ◌∙◌, ◌≤◌, List, [], Option, Some, None, ℤ, true, is_some, refl, ap, subst}
-use Rattle.std.specs.Prelude.{slice_get}
+use Rattle.std.proofs.Common.{◌≡◌, ◌∙◌, ◌≤◌, List, [], Option, Some, None, ℤ, true, is_some, refl, ap}
 use Rattle.running.specs.Paths.{Path}
 use Rattle.running.specs.Cells.{Memory, globals_of}
 use Rattle.running.specs.Frames.{Frame}
@@ -27,7 +26,7 @@ use Rattle.phase_laws.proofs.costs.Ends.{whole_run}
 use Rattle.schedule_theorem.specs.zones.ByPhases.{IsKeptBySteps}
 use Rattle.schedule_theorem.specs.Promise.{AreTaken, HasGlobals}
 use Rattle.schedule_theorem.proofs.Accepted.{IsTaken, rules_right}
-use Rattle.schedule_theorem.proofs.Bounds.{budget_is, depth_within}
+use Rattle.schedule_theorem.proofs.Bounds.{depth_within}
 use Rattle.schedule_theorem.proofs.Findings.{found, no_deeper, gives_result}
 use Rattle.schedule_theorem.proofs.Serially.{free_goes, Runs, Found, runs_kept}
 use Rattle.schedule_theorem.proofs.Starting.{met_at_root, as_many}
@@ -84,9 +83,7 @@ module _ (program : Program) (t : IsTaken program) (kinded : Path → Frame → 
 
         pub within_budget : (regions : Regions) (table : AreTasksOf program regions) →
             (ends regions table).outcome.count ≤ budget_of program
-        within_budget regions table =
-            subst (λ n. (ends regions table).outcome.count ≤ n) (budget_is (slice_get program.functions program.main.0))
-            (ends regions table).count
+        within_budget regions table = (ends regions table).count
 
         pub within_depth : (regions : Regions) (table : AreTasksOf program regions) →
             (ends regions table).outcome.depth ≤ depth_of program regions

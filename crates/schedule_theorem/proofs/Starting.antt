@@ -6,7 +6,9 @@ use Rattle.running.specs.Frames.{Word, word_of}
 use Rattle.running.specs.State.{root_frame}
 use Rattle.program.specs.declared.function.Function.{Function}
 use Rattle.program.specs.declared.function.Program.{Program}
-use Rattle.conditions.specs.rules.Costs.{or_zero, numbers, parameters_in, parameters_of}
+use Rattle.conditions.specs.rules.Costs.{numbers, parameters_of}
+use Rattle.running.specs.Cells.{or_zero}
+use Rattle.program.specs.Calls.{parameters_in}
 use Rattle.phase_laws.specs.facts.Known.{IsMet}
 use Rattle.schedule_theorem.specs.Promise.{argument_at, AreTaken}
 

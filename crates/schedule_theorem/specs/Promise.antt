@@ -1,6 +1,6 @@
 -- The schedule theorem of one program: what is asked of its arguments and its memory, and what every schedule keeps.
 use Rattle.std.specs.Prelude.{◌≡◌, ℕ, ◌≤◌, List, length, Some, All, slice_get, ℤ}
-use Rattle.running.specs.Cells.{Shared, Memory}
+use Rattle.running.specs.Cells.{Shared, Memory, or_zero}
 use Rattle.running.specs.Frames.{global_cells}
 use Rattle.running.specs.SerialMeaning.{Gave, Outcome, IsSerialMeaning}
 use Rattle.running.specs.Events.{Event, start}
@@ -10,7 +10,6 @@ use Rattle.program.specs.declared.function.Function.{Function}
 use Rattle.program.specs.declared.function.Program.{Program}
 use Rattle.verifier.specs.Accepted.{IsProgramOf}
 use Rattle.verifier.specs.Budgets.{budget_of, IsDepthOf}
-use Rattle.conditions.specs.rules.Costs.{or_zero}
 use Rattle.phase_laws.specs.facts.Known.{IsMet}
 use Rattle.phase_laws.specs.defined.Values.{Full}
 

@@ -1,5 +1,6 @@
 -- Forms of annotations, and what they may name.
-use Rattle.std.specs.Prelude.{ℕ, ◌+◌, ℤ, pos, negsuc, ◌-ℤ◌, int_le, int_lt, nat_eq, nat_le, Bool, ◌&&◌, ◌||◌, not, codes, List, [], ◌∷◌, length, count_by, Option, Some, None, if◌then◌else◌, Result, Ok, Err}
+use Rattle.std.specs.Prelude.{ℕ, ◌+◌, ℤ, pos, negsuc, ◌-ℤ◌, int_le, int_lt, nat_eq, nat_le, Bool, ◌&&◌, ◌||◌, not, codes, List, [], ◌∷◌, length}
+use Rattle.std.specs.Prelude.{count_by, Option, Some, None, if◌then◌else◌, Result, Ok, Err}
 use Rattle.std.specs.List.{list_all}
 use Rattle.std.specs.Str.{bytes_eq}
 use Rattle.linear.specs.declared.form.Form.{Form}
@@ -97,8 +98,8 @@ abbrev pub ordered_form : ℕ → List Term → ℤ → Result Form TypeFault
 ordered_form line terms constant = with_all line (constant_form constant) terms
 
 -- `F`
-abbrev pub form_of : Scope → Place → ℕ → FormText → Result Form TypeFault
-form_of scope place line form =
+abbrev pub form_in_scope : Scope → Place → ℕ → FormText → Result Form TypeFault
+form_in_scope scope place line form =
     and_then (both_of (all_of (λ _. term_of scope place line) form.terms) (unless_of (keeps_limits form) (Fault 206 line)))
     (λ p. ordered_form line p.0 form.constant)
 
@@ -147,7 +148,7 @@ limited_inequality text left right =
 -- `F R F`
 abbrev pub inequality_of : Scope → Place → InequalityText → Result Inequality TypeFault
 inequality_of scope place text =
-    and_then (both_of (form_of scope place text.line text.left) (form_of scope place text.line text.right)) (λ p. limited_inequality text p.0 p.1)
+    and_then (both_of (form_in_scope scope place text.line text.left) (form_in_scope scope place text.line text.right)) (λ p. limited_inequality text p.0 p.1)
 
 abbrev pub inequalities_of : Scope → Place → List InequalityText → Result (List Inequality) TypeFault
 inequalities_of scope place texts = all_of (λ _. inequality_of scope place) texts

@@ -22,7 +22,7 @@ use Rattle.scopes.specs.declared.item.Item.TheVariants as item
 use Rattle.scopes.specs.declared.scope.Register.{Register}
 use Rattle.scopes.specs.Address.{Items, as_object}
 use Rattle.scopes.specs.Fault.{all_from, all_of, and_then, both_of, made_of}
-use Rattle.scopes.specs.Form.{form_of, made_before, parameter_of}
+use Rattle.scopes.specs.Form.{form_in_scope, made_before, parameter_of}
 use Rattle.scopes.specs.Operand.{region_of, register_of}
 use Rattle.scopes.specs.Scope.{Scope}
 use Rattle.scopes.specs.Table.{look_up}
@@ -62,7 +62,7 @@ abbrev pub zone_of : Items → Scope → Place → ZoneText → Result Zone Type
 zone_of items scope place zone =
     made_of (λ p. record { line = zone.line; mode = zone.mode; object = p.0; low = p.1.0; high = p.1.1 })
     (both_of (noted_object items scope place zone.line zone.object)
-    (both_of (form_of scope place zone.line zone.low) (form_of scope place zone.line zone.high)))
+    (both_of (form_in_scope scope place zone.line zone.low) (form_in_scope scope place zone.line zone.high)))
 
 -- the zones of one kind behind those before
 abbrev pub more_zones : Items → Scope → Place → Result (List Zone) TypeFault → List ZoneText → Result (List Zone) TypeFault
@@ -90,9 +90,9 @@ all_pending_of items scope block lines = all_of (λ _. pending_of items scope bl
 abbrev pub left_of : Scope → ℕ → LeftText → Result Left TypeFault
 left_of scope block left =
     made_of (λ p. record { line = left.line; self_calls = p.0; instructions = p.1 })
-    (both_of (form_of scope (place.Start block) left.line left.self_calls) (form_of scope (place.Start block) left.line left.instructions))
+    (both_of (form_in_scope scope (place.Start block) left.line left.self_calls) (form_in_scope scope (place.Start block) left.line left.instructions))
 
 -- `measure F max N`
 abbrev pub measure_of : Scope → MeasureText → Result Measure TypeFault
 measure_of scope measure =
-    made_of (λ form. record { line = measure.line; form = form; bound = measure.bound }) (form_of scope place.Head measure.line measure.form)
+    made_of (λ form. record { line = measure.line; form = form; bound = measure.bound }) (form_in_scope scope place.Head measure.line measure.form)

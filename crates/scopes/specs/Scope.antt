@@ -1,7 +1,7 @@
 -- What a name of a function stands for, and what a register holds.
 use Rattle.std.specs.Prelude.{ℕ, nat_eq, Bool, true, false, List}
 use Rattle.syntax.specs.declared.operator.Width.{Width}
-use Rattle.syntax.specs.declared.operator.Width.TheVariants.{Bits64, Bits32}
+use Rattle.syntax.specs.Widths.{is_same_width}
 use Rattle.scopes.specs.declared.scope.Holding.{Holding}
 use Rattle.scopes.specs.declared.scope.Holding.TheVariants as holding
 use Rattle.scopes.specs.declared.scope.Named.{Named}
@@ -11,12 +11,6 @@ use Rattle.scopes.specs.declared.scope.Origin.TheVariants as origin
 -- the names of a function with what they stand for, in the order of their definitions
 abbrev pub Scope : Type 0
 Scope = List (List ℕ × Named)
-
-abbrev pub is_same_width : Width → Width → Bool
-is_same_width Bits64 Bits64 = true
-is_same_width Bits64 Bits32 = false
-is_same_width Bits32 Bits64 = false
-is_same_width Bits32 Bits32 = true
 
 -- it is a number of this width
 abbrev pub is_number_of : Width → Holding → Bool

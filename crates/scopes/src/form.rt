@@ -185,7 +185,7 @@ pub fn resolve_form(
     line: u32,
     form: &syntax::Form,
 ) -> Result<Form, TypeFault>
-    ensures { Gives result (spec.form_of scope.now place line form.now) }
+    ensures { Gives result (spec.form_in_scope scope.now place line form.now) }
 {
     let within = keeps_limits(form);
     let terms = terms(alloc, scope, place, line, form.terms.as_slice());

@@ -7,7 +7,7 @@ use Rattle.std.proofs.lemmas.Bool.Decides.{eqb_tells, nat_tests}
 use Rattle.std.proofs.lemmas.Option.{slice_get_past}
 use Rattle.std.proofs.lemmas.List.{length-reverse}
 use Rattle.running.specs.Cells as cells
-use Rattle.running.specs.Cells.{Shared, Local, same_object, same_cell}
+use Rattle.running.specs.Cells.{Shared, Local, same_object, same_cell, one_cell, zeros_below}
 use Rattle.running.specs.Arithmetic.{cell_sum}
 use Rattle.running.specs.Effect as effects
 use Rattle.running.specs.Frames as frames
@@ -25,7 +25,7 @@ use Rattle.frame.specs.declared.frame.Frame.{Frame}
 use Rattle.frame.specs.Reading.{above, object_of}
 use Rattle.frame.specs.Room.{HasCell, IsCellIn, ObjectWithin, SetsAlloca, cells_in}
 use Rattle.serial_machine.specs.Running.{path_on, seen, object_cell, memory_of, frame_at, held_at, AreSound}
-use Rattle.serial_machine.specs.Stepping.{below_of, frames_in, path_in, memory_in, one_cell, zeros_below, HasCellIn, HasCellOf, ArePlaced, Wrote, Loads, Stores}
+use Rattle.serial_machine.specs.Stepping.{below_of, frames_in, path_in, memory_in, HasCellIn, HasCellOf, ArePlaced, Wrote, Loads, Stores}
 use Rattle.serial_machine.specs.declared.stack.Stack.{Stack}
 use Rattle.serial_machine.proofs.Depths.{Changed, replaced, replaced_item, replaced_path, replaced_seen, replaced_long, replaced_sound, replaced_there, memory_replaced, memory_shared, stands_changed, frame_at_item}
 use Rattle.serial_machine.proofs.Places.{changed_placed, replaced_placed}

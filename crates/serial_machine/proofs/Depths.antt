@@ -5,7 +5,7 @@ use Rattle.std.proofs.lemmas.Bool.Decides.{eqb_tells}
 use Rattle.std.proofs.lemmas.List.{reverse-append, reverse-reverse, length-reverse}
 use Rattle.running.specs.Paths.{Path, same_path}
 use Rattle.running.specs.Cells as cells
-use Rattle.running.specs.Cells.{Shared, Local}
+use Rattle.running.specs.Cells.{Shared, Local, one_cell}
 use Rattle.running.specs.State.{override}
 use Rattle.running.proofs.Places.{same_path_apart, same_path_tells}
 use Rattle.linear.specs.declared.form.RegisterId.{RegisterId}
@@ -17,7 +17,7 @@ use Rattle.frame.specs.Reading.{above, frame_of}
 use Rattle.frame.specs.Room.{HasCell, HasResult, IsSound, SetsAlloca, alloca_in}
 use Rattle.frame.proofs.Makers.{above_child, above_self}
 use Rattle.serial_machine.specs.Running.{path_on, seen, local_in, object_cell, memory_of, frame_at, AwaitsResult, StandsOn, AreSound}
-use Rattle.serial_machine.specs.Stepping.{HasCellIn, one_cell}
+use Rattle.serial_machine.specs.Stepping.{HasCellIn}
 use Rattle.serial_machine.proofs.Running.{path_long, above_long}
 
 -- ---- lists from their end

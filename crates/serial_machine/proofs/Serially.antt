@@ -16,7 +16,7 @@ use Rattle.running.specs.Effect.{action_of}
 use Rattle.serial_machine.specs.Running.{seen, object_cell, memory_of, run_of, AreSound}
 use Rattle.serial_machine.specs.Stack.{Run, Walk, begins, goes_on, starting, Goes}
 use Rattle.serial_machine.specs.Stepping.{below_of, frames_in, path_in, frame_in, memory_in, run_in, names_of, ArePlaced, HasRoomAt, HasSpace, ComesTo, Performs, HasEnded}
-use Rattle.serial_machine.specs.Serially.{cells_of, IsMeant, Stops, RunsTo}
+use Rattle.serial_machine.specs.Serially.{memory_of_globals, IsMeant, Stops, RunsTo}
 use Rattle.serial_machine.specs.declared.outcome.Finished.{Finished}
 use Rattle.serial_machine.specs.declared.outcome.Halt.{Halt}
 use Rattle.serial_machine.specs.declared.outcome.Halt.TheVariants.{OutOfMemory, Trapped}
@@ -49,11 +49,11 @@ shared_alone globals (Local owner n) i = refl
 
 module _ (prog : Program) (arguments : List ℤ) (memory : List NamedCells) where
   abbrev start : Run
-  start = starting prog arguments (cells_of memory)
+  start = starting prog arguments (memory_of_globals memory)
 
   pub started : (f : Frame) (below : List Frame) → below ≡ [] → frame_of [] f ≡ root_frame prog arguments → IsUndefined f → Walk prog start 0 1 (run_of f (reverse below) memory)
   started f below none root undefined =
-      let held : memory_of (f ∷ []) memory ≡ globals_of (cells_of memory) = memory_pushed f [] memory undefined ∙ (λ i c. shared_alone memory c.object c.index i) in
+      let held : memory_of (f ∷ []) memory ≡ globals_of (memory_of_globals memory) = memory_pushed f [] memory undefined ∙ (λ i c. shared_alone memory c.object c.index i) in
       let whole : run_of f [] memory ≡ start = λ i. record { path = []; frame = root i; below = []; memory = held i } in
       subst (λ b. Walk prog start 0 1 (run_of f (reverse b) memory)) (sym none) (subst (Walk prog start 0 1) (sym whole) begins)
 
@@ -78,14 +78,14 @@ module _ (prog : Program) (arguments : List ℤ) (memory : List NamedCells) wher
   pub meant : (s t : Stack) (z : ℤ) (n peak : ℕ) (done : Finished) → Walk prog start n peak (run_in s) → names_of s.memory ≡ names_of memory → HasEnded prog s t z →
       done.result ≡ z → done.memory ≡ t.memory → done.instructions ≡ n + 1 → done.peak ≡ peak → IsMeant prog arguments memory done
   meant s t z n peak done walk names ended result held count depth =
-      let mean = steps_mean prog arguments (cells_of memory) n peak (run_in s) (Some z) walk ended.ends.root ended.ends.returns in
+      let mean = steps_mean prog arguments (memory_of_globals memory) n peak (run_in s) (Some z) walk ended.ends.root ended.ends.returns in
       let alone : below_of s ≡ [] = nothing_below (below_of s) ended.ends.root in
-      let cleared_is : cleared (path_in s) (memory_in s) ≡ cells_of s.memory = memory_popped s.top (below_of s) s.memory ∙ ap (λ b. memory_of b s.memory) alone in
-      let memory_is : cleared (path_in s) (memory_in s) ≡ cells_of done.memory = cleared_is ∙ ap cells_of (sym (held ∙ ended.memory)) in
+      let cleared_is : cleared (path_in s) (memory_in s) ≡ memory_of_globals s.memory = memory_popped s.top (below_of s) s.memory ∙ ap (λ b. memory_of b s.memory) alone in
+      let memory_is : cleared (path_in s) (memory_in s) ≡ memory_of_globals done.memory = cleared_is ∙ ap memory_of_globals (sym (held ∙ ended.memory)) in
       let count_is : suc n ≡ done.instructions = omega (arith, count) in
-      let is : ◌≡◌ {A = Outcome} (record { ending = Gave (Some z); memory = cleared (path_in s) (memory_in s); count = suc n; depth = peak }) (record { ending = Gave (Some done.result); memory = cells_of done.memory; count = done.instructions; depth = done.peak }) =
+      let is : ◌≡◌ {A = Outcome} (record { ending = Gave (Some z); memory = cleared (path_in s) (memory_in s); count = suc n; depth = peak }) (record { ending = Gave (Some done.result); memory = memory_of_globals done.memory; count = done.instructions; depth = done.peak }) =
       λ i. record { ending = Gave (Some (sym result i)); memory = memory_is i; count = count_is i; depth = sym depth i } in
-      record { meant = subst (IsSerialMeaning prog arguments (cells_of memory)) is mean; names = ap names_of (held ∙ ended.memory) ∙ names }
+      record { meant = subst (IsSerialMeaning prog arguments (memory_of_globals memory)) is mean; names = ap names_of (held ∙ ended.memory) ∙ names }
 
   pub stopped : (s t : Stack) (budget n peak : ℕ) → Walk prog start n peak (run_in s) → AreSound (frames_in s) → ArePlaced prog (frames_in s) → (h : Halt) → ComesTo prog s t (HasRoomAt prog s.top (below_of s) s.memory) (Err h) → RunsTo prog arguments memory budget (Err h)
   stopped s t budget n peak walk sound placed OutOfMemory c = tt

@@ -1,5 +1,6 @@
 -- Whether arguments are those that a program takes.
-use Rattle.std.specs.Prelude.{ℕ, suc, ◌^◌, List, [], ◌∷◌, length, position, Option, Some, None, Bool, false, cond, not, eqb, nat_lt, ℤ, pos, negsuc, ◌+ℤ◌, ◌*ℤ◌, int_le, slice_get}
+use Rattle.std.specs.Prelude.{ℕ, suc, ◌^◌, List, [], ◌∷◌, length, position, Option, Some, None, Bool, false, cond, not, eqb, nat_lt, ℤ, pos, negsuc}
+use Rattle.std.specs.Prelude.{◌+ℤ◌, ◌*ℤ◌, int_le, slice_get}
 use Rattle.std.specs.Option.{option_map}
 use Rattle.running.specs.Frames.{and_then}
 use Rattle.linear.specs.Forms.{Combination}

@@ -15,14 +15,14 @@ use Rattle.serial_machine.specs.declared.outcome.RunFault.{RunFault}
 use Rattle.serial_machine.specs.declared.outcome.RunFault.TheVariants.{BadArguments, BadWorkers, OutOfMemory, Trapped}
 
 -- the cells of the globals alone
-abbrev pub cells_of : List NamedCells → Memory
-cells_of globals = memory_of [] globals
+abbrev pub memory_of_globals : List NamedCells → Memory
+memory_of_globals globals = memory_of [] globals
 
 -- the serial meaning, in full: its result, memory, count of instructions and depth
 pub record IsMeant (prog : Program) (arguments : List ℤ) (memory : List NamedCells) (done : Finished) : Type 0 where
-  pub meant : IsSerialMeaning prog arguments (cells_of memory) (record {
+  pub meant : IsSerialMeaning prog arguments (memory_of_globals memory) (record {
     ending = Gave (Some done.result);
-    memory = cells_of done.memory;
+    memory = memory_of_globals done.memory;
     count = done.instructions;
     depth = done.peak;
   })
@@ -32,7 +32,7 @@ pub record IsMeant (prog : Program) (arguments : List ℤ) (memory : List NamedC
 -- traps, where the machine has room for it.
 pub record StopsAt (prog : Program) (arguments : List ℤ) (memory : List NamedCells) (budget done peak : ℕ) (f : Frame) (below : List Frame)
     (globals : List NamedCells) : Type 0 where
-  pub reached : Walk prog (starting prog arguments (cells_of memory)) done peak (run_of f below globals)
+  pub reached : Walk prog (starting prog arguments (memory_of_globals memory)) done peak (run_of f below globals)
   pub sound : AreSound (f ∷ below)
   pub placed : ArePlaced prog (f ∷ below)
   pub stops : (done ≡ budget) ⊎ (HasRoomAt prog f below globals → IsStuck prog (run_of f below globals))

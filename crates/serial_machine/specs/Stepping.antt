@@ -1,8 +1,8 @@
 -- What a step of the machine comes to, as a step over a stack of frames.
-use Rattle.std.specs.Prelude.{◌≡◌, ⊤, ℕ, ◌<◌, ◌≤◌, List, [], ◌∷◌, length, map, reverse, cond, nat_lt, ◌&&◌, Option, Some, None, IsSome, Result, Ok, Err, ℤ, pos, slice_get}
+use Rattle.std.specs.Prelude.{◌≡◌, ⊤, ℕ, ◌<◌, ◌≤◌, List, [], ◌∷◌, length, map, reverse, Option, Some, None, IsSome, Result, Ok, Err, ℤ, slice_get}
 use Rattle.running.specs.Paths.{Path}
 use Rattle.running.specs.Cells as cells
-use Rattle.running.specs.Cells.{same_cell, same_object}
+use Rattle.running.specs.Cells.{one_cell, zeros_below}
 use Rattle.running.specs.State.{override}
 use Rattle.running.specs.Effect.{action_of}
 use Rattle.running.specs.Frames as frames
@@ -103,13 +103,6 @@ ArePlaced prog [] = ⊤
 ArePlaced prog (f ∷ below) = HasPlacesIn prog f (f ∷ below) × ArePlaced prog below
 
 -- ---- writes
-
-abbrev pub one_cell : cells.Cell → ℤ → cells.Cell → Option (Option ℤ)
-one_cell c z x = cond (same_cell c x) (Some (Some z)) None
-
--- the cells of the object below n become 0
-abbrev pub zeros_below : cells.Object → ℕ → cells.Cell → Option (Option ℤ)
-zeros_below o n x = cond (same_object o x.object && nat_lt x.index n) (Some (Some (pos 0))) None
 
 -- cells are written, and nothing else is seen to change
 pub record Wrote (old new : Stack) (writes : cells.Cell → Option (Option ℤ)) : Type 0 where

@@ -16,7 +16,7 @@ use Rattle.program.specs.declared.annotation.Inequality.{Inequality}
 use Rattle.program.specs.declared.function.Function.{Function}
 use Rattle.program.specs.declared.function.Program.{Program}
 use Rattle.serial_machine.specs.Requirements.{size, wide, with_term, with_terms, value_at, at_most, is_met, unmet_of, unmet_in}
-use Rattle.conditions.specs.rules.Costs.{or_zero}
+use Rattle.running.specs.Cells.{or_zero}
 use Rattle.phase_laws.specs.facts.Known.{IsMet}
 use Rattle.schedule_theorem.specs.Promise.{argument_at, AreTaken}
 

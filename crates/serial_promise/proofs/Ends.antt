@@ -9,7 +9,7 @@ use Rattle.store.specs.Made.{HasGlobalCells}
 use Rattle.schedule_theorem.specs.Promise.{KeepsItsPromise}
 use Rattle.schedule_theorem.proofs.Promise.{accepted_programs_keep_their_promise}
 use Rattle.serial_machine.specs.Requirements.{unmet_in}
-use Rattle.serial_machine.specs.Serially.{cells_of, IsMeant}
+use Rattle.serial_machine.specs.Serially.{memory_of_globals, IsMeant}
 use Rattle.serial_machine.specs.declared.outcome.Finished.{Finished}
 use Rattle.serial_promise.specs.Promise.{EndsWithinBudget}
 use Rattle.serial_promise.proofs.Globals.{globals_given}
@@ -18,12 +18,12 @@ use Rattle.serial_promise.proofs.Arguments.{are_taken}
 module _ (text : List ℕ) (program : Program) (accepted : IsProgramOf text program) (arguments : List ℤ) (memory : List NamedCells)
     (none : unmet_in program arguments ≡ None) (globals : HasGlobalCells program memory)
   where
-    promise : KeepsItsPromise program arguments (cells_of memory)
-    promise = accepted_programs_keep_their_promise text program accepted arguments (cells_of memory) (are_taken program arguments none) (globals_given program memory globals)
+    promise : KeepsItsPromise program arguments (memory_of_globals memory)
+    promise = accepted_programs_keep_their_promise text program accepted arguments (memory_of_globals memory) (are_taken program arguments none) (globals_given program memory globals)
 
     pub within_budget : (done : Finished) → IsMeant program arguments memory done → EndsWithinBudget program arguments memory done
     within_budget done m =
-        let o : Outcome = record { ending = Gave (Some done.result); memory = cells_of done.memory; count = done.instructions; depth = done.peak } in
+        let o : Outcome = record { ending = Gave (Some done.result); memory = memory_of_globals done.memory; count = done.instructions; depth = done.peak } in
         let same : promise.serial ≡ o = sym (promise.only_one o m.meant) in
         record {
           meant = m;

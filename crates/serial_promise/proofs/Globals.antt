@@ -7,7 +7,7 @@ use Rattle.program.specs.declared.function.Program.{Program}
 use Rattle.store.specs.Cells.{NamedCells, cell_at}
 use Rattle.store.specs.Made.{HasGlobalCells}
 use Rattle.schedule_theorem.specs.Promise.{HasGlobals}
-use Rattle.serial_machine.specs.Serially.{cells_of}
+use Rattle.serial_machine.specs.Serially.{memory_of_globals}
 
 pub globals_there : (program : Program) (memory : List NamedCells) → HasGlobalCells program memory → (g i : ℕ) → i < global_cells (slice_get program.globals g) → IsSome (cell_at memory g i)
 globals_there program memory has g i = by (slice_get program.globals g) refl
@@ -16,5 +16,5 @@ globals_there program memory has g i = by (slice_get program.globals g) refl
     by None is low = absurd (omega (arith, low))
     by (Some global) is low = has g i global is low
 
-pub globals_given : (program : Program) (memory : List NamedCells) → HasGlobalCells program memory → HasGlobals program (cells_of memory)
+pub globals_given : (program : Program) (memory : List NamedCells) → HasGlobalCells program memory → HasGlobals program (memory_of_globals memory)
 globals_given program memory has g i low = globals_there program memory has g i low

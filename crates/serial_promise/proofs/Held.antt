@@ -13,7 +13,7 @@ use Rattle.store.specs.Cells.{NamedCells, cell_at}
 use Rattle.store.specs.Made.{HasGlobalCells}
 use Rattle.store.specs.Rows.{refilled, row_of, sizes_of}
 use Rattle.serial_machine.specs.Running.{object_cell}
-use Rattle.serial_machine.specs.Serially.{cells_of}
+use Rattle.serial_machine.specs.Serially.{memory_of_globals}
 use Rattle.serial_machine.specs.Stepping.{names_of}
 use Rattle.serial_steps.specs.Layouts.{size_in, start_in}
 use Rattle.serial_steps.specs.Starts.{StandsInRow}
@@ -66,7 +66,7 @@ held_in (x ∷ m) row (suc g) i =
     held_in m (drop n row) g i
     ∙ ap (λ (o : Option ℤ). cond (nat_lt i (size_in (sizes_of m) g)) o None) (get_drop n row (s + i) ∙ ap (λ (k : ℕ). slice_get row k) place)
 
-pub refilled_is : (m : List NamedCells) (row : List ℤ) → cells_of (refilled m row) ≡ row_memory (sizes_of m) row
+pub refilled_is : (m : List NamedCells) (row : List ℤ) → memory_of_globals (refilled m row) ≡ row_memory (sizes_of m) row
 refilled_is m row = λ i c. by c.object c.index i
   where
     by : (o : Object) (k : ℕ) → object_cell [] (refilled m row) o k ≡ in_row (sizes_of m) row o k
@@ -81,8 +81,8 @@ own_row (g ∷ m) =
     let first : record g { cells = take (length g.cells) (g.cells ++ row_of m) } ≡ g = ap (λ (xs : List ℤ). record g { cells = xs }) front in
     (λ i. first i ∷ refilled m (back i)) ∙ ap (λ (more : List NamedCells). g ∷ more) (own_row m)
 
-pub row_is : (m : List NamedCells) → row_memory (sizes_of m) (row_of m) ≡ cells_of m
-row_is m = sym (refilled_is m (row_of m)) ∙ ap cells_of (own_row m)
+pub row_is : (m : List NamedCells) → row_memory (sizes_of m) (row_of m) ≡ memory_of_globals m
+row_is m = sym (refilled_is m (row_of m)) ∙ ap memory_of_globals (own_row m)
 
 pub names_kept : (m : List NamedCells) (row : List ℤ) → names_of (refilled m row) ≡ names_of m
 names_kept [] row = refl

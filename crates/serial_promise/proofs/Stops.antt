@@ -35,7 +35,7 @@ use Rattle.schedule_theorem.proofs.Promise.{accepted_programs_keep_their_promise
 use Rattle.schedule_theorem.proofs.Serially.{Found}
 use Rattle.serial_machine.specs.Requirements.{unmet_in}
 use Rattle.serial_machine.specs.Running.{path_on, seen, memory_of, run_of}
-use Rattle.serial_machine.specs.Serially.{cells_of, StopsAt}
+use Rattle.serial_machine.specs.Serially.{memory_of_globals, StopsAt}
 use Rattle.serial_machine.specs.Stack.{Placed, HasNoStep}
 use Rattle.serial_machine.specs.Stepping.{HasPlacesIn, HasRoomAt, declared_in}
 use Rattle.serial_machine.proofs.Running.{seen_long}
@@ -70,11 +70,11 @@ module _ (text : List ℕ) (program : Program) (accepted : IsProgramOf text prog
     taken : IsTaken program
     taken = is_taken text program accepted
 
-    valued : HasGlobals program (cells_of memory)
+    valued : HasGlobals program (memory_of_globals memory)
     valued = globals_given program memory globals
 
-    promise : KeepsItsPromise program arguments (cells_of memory)
-    promise = accepted_programs_keep_their_promise text program accepted arguments (cells_of memory) given valued
+    promise : KeepsItsPromise program arguments (memory_of_globals memory)
+    promise = accepted_programs_keep_their_promise text program accepted arguments (memory_of_globals memory) given valued
 
     module _ (done peak : ℕ) (f : Frame) (below : List Frame) (cells : List NamedCells)
         (s : StopsAt program arguments memory (budget_of program) done peak f below cells)
@@ -89,15 +89,15 @@ module _ (text : List ℕ) (program : Program) (accepted : IsProgramOf text prog
         held = memory_of (f ∷ below) cells
 
         goes_on : GoesOnTo program promise.serial done (run_of f below cells)
-        goes_on = walks_go_on program arguments (cells_of memory) promise.serial promise.gives.0 promise.is_serial promise.gives.1 done peak (run_of f below cells) s.reached
+        goes_on = walks_go_on program arguments (memory_of_globals memory) promise.serial promise.gives.0 promise.is_serial promise.gives.1 done peak (run_of f below cells) s.reached
 
         good : Along program path place held
         good =
-            walks_keep program (Along program) (Found program) (kept_along text program accepted) arguments (cells_of memory)
-            (kept_at_root text program accepted arguments (cells_of memory) given valued) done peak (run_of f below cells) s.reached
+            walks_keep program (Along program) (Found program) (kept_along text program accepted) arguments (memory_of_globals memory)
+            (kept_at_root text program accepted arguments (memory_of_globals memory) given valued) done peak (run_of f below cells) s.reached
 
         counted : IsCounted done (run_of f below cells)
-        counted = walks_count program arguments (cells_of memory) done peak (run_of f below cells) s.reached
+        counted = walks_count program arguments (memory_of_globals memory) done peak (run_of f below cells) s.reached
 
         small : done + 2 < 2 ^ 64
         small = let b = budget_bounded program taken.right.costs in let w = promise.within_budget in let c = goes_on.counted in omega (arith, b, w, c)

@@ -1,7 +1,7 @@
 -- How many events a legal history has: each steal makes an idle worker busy, and each step makes at most one idle.
 use Rattle.std.proofs.Common.{◌≡◌, ℕ, zero, suc, ◌+◌, ◌*◌, ◌<◌, ◌≤◌, ◌^◌, List, [], ◌∷◌, length, map, Option, Some, None, Bool, true, false, cond, ◌&&◌, eqb, inl, inr, refl, ap, ◌∙◌, subst, arith}
 use Rattle.std.specs.Prelude.{IsSome, ltb, is_none}
-use Rattle.std.proofs.lemmas.Bool.{ltb-true}
+use Rattle.std.proofs.lemmas.Bool.{ltb-true, and_parts}
 use Rattle.std.proofs.lemmas.Bool.Decides.{eqb_tells}
 use Rattle.std.proofs.lemmas.List.{length-map}
 use Rattle.running.specs.Paths.{Path}
@@ -12,7 +12,6 @@ use Rattle.running.specs.Effect.{action_of}
 use Rattle.running.specs.Events as running
 use Rattle.running.specs.Events.{Machine, Step, Steal, Status, Running, Ready, Stalled, event, sound_event, unless_trapped, by_hand, by_frame, by_change, if_ready, stolen, status_of, with_hand, start}
 use Rattle.running.specs.Replay.{or_unchanged, replay}
-use Rattle.running.proofs.Actions.{both_true}
 use Rattle.running.proofs.Machines.{is_none_true}
 use Rattle.program.specs.declared.function.Program.{Program}
 use Rattle.verifier.specs.Accepted.{IsAccepted}
@@ -127,7 +126,7 @@ module _ (prog : Program) (workers : ℕ) where
   by_the_test : (m next : Machine) (w : ℕ) (t : Path) (b : Bool) → (ltb w workers && is_none (m.hands w)) ≡ b → cond b (if_ready (stolen m w t) (status_of workers m t)) None ≡ Some next → Counts m next
   by_the_test m next w t false test e = absurd (cc)
   by_the_test m next w t true test e =
-      let both = both_true (ltb w workers) (is_none (m.hands w)) test in
+      let both = and_parts (ltb w workers) (is_none (m.hands w)) test in
       by_the_status m next w t (status_of workers m t) (ltb-true w workers both.0) (is_none_true (m.hands w) both.1) e
 
   event_counts : (e : running.Event) (m next : Machine) → event prog workers e m ≡ Some next → Counts m next

@@ -2,12 +2,11 @@
 use Rattle.std.proofs.Common.{◌≡◌, ◌↔◌, ℕ, ℤ, suc, ◌+◌, ◌<◌, List, [], ◌∷◌, length, Option, Some, None, Bool, true, false, cond, not, inl, inr, refl, sym, ap, ◌∙◌, subst, arith}
 use Rattle.std.specs.Prelude.{IsSome, IsTrue, IfSome, IfNone, IsSomeAnd, is_none, is_some}
 use Rattle.std.specs.Option.{option_map}
-use Rattle.std.proofs.lemmas.Bool.{lt-ltb}
+use Rattle.std.proofs.lemmas.Bool.{lt-ltb, and_parts}
 use Rattle.running.specs.Paths.{Path as RunningPath}
 use Rattle.running.specs.Frames.{Frame}
 use Rattle.running.specs.Events as running
 use Rattle.running.specs.Events.{Machine, event, status_of, stolen, if_ready}
-use Rattle.running.proofs.Actions.{both_true}
 use Rattle.running.proofs.Machines.{is_none_true}
 use Rattle.running.proofs.Workers.{Manned}
 use Rattle.program.specs.declared.function.Program.{Program}
@@ -32,6 +31,7 @@ use Rattle.shared_run.specs.declared.answers.Claimed.TheVariants as claimed
 use Rattle.shared_run.specs.Calls.{Appends, CanTake, Claims, ClaimsFirst, IsDetach, IsOneBelow, IsParents, Steps, Takes, Tries, depth_in}
 use Rattle.shared_run.specs.Story.{IsLegal, Origin, Place, Story, named_by, story}
 use Rattle.shared_run.proofs.Begun.{IsStepOf, step_of, begins_or_none, parent_ready}
+use Rattle.running.proofs.Steps.{some_same}
 
 -- the use of a slot that has the path names it
 named : (run : Run) (ticket : Ticket) (path : Path) → HasPath run.cactus ticket.slot ticket.generation path → named_by run ticket ≡ Some path
@@ -116,7 +116,7 @@ pub could_take : (prog : Program) (workers : ℕ) (m : Machine) (w : ℕ) (t : R
 could_take prog workers m w t next sound is =
     let e : running.sound_event prog workers (running.Steal w t) m ≡ Some next = sym (ap (λ o. running.unless_trapped o (running.sound_event prog workers (running.Steal w t) m)) sound) ∙ is in
     let (test, then) = test_is _ _ next e in
-    let (lt, idle) = both_true _ _ test in
+    let (lt, idle) = and_parts _ _ test in
     (is_none_true _ idle, status_is (stolen m w t) next (status_of workers m t) then)
 
 -- a steal of a ready task by an idle worker is enabled
@@ -127,9 +127,6 @@ would_take prog workers m w t sound lt is (idle, ready) =
     cc
 
 -- ---- the answers, from what was appended
-
-some_same : {A : Type 0} (a b : A) → Some a ≡ Some b → a ≡ b
-some_same a b e = cc
 
 -- a story with the same parts
 pub same_story : (o : Origin) (es fs : List Event) (m n : Run) → fs ≡ es → n ≡ m → story o fs n ≡ story o es m

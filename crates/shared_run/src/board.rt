@@ -1,4 +1,5 @@
-ghost use Rattle.std.specs.Prelude.{◌≡◌, ◌≢◌, ◌⊎◌, ℕ, ◌+◌, ◌*◌, ◌<◌, ◌≤◌, None, Some, Err, is_some, length, vec_len, sum_by, IfOk, IfErr, IfNone, IfSome, OnErr, OnOk};
+ghost use Rattle.std.specs.Prelude.{◌≡◌, ◌≢◌, ◌⊎◌, ℕ, ◌+◌, ◌*◌, ◌<◌, ◌≤◌, None, Some, Err, is_some, length, vec_len, sum_by, IfOk, IfErr, IfNone};
+ghost use Rattle.std.specs.Prelude.{IfSome, OnErr, OnOk};
 ghost use Rattle.serial_machine.specs.Requirements.{unmet_in};
 ghost use Rattle.store.specs.Made.{HasGlobalCells};
 ghost use Rattle.store.specs.declared.memory.Memory.{Memory};
@@ -45,7 +46,8 @@ impl<'a, L: Bench> Model for Board<'a, L> {
 
     ghost view = { λ b. record { start = b.start; events = b.history.events; run = b.machine.run } };
 
-    ghost invariant = { λ b. IsLegal b.start b.history.events b.machine.run × (b.book.total ≡ length b.history.events) × (b.start.program ≡ L.code) × (b.start.workers ≡ L.crew) };
+    ghost invariant = { λ b. IsLegal b.start b.history.events b.machine.run × (b.book.total ≡ length b.history.events) × (b.start.program ≡ L.code) ×
+        (b.start.workers ≡ L.crew) };
 }
 
 impl<'a, L: Bench> Board<'a, L> {
@@ -76,7 +78,8 @@ impl<'a, L: Bench> Board<'a, L> {
         ensures met { OnOk result (unmet_in verified.now arguments.now ≡ None) }
         ensures bad_workers { (m : Memory) → result ≡ Err (RunFault.BadWorkers m) → (m ≡ memory) × ¬ IsNumberOfWorkers workers }
         ensures bad_arguments { (requirement : ℕ) (m : Memory) → result ≡ Err (RunFault.BadArguments requirement m) → m ≡ memory }
-        ensures unmet { (requirement : ℕ) (m : Memory) → result ≡ Err (RunFault.BadArguments requirement m) → unmet_in verified.now arguments.now ≡ Some requirement }
+        ensures unmet { (requirement : ℕ) (m : Memory) → result ≡ Err (RunFault.BadArguments requirement m) →
+            unmet_in verified.now arguments.now ≡ Some requirement }
         ensures no_trap { result ≢ Err RunFault.Trapped }
     {
         // for what it says of the module: that it is accepted

@@ -85,7 +85,8 @@ pub(crate) fn admitted(
     ensures met { OnOk result (unmet_in verified.now arguments.now ≡ None) }
     ensures bad_workers { (m : Memory) → result ≡ Err (RunFault.BadWorkers m) → (m ≡ memory) × ¬ IsNumberOfWorkers workers }
     ensures bad_arguments { (requirement : ℕ) (m : Memory) → result ≡ Err (RunFault.BadArguments requirement m) → m ≡ memory }
-    ensures unmet { (requirement : ℕ) (m : Memory) → result ≡ Err (RunFault.BadArguments requirement m) → unmet_in verified.now arguments.now ≡ Some requirement }
+    ensures unmet { (requirement : ℕ) (m : Memory) → result ≡ Err (RunFault.BadArguments requirement m) →
+        unmet_in verified.now arguments.now ≡ Some requirement }
     ensures no_trap { result ≢ Err RunFault.Trapped }
 {
     if let Some(requirement) = unmet_requirement(verified.program(), arguments) {

@@ -1,8 +1,8 @@
 -- Lists of events that happen, and machines that never trap.
 use Rattle.std.proofs.Common.{sym, ◌≡◌, ℕ, zero, suc, List, [], ◌∷◌, ◌++◌, Some, None, refl, ap, ◌∙◌, subst}
 use Rattle.running.specs.Events.{Machine, Event, Step, event}
-use Rattle.running.specs.Replay.{replay, or_unchanged}
-use Rattle.strands.specs.Law.{steps_by, Happen, NeverTraps, ReachedNeverTraps}
+use Rattle.running.specs.Replay.{replay, or_unchanged, NeverTraps}
+use Rattle.strands.specs.Law.{steps_by, Happen, ReachedNeverTraps}
 use Rattle.program.specs.declared.function.Program.{Program}
 
 pub steps_more : (w n : ℕ) → steps_by w n ++ Step w ∷ [] ≡ steps_by w (suc n)

@@ -3,7 +3,7 @@ use Rattle.std.proofs.Common.{◌≡◌, ℕ, suc, ◌+◌, max, [], ◌∷◌, 
 use Rattle.std.proofs.lemmas.List.Elements.{All-pop}
 use Rattle.std.specs.Map.{lookup}
 use Rattle.running.specs.Paths.{Path, same_path}
-use Rattle.running.specs.Cells.{Cell, Memory, same_cell}
+use Rattle.running.specs.Cells.{Cell, Memory, same_cell, or_zero}
 use Rattle.running.specs.Arithmetic.{Trap, Unmatched, cell_sum}
 use Rattle.running.specs.Frames.{Frame, Item}
 use Rattle.running.specs.Effect.{Effect, Plain, action_of}
@@ -12,9 +12,10 @@ use Rattle.running.specs.Events.{Machine, Step, event, unless_trapped, by_hand, 
 use Rattle.running.proofs.Actions.{reads_of, adds_of, action_kept, same_cell_itself}
 use Rattle.running.proofs.Places.{only_here, same_path_is}
 use Rattle.running.proofs.Steps.{plain, change_is}
-use Rattle.strands.specs.Footprint.{Write, Stored, Delta, Footprint, read_at, write_at, held, memory_of, or_zero, with_write, stored, raised, added_to, settled, with_read, put}
+use Rattle.strands.specs.Footprint.{Write, Stored, Delta, Footprint, read_at, write_at, held, memory_of, with_write, stored, raised, added_to, settled, with_read, put}
 use Rattle.strands.specs.Strands.{Strand, Access, Nowhere, Loads, Stores, Adds, is_border, next_of, access_of, most_done, Border, Limit, Full, Need, is_full, need, pause_at, pause_of, loaded, filled, footprint_after, advanced, next_action, IsStrand, is_loaded, is_filled, is_advanced}
-use Rattle.strands.specs.Law.{steps_by, Happen, Fits, absorbed, NeverTraps, IsSteps, StrandsAreSteps, HasValues, StrandsAreStepsWhereDefined, StrandsGoOverBorders}
+use Rattle.strands.specs.Law.{steps_by, Happen, Fits, absorbed, IsSteps, StrandsAreSteps, HasValues, StrandsAreStepsWhereDefined, StrandsGoOverBorders}
+use Rattle.running.specs.Replay.{NeverTraps}
 use Rattle.running.proofs.SameCells.{same_cell_is}
 use Rattle.strands.proofs.Footprints.{lookup_with_write}
 use Rattle.strands.proofs.Items.{Touches, touches, add_traps_at}

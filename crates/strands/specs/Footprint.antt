@@ -1,7 +1,7 @@
 -- What a strand knows of memory: the cells that it read, and what it keeps for those that it wrote.
-use Rattle.std.specs.Prelude.{List, [], ◌∷◌, ◌++◌, Option, Some, None, cond, ℤ, pos}
+use Rattle.std.specs.Prelude.{List, [], ◌∷◌, ◌++◌, Option, Some, None, cond, ℤ}
 use Rattle.std.specs.Map.{lookup}
-use Rattle.running.specs.Cells.{Cell, Memory, same_cell}
+use Rattle.running.specs.Cells.{Cell, Memory, same_cell, or_zero}
 use Rattle.running.specs.Arithmetic.{cell_sum}
 use Rattle.running.specs.State.{sum_in}
 
@@ -35,10 +35,6 @@ known None read = read
 
 abbrev pub held : Footprint → Cell → Option ℤ
 held f x = known (write_at f x) (read_at f x)
-
-abbrev pub or_zero : Option ℤ → ℤ
-or_zero None = pos 0
-or_zero (Some z) = z
 
 -- A cell that is not held counts as 0 here: a load of it is not done, and an add asks no more than whether there is a value.
 abbrev pub memory_of : Footprint → Memory

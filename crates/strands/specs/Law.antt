@@ -4,7 +4,7 @@ use Rattle.std.specs.List.{All}
 use Rattle.running.specs.Cells.{Cell}
 use Rattle.running.specs.State.{override, only, may_go}
 use Rattle.running.specs.Events.{Machine, Event, Step, event}
-use Rattle.running.specs.Replay.{replay}
+use Rattle.running.specs.Replay.{NeverTraps, replay}
 use Rattle.strands.specs.Footprint.{Delta, write_at, put}
 use Rattle.strands.specs.Strands.{Strand, IsStrand}
 use Rattle.program.specs.declared.function.Program.{Program}
@@ -35,11 +35,7 @@ absorbed m s =
       };
     }
 
--- ---- of a machine that never traps
-
--- as the schedule theorem says of each machine that a schedule of a checked program leads to
-abbrev pub NeverTraps : Program → ℕ → Machine → Type 0
-NeverTraps prog workers m = (events : List Event) → (replay prog workers events m).trapped ≡ None
+-- ---- of a machine that never traps, as the schedule theorem says of each machine that a schedule of a checked program leads to
 
 pub record IsSteps (prog : Program) (workers : ℕ) (m : Machine) (w : ℕ) (s : Strand) : Type 0 where
   pub steps : Happen prog workers (steps_by w s.done) m (absorbed m s)

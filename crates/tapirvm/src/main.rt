@@ -1,9 +1,6 @@
 //! The program `tapirvm`: reads a module, verifies it and runs it.
 #![tactic(auto)]
 
-#[cfg(test)]
-mod tests;
-
 use std::process::ExitCode;
 
 fn main(rt: HostRuntime) -> ExitCode {

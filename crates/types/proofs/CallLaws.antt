@@ -2,7 +2,7 @@
 use Rattle.std.proofs.Common.{◌≡◌, ℕ, zero, suc, ◌<◌, Bool, true, false, not, List, [], ◌∷◌, map, length, get_or, refl, sym, ap, ◌∙◌, subst, arith, true≢false, Result, Ok, Err, Option, Some, None, is_some, nat_le, nat_eq}
 use Rattle.std.specs.Prelude.{slice_get}
 use Rattle.std.specs.List.{Contains, list_any}
-use Rattle.std.proofs.lemmas.Bool.{or_parts}
+use Rattle.std.proofs.lemmas.Bool.{or_parts, not-true}
 use Rattle.std.proofs.lemmas.Bool.Decides.{nat_tests}
 use Rattle.std.proofs.lemmas.List.{length-map}
 use Rattle.std.proofs.lemmas.Option.{slice_get_within, slice_get-get_or}
@@ -46,10 +46,6 @@ use Rattle.scopes.specs.Scope.{Scope}
 use Rattle.scopes.specs.Table.{look_up}
 use Rattle.scopes.proofs.Inversion.{made_ok, then_ok, both_ok, unless_ok, all_ok, err_not_ok}
 
-pub turned : (b : Bool) → not b ≡ true → b ≡ false
-turned true h = absurd (true≢false (sym h))
-turned false h = refl
-
 -- a test that no element passes
 none_passes : {X : Type 0} (test : X → Bool) (xs : List X) (i : ℕ) (d : X) → list_any test xs ≡ false → i < length xs → test (get_or xs i d) ≡ false
 none_passes test [] i d h l = absurd (omega arith)
@@ -81,7 +77,7 @@ module _ (mentions : List Mentions) (globals : ℕ) (named : Named) (table : IsN
       let here : IsCallApart mentions globals caller id.0 arguments = record {
         upward = grind (arith, nat_tests, upward);
         distinct = unless_ok (are_distinct arguments) (Fault 204 line) first.0 first.1;
-        clear = clear_by id.0 arguments within (turned _ (unless_ok _ (Fault 204 line) second.0 second.1));
+        clear = clear_by id.0 arguments within (not-true _ (unless_ok _ (Fault 204 line) second.0 second.1));
       } in
       subst P third.2 here
 

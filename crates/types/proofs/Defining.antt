@@ -28,7 +28,7 @@ use Rattle.scopes.specs.Scope.{Scope}
 use Rattle.scopes.proofs.Inversion.{made_ok, then_ok, both_ok, same_ok}
 use Rattle.types.proofs.Scopes.{Entries, entries_found, register_found, IsNamedRight}
 
-bytes_same : (xs ys : List ℕ) → bytes_eq xs ys ≡ true → xs ≡ ys
+pub bytes_same : (xs ys : List ℕ) → bytes_eq xs ys ≡ true → xs ≡ ys
 bytes_same xs ys e = (bytes_eq-Decides xs ys).0 e
 
 module _ (n : ℕ) (IsParameter : List ℕ → Type 0) (scope : Scope) (right : Entries (IsNamedRight n IsParameter) scope) where

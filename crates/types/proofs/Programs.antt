@@ -1,8 +1,8 @@
 -- The calls of a program keep pointers apart, by what its functions name themselves.
 use Rattle.std.proofs.Common.{◌≡◌, ◌⊎◌, inl, inr, ℕ, zero, suc, ◌+◌, ◌<◌, ◌≤◌, List, [], ◌∷◌, ◌++◌, length, map, Option, Some, Bool, true, false, not, refl, sym, ap, ◌∙◌, subst, arith, Result, Ok, nat_eq, true≢false}
-use Rattle.std.specs.Prelude.{slice_get, ◌&&◌}
+use Rattle.std.specs.Prelude.{slice_get}
 use Rattle.std.specs.List.{Contains, list_any}
-use Rattle.std.proofs.lemmas.Bool.{or_parts}
+use Rattle.std.proofs.lemmas.Bool.{or_parts, not-true, and_parts}
 use Rattle.std.proofs.lemmas.Bool.Decides.{nat_tests}
 use Rattle.std.proofs.lemmas.List.{length-map}
 use Rattle.linear.specs.declared.form.RegisterId.{RegisterId}
@@ -36,7 +36,8 @@ use Rattle.scopes.specs.declared.item.Item.{Item}
 use Rattle.scopes.specs.declared.item.Item.TheVariants as item
 use Rattle.scopes.specs.declared.mention.Mentions.{Mentions}
 use Rattle.scopes.specs.Address.{Items}
-use Rattle.types.specs.Apart.{InstructionNames, IsBlockAt, IsInstructionAt, IsNamedBy, in_instruction, in_zone, in_pending, in_foot, Reaches, itself, through, NamesGlobal, parameters_in, parameters_at, CallsApart}
+use Rattle.types.specs.Apart.{InstructionNames, IsBlockAt, IsInstructionAt, IsNamedBy, in_instruction, in_zone, in_pending, in_foot, Reaches, itself, through, NamesGlobal, parameters_at, CallsApart}
+use Rattle.program.specs.Calls.{parameters_in}
 use Rattle.types.specs.Block.{head_of, body_of, block_with, block_of, blocks_of}
 use Rattle.types.specs.Call.{Named, parameter_of, is_same_object, passes, is_passed_again, are_distinct}
 use Rattle.types.specs.Definitions.{DefinesFrom, KeepsParameters, IsParameterName, EachDefinesAnew}
@@ -50,7 +51,7 @@ use Rattle.scopes.specs.Note.{zone_of, zones_of, more_zones, pending_of, all_pen
 use Rattle.scopes.specs.Scope.{Scope}
 use Rattle.scopes.specs.Table.{with_name}
 use Rattle.types.specs.Meaning.{Means}
-use Rattle.types.proofs.CallLaws.{meant_apart, turned}
+use Rattle.types.proofs.CallLaws.{meant_apart}
 use Rattle.types.proofs.Covering.{Bounded, Adds, IsMentioned, named_adds, is_mentioned, zone_adds, pending_adds}
 use Rattle.types.proofs.Defining.{phi_from, instruction_from}
 use Rattle.scopes.proofs.Growing.{Holds, of_step, of_foot, of_pending, of_reads, of_writes, of_adds}
@@ -117,10 +118,6 @@ object_itself (object.Global a) = number_itself a.0
 object_itself (object.Alloca a) = number_itself a.0
 object_itself (object.Parameter a) = number_itself a.0
 
-both_hold : (a b : Bool) → a && b ≡ true → (a ≡ true) × (b ≡ true)
-both_hold true b e = (refl, e)
-both_hold false b e = absurd (true≢false (sym e))
-
 -- an object that is passed first is not passed again
 not_again : (first : Argument) (others : List Argument) (j : ℕ) (name : ObjectName) → first ≡ argument.Object name → is_passed_again first others ≡ false → slice_get others j ≡ Some (argument.Object name) → ⊥
 not_again first others j name is h at =
@@ -132,10 +129,10 @@ pub distinct_of : (arguments : List Argument) → are_distinct arguments ≡ tru
 distinct_of [] h i j name a b = absurd (cc)
 distinct_of (first ∷ others) h zero zero name a b = refl
 distinct_of (first ∷ others) h zero (suc j) name a b =
-    absurd (not_again first others j name (let s : first ≡ argument.Object name = cc in s) (turned _ (both_hold (not (is_passed_again first others)) (are_distinct others) h).0) b)
+    absurd (not_again first others j name (let s : first ≡ argument.Object name = cc in s) (not-true _ (and_parts (not (is_passed_again first others)) (are_distinct others) h).0) b)
 distinct_of (first ∷ others) h (suc i) zero name a b =
-    absurd (not_again first others i name (let s : first ≡ argument.Object name = cc in s) (turned _ (both_hold (not (is_passed_again first others)) (are_distinct others) h).0) a)
-distinct_of (first ∷ others) h (suc i) (suc j) name a b = ap (λ k. suc k) (distinct_of others (both_hold (not (is_passed_again first others)) (are_distinct others) h).1 i j name a b)
+    absurd (not_again first others i name (let s : first ≡ argument.Object name = cc in s) (not-true _ (and_parts (not (is_passed_again first others)) (are_distinct others) h).0) a)
+distinct_of (first ∷ others) h (suc i) (suc j) name a b = ap (λ k. suc k) (distinct_of others (and_parts (not (is_passed_again first others)) (are_distinct others) h).1 i j name a b)
 
 module _ (items : Items) (globals : ℕ) (functions : List FunctionText) (named : Named) (bounded : Bounded items globals) (meant : List Function) (resolved : functions_of items functions named ≡ Ok meant) where
   abbrev mentions : List Mentions

@@ -37,7 +37,7 @@ abbrev pub Entries : {A : Type 0} → (List ℕ → A → Type 0) → List (List
 Entries P [] = Unit {0}
 Entries P (entry ∷ entries) = P entry.0 entry.1 × Entries P entries
 
-entries_push : {A : Type 0} (P : List ℕ → A → Type 0) (entries : List (List ℕ × A)) (name : List ℕ) (meaning : A) → Entries P entries → P name meaning → Entries P (entries ++ (name, meaning) ∷ [])
+pub entries_push : {A : Type 0} (P : List ℕ → A → Type 0) (entries : List (List ℕ × A)) (name : List ℕ) (meaning : A) → Entries P entries → P name meaning → Entries P (entries ++ (name, meaning) ∷ [])
 entries_push P [] name meaning h p = (p, tt)
 entries_push P (entry ∷ entries) name meaning h p = (h.0, entries_push P entries name meaning h.1 p)
 

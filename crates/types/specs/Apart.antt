@@ -1,6 +1,7 @@
 -- Which objects the functions of a program name, and which pointers its calls pass.
-use Rattle.std.specs.Prelude.{◌≡◌, ℕ, ◌<◌, ◌≤◌, List, length, Option, Some, None, slice_get}
+use Rattle.std.specs.Prelude.{◌≡◌, ℕ, ◌<◌, ◌≤◌, List, Option, Some, slice_get}
 use Rattle.linear.specs.declared.form.RegisterId.{RegisterId}
+use Rattle.program.specs.Calls.{parameters_in}
 use Rattle.program.specs.declared.annotation.Pending.{Pending}
 use Rattle.program.specs.declared.annotation.Zone.{Zone}
 use Rattle.program.specs.declared.function.Block.{Block}
@@ -72,10 +73,6 @@ abbrev pub NamesGlobal : List Function → ℕ → GlobalId → Type 0
 NamesGlobal functions f global = (to : ℕ) × Reaches functions f to × IsNamedBy functions to (object.Global global)
 
 -- ---- what is passed
-
-abbrev pub parameters_in : Option Function → ℕ
-parameters_in None = 0
-parameters_in (Some function) = length function.parameters
 
 -- the number of parameters, which are the function's first registers
 abbrev pub parameters_at : List Function → ℕ → ℕ

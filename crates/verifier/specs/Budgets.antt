@@ -4,18 +4,14 @@ use Rattle.program.specs.declared.function.Function.{Function}
 use Rattle.program.specs.declared.function.Program.{Program}
 use Rattle.region_match.specs.declared.tables.Regions.{Regions}
 use Rattle.cost_table.specs.declared.table.Table.{Table}
-use Rattle.cost_table.specs.Cost.{whole_cost}
+pub use Rattle.cost_table.specs.Cost.{whole_cost_of}
 use Rattle.cost_table.specs.Depth.{depth}
 use Rattle.cost_table.specs.Tables.{IsTable, as_u64}
 use Rattle.verifier.specs.Accepted.{AreTasksOf, IsAccepted}
 
-abbrev pub budget_in : Option Function → ℕ
-budget_in None = 0
-budget_in (Some main) = whole_cost main
-
 -- what a call of `main` costs at most
 abbrev pub budget_of : Program → ℕ
-budget_of program = budget_in (slice_get program.functions program.main.0)
+budget_of program = whole_cost_of (slice_get program.functions program.main.0)
 
 abbrev pub depth_in : Program → Regions → Option Function → ℕ
 depth_in program regions None = 0

@@ -1,5 +1,5 @@
 -- The machine's own tests on counts and ends are met too.
-use Rattle.std.proofs.Common.{◌≡◌, ◌∙◌, inl, inr, ℕ, zero, suc, ◌<◌, ◌≤◌, [], ◌∷◌, ◌++◌, length, reverse, Option, Some, None, Bool, true, false, cond, ◌&&◌, eq-eqb, is_none, refl, sym, ap, subst, arith, slice_get, ℤ}
+use Rattle.std.proofs.Common.{◌≡◌, ◌∙◌, inl, inr, ℕ, zero, suc, ◌<◌, ◌≤◌, [], ◌∷◌, ◌++◌, length, reverse, Option, Some, None, Bool, true, false, cond, eq-eqb, refl, sym, ap, subst, arith, slice_get, ℤ}
 use Rattle.std.specs.Prelude.{IsSome, Ok}
 use Rattle.std.proofs.lemmas.Bool.Decides.{eqb_tells}
 use Rattle.std.proofs.lemmas.List.{length-reverse, reverse-append}
@@ -12,7 +12,7 @@ use Rattle.running.specs.Effect.{Action, Plain, stops, syncs, registers_along, a
 use Rattle.running.specs.Arithmetic.{Undefined}
 use Rattle.running.specs.State.{State, outside, childless, children_within}
 use Rattle.running.specs.Counts.{count_of}
-use Rattle.running.proofs.ChildCounts.{count_at}
+use Rattle.running.proofs.ChildCounts.{count_at, childless_counted}
 use Rattle.program.specs.declared.function.Program.{Program}
 use Rattle.frame.specs.declared.effect.Effect.{Effect as Asked}
 use Rattle.frame.specs.declared.effect.Effect.TheVariants as effect
@@ -37,14 +37,6 @@ use Rattle.worker_promise.specs.Let.{IsFine, NamesRegister, IsSteadyAt, StepsAre
 use Rattle.worker_promise.proofs.Let.{let_on_cells}
 
 -- ---- counts of children
-
-childless_none : (s : State) (q : Path) (r n : ℕ) → childless s q n ≡ true → children_within s q n r ≡ 0
-childless_none s q r zero h = refl
-childless_none s q r (suc n) h = by (s.frames (n ∷ q)) h (λ rest. childless_none s q r n rest)
-  where
-    by : (o : Option frames.Frame) → is_none o && childless s q n ≡ true → (childless s q n ≡ true → children_within s q n r ≡ 0) → cond (outside r o) (children_within s q n r) (suc (children_within s q n r)) ≡ 0
-    by None e rest = rest e
-    by (Some f) e rest = absurd (cc)
 
 within_made : (s : State) (q : Path) (r n : ℕ) → children_within s q n r ≤ n
 within_made s q r zero = omega arith
@@ -104,7 +96,7 @@ module _ (prog : Program) (m : Run) (slots : HasSlots prog m) (agrees : Agrees m
   has_parent (Some up) is h = (up, is)
 
   none_left : childless (seen m).core place frame.made ≡ true → IsChildless node.frame
-  none_left none region = counted_is region ∙ childless_none tree place region frame.made none
+  none_left none region = counted_is region ∙ childless_counted tree place region frame.made none
 
   -- the parent counts the child
   parent_counts : (r c up : ℕ) → node.parent ≡ Some up → frame.role ≡ Child r c → HasParent (seen m).core place → 0 < living_within m.cactus up r

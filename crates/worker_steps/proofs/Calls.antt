@@ -33,7 +33,7 @@ use Rattle.worker_steps.specs.declared.run.Phase.TheVariants.{Going, Ended}
 use Rattle.worker_steps.specs.Running.{result_of, WaitsForCall, ResumesWith}
 use Rattle.worker_steps.specs.Scheduling.{hand_of, counted_in}
 use Rattle.worker_steps.specs.Seen.{place_of, seen, seen_at, frames_of, hands_of, tree_of, CalleeStands, IsFit, CountsStand}
-use Rattle.worker_steps.specs.Stepping.{counted, frame_in, IsStep, IsTurn, IsOver, next_action}
+use Rattle.worker_steps.specs.Stepping.{counted, frame_in, IsStep, IsTurn, LeavesNoFrame, next_action}
 use Rattle.worker_steps.proofs.Views.{frame_seen, hand_seen, reverse_last}
 use Rattle.worker_steps.proofs.PlainSteps.{step_event, free_wait}
 use Rattle.worker_steps.proofs.Performed.{same_frame as same_activation}
@@ -55,7 +55,7 @@ same_register : (j k : ℕ) (d e : Option RegisterId) → waits.Call j d ≡ wai
 same_register j k d e same = cc
 
 -- while a run goes on nothing is asked of its end
-pub over_still : (old new : Run) → old.phase ≡ Going → new.phase ≡ old.phase → IsOver new
+pub over_still : (old new : Run) → old.phase ≡ Going → new.phase ≡ old.phase → LeavesNoFrame new
 over_still old new going same z is = absurd (let e : Going ≡ Ended z = sym going ∙ (sym same ∙ is) in cc)
 
 -- ---- a call

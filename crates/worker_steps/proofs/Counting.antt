@@ -101,9 +101,6 @@ picked b m n e = rw e refl
 pub passed_over : (b : Bool) (m n : ℕ) → b ≡ false → cond b m n ≡ n
 passed_over b m n e = rw e refl
 
-pub both_tests : (b c : Bool) → b ≡ true → c ≡ true → b && c ≡ true
-both_tests b c e f = rw (e, f)
-
 pub second_fails : (b c : Bool) → b ≡ true → c ≡ false → b && c ≡ false
 second_fails b c e f = rw (e, f)
 

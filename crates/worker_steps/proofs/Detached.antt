@@ -4,6 +4,7 @@ use Rattle.std.proofs.lemmas.Bool.Decides.{eqb_tells}
 use Rattle.std.specs.Prelude.{IsSome, ◌^◌}
 use Rattle.std.specs.Vec.{with_item}
 use Rattle.std.proofs.lemmas.List.{length-set, length-reverse, reverse-reverse}
+use Rattle.std.proofs.lemmas.Bool.{and_from}
 use Rattle.running.specs.Paths.{Path, same_path}
 use Rattle.running.specs.Frames.{Frame}
 use Rattle.running.specs.Effect.{Action, Detach}
@@ -35,7 +36,7 @@ use Rattle.worker_steps.specs.Stepping.{frame_in, IsStep, IsTurn, next_action}
 use Rattle.worker_steps.proofs.Views.{reverse_last, same_place}
 use Rattle.worker_steps.proofs.PlainSteps.{step_event, free_wait}
 use Rattle.worker_steps.proofs.Performed.{same_frame}
-use Rattle.worker_steps.proofs.Counting.{picked, passed_over, both_tests, second_fails}
+use Rattle.worker_steps.proofs.Counting.{picked, passed_over, second_fails}
 use Rattle.worker_steps.proofs.Acting.{within, man, held, there, may, no_callee, counts_follow}
 use Rattle.worker_steps.proofs.Grown.{grown, parent_then, frames_grown, counts_grown, agrees_grown, grown_machine, seen_grown}
 
@@ -109,7 +110,7 @@ module _ (prog : Program) (old : Run) (w slot : ℕ) (node : Node Activation) (t
                   ∙ (picked (eqb region r) (living + 1) (counted_in node.frame r) h.0
                   ∙ (one_more living
                   ∙ (ap (λ n. suc n) (sym was ∙ (agrees.counts.same slot region node turn.stands ∙ ap (count_of (tree_of old.cactus) (place_of node)) h.1))
-                  ∙ sym (follow (place_of node) r ∙ picked (same_path (place_of node) (place_of node) && eqb region r) (suc (count_of (tree_of old.cactus) (place_of node) r)) (count_of (tree_of old.cactus) (place_of node) r) (both_tests (same_path (place_of node) (place_of node)) (eqb region r) (same_path_itself (place_of node)) h.0)))))
+                  ∙ sym (follow (place_of node) r ∙ picked (same_path (place_of node) (place_of node) && eqb region r) (suc (count_of (tree_of old.cactus) (place_of node) r)) (count_of (tree_of old.cactus) (place_of node) r) (and_from (same_path (place_of node) (place_of node)) (eqb region r) (same_path_itself (place_of node)) h.0)))))
               | inr h ↦
                   own r
                   ∙ (passed_over (eqb region r) (living + 1) (counted_in node.frame r) h.0

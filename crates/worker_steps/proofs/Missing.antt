@@ -3,7 +3,7 @@ use Rattle.std.proofs.Common.{◌≡◌, ℕ, ◌<◌, List, length, reverse, Op
 use Rattle.std.specs.Prelude.{IsSome, is_some, pos}
 use Rattle.std.specs.Option.{option_map}
 use Rattle.std.proofs.lemmas.Bool.Decides.{eqb_tells}
-use Rattle.running.specs.Cells.{Object, Shared, Local}
+use Rattle.running.specs.Cells.{Object, Shared, Local, zeros_below}
 use Rattle.program.specs.declared.function.Program.{Program}
 use Rattle.program.specs.declared.identifier.AllocaId.{AllocaId}
 use Rattle.store.specs.Cells.{NamedCells, cell_at, Sets}
@@ -24,7 +24,7 @@ use Rattle.cactus.proofs.ByPathLemmas.{FoundAt, named_found, named_is}
 use Rattle.worker_steps.specs.declared.activation.Activation.{Activation}
 use Rattle.worker_steps.specs.declared.run.Run.{Run}
 use Rattle.worker_steps.specs.Seen.{place_of, Agrees}
-use Rattle.worker_steps.specs.Stepping.{Written, zeros_below}
+use Rattle.worker_steps.specs.Stepping.{Written}
 use Rattle.worker_steps.specs.Stopping.{HasCellAt, HasCellIn, KeepsCells, Refuses}
 use Rattle.worker_steps.proofs.Lowest.{owner_lives, owner_there}
 use Rattle.worker_steps.proofs.Performed.{owner_place}

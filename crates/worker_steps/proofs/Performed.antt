@@ -5,7 +5,7 @@ use Rattle.std.specs.Option.{option_map, option_flatten}
 use Rattle.std.proofs.lemmas.Bool.Decides.{eqb_tells, nat_tests}
 use Rattle.std.proofs.lemmas.List.{length-reverse}
 use Rattle.running.specs.Paths.{Path, same_path}
-use Rattle.running.specs.Cells.{Cell, Object, Memory, Shared, Local, same_object, same_cell}
+use Rattle.running.specs.Cells.{Cell, Object, Memory, Shared, Local, same_object, same_cell, one_cell, zeros_below}
 use Rattle.running.specs.Arithmetic.{cell_sum}
 use Rattle.running.specs.Frames.{Frame, Word, Registers}
 use Rattle.running.specs.Effect.{Effect, Plain, action_of, sets, goes_on, loads, stores, adds_to, given, enters, jumps, registers_along}
@@ -37,7 +37,7 @@ use Rattle.cactus.proofs.FramesLemmas.{node_at-with_frame, node_at-with_frame_ot
 use Rattle.worker_steps.specs.declared.activation.Activation.{Activation}
 use Rattle.worker_steps.specs.declared.run.Run.{Run}
 use Rattle.worker_steps.specs.Seen.{place_of, seen, frames_of, memory_of, hands_of, held_in, alloca_cell, CalleeStands, IsFit, Agrees}
-use Rattle.worker_steps.specs.Stepping.{effected, frame_in, PlainDone, DoesPlain, HasNextAt, HoldsAt, OwnerStands, Written, WritesAlloca, one_cell, zeros_below, StoresAt, IsDoable, CanDoAt, Performs, StepsAt}
+use Rattle.worker_steps.specs.Stepping.{effected, frame_in, PlainDone, DoesPlain, HasNextAt, HoldsAt, OwnerStands, Written, WritesAlloca, StoresAt, IsDoable, CanDoAt, Performs, StepsAt}
 use Rattle.worker_steps.proofs.Counting.{StaysInTree}
 use Rattle.worker_steps.proofs.Lowest.{not_there, owner_lives, owner_there}
 use Rattle.worker_steps.proofs.Views.{named_written, named_at_place, hands_stay}

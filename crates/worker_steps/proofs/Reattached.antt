@@ -4,6 +4,7 @@ use Rattle.std.specs.Prelude.{slice_get, map, IsSome, ◌↔◌}
 use Rattle.std.specs.Vec.{with_item}
 use Rattle.std.proofs.lemmas.Bool.Decides.{eqb_tells}
 use Rattle.std.proofs.lemmas.List.{length-set, length-append}
+use Rattle.std.proofs.lemmas.Bool.{and_from}
 use Rattle.running.specs.Paths.{Path, same_path}
 use Rattle.running.specs.Cells.{Cell}
 use Rattle.running.specs.Frames.{Frame, Wait, Child, Body}
@@ -43,19 +44,16 @@ use Rattle.worker_steps.specs.Stepping.{frame_in, IsStep, IsTurn, next_action}
 use Rattle.worker_steps.proofs.Views.{reverse_last, same_place, frame_seen, memory_stays}
 use Rattle.worker_steps.proofs.Steals.{holder_is}
 use Rattle.worker_steps.proofs.Moves.{taken_goes_on}
-use Rattle.worker_steps.proofs.Counting.{count_alike, picked, passed_over, both_tests, second_fails}
+use Rattle.worker_steps.proofs.Counting.{count_alike, picked, passed_over, second_fails}
 use Rattle.worker_steps.proofs.Performed.{same_frame}
 use Rattle.worker_steps.proofs.Synced.{frame_twice}
 use Rattle.worker_steps.proofs.Acting.{changed, within, man, there, may, event_is, counts_follow, is_childless, is_leaf}
 use Rattle.worker_steps.proofs.Shrunk.{resumed_frames, above_then, frames_resumed, memory_kept, hands_resumed, hands_left, counts_resumed, Lands, agrees_resumed}
+use Rattle.worker_steps.proofs.Refusing.{longer}
 
 none_in : {X : Type 0} (g : X → List (Option ℤ)) (l : List X) (n i : ℕ) → length l ≡ 0 → cells_in (slice_get (map g l) n) i ≡ None
 none_in g [] n i empty = refl
 none_in g (x ∷ l) n i empty = absurd (omega arith)
-
--- a list is not itself with one more number
-not_longer : (l : List ℕ) (k : ℕ) → l ≡ l ++ k ∷ [] → ⊥
-not_longer l k e = let long : length l ≡ length l + 1 = ap length e ∙ length-append l (k ∷ []) in omega arith
 
 no_allocas : (f : FrameOf) (r : RoleOf) → f.role ≡ r → (region next : ℕ) → role_of r ≡ Child region next → HoldsAllocas f.role (length f.allocas.items) → (n i : ℕ) → alloca_in f n i ≡ None
 no_allocas f role.Body is region next e holds n i = absurd (let h : Body ≡ Child region next = e in cc)
@@ -96,7 +94,7 @@ module _ (prog : Program) (old : Run) (w slot : ℕ) (node : Node Activation) (t
       let e : Some above ≡ Some node = sym up_stands ∙ subst (λ x. node_at old.cactus x ≡ Some node) (sym same) turn.stands in
       let same_node : above ≡ node = cc in
       let numbers : above.path.numbers ≡ above.path.numbers ++ number ∷ [] = ap (λ (n : Node Activation). n.path.numbers) same_node ∙ below in
-      not_longer above.path.numbers number numbers
+      longer above.path.numbers number numbers
 
   mid_up : node_at mid up ≡ Some above
   mid_up = removed.change.others up up_away ∙ up_stands
@@ -148,7 +146,7 @@ module _ (prog : Program) (old : Run) (w slot : ℕ) (node : Node Activation) (t
               ∙ (picked (eqb region.0 r) living (counted_in above.frame r) h.0
               ∙ (sym (less living)
               ∙ (ap lowered (sym before)
-              ∙ sym (follow (place_of above) r ∙ picked (same_path (place_of above) (place_of above) && eqb region.0 r) (lowered (count_of (tree_of old.cactus) (place_of above) r)) (count_of (tree_of old.cactus) (place_of above) r) (both_tests (same_path (place_of above) (place_of above)) (eqb region.0 r) (same_path_itself (place_of above)) h.0)))))
+              ∙ sym (follow (place_of above) r ∙ picked (same_path (place_of above) (place_of above) && eqb region.0 r) (lowered (count_of (tree_of old.cactus) (place_of above) r)) (count_of (tree_of old.cactus) (place_of above) r) (and_from (same_path (place_of above) (place_of above)) (eqb region.0 r) (same_path_itself (place_of above)) h.0)))))
           | inr h ↦
               own r
               ∙ (passed_over (eqb region.0 r) living (counted_in above.frame r) h.0
@@ -186,7 +184,7 @@ module _ (prog : Program) (old : Run) (w slot : ℕ) (node : Node Activation) (t
         let one : Some called ≡ Some above = sym stands ∙ subst (λ y. node_at old.cactus y ≡ Some above) (sym e) up_stands in
         let same_node : called ≡ above = cc in
         let same_numbers : above.path.numbers ≡ above.path.numbers ++ child ∷ [] = sym (ap (λ (n : Node Activation). n.path.numbers) same_node) ∙ numbers in
-        not_longer above.path.numbers child same_numbers) in
+        longer above.path.numbers child same_numbers) in
         (s, called, at, node_at-with_frame_other mid up s a apart ∙ (removed.change.others s off ∙ stands), numbers)
 
     -- ---- who goes on
@@ -367,7 +365,7 @@ module _ (prog : Program) (old : Run) (mid : Frames Activation) (w slot : ℕ) (
               let one : Some b.above ≡ Some node = sym b.stands ∙ subst (λ x. node_at old.cactus x ≡ Some node) (sym e) turn.stands in
               let same_node : b.above ≡ node = cc in
               let numbers : b.above.path.numbers ≡ b.above.path.numbers ++ number ∷ [] = ap (λ (n : Node Activation). n.path.numbers) same_node ∙ below in
-              not_longer b.above.path.numbers number numbers
+              longer b.above.path.numbers number numbers
 
           up_there : node_at mid up ≡ Some b.above
           up_there = removed.change.others up up_off ∙ b.stands

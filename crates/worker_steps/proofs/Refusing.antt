@@ -34,7 +34,7 @@ stood_not o x is none = let e : Some x ≡ None = sym is ∙ none in cc
 
 -- ---- parents
 
-longer : (l : List ℕ) (k : ℕ) → l ≡ l ++ k ∷ [] → ⊥
+pub longer : (l : List ℕ) (k : ℕ) → l ≡ l ++ k ∷ [] → ⊥
 longer l k same = let long : length (l ++ k ∷ []) ≡ length l + 1 = length-append l (k ∷ []) in let e : length l ≡ length (l ++ k ∷ []) = ap (λ (x : List ℕ). length x) same in omega arith
 
 module _ (frames : Frames Activation) (tree : IsTree frames) (slot parent : ℕ) (node : Node Activation) (stands : node_at frames slot ≡ Some node) (has : node.parent ≡ Some parent) where

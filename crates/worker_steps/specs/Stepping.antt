@@ -1,7 +1,7 @@
 -- What a step of a frame does to a machine, as the definitions say it.
-use Rattle.std.specs.Prelude.{◌≡◌, ℕ, ◌+◌, ◌≤◌, List, [], length, Option, Some, None, Ok, Bool, cond, nat_lt, ◌&&◌, IsSome, ℤ, pos}
+use Rattle.std.specs.Prelude.{◌≡◌, ℕ, ◌+◌, ◌≤◌, List, [], length, Option, Some, None, Ok, Bool, cond, IsSome, ℤ}
 use Rattle.running.specs.Paths.{Path}
-use Rattle.running.specs.Cells.{Cell, Object, Memory, same_cell, same_object}
+use Rattle.running.specs.Cells.{Cell, Memory, one_cell}
 use Rattle.running.specs.Frames.{Frame}
 use Rattle.running.specs.Effect.{Effect, Action, Return, action_of, registers_along}
 use Rattle.running.specs.State.{override, added, only, went}
@@ -101,13 +101,6 @@ pub record WritesAlloca (old new : Run) (owner n i : ℕ) (z : ℤ) : Type 0 whe
   pub sound : IsSound before.frame → IsSound frame
   pub new_is : new ≡ record old { cactus = with_frame old.cactus owner (record before { frame = frame }) }
 
-abbrev pub one_cell : Cell → ℤ → Cell → Option (Option ℤ)
-one_cell c z x = cond (same_cell c x) (Some (Some z)) None
-
--- the cells of the object below n become 0
-abbrev pub zeros_below : Object → ℕ → Cell → Option (Option ℤ)
-zeros_below o n x = cond (same_object o x.object && nat_lt x.index n) (Some (Some (pos 0))) None
-
 abbrev pub StoresAt : Run → Run → ℕ → CellName → ℤ → Type 0
 StoresAt old new slot cell z =
     (node : Node Activation) → node_at old.cactus slot ≡ Some node → Agrees old.cactus old.hands.items →
@@ -128,13 +121,13 @@ pub record IsReached (prog : Program) (workers : ℕ) (c : running.Machine) : Ty
   pub after : replay prog workers events (running.start prog arguments memory) ≡ c
 
 -- no frame is left of a run that has ended
-abbrev pub IsOver : Run → Type 0
-IsOver m = (z : ℤ) → m.phase ≡ Ended z → (seen m).core.frames [] ≡ None
+abbrev pub LeavesNoFrame : Run → Type 0
+LeavesNoFrame m = (z : ℤ) → m.phase ≡ Ended z → (seen m).core.frames [] ≡ None
 
 -- the machine reads as a state that a schedule leads to, and no step has trapped
 pub record IsRun (prog : Program) (m : Run) : Type 0 where
   pub sound : ¬ IsTrapped m
-  pub over : IsOver m
+  pub over : LeavesNoFrame m
   pub agrees : Agrees m.cactus m.hands.items
   pub manned : 1 ≤ length m.hands.items
   pub reached : IsReached prog (length m.hands.items) (seen m)
@@ -148,7 +141,7 @@ pub record IsStep (prog : Program) (old new : Run) (worker : ℕ) : Type 0 where
   pub agrees : Agrees new.cactus new.hands.items
   pub workers : length new.hands.items ≡ length old.hands.items
   pub program : new.verified ≡ old.verified
-  pub over : IsOver new
+  pub over : LeavesNoFrame new
 
 -- the slot has this node, and it is the top of the task that the worker runs, of a machine that goes on
 pub record IsTurn (prog : Program) (m : Run) (worker slot : ℕ) (node : Node Activation) : Type 0 where

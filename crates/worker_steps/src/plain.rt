@@ -13,7 +13,8 @@ ghost use Rattle.worker_steps.specs.Running.{IsGoing, IsTrapped};
 ghost use Rattle.worker_steps.specs.Seen.{seen};
 ghost use Rattle.worker_steps.specs.Slots.{KeepsSlots};
 ghost use Rattle.worker_steps.specs.Stalls.{KeepsStalls};
-ghost use Rattle.worker_steps.specs.Stepping.{CanDoAt, DoesPlain, FillsSlots, FillsSlotsAt, HasNextAt, HoldsAt, LeavesStalls, OwnerStands, Performs, StepsAt, StoresAt, WritesAlloca};
+ghost use Rattle.worker_steps.specs.Stepping.{CanDoAt, DoesPlain, FillsSlots, FillsSlotsAt, HasNextAt, HoldsAt, LeavesStalls, OwnerStands, Performs};
+ghost use Rattle.worker_steps.specs.Stepping.{StepsAt, StoresAt, WritesAlloca};
 ghost use Rattle.worker_steps.specs.Stopping.{HaltsAt, KeepsCells, Refuses};
 
 use crate::halt::Halt;

@@ -7,7 +7,7 @@ use Rattle.std.proofs.Math.Nat.{add-mul, zero-mul, one-mul}
 use Rattle.std.proofs.lemmas.Bool.Decides.{eqb_tells}
 use Rattle.std.proofs.lemmas.List.Elements.{All-head, All-tail, All-weaker}
 use Rattle.running.specs.Paths.{Path}
-use Rattle.running.specs.Cells.{Memory}
+use Rattle.running.specs.Cells.{Memory, or_zero}
 use Rattle.running.specs.Frames.{Value, Word, Registers, Frame, Does, item_of, item_at, block_at, phis_at, word_of, set_register, and_then}
 use Rattle.running.specs.Effect.{Effect, Plain, Detach, Sync, Call, phi_value, with_phis, registers_along, action_of}
 use Rattle.running.specs.State.{went, detached, continued, synced, called, waiting, resumed, with_result}
@@ -27,7 +27,8 @@ use Rattle.program.specs.declared.instruction.Phi.{Phi}
 use Rattle.program.specs.declared.instruction.Step.{Step}
 use Rattle.conditions.specs.rules.Moves.{number_of, dest_of, GoesOn, Enters, Calls}
 use Rattle.conditions.specs.rules.InProofs.{Moves, is_next, is_along}
-use Rattle.conditions.specs.rules.Costs.{or_zero, numbers, parameters_of, measure_of, bound_of, self_calls_of, instructions_of, calls_left, instructions_left, calls_at, instructions_at, measure_at, cost_below, callee_of, instructions_for, self_calls_for, spent_by, spent_in, instructions_spent, calls_spent, Lacks, IsEntry, natural, self_cost, had, used, may_use, IsCosted}
+use Rattle.conditions.specs.rules.Costs.{numbers, parameters_of, measure_of, bound_of, self_calls_of, instructions_of, calls_left, instructions_left, calls_at, instructions_at, measure_at, cost_below, instructions_for, self_calls_for, spent_by, spent_in, instructions_spent, calls_spent, Lacks, IsEntry, natural, self_cost, had, used, may_use, IsCosted}
+use Rattle.program.specs.Calls.{callee_of}
 use Rattle.conditions.specs.rules.InProofs.{CoversNext, CoversBoth, SomeLeft, CostRules, steps_after, steps_left, rank_of}
 use Rattle.conditions.proofs.rules.Moves.{moves, syncs_along, calls_here}
 

@@ -1,7 +1,7 @@
 -- Forms on the far side of an edge or call have the value of the forms put in on the near side.
 use Rattle.std.proofs.Common.{◌≡◌, ℕ, zero, suc, List, [], ◌∷◌, Option, Some, None, cond, eqb, Bool, true, false, refl, sym, ap, ◌∙◌, slice_get, ℤ, pos}
 use Rattle.running.specs.Frames.{Value, Word, Pointer, Registers, Frame, word_of, word_at, object_at, set_register, and_then, phis_at}
-use Rattle.running.specs.Cells.{Object}
+use Rattle.running.specs.Cells.{Object, or_zero}
 use Rattle.running.specs.Effect.{entry_for, phi_value, with_phis, registers_along, argument_value, argument_values}
 use Rattle.linear.specs.Forms.{Combination, register_form, value, put}
 use Rattle.linear.proofs.Values.{value_constant, value_register, value_put}
@@ -11,7 +11,7 @@ use Rattle.program.specs.declared.instruction.Argument.TheVariants as argument
 use Rattle.program.specs.declared.instruction.Operand.{Operand}
 use Rattle.program.specs.declared.instruction.Operand.TheVariants.{Number, Register}
 use Rattle.program.specs.declared.instruction.Phi.{Phi}
-use Rattle.conditions.specs.rules.Costs.{or_zero, numbers}
+use Rattle.conditions.specs.rules.Costs.{numbers}
 use Rattle.conditions.specs.rules.Edges.{operand_form, entry_form, phi_forms, edge_forms, argument_form, argument_forms}
 
 -- an operand with a value has its form's

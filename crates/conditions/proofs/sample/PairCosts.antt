@@ -27,7 +27,8 @@ use Rattle.program.specs.declared.instruction.Terminator.{Terminator}
 use Rattle.program.specs.declared.instruction.Terminator.TheVariants as terminator
 use Rattle.conditions.specs.rules.Moves.{dest_of, JumpsTo, SyncsTo, EndsFrame}
 use Rattle.conditions.specs.rules.InProofs.{Moves, is_next, is_along}
-use Rattle.conditions.specs.rules.Costs.{numbers, parameters_of, measure_of, bound_of, self_calls_of, instructions_of, calls_left, instructions_left, callee_of, Lacks}
+use Rattle.conditions.specs.rules.Costs.{numbers, parameters_of, measure_of, bound_of, self_calls_of, instructions_of, calls_left, instructions_left, Lacks}
+use Rattle.program.specs.Calls.{callee_of}
 use Rattle.conditions.specs.rules.ShownCosts.{Out, EdgeShown, ForkShown, EndShown, CostsShown, FactsHold}
 use Rattle.conditions.specs.rules.Depths.{Levels, DepthTable}
 use Rattle.conditions.specs.rules.Serially.{IsShownSerially}

@@ -1,13 +1,14 @@
 -- The sample program meets the conditions on zones and regions, so they are not void.
 use Rattle.std.proofs.Common.{◌≡◌, ◌≢◌, ℕ, suc, List, [], ◌∷◌, Option, Some, None, Bool, true, false, cond, ◌&&◌, eqb, eqb-true, ◌⊎◌, inl, inr, refl, sym, ap, ◌∙◌, subst, is_some, ℤ, ◌+ℤ◌}
 use Rattle.std.proofs.lemmas.Bool.Decides.{eqb_tells}
+use Rattle.std.proofs.lemmas.Bool.{and_parts}
 use Rattle.running.specs.Paths.{Path}
 use Rattle.running.specs.Cells.{Object, Shared, Local, Cell, same_object, same_cell, Memory}
 use Rattle.running.specs.Arithmetic.{Undefined, Gives, wrapped}
 use Rattle.running.specs.Frames.{Value, Word, Pointer, Region, Registers, Child, Body, Frame, OnCall, word_of}
 use Rattle.running.specs.Effect.{Effect, Action, Plain, Detach, Reattach, Sync, Call, Return, sets, stops, given, answers, loads, stores, returns, returns_value, action_of}
 use Rattle.running.specs.State.{went, detached, continued, synced}
-use Rattle.running.proofs.Actions.{both_true, same_effect}
+use Rattle.running.proofs.Actions.{same_effect}
 use Rattle.running.proofs.Diamond.{no_call_after}
 use Rattle.conditions.specs.theorem.Conditions.{Zone, Covers, Clear, touched, OwnedBelow, StaysInZone, PassesZonesOn, StaysOpen, ClosesRegions}
 use Rattle.conditions.specs.sample.Pair.{register, pair, cell_of_a}
@@ -94,7 +95,7 @@ sets_off z f d v = record { first = λ x h k. untouched f d v _ h; second = λ x
 
 cell_is : (k : ℕ) (o : Object) (i : ℕ) → same_object (Shared 0) o && eqb k i ≡ true → ◌≡◌ {A = Cell} (record { object = o; index = i }) (cell_of_a k)
 cell_is k (Shared g) i e =
-    let (a, b) = both_true (eqb 0 g) (eqb k i) e in
+    let (a, b) = and_parts (eqb 0 g) (eqb k i) e in
     λ j. record { object = Shared (sym (eqb-true 0 g a) j); index = sym (eqb-true k i b) j }
 cell_is k (Local p n) i e = absurd (cc)
 

@@ -1,5 +1,6 @@
 -- Frames that keep to their zones do not touch one another's cells.
 use Rattle.std.proofs.Common.{◌≡◌, ℕ, ◌<◌, ◌∷◌, Option, Some, None, ◌≢◌, Bool, true, false, cond, not, inl, inr, refl, sym, ap, ◌∙◌, subst, arith, eqb, eq-eqb, is_some, is_none, ℤ}
+use Rattle.std.proofs.lemmas.Bool.{false_from_ne_true}
 use Rattle.running.specs.Paths.{Path, Under, itself, deeper}
 use Rattle.running.specs.Cells.{Object, Shared, Local, Cell, owns}
 use Rattle.running.specs.Frames.{Wait, OnRegion, OnCall, Halted, Role, Child, Body, Frame}
@@ -42,10 +43,6 @@ none_of_not : {A : Type 0} (o : Option A) → (is_some o ≡ true → ⊥) → o
 none_of_not None h = refl
 none_of_not (Some a) h = absurd (h refl)
 
-false_of_not : (b : Bool) → (b ≡ true → ⊥) → b ≡ false
-false_of_not true h = absurd (h refl)
-false_of_not false h = refl
-
 -- clear zones of two changes: neither writes what the other reads or writes, and where one adds the other at most adds
 misses_of_clear : (c d : Change) → Clear (zone_at c) (zone_at d) → Misses c d
 misses_of_clear c d clear x = from (c.writes x) refl (c.adds x) refl
@@ -54,10 +51,10 @@ misses_of_clear c d clear x = from (c.writes x) refl (c.adds x) refl
     from None e None h = is_left e h
     from (Some v) e a h =
         let w : is_some (c.writes x) ≡ true = rw e in
-        is_unseen (false_of_not (d.reads x) (λ r. clear.second x (inl w) (inl r))) (none_of_not (d.writes x) (λ r. clear.second x (inl w) (inr r))) (none_of_not (d.adds x) (λ r. clear.first x (inr w) (inr r)))
+        is_unseen (false_from_ne_true (d.reads x) (λ r. clear.second x (inl w) (inl r))) (none_of_not (d.writes x) (λ r. clear.second x (inl w) (inr r))) (none_of_not (d.adds x) (λ r. clear.first x (inr w) (inr r)))
     from None e (Some v) h =
         let w : is_some (c.adds x) ≡ true = rw h in
-        is_added e (none_of_not (d.writes x) (λ r. clear.second x (inr w) (inr r))) (false_of_not (d.reads x) (λ r. clear.second x (inr w) (inl r)))
+        is_added e (none_of_not (d.writes x) (λ r. clear.second x (inr w) (inr r))) (false_from_ne_true (d.reads x) (λ r. clear.second x (inr w) (inl r)))
 
 apart_of_clear : (c d : Change) → Clear (zone_at c) (zone_at d) → Apart c d
 apart_of_clear c d clear = (misses_of_clear c d clear, misses_of_clear d c (clear_back _ _ clear))

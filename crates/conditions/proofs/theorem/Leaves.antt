@@ -6,6 +6,7 @@ use Rattle.std.specs.Cmp.{IsEquivalence}
 use Rattle.std.specs.List.{IsDistinct}
 use Rattle.std.specs.Set.{is_member}
 use Rattle.std.proofs.lemmas.Map.Made.{length-le_from_is_member}
+use Rattle.std.proofs.lemmas.Bool.{or_right}
 use Rattle.running.specs.Paths.{Path, same_path}
 use Rattle.running.specs.Frames.{Frame}
 use Rattle.running.specs.State.{State, childless}
@@ -36,10 +37,6 @@ length-tails : (p : Path) → length (tails p) ≡ length p + 1
 unfolding tails
 length-tails [] = refl
 length-tails (k ∷ p) = let e : length (tails p) ≡ length p + 1 = length-tails p in omega arith
-
-or_right : (a b : Bool) → b ≡ true → (a || b) ≡ true
-or_right true b e = refl
-or_right false b e = e
 
 tails_self : (p : Path) → is_member same_path (tails p) p ≡ true
 unfolding tails

@@ -41,25 +41,25 @@ record At : Type 0 where
   memory : Memory
 
 module _ (prog : Program) (good : Says) (post : Finds) (rank : Frame → Rank) (kept : KeptSerially prog Nothing good post) (runs : RunsOn prog good rank) where
-  pub record Means (p : Path) (f : Frame) (m : Memory) : Type 0 where
+  pub record HasMeaning (p : Path) (f : Frame) (m : Memory) : Type 0 where
     pub fuel : ℕ
     pub outcome : Outcome
     pub is : meaning prog fuel p f m ≡ Some outcome
     pub finds : post p f m outcome
     pub suits : Suits f.role outcome.ending
 
-  module _ (p : Path) (f : Frame) (m : Memory) (g : good p f m) (before : (q : Path) (h : Frame) (u : Memory) → Below (rank h) (rank f) → good q h u → Means q h u) where
+  module _ (p : Path) (f : Frame) (m : Memory) (g : good p f m) (before : (q : Path) (h : Frame) (u : Memory) → Below (rank h) (rank f) → good q h u → HasMeaning q h u) where
     plain_means : (e : Effect) → action_of prog p f m ≡ Plain e → e.trap ≡ None → (n : ℕ) (o : Outcome) → meaning prog n p (went f e) (written e m) ≡ Some o → meaning prog (suc n) p f m ≡ Some (one_more o)
     plain_means e at fine n o is = rw at (after_fine (meaning prog n) p f m e e.trap o fine is)
 
-    by_plain : (e : Effect) → action_of prog p f m ≡ Plain e → Means p f m
+    by_plain : (e : Effect) → action_of prog p f m ≡ Plain e → HasMeaning p f m
     by_plain e at =
         let fine = runs.no_trap p f m e g at in
         let on = kept.plain_kept p f m e tt g at fine tt in
         let u = before p (went f e) (written e m) (runs.plain_falls p f m e g at on.next) on.next in
         record { fuel = suc u.fuel; outcome = one_more u.outcome; is = plain_means e at fine u.fuel u.outcome u.is; finds = on.finds u.outcome u.finds; suits = u.suits }
 
-    by_sync : (r b : ℕ) (rs : Registers) → action_of prog p f m ≡ Sync r b rs → Means p f m
+    by_sync : (r b : ℕ) (rs : Registers) → action_of prog p f m ≡ Sync r b rs → HasMeaning p f m
     by_sync r b rs at =
         let on = kept.sync_kept p f m r b rs tt g at tt in
         let u = before p (synced f r b rs) m (runs.sync_falls p f m r b rs g at on.next) on.next in
@@ -72,7 +72,7 @@ module _ (prog : Program) (good : Says) (post : Finds) (rank : Frame → Rank) (
         meaning prog n p (continued f next) o.memory ≡ Some u → meaning prog (suc n) p f m ≡ Some (both_outcomes o u)
     detach_means r b next at n o u e gone e2 = rw (at, e, gone, e2)
 
-    by_detach : (r b next : ℕ) → action_of prog p f m ≡ Detach r b next → Means p f m
+    by_detach : (r b next : ℕ) → action_of prog p f m ≡ Detach r b next → HasMeaning p f m
     by_detach r b next at =
         let child = kept.child_kept p f m r b next tt g at tt in
         let u = before (f.made ∷ p) (detached f r b next) m (runs.child_falls p f m r b next g at child) child in
@@ -92,7 +92,7 @@ module _ (prog : Program) (good : Says) (post : Finds) (rank : Frame → Rank) (
         meaning prog n (f.made ∷ p) (called p f h vs) m ≡ Some o → o.ending ≡ Gave x → meaning prog n p (resumed (waiting f d) d x) o.memory ≡ Some u → meaning prog (suc n) p f m ≡ Some (both_outcomes o u)
     call_means d h vs at n o u x e given e2 = rw (at, e, given, e2)
 
-    by_call : (d : Option RegisterId) (h : ℕ) (vs : List Value) → action_of prog p f m ≡ Call d h vs → Means p f m
+    by_call : (d : Option RegisterId) (h : ℕ) (vs : List Value) → action_of prog p f m ≡ Call d h vs → HasMeaning p f m
     by_call d h vs at =
         let body = kept.callee_kept p f m d h vs tt g at tt in
         let u = before (f.made ∷ p) (called p f h vs) m (runs.callee_falls p f m d h vs g at body) body in
@@ -108,17 +108,17 @@ module _ (prog : Program) (good : Says) (post : Finds) (rank : Frame → Rank) (
           suits = v.suits;
         }
 
-    by_reattach : (r : ℕ) → action_of prog p f m ≡ Reattach r → Means p f m
+    by_reattach : (r : ℕ) → action_of prog p f m ≡ Reattach r → HasMeaning p f m
     by_reattach r at =
         let (n, role) = reattach_is_child prog p f m r at in
         record { fuel = 1; outcome = at_last Left m; is = rw at; finds = kept.reattach_finds p f m r tt g at; suits = subst (λ x. Suits x Left) (sym role) tt }
 
-    by_return : (v : Option ℤ) → action_of prog p f m ≡ Return v → Means p f m
+    by_return : (v : Option ℤ) → action_of prog p f m ≡ Return v → HasMeaning p f m
     by_return v at =
         let role = return_is_body prog p f m v at in
         record { fuel = 1; outcome = at_last (Gave v) (cleared p m); is = rw at; finds = kept.return_finds p f m v tt g at; suits = subst (λ x. Suits x (Gave v)) (sym role) tt }
 
-    by_any : (a : Action) → action_of prog p f m ≡ a → Means p f m
+    by_any : (a : Action) → action_of prog p f m ≡ a → HasMeaning p f m
     by_any (Plain e) at = by_plain e at
     by_any (Detach r b next) at = by_detach r b next at
     by_any (Reattach r) at = by_reattach r at
@@ -126,9 +126,9 @@ module _ (prog : Program) (good : Says) (post : Finds) (rank : Frame → Rank) (
     by_any (Call d h vs) at = by_call d h vs at
     by_any (Return v) at = by_return v at
 
-  pub all_mean : (p : Path) (f : Frame) (m : Memory) → good p f m → Means p f m
+  pub all_mean : (p : Path) (f : Frame) (m : Memory) → good p f m → HasMeaning p f m
   all_mean p f m g =
-      by_rank At (λ x. rank x.frame) (λ x. good x.path x.frame x.memory → Means x.path x.frame x.memory)
+      by_rank At (λ x. rank x.frame) (λ x. good x.path x.frame x.memory → HasMeaning x.path x.frame x.memory)
       (λ x before here. by_any x.path x.frame x.memory here (λ q h u low fit. before (record { path = q; frame = h; memory = u }) low fit) (action_of prog x.path x.frame x.memory) refl)
       (record { path = p; frame = f; memory = m }) g
 

@@ -37,7 +37,7 @@ untrapped (call f d g vs is go at) safe = refl
 untrapped (ret f v k above g j d is go at none role here over waits) safe = refl
 untrapped (end f v is go at none role here) safe = refl
 
-not_trapped : (t : Option Trap) (next : Option Machine) → t ≡ None → unless_trapped t next ≡ next
+pub not_trapped : (t : Option Trap) (next : Option Machine) → t ≡ None → unless_trapped t next ≡ next
 not_trapped None next e = refl
 not_trapped (Some t) next e = absurd (cc)
 

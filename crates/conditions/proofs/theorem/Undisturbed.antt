@@ -1,5 +1,6 @@
 -- The steps of one frame, and the cells that they read, are the same whatever the other frames do between.
-use Rattle.std.proofs.Common.{◌≡◌, ◌≢◌, ℕ, List, [], ◌∷◌, None, Bool, true, false, ◌||◌, ◌⊎◌, inl, inr, refl, sym, ap, subst}
+use Rattle.std.proofs.Common.{◌≡◌, ◌≢◌, ℕ, List, [], ◌∷◌, None, true, inl, inr, sym, ap, subst}
+use Rattle.std.proofs.lemmas.Bool.{or_cases}
 use Rattle.running.specs.Paths.{Path}
 use Rattle.running.specs.Cells.{Cell}
 use Rattle.running.specs.Frames.{Frame}
@@ -12,10 +13,6 @@ use Rattle.running.proofs.Diamond.{stays, apply_commutes, frames_apart, results_
 use Rattle.conditions.proofs.theorem.Feet.{steps_apart}
 use Rattle.conditions.proofs.theorem.Sound.{Sound, sound_kept}
 use Rattle.program.specs.declared.function.Program.{Program}
-
-either : (a b : Bool) → a || b ≡ true → (a ≡ true) ⊎ (b ≡ true)
-either true b e = inl refl
-either false b e = inr e
 
 -- what a change does to a cell that another looks at: nothing
 spares : (d c : Change) (x : Cell) → MissesAt d c x → c.reads x ≡ true → (d.writes x ≡ None) × (d.adds x ≡ None)
@@ -45,7 +42,7 @@ module _ {ℓ} (Z : Type ℓ) (zone : Z → Zone) (prog : Program) (fits : Path 
       let dp = does prog s p c ch in
       let (misses, missed) = steps_apart Z zone prog fits pending expects inside s sound.tree sound.feet sound.footed p q c d differ dp dq in
       let dq2 = stays sound.tree differ dp misses dq in
-      elim (either (c.reads x) (read_by cs x) r) [
+      elim (or_cases (c.reads x) (read_by cs x) r) [
         | inl h ↦ spares d c x (missed x) h
         | inr h ↦ cell_spared p q differ cs (apply c s) t d x (step_sound p c s sound dp) rest dq2 h
       ]

@@ -1,31 +1,24 @@
 -- What the rules on cost say of frames: how much of its function's budget a frame may still use, and the inequalities between a frame and those that
 -- it goes on with.
-use Rattle.std.specs.Prelude.{◌≡◌, ◌≢◌, ℕ, zero, suc, ◌+◌, ◌*◌, List, [], ◌∷◌, length, Option, Some, None, cond, eqb, slice_get, All, ℤ, pos, negsuc}
+use Rattle.std.specs.Prelude.{◌≡◌, ◌≢◌, ℕ, zero, suc, ◌+◌, ◌*◌, List, [], ◌∷◌, Option, Some, None, cond, eqb, slice_get, All, ℤ, pos, negsuc}
 use Rattle.std.specs.Prelude.{◌-ℤ◌, ◌≤ℤ◌}
+use Rattle.running.specs.Cells.{or_zero}
 use Rattle.running.specs.Frames.{Registers, Frame, block_at, word_of}
 use Rattle.linear.specs.Forms.{Combination, constant_form, value}
+use Rattle.program.specs.Blocks.{left_calls, left_instructions}
+use Rattle.program.specs.Calls.{callee_of, parameters_in}
 use Rattle.program.specs.declared.function.Block.{Block}
 use Rattle.program.specs.declared.function.Function.{Function}
 use Rattle.program.specs.declared.function.Program.{Program}
-use Rattle.program.specs.declared.instruction.Instruction.{Instruction}
-use Rattle.program.specs.declared.instruction.Instruction.TheVariants as instruction
 use Rattle.program.specs.declared.instruction.Step.{Step}
 
 -- ---- registers as forms read them
-
-abbrev pub or_zero : Option ℤ → ℤ
-or_zero None = pos 0
-or_zero (Some z) = z
 
 -- 0 where there is no number
 abbrev pub numbers : Registers → ℕ → ℤ
 numbers r x = or_zero (word_of (r x))
 
 -- ---- what functions and blocks declare
-
-abbrev pub parameters_in : Option Function → ℕ
-parameters_in None = 0
-parameters_in (Some f) = length f.parameters
 
 -- the parameters are the registers below this number
 abbrev pub parameters_of : Program → ℕ → ℕ
@@ -60,20 +53,12 @@ self_calls_of prog function = self_calls_in (slice_get prog.functions function)
 abbrev pub instructions_of : Program → ℕ → ℕ
 instructions_of prog function = instructions_in (slice_get prog.functions function)
 
-abbrev pub calls_left_in : Option Block → Combination
-calls_left_in None = constant_form (pos 0)
-calls_left_in (Some b) = b.left.self_calls
-
-abbrev pub instructions_left_in : Option Block → Combination
-instructions_left_in None = constant_form (pos 0)
-instructions_left_in (Some b) = b.left.instructions
-
 -- what is left of them at a block's start
 abbrev pub calls_left : Program → ℕ → ℕ → Combination
-calls_left prog function block = calls_left_in (block_at prog function block)
+calls_left prog function block = left_calls (block_at prog function block)
 
 abbrev pub instructions_left : Program → ℕ → ℕ → Combination
-instructions_left prog function block = instructions_left_in (block_at prog function block)
+instructions_left prog function block = left_instructions (block_at prog function block)
 
 -- in a frame
 abbrev pub calls_at : Program → Frame → ℤ
@@ -91,19 +76,6 @@ measure_at prog f = value (numbers f.registers) (measure_of prog f.function)
 abbrev pub cost_below : Program → ℕ → ℕ → ℕ
 cost_below prog function zero = 0
 cost_below prog function (suc m) = instructions_of prog function + self_calls_of prog function * cost_below prog function m
-
-abbrev pub callee_of : Instruction → Option ℕ
-callee_of (instruction.Binary d op w a b) = None
-callee_of (instruction.Compare d by w a b) = None
-callee_of (instruction.Convert d by a) = None
-callee_of (instruction.Alloca d a) = None
-callee_of (instruction.ElementPointer d name i) = None
-callee_of (instruction.Load d address) = None
-callee_of (instruction.Store a address) = None
-callee_of (instruction.StoreZeros cells name) = None
-callee_of (instruction.AtomicAdd address a) = None
-callee_of (instruction.Call d callee arguments) = Some callee.0
-callee_of (instruction.StartRegion d) = None
 
 -- an instruction costs 1, and a call of another function that one's cost too; a self call is counted apart
 abbrev pub instructions_for : Program → ℕ → Option ℕ → ℕ

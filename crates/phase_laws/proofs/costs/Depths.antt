@@ -17,7 +17,7 @@ use Rattle.region_match.specs.declared.task.Task.{Task}
 use Rattle.region_match.specs.declared.tables.Regions.{Regions}
 use Rattle.conditions.specs.rules.Costs.{bound_in}
 use Rattle.conditions.specs.rules.Depths.{DepthTable}
-use Rattle.cost_table.specs.Cost.{callee_of}
+use Rattle.program.specs.Calls.{callee_of}
 use Rattle.cost_table.specs.Depth.{detaches_around, greatest, greatest_block, callee_depth, block_depth, self_depth, self_call_depth, flat_depth, self_calls_depth, depth_from, tasks_of, whole_depth_of, first_depths}
 use Rattle.phase_laws.specs.costs.Depths.{level_of, depth_in, depth_of, CallsUpward}
 

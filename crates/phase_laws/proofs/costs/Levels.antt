@@ -1,6 +1,5 @@
 -- The detaches around a block are those of its task, and no path passes one twice on the way in.
 use Rattle.std.proofs.Common.{◌≡◌, ◌∙◌, ℕ, zero, suc, ◌+◌, ◌<◌, ◌≤◌, eqb, List, [], ◌∷◌, length, get_or, map, Option, Some, None, refl, sym, ap, subst, arith, slice_get}
-use Rattle.std.specs.List.{Contains}
 use Rattle.std.proofs.lemmas.Bool.{ne_eqb, eqb-true}
 use Rattle.std.proofs.lemmas.List.Elements.{All-contains}
 use Rattle.std.proofs.lemmas.List.Folds.{Any-from_list_any}
@@ -14,11 +13,10 @@ use Rattle.program.specs.declared.function.Program.{Program}
 use Rattle.program.specs.declared.instruction.Terminator.{Terminator}
 use Rattle.program.specs.declared.instruction.Terminator.TheVariants as terminator
 use Rattle.cfg.specs.declared.structure.BlockEdges.{BlockEdges}
-use Rattle.cfg.specs.declared.structure.Edge.{Edge}
 use Rattle.cfg.specs.declared.structure.Way.{Way}
 use Rattle.cfg.specs.declared.structure.Way.TheVariants as way
 use Rattle.cfg.specs.Edges.{graph_of, graphs_of}
-use Rattle.cfg.specs.Paths.{edges_of, Leg, IsPath}
+use Rattle.cfg.specs.Paths.{Leg, IsPath}
 use Rattle.cfg.specs.Rules.{IsFunctionRight, IsGraphRight}
 use Rattle.cfg.proofs.EdgeLists.{length-edges_from}
 use Rattle.region_match.specs.declared.task.Task.{Task}
@@ -29,19 +27,16 @@ use Rattle.region_match.specs.Tasks.{task_along, task_on, HasTask, innermost, ta
 use Rattle.conditions.specs.rules.Depths.{Levels}
 use Rattle.phase_laws.specs.defined.Leads.{LeadsTo, IsBlock}
 use Rattle.phase_laws.specs.defined.Names.{IsNamed}
-use Rattle.phase_laws.proofs.defined.Lists.{none_within, at_within}
+use Rattle.phase_laws.proofs.defined.Lists.{at_within}
 use Rattle.phase_laws.proofs.defined.Placed.{Arrives, arrives}
 use Rattle.phase_laws.proofs.defined.Visits.{one_task}
-use Rattle.cost_table.specs.Depth.{detaches_within, detaches_around, tasks_in, tasks_of}
+use Rattle.cost_table.specs.Depth.{detaches_within, detaches_around, tasks_of}
+use Rattle.region_match.specs.Tasks.{tasks_in}
 use Rattle.phase_laws.specs.costs.Depths.{level_of}
 use Rattle.phase_laws.specs.costs.Levels.{LevelsByTasks}
+use Rattle.region_match.proofs.OneTask.{edges_within}
 
 -- ---- tasks within tasks
-
-edges_within : (blocks : List BlockEdges) (b : ℕ) (e : Edge) → Contains (edges_of blocks b) e → b < length blocks
-edges_within [] b e within = absurd (none_within e within)
-edges_within (x ∷ blocks) zero e within = omega arith
-edges_within (x ∷ blocks) (suc b) e within = let less = edges_within blocks b e within in omega (arith, less)
 
 -- the innermost detach of a task is in the task around it
 record Around (blocks : List BlockEdges) (detach : ℕ) (outer : List ℕ) : Type 0 where

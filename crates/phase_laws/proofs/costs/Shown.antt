@@ -1,9 +1,9 @@
 -- Where no rule on cost is broken, facts show the rules as the bridge asks for them.
 use Rattle.std.proofs.Common.{◌≡◌, ◌∙◌, ◌⊎◌, ℕ, suc, ◌+◌, ◌<◌, ◌≤◌, pos, Bool, true, List, [], ◌++◌, length, get_or, map, Option, Some, None, is_some, inl, inr, refl, sym, ap, subst, arith, slice_get}
 use Rattle.std.specs.List.{All, Any, Contains}
-use Rattle.std.proofs.lemmas.Bool.{false≢true}
+use Rattle.std.proofs.lemmas.Bool.{false≢true, true_from_ne_false}
 use Rattle.std.proofs.lemmas.List.Elements.{All-nil, All-map, Contains-get_or, Contains-append_left, Contains-append_right}
-use Rattle.running.specs.Frames.{Does, Ends, and_then, block_at, item_at, block_phis, phis_at}
+use Rattle.running.specs.Frames.{Does, Ends, and_then, block_at, item_at, phis_at}
 use Rattle.linear.specs.declared.form.Fact.{Fact}
 use Rattle.linear.specs.declared.form.Term.{Term}
 use Rattle.linear.specs.declared.form.RegisterId.{RegisterId}
@@ -26,10 +26,12 @@ use Rattle.ranges.specs.declared.edge.EdgeSums.{EdgeSums}
 use Rattle.ranges.specs.declared.table.EdgeFacts.{EdgeFacts}
 use Rattle.ranges.specs.Sums.{facts_of, shows}
 use Rattle.ranges.specs.Inequalities.{argument_moves}
-use Rattle.ranges.specs.Edges.{edges_out, edge_facts, all_edge_facts, phis_of}
+use Rattle.ranges.specs.Edges.{edges_out, edge_facts, all_edge_facts}
+use Rattle.program.specs.Blocks.{block_phis, left_calls, left_instructions}
 use Rattle.ranges.specs.Places.{stated, start_facts, facts_at_step, facts_at_end, edges_known}
 use Rattle.conditions.specs.rules.Moves.{dest_of, EndsFrame}
-use Rattle.conditions.specs.rules.Costs.{parameters_in, parameters_of, measure_in, measure_of, bound_in, bound_of, self_calls_in, self_calls_of, instructions_in, instructions_of, calls_left_in, instructions_left_in, calls_left, instructions_left, instructions_for, self_calls_for, spent_by, spent_in, Lacks}
+use Rattle.conditions.specs.rules.Costs.{parameters_of, measure_in, measure_of, bound_in, bound_of, self_calls_in, self_calls_of, instructions_in, instructions_of, calls_left, instructions_left, instructions_for, self_calls_for, spent_by, spent_in, Lacks}
+use Rattle.program.specs.Calls.{parameters_in}
 use Rattle.conditions.specs.rules.Edges.{edge_forms, argument_forms}
 use Rattle.conditions.specs.rules.ShownCosts.{calls_spent_at, instructions_spent_at, IsAtLeast, EdgeShown, ForkShown, EndShown, CostsShown}
 use Rattle.definedness.specs.RegisterActs.{form_needs, register_needs}
@@ -41,11 +43,11 @@ use Rattle.phase_laws.proofs.defined.Items.{block_is}
 use Rattle.phase_laws.proofs.defined.Lists.{first_within, flat_within}
 use Rattle.phase_laws.specs.facts.Known.{shows_at, known_at_place}
 use Rattle.phase_laws.specs.facts.Handed.{out_of, outs_of, outs_along, outs_at}
-use Rattle.phase_laws.proofs.facts.Places.{BlockOf, StepAt, EndAt, step_at, end_at, known_is, known_end, true_unless, Any_of}
+use Rattle.phase_laws.proofs.facts.Places.{BlockOf, StepAt, EndAt, step_at, end_at, known_is, known_end, Any_of}
 use Rattle.cfg.proofs.Searching.{Contains_map}
 use Rattle.phase_laws.proofs.facts.Handed.{outs_are, facts_tabled}
 use Rattle.cost_table.specs.Cost.{calls_done, instructions_done, instructions_of as instructions_by}
-use Rattle.cost_table.specs.Rules.{left_behind, less_form, number_less, left_calls, left_instructions, IsPairBroken, IsEdgeUncovered, IsForkUncovered, IsEndUncovered, IsUncoveredAt, IsEndingUncovered, IsCallNotFalling, IsNotFalling, IsEntryBroken, IsBlockBroken}
+use Rattle.cost_table.specs.Rules.{left_behind, less_form, number_less, IsPairBroken, IsEdgeUncovered, IsForkUncovered, IsEndUncovered, IsUncoveredAt, IsEndingUncovered, IsCallNotFalling, IsNotFalling, IsEntryBroken, IsBlockBroken}
 use Rattle.cost_table.specs.Rules.{AreCostsRight}
 use Rattle.phase_laws.specs.costs.Shown.{IsReadable, CostsAreShown}
 use Rattle.phase_laws.proofs.costs.Sums.{shown_more, floor_shown, end_shown, moved_shown, fork_shown, ceiling_shown}
@@ -56,7 +58,7 @@ use Rattle.phase_laws.proofs.costs.Entries.{have_entries}
 both_hold : (number line : ℕ) (a b : Bool) → ((x : Broken) → IsPairBroken number line a b x → ⊥) → (a ≡ true) × (b ≡ true)
 both_hold number line a b never =
     let broken : Broken = record { line = line; number = number } in
-    (true_unless a (λ e. never broken (refl, refl, inl e)), true_unless b (λ e. never broken (refl, refl, inr e)))
+    (true_from_ne_false a (λ e. never broken (refl, refl, inl e)), true_from_ne_false b (λ e. never broken (refl, refl, inr e)))
 
 nothing_shown : (facts : List Fact) → IsShown facts (constant_form (pos 0))
 nothing_shown facts =
@@ -80,18 +82,6 @@ some_there : {X : Type 0} (o : Option X) → is_some o ≡ true → (x : X) × (
 some_there None h = absurd (false≢true h)
 some_there (Some x) h = (x, refl)
 
-left_calls_are : (o : Option Block) → calls_left_in o ≡ left_calls o
-left_calls_are None = refl
-left_calls_are (Some block) = refl
-
-left_instructions_are : (o : Option Block) → instructions_left_in o ≡ left_instructions o
-left_instructions_are None = refl
-left_instructions_are (Some block) = refl
-
-phis_are : (o : Option Block) → block_phis o ≡ phis_of o
-phis_are None = refl
-phis_are (Some block) = refl
-
 one_more : (a b : ℕ) → a ≡ b → suc a ≡ 1 + b
 one_more a b same = omega (arith, same)
 
@@ -114,10 +104,10 @@ block_or_none prog f b = from (slice_get prog.functions f) refl
 
 module _ (prog : Program) (f b : ℕ) (o : BlockOf prog f b) where
   calls_are : calls_left prog f b ≡ o.block.left.self_calls
-  calls_are = ap calls_left_in (block_is prog f b o.function o.block (as_block prog f b o))
+  calls_are = ap left_calls (block_is prog f b o.function o.block (as_block prog f b o))
 
   instructions_are : instructions_left prog f b ≡ o.block.left.instructions
-  instructions_are = ap instructions_left_in (block_is prog f b o.function o.block (as_block prog f b o))
+  instructions_are = ap left_instructions (block_is prog f b o.function o.block (as_block prog f b o))
 
   calls_spent_is : (index : ℕ) → index ≡ length o.block.steps → calls_spent_at prog f b index ≡ calls_done f o.block
   calls_spent_is index last =
@@ -134,13 +124,13 @@ module _ (prog : Program) (f b : ℕ) (o : BlockOf prog f b) where
   beside to = ap (λ x. and_then x (λ (g : Function). slice_get g.blocks to)) o.at_function
 
   calls_beside : (to : ℕ) → calls_left prog f to ≡ left_calls (slice_get o.function.blocks to)
-  calls_beside to = ap calls_left_in (beside to) ∙ left_calls_are (slice_get o.function.blocks to)
+  calls_beside to = ap left_calls (beside to)
 
   instructions_beside : (to : ℕ) → instructions_left prog f to ≡ left_instructions (slice_get o.function.blocks to)
-  instructions_beside to = ap instructions_left_in (beside to) ∙ left_instructions_are (slice_get o.function.blocks to)
+  instructions_beside to = ap left_instructions (beside to)
 
-  phis_beside : (to : ℕ) → phis_at prog f to ≡ phis_of (slice_get o.function.blocks to)
-  phis_beside to = ap block_phis (beside to) ∙ phis_are (slice_get o.function.blocks to)
+  phis_beside : (to : ℕ) → phis_at prog f to ≡ block_phis (slice_get o.function.blocks to)
+  phis_beside to = ap block_phis (beside to)
 
   -- what is known at the start is not less than what the rules look at
   known_more : (e : Combination) → IsShown (start_facts o.function b o.block) e → IsShown (known_at_place prog f b 0) e
@@ -169,13 +159,13 @@ module _ (prog : Program) (right : AreCostsRight prog) (given : IsReadable prog)
   start_calls : (f b : ℕ) → IsShown (known_at_place prog f b 0) (calls_left prog f b)
   start_calls f b = elim (block_or_none prog f b) [
     | inl o ↦ subst (λ e. IsShown (known_at_place prog f b 0) e) (sym (calls_are prog f b o)) (starts f b o).0
-    | inr none ↦ subst (λ e. IsShown (known_at_place prog f b 0) e) (sym (ap calls_left_in none)) (nothing_shown (known_at_place prog f b 0))
+    | inr none ↦ subst (λ e. IsShown (known_at_place prog f b 0) e) (sym (ap left_calls none)) (nothing_shown (known_at_place prog f b 0))
   ]
 
   start_instructions : (f b : ℕ) → IsShown (known_at_place prog f b 0) (instructions_left prog f b)
   start_instructions f b = elim (block_or_none prog f b) [
     | inl o ↦ subst (λ e. IsShown (known_at_place prog f b 0) e) (sym (instructions_are prog f b o)) (starts f b o).1
-    | inr none ↦ subst (λ e. IsShown (known_at_place prog f b 0) e) (sym (ap instructions_left_in none)) (nothing_shown (known_at_place prog f b 0))
+    | inr none ↦ subst (λ e. IsShown (known_at_place prog f b 0) e) (sym (ap left_instructions none)) (nothing_shown (known_at_place prog f b 0))
   ]
 
   -- ---- at the entry
@@ -239,7 +229,7 @@ module _ (prog : Program) (right : AreCostsRight prog) (given : IsReadable prog)
     where
       from : (o : Option Function) → slice_get prog.functions f ≡ o → IsShown (known_at_place prog f 0 0) (minus (constant_form (pos (self_calls_of prog f))) (calls_left prog f 0))
       from None none =
-          subst (λ (x : Option Block). IsShown (known_at_place prog f 0 0) (minus (constant_form (pos (self_calls_of prog f))) (calls_left_in x))) (sym (no_block f none))
+          subst (λ (x : Option Block). IsShown (known_at_place prog f 0 0) (minus (constant_form (pos (self_calls_of prog f))) (left_calls x))) (sym (no_block f none))
           (subst (λ (o : Option Function). IsShown (known_at_place prog f 0 0) (minus (constant_form (pos (self_calls_in o))) (constant_form (pos 0)))) (sym none) (no_difference (known_at_place prog f 0 0)))
       from (Some function) at = let e = entry_of f function at in calls_here f function at e.0 e.1
 
@@ -248,7 +238,7 @@ module _ (prog : Program) (right : AreCostsRight prog) (given : IsReadable prog)
     where
       from : (o : Option Function) → slice_get prog.functions f ≡ o → IsShown (known_at_place prog f 0 0) (minus (constant_form (pos (instructions_of prog f))) (instructions_left prog f 0))
       from None none =
-          subst (λ (x : Option Block). IsShown (known_at_place prog f 0 0) (minus (constant_form (pos (instructions_of prog f))) (instructions_left_in x))) (sym (no_block f none))
+          subst (λ (x : Option Block). IsShown (known_at_place prog f 0 0) (minus (constant_form (pos (instructions_of prog f))) (left_instructions x))) (sym (no_block f none))
           (subst (λ (o : Option Function). IsShown (known_at_place prog f 0 0) (minus (constant_form (pos (instructions_in o))) (constant_form (pos 0)))) (sym none) (no_difference (known_at_place prog f 0 0)))
       from (Some function) at = let e = entry_of f function at in instructions_here f function at e.0 e.1
 
@@ -273,9 +263,9 @@ module _ (prog : Program) (right : AreCostsRight prog) (given : IsReadable prog)
     entries_beside e within = from (slice_get place.of.function.blocks e.to.0) refl
       where
         from : (o : Option Block) → slice_get place.of.function.blocks e.to.0 ≡ o → HaveEntries b (phis_at prog f e.to.0)
-        from None none = subst (HaveEntries b) (sym (phis_beside prog f b place.of e.to.0 ∙ ap phis_of none)) (All-nil _)
+        from None none = subst (HaveEntries b) (sym (phis_beside prog f b place.of e.to.0 ∙ ap block_phis none)) (All-nil _)
         from (Some target) there =
-            subst (HaveEntries b) (sym (phis_beside prog f b place.of e.to.0 ∙ ap phis_of there))
+            subst (HaveEntries b) (sym (phis_beside prog f b place.of e.to.0 ∙ ap block_phis there))
             (have_entries prog given.graph f b place.of.function place.of.block target place.ending e (as_block prog f b place.of) place.at_ending (subst (λ (u : Terminator). Contains (edges_out place.of.block.steps u) e) (sym place.is) within) there)
 
     -- an edge that is covered

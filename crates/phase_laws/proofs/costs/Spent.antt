@@ -4,24 +4,10 @@ use Rattle.std.specs.Prelude.{slice_get, sum_by}
 use Rattle.std.proofs.lemmas.List.Sums.{sum_by-cons}
 use Rattle.program.specs.declared.function.Function.{Function}
 use Rattle.program.specs.declared.function.Program.{Program}
-use Rattle.program.specs.declared.instruction.Instruction.{Instruction}
-use Rattle.program.specs.declared.instruction.Instruction.TheVariants as instruction
 use Rattle.program.specs.declared.instruction.Step.{Step}
-use Rattle.conditions.specs.rules.Costs.{bound_in, bound_of, self_calls_in, instructions_in, cost_below as cost_below_of, callee_of as called_by, instructions_for, self_calls_for, spent_by}
-use Rattle.cost_table.specs.Cost.{cost_below, whole_cost_of, callee_of, callee_cost, self_call, instructions_of, self_calls_of}
-
-same_callee : (i : Instruction) → called_by i ≡ callee_of i
-same_callee (instruction.Binary d operator width x y) = refl
-same_callee (instruction.Compare d predicate width x y) = refl
-same_callee (instruction.Convert d conversion x) = refl
-same_callee (instruction.Alloca d alloca) = refl
-same_callee (instruction.ElementPointer d object index) = refl
-same_callee (instruction.Load d address) = refl
-same_callee (instruction.Store x address) = refl
-same_callee (instruction.StoreZeros cells object) = refl
-same_callee (instruction.AtomicAdd address x) = refl
-same_callee (instruction.Call d callee arguments) = refl
-same_callee (instruction.StartRegion d) = refl
+use Rattle.conditions.specs.rules.Costs.{bound_in, bound_of, self_calls_in, instructions_in, cost_below as cost_below_of, instructions_for, self_calls_for, spent_by}
+use Rattle.program.specs.Calls.{callee_of}
+use Rattle.cost_table.specs.Cost.{cost_below, whole_cost_of, callee_cost, self_call, instructions_of, self_calls_of}
 
 -- ---- what a call costs
 
@@ -64,7 +50,7 @@ self_calls_are f None = refl
 self_calls_are f (Some g) = refl
 
 -- all steps of a block
-spent_all : (cost : Option ℕ → ℕ) (each : Step → ℕ) → ((s : Step) → cost (called_by s.instruction) ≡ each s) → (steps : List Step) → spent_by cost steps (length steps) ≡ sum_by each steps
+spent_all : (cost : Option ℕ → ℕ) (each : Step → ℕ) → ((s : Step) → cost (callee_of s.instruction) ≡ each s) → (steps : List Step) → spent_by cost steps (length steps) ≡ sum_by each steps
 spent_all cost each same [] = refl
 spent_all cost each same (s ∷ steps) =
     let first = same s in
@@ -75,8 +61,8 @@ spent_all cost each same (s ∷ steps) =
 pub instructions_spent_are : (prog : Program) (f : ℕ) (steps : List Step) → spent_by (instructions_for prog f) steps (length steps) ≡ instructions_of prog.functions f steps
 instructions_spent_are prog f steps =
     spent_all (instructions_for prog f) (λ s. 1 + callee_cost prog.functions f (callee_of s.instruction))
-    (λ s. ap (instructions_for prog f) (same_callee s.instruction) ∙ instructions_are prog f (callee_of s.instruction)) steps
+    (λ s. instructions_are prog f (callee_of s.instruction)) steps
 
 pub calls_spent_are : (f : ℕ) (steps : List Step) → spent_by (self_calls_for f) steps (length steps) ≡ self_calls_of f steps
 calls_spent_are f steps =
-    spent_all (self_calls_for f) (λ s. self_call f (callee_of s.instruction)) (λ s. ap (self_calls_for f) (same_callee s.instruction) ∙ self_calls_are f (callee_of s.instruction)) steps
+    spent_all (self_calls_for f) (λ s. self_call f (callee_of s.instruction)) (λ s. self_calls_are f (callee_of s.instruction)) steps

@@ -66,12 +66,12 @@ result_other r (Some d) (Some z) x apart = set_other r d (Word z) x (λ e. apart
 
 -- ---- elements
 
-index_within : (z : ℤ) (n : ℕ) → int_le (pos 0) z && int_lt z (pos n) ≡ true → unsigned_abs z < n
+pub index_within : (z : ℤ) (n : ℕ) → int_le (pos 0) z && int_lt z (pos n) ≡ true → unsigned_abs z < n
 index_within (pos k) n h = ltb-true k n (and_parts _ _ h).1
 index_within (negsuc k) n h = absurd (let c : false ≡ true = (and_parts false (int_lt (negsuc k) (pos n)) h).0 in cc)
 
 -- a step that does not trap leaves its register pointing into the object
-pointed : (f : Frame) (d : RegisterId) (n : ℕ) (a : Option Object) (b : Option ℤ) (e : Effect) (c : Cell) → given f a (λ o. given f b (points f d n o)) ≡ e → e.trap ≡ None → cell_of (e.registers d.0) ≡ Some c → (a ≡ Some c.object) × (c.index < n)
+pub pointed : (f : Frame) (d : RegisterId) (n : ℕ) (a : Option Object) (b : Option ℤ) (e : Effect) (c : Cell) → given f a (λ o. given f b (points f d n o)) ≡ e → e.trap ≡ None → cell_of (e.registers d.0) ≡ Some c → (a ≡ Some c.object) × (c.index < n)
 pointed f d n None b e c is fine at = absurd (let h : (stops Undefined f).trap ≡ None = ap (λ (x : Effect). x.trap) is ∙ fine in cc)
 pointed f d n (Some o) None e c is fine at = absurd (let h : (stops Undefined f).trap ≡ None = ap (λ (x : Effect). x.trap) is ∙ fine in cc)
 pointed f d n (Some o) (Some z) e c is fine at = by (int_le (pos 0) z && int_lt z (pos n)) refl is

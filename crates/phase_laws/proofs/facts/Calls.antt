@@ -24,7 +24,9 @@ use Rattle.ranges.specs.Truth.{operand_value, IsTrueAt}
 use Rattle.ranges.specs.Inequalities.{operand_for, difference_of, argument_operand, argument_moves, result_moves, register_operand, call_moves}
 use Rattle.ranges.specs.Learned.{call_sums}
 use Rattle.ranges.specs.Owed.{owed, call_owed, inequalities_owed}
-use Rattle.conditions.specs.rules.Costs.{or_zero, numbers, parameters_in, parameters_of}
+use Rattle.conditions.specs.rules.Costs.{numbers, parameters_of}
+use Rattle.running.specs.Cells.{or_zero}
+use Rattle.program.specs.Calls.{parameters_in}
 use Rattle.conditions.specs.rules.Edges.{operand_form, argument_form, argument_forms}
 use Rattle.conditions.specs.rules.Moves.{number_of, Calls}
 use Rattle.conditions.specs.rules.Registers.{returns_number}

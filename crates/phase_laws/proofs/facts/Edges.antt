@@ -11,7 +11,7 @@ use Rattle.std.proofs.lemmas.Int.{ints}
 use Rattle.std.proofs.lemmas.List.Elements.{All-nil, All-head, All-tail, All-append, All-weaker}
 use Rattle.running.specs.Paths.{Path}
 use Rattle.running.specs.Arithmetic.{compares}
-use Rattle.running.specs.Frames.{Word, Truth, Registers, Frame, Does, item_of, item_at, phis_at, block_phis, and_then, truth_of, word_at, set_register}
+use Rattle.running.specs.Frames.{Word, Truth, Registers, Frame, Does, item_of, item_at, phis_at, and_then, truth_of, word_at, set_register}
 use Rattle.running.specs.Effect.{Effect, Plain, given, enters, jumps, case_for, registers_along, entry_for, with_phis, terminator_action}
 use Rattle.running.proofs.Actions.{same_effect}
 use Rattle.linear.specs.Forms.{Holds}
@@ -43,7 +43,8 @@ use Rattle.ranges.specs.declared.edge.EdgeSums.{EdgeSums}
 use Rattle.ranges.specs.Sums.{one, facts_of}
 use Rattle.ranges.specs.Truth.{operand_value, IsTrueAt}
 use Rattle.ranges.specs.Inequalities.{operand_for, difference_of}
-use Rattle.ranges.specs.Edges.{compare_of, compared, at_least, above, compare_sums, branch_sums, case_sums, edge_to, edges_out, phis_of, keeps_of}
+use Rattle.ranges.specs.Edges.{compare_of, compared, at_least, above, compare_sums, branch_sums, case_sums, edge_to, edges_out, keeps_of}
+use Rattle.program.specs.Blocks.{block_phis}
 use Rattle.program.specs.Steps.{or_else}
 use Rattle.ranges.proofs.Truth.{facts_true}
 use Rattle.conditions.specs.rules.Costs.{numbers}
@@ -343,12 +344,12 @@ module _ (prog : Program) (right : AreRangesRight prog) (f : Frame) (t : Termina
 
   -- what the target keeps, with the phis' moves put in
   keeps_true : (e : EdgeSums) → Contains (edges_out place.of.block.steps t) e → All (IsTrueAt (numbers f.registers)) e.sums →
-      All (λ q. IsTrueAt (numbers f.registers) (difference_of (moves_from f.block (phis_of (slice_get place.of.function.blocks e.to.0))) q)) (keeps_of (slice_get place.of.function.blocks e.to.0))
+      All (λ q. IsTrueAt (numbers f.registers) (difference_of (moves_from f.block (block_phis (slice_get place.of.function.blocks e.to.0))) q)) (keeps_of (slice_get place.of.function.blocks e.to.0))
   keeps_true e c true_sums =
       let known : List Fact = known_at_place prog f.function f.block (length place.of.block.steps) in
       let among : Contains (edges_out place.of.block.steps place.ending.terminator) e = subst (λ u. Contains (edges_out place.of.block.steps u) e) (sym place.is) c in
       let whole : AllHold (numbers f.registers) (known ++ facts_of e.sums) = All-append (λ (g : Fact). Holds (numbers f.registers) g.form) known (facts_of e.sums) known_end_holds (facts_true e.sums (numbers f.registers) true_sums) in
-      owed_true (known ++ facts_of e.sums) 505 (moves_from f.block (phis_of (slice_get place.of.function.blocks e.to.0))) (keeps_of (slice_get place.of.function.blocks e.to.0))
+      owed_true (known ++ facts_of e.sums) 505 (moves_from f.block (block_phis (slice_get place.of.function.blocks e.to.0))) (keeps_of (slice_get place.of.function.blocks e.to.0))
       (edge_met prog right f.function f.block place.of place.ending place.at_ending e among) (numbers f.registers) whole
 
   starts : (target : ℕ) → target ≢ 0 → (o : BlockOf prog f.function target) (s : Registers) → All (IsMet (numbers s)) o.block.keeps → AllHold (numbers s) (before prog f.function target o 0)
@@ -369,7 +370,7 @@ module _ (prog : Program) (right : AreRangesRight prog) (f : Frame) (t : Termina
           let there : slice_get place.of.function.blocks way.edge.to.0 ≡ Some k = ap (λ n. slice_get place.of.function.blocks n) way.to ∙ is in
           let sums = keeps_true way.edge way.among way.sums in
           let put : All (λ q. IsTrueAt (numbers f.registers) (difference_of (moves_from f.block k.phis) q)) k.keeps =
-          subst (λ x. All (λ q. IsTrueAt (numbers f.registers) (difference_of (moves_from f.block (phis_of x)) q)) (keeps_of x)) there sums in
+          subst (λ x. All (λ q. IsTrueAt (numbers f.registers) (difference_of (moves_from f.block (block_phis x)) q)) (keeps_of x)) there sums in
           let o : BlockOf prog f.function target = record { function = place.of.function; block = k; at_function = place.of.at_function; at_block = is } in
           let all : All (IsMet (numbers s)) k.keeps =
           All-weaker (λ q. IsTrueAt (numbers f.registers) (difference_of (moves_from f.block k.phis) q)) (IsMet (numbers s))

@@ -5,7 +5,7 @@ use Rattle.std.proofs.lemmas.Bool.{ne_eqb, eq-eqb}
 use Rattle.std.proofs.lemmas.Bool.Decides.{eqb_tells}
 use Rattle.std.proofs.lemmas.List.Elements.{All-head, All-tail, All-contains}
 use Rattle.running.specs.Paths.{Path}
-use Rattle.running.specs.Cells.{Memory}
+use Rattle.running.specs.Cells.{Memory, or_zero}
 use Rattle.running.specs.Frames.{Value, Word, Registers, Frame, Item, Does, Ends, Role, Child, Body, item_at, phis_at, and_then, word_of, word_at, set_register}
 use Rattle.running.specs.Arithmetic.{Undefined, Unmatched}
 use Rattle.running.specs.Effect.{stops, returns, returns_value, Effect, Plain, Sync, Return, registers_along, phi_value, with_phis, terminator_action, item_action, action_of}
@@ -31,7 +31,8 @@ use Rattle.ranges.specs.Inequalities.{operand_for, result_moves}
 use Rattle.ranges.specs.Edges.{edges_out}
 use Rattle.ranges.specs.Owed.{owed_at_end, inequalities_owed}
 use Rattle.ranges.specs.Sums.{is_met}
-use Rattle.conditions.specs.rules.Costs.{or_zero, numbers, parameters_in, parameters_of}
+use Rattle.conditions.specs.rules.Costs.{numbers, parameters_of}
+use Rattle.program.specs.Calls.{parameters_in}
 use Rattle.conditions.specs.rules.Moves.{dest_of, Calls, Forks}
 use Rattle.conditions.specs.rules.InProofs.{Moves, is_next, is_along}
 use Rattle.conditions.specs.rules.Registers.{returns_number}

@@ -1,5 +1,5 @@
 -- What arithmetic makes known is true.
-use Rattle.std.proofs.Common.{◌≡◌, ◌∙◌, ℕ, ◌+◌, ◌*◌, ◌/◌, ◌%◌, ◌<◌, ℤ, pos, negsuc, ◌+ℤ◌, ◌-ℤ◌, ◌*ℤ◌, ◌≤ℤ◌, Bool, true, false, cond, T, List, [], ◌∷◌, Option, Some, None, refl, sym, ap, subst, arith, FitsSigned, ◌&&◌}
+use Rattle.std.proofs.Common.{◌≡◌, ◌∙◌, ℕ, ◌+◌, ◌*◌, ◌/◌, ◌%◌, ◌<◌, ℤ, pos, negsuc, ◌+ℤ◌, ◌-ℤ◌, ◌*ℤ◌, ◌≤ℤ◌, Bool, true, false, cond, List, [], ◌∷◌, Option, Some, None, refl, sym, ap, subst, arith, FitsSigned, ◌&&◌}
 use Rattle.std.specs.Prelude.{int_le, int_div, int_rem, if◌then◌else◌}
 use Rattle.std.specs.Int.{w32, cast_unsigned, int_wrap, int_bit_and}
 use Rattle.std.specs.Int.RustNames.{bit_and}
@@ -29,15 +29,12 @@ use Rattle.ranges.specs.Truth.{operand_value, IsTrueAt}
 use Rattle.ranges.specs.Learned.{is_scale, scale_number, scale_left, scale_right, scale_of, is_multiple, is_product, is_between, is_quotient, is_divisor, quotient_by, remainder_by, masked_by, binary_sums, is_32_bits, conversion_sums}
 use Rattle.ranges.proofs.Truth.{shown_true}
 use Rattle.phase_laws.specs.facts.Owing.{FitsText}
+use Rattle.linear.proofs.Tested.{T_from_true}
 
 -- ---- tests and numbers
 
-T_from : (b : Bool) → b ≡ true → T b
-T_from true e = tt
-T_from false e = cc
-
 pub ordered : (x y : ℤ) → int_le x y ≡ true → x ≤ℤ y
-ordered x y e = le_z_yes (T_from (int_le x y) e)
+ordered x y e = le_z_yes (T_from_true (int_le x y) e)
 
 pub natural : (x : ℤ) → pos 0 ≤ℤ x → (n : ℕ) × (x ≡ pos n)
 natural (pos n) h = (n, refl)

@@ -1,7 +1,7 @@
 -- What stands at a place, and what the rules say of it.
-use Rattle.std.proofs.Common.{◌≡◌, ◌∙◌, ℕ, zero, suc, ◌<◌, ◌≤◌, ℤ, Bool, true, false, List, [], ◌∷◌, ◌++◌, length, take, get_or, Option, Some, None, ◌⊎◌, inl, inr, refl, sym, ap, subst, arith, slice_get, add-one, map}
+use Rattle.std.proofs.Common.{◌≡◌, ◌∙◌, ℕ, zero, suc, ◌<◌, ◌≤◌, ℤ, true, false, List, [], ◌∷◌, ◌++◌, length, take, get_or, Option, Some, None, ◌⊎◌, inl, inr, refl, sym, ap, subst, arith, slice_get, add-one, map}
 use Rattle.std.specs.List.{All, Any, Contains}
-use Rattle.std.proofs.lemmas.Bool.{cases_eq}
+use Rattle.std.proofs.lemmas.Bool.{cases_eq, true_from_ne_false}
 use Rattle.std.proofs.lemmas.List.{take_all}
 use Rattle.std.proofs.lemmas.List.Elements.{All-nil, All-cons, All-head, All-tail, All-append, All-more, Contains-get_or}
 use Rattle.std.proofs.lemmas.Option.{slice_get_cases, slice_get_within, get_or_from_slice_get}
@@ -136,15 +136,11 @@ Any_at P xs i x e p = (i, x, slice_get_within xs i x e, get_or_from_slice_get xs
 pub Any_of : {X : Type 0} (P : X → Type 0) (xs : List X) (x : X) → Contains xs x → P x → Any P xs
 Any_of P xs x c p = (c.0, x, c.1, c.2, p)
 
-pub true_unless : (b : Bool) → (b ≡ false → ⊥) → b ≡ true
-true_unless true never = refl
-true_unless false never = absurd (never refl)
-
 -- obligations that are not broken are met
 met : (known : List Fact) (line : ℕ) (obligations : List Obligation) → ((x : Broken) → AreUnmet known line obligations x → ⊥) → All (λ o. is_met known o ≡ true) obligations
 met known line obligations never = λ k d l.
     let o : Obligation = get_or obligations k d in
-    true_unless (is_met known o)
+    true_from_ne_false (is_met known o)
     (λ e. never (record { line = line; number = o.number })
     (Any_of (λ (y : Obligation). (o.number ≡ y.number) × (line ≡ line) × (is_met known y ≡ false)) obligations o (Contains-get_or obligations k d l) (refl, refl, e)))
 
@@ -155,7 +151,7 @@ module _ (prog : Program) (right : AreRangesRight prog) (fn b : ℕ) (o : BlockO
   -- ---- `shows` lines
 
   shows_of : (known : List Fact) (lines : List Inequality) → ((x : Broken) → AreUnshown known lines x → ⊥) → (i : ℕ) (q : Inequality) → slice_get lines i ≡ Some q → shows (with_shows known (take i lines)) (difference_of [] q) ≡ true
-  shows_of known lines never i q at = true_unless (shows (with_shows known (take i lines)) (difference_of [] q)) (λ e. never (record { line = q.line; number = 508 }) (i, q, at, (refl, refl, e)))
+  shows_of known lines never i q at = true_from_ne_false (shows (with_shows known (take i lines)) (difference_of [] q)) (λ e. never (record { line = q.line; number = 508 }) (i, q, at, (refl, refl, e)))
 
   lines_met : (v : ℕ → ℤ) (known : List Fact) (lines : List Inequality) → ((x : Broken) → AreUnshown known lines x → ⊥) → AllHold v known → (n : ℕ) → All (IsMet v) (take n lines)
   lines_met v known lines never all zero = All-nil (IsMet v)

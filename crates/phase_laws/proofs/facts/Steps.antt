@@ -19,7 +19,8 @@ use Rattle.ranges.specs.Truth.{operand_value}
 use Rattle.ranges.specs.Learned.{learned}
 use Rattle.ranges.specs.Places.{with_shows}
 use Rattle.ranges.proofs.Truth.{facts_true}
-use Rattle.conditions.specs.rules.Costs.{or_zero, numbers, Lacks}
+use Rattle.conditions.specs.rules.Costs.{numbers, Lacks}
+use Rattle.running.specs.Cells.{or_zero}
 use Rattle.conditions.specs.rules.Moves.{dest_of}
 use Rattle.phase_laws.specs.facts.Known.{known_at_place, HoldsTest, KnownHold}
 use Rattle.phase_laws.specs.facts.Owing.{IsOther, IsUntouched, LeavesKnown, AreFactsStable}

@@ -18,7 +18,8 @@ use Rattle.ranges.specs.Inequalities.{operand_for, parts_of, difference_of, diff
 use Rattle.ranges.specs.Truth.{operand_value, parts_value, sum_value, IsTrueAt}
 use Rattle.ranges.specs.Places.{stated}
 use Rattle.ranges.proofs.Truth.{facts_true}
-use Rattle.conditions.specs.rules.Costs.{or_zero, numbers}
+use Rattle.conditions.specs.rules.Costs.{numbers}
+use Rattle.running.specs.Cells.{or_zero}
 use Rattle.phase_laws.specs.facts.Known.{IsMet}
 
 -- a number that is there

@@ -1,5 +1,5 @@
 -- Where facts hold, no instruction traps for an index, a divisor, an overflow or a shift.
-use Rattle.std.proofs.Common.{◌≡◌, ◌∙◌, ℕ, zero, suc, ℤ, pos, negsuc, ◌+ℤ◌, ◌-ℤ◌, ◌*ℤ◌, ◌≤ℤ◌, ◌<ℤ◌, Bool, true, false, cond, T, eqb, eq-eqb, ◌&&◌, List, [], ◌∷◌, Option, Some, None, ◌⊎◌, inl, inr, refl, sym, ap, subst, arith, slice_get}
+use Rattle.std.proofs.Common.{◌≡◌, ◌∙◌, ℕ, zero, suc, ℤ, pos, negsuc, ◌+ℤ◌, ◌-ℤ◌, ◌*ℤ◌, ◌≤ℤ◌, ◌<ℤ◌, Bool, true, false, cond, eqb, eq-eqb, ◌&&◌, List, [], ◌∷◌, Option, Some, None, ◌⊎◌, inl, inr, refl, sym, ap, subst, arith, slice_get}
 use Rattle.std.specs.Prelude.{int_le, int_lt, not}
 use Rattle.std.specs.List.{All, Any}
 use Rattle.std.specs.Ordering.{int_eq}
@@ -49,18 +49,15 @@ use Rattle.phase_laws.specs.facts.Traps.{IsThere, FindsAll, MayEnd, NoTraps}
 use Rattle.phase_laws.proofs.facts.Sums.{word_value}
 use Rattle.phase_laws.proofs.facts.Learning.{at_least_zero, scaled_is}
 use Rattle.phase_laws.proofs.facts.Places.{StepAt, step_at, step_met, sole}
+use Rattle.linear.proofs.Tested.{true_from_T}
 
 -- ---- choices
 
-true_from : (b : Bool) → T b → b ≡ true
-true_from true t = refl
-true_from false t = absurd t
-
 le_true : (x y : ℤ) → x ≤ℤ y → int_le x y ≡ true
-le_true x y h = true_from (int_le x y) h.le
+le_true x y h = true_from_T (int_le x y) h.le
 
 lt_true : (x y : ℤ) → x <ℤ y → int_lt x y ≡ true
-lt_true x y h = true_from (int_lt x y) h.lt
+lt_true x y h = true_from_T (int_lt x y) h.lt
 
 not_equal : (x y : ℤ) → (x ≡ y → ⊥) → int_eq x y ≡ false
 not_equal x y apart = from (int_eq x y) refl

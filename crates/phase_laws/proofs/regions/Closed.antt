@@ -1,5 +1,6 @@
 -- What is open stays open until its sync, and nothing is where a frame ends.
 use Rattle.std.proofs.Common.{◌≡◌, ◌≢◌, ◌↔◌, ℕ, Bool, true, false, List, [], Option, Some, None, refl, sym, ap, ◌∙◌, subst, arith, true≢false, inl, slice_get}
+use Rattle.std.proofs.lemmas.Bool.{false_from_ne_true}
 use Rattle.running.specs.Paths.{Path}
 use Rattle.running.specs.Cells.{Memory}
 use Rattle.running.specs.Frames.{Value, Registers, Frame, Ends, item_at}
@@ -45,10 +46,6 @@ none_true e = true≢false (sym e)
 
 not_function : (function : Function) → None ≡ Some function → ⊥
 not_function function e = cc
-
-shut : (x : Bool) → (x ≡ true → ⊥) → x ≡ false
-shut true none = absurd (none refl)
-shut false none = refl
 
 module _ (prog : Program) (named : IsNamed prog) (graph : IsGraphRight prog) (right : AreRegionsRight prog) where
   opens : Path → Frame → ℕ → Bool
@@ -150,7 +147,7 @@ module _ (prog : Program) (named : IsNamed prog) (graph : IsGraphRight prog) (ri
   end_closed : (p : Path) (f : Frame) (m : Memory) (a : Action) (r : ℕ) → IsEnding a → action_of prog p f m ≡ a → opens p f r ≡ false
   end_closed p f m a r ending at =
       let t = ends_here prog p f m a ending at in
-      shut (opens p f r) (λ e. let opened = (exact p f r).0 e in none_open f.function f.block f.index t.0 r t.1 (leaves t.0 t.2) opened.0 opened.1 opened.2)
+      false_from_ne_true (opens p f r) (λ e. let opened = (exact p f r).0 e in none_open f.function f.block f.index t.0 r t.1 (leaves t.0 t.2) opened.0 opened.1 opened.2)
 
   -- ---- all of it
 

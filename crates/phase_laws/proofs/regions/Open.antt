@@ -3,12 +3,11 @@ use Rattle.std.proofs.Common.{◌≡◌, ℕ, ◌<◌, ◌≤◌, Bool, true, no
 use Rattle.std.specs.Prelude.{IsSome}
 use Rattle.std.specs.List.{Contains, flat_map}
 use Rattle.std.specs.Option.{option_map, option_to_list}
-use Rattle.std.proofs.lemmas.Bool.{and_from}
+use Rattle.std.proofs.lemmas.Bool.{and_from, not-true, and_parts}
 use Rattle.std.proofs.lemmas.List.Elements.{All-contains, Contains-append_cases}
 use Rattle.std.proofs.lemmas.Option.{slice_get_within}
 use Rattle.linear.specs.declared.form.RegisterId.{RegisterId}
 use Rattle.running.specs.Frames.{and_then, Ends, item_of, item_at}
-use Rattle.running.proofs.Actions.{both_true}
 use Rattle.running.proofs.Confluence.{one_result}
 use Rattle.program.specs.declared.identifier.BlockId.{BlockId}
 use Rattle.program.specs.declared.function.Block.{Block}
@@ -36,7 +35,7 @@ use Rattle.phase_laws.proofs.defined.Paths.{no_edges}
 use Rattle.phase_laws.proofs.defined.Placed.{Arrives, arrives}
 use Rattle.phase_laws.proofs.defined.Visits.{ending_there, one_task}
 use Rattle.phase_laws.specs.regions.Closed.{IsOpenAt}
-use Rattle.phase_laws.proofs.regions.Search.{any_below, below_any, below_some, not_true, reached, reached_first, reached_next, reached_sound}
+use Rattle.phase_laws.proofs.regions.Search.{any_below, below_any, below_some, reached, reached_first, reached_next, reached_sound}
 use Rattle.phase_laws.proofs.regions.Tests.{forks_to, forks_there, forks_told, syncs, IsUnsynced, unsynced_there, unsynced_told, stays, stays_task, leads_on, leads_there, leads_told}
 
 -- ---- targets of edges
@@ -230,9 +229,9 @@ module _ (prog : Program) (named : IsNamed prog) (graph : IsGraphRight prog) (f 
   module _ (r : ℕ) where
     next_open : (a b : ℕ) → IsOpenAt function a r → next function r a b ≡ true → IsOpenAt function b r
     next_open a b opened h =
-        let both = both_true (not (syncs r (ending_at function.blocks a))) (leads_on b (edges_of (graph_of function).blocks a)) h in
+        let both = and_parts (not (syncs r (ending_at function.blocks a))) (leads_on b (edges_of (graph_of function).blocks a)) h in
         let on = leads_there b (edges_of (graph_of function).blocks a) both.1 in
-        goes_open function r a b on.edge opened on.within on.target on.same_task (unsynced_there r (ending_at function.blocks a) (not_true (syncs r (ending_at function.blocks a)) both.0))
+        goes_open function r a b on.edge opened on.within on.target on.same_task (unsynced_there r (ending_at function.blocks a) (not-true (syncs r (ending_at function.blocks a)) both.0))
 
     first_open : (b : ℕ) → first function r b ≡ true → IsOpenAt function b r
     first_open b h =

@@ -1,7 +1,6 @@
 -- What steps reach from a set of numbers, found by adding what one step reaches until nothing is new. Only numbers below n count.
 use Rattle.std.proofs.Common.{◌≡◌, ℕ, zero, suc, ◌<◌, ◌≤◌, Bool, true, false, not, ◌&&◌, ◌||◌, cond, inl, inr, refl, sym, ◌∙◌, ap, arith, true≢false}
-use Rattle.std.proofs.lemmas.Bool.{cases_eq, and_from, or_right}
-use Rattle.running.proofs.Actions.{both_true}
+use Rattle.std.proofs.lemmas.Bool.{cases_eq, and_from, or_right, not-true, and_parts}
 
 -- ---- tests of numbers
 
@@ -32,10 +31,6 @@ below_some (suc n) test e = by (test n) refl e (λ h. below_some n test h)
 pub or_some : (a b : Bool) (P : Type 0) → (a ≡ true → P) → (b ≡ true → P) → a || b ≡ true → P
 or_some true b P first second e = first refl
 or_some false b P first second e = second e
-
-pub not_true : (b : Bool) → not b ≡ true → b ≡ false
-not_true true e = absurd (true≢false (sym e))
-not_true false e = refl
 
 -- ---- numbers that a set lacks
 
@@ -124,8 +119,8 @@ module _ (n : ℕ) (next : ℕ → ℕ → Bool) where
       more : any_below n (is_new s) ≡ true → lacking n (grown s) ≤ k
       more is =
           let w = below_some n (is_new s) is in
-          let both = both_true (not (s w.0)) (grown s w.0) w.2 in
-          let fewer = lacking_less s (grown s) (grown_kept s) n w.0 w.1 (not_true (s w.0) both.0) both.1 in
+          let both = and_parts (not (s w.0)) (grown s w.0) w.2 in
+          let fewer = lacking_less s (grown s) (grown_kept s) n w.0 w.1 (not-true (s w.0) both.0) both.1 in
           omega (arith, few, fewer)
 
       old : any_below n (is_new s) ≡ false → grown s b ≡ true → (x : Bool) → s b ≡ x → s b ≡ true
@@ -140,7 +135,7 @@ module _ (n : ℕ) (next : ℕ → ℕ → Bool) where
     grown_sound : (s : ℕ → Bool) → ((b : ℕ) → s b ≡ true → P b) → (b : ℕ) → grown s b ≡ true → P b
     grown_sound s first b h = or_some (s b) (any_below n (λ a. s a && next a b)) (P b) (first b) (λ some.
         let a = below_some n (λ x. s x && next x b) some in
-        let both = both_true (s a.0) (next a.0 b) a.2 in
+        let both = and_parts (s a.0) (next a.0 b) a.2 in
         step a.0 b (first a.0 both.0) both.1) h
 
     grow_sound : (k : ℕ) (s : ℕ → Bool) → ((b : ℕ) → s b ≡ true → P b) → (b : ℕ) → grow k s b ≡ true → P b

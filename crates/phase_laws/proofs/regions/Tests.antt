@@ -1,7 +1,7 @@
 -- Tests of terminators and of edges.
 use Rattle.std.proofs.Common.{◌≡◌, ℕ, Bool, true, false, eqb, ◌&&◌, inl, inr, List, Option, Some, None, refl, sym, ap, ◌∙◌, true≢false}
 use Rattle.std.specs.List.{list_any, Contains}
-use Rattle.std.proofs.lemmas.Bool.{and_from, eq-eqb, eqb-true}
+use Rattle.std.proofs.lemmas.Bool.{and_from, eq-eqb, eqb-true, and_parts}
 use Rattle.std.proofs.lemmas.Bool.Decides.{eqb_tells}
 use Rattle.std.proofs.lemmas.List.Folds.{Any-from_list_any, list_any_at}
 use Rattle.linear.specs.declared.form.RegisterId.{RegisterId}
@@ -13,7 +13,6 @@ use Rattle.cfg.specs.declared.structure.Way.{Way}
 use Rattle.cfg.specs.declared.structure.Way.TheVariants as way
 use Rattle.region_match.specs.Rules.{IsSync}
 use Rattle.region_match.specs.Tasks.{task_along}
-use Rattle.running.proofs.Actions.{both_true}
 
 -- ---- a detach within the region r, to the continuation b
 
@@ -45,7 +44,7 @@ forks_there r b (Some (terminator.Branch test x y)) e = none_told e
 forks_there r b (Some (terminator.Switch w a default cases)) e = none_told e
 forks_there r b (Some (terminator.Return value)) e = none_told e
 forks_there r b (Some (terminator.Detach region body continuation)) e =
-    let both = both_true (eqb region.0 r) (eqb continuation.0 b) e in
+    let both = and_parts (eqb region.0 r) (eqb continuation.0 b) e in
     record { region = region; body = body; continuation = continuation; is = refl; region_is = eqb-true region.0 r both.0; continuation_is = eqb-true continuation.0 b both.1 }
 forks_there r b (Some (terminator.Reattach region continuation)) e = none_told e
 forks_there r b (Some (terminator.Sync region target)) e = none_told e
@@ -110,7 +109,7 @@ pub record LeadsOn (b : ℕ) (edges : List Edge) : Type 0 where
 pub leads_there : (b : ℕ) (edges : List Edge) → leads_on b edges ≡ true → LeadsOn b edges
 leads_there b edges e =
     let any = Any-from_list_any (λ (x : Edge). eqb x.to.0 b && stays x.way) edges e in
-    let both = both_true (eqb any.1.to.0 b) (stays any.1.way) any.4 in
+    let both = and_parts (eqb any.1.to.0 b) (stays any.1.way) any.4 in
     record { edge = any.1; within = (any.0, any.2, any.3); target = eqb-true any.1.to.0 b both.0; same_task = both.1 }
 
 pub leads_told : (b : ℕ) (edges : List Edge) → LeadsOn b edges → leads_on b edges ≡ true

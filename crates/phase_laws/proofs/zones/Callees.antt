@@ -4,13 +4,12 @@ use Rattle.std.specs.Prelude.{◌==◌, if◌then◌else◌, Contains, All, slic
 use Rattle.std.specs.Option.{option_map}
 use Rattle.std.proofs.lemmas.Bool.{false≢true}
 use Rattle.std.proofs.lemmas.Bool.Decides.{eqb_tells}
-use Rattle.std.proofs.lemmas.Int.{ints}
 use Rattle.std.proofs.lemmas.List.Elements.{All-contains, All-head, All-tail}
 use Rattle.linear.specs.declared.form.RegisterId.{RegisterId}
 use Rattle.linear.specs.declared.form.Term.{Term}
 use Rattle.linear.specs.Forms.{Combination, value_of, value}
 use Rattle.running.specs.Paths.{Path}
-use Rattle.running.specs.Cells.{Object, Cell}
+use Rattle.running.specs.Cells.{Object, Cell, or_zero}
 use Rattle.running.specs.Frames.{Value, Word, Pointer, Frame, and_then, cell_of, word_of, word_at, object_at, first_cell}
 use Rattle.running.specs.Effect.{argument_value, argument_values}
 use Rattle.running.specs.State.{called}
@@ -38,13 +37,13 @@ use Rattle.footprints.specs.Zones.{span}
 use Rattle.footprints.specs.Cells.{terms_value, end_value}
 use Rattle.footprints.specs.Footprints.{Place, argument_object, put_object, put_in, is_put_allowed, is_put_clear, callee_use, call_use, step_use}
 use Rattle.footprints.specs.Rules.{place_in}
-use Rattle.conditions.specs.rules.Costs.{or_zero, numbers}
+use Rattle.conditions.specs.rules.Costs.{numbers}
 use Rattle.conditions.proofs.rules.Moves.{calls_here}
 use Rattle.phase_laws.specs.zones.Uses.{StandsIn, KnownHolds, IsUsed, NamesApart, HoldsCell, task_of, MayUse}
 use Rattle.footprints.specs.Rules.{AreZonesRightBy}
 use Rattle.phase_laws.specs.zones.Callees.{IsOverParameters, CalleesAreLet}
 use Rattle.phase_laws.proofs.zones.Places.{get_is, all_pass, step_here, step_covered, step_clear}
-use Rattle.phase_laws.proofs.zones.Spans.{span_let, used_name}
+use Rattle.phase_laws.proofs.zones.Spans.{span_let, used_name, turned}
 
 -- ---- arguments
 
@@ -135,9 +134,6 @@ terms_called v w moves n same [] all = refl
 terms_called v w moves n same (t ∷ ts) all =
     ap (λ x. (t.coefficient *ℤ x) +ℤ terms_value v moves ts) (sym (same t.register.0 (All-head (λ (u : Term). u.register.0 < n) t ts all)))
     ∙ ap (λ x. (t.coefficient *ℤ w t.register.0) +ℤ x) (terms_called v w moves n same ts (All-tail (λ (u : Term). u.register.0 < n) t ts all))
-
-turned : (a b : ℤ) → a +ℤ b ≡ b +ℤ a
-turned a b = omega (arith, ints)
 
 end_called : (v w : ℕ → ℤ) (moves : List Move) (n : ℕ) → ((k : ℕ) → k < n → w k ≡ operand_value v (operand_for moves (record { 0 = k }))) → (e : Combination) → All (λ t. t.register.0 < n) e.terms → end_value v moves e ≡ value w e
 end_called v w moves n same e all = ap (λ x. e.constant +ℤ x) (terms_called v w moves n same e.terms all) ∙ turned e.constant (value_of w e.terms)

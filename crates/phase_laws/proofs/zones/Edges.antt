@@ -1,8 +1,7 @@
 -- What is pending goes on along each edge.
-use Rattle.std.proofs.Common.{◌≡◌, ◌∙◌, ℕ, ℤ, pos, ◌+ℤ◌, ◌*ℤ◌, ◌≤ℤ◌, List, [], ◌∷◌, Some, Bool, true, false, not, ◌&&◌, ◌||◌, inl, inr, refl, sym, ap, subst, arith}
+use Rattle.std.proofs.Common.{◌≡◌, ◌∙◌, ℕ, ℤ, pos, ◌+ℤ◌, ◌*ℤ◌, ◌≤ℤ◌, List, [], ◌∷◌, Some, Bool, true, false, not, ◌&&◌, ◌||◌, inl, inr, refl, sym, ap, subst}
 use Rattle.std.specs.Prelude.{◌==◌, Contains, slice_get}
-use Rattle.std.proofs.lemmas.Bool.{false≢true, eqb-true}
-use Rattle.std.proofs.lemmas.Int.{ints}
+use Rattle.std.proofs.lemmas.Bool.{false≢true, eqb-true, or_cases, and_parts}
 use Rattle.std.proofs.lemmas.List.Elements.{All-contains}
 use Rattle.std.proofs.lemmas.List.Folds.{Any-from_list_any}
 use Rattle.linear.specs.declared.form.RegisterId.{RegisterId}
@@ -12,7 +11,6 @@ use Rattle.linear.specs.Forms.{Combination, value_of, value}
 use Rattle.linear.specs.Shown.{AllHold}
 use Rattle.running.specs.Cells.{Cell}
 use Rattle.running.specs.Frames.{Frame, object_at}
-use Rattle.running.proofs.Actions.{both_true}
 use Rattle.program.specs.declared.annotation.Pending.{Pending}
 use Rattle.program.specs.declared.annotation.Zone.{Zone}
 use Rattle.program.specs.declared.function.Block.{Block}
@@ -34,17 +32,14 @@ use Rattle.types.specs.Apart.{in_pending}
 use Rattle.phase_laws.specs.zones.Uses.{StandsIn, IsUsed, HoldsCell}
 use Rattle.phase_laws.specs.zones.Edges.{GoesAlong, IsPendingFor, PendingGoesOn, FeetGoOn}
 use Rattle.phase_laws.proofs.zones.Children.{foot_named}
-use Rattle.phase_laws.proofs.zones.Places.{either_true, get_is, all_pass, edge_passes}
-use Rattle.phase_laws.proofs.zones.Spans.{used_name, as_cell}
+use Rattle.phase_laws.proofs.zones.Places.{get_is, all_pass, edge_passes}
+use Rattle.phase_laws.proofs.zones.Spans.{used_name, as_cell, turned}
 
 -- ---- ends behind an edge
 
 terms_behind : (v w : ℕ → ℤ) (moves : List Move) → ((x : RegisterId) → w x.0 ≡ operand_value v (operand_for moves x)) → (ts : List Term) → terms_value v moves ts ≡ value_of w ts
 terms_behind v w moves same [] = refl
 terms_behind v w moves same (t ∷ ts) = ap (λ x. (t.coefficient *ℤ x) +ℤ terms_value v moves ts) (sym (same t.register)) ∙ ap (λ x. (t.coefficient *ℤ w t.register.0) +ℤ x) (terms_behind v w moves same ts)
-
-turned : (a b : ℤ) → a +ℤ b ≡ b +ℤ a
-turned a b = omega (arith, ints)
 
 end_behind : (v w : ℕ → ℤ) (moves : List Move) → ((x : RegisterId) → w x.0 ≡ operand_value v (operand_for moves x)) → (e : Combination) → end_value v moves e ≡ value w e
 end_behind v w moves same e = ap (λ x. e.constant +ℤ x) (terms_behind v w moves same e.terms) ∙ turned e.constant (value_of w e.terms)
@@ -63,11 +58,11 @@ module _ (prog : Program) (f g : Frame) (moves : List Move) (along : GoesAlong p
 module _ (prog : Program) (f g : Frame) (edge : EdgeFacts) (along : GoesAlong prog f g edge.moves) (hold : AllHold (numbers f.registers) edge.facts) where
   passed_let : (waiting : List Pending) (region : RegisterId) (z : Zone) (c : Cell) → IsUsed prog.functions f.function z.object → is_passed edge waiting region z ≡ true → HoldsCell f z c → IsPendingFor g waiting region z.mode c
   unfolding is_passed
-  passed_let waiting region z c named h holds = elim (either_true (is_empty edge.facts (as_written z)) _ h) [
+  passed_let waiting region z c named h holds = elim (or_cases (is_empty edge.facts (as_written z)) _ h) [
     | inl e ↦ absurd (empty_cells edge.facts (as_written z) e (numbers f.registers) hold z.object (pos c.index) (as_cell f z c z.object refl holds))
     | inr e ↦
         let any = Any-from_list_any (λ (q : Pending). (q.region.0 == region.0) && covers edge.facts (span q.zone.object edge.moves q.zone) (as_written z)) waiting e in
-        let parts = both_true (any.1.region.0 == region.0) (covers edge.facts (span any.1.zone.object edge.moves any.1.zone) (as_written z)) any.4 in (
+        let parts = and_parts (any.1.region.0 == region.0) (covers edge.facts (span any.1.zone.object edge.moves any.1.zone) (as_written z)) any.4 in (
           any.0,
           any.1,
           any.2,
@@ -93,7 +88,7 @@ pending_used prog f function block stands q at =
 pub pending_goes_on : PendingGoesOn
 pending_goes_on prog regions right f g function block ending stands is edge at hold along q waits hands c holds =
     let waiting = pending_of (slice_get function.blocks edge.to.0) in
-    let rule = both_true (are_passed edge waiting block.pending) (child_passed_on function.blocks edge waiting edge.way ending.terminator) (edge_passes prog f function block stands regions right ending is edge at) in
+    let rule = and_parts (are_passed edge waiting block.pending) (child_passed_on function.blocks edge waiting edge.way ending.terminator) (edge_passes prog f function block stands regions right ending is edge at) in
     let one = All-contains (λ (x : Pending). (not (hands_on edge.way x.region) || is_passed edge waiting x.region x.zone) ≡ true) block.pending q
     (all_pass (λ (x : Pending). not (hands_on edge.way x.region) || is_passed edge waiting x.region x.zone) block.pending rule.0) waits in
     passed_let prog f g edge along hold waiting q.region q.zone c (pending_used prog f function block stands q waits) (handed (hands_on edge.way q.region) (is_passed edge waiting q.region q.zone) one hands) holds
@@ -101,7 +96,7 @@ pending_goes_on prog regions right f g function block ending stands is edge at h
 pub feet_go_on : FeetGoOn
 feet_go_on prog regions right f g function block ending stands is edge at hold along region body continuation t way z in_foot c holds =
     let waiting = pending_of (slice_get function.blocks edge.to.0) in
-    let rule = both_true (are_passed edge waiting block.pending) (child_passed_on function.blocks edge waiting edge.way ending.terminator) (edge_passes prog f function block stands regions right ending is edge at) in
+    let rule = and_parts (are_passed edge waiting block.pending) (child_passed_on function.blocks edge waiting edge.way ending.terminator) (edge_passes prog f function block stands regions right ending is edge at) in
     let child : foot_passed edge waiting region (foot_of (slice_get function.blocks body.0)) ≡ true =
     subst (λ (w : Way). child_passed_on function.blocks edge waiting w (terminator.Detach region body continuation) ≡ true) way
     (subst (λ (x : Terminator). child_passed_on function.blocks edge waiting edge.way x ≡ true) t rule.1) in

@@ -1,10 +1,10 @@
 -- What the rules on zones say of the place of a frame.
-use Rattle.std.proofs.Common.{◌≡◌, ◌∙◌, ℕ, zero, suc, ◌<◌, List, [], ◌∷◌, length, Option, Some, Bool, true, false, ◌||◌, ◌⊎◌, inl, inr, refl, sym, ap, subst, arith}
+use Rattle.std.proofs.Common.{◌≡◌, ◌∙◌, ℕ, zero, suc, ◌<◌, List, [], ◌∷◌, length, Option, Some, Bool, true, inl, inr, refl, sym, ap, subst, arith}
 use Rattle.std.specs.Prelude.{Contains, slice_get, slice_index_or}
 use Rattle.std.specs.List.{All, list_all}
 use Rattle.std.proofs.lemmas.List.Elements.{All-nil, All-cons}
+use Rattle.std.proofs.lemmas.Bool.{true_from_ne_false, and_parts}
 use Rattle.running.specs.Frames.{Frame, Does, Ends, item_of, item_at, block_at, and_then}
-use Rattle.running.proofs.Actions.{both_true}
 use Rattle.program.specs.declared.function.Block.{Block}
 use Rattle.program.specs.declared.function.Function.{Function}
 use Rattle.program.specs.declared.function.Program.{Program}
@@ -24,14 +24,6 @@ use Rattle.footprints.specs.Rules.{AreZonesRightBy}
 use Rattle.phase_laws.proofs.defined.Items.{step_there}
 use Rattle.phase_laws.proofs.facts.Places.{end_of}
 
-pub true_unless : (b : Bool) → (b ≡ false → ⊥) → b ≡ true
-true_unless true h = refl
-true_unless false h = absurd (h refl)
-
-pub either_true : (a b : Bool) → (a || b) ≡ true → (a ≡ true) ⊎ (b ≡ true)
-either_true true b h = inl refl
-either_true false b h = inr h
-
 pub get_is : {X : Type 0} (xs : List X) (k : ℕ) (d : X) → k < length xs → slice_get xs k ≡ Some (slice_index_or xs k d)
 get_is [] k d lt = absurd (omega (arith, lt))
 get_is (x ∷ xs) zero d lt = refl
@@ -39,7 +31,7 @@ get_is (x ∷ xs) (suc k) d lt = get_is xs k d (omega (arith, lt))
 
 pub all_pass : {X : Type 0} (test : X → Bool) (xs : List X) → list_all test xs ≡ true → All (λ x. test x ≡ true) xs
 all_pass test [] h = All-nil (λ x. test x ≡ true)
-all_pass test (x ∷ xs) h = let e = both_true (test x) (list_all test xs) h in All-cons (λ x. test x ≡ true) x xs e.0 (all_pass test xs e.1)
+all_pass test (x ∷ xs) h = let e = and_parts (test x) (list_all test xs) h in All-cons (λ x. test x ≡ true) x xs e.0 (all_pass test xs e.1)
 
 -- ---- what stands there
 
@@ -62,12 +54,12 @@ module _ (prog : Program) (f : Frame) (function : Function) (block : Block) (sta
     used_by step = step_use (place_in function (task_of regions f) block (facts_at_step prog.functions function f.block block f.index)) prog.functions block.steps step.line step.instruction
 
     pub step_covered : (step : Step) → slice_get block.steps f.index ≡ Some step → (used_by step).covered ≡ true
-    step_covered step at = true_unless (used_by step).covered
+    step_covered step at = true_from_ne_false (used_by step).covered
         (λ e. right (record { line = step.line; number = (used_by step).number })
         (f.function, function, stands.at_function, (f.block, block, stands.at_block, inl (f.index, step, at, inl (refl, refl, e)))))
 
     pub step_clear : (step : Step) → slice_get block.steps f.index ≡ Some step → (used_by step).clear ≡ true
-    step_clear step at = true_unless (used_by step).clear
+    step_clear step at = true_from_ne_false (used_by step).clear
         (λ e. right (record { line = step.line; number = 602 })
         (f.function, function, stands.at_function, (f.block, block, stands.at_block, inl (f.index, step, at, inr (refl, refl, e)))))
 
@@ -90,11 +82,11 @@ module _ (prog : Program) (f : Frame) (function : Function) (block : Block) (sta
     )
 
     pub end_covered : (end : Ending) → block.ending ≡ Some end → (used_at_end end).covered ≡ true
-    end_covered end is = true_unless (used_at_end end).covered (λ e. end_broken end (record { line = end.line; number = (used_at_end end).number }) is (inl (inl (refl, refl, e))))
+    end_covered end is = true_from_ne_false (used_at_end end).covered (λ e. end_broken end (record { line = end.line; number = (used_at_end end).number }) is (inl (inl (refl, refl, e))))
 
     pub end_clear : (end : Ending) → block.ending ≡ Some end → (used_at_end end).clear ≡ true
-    end_clear end is = true_unless (used_at_end end).clear (λ e. end_broken end (record { line = end.line; number = 602 }) is (inl (inr (refl, refl, e))))
+    end_clear end is = true_from_ne_false (used_at_end end).clear (λ e. end_broken end (record { line = end.line; number = 602 }) is (inl (inr (refl, refl, e))))
 
     pub edge_passes : (end : Ending) → block.ending ≡ Some end → (edge : EdgeFacts) → Contains (edges_known prog.functions function f.block block (Some end)) edge → passes_on function.blocks block.pending end.terminator edge ≡ true
-    edge_passes end is edge at = true_unless (passes_on function.blocks block.pending end.terminator edge)
+    edge_passes end is edge at = true_from_ne_false (passes_on function.blocks block.pending end.terminator edge)
         (λ e. end_broken end (record { line = end.line; number = 603 }) is (inr (at.0, edge, at.1, at.2, (refl, refl, e))))

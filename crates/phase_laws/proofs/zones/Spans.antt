@@ -1,7 +1,7 @@
 -- What covers a span and is clear of it lets the frame use its cells.
 use Rattle.std.proofs.Common.{◌≡◌, ◌∙◌, ℕ, ℤ, pos, ◌+ℤ◌, ◌*ℤ◌, ◌≤ℤ◌, List, [], ◌∷◌, Some, Bool, true, false, not, inl, inr, ◌⊎◌, refl, sym, ap, subst, arith}
 use Rattle.std.specs.Prelude.{slice_index_or}
-use Rattle.std.proofs.lemmas.Bool.{false≢true, not-true}
+use Rattle.std.proofs.lemmas.Bool.{false≢true, not-true, or_cases}
 use Rattle.std.proofs.lemmas.Int.{ints}
 use Rattle.linear.specs.declared.form.Term.{Term}
 use Rattle.linear.specs.declared.form.Fact.{Fact}
@@ -26,7 +26,7 @@ use Rattle.footprints.specs.Rules.{covering_of, is_own_block, place_in}
 use Rattle.footprints.proofs.CellLaws.{covered_by_one, shared_cells}
 use Rattle.conditions.specs.rules.Costs.{numbers}
 use Rattle.phase_laws.specs.zones.Uses.{StandsIn, IsUsed, NamesApart, HoldsCell, IsInOne, IsOwnCell, IsClearOf, task_of, MayUse}
-use Rattle.phase_laws.proofs.zones.Places.{either_true, get_is, all_pass}
+use Rattle.phase_laws.proofs.zones.Places.{get_is, all_pass}
 
 -- ---- ends as they are written
 
@@ -34,7 +34,7 @@ terms_are : (v : ℕ → ℤ) (ts : List Term) → terms_value v [] ts ≡ value
 terms_are v [] = refl
 terms_are v (t ∷ ts) = ap (λ x. (t.coefficient *ℤ v t.register.0) +ℤ x) (terms_are v ts)
 
-turned : (a b : ℤ) → a +ℤ b ≡ b +ℤ a
+pub turned : (a b : ℤ) → a +ℤ b ≡ b +ℤ a
 turned a b = omega (arith, ints)
 
 pub end_is : (v : ℕ → ℤ) (e : Combination) → end_value v [] e ≡ value v e
@@ -76,7 +76,7 @@ module _ (prog : Program) (regions : Regions) (f : Frame) (function : Function) 
 
     span_covered : is_allowed (place_in function (task_of regions f) block facts) y ≡ true → IsOwnCell f (is_own_block (task_of regions f)) c ⊎ IsInOne f (covering_of function (task_of regions f)) y.zone.mode c
     unfolding is_allowed
-    span_covered h = elim (either_true (is_own (is_own_block (task_of regions f)) y.object) (is_covered facts (covering_of function (task_of regions f)) y) h) [
+    span_covered h = elim (or_cases (is_own (is_own_block (task_of regions f)) y.object) (is_covered facts (covering_of function (task_of regions f)) y) h) [
       | inl e ↦ let own = own_is (is_own_block (task_of regions f)) y.object e in inl (own.0, own.1, subst (λ o. object_at f o ≡ Some c.object) own.2 object)
       | inr e ↦ inr (in_one e)
     ]

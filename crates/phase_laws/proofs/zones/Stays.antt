@@ -4,7 +4,7 @@ use Rattle.std.specs.Prelude.{All}
 use Rattle.std.proofs.lemmas.List.Elements.{All-head, All-tail}
 use Rattle.linear.specs.declared.form.Term.{Term}
 use Rattle.linear.specs.Forms.{Combination, value_of, value}
-use Rattle.running.specs.Cells.{Cell}
+use Rattle.running.specs.Cells.{Cell, or_zero}
 use Rattle.running.specs.Frames.{Value, Registers, Frame, and_then, cell_of, word_of, object_at}
 use Rattle.running.specs.Effect.{Effect}
 use Rattle.running.specs.State.{went}
@@ -12,7 +12,7 @@ use Rattle.program.specs.declared.annotation.Zone.{Zone}
 use Rattle.program.specs.declared.identifier.ObjectName.{ObjectName}
 use Rattle.program.specs.declared.identifier.ObjectName.TheVariants.{Global, Alloca, Parameter}
 use Rattle.conditions.specs.rules.Moves.{GoesOn}
-use Rattle.conditions.specs.rules.Costs.{or_zero, numbers, Lacks}
+use Rattle.conditions.specs.rules.Costs.{numbers, Lacks}
 use Rattle.phase_laws.specs.zones.Uses.{HoldsCell}
 use Rattle.phase_laws.specs.zones.Stays.{IsUnnamed, ZonesStay}
 

@@ -1,16 +1,14 @@
 -- Which cells an instruction uses.
 use Rattle.std.proofs.Common.{◌≡◌, ◌∙◌, ℕ, ◌<◌, List, Option, Some, None, Bool, true, false, cond, ◌&&◌, eqb, eqb-true, refl, ap, subst, is_some, ℤ}
 use Rattle.std.specs.Prelude.{nat_lt}
-use Rattle.std.proofs.lemmas.Bool.{false≢true, ltb-true}
+use Rattle.std.proofs.lemmas.Bool.{false≢true, ltb-true, and_parts}
 use Rattle.syntax.specs.declared.operator.Mode.{Mode}
 use Rattle.syntax.specs.declared.operator.Mode.TheVariants.{Reads, Writes, Adds}
 use Rattle.running.specs.Paths.{Path, same_path}
-use Rattle.running.specs.Cells.{Object, Shared, Local, Cell, same_object, same_cell, Memory}
+use Rattle.running.specs.Cells.{Object, Cell, same_object, same_cell, Memory}
 use Rattle.running.specs.Arithmetic.{Trap, Undefined, BadIndex, Unmatched, Answer, Gives, Traps, binary}
 use Rattle.running.specs.Frames.{Value, Word, Registers, Role, Child, Body, Frame, Item, Does, Ends, item_at, cells_of, word_at, object_at, cell_at, truth_of, region_of}
 use Rattle.running.specs.Effect.{Effect, Action, Plain, Detach, Reattach, Sync, Call, Return, stops, sets, answers, given, points, loads, stores, stores_zeros, adds_to, enters, jumps, case_for, registers_along, traps, if_own, syncs, reattaches, argument_values, calls, returns, returns_value, instruction_action, terminator_action, item_action, action_of}
-use Rattle.running.proofs.Actions.{both_true}
-use Rattle.running.proofs.Places.{same_path_is}
 use Rattle.linear.specs.declared.form.RegisterId.{RegisterId}
 use Rattle.program.specs.declared.function.Program.{Program}
 use Rattle.program.specs.declared.instruction.Instruction.{Instruction}
@@ -18,17 +16,12 @@ use Rattle.program.specs.declared.instruction.Instruction.TheVariants as instruc
 use Rattle.program.specs.declared.instruction.Terminator.{Terminator}
 use Rattle.program.specs.declared.instruction.Terminator.TheVariants as terminator
 use Rattle.phase_laws.specs.zones.Uses.{Uses}
+use Rattle.running.proofs.SameCells.{same_object_is}
 
 -- ---- cells that are the same
 
-pub object_is : (o q : Object) → same_object o q ≡ true → o ≡ q
-object_is (Shared g) (Shared h) e = ap Shared (eqb-true g h e)
-object_is (Shared g) (Local p n) e = absurd (false≢true e)
-object_is (Local p n) (Shared g) e = absurd (false≢true e)
-object_is (Local p n) (Local q m) e = let h = both_true (same_path p q) (eqb n m) e in λ i. Local (same_path_is p q h.0 i) (eqb-true n m h.1 i)
-
 pub cell_is : (c d : Cell) → same_cell c d ≡ true → c ≡ d
-cell_is c d e = let h = both_true (same_object c.object d.object) (eqb c.index d.index) e in λ i. record { object = object_is c.object d.object h.0 i; index = eqb-true c.index d.index h.1 i }
+cell_is c d e = let h = and_parts (same_object c.object d.object) (eqb c.index d.index) e in λ i. record { object = same_object_is c.object d.object h.0 i; index = eqb-true c.index d.index h.1 i }
 
 below : (a b : ℕ) → nat_lt a b ≡ true → a < b
 below a b e = ltb-true a b e
@@ -132,8 +125,8 @@ module _ (f : Frame) where
   zeros_show : (cells : ℕ) (o : Object) (at : Option Object) → at ≡ Some o → (mode : Mode) (x : Cell) → Uses (stores_zeros f cells o) mode x → (Writes ≡ mode) × (at ≡ Some x.object) × (x.index < cells)
   zeros_show cells o at is Reads x h = absurd (false≢true h)
   zeros_show cells o at is Writes x h =
-      let e = both_true (same_object o x.object) (nat_lt x.index cells) (some_when (same_object o x.object && nat_lt x.index cells) _ h) in
-      (refl, is ∙ ap Some (object_is o x.object e.0), below x.index cells e.1)
+      let e = and_parts (same_object o x.object) (nat_lt x.index cells) (some_when (same_object o x.object && nat_lt x.index cells) _ h) in
+      (refl, is ∙ ap Some (same_object_is o x.object e.0), below x.index cells e.1)
   zeros_show cells o at is Adds x h = absurd (false≢true h)
 
   add_shows : (c : Cell) (z : ℤ) (o : Option ℤ) (at : Option Cell) → at ≡ Some c → (mode : Mode) (x : Cell) → Uses (adds_to f c z o) mode x → (Adds ≡ mode) × (at ≡ Some x)

@@ -1,14 +1,14 @@
 -- The law: facts that hold are kept along the serial run, and what a function's `ensures` say holds of what it returns.
 use Rattle.std.specs.Prelude.{◌≡◌, ℕ, Option, Some, None, Bool, true, is_some, All, slice_get, length, ℤ, if◌then◌else◌, ◌==◌}
 use Rattle.running.specs.Paths.{Path}
-use Rattle.running.specs.Cells.{Memory}
+use Rattle.running.specs.Cells.{Memory, or_zero}
 use Rattle.running.specs.Frames.{Registers, Frame}
 use Rattle.running.specs.SerialMeaning.{Gave}
 use Rattle.conditions.specs.theorem.SerialConditions.{Says, Finds, KeptSerially}
 use Rattle.program.specs.declared.function.Function.{Function}
 use Rattle.program.specs.declared.function.Program.{Program}
 use Rattle.ranges.specs.Rules.{AreRangesRight}
-use Rattle.conditions.specs.rules.Costs.{or_zero, numbers}
+use Rattle.conditions.specs.rules.Costs.{numbers}
 use Rattle.conditions.specs.rules.Registers.{returns_number}
 use Rattle.phase_laws.specs.facts.Known.{IsMet, KnownHold}
 use Rattle.phase_laws.specs.facts.Owing.{IsTyped, AreFactsStable, HasWidths}

@@ -30,7 +30,8 @@ use Rattle.ranges.specs.Truth.{operand_value}
 use Rattle.footprints.specs.declared.access.Cell.{Cell as NamedCell}
 use Rattle.footprints.specs.Zones.{mode_covers, modes_agree}
 use Rattle.footprints.specs.Footprints.{pointed}
-use Rattle.footprints.specs.Rules.{tasks_of, covering_of, is_own_block}
+use Rattle.footprints.specs.Rules.{covering_of, is_own_block}
+use Rattle.region_match.specs.Tasks.{tasks_in}
 use Rattle.conditions.specs.rules.Costs.{numbers}
 
 -- the effect uses the cell in this way
@@ -107,7 +108,7 @@ IsClearOf f pending mode c = All (λ q. HoldsCell f q.zone c → modes_agree q.z
 
 -- the task of a frame's block
 abbrev pub task_of : Regions → Frame → Task
-task_of regions f = task_at (tasks_of (slice_get regions.functions f.function)) f.block
+task_of regions f = task_at (tasks_in (slice_get regions.functions f.function)) f.block
 
 -- what covers the block has the cell for this use, and nothing that is pending is in its way
 pub record MayUse (regions : Regions) (f : Frame) (function : Function) (block : Block) (mode : Mode) (c : Cell) : Type 0 where

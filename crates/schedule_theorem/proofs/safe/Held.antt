@@ -8,7 +8,7 @@ use Rattle.running.specs.Effect.{Action, Plain, Detach, Reattach, Sync, Call, Re
 use Rattle.running.specs.State.{State, Change, apply, may_go, childless, start_state}
 use Rattle.running.specs.Tree.{Tree}
 use Rattle.running.specs.Events.{Machine, Event, start}
-use Rattle.running.specs.Replay.{replay}
+use Rattle.running.specs.Replay.{replay, NeverTraps}
 use Rattle.running.proofs.Diamond.{same_frame}
 use Rattle.running.proofs.Starting.{start_tree}
 use Rattle.running.proofs.Steps.{Does as DoesStep, plain, detach, reattach, sync, call, ret, end}
@@ -16,7 +16,7 @@ use Rattle.running.proofs.TreeKept.{step_keeps_tree}
 use Rattle.program.specs.declared.function.Program.{Program}
 use Rattle.phase_laws.proofs.defined.Written.{plain_keeps}
 use Rattle.schedule_theorem.specs.zones.ByPhases.{IsKeptBySteps}
-use Rattle.schedule_theorem.specs.safe.Kept.{OfAll, NeverTraps}
+use Rattle.schedule_theorem.specs.safe.Kept.{OfAll}
 use Rattle.schedule_theorem.specs.safe.Steps.{KnowsFirst, HasParent, Returns, Does, IsSteady, HeldFramesAreSteady, GlobalsStay}
 use Rattle.schedule_theorem.proofs.safe.Everywhere.{of_first, step_keeps}
 use Rattle.schedule_theorem.proofs.safe.Ready.{NoTrap, ready}

@@ -1,15 +1,12 @@
 -- Each frame knows its objects, in any order of steps.
-use Rattle.std.proofs.Common.{◌≡◌, ◌≢◌, ◌∙◌, inl, inr, ℕ, zero, suc, map, ◌<◌, ◌≤◌, List, [], ◌∷◌, Option, Some, None, Bool, true, false, cond, eq-eqb, ◌&&◌, refl, sym, ap, subst, arith, slice_get, ℤ, pos, negsuc}
-use Rattle.std.specs.Prelude.{int_le, int_lt, unsigned_abs}
-use Rattle.std.proofs.lemmas.Bool.{and_parts, ltb-true}
+use Rattle.std.proofs.Common.{◌≡◌, ◌≢◌, ◌∙◌, inl, inr, ℕ, zero, suc, map, ◌<◌, ◌≤◌, List, [], ◌∷◌, Option, Some, None, refl, sym, ap, subst, arith, slice_get, ℤ}
 use Rattle.std.proofs.lemmas.Bool.Decides.{eqb_tells}
 use Rattle.linear.specs.declared.form.RegisterId.{RegisterId}
 use Rattle.running.specs.Paths.{Path, Under, itself, deeper}
 use Rattle.running.specs.Cells.{Object, Shared, Local, Cell, Memory}
-use Rattle.running.specs.Arithmetic.{Trap, Undefined, BadIndex}
-use Rattle.running.specs.Frames.{Value, Word, Pointer, Registers, Free, OnRegion, OnCall, Halted, Frame, Does, and_then, item_at, global_cells, cells_of, cell_of, object_at, word_at, set_register}
-use Rattle.running.specs.Effect.{Effect, Plain, Sync, stops, sets, given, points, instruction_action, item_action, action_of}
-use Rattle.running.specs.State.{State, Change, apply, went, wait_after, detached, continued, synced, called, waiting, resumed, root_frame, start_state}
+use Rattle.running.specs.Frames.{Value, Word, Registers, OnRegion, OnCall, Frame, Does, and_then, item_at, global_cells, cells_of, cell_of, object_at, word_at}
+use Rattle.running.specs.Effect.{Effect, Plain, Sync, given, points, instruction_action, item_action, action_of}
+use Rattle.running.specs.State.{State, Change, apply, went, detached, continued, synced, called, waiting, resumed, root_frame, start_state}
 use Rattle.running.specs.Tree.{Tree}
 use Rattle.running.proofs.Starting.{start_tree}
 use Rattle.running.proofs.Steps.{Does as DoesStep}
@@ -32,43 +29,21 @@ use Rattle.phase_laws.specs.defined.Names.{IsNamed}
 use Rattle.phase_laws.specs.defined.Values.{NamesObjects}
 use Rattle.phase_laws.proofs.defined.Items.{stands}
 use Rattle.phase_laws.proofs.defined.Placed.{arrives}
-use Rattle.phase_laws.proofs.defined.Values.{result_other, passed_at, passed_object, defines_here, dest_above, along_stays}
+use Rattle.phase_laws.proofs.defined.Values.{result_other, passed_at, passed_object, defines_here, dest_above, along_stays, pointed}
 use Rattle.schedule_theorem.specs.zones.Keeping.{IsBehindCall}
 use Rattle.schedule_theorem.specs.safe.Kept.{OfAll}
 use Rattle.schedule_theorem.specs.safe.Objects.{HasCells, HasCell, HasHome, KnowsObjects, ObjectsAreKnown}
 use Rattle.schedule_theorem.proofs.safe.Everywhere.{of_first}
 use Rattle.schedule_theorem.proofs.safe.Made.{PassesOn, all_after}
-use Rattle.schedule_theorem.proofs.safe.Owners.{under_both, StaysAbove, less_cells, cells_stay, stays_above}
+use Rattle.schedule_theorem.proofs.safe.Owners.{StaysAbove, less_cells, cells_stay, stays_above}
 use Rattle.schedule_theorem.proofs.safe.Replayed.{replay_good}
+use Rattle.schedule_theorem.proofs.Waits.{free_never}
+use Rattle.running.proofs.TaskLaws.{under_trans}
+use Rattle.running.proofs.Diamond.{no_call_after}
 
 -- ---- what a `getelementptr` leaves
 
-index_within : (z : ℤ) (n : ℕ) → int_le (pos 0) z && int_lt z (pos n) ≡ true → unsigned_abs z < n
-index_within (pos k) n h = ltb-true k n (and_parts _ _ h).1
-index_within (negsuc k) n h = absurd (let c : false ≡ true = (and_parts false (int_lt (negsuc k) (pos n)) h).0 in cc)
-
-pointed : (f : Frame) (d : RegisterId) (n : ℕ) (a : Option Object) (b : Option ℤ) (e : Effect) (c : Cell) → given f a (λ o. given f b (points f d n o)) ≡ e → e.trap ≡ None → cell_of (e.registers d.0) ≡ Some c → (a ≡ Some c.object) × (c.index < n)
-pointed f d n None b e c is fine at = absurd (let h : (stops Undefined f).trap ≡ None = ap (λ (x : Effect). x.trap) is ∙ fine in cc)
-pointed f d n (Some o) None e c is fine at = absurd (let h : (stops Undefined f).trap ≡ None = ap (λ (x : Effect). x.trap) is ∙ fine in cc)
-pointed f d n (Some o) (Some z) e c is fine at = by (int_le (pos 0) z && int_lt z (pos n)) refl is
-  where
-    by : (t : Bool) → int_le (pos 0) z && int_lt z (pos n) ≡ t → cond t (sets f d (Pointer (record { object = o; index = unsigned_abs z }))) (stops BadIndex f) ≡ e → (Some o ≡ Some c.object) × (c.index < n)
-    by false t same = absurd (let h : (stops BadIndex f).trap ≡ None = ap (λ (x : Effect). x.trap) same ∙ fine in cc)
-    by true t same =
-        let set : set_register f.registers d (Pointer (record { object = o; index = unsigned_abs z })) d.0 ≡ Some (Pointer (record { object = o; index = unsigned_abs z })) = rw (eq-eqb d.0 d.0 refl) refl in
-        let holds : Some (record { object = o; index = unsigned_abs z }) ≡ Some c = sym (ap cell_of set) ∙ ap (λ (x : Effect). cell_of (x.registers d.0)) same ∙ at in
-        let cell : record { object = o; index = unsigned_abs z } ≡ c = cc in
-        let index : unsigned_abs z ≡ c.index = ap (λ (x : Cell). x.index) cell in
-        (ap (λ (x : Cell). Some x.object) cell, subst (λ (k : ℕ). k < n) index (index_within z n t))
-
 -- ---- waits
-
-after_never : (t : Option Trap) (k : ℕ) (d : Option RegisterId) → wait_after t ≡ OnCall k d → ⊥
-after_never None k d e = let w : Free ≡ OnCall k d = e in cc
-after_never (Some t) k d e = let w : Halted ≡ OnCall k d = e in cc
-
-free_never : (k : ℕ) (d : Option RegisterId) → Free ≡ OnCall k d → ⊥
-free_never k d e = cc
 
 region_never : (r k : ℕ) (d : Option RegisterId) → OnRegion r ≡ OnCall k d → ⊥
 region_never r k d e = cc
@@ -144,7 +119,7 @@ module _ (prog : Program) (named : IsNamed prog) (objects : NamesObjects prog) w
 
     at_home : (g own : Frame) → g.function ≡ f.function → g.home ≡ f.home → t.frames f.home ≡ Some own → own.home ≡ f.home → own.function ≡ f.function → HasHome t q g
     at_home g own fn home lives owns function = record {
-      above = subst (λ (x : Path). Under x q) (sym home) (let h = knows.home in under_both q h.above stay.below);
+      above = subst (λ (x : Path). Under x q) (sym home) (let h = knows.home in under_trans q h.above stay.below);
       frame = own;
       lives = subst (λ (x : Path). t.frames x ≡ Some own) (sym home) lives;
       owns = owns ∙ sym home;
@@ -225,12 +200,12 @@ module _ (prog : Program) (named : IsNamed prog) (objects : NamesObjects prog) w
         (λ k less. on.others k (dest_above prog named objects f.function f.block f.index k what at less))
         (next_elements s t p p f knows stay (went f e) what refl on.block on.index at on.others
         (λ d name index x is holds. cells_stay prog s t p p stay (suc x.index) x.object (step_next f e what knows act fine at d name index x is holds)))
-        (never (went f e) (after_never e.trap))
+        (never (went f e) (no_call_after e.trap))
     after_plain f e knows act fine (is_along term at to on) now =
         let there = arrives prog named f.function f.block f.index e.block term way.Branch at to in
         moved s t p p f knows (stay_at p (went f e) now) (went f e) refl refl
         (along_stays prog named objects f e.block e.registers there.function there.target there.is on.along)
-        (none_yet t p (went f e) on.index) (never (went f e) (after_never e.trap))
+        (none_yet t p (went f e) on.index) (never (went f e) (no_call_after e.trap))
 
     after_sync : (f : Frame) (r b : ℕ) (rs : Registers) → KnowsObjects prog s p f → action_of prog p f s.memory ≡ Sync r b rs → After p (synced f r b rs)
     after_sync f r b rs knows act now =

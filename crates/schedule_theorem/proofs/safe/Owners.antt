@@ -12,10 +12,7 @@ use Rattle.running.proofs.TreeKept.{step_keeps_tree}
 use Rattle.program.specs.declared.function.Program.{Program}
 use Rattle.program.specs.declared.identifier.ObjectName.TheVariants as object
 use Rattle.schedule_theorem.specs.safe.Objects.{HasCells}
-
-pub under_both : {x : Path} {y : Path} (z : Path) → Under x y → Under y z → Under x z
-under_both z u itself = u
-under_both z u (deeper k {y = v} w) = deeper k (under_both v u w)
+use Rattle.running.proofs.TaskLaws.{under_trans}
 
 lives_up : (s : State) → Tree s → (x y : Path) (g : Frame) → Under x y → s.frames y ≡ Some g → (f : Frame) × (s.frames x ≡ Some f)
 lives_up s tree x y g itself is = (g, is)
@@ -40,7 +37,7 @@ cells_stay prog s t x y stay n (Shared g) h = h
 cells_stay prog s t x y stay n (Local owner a) h =
     let (g, lives, same) = stay.lives owner h.frame h.above h.lives in
     record {
-      above = under_both y h.above stay.below;
+      above = under_trans y h.above stay.below;
       frame = g;
       lives = lives;
       owns = same.home ∙ h.owns;
@@ -107,6 +104,6 @@ module _ (prog : Program) (s : State) (tree : Tree s) (p : Path) (c : Change) (d
   stays_above x y u below now = record {
     below = below;
     lives = λ z f above is.
-        let up = lives_up t (step_keeps_tree tree does) z y u (under_both y above below) now in
+        let up = lives_up t (step_keeps_tree tree does) z y u (under_trans y above below) now in
         (up.0, up.1, stays_same z f up.0 is up.1);
   }

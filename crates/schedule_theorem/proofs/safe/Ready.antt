@@ -4,7 +4,7 @@ use Rattle.std.proofs.lemmas.Bool.{and_parts}
 use Rattle.linear.specs.declared.form.RegisterId.{RegisterId}
 use Rattle.running.specs.Paths.{Path, same_path}
 use Rattle.running.specs.Cells.{Cell, Memory}
-use Rattle.running.specs.Arithmetic.{Trap, Undefined, Unmatched, binary, compares, converts}
+use Rattle.running.specs.Arithmetic.{Undefined, Unmatched, binary, compares, converts}
 use Rattle.running.specs.Frames.{Value, Word, Truth, Registers, Role, Child, Body, Frame, Item, Does, Ends, item_at, cells_of, truth_of, region_of, word_at, object_at, cell_at}
 use Rattle.running.specs.Effect.{Effect, Action, Plain, Detach, Reattach, Sync, Call, Return, given, sets, answers, points, loads, stores, stores_zeros, adds_to, enters, jumps, case_for, registers_along, traps, if_own, syncs, reattaches, argument_values, calls, returns, returns_value, instruction_action, terminator_action, item_action, action_of}
 use Rattle.running.proofs.Places.{same_path_is}
@@ -14,6 +14,7 @@ use Rattle.program.specs.declared.instruction.Instruction.TheVariants as instruc
 use Rattle.program.specs.declared.instruction.Terminator.{Terminator}
 use Rattle.program.specs.declared.instruction.Terminator.TheVariants as terminator
 use Rattle.phase_laws.specs.facts.Traps.{IsThere, IsFull, FindsAll, MayEnd, IsReady}
+use Rattle.conditions.proofs.rules.Moves.{no_trap}
 
 abbrev pub NoTrap : Action → Type 0
 NoTrap (Plain e) = e.trap ≡ None
@@ -22,9 +23,6 @@ NoTrap (Reattach region) = Unit {0}
 NoTrap (Sync region block registers) = Unit {0}
 NoTrap (Call d callee values) = Unit {0}
 NoTrap (Return result) = Unit {0}
-
-no_trap : {A : Type 0} (t : Trap) → Some t ≡ None → A
-no_trap t e = absurd (cc)
 
 there : {A : Type 0} (o : Option A) (a : A) → o ≡ Some a → IsThere o
 there o a e = ap is_some e

@@ -1,19 +1,15 @@
 -- What each step keeps is so of each state that a schedule leads to, as long as nothing traps.
 use Rattle.std.proofs.Common.{◌≡◌, ◌∙◌, ℕ, List, [], ◌∷◌, Option, Some, None, Bool, true, false, cond, refl, sym, ap, subst, ltb, ◌&&◌, is_none}
 use Rattle.running.specs.Paths.{Path}
-use Rattle.running.specs.Arithmetic.{Trap, Unmatched}
+use Rattle.running.specs.Arithmetic.{Unmatched}
 use Rattle.running.specs.Frames.{Frame}
 use Rattle.running.specs.Effect.{action_of}
 use Rattle.running.specs.State.{State, Change, apply, change_of, trap_change}
-use Rattle.running.specs.Events.{Machine, Event, Step, Steal, Status, Ready, Running, Stalled, if_ready, stolen, status_of, event, unless_trapped, by_change, stepped, next_hand}
-use Rattle.running.specs.Replay.{or_unchanged, replay}
+use Rattle.running.specs.Events.{Machine, Event, Step, Steal, Status, Ready, Running, Stalled, if_ready, stolen, status_of, event, by_change, stepped, next_hand}
+use Rattle.running.specs.Replay.{or_unchanged, replay, NeverTraps}
 use Rattle.running.proofs.Steps.{Does, does}
 use Rattle.program.specs.declared.function.Program.{Program}
-use Rattle.schedule_theorem.specs.safe.Kept.{NeverTraps}
-
-not_trapped : (t : Option Trap) (next : Option Machine) → t ≡ None → unless_trapped t next ≡ next
-not_trapped None next e = refl
-not_trapped (Some t) next e = absurd (cc)
+use Rattle.conditions.proofs.theorem.Theorem.{not_trapped}
 
 module _ (prog : Program) (workers : ℕ) where
   -- what is so of all machines from here on is so from each later one on

@@ -7,7 +7,7 @@ use Rattle.running.specs.Effect.{Return, action_of}
 use Rattle.running.specs.Frames.{Frame, Ends, item_at}
 use Rattle.running.specs.State.{State}
 use Rattle.running.specs.Events.{Machine, Event, Step, start}
-use Rattle.running.specs.Replay.{or_unchanged, replay}
+use Rattle.running.specs.Replay.{or_unchanged, replay, NeverTraps}
 use Rattle.conditions.specs.theorem.Schedules.{KeepsSchedule}
 use Rattle.program.specs.declared.function.Program.{Program}
 use Rattle.program.specs.declared.instruction.Terminator.{Terminator}
@@ -34,7 +34,7 @@ use Rattle.schedule_theorem.proofs.Accepted.{IsTaken, is_taken}
 use Rattle.schedule_theorem.proofs.Bounds.{budget_bounded}
 use Rattle.schedule_theorem.proofs.Promise.{accepted_programs_keep_their_promise}
 use Rattle.schedule_theorem.proofs.Starting.{as_many}
-use Rattle.schedule_theorem.specs.safe.Kept.{OfAll, NeverTraps, IsWithin}
+use Rattle.schedule_theorem.specs.safe.Kept.{OfAll, IsWithin}
 use Rattle.schedule_theorem.specs.safe.Objects.{KnowsObjects}
 use Rattle.schedule_theorem.specs.safe.Steps.{IsSteady}
 use Rattle.schedule_theorem.proofs.safe.Counted.{frames_are_counted}

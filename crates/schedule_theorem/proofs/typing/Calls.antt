@@ -23,7 +23,8 @@ use Rattle.scopes.proofs.Inversion.{made_ok, same_ok}
 use Rattle.types.specs.Call.{fits_result, argument_of, expected, parameter_of}
 use Rattle.types.specs.Instruction.{defined_of, call_register_of}
 use Rattle.types.specs.Meaning.{Means}
-use Rattle.conditions.specs.rules.Costs.{parameters_in, parameters_of}
+use Rattle.conditions.specs.rules.Costs.{parameters_of}
+use Rattle.program.specs.Calls.{parameters_in}
 use Rattle.conditions.specs.rules.Registers.{is_number, gives_number, returns_number}
 use Rattle.phase_laws.specs.defined.Leads.{IsBlock}
 use Rattle.phase_laws.proofs.defined.Items.{stands, step_there}

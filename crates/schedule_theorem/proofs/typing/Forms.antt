@@ -26,7 +26,7 @@ use Rattle.scopes.specs.declared.scope.Named.{Named}
 use Rattle.scopes.specs.declared.scope.Named.TheVariants as named
 use Rattle.scopes.specs.declared.scope.Register.{Register}
 use Rattle.scopes.specs.Fault.{unless_of}
-use Rattle.scopes.specs.Form.{as_parameter, parameter_of, parameter_term_of, as_outcome, guarantee_term_of, term_register_of, term_of, within_bounds, with_one, with_all, form_of, inequality_between, inequality_of, inequalities_of}
+use Rattle.scopes.specs.Form.{as_parameter, parameter_of, parameter_term_of, as_outcome, guarantee_term_of, term_register_of, term_of, within_bounds, with_one, with_all, form_in_scope, inequality_between, inequality_of, inequalities_of}
 use Rattle.scopes.specs.Layout.{layout_of}
 use Rattle.scopes.specs.Note.{measure_of}
 use Rattle.scopes.specs.Operand.{passing}
@@ -92,7 +92,7 @@ module _ (P : ℕ → Type 0) where
         let Q : Term → Type 0 = λ t. P t.register.0 in
         subst Q made.2 (own line written.register made.0.0 (both_ok _ _ made.0 made.1).0)
 
-    pub form_over : (line : ℕ) (written : FormText) (form : Form) → form_of scope stands line written ≡ Ok form → Over form.terms
+    pub form_over : (line : ℕ) (written : FormText) (form : Form) → form_in_scope scope stands line written ≡ Ok form → Over form.terms
     form_over line written form e =
         let part = then_ok _ _ form e in
         let terms = (both_ok _ _ part.0 part.1).0 in

@@ -3,7 +3,6 @@ use Rattle.std.proofs.Common.{◌≡◌, ◌≢◌, ℕ, suc, ◌+◌, ◌<◌, 
 use Rattle.std.specs.Prelude.{if◌then◌else◌, slice_get}
 use Rattle.std.specs.Str.{bytes_eq}
 use Rattle.std.proofs.lemmas.List.{length_push}
-use Rattle.std.proofs.lemmas.Slice.Eq.{bytes_eq-Decides}
 use Rattle.program.specs.declared.function.Alloca.{Alloca}
 use Rattle.program.specs.declared.identifier.ObjectName.{ObjectName}
 use Rattle.program.specs.declared.identifier.ObjectName.TheVariants as object
@@ -30,21 +29,15 @@ use Rattle.syntax.specs.Cells.{size_cells}
 use Rattle.scopes.specs.Layout.{with_register, with_parameter, with_phi, with_alloca, with_call, with_instruction, with_step, with_phis, with_steps, with_block, with_parameters, with_blocks, with_label, with_labels, no_layout, layout_of, target_width}
 use Rattle.scopes.specs.Scope.{Scope, is_parameter}
 use Rattle.scopes.specs.Table.{look_up, with_name}
-use Rattle.types.proofs.Scopes.{Entries, entries_with, entries_found}
+use Rattle.types.proofs.Scopes.{Entries, entries_with, entries_found, entries_push}
 use Rattle.schedule_theorem.proofs.typing.Lists.{in_first, at_last}
+use Rattle.types.proofs.Defining.{bytes_same}
 
 -- ---- entries of a table of names
-
-pub bytes_same : (xs ys : List ℕ) → bytes_eq xs ys ≡ true → xs ≡ ys
-bytes_same xs ys e = (bytes_eq-Decides xs ys).0 e
 
 pub entries_weaker : {A : Type 0} (P Q : List ℕ → A → Type 0) (entries : List (List ℕ × A)) → ((name : List ℕ) (a : A) → P name a → Q name a) → Entries P entries → Entries Q entries
 entries_weaker P Q [] weaker h = tt
 entries_weaker P Q (entry ∷ entries) weaker h = (weaker entry.0 entry.1 h.0, entries_weaker P Q entries weaker h.1)
-
-entries_push : {A : Type 0} (P : List ℕ → A → Type 0) (entries : List (List ℕ × A)) (name : List ℕ) (meaning : A) → Entries P entries → P name meaning → Entries P (entries ++ (name, meaning) ∷ [])
-entries_push P [] name meaning h p = (p, tt)
-entries_push P (entry ∷ entries) name meaning h p = (h.0, entries_push P entries name meaning h.1 p)
 
 -- what is kept by one more entry is kept by a definition
 pub with_kept : {A : Type 0} (P : List (List ℕ × A) → Type 0) (entries : List (List ℕ × A)) (name : List ℕ) (meaning : A) → P entries → P (entries ++ (name, meaning) ∷ []) → P (with_name entries name meaning)

@@ -25,7 +25,8 @@ use Rattle.scopes.proofs.Inversion.{all_at}
 use Rattle.types.specs.Apart.{AddressNames, InstructionNames}
 use Rattle.types.specs.Call.{Named, argument_of, expected, parameter_of}
 use Rattle.types.specs.Meaning.{Means}
-use Rattle.conditions.specs.rules.Costs.{parameters_in, parameters_of}
+use Rattle.conditions.specs.rules.Costs.{parameters_of}
+use Rattle.program.specs.Calls.{parameters_in}
 use Rattle.phase_laws.specs.defined.Values.{Reads}
 use Rattle.schedule_theorem.proofs.typing.Parts.{FunctionFrom, function_to}
 use Rattle.schedule_theorem.proofs.typing.Instructions.{ObjectOf, AddressOf, CallOf, Uses}

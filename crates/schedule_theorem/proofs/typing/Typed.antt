@@ -22,7 +22,8 @@ use Rattle.scopes.specs.Layout.{layout_of}
 use Rattle.types.specs.Call.{parameter_of}
 use Rattle.types.specs.Function.{result_register}
 use Rattle.types.specs.Meaning.{Means}
-use Rattle.conditions.specs.rules.Costs.{parameters_of, parameters_in, measure_in, measure_of}
+use Rattle.conditions.specs.rules.Costs.{parameters_of, measure_in, measure_of}
+use Rattle.program.specs.Calls.{parameters_in}
 use Rattle.conditions.specs.rules.Registers.{is_number, gives_number, returns_number}
 use Rattle.phase_laws.specs.defined.Names.{NamesOnly}
 use Rattle.phase_laws.specs.defined.Known.{IsPut, NamesParameters}

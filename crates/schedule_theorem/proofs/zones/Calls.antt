@@ -27,7 +27,7 @@ use Rattle.types.specs.Definitions.{IsFrom}
 use Rattle.phase_laws.specs.region_match.declared.tables.Regions.{Regions}
 use Rattle.phase_laws.specs.region_match.Tasks.{innermost}
 use Rattle.phase_laws.specs.footprints.Rules.{covering_of}
-use Rattle.conditions.specs.rules.Costs.{parameters_in}
+use Rattle.program.specs.Calls.{parameters_in}
 use Rattle.conditions.specs.rules.Moves.{number_of, Calls}
 use Rattle.conditions.proofs.rules.Moves.{calls_here}
 use Rattle.phase_laws.specs.defined.Placed.{IsPlaced}

@@ -27,7 +27,7 @@ use Rattle.phase_laws.specs.cfg.declared.structure.Way.TheVariants as way
 use Rattle.phase_laws.specs.cfg.Edges.{moves_from}
 use Rattle.phase_laws.specs.ranges.declared.edge.EdgeSums.{EdgeSums}
 use Rattle.phase_laws.specs.ranges.declared.table.EdgeFacts.{EdgeFacts}
-use Rattle.phase_laws.specs.ranges.Edges.{compared, branch_sums, edges_out, edge_to, phis_of, edge_facts, case_sums}
+use Rattle.phase_laws.specs.ranges.Edges.{compared, branch_sums, edges_out, edge_to, edge_facts, case_sums}
 use Rattle.phase_laws.specs.ranges.Inequalities.{operand_for}
 use Rattle.phase_laws.specs.ranges.Places.{facts_at_end, edges_known}
 use Rattle.phase_laws.specs.ranges.Sums.{facts_of}
@@ -146,8 +146,8 @@ names_stay prog regions judged f g home agrees (Alloca a) u = ap (λ h. object_a
 names_stay prog regions judged f g home agrees (Parameter r) u = ap (λ v. and_then (cell_of v) (λ (c : Cell). Some c.object)) (agrees r.0 (judged.names.own f.function r u))
 
 -- the moves of an edge to a block
-pub moves_there : (function : Function) (from target : ℕ) (k : Block) (e : EdgeSums) → e.to.0 ≡ target → slice_get function.blocks target ≡ Some k → moves_from from (phis_of (slice_get function.blocks e.to.0)) ≡ moves_from from k.phis
-moves_there function from target k e to there = ap (λ n. moves_from from (phis_of (slice_get function.blocks n))) to ∙ ap (λ o. moves_from from (phis_of o)) there
+pub moves_there : (function : Function) (from target : ℕ) (k : Block) (e : EdgeSums) → e.to.0 ≡ target → slice_get function.blocks target ≡ Some k → moves_from from (block_phis (slice_get function.blocks e.to.0)) ≡ moves_from from k.phis
+moves_there function from target k e to there = ap (λ n. moves_from from (block_phis (slice_get function.blocks n))) to ∙ ap (λ o. moves_from from (block_phis o)) there
 
 -- the edge as the rules have it
 module _ (prog : Program) (f : Frame) (function : Function) (block : Block) (ending : Ending) (target : ℕ) (taken : Taken prog f function block ending target) where

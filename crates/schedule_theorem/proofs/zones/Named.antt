@@ -24,12 +24,13 @@ use Rattle.scopes.specs.Item.{items_of}
 use Rattle.scopes.specs.Layout.{layout_of}
 use Rattle.scopes.specs.Note.{more_zones, zone_of, zones_of, pending_of, all_pending_of}
 use Rattle.scopes.proofs.Inversion.{made_ok, both_ok, same_ok, all_at}
-use Rattle.types.specs.Apart.{IsNamedBy, in_instruction, in_zone, in_pending, in_foot, InstructionNames, parameters_at, parameters_in}
+use Rattle.types.specs.Apart.{IsNamedBy, in_instruction, in_zone, in_pending, in_foot, InstructionNames, parameters_at}
 use Rattle.types.specs.Block.{block_with, block_of}
 use Rattle.types.specs.Call.{parameter_of}
 use Rattle.types.specs.Function.{function_with, head_zones_of, function_of, functions_of}
 use Rattle.types.specs.Meaning.{Means}
-use Rattle.conditions.specs.rules.Costs.{parameters_of, parameters_in as parameters_there}
+use Rattle.conditions.specs.rules.Costs.{parameters_of}
+use Rattle.program.specs.Calls.{parameters_in as parameters_there, parameters_in}
 use Rattle.phase_laws.proofs.defined.Items.{block_is, item_there}
 use Rattle.phase_laws.proofs.defined.Lists.{none_within, at_within}
 use Rattle.schedule_theorem.proofs.typing.Parts.{FunctionFrom, function_from}

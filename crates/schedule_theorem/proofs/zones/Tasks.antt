@@ -12,7 +12,8 @@ use Rattle.program.specs.declared.function.Function.{Function}
 use Rattle.program.specs.declared.function.Program.{Program}
 use Rattle.program.specs.declared.instruction.Terminator.{Terminator}
 use Rattle.program.specs.declared.instruction.Terminator.TheVariants as terminator
-use Rattle.types.specs.Apart.{IsNamedBy, in_zone, in_foot, parameters_in, parameters_at}
+use Rattle.types.specs.Apart.{IsNamedBy, in_zone, in_foot, parameters_at}
+use Rattle.program.specs.Calls.{parameters_in}
 use Rattle.phase_laws.specs.cfg.Edges.{graph_of, graphs_of}
 use Rattle.phase_laws.proofs.cfg.EdgeLists.{length-edges_from}
 use Rattle.phase_laws.specs.definedness.declared.act.Act.TheVariants.{Needs}
@@ -20,9 +21,9 @@ use Rattle.phase_laws.specs.definedness.RegisterActs.{zone_needs}
 use Rattle.phase_laws.specs.region_match.declared.tables.FunctionTasks.{FunctionTasks}
 use Rattle.phase_laws.specs.region_match.declared.tables.Regions.{Regions}
 use Rattle.phase_laws.specs.region_match.Rules.{ending_at}
-use Rattle.phase_laws.specs.region_match.Tasks.{HasTask, innermost, task_at, AreTasks, AreAllTasks}
+use Rattle.phase_laws.specs.region_match.Tasks.{HasTask, innermost, task_at, tasks_in, AreTasks, AreAllTasks}
 use Rattle.phase_laws.specs.footprints.Footprints.{foot_of, child_foot}
-use Rattle.phase_laws.specs.footprints.Rules.{tasks_of, foot_at_end, covering_of}
+use Rattle.phase_laws.specs.footprints.Rules.{foot_at_end, covering_of}
 use Rattle.phase_laws.specs.defined.Leads.{IsBlock}
 use Rattle.phase_laws.specs.defined.Stable.{IsOffFoot}
 use Rattle.phase_laws.proofs.defined.Lists.{none_within, flat_within, within_at}
@@ -51,10 +52,10 @@ block_within function b block at =
 
 -- the table has the innermost detach of a block's task
 pub task_is : (prog : Program) (regions : Regions) → AreAllTasks (graphs_of prog) regions.functions → (f b : ℕ) (function : Function) (block : Block) → IsBlock prog f b function block →
-    (task : List ℕ) → HasTask (graph_of function).blocks b task → task_at (tasks_of (slice_get regions.functions f)) b ≡ innermost task
+    (task : List ℕ) → HasTask (graph_of function).blocks b task → task_at (tasks_in (slice_get regions.functions f)) b ≡ innermost task
 task_is prog regions tables f b function block is task has =
     let t : TableAt regions.functions f function = table_at prog.functions regions.functions tables f function is.at_function in
-    ap (λ o. task_at (tasks_of o) b) t.at ∙ t.tasks.innermost b (block_within function b block is.at_block) has.0 has.1 ∙ ap innermost has.2
+    ap (λ o. task_at (tasks_in o) b) t.at ∙ t.tasks.innermost b (block_within function b block is.at_block) has.0 has.1 ∙ ap innermost has.2
 
 -- ---- what covers a block
 

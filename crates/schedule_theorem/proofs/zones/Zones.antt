@@ -6,7 +6,7 @@ use Rattle.linear.specs.declared.form.RegisterId.{RegisterId}
 use Rattle.linear.specs.declared.form.Term.{Term}
 use Rattle.linear.specs.Forms.{Combination, value}
 use Rattle.linear.proofs.Values.{value_same}
-use Rattle.running.specs.Cells.{Cell}
+use Rattle.running.specs.Cells.{Cell, or_zero}
 use Rattle.running.specs.Frames.{Frame, and_then, cell_of, word_of, object_at}
 use Rattle.program.specs.declared.annotation.Zone.{Zone}
 use Rattle.program.specs.declared.function.Alloca.{Alloca as AllocaOf}
@@ -18,7 +18,7 @@ use Rattle.phase_laws.specs.definedness.declared.act.Act.{Act}
 use Rattle.phase_laws.specs.definedness.declared.act.Act.TheVariants.{Needs}
 use Rattle.phase_laws.specs.definedness.RegisterActs.{register_needs, form_needs, object_needs, operand_needs, zone_needs}
 use Rattle.phase_laws.specs.ranges.Truth.{operand_value}
-use Rattle.conditions.specs.rules.Costs.{or_zero, numbers}
+use Rattle.conditions.specs.rules.Costs.{numbers}
 use Rattle.phase_laws.specs.defined.Stable.{Names}
 use Rattle.phase_laws.proofs.defined.Lists.{first_within, flat_within}
 use Rattle.phase_laws.specs.zones.Uses.{HoldsCell}

@@ -1,21 +1,17 @@
 -- What is so of each living frame, and stays so by every step: it is so in each state that a schedule leads to.
-use Rattle.std.specs.Prelude.{◌≡◌, ℕ, ◌≤◌, List, length, Some, None, Bool, true, ℤ}
+use Rattle.std.specs.Prelude.{◌≡◌, ℕ, ◌≤◌, List, length, Some, Bool, true, ℤ}
 use Rattle.running.specs.Paths.{Path}
 use Rattle.running.specs.Cells.{Memory}
 use Rattle.running.specs.Frames.{Frame}
 use Rattle.running.specs.State.{State}
 use Rattle.running.specs.Events.{Machine, Event, start}
-use Rattle.running.specs.Replay.{replay}
+use Rattle.running.specs.Replay.{NeverTraps, replay}
 use Rattle.program.specs.declared.function.Program.{Program}
 use Rattle.schedule_theorem.specs.zones.ByPhases.{IsKeptBySteps}
 
 -- it is so of each living frame
 abbrev pub OfAll : State → (Path → Frame → Type 0) → Type 0
 OfAll s holds = (p : Path) (f : Frame) → s.frames p ≡ Some f → holds p f
-
--- no events trap from here on
-abbrev pub NeverTraps : Program → ℕ → Machine → Type 0
-NeverTraps prog workers m = (events : List Event) → (replay prog workers events m).trapped ≡ None
 
 -- what each step keeps of each frame is so of all frames
 abbrev pub KeepsEverywhere : Program → (Path → Frame → Type 0) → Type 0

@@ -6,7 +6,7 @@ use Rattle.running.specs.Cells.{Object, Shared, Local, Cell, Memory}
 use Rattle.running.specs.Frames.{OnCall, Frame, Does, item_at, global_cells, cells_of, cell_of}
 use Rattle.running.specs.State.{State}
 use Rattle.running.specs.Events.{Event, start}
-use Rattle.running.specs.Replay.{replay}
+use Rattle.running.specs.Replay.{replay, NeverTraps}
 use Rattle.program.specs.declared.function.Program.{Program}
 use Rattle.program.specs.declared.identifier.ObjectName.{ObjectName}
 use Rattle.program.specs.declared.identifier.ObjectName.TheVariants as object
@@ -16,7 +16,7 @@ use Rattle.conditions.specs.rules.Costs.{parameters_of}
 use Rattle.phase_laws.specs.defined.Names.{IsNamed}
 use Rattle.phase_laws.specs.defined.Values.{NamesObjects}
 use Rattle.schedule_theorem.specs.zones.Keeping.{IsBehindCall}
-use Rattle.schedule_theorem.specs.safe.Kept.{OfAll, NeverTraps}
+use Rattle.schedule_theorem.specs.safe.Kept.{OfAll}
 
 -- the owner is a living function's frame, at p or above it, whose text declares n cells for the alloca at least
 pub record OwnsCells (prog : Program) (s : State) (p : Path) (n : ℕ) (owner : Path) (alloca : ℕ) : Type 0 where

@@ -6,11 +6,10 @@ use Rattle.running.specs.Frames.{OnCall, Child, Body, Frame}
 use Rattle.running.specs.Effect.{Action, Plain, Detach, Reattach, Sync, Call, Return, action_of}
 use Rattle.running.specs.State.{State, may_go, childless}
 use Rattle.running.specs.Events.{Event, start}
-use Rattle.running.specs.Replay.{replay}
+use Rattle.running.specs.Replay.{replay, NeverTraps}
 use Rattle.linear.specs.declared.form.RegisterId.{RegisterId}
 use Rattle.program.specs.declared.function.Program.{Program}
 use Rattle.phase_laws.specs.facts.Traps.{IsReady}
-use Rattle.schedule_theorem.specs.safe.Kept.{NeverTraps}
 
 -- the first frame runs `main`, and is no child
 pub record IsFirst (prog : Program) (f : Frame) : Type 0 where

@@ -17,7 +17,7 @@ use Rattle.program.specs.declared.function.Parameter.{Parameter}
 use Rattle.program.specs.declared.function.Program.{Program}
 use Rattle.program.specs.declared.identifier.ObjectName.{ObjectName}
 use Rattle.program.specs.declared.identifier.ObjectName.TheVariants as object
-use Rattle.conditions.specs.rules.Costs.{parameters_in}
+use Rattle.program.specs.Calls.{parameters_in}
 use Rattle.phase_laws.specs.defined.Values.{LiesIn, HasValues}
 use Rattle.store.specs.Cells.{NamedCells}
 use Rattle.frame.specs.declared.effect.Effect.{Effect}

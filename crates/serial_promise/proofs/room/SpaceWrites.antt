@@ -19,9 +19,10 @@ use Rattle.program.specs.declared.instruction.Address.TheVariants as address
 use Rattle.program.specs.declared.instruction.Instruction.TheVariants as instruction
 use Rattle.program.specs.declared.instruction.Terminator.TheVariants as terminator
 use Rattle.phase_laws.specs.defined.Values.{LiesIn, HasValues}
-use Rattle.phase_laws.proofs.zones.Touching.{object_is, cell_is}
+use Rattle.phase_laws.proofs.zones.Touching.{cell_is}
 use Rattle.schedule_theorem.specs.kinds.Uses.{address_in}
 use Rattle.schedule_theorem.specs.safe.Sizes.{HasSizedUses}
+use Rattle.running.proofs.SameCells.{same_object_is}
 
 -- ---- objects and cells that are the same
 
@@ -170,7 +171,7 @@ module _ (prog : Program) (sized : HasSizedUses prog) (p : Path) (f : Frame) (m 
       let parts = and_parts (same_object one.0 x.object) (nat_lt x.index n) (tested (same_object one.0 x.object && nat_lt x.index n) (Some (pos 0)) v one.2) in
       let low : x.index < n = below_it x.index n parts.1 in
       let high : n ≤ cells_of prog f.function name = sized.zeros f.function f.block f.index n name here in
-      (name, record { object = one.1 ∙ ap (λ (o : Object). Some o) (object_is one.0 x.object parts.0); within = omega arith })
+      (name, record { object = one.1 ∙ ap (λ (o : Object). Some o) (same_object_is one.0 x.object parts.0); within = omega arith })
 
   never : (a : Action) (x : Cell) (v : Option ℤ) → WritesNothing a → writes_of a x ≡ Some v → LiesInNamed x
   never a x v h e = absurd (let k = h x in let none : None ≡ Some v = sym k ∙ e in cc)

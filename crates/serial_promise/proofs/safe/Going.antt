@@ -78,7 +78,7 @@ no_trap (Sync r b rs) below free = tt
 no_trap (Call d g vs) below free = tt
 no_trap (Return v) below free = tt
 
-some_there : {A : Type 0} (o : Option A) → o ≢ None → is_some o ≡ true
+pub some_there : {A : Type 0} (o : Option A) → o ≢ None → is_some o ≡ true
 some_there None some = absurd (some refl)
 some_there (Some a) some = refl
 
@@ -112,7 +112,7 @@ module _ (prog : Program) (uses : HasKindedUses prog) (f : Frame) (held : HasKin
   names_whole (instruction.Call d callee arguments) here = tt
   names_whole (instruction.StartRegion d) here = tt
 
-  item_whole : (o : Option Item) → item_at prog f.function f.block f.index ≡ o → ItemWhole f o
+  pub item_whole : (o : Option Item) → item_at prog f.function f.block f.index ≡ o → ItemWhole f o
   item_whole None is = tt
   item_whole (Some (Does what)) is = names_whole what is
   item_whole (Some (Ends t)) is = tt

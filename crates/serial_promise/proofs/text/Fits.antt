@@ -32,7 +32,7 @@ use Rattle.program.specs.declared.instruction.Step.{Step}
 use Rattle.program.specs.declared.instruction.Terminator.{Terminator}
 use Rattle.program.specs.declared.instruction.Terminator.TheVariants as terminator
 use Rattle.types.specs.Apart.{InstructionNames}
-use Rattle.conditions.specs.rules.Costs.{parameters_in}
+use Rattle.program.specs.Calls.{parameters_in}
 use Rattle.phase_laws.specs.cfg.Rules.{IsFunctionRight}
 use Rattle.phase_laws.specs.cfg.declared.structure.Way.{Way}
 use Rattle.phase_laws.specs.cfg.declared.structure.Way.TheVariants as way
@@ -57,6 +57,7 @@ use Rattle.engine.specs.Starts.{alloca_starts, starts_from}
 use Rattle.serial_steps.specs.Shown.{TextFits}
 use Rattle.serial_promise.specs.Safe.{HasMoves, TextsFit}
 use Rattle.serial_promise.proofs.text.Named.{IsThere, alloca_named, object_named}
+use Rattle.engine.proofs.Turns.{item_end}
 
 -- ---- registers
 
@@ -99,10 +100,6 @@ below_all xs n below = by (length xs) refl
 pub parameters_first : (program : Program) → HasKinds program → (f : ℕ) (function : Function) → slice_get program.functions f ≡ Some function → length function.parameters ≤ length function.registers
 parameters_first program kinds f function at =
     below_all function.parameters (length function.registers) (λ i one is. slice_get_within function.registers i _ (kinds.parameters f i function one at is))
-
-end_there : (steps : List Step) (e : Ending) → item_of steps (Some e) (length steps) ≡ Some (Ends e.terminator)
-end_there [] e = refl
-end_there (s ∷ steps) e = end_there steps e
 
 module _ (text : List ℕ) (program : Program) (accepted : IsProgramOf text program) (places : Places) (moves : ℕ) (enough : length program.globals ≤ length places.globals)
     (all : places.allocas ≡ map (λ (f : Function). alloca_starts f.allocas) program.functions) (room : HasMoves program moves)
@@ -192,7 +189,7 @@ module _ (text : List ℕ) (program : Program) (accepted : IsProgramOf text prog
           last : item_at program f b (length block.steps) ≡ Some (Ends e.terminator)
           last =
               ap (λ (o : Option Block). and_then o (λ (x : Block). item_of x.steps x.ending (length block.steps))) (block_is program f b function block is)
-              ∙ ap (λ (o : Option Ending). item_of block.steps o (length block.steps)) ends ∙ end_there block.steps e
+              ∙ ap (λ (o : Option Ending). item_of block.steps o (length block.steps)) ends ∙ item_end block.steps e
 
           target_there : (w : Way) (to : ℕ) → LeadsTo e.terminator w to → to < length function.blocks
           target_there w to leads =

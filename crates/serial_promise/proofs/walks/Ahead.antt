@@ -10,12 +10,9 @@ use Rattle.running.specs.SerialMeaning.{one_more, both_outcomes, at_last}
 use Rattle.linear.specs.declared.form.RegisterId.{RegisterId}
 use Rattle.program.specs.declared.function.Program.{Program}
 use Rattle.serial_machine.specs.Stack.{Placed, ComesTo, over, GoesOn, Rests, Run, Goes, plain, sync, detach, call, reattach, ret, IsNotFree, IsNotCalling, HasNoStep, Walk, begins, goes_on, starting}
-use Rattle.serial_machine.proofs.Walks.{rests_deep}
+use Rattle.serial_machine.proofs.Walks.{rests_deep, outcome_is}
 use Rattle.serial_promise.specs.walks.Along.{GoesOnTo, WalksGoOn}
 use Rattle.serial_promise.proofs.walks.Apart.{meaning_means, plain_apart, sync_apart, detach_apart, call_apart, reattach_apart, return_apart}
-
-outcome_is : (e : Ending) (m : Memory) (c d h k : ℕ) → c ≡ d → h ≡ k → ◌≡◌ {A = Outcome} (record { ending = e; memory = m; count = c; depth = h }) (record { ending = e; memory = m; count = d; depth = k })
-outcome_is e m c d h k a b = λ i. record { ending = e; memory = m; count = a i; depth = b i }
 
 abbrev Next : Type 1
 Next = Frame → Memory → Outcome → Type 0

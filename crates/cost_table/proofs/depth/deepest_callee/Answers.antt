@@ -1,6 +1,6 @@
 use Rattle.std.proofs.Common.{◌≡◌, ◌∙◌, take, arith}
 use Rattle.program.specs.declared.instruction.Step.{Step}
-use Rattle.cost_table.specs.Cost.{callee_of}
+use Rattle.program.specs.Calls.{callee_of}
 use Rattle.cost_table.specs.Depth.{greatest, callee_depth}
 use Rattle.cost_table.proofs.Greatest.{greatest_next, greatest_all}
 use Rattle.cost_table.proofs.depth.deepest_callee.Goals as goal

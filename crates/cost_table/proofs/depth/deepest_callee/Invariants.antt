@@ -1,6 +1,6 @@
 use Rattle.std.proofs.Common.{◌≡◌, take}
 use Rattle.program.specs.declared.instruction.Step.{Step}
-use Rattle.cost_table.specs.Cost.{callee_of}
+use Rattle.program.specs.Calls.{callee_of}
 use Rattle.cost_table.specs.Depth.{greatest, callee_depth}
 use Rattle.cost_table.proofs.depth.deepest_callee.Given as goal
 

@@ -1,6 +1,6 @@
 use Rattle.std.proofs.Common.{◌≡◌, ◌-◌, ◌^◌, suc, take}
 use Rattle.program.specs.declared.instruction.Step.{Step}
-use Rattle.cost_table.specs.Cost.{callee_of}
+use Rattle.program.specs.Calls.{callee_of}
 use Rattle.cost_table.specs.Depth.{greatest, greatest_block, block_depth, callee_depth, detaches_around}
 use Rattle.cost_table.specs.Tables.{as_u64}
 use Rattle.cost_table.proofs.Capped.{capped_deeper}

@@ -1,6 +1,6 @@
 use Rattle.std.proofs.Common.{◌≡◌, ◌∙◌, ℕ, max, ◌-◌, ◌^◌, suc, take, ap}
 use Rattle.program.specs.declared.instruction.Step.{Step}
-use Rattle.cost_table.specs.Cost.{callee_of}
+use Rattle.program.specs.Calls.{callee_of}
 use Rattle.cost_table.specs.Depth.{greatest, greatest_block, self_call_depth, self_depth, detaches_around}
 use Rattle.cost_table.specs.Tables.{as_u64}
 use Rattle.cost_table.proofs.Capped.{capped_max}

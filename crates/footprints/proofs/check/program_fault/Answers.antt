@@ -5,7 +5,8 @@ use Rattle.ranges.specs.region_match.declared.task.Task.{Task}
 use Rattle.refusal.specs.Earliest.{IsEarliest}
 use Rattle.ranges.specs.Places.{IsFunctionTable}
 use Rattle.refusal.proofs.Places.{Within, below_next, below_all, read_in}
-use Rattle.footprints.specs.Rules.{tasks_of, IsFunctionBroken}
+use Rattle.footprints.specs.Rules.{IsFunctionBroken}
+use Rattle.ranges.specs.region_match.Tasks.{tasks_in}
 use Rattle.footprints.proofs.check.program_fault.Goals as goal
 
 pub function_fault-requires : goal.function_fault-requires
@@ -22,12 +23,12 @@ loop-index-preserved c =
     let functions = c.args.program.now.functions in
     let i = c.loop-index.index in
     let function = c.index-functions-index.result in
-    below_next (λ (f : ℕ) (x : Function). IsFunctionBroken functions x (tasks_of (slice_get c.args.regions.now.functions f))) c.as_slice-functions.result.now i function _ _ _ c.loop-index-test.true c.index-functions-index.is c.loop-index.invariant
+    below_next (λ (f : ℕ) (x : Function). IsFunctionBroken functions x (tasks_in (slice_get c.args.regions.now.functions f))) c.as_slice-functions.result.now i function _ _ _ c.loop-index-test.true c.index-functions-index.is c.loop-index.invariant
     (subst (λ (tasks : List Task). IsEarliest (IsFunctionBroken functions function tasks) c.in_ok-broken.broken) c.tasks_of-tasks.ensures
     (subst (λ (fs : List Function). IsEarliest (IsFunctionBroken fs function c.tasks_of-tasks.result.now) c.in_ok-broken.broken) c.as_slice-functions.ensures c.in_ok-broken.ensures))
     c.lower-named.ensures
 
 pub returns : goal.returns
 returns c =
-    subst (λ (functions : List Function). IsEarliest (Within (λ (f : ℕ) (x : Function). IsFunctionBroken c.args.program.now.functions x (tasks_of (slice_get c.args.regions.now.functions f))) functions) c.loop-index.named) c.as_slice-functions.ensures
-    (below_all (λ (f : ℕ) (x : Function). IsFunctionBroken c.args.program.now.functions x (tasks_of (slice_get c.args.regions.now.functions f))) c.as_slice-functions.result.now _ _ c.loop-index-test.false c.loop-index.invariant)
+    subst (λ (functions : List Function). IsEarliest (Within (λ (f : ℕ) (x : Function). IsFunctionBroken c.args.program.now.functions x (tasks_in (slice_get c.args.regions.now.functions f))) functions) c.loop-index.named) c.as_slice-functions.ensures
+    (below_all (λ (f : ℕ) (x : Function). IsFunctionBroken c.args.program.now.functions x (tasks_in (slice_get c.args.regions.now.functions f))) c.as_slice-functions.result.now _ _ c.loop-index-test.false c.loop-index.invariant)

@@ -1,7 +1,7 @@
 use Rattle.std.proofs.Common.{◌⊎◌}
 use Rattle.refusal.specs.declared.broken.Broken.{Broken}
-use Rattle.region_match.specs.Rules.{IsEndingBroken, IsPendingBroken}
-use Rattle.region_match.specs.ByLabel.{IsPlaceBroken, IsPendingBrokenBy, IsEndingBrokenBy}
+use Rattle.region_match.specs.Rules.{IsEndingBroken, IsPendingBroken, IsPlaceBroken}
+use Rattle.region_match.specs.ByLabel.{IsPendingBrokenBy, IsEndingBrokenBy}
 use Rattle.region_match.specs.Tasks.{task_at}
 use Rattle.refusal.proofs.Elements.{earliest_same, earliest_both}
 use Rattle.region_match.proofs.Conversion.{ending_by, ending_from, pending_by, pending_from}

@@ -10,7 +10,8 @@ use Rattle.running.specs.Arithmetic.{cell_sum}
 use Rattle.running.specs.Effect.{Plain, adds_to}
 use Rattle.frame.specs.Reading.{cell_of}
 use Rattle.frame.specs.Room.{HasNext, ObjectWithin}
-use Rattle.serial_machine.specs.Stepping.{path_in, frame_in, memory_in, one_cell, Wrote}
+use Rattle.serial_machine.specs.Stepping.{path_in, frame_in, memory_in, Wrote}
+use Rattle.running.specs.Cells.{one_cell}
 use Rattle.serial_machine.proofs.stack.Stack.add_to.Goals as goal
 
 pub returns-then-store : goal.returns-then-store

@@ -6,7 +6,8 @@ use Rattle.serial_machine.proofs.Cells.{from_true, from_false}
 use Rattle.running.specs.Effect.{stores_zeros}
 use Rattle.frame.specs.Reading.{object_of}
 use Rattle.frame.specs.Room.{HasNext, ObjectWithin}
-use Rattle.serial_machine.specs.Stepping.{path_in, frame_in, zeros_below}
+use Rattle.serial_machine.specs.Stepping.{path_in, frame_in}
+use Rattle.running.specs.Cells.{zeros_below}
 use Rattle.serial_machine.proofs.stack.Stack.clear.Goals as goal
 
 pub returns-then-store_zeros : goal.returns-then-store_zeros

@@ -8,7 +8,8 @@ use Rattle.serial_machine.proofs.Cells.{from_true}
 use Rattle.running.specs.Effect.{stores}
 use Rattle.frame.specs.Reading.{cell_of}
 use Rattle.frame.specs.Room.{HasNext, ObjectWithin}
-use Rattle.serial_machine.specs.Stepping.{path_in, frame_in, one_cell, Wrote}
+use Rattle.serial_machine.specs.Stepping.{path_in, frame_in, Wrote}
+use Rattle.running.specs.Cells.{one_cell}
 use Rattle.serial_machine.proofs.stack.Stack.store_next.Goals as goal
 
 pub returns-then-store : goal.returns-then-store

@@ -1,7 +1,8 @@
 use Rattle.std.proofs.Common.{length}
 use Rattle.frame.specs.Reading.{object_of}
 use Rattle.frame.specs.Room.{ObjectWithin}
-use Rattle.serial_machine.specs.Stepping.{below_of, path_in, zeros_below, Wrote}
+use Rattle.serial_machine.specs.Stepping.{below_of, path_in, Wrote}
+use Rattle.running.specs.Cells.{zeros_below}
 use Rattle.serial_machine.proofs.stack.Stack.store_zeros.Given as goal
 
 abbrev pub invariant-loop-index : goal.invariant-loop-index

@@ -6,7 +6,8 @@ use Rattle.std.proofs.lemmas.Result.{on_ok_weaker}
 use mir.Val.{to_z, of_z}
 use Rattle.frame.specs.Reading.{cell_of}
 use Rattle.worker_steps.specs.Seen.{place_of}
-use Rattle.worker_steps.specs.Stepping.{one_cell, StoresAt}
+use Rattle.worker_steps.specs.Stepping.{StoresAt}
+use Rattle.running.specs.Cells.{one_cell}
 use Rattle.running.specs.Arithmetic.{cell_sum}
 use Rattle.worker_steps.proofs.Performed.{stored_done, next_still, added_done}
 use Rattle.worker_steps.specs.Slots.{KeepsSlots}

@@ -5,7 +5,8 @@ use Rattle.std.proofs.lemmas.Bool.{OnTrue_at}
 use Rattle.std.proofs.lemmas.Result.{on_ok_weaker}
 use Rattle.frame.specs.Reading.{cell_of}
 use Rattle.worker_steps.specs.Seen.{place_of}
-use Rattle.worker_steps.specs.Stepping.{one_cell, StoresAt}
+use Rattle.worker_steps.specs.Stepping.{StoresAt}
+use Rattle.running.specs.Cells.{one_cell}
 use Rattle.worker_steps.proofs.Performed.{stored_done, next_still}
 use Rattle.worker_steps.specs.Slots.{KeepsSlots}
 use Rattle.worker_steps.specs.Stalls.{KeepsStalls}

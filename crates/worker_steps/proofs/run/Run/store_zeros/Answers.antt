@@ -3,7 +3,8 @@ use Rattle.std.proofs.lemmas.Bool.{OnTrue_at, OnFalse_at}
 use Rattle.std.proofs.lemmas.Result.{on_ok_weaker}
 use Rattle.frame.specs.Reading.{object_of}
 use Rattle.worker_steps.specs.Seen.{place_of}
-use Rattle.worker_steps.specs.Stepping.{Written, zeros_below}
+use Rattle.worker_steps.specs.Stepping.{Written}
+use Rattle.running.specs.Cells.{zeros_below}
 use Rattle.worker_steps.proofs.Performed.{written_none, written_more, stored_done, next_still}
 use Rattle.worker_steps.proofs.Missing.{kept_none, kept_more, zeros_refused}
 use Rattle.worker_steps.specs.Slots.{KeepsSlots}

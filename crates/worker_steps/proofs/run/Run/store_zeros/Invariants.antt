@@ -7,7 +7,8 @@ use Rattle.worker_steps.specs.Seen.{place_of, Agrees}
 use Rattle.worker_steps.specs.Slots.{KeepsSlots}
 use Rattle.worker_steps.specs.Follows.{KeepsUses}
 use Rattle.worker_steps.specs.Stalls.{KeepsStalls}
-use Rattle.worker_steps.specs.Stepping.{Written, zeros_below}
+use Rattle.worker_steps.specs.Stepping.{Written}
+use Rattle.running.specs.Cells.{zeros_below}
 use Rattle.worker_steps.specs.Stopping.{KeepsCells}
 use Rattle.worker_steps.proofs.run.Run.store_zeros.Given as goal
 

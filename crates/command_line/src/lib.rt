@@ -1,0 +1,13 @@
+//! The command line of the program `tapirvm`: which words there are, and the request that they make.
+//!
+//! [`words`] parses by `clap`; what it gives names the command that was asked for. A word that is not UTF-8, as a path may be, is a text here
+//! ([`text_of`]) and a word again where a file is opened ([`bytes_of`]).
+#![tactic(auto)]
+
+mod parsing;
+mod request;
+mod word;
+
+pub use parsing::{is_name, words};
+pub use request::{CellWord, Request, Setting, Telling, Verb, WordsFault};
+pub use word::{bytes_of, is_raw, text_of};

@@ -1,0 +1,576 @@
+//! From words to a request.
+
+ghost use Rattle.std.specs.Prelude.{◌≡◌, IfOk, IfSome, map};
+ghost use Rattle.command_line.specs.declared.request.Verb.TheVariants as verb_variant;
+ghost use Rattle.command_line.specs.Asked.{IsAsked, word_of};
+
+use crate::request::{CellWord, Request, Setting, Telling, Verb, WordsFault};
+use clap::error::ErrorKind;
+use clap::{Arg, ArgAction, ArgMatches, Command, Error};
+use rules::rule_text;
+use std::alloc::{AllocError, Global};
+
+/// What the help of each command tells last.
+const STATUSES: &str = "\
+Statuses:
+  0  done
+  1  the module is refused
+  2  the command line is wrong, an option names nothing, or help was asked for
+  3  the run was stopped, or memory was refused
+  4  FILE or SCHEDULE cannot be read
+  5  SCHEDULE is no schedule
+  6  standard input cannot be read, or an output cannot be written";
+
+/// What `tapirvm debug --help` says of its commands.
+const DIALOGUE: &str = "\
+Commands, one a line:
+  to N        goes to the position after N events
+  forward     does the next event
+  back        takes the last event back
+  break L     goes to the next position at which a worker's next instruction
+              stands on line L of the module, else to the end
+  task PATH   shows who runs a task and the line of its next instruction
+  cell @a:I   shows a cell
+  quit        ends, as the end of the input does
+
+Example:
+  $ printf 'to 6\\ntask root\\nback\\n' | tapirvm debug pair.ll s.txt --workers 2 --arg 7
+  at 6 of 15
+  task root stalled line 20
+  at 5 of 15
+
+Statuses:
+  as those of run --help";
+
+const VERBS: [Verb; 9] = [
+    Verb::Verify,
+    Verb::Explain,
+    Verb::Serial,
+    Verb::Run,
+    Verb::Replay,
+    Verb::Debug,
+    Verb::Print,
+    Verb::Show,
+    Verb::Annotate,
+];
+
+/// Whether a text is a name by the rules of the module's text, without its sigil.
+pub fn is_name(text: &str) -> bool {
+    match text.as_bytes() {
+        [] => false,
+        [first, rest @ ..] => {
+            begins_name(*first) && rest.iter().all(|b| begins_name(*b) || b.is_ascii_digit())
+        }
+    }
+}
+
+fn begins_name(byte: u8) -> bool {
+    byte.is_ascii_alphabetic() || byte == b'_' || byte == b'.'
+}
+
+/// Reads `@a:I`.
+fn cell_word(alloc: Global, text: &str) -> Result<Option<CellWord>, AllocError> {
+    let Some(marked) = text.strip_prefix("@") else {
+        return Ok(None);
+    };
+    let Some((name, index)) = marked.split_once(":") else {
+        return Ok(None);
+    };
+    match index.parse::<u64>() {
+        Ok(index) if is_name(name) => Ok(Some(CellWord {
+            name: String::from_str(alloc, name)?,
+            index,
+        })),
+        _ => Ok(None),
+    }
+}
+
+/// Reads `@a:I=V`.
+fn setting(alloc: Global, text: &str) -> Result<Option<Setting>, AllocError> {
+    let Some((cell, value)) = text.split_once("=") else {
+        return Ok(None);
+    };
+    let Ok(value) = value.parse::<i64>() else {
+        return Ok(None);
+    };
+    match cell_word(alloc, cell)? {
+        Some(cell) => Ok(Some(Setting { cell, value })),
+        None => Ok(None),
+    }
+}
+
+fn wrong_value(alloc: Global, option: &str, text: &str) -> WordsFault {
+    match format!(in alloc; "error: invalid value '{text}' for '{option}'\n") {
+        Ok(text) => WordsFault::told(text),
+        Err(_) => WordsFault::out_of_memory(),
+    }
+}
+
+fn args_of(alloc: Global, matches: &ArgMatches<'_>) -> Result<Vec<i64>, WordsFault> {
+    let mut args = Vec::new(alloc);
+    if let Some(texts) = matches.get_strs("arg") {
+        for text in texts {
+            match text.parse::<i64>() {
+                Ok(value) => args.push(value)?,
+                Err(_) => return Err(wrong_value(alloc, "--arg <V>", text)),
+            }
+        }
+    }
+    Ok(args)
+}
+
+fn settings_of(alloc: Global, matches: &ArgMatches<'_>) -> Result<Vec<Setting>, WordsFault> {
+    let mut settings = Vec::new(alloc);
+    if let Some(texts) = matches.get_strs("set") {
+        for text in texts {
+            match setting(alloc, text)? {
+                Some(setting) => settings.push(setting)?,
+                None => return Err(wrong_value(alloc, "--set <@a:I=V>", text)),
+            }
+        }
+    }
+    Ok(settings)
+}
+
+fn cells_of(alloc: Global, matches: &ArgMatches<'_>) -> Result<Vec<CellWord>, WordsFault> {
+    let mut cells = Vec::new(alloc);
+    if let Some(texts) = matches.get_strs("show") {
+        for text in texts {
+            match cell_word(alloc, text)? {
+                Some(cell) => cells.push(cell)?,
+                None => return Err(wrong_value(alloc, "--show <@a:I>", text)),
+            }
+        }
+    }
+    Ok(cells)
+}
+
+fn workers_of(alloc: Global, matches: &ArgMatches<'_>) -> Result<usize, WordsFault> {
+    match matches.get_str("workers") {
+        None => Ok(1),
+        Some(text) => match text.parse::<usize>() {
+            Ok(workers) => Ok(workers),
+            Err(_) => Err(wrong_value(alloc, "--workers <N>", text)),
+        },
+    }
+}
+
+/// Reads `@f`.
+fn function_word(alloc: Global, text: &str) -> Result<Option<String>, AllocError> {
+    match text.strip_prefix("@") {
+        Some(name) if is_name(name) => Ok(Some(String::from_str(alloc, name)?)),
+        _ => Ok(None),
+    }
+}
+
+fn table_of(alloc: Global, matches: &ArgMatches<'_>) -> Result<Option<String>, WordsFault> {
+    match matches.get_str("table") {
+        None => Ok(None),
+        Some(text) => match function_word(alloc, text)? {
+            Some(name) => Ok(Some(name)),
+            None => Err(wrong_value(alloc, "--table <@f>", text)),
+        },
+    }
+}
+
+fn fault_of(alloc: Global, error: Error) -> WordsFault {
+    if error.kind() == ErrorKind::OutOfMemory {
+        return WordsFault::out_of_memory();
+    }
+    match format!(in alloc; "{error}") {
+        Ok(text) => WordsFault::told(text),
+        Err(_) => WordsFault::out_of_memory(),
+    }
+}
+
+fn file_word<'a>(alloc: Global) -> Arg<'a> {
+    Arg::new(alloc, "file")
+        .value_name("FILE")
+        .required(true)
+        .help("the text of the module")
+}
+
+fn table_option<'a>(alloc: Global) -> Arg<'a> {
+    Arg::new(alloc, "table")
+        .long("table")
+        .value_name("@f")
+        .action(ArgAction::Set)
+        .help("prints the costs and depths of a function")
+}
+
+fn verify_command<'a>(alloc: Global) -> Result<Command<'a>, AllocError> {
+    Command::new(alloc, "verify")
+        .about("verifies a module, and tells its budget and depth")
+        .after_help(STATUSES)
+        .arg(file_word(alloc))?
+        .arg(table_option(alloc))
+}
+
+/// An option that may be given more than once.
+fn repeated<'a>(alloc: Global, name: &'a str, value: &'a str, help: &'a str) -> Arg<'a> {
+    Arg::new(alloc, name)
+        .long(name)
+        .value_name(value)
+        .action(ArgAction::Append)
+        .help(help)
+}
+
+/// A command that takes a module alone.
+fn module_command<'a>(
+    alloc: Global,
+    name: &'a str,
+    about: &'a str,
+) -> Result<Command<'a>, AllocError> {
+    Command::new(alloc, name)
+        .about(about)
+        .after_help(STATUSES)
+        .arg(file_word(alloc))
+}
+
+fn print_command<'a>(alloc: Global) -> Result<Command<'a>, AllocError> {
+    let about = "prints the canonical text of a module";
+    module_command(alloc, "print", about)
+}
+
+fn show_command<'a>(alloc: Global) -> Result<Command<'a>, AllocError> {
+    let about = "tells what the verifier knows of each block of a module";
+    module_command(alloc, "show", about)
+}
+
+fn annotate_command<'a>(alloc: Global) -> Result<Command<'a>, AllocError> {
+    let about = "prints a module with annotations put in that follow from others";
+    module_command(alloc, "annotate", about)
+}
+
+fn explain_command<'a>(alloc: Global) -> Result<Command<'a>, AllocError> {
+    let file = Arg::new(alloc, "file")
+        .value_name("FILE|NUMBER")
+        .required(true)
+        .help("the text of a module, or the number of a rule");
+    Command::new(alloc, "explain")
+        .about(
+            "says why a module is refused and what was to be shown, or what an accepted one could do without; or prints a rule",
+        )
+        .after_help(STATUSES)
+        .arg(file)
+}
+
+/// The options of a verb that runs a module.
+fn running<'a>(alloc: Global, command: Command<'a>) -> Result<Command<'a>, AllocError> {
+    command
+        .arg(file_word(alloc))?
+        .arg(repeated(
+            alloc,
+            "arg",
+            "V",
+            "an argument of @main, in order; --arg=-5 for one below 0",
+        ))?
+        .arg(repeated(
+            alloc,
+            "set",
+            "@a:I=V",
+            "sets cell I of the global @a before the run",
+        ))?
+        .arg(repeated(
+            alloc,
+            "show",
+            "@a:I",
+            "prints cell I of the global @a after the run",
+        ))
+}
+
+fn serial_command<'a>(alloc: Global) -> Result<Command<'a>, AllocError> {
+    running(
+        alloc,
+        Command::new(alloc, "serial")
+            .about("runs the serial elision of a module")
+            .after_help(STATUSES),
+    )
+}
+
+fn workers<'a>(alloc: Global) -> Arg<'a> {
+    Arg::new(alloc, "workers")
+        .long("workers")
+        .value_name("N")
+        .required(true)
+        .action(ArgAction::Set)
+        .help("the number of workers, from 1 to 64")
+}
+
+fn seed_option<'a>(alloc: Global) -> Arg<'a> {
+    Arg::new(alloc, "seed")
+        .long("seed")
+        .value_name("S")
+        .action(ArgAction::Set)
+        .help("draws the events at random by this number; at most 1048576")
+}
+
+fn drawn_option<'a>(alloc: Global) -> Result<Arg<'a>, AllocError> {
+    Arg::new(alloc, "schedule")
+        .long("schedule")
+        .value_name("OUT")
+        .action(ArgAction::Set)
+        .help("writes the events to a file, as replay takes them")
+        .requires_arg("seed")
+}
+
+fn run_command<'a>(alloc: Global) -> Result<Command<'a>, AllocError> {
+    let command = Command::new(alloc, "run")
+        .about("runs a module on workers")
+        .after_help(STATUSES);
+    running(alloc, command)?
+        .arg(workers(alloc))?
+        .arg(seed_option(alloc))?
+        .arg(drawn_option(alloc)?)
+}
+
+fn schedule_word<'a>(alloc: Global) -> Arg<'a> {
+    Arg::new(alloc, "schedule")
+        .value_name("SCHEDULE")
+        .required(true)
+        .help("the events, a line for each: step W N, or steal W PATH")
+}
+
+/// The words of a verb that follows a schedule.
+fn scheduled<'a>(alloc: Global, command: Command<'a>) -> Result<Command<'a>, AllocError> {
+    running(alloc, command)?
+        .arg(schedule_word(alloc))?
+        .arg(workers(alloc))
+}
+
+fn trace_option<'a>(alloc: Global) -> Arg<'a> {
+    Arg::new(alloc, "trace")
+        .long("trace")
+        .action(ArgAction::SetTrue)
+        .help("prints a line for each event before the answer")
+}
+
+fn picture_option<'a>(alloc: Global) -> Arg<'a> {
+    Arg::new(alloc, "picture")
+        .long("picture")
+        .value_name("OUT")
+        .action(ArgAction::Set)
+        .help("writes a picture of the run to a file, as SVG")
+}
+
+fn replay_command<'a>(alloc: Global) -> Result<Command<'a>, AllocError> {
+    let command = Command::new(alloc, "replay")
+        .about("runs a module by a schedule")
+        .after_help(STATUSES);
+    scheduled(alloc, command)?
+        .arg(trace_option(alloc))?
+        .arg(picture_option(alloc))
+}
+
+fn debug_command<'a>(alloc: Global) -> Result<Command<'a>, AllocError> {
+    let command = Command::new(alloc, "debug")
+        .about("goes forwards and backwards through a schedule, by commands from standard input")
+        .after_help(DIALOGUE);
+    scheduled(alloc, command)
+}
+
+fn command<'a>(alloc: Global) -> Result<Command<'a>, AllocError> {
+    Command::new(alloc, "tapirvm")
+        .about("A verified fork-join machine for LLVM IR with Tapir's detach, reattach and sync")
+        .after_help(STATUSES)
+        .subcommand_required(true)
+        .subcommand(verify_command(alloc)?)?
+        .subcommand(explain_command(alloc)?)?
+        .subcommand(serial_command(alloc)?)?
+        .subcommand(run_command(alloc)?)?
+        .subcommand(replay_command(alloc)?)?
+        .subcommand(debug_command(alloc)?)?
+        .subcommand(print_command(alloc)?)?
+        .subcommand(show_command(alloc)?)?
+        .subcommand(annotate_command(alloc)?)
+}
+
+fn schedule_of(alloc: Global, matches: &ArgMatches<'_>) -> Result<String, WordsFault> {
+    match matches.get_str("schedule") {
+        Some(schedule) => Ok(String::from_str(alloc, schedule)?),
+        None => Err(wrong_value(alloc, "<SCHEDULE>", "")),
+    }
+}
+
+fn file_of(alloc: Global, matches: &ArgMatches<'_>) -> Result<String, WordsFault> {
+    match matches.get_str("file") {
+        Some(file) => Ok(String::from_str(alloc, file)?),
+        None => Err(wrong_value(alloc, "<FILE>", "")),
+    }
+}
+
+/// A request for a module that is not run.
+fn module_request(
+    alloc: Global,
+    verb: Verb,
+    matches: &ArgMatches<'_>,
+) -> Result<Request, WordsFault>
+    ensures { IfOk result (λ r. r.verb ≡ verb) }
+{
+    Ok(Request {
+        verb,
+        file: file_of(alloc, matches)?,
+        schedule: None,
+        workers: 1,
+        args: Vec::new(alloc),
+        set: Vec::new(alloc),
+        show: Vec::new(alloc),
+        table: None,
+        telling: Telling::nothing(),
+        rule: None,
+    })
+}
+
+/// The number of a rule, where the word is a number; a fault where no rule has it.
+fn rule_of(alloc: Global, word: &str) -> Result<Option<u16>, WordsFault> {
+    if !word.bytes().all(|byte| byte.is_ascii_digit()) {
+        return Ok(None);
+    }
+    let number = word.parse::<u16>().unwrap_or(0);
+    match rule_text(alloc, number) {
+        Ok(Some(_)) => Ok(Some(number)),
+        Ok(None) => match format!(in alloc; "error: no rule has the number {word}\n") {
+            Ok(text) => Err(WordsFault::told(text)),
+            Err(_) => Err(WordsFault::out_of_memory()),
+        },
+        Err(_) => Err(WordsFault::out_of_memory()),
+    }
+}
+
+fn explain_request(alloc: Global, matches: &ArgMatches<'_>) -> Result<Request, WordsFault>
+    ensures { IfOk result (λ r. r.verb ≡ verb_variant.Explain) }
+{
+    let request = module_request(alloc, Verb::Explain, matches)?;
+    let rule = rule_of(alloc, request.file.as_str())?;
+    Ok(Request { rule, ..request })
+}
+
+fn verify_request(alloc: Global, matches: &ArgMatches<'_>) -> Result<Request, WordsFault>
+    ensures { IfOk result (λ r. r.verb ≡ verb_variant.Verify) }
+{
+    let request = module_request(alloc, Verb::Verify, matches)?;
+    let table = table_of(alloc, matches)?;
+    Ok(Request { table, ..request })
+}
+
+fn request_of(alloc: Global, verb: Verb, matches: &ArgMatches<'_>) -> Result<Request, WordsFault>
+    ensures { IfOk result (λ r. r.verb ≡ verb) }
+{
+    Ok(Request {
+        verb,
+        file: file_of(alloc, matches)?,
+        schedule: None,
+        workers: workers_of(alloc, matches)?,
+        args: args_of(alloc, matches)?,
+        set: settings_of(alloc, matches)?,
+        show: cells_of(alloc, matches)?,
+        table: None,
+        rule: None,
+        telling: Telling::nothing(),
+    })
+}
+
+fn seed_of(alloc: Global, matches: &ArgMatches<'_>) -> Result<Option<u64>, WordsFault> {
+    match matches.get_str("seed") {
+        None => Ok(None),
+        Some(text) => match text.parse::<u64>() {
+            Ok(seed) => Ok(Some(seed)),
+            Err(_) => Err(wrong_value(alloc, "--seed <S>", text)),
+        },
+    }
+}
+
+/// The file that an option names.
+fn written_file(
+    alloc: Global,
+    matches: &ArgMatches<'_>,
+    option: &str,
+) -> Result<Option<String>, AllocError> {
+    match matches.get_str(option) {
+        Some(file) => Ok(Some(String::from_str(alloc, file)?)),
+        None => Ok(None),
+    }
+}
+
+fn run_request(alloc: Global, matches: &ArgMatches<'_>) -> Result<Request, WordsFault>
+    ensures { IfOk result (λ r. r.verb ≡ verb_variant.Run) }
+{
+    let request = request_of(alloc, Verb::Run, matches)?;
+    let telling = Telling {
+        trace: false,
+        seed: seed_of(alloc, matches)?,
+        file: written_file(alloc, matches, "schedule")?,
+    };
+    Ok(Request { telling, ..request })
+}
+
+fn schedule_request(
+    alloc: Global,
+    verb: Verb,
+    matches: &ArgMatches<'_>,
+) -> Result<Request, WordsFault>
+    ensures { IfOk result (λ r. r.verb ≡ verb) }
+{
+    let request = request_of(alloc, verb, matches)?;
+    let schedule = schedule_of(alloc, matches)?;
+    Ok(Request {
+        schedule: Some(schedule),
+        ..request
+    })
+}
+
+fn replay_request(alloc: Global, matches: &ArgMatches<'_>) -> Result<Request, WordsFault>
+    ensures { IfOk result (λ r. r.verb ≡ verb_variant.Replay) }
+{
+    let request = schedule_request(alloc, Verb::Replay, matches)?;
+    let telling = Telling {
+        trace: matches.get_flag("trace"),
+        seed: None,
+        file: written_file(alloc, matches, "picture")?,
+    };
+    Ok(Request { telling, ..request })
+}
+
+/// The verb that a word names.
+fn verb_of(word: &str) -> Option<Verb>
+    ensures { IfSome result (λ verb. word.now ≡ word_of verb) }
+{
+    for verb in VERBS {
+        if verb.word() == word {
+            return Some(verb);
+        }
+    }
+    None
+}
+
+/// What the words of a verb's own command ask for.
+fn request_for(alloc: Global, verb: Verb, matches: &ArgMatches<'_>) -> Result<Request, WordsFault>
+    ensures { IfOk result (λ r. r.verb ≡ verb) }
+{
+    match verb {
+        Verb::Verify => verify_request(alloc, matches),
+        Verb::Explain => explain_request(alloc, matches),
+        Verb::Run => run_request(alloc, matches),
+        Verb::Replay => replay_request(alloc, matches),
+        Verb::Debug => schedule_request(alloc, verb, matches),
+        Verb::Serial => request_of(alloc, verb, matches),
+        Verb::Print | Verb::Show | Verb::Annotate => module_request(alloc, verb, matches),
+    }
+}
+
+/// Reads the program's words, the program's own name first.
+pub fn words<'a>(alloc: Global, words: &'a [&'a str]) -> Result<Request, WordsFault>
+    ensures { IfOk result (λ r. IsAsked (map (λ w. w.now) words.now) r.verb) }
+{
+    let parsed = match command(alloc)?.try_get_matches_from(words) {
+        Ok(matches) => matches,
+        Err(error) => return Err(fault_of(alloc, error)),
+    };
+    let Some((word, matches)) = parsed.subcommand() else {
+        return Err(wrong_value(alloc, "<COMMAND>", ""));
+    };
+    match verb_of(word) {
+        Some(verb) => request_for(alloc, verb, matches),
+        None => Err(wrong_value(alloc, "<COMMAND>", word)),
+    }
+}

@@ -1,0 +1,142 @@
+ghost use Rattle.std.specs.Prelude.{◌≡◌};
+ghost use Rattle.command_line.specs.Asked.{word_of};
+
+use std::alloc::{AllocError, AllocFailed};
+
+/// What the program is asked to do.
+#[derive(Clone, Copy, PartialEq, Eq)]
+pub enum Verb {
+    /// Verify the module, and tell its budget and depth.
+    Verify,
+    /// Say why the module is refused, or print a rule.
+    Explain,
+    /// Run the serial elision.
+    Serial,
+    /// Run on workers.
+    Run,
+    /// Run by a schedule.
+    Replay,
+    /// Go forwards and backwards through a schedule.
+    Debug,
+    /// Print the module's canonical text.
+    Print,
+    /// Tell what the verifier knows of each block.
+    Show,
+    /// Put in the annotations that follow from others.
+    Annotate,
+}
+
+impl Verb {
+    /// The word that names it.
+    pub fn word(self) -> &'static str
+        ensures { result.now ≡ word_of self }
+    {
+        match self {
+            Verb::Verify => "verify",
+            Verb::Explain => "explain",
+            Verb::Serial => "serial",
+            Verb::Run => "run",
+            Verb::Replay => "replay",
+            Verb::Debug => "debug",
+            Verb::Print => "print",
+            Verb::Show => "show",
+            Verb::Annotate => "annotate",
+        }
+    }
+}
+
+/// A cell of a global, as `@a:5` names it.
+#[derive(Drop)]
+pub struct CellWord {
+    /// The global's name without `@`.
+    pub name: String,
+    pub index: u64,
+}
+
+/// `@a:5=9`: a cell's number before the run.
+#[derive(Drop)]
+pub struct Setting {
+    pub cell: CellWord,
+    pub value: i64,
+}
+
+/// The words of a command line, read.
+#[derive(Drop)]
+pub struct Request {
+    pub verb: Verb,
+    /// The file of the module.
+    pub file: String,
+    /// The file of the schedule, for the verbs that take one.
+    pub schedule: Option<String>,
+    /// How many workers run; 1 where the verb takes none.
+    pub workers: usize,
+    /// The arguments of `@main`, in order.
+    pub args: Vec<i64>,
+    /// Cells to set before the run; of two for one cell the last one stays.
+    pub set: Vec<Setting>,
+    /// Cells to print after the run.
+    pub show: Vec<CellWord>,
+    /// The name, without `@`, of the function whose costs to print, for the verb that takes one.
+    pub table: Option<String>,
+    /// The number of the rule to print in place of a module, for the verb that takes one.
+    pub rule: Option<u16>,
+    /// How the verb tells of the run, and where to.
+    pub telling: Telling,
+}
+
+/// What is told of a run beside its answer.
+#[derive(Drop)]
+pub struct Telling {
+    /// A line for each event of a replay.
+    pub trace: bool,
+    /// Draws the events of a run by this seed; without one its workers have threads.
+    pub seed: Option<u64>,
+    /// The file to write: the picture of a replay, or the schedule of a run that is drawn.
+    pub file: Option<String>,
+}
+
+impl Telling {
+    pub fn nothing() -> Telling {
+        Telling {
+            trace: false,
+            seed: None,
+            file: None,
+        }
+    }
+}
+
+/// Why words are no request: a text for the user, or that memory was refused.
+#[derive(Drop)]
+pub struct WordsFault {
+    /// Empty where memory was refused.
+    pub text: Option<String>,
+    pub memory: bool,
+}
+
+impl WordsFault {
+    pub fn told(text: String) -> WordsFault {
+        WordsFault {
+            text: Some(text),
+            memory: false,
+        }
+    }
+
+    pub fn out_of_memory() -> WordsFault {
+        WordsFault {
+            text: None,
+            memory: true,
+        }
+    }
+}
+
+impl From<AllocError> for WordsFault {
+    fn from(_error: AllocError) -> WordsFault {
+        WordsFault::out_of_memory()
+    }
+}
+
+impl<T: Drop> From<AllocFailed<T>> for WordsFault {
+    fn from(_error: AllocFailed<T>) -> WordsFault {
+        WordsFault::out_of_memory()
+    }
+}

@@ -1,0 +1,562 @@
+//! Faults of costs, each with both sides and the difference.
+
+use cost_table::{Table, Work, make_table, work_of};
+use fact_notes::{Known, Matched, Scene, fact_lines, push_form, start_lines};
+use findings::{Finding, push_finding};
+use linear::{Fact, Form, side_of};
+use lists::{OutOfMemory, Seq};
+use program::{
+    Argument, Block, BlockId, Budget, Ending, Function, Instruction, Left, Measure, Step,
+    Terminator,
+};
+use ranges::{
+    BlockFacts, EdgeFacts, Move, Sum, argument_moves, block_facts, push_parts, shows, start_facts,
+    stated,
+};
+use std::alloc::Global;
+
+/// The greatest cost that a call may have.
+const GREATEST_COST: u64 = 1_000_000_000_000;
+
+/// What is counted.
+#[derive(Clone, Copy)]
+enum Counted {
+    SelfCalls,
+    Instructions,
+}
+
+/// What is left at a place, with what phis take there put in.
+#[derive(Clone, Copy)]
+struct Share<'a> {
+    to: BlockId,
+    moves: &'a [Move],
+    left: &'a Left,
+}
+
+/// A block beside what it does and what is known at its end.
+#[derive(Clone, Copy)]
+struct Doing<'a> {
+    known: Known<'a>,
+    left: &'a Left,
+    work: Work,
+}
+
+impl Counted {
+    fn word(self) -> &'static str {
+        match self {
+            Counted::SelfCalls => "self calls",
+            Counted::Instructions => "instructions",
+        }
+    }
+
+    fn of_left(self, left: &Left) -> &Form {
+        match self {
+            Counted::SelfCalls => &left.self_calls,
+            Counted::Instructions => &left.instructions,
+        }
+    }
+
+    fn of_work(self, work: Work) -> u128 {
+        match self {
+            Counted::SelfCalls => work.calls,
+            Counted::Instructions => work.instructions,
+        }
+    }
+}
+
+/// A number of what is done; the greatest stands for all beyond.
+fn amount(done: u128) -> i128 {
+    i128::try_from(done).unwrap_or(i128::MAX)
+}
+
+/// A form, less a number.
+fn less_number(alloc: Global, form: &Form, done: i128) -> Result<Sum, OutOfMemory> {
+    let side = side_of(form);
+    let mut parts = Vec::new(alloc);
+    push_parts(&mut parts, &[], 1, side.terms)?;
+    Ok(Sum {
+        constant: side.constant.saturating_sub(done),
+        parts: Seq::from_vec(parts),
+    })
+}
+
+/// A number, less a form with the moves put in.
+pub fn number_less(
+    alloc: Global,
+    number: i128,
+    moves: &[Move],
+    form: &Form,
+) -> Result<Sum, OutOfMemory> {
+    let side = side_of(form);
+    let mut parts = Vec::new(alloc);
+    push_parts(&mut parts, moves, -1, side.terms)?;
+    Ok(Sum {
+        constant: number.saturating_sub(side.constant),
+        parts: Seq::from_vec(parts),
+    })
+}
+
+/// A form with the moves put in.
+fn put_in(alloc: Global, moves: &[Move], form: &Form) -> Result<Sum, OutOfMemory> {
+    let side = side_of(form);
+    let mut parts = Vec::new(alloc);
+    push_parts(&mut parts, moves, 1, side.terms)?;
+    Ok(Sum {
+        constant: side.constant,
+        parts: Seq::from_vec(parts),
+    })
+}
+
+/// A sum, less another.
+fn less_sum(left: Sum, right: &Sum) -> Result<Sum, OutOfMemory> {
+    let Sum { constant, parts } = left;
+    let mut parts = parts.into_vec();
+    for part in right.parts.as_slice() {
+        parts.push(ranges::Part {
+            factor: 0i64.saturating_sub(part.factor),
+            operand: part.operand,
+        })?;
+    }
+    Ok(Sum {
+        constant: constant.saturating_sub(right.constant),
+        parts: Seq::from_vec(parts),
+    })
+}
+
+impl Doing<'_> {
+    /// What is left of the block behind what it does and what is left at all of these places.
+    fn rest(
+        &self,
+        alloc: Global,
+        counted: Counted,
+        shares: &[Share<'_>],
+    ) -> Result<Sum, OutOfMemory> {
+        let done = amount(counted.of_work(self.work));
+        let mut rest = less_number(alloc, counted.of_left(self.left), done)?;
+        for share in shares {
+            let next = put_in(alloc, share.moves, counted.of_left(share.left))?;
+            rest = less_sum(rest, &next)?;
+        }
+        Ok(rest)
+    }
+
+    /// Both sides of what is not covered.
+    fn push_sides(
+        &self,
+        alloc: Global,
+        counted: Counted,
+        shares: &[Share<'_>],
+        rest: &Sum,
+        out: &mut String,
+    ) -> Result<(), OutOfMemory> {
+        let word = counted.word();
+        let done = counted.of_work(self.work);
+        write!(out, "  {word}: left ")?;
+        push_form(alloc, self.known.scene, counted.of_left(self.left), out)?;
+        write!(out, ", the block does {done}")?;
+        for share in shares {
+            let label = self.known.scene.label(share.to);
+            write!(out, ", left at %{label} ")?;
+            push_form(alloc, self.known.scene, counted.of_left(share.left), out)?;
+        }
+        out.push_str("\n    ")?;
+        self.known.push_gap(alloc, rest, out)?;
+        if let [only] = shares {
+            let label = self.known.scene.label(only.to);
+            write!(out, " on the edge to %{label}")?;
+        }
+        out.push_str("\n")?;
+        Ok(())
+    }
+
+    fn push_counted(
+        &self,
+        alloc: Global,
+        counted: Counted,
+        shares: &[Share<'_>],
+        out: &mut String,
+    ) -> Result<bool, OutOfMemory> {
+        let rest = self.rest(alloc, counted, shares)?;
+        if shows(alloc, self.known.facts, &rest)? {
+            return Ok(false);
+        }
+        self.push_sides(alloc, counted, shares, &rest, out)?;
+        Ok(true)
+    }
+
+    /// 702, where the block does not leave what is left at all of these places.
+    fn push_fault(
+        &self,
+        alloc: Global,
+        shares: &[Share<'_>],
+        findings: &mut Vec<Finding>,
+    ) -> Result<(), OutOfMemory> {
+        let mut notes = String::new(alloc);
+        let calls = self.push_counted(alloc, Counted::SelfCalls, shares, &mut notes)?;
+        let instructions = self.push_counted(alloc, Counted::Instructions, shares, &mut notes)?;
+        if calls || instructions {
+            push_finding(findings, 702, self.known.line, notes)?;
+        }
+        Ok(())
+    }
+}
+
+/// What is left at the start of a block, with the moves put in.
+fn share_of<'a>(function: &'a Function, to: BlockId, moves: &'a [Move]) -> Option<Share<'a>> {
+    match function.blocks.as_slice().get(to.0) {
+        Some(block) => Some(Share {
+            to,
+            moves,
+            left: &block.left,
+        }),
+        None => None,
+    }
+}
+
+/// 702 on each edge.
+fn push_edges(
+    alloc: Global,
+    doing: Doing<'_>,
+    edges: &[EdgeFacts],
+    findings: &mut Vec<Finding>,
+) -> Result<(), OutOfMemory> {
+    for edge in edges {
+        let there = Doing {
+            known: Known {
+                facts: edge.facts.as_slice(),
+                ..doing.known
+            },
+            ..doing
+        };
+        let function = doing.known.scene.function;
+        if let Some(share) = share_of(function, edge.to, edge.moves.as_slice()) {
+            there.push_fault(alloc, &[share], findings)?;
+        }
+    }
+    Ok(())
+}
+
+/// 702 at a terminator.
+fn push_ending(
+    alloc: Global,
+    doing: Doing<'_>,
+    ending: &Ending,
+    edges: &[EdgeFacts],
+    findings: &mut Vec<Finding>,
+) -> Result<(), OutOfMemory> {
+    let function = doing.known.scene.function;
+    match &ending.terminator {
+        Terminator::Return { .. } | Terminator::Reattach { .. } => {
+            doing.push_fault(alloc, &[], findings)
+        }
+        Terminator::Detach {
+            body,
+            continuation,
+            ..
+        } => {
+            let child = share_of(function, *body, &[]);
+            let parent = share_of(function, *continuation, &[]);
+            match (child, parent) {
+                (Some(child), Some(parent)) => doing.push_fault(alloc, &[child, parent], findings),
+                _ => Ok(()),
+            }
+        }
+        _ => push_edges(alloc, doing, edges, findings),
+    }
+}
+
+/// A form that is to be at least 0, where it is not shown to be.
+fn push_sum(
+    alloc: Global,
+    known: Known<'_>,
+    what: &str,
+    sum: &Sum,
+    notes: &mut String,
+) -> Result<(), OutOfMemory> {
+    if !shows(alloc, known.facts, sum)? {
+        write!(notes, "  {what}: ")?;
+        known.push_gap(alloc, sum, notes)?;
+        notes.push_str("\n")?;
+    }
+    Ok(())
+}
+
+fn push_if_any(
+    findings: &mut Vec<Finding>,
+    number: u16,
+    line: u32,
+    notes: String,
+) -> Result<(), OutOfMemory> {
+    if notes.is_empty() {
+        Ok(())
+    } else {
+        push_finding(findings, number, line, notes)
+    }
+}
+
+/// 701 of a block.
+fn push_start(
+    alloc: Global,
+    known: Known<'_>,
+    left: &Left,
+    findings: &mut Vec<Finding>,
+) -> Result<(), OutOfMemory> {
+    let mut notes = String::new(alloc);
+    push_left_notes(alloc, known, left, &mut notes)?;
+    push_if_any(findings, 701, left.line, notes)
+}
+
+fn push_left_notes(
+    alloc: Global,
+    known: Known<'_>,
+    left: &Left,
+    notes: &mut String,
+) -> Result<(), OutOfMemory> {
+    let calls = put_in(alloc, &[], &left.self_calls)?;
+    push_sum(alloc, known, "self calls left", &calls, notes)?;
+    let instructions = put_in(alloc, &[], &left.instructions)?;
+    push_sum(alloc, known, "instructions left", &instructions, notes)
+}
+
+/// 703 of a self call.
+fn push_call(
+    alloc: Global,
+    known: Known<'_>,
+    step: &Step,
+    findings: &mut Vec<Finding>,
+) -> Result<(), OutOfMemory> {
+    let Instruction::Call {
+        callee,
+        arguments,
+        ..
+    } = &step.instruction
+    else {
+        return Ok(());
+    };
+    if callee.0 != known.scene.index {
+        return Ok(());
+    }
+    let mut notes = String::new(alloc);
+    push_call_notes(alloc, known, arguments.as_slice(), &mut notes)?;
+    push_if_any(findings, 703, step.line, notes)
+}
+
+/// What is not shown of the measure that a self call has.
+fn push_call_notes(
+    alloc: Global,
+    known: Known<'_>,
+    arguments: &[Argument],
+    notes: &mut String,
+) -> Result<(), OutOfMemory> {
+    let form = &known.scene.function.measure.form;
+    let moves = argument_moves(alloc, arguments)?;
+    let next = put_in(alloc, moves.as_slice(), form)?;
+    push_sum(
+        alloc,
+        known,
+        "the call's measure is at least 0",
+        &next,
+        notes,
+    )?;
+    let falls = less_sum(less_number(alloc, form, 1)?, &next)?;
+    push_sum(alloc, known, "it is below the measure here", &falls, notes)
+}
+
+/// 703 and 704 at a function's head.
+fn push_head(
+    alloc: Global,
+    scene: &Scene<'_>,
+    findings: &mut Vec<Finding>,
+) -> Result<(), OutOfMemory> {
+    let function = scene.function;
+    let Some(entry) = function.blocks.as_slice().first() else {
+        return Ok(());
+    };
+    let facts = stated(alloc, function.requirements.as_slice())?;
+    let lines = start_lines(alloc, function, 0, entry)?;
+    let known = Known {
+        scene,
+        facts: facts.as_slice(),
+        lines: lines.as_slice(),
+        stated: facts.len(),
+        line: function.line,
+    };
+    push_measure(alloc, known, findings)?;
+    push_budget(alloc, known, &entry.left, findings)
+}
+
+fn push_measure(
+    alloc: Global,
+    known: Known<'_>,
+    findings: &mut Vec<Finding>,
+) -> Result<(), OutOfMemory> {
+    let measure = &known.scene.function.measure;
+    let mut notes = String::new(alloc);
+    push_measure_notes(alloc, known, measure, &mut notes)?;
+    push_if_any(findings, 703, measure.line, notes)
+}
+
+fn push_measure_notes(
+    alloc: Global,
+    known: Known<'_>,
+    measure: &Measure,
+    notes: &mut String,
+) -> Result<(), OutOfMemory> {
+    let low = put_in(alloc, &[], &measure.form)?;
+    push_sum(alloc, known, "the measure is at least 0", &low, notes)?;
+    let high = number_less(alloc, i128::from(measure.bound), &[], &measure.form)?;
+    push_sum(
+        alloc,
+        known,
+        "the measure is at most its bound",
+        &high,
+        notes,
+    )
+}
+
+fn push_budget(
+    alloc: Global,
+    known: Known<'_>,
+    left: &Left,
+    findings: &mut Vec<Finding>,
+) -> Result<(), OutOfMemory> {
+    let budget = &known.scene.function.budget;
+    let mut notes = String::new(alloc);
+    push_budget_notes(alloc, known, budget, left, &mut notes)?;
+    push_if_any(findings, 704, budget.line, notes)
+}
+
+fn push_budget_notes(
+    alloc: Global,
+    known: Known<'_>,
+    budget: &Budget,
+    left: &Left,
+    notes: &mut String,
+) -> Result<(), OutOfMemory> {
+    let number = i128::from(budget.self_calls);
+    let calls = number_less(alloc, number, &[], &left.self_calls)?;
+    push_sum(alloc, known, "self calls left at the entry", &calls, notes)?;
+    let number = i128::from(budget.instructions);
+    let instructions = number_less(alloc, number, &[], &left.instructions)?;
+    push_sum(
+        alloc,
+        known,
+        "instructions left at the entry",
+        &instructions,
+        notes,
+    )
+}
+
+/// 705 of a function.
+fn push_whole(
+    alloc: Global,
+    scene: &Scene<'_>,
+    table: &Table,
+    findings: &mut Vec<Finding>,
+) -> Result<(), OutOfMemory> {
+    let measure = scene.function.measure.bound;
+    let cost = table.cost(scene.index, measure).unwrap_or(0);
+    if cost <= GREATEST_COST {
+        return Ok(());
+    }
+    let mut notes = String::new(alloc);
+    let more = if cost == u64::MAX { " or more" } else { "" };
+    writeln!(
+        notes,
+        "  a call of measure {measure} may cost {cost}{more}; the greatest is {GREATEST_COST}"
+    )?;
+    push_finding(findings, 705, scene.function.line, notes)
+}
+
+/// Adds the faults inside a block.
+fn push_block<'a>(
+    alloc: Global,
+    scene: &'a Scene<'a>,
+    index: usize,
+    block: &'a Block,
+    findings: &mut Vec<Finding>,
+) -> Result<(), OutOfMemory> {
+    let (table, _) = block_facts(alloc, scene.program, scene.function, index, block)?;
+    let lines = fact_lines(alloc, scene.function, index, block, &table)?;
+    let start = start_facts(alloc, scene.function, index, block)?;
+    let known = Known {
+        scene,
+        facts: start.as_slice(),
+        lines: lines.as_slice(),
+        stated: start.len(),
+        line: block.line,
+    };
+    push_known_block(alloc, known, block, &table, findings)
+}
+
+/// Adds the faults inside a block, of which `known` says what is known at its start.
+fn push_known_block(
+    alloc: Global,
+    known: Known<'_>,
+    block: &Block,
+    table: &BlockFacts,
+    findings: &mut Vec<Finding>,
+) -> Result<(), OutOfMemory> {
+    push_start(alloc, known, &block.left, findings)?;
+    push_steps(alloc, known, block, table, findings)?;
+    let Some(ending) = &block.ending else {
+        return Ok(());
+    };
+    let functions = known.scene.program.functions.as_slice();
+    let doing = Doing {
+        known: Known {
+            facts: table.facts.as_slice(),
+            line: ending.line,
+            ..known
+        },
+        left: &block.left,
+        work: work_of(functions, known.scene.index, block),
+    };
+    push_ending(alloc, doing, ending, table.edges.as_slice(), findings)
+}
+
+fn push_steps(
+    alloc: Global,
+    known: Known<'_>,
+    block: &Block,
+    table: &BlockFacts,
+    findings: &mut Vec<Finding>,
+) -> Result<(), OutOfMemory> {
+    for (place, step) in block.steps.as_slice().iter().enumerate() {
+        let facts: &[Fact] = table.at_step(place);
+        let there = Known {
+            facts,
+            line: step.line,
+            ..known
+        };
+        push_call(alloc, there, step, findings)?;
+    }
+    Ok(())
+}
+
+fn push_function(
+    alloc: Global,
+    scene: &Scene<'_>,
+    table: &Table,
+    findings: &mut Vec<Finding>,
+) -> Result<(), OutOfMemory> {
+    push_whole(alloc, scene, table, findings)?;
+    push_head(alloc, scene, findings)?;
+    for (index, block) in scene.function.blocks.as_slice().iter().enumerate() {
+        push_block(alloc, &*scene, index, &*block, findings)?;
+    }
+    Ok(())
+}
+
+/// All faults of costs of a text whose numbers and zones are right.
+pub fn cost_findings(alloc: Global, matched: &Matched) -> Result<Vec<Finding>, OutOfMemory> {
+    let program = &matched.graph.typed.program;
+    let table = make_table(alloc, program, &matched.regions)?;
+    let mut findings: Vec<Finding> = Vec::new(alloc);
+    for index in 0..program.functions.len() {
+        if let Some(scene) = Scene::of(alloc, program, &matched.whole, index)? {
+            push_function(alloc, &scene, &table, &mut findings)?;
+        }
+    }
+    Ok(findings)
+}

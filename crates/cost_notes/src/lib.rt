@@ -1,0 +1,8 @@
+//! Faults of costs, each with both sides and the difference; what the budgets of an accepted module have left over.
+#![tactic(auto)]
+
+mod budgets;
+mod cost;
+
+pub use budgets::push_budgets;
+pub use cost::cost_findings;

@@ -1,0 +1,45 @@
+//! How an explanation is printed.
+
+use crate::report::Explanation;
+use findings::{Finding, line_at};
+use lists::OutOfMemory;
+use rules::{push_meanings, push_mends};
+use std::alloc::Global;
+
+/// The line that breaks a rule, as the text has it; what is not printed is escaped.
+fn push_line(out: &mut String, text: &str, number: u32) -> Result<(), OutOfMemory> {
+    if let Some(line) = line_at(text, number) {
+        let shown = line.trim().escape_debug();
+        writeln!(out, "  | {shown}")?;
+    }
+    Ok(())
+}
+
+/// What a rule means, and after the notes how to mend it.
+fn push_finding_text(out: &mut String, text: &str, finding: &Finding) -> Result<(), OutOfMemory> {
+    push_line(out, text, finding.line)?;
+    push_meanings(out, finding.number)?;
+    out.push_str(finding.notes.as_str())?;
+    push_mends(out, finding.number)
+}
+
+/// An explanation of a text as it is printed. What it begins with is what `verify` prints of a refused module.
+pub fn told(alloc: Global, text: &[u8], explanation: &Explanation) -> Result<String, OutOfMemory> {
+    let mut out = String::new(alloc);
+    let text = str::from_utf8(text).unwrap_or("");
+    match explanation {
+        Explanation::Accepted { remarks } => {
+            out.push_str("accepted\n")?;
+            out.push_str(remarks.as_str())?;
+        }
+        Explanation::Refused { first, others } => {
+            writeln!(out, "refused {} line {}", first.number, first.line)?;
+            push_finding_text(&mut out, text, first)?;
+            for other in others.as_slice() {
+                writeln!(out, "also {} line {}", other.number, other.line)?;
+                push_finding_text(&mut out, text, other)?;
+            }
+        }
+    }
+    Ok(out)
+}

@@ -1,0 +1,40 @@
+//! Broken rules, each with what there is to say of it.
+
+use lists::OutOfMemory;
+use std::hash::RandomState;
+
+/// A broken rule and the line that breaks it, with what there is to say of it: lines that end with LF.
+#[derive(Drop)]
+pub struct Finding {
+    pub number: u16,
+    pub line: u32,
+    pub notes: String,
+}
+
+/// A module's text, and what its names are hashed with.
+#[derive(Clone, Copy)]
+pub struct Source<'a> {
+    pub text: &'a str,
+    pub state: RandomState,
+}
+
+/// Adds a fault, or what there is to say of it to the last one, if that is the same.
+pub fn push_finding(
+    findings: &mut Vec<Finding>,
+    number: u16,
+    line: u32,
+    notes: String,
+) -> Result<(), OutOfMemory> {
+    if let Some(last) = findings.last_mut() {
+        if last.number == number && last.line == line {
+            last.notes.push_str(notes.as_str())?;
+            return Ok(());
+        }
+    }
+    findings.push(Finding {
+        number,
+        line,
+        notes,
+    })?;
+    Ok(())
+}

@@ -1,0 +1,158 @@
+//! The lines of a text that can be read, as their tokens.
+
+use ir_lex::{Kind, Token, lex};
+use lists::OutOfMemory;
+use refusal::Refused;
+use std::alloc::{AllocError, Global};
+
+/// A line that says something.
+#[derive(Drop)]
+pub struct Row<'a> {
+    alloc: Global,
+    pub number: u32,
+    text: &'a str,
+    tokens: Vec<Token>,
+}
+
+impl<'a> Row<'a> {
+    fn part(&self, token: Token) -> &'a str {
+        self.text.get(token.from..token.to).unwrap_or("")
+    }
+
+    /// The token of this number from 0 on; nothing past the last one.
+    pub fn word(&self, index: usize) -> &'a str {
+        match self.tokens.as_slice().get(index) {
+            Some(token) => self.part(*token),
+            None => "",
+        }
+    }
+
+    fn is_kind(&self, index: usize, kind: Kind) -> bool {
+        match self.tokens.as_slice().get(index) {
+            Some(token) => token.kind == kind,
+            None => false,
+        }
+    }
+
+    /// The line without a comment and the blanks around.
+    pub fn code(&self) -> &'a str {
+        let tokens = self.tokens.as_slice();
+        match (tokens.first(), tokens.last()) {
+            (Some(first), Some(last)) => self.text.get(first.from..last.to).unwrap_or(""),
+            _ => "",
+        }
+    }
+
+    /// The label of a label's line.
+    pub fn label(&self) -> Option<&'a str> {
+        if self.is_kind(0, Kind::Word) && self.word(1) == ":" {
+            Some(self.word(0))
+        } else {
+            None
+        }
+    }
+
+    /// Whether the name stands in the line, as a token of its own.
+    pub fn has(&self, name: &str) -> bool {
+        for token in &self.tokens {
+            if token.kind == Kind::Name && self.part(*token) == name {
+                return true;
+            }
+        }
+        false
+    }
+
+    /// Whether the line defines the name: by `=`, as a label, or as a function or one of its parameters.
+    pub fn defines(&self, name: &str) -> bool {
+        if self.word(0) == "define" {
+            return self.has(name);
+        }
+        match self.label() {
+            Some(label) => name.strip_prefix('%') == Some(label),
+            None => self.word(0) == name && self.word(1) == "=",
+        }
+    }
+
+    /// The names of the line, each once. Forms of annotations are taken apart.
+    pub fn names(&self) -> Result<Vec<&'a str>, AllocError> {
+        let mut names = Vec::new(self.alloc);
+        for token in &self.tokens {
+            match token.kind {
+                Kind::Name => push_name(&mut names, self.part(*token))?,
+                Kind::Word => push_sums(&mut names, self.part(*token))?,
+                Kind::Number | Kind::Mark | Kind::Note => {}
+            }
+        }
+        Ok(names)
+    }
+}
+
+/// Adds a name, if it is one and is not there.
+fn push_name<'a>(names: &mut Vec<&'a str>, word: &'a str) -> Result<(), AllocError> {
+    let is_name = word.starts_with('%') || word.starts_with('@');
+    if is_name && !names.iter().any(|name| *name == word) {
+        names.push(word)?;
+    }
+    Ok(())
+}
+
+/// Adds the names of a product.
+fn push_factors<'a>(names: &mut Vec<&'a str>, term: &'a str) -> Result<(), AllocError> {
+    for factor in term.split('*') {
+        push_name(names, factor)?;
+    }
+    Ok(())
+}
+
+/// Adds the names of a difference.
+fn push_terms<'a>(names: &mut Vec<&'a str>, sum: &'a str) -> Result<(), AllocError> {
+    for term in sum.split('-') {
+        push_factors(names, term)?;
+    }
+    Ok(())
+}
+
+/// Adds the names of a form.
+fn push_sums<'a>(names: &mut Vec<&'a str>, form: &'a str) -> Result<(), AllocError> {
+    for sum in form.split('+') {
+        push_terms(names, sum)?;
+    }
+    Ok(())
+}
+
+/// The lines of a text that say something. A line that has no tokens by itself is left out.
+pub fn rows_of<'a>(alloc: Global, text: &'a str) -> Result<Vec<Row<'a>>, OutOfMemory> {
+    let mut rows: Vec<Row<'a>> = Vec::new(alloc);
+    let mut number: u32 = 0;
+    for line in text.split('\n') {
+        number = number.saturating_add(1);
+        match lex(alloc, line.as_bytes(), number) {
+            Ok(tokens) => {
+                if !tokens.is_empty() {
+                    rows.push(Row {
+                        alloc,
+                        number,
+                        text: line,
+                        tokens,
+                    })?;
+                }
+            }
+            Err(Refused::Fault { .. }) => {}
+            Err(Refused::Memory) => return Err(OutOfMemory),
+        }
+    }
+    Ok(rows)
+}
+
+/// The lines of the function in which a line stands, from its `define` to its `}`; none outside functions.
+pub fn function_of<'r, 'a>(rows: &'r [Row<'a>], line: u32) -> &'r [Row<'a>] {
+    let mut from = rows.len();
+    for (index, row) in rows.iter().enumerate() {
+        if row.number <= line && row.word(0) == "define" {
+            from = index;
+        }
+    }
+    let function = rows.get(from..).unwrap_or(&[]);
+    let end = function.iter().position(|row| row.word(0) == "}");
+    function.get(..end.unwrap_or(function.len())).unwrap_or(&[])
+}

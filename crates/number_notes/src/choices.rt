@@ -1,0 +1,194 @@
+//! Faults of numbers, each with what was to be shown.
+
+use crate::unmet::{Unmet, all_unmet};
+use fact_notes::{
+    Known, Matched, Scene, fact_lines, first_facts, is_against, match_text, push_inequality,
+};
+use findings::{Finding, Source, line_at, push_finding, with_line_before};
+use linear::{Fact, Form};
+use lists::OutOfMemory;
+use program::{Block, BlockId};
+use ranges::{BlockFacts, block_facts, sum_form};
+use std::alloc::Global;
+
+/// Whether a fault stands among those of the text, where one line more stands from this one on.
+fn is_old(unmet: &Unmet, old: &[Unmet], added: u32) -> bool {
+    let line = if unmet.site.line > added {
+        unmet.site.line.saturating_sub(1)
+    } else {
+        unmet.site.line
+    };
+    old.iter().any(|other| other.site.line == line && other.number == unmet.number)
+}
+
+/// What another text owes of its numbers, where the phases before take it.
+fn unmet_of(
+    alloc: Global,
+    source: Source<'_>,
+    text: &str,
+) -> Result<Option<Vec<Unmet>>, OutOfMemory> {
+    match match_text(alloc, source.state, text.as_bytes(), true)? {
+        Some(matched) => Ok(Some(all_unmet(alloc, &matched)?)),
+        None => Ok(None),
+    }
+}
+
+/// Whether the text with this line before that one has no fault of numbers that it did not have, and fewer of them.
+fn is_better(
+    alloc: Global,
+    source: Source<'_>,
+    old: &[Unmet],
+    line: &str,
+    before: u32,
+) -> Result<bool, OutOfMemory> {
+    let changed = with_line_before(alloc, source.text, before, line)?;
+    match unmet_of(alloc, source, changed.as_str())? {
+        Some(new) => Ok(
+            new.len() < old.len() && new.iter().all(|unmet| is_old(unmet, old, before)),
+        ),
+        None => Ok(false),
+    }
+}
+
+/// A `keeps` line of the block, or a `requires` line of its function, with which the form is shown and nothing new is owed.
+fn push_start_line(
+    alloc: Global,
+    source: Source<'_>,
+    scene: &Scene<'_>,
+    block: BlockId,
+    form: &Form,
+    old: &[Unmet],
+    notes: &mut String,
+) -> Result<(), OutOfMemory> {
+    let (word, after) = if block.0 == 0 {
+        ("requires", scene.function.line)
+    } else {
+        ("keeps", scene.label_line(block))
+    };
+    let mut line = format!(in alloc; ";! {word} ")?;
+    push_inequality(alloc, scene, form, &mut line)?;
+    let before = after.saturating_add(1);
+    if is_better(alloc, source, old, line.as_str(), before)? {
+        writeln!(notes, "    try: {line}, after line {after}")?;
+    }
+    Ok(())
+}
+
+/// What asks it: an annotation, and where it stands on an edge the edge's target.
+fn push_asked(
+    source: Source<'_>,
+    scene: &Scene<'_>,
+    unmet: &Unmet,
+    edge: Option<BlockId>,
+    notes: &mut String,
+) -> Result<(), OutOfMemory> {
+    let Some(line) = unmet.asked else {
+        return Ok(());
+    };
+    let text = line_at(source.text, line).unwrap_or("").trim();
+    write!(notes, "  asked by line {line}: {text}")?;
+    if let Some(target) = edge {
+        let label = scene.label(target);
+        write!(notes, ", on the edge to %{label}")?;
+    }
+    writeln!(notes)?;
+    Ok(())
+}
+
+/// Each sum of which one is to be shown.
+fn push_choices(
+    alloc: Global,
+    source: Source<'_>,
+    known: Known<'_>,
+    unmet: &Unmet,
+    old: &[Unmet],
+    notes: &mut String,
+) -> Result<(), OutOfMemory> {
+    let choices = unmet.choices.as_slice();
+    if choices.is_empty() {
+        notes.push_str("  one operand must be a number from -1000000 to 1000000\n")?;
+    }
+    if choices.len() > 1 {
+        notes.push_str("  one of these is to be shown:\n")?;
+    }
+    let block = BlockId(unmet.site.block);
+    for sum in choices {
+        known.push_unshown(alloc, sum, unmet.site.line, notes)?;
+        if let Some(form) = sum_form(alloc, sum)? {
+            if !is_against(alloc, known.facts, &form)? {
+                push_start_line(alloc, source, known.scene, block, &form, old, notes)?;
+            }
+        }
+    }
+    Ok(())
+}
+
+/// The facts of the place of what is not shown, and the block that its edge leads to.
+fn facts_of<'a>(unmet: &Unmet, table: &'a BlockFacts) -> (&'a [Fact], Option<BlockId>) {
+    let facts = first_facts(table.facts.as_slice(), unmet.site.count);
+    match unmet.site.edge {
+        Some(place) => match table.edges.as_slice().get(place) {
+            Some(edge) => (edge.facts.as_slice(), Some(edge.to)),
+            None => (facts, None),
+        },
+        None => (facts, None),
+    }
+}
+
+fn push_block_notes(
+    alloc: Global,
+    source: Source<'_>,
+    scene: &Scene<'_>,
+    block: &Block,
+    unmet: &Unmet,
+    old: &[Unmet],
+    notes: &mut String,
+) -> Result<(), OutOfMemory> {
+    let index = unmet.site.block;
+    let (table, _) = block_facts(alloc, scene.program, scene.function, index, block)?;
+    let lines = fact_lines(alloc, scene.function, index, block, &table)?;
+    let (facts, edge) = facts_of(unmet, &table);
+    let known = Known {
+        scene,
+        facts,
+        lines: lines.as_slice(),
+        stated: unmet.site.count,
+        line: unmet.site.line,
+    };
+    push_asked(source, scene, unmet, edge, notes)?;
+    push_choices(alloc, source, known, unmet, old, notes)
+}
+
+fn notes_of(
+    alloc: Global,
+    source: Source<'_>,
+    matched: &Matched,
+    unmet: &Unmet,
+    old: &[Unmet],
+) -> Result<String, OutOfMemory> {
+    let mut notes = String::new(alloc);
+    let program = &matched.graph.typed.program;
+    let found = Scene::of(alloc, program, &matched.whole, unmet.site.function)?;
+    if let Some(scene) = found {
+        let blocks = scene.function.blocks.as_slice();
+        if let Some(block) = blocks.get(unmet.site.block) {
+            push_block_notes(alloc, source, &scene, block, unmet, old, &mut notes)?;
+        }
+    }
+    Ok(notes)
+}
+
+/// All faults of numbers of a text.
+pub fn number_findings(
+    alloc: Global,
+    source: Source<'_>,
+    matched: &Matched,
+) -> Result<Vec<Finding>, OutOfMemory> {
+    let mut findings: Vec<Finding> = Vec::new(alloc);
+    let all = all_unmet(alloc, matched)?;
+    for unmet in all.iter() {
+        let notes = notes_of(alloc, source, matched, unmet, all.as_slice())?;
+        push_finding(&mut findings, unmet.number, unmet.site.line, notes)?;
+    }
+    Ok(findings)
+}

@@ -1,0 +1,248 @@
+//! What a program owes of its numbers and what is known there does not show.
+
+use fact_notes::{Matched, first_facts};
+use linear::Fact;
+use lists::{OutOfMemory, Seq};
+use program::{Block, Ending, Function, Inequality, Program, Step};
+use ranges::{
+    BlockFacts, EdgeFacts, Obligation, Sum, block_facts, inequalities_owed, is_met, owed,
+    owed_at_end,
+};
+use std::alloc::Global;
+
+/// A place of a block: its line, how many of the facts at the block's end are known there, and the edge that is left by.
+#[derive(Clone, Copy)]
+pub struct Site {
+    pub function: usize,
+    pub block: usize,
+    pub line: u32,
+    pub count: usize,
+    pub edge: Option<usize>,
+}
+
+/// What is owed at a place and not shown there: one of the sums is to be at least 0. `asked` is the line of the annotation that asks it.
+#[derive(Drop)]
+pub struct Unmet {
+    pub site: Site,
+    pub number: u16,
+    pub choices: Seq<Sum>,
+    pub asked: Option<u32>,
+}
+
+/// A block beside what is known there.
+#[derive(Clone, Copy)]
+struct Judged<'a> {
+    program: &'a Program,
+    function: &'a Function,
+    block: &'a Block,
+    table: &'a BlockFacts,
+}
+
+fn line_of(inequalities: &[Inequality], place: usize) -> Option<u32> {
+    match inequalities.get(place) {
+        Some(inequality) => Some(inequality.line),
+        None => None,
+    }
+}
+
+/// Adds what the facts do not meet. The inequalities, if there are any, are those that ask it, in the same order.
+fn push_unmet(
+    alloc: Global,
+    site: Site,
+    facts: &[Fact],
+    obligations: Vec<Obligation>,
+    asking: &[Inequality],
+    unmet: &mut Vec<Unmet>,
+) -> Result<(), OutOfMemory> {
+    let mut place: usize = 0;
+    for obligation in obligations {
+        if !is_met(alloc, facts, &obligation)? {
+            unmet.push(Unmet {
+                site,
+                number: obligation.number,
+                choices: obligation.choices,
+                asked: line_of(asking, place),
+            })?;
+        }
+        place = place.saturating_add(1);
+    }
+    Ok(())
+}
+
+/// Adds the `shows` lines that are not shown; each is a fact for those after it. `count` facts are known at the last of them.
+fn push_shows(
+    alloc: Global,
+    judged: Judged<'_>,
+    site: Site,
+    shows: &[Inequality],
+    unmet: &mut Vec<Unmet>,
+) -> Result<(), OutOfMemory> {
+    let facts = judged.table.facts.as_slice();
+    let before = site.count.saturating_sub(shows.len());
+    for (place, line) in shows.iter().enumerate() {
+        let count = before.saturating_add(place);
+        let at = Site {
+            line: line.line,
+            count,
+            ..site
+        };
+        let owed = inequalities_owed(alloc, 508, &[], shows)?;
+        push_one(alloc, at, first_facts(facts, count), owed, place, unmet)?;
+    }
+    Ok(())
+}
+
+/// Adds the obligation at a place of a list, if the facts do not meet it.
+fn push_one(
+    alloc: Global,
+    site: Site,
+    facts: &[Fact],
+    obligations: Vec<Obligation>,
+    place: usize,
+    unmet: &mut Vec<Unmet>,
+) -> Result<(), OutOfMemory> {
+    let mut at: usize = 0;
+    for obligation in obligations {
+        if at == place && !is_met(alloc, facts, &obligation)? {
+            unmet.push(Unmet {
+                site,
+                number: obligation.number,
+                choices: obligation.choices,
+                asked: None,
+            })?;
+        }
+        at = at.saturating_add(1);
+    }
+    Ok(())
+}
+
+/// The inequalities that an instruction is asked by: a callee's `requires`.
+fn asking_of<'a>(program: &'a Program, step: &Step) -> &'a [Inequality] {
+    match &step.instruction {
+        program::Instruction::Call { callee, .. } => {
+            match program.functions.as_slice().get(callee.0) {
+                Some(callee) => callee.requirements.as_slice(),
+                None => &[],
+            }
+        }
+        _ => &[],
+    }
+}
+
+fn push_step(
+    alloc: Global,
+    judged: Judged<'_>,
+    site: Site,
+    step: &Step,
+    unmet: &mut Vec<Unmet>,
+) -> Result<(), OutOfMemory> {
+    push_shows(alloc, judged, site, step.shows.as_slice(), unmet)?;
+    let facts = first_facts(judged.table.facts.as_slice(), site.count);
+    let owed = owed(alloc, judged.program, judged.function, &step.instruction)?;
+    let asking = asking_of(judged.program, step);
+    push_unmet(alloc, site, facts, owed, asking, unmet)
+}
+
+fn push_edge(
+    alloc: Global,
+    judged: Judged<'_>,
+    site: Site,
+    edge: &EdgeFacts,
+    unmet: &mut Vec<Unmet>,
+) -> Result<(), OutOfMemory> {
+    let Some(target) = judged.function.blocks.as_slice().get(edge.to.0) else {
+        return Ok(());
+    };
+    let keeps = target.keeps.as_slice();
+    let owed = inequalities_owed(alloc, 505, edge.moves.as_slice(), keeps)?;
+    push_unmet(alloc, site, edge.facts.as_slice(), owed, keeps, unmet)
+}
+
+fn push_end(
+    alloc: Global,
+    judged: Judged<'_>,
+    site: Site,
+    ending: &Ending,
+    unmet: &mut Vec<Unmet>,
+) -> Result<(), OutOfMemory> {
+    push_shows(alloc, judged, site, ending.shows.as_slice(), unmet)?;
+    let facts = judged.table.facts.as_slice();
+    let owed = owed_at_end(alloc, judged.function, &ending.terminator)?;
+    let asking = judged.function.guarantees.as_slice();
+    push_unmet(alloc, site, facts, owed, asking, unmet)?;
+    for (place, edge) in judged.table.edges.as_slice().iter().enumerate() {
+        let at = Site {
+            edge: Some(place),
+            ..site
+        };
+        push_edge(alloc, judged, at, edge, unmet)?;
+    }
+    Ok(())
+}
+
+/// Adds what is not shown in a block.
+fn push_block(
+    alloc: Global,
+    judged: Judged<'_>,
+    site: Site,
+    unmet: &mut Vec<Unmet>,
+) -> Result<(), OutOfMemory> {
+    for (place, step) in judged.block.steps.as_slice().iter().enumerate() {
+        let at = Site {
+            line: step.line,
+            count: judged.table.at_step(place).len(),
+            ..site
+        };
+        push_step(alloc, judged, at, step, unmet)?;
+    }
+    match &judged.block.ending {
+        Some(ending) => {
+            let at = Site {
+                line: ending.line,
+                count: judged.table.facts.len(),
+                ..site
+            };
+            push_end(alloc, judged, at, ending, unmet)
+        }
+        None => Ok(()),
+    }
+}
+
+fn push_function(
+    alloc: Global,
+    program: &Program,
+    index: usize,
+    function: &Function,
+    unmet: &mut Vec<Unmet>,
+) -> Result<(), OutOfMemory> {
+    for (place, block) in function.blocks.as_slice().iter().enumerate() {
+        let (table, broken) = block_facts(alloc, program, function, place, block)?;
+        let site = Site {
+            function: index,
+            block: place,
+            line: block.line,
+            count: 0,
+            edge: None,
+        };
+        if broken.is_some() {
+            let judged = Judged {
+                program,
+                function,
+                block,
+                table: &table,
+            };
+            push_block(alloc, judged, site, unmet)?;
+        }
+    }
+    Ok(())
+}
+
+/// All that a program owes of its numbers and does not show, in the order of its blocks.
+pub fn all_unmet(alloc: Global, matched: &Matched) -> Result<Vec<Unmet>, OutOfMemory> {
+    let program = &matched.graph.typed.program;
+    let mut unmet: Vec<Unmet> = Vec::new(alloc);
+    for (index, function) in program.functions.as_slice().iter().enumerate() {
+        push_function(alloc, program, index, function, &mut unmet)?;
+    }
+    Ok(unmet)
+}

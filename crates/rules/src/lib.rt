@@ -1,0 +1,7 @@
+//! The rules in words: one table of where each is told, what it means, how to mend it, and an example.
+#![tactic(auto)]
+
+mod rule;
+mod texts;
+
+pub use rule::{push_meanings, push_mends, rule_text};

@@ -1,0 +1,348 @@
+//! Faults of the text: the word that was found, and what could stand there. What could is tried, by reading the line with it.
+
+use crate::left_out::push_left_out;
+use findings::{Finding, Source, lines_before, push_finding};
+use ir_item::read_line;
+use ir_lex::{Kind, Token, lex};
+use ir_text::read;
+use lists::OutOfMemory;
+use refusal::Refused;
+use std::alloc::Global;
+
+/// What may stand in a line that is no annotation. The first three stand for all of their kind.
+const WORDS: &str =
+    "%x @x 1 = , ( ) [ ] { } : i64 i32 i1 void ptr token label to within add sub mul nsw sdiv udiv srem urem shl \
+lshr ashr and or xor icmp eq ne ugt uge ult ule sgt sge slt sle trunc sext zext alloca x getelementptr inbounds load store \
+zeroinitializer atomicrmw seq_cst call br switch ret detach reattach sync phi global define noalias dereferenceable \
+@llvm.syncregion.start";
+
+/// What may stand in an annotation.
+const NOTE_WORDS: &str =
+    "%x @x 1 requires ensures reads writes adds measure max budget keeps pending left foot shows <= >=";
+
+/// Lines of each kind, after the kind's name.
+const KINDS: &str = "\
+a global | @zz.a = global [1 x i64] zeroinitializer
+a function's head | define i64 @zz.f() {
+an annotation of a function | ;! budget 0 1
+a label | zz.l:
+an annotation of a block | ;! keeps 0 >= 0
+a phi | %zz.p = phi i64 [ 0, %zz.q ]
+a `shows` line | ;! shows 0 >= 0
+an instruction | %zz.i = add i64 0, 0
+a terminator | ret i64 0
+`}` | }";
+
+/// The longest line whose words are tried, in tokens.
+const MOST_TOKENS: usize = 64;
+
+/// Faults beyond this number are told without what could stand there.
+const MOST_TOLD: usize = 20;
+
+/// What is told of a line of the text: its number and its bytes.
+#[derive(Clone, Copy)]
+struct Row<'a> {
+    number: u32,
+    text: &'a str,
+}
+
+/// The fault of a line by itself.
+fn fault_of(alloc: Global, row: Row<'_>) -> Result<Option<u16>, OutOfMemory> {
+    match read_line(alloc, row.text.as_bytes(), row.number) {
+        Ok(Some(line)) => {
+            let is_within_limits = line.is_within_limits;
+            drop(line);
+            Ok(if is_within_limits { None } else { Some(104) })
+        }
+        Ok(None) => Ok(None),
+        Err(Refused::Fault { number, .. }) => Ok(Some(number)),
+        Err(Refused::Memory) => Err(OutOfMemory),
+    }
+}
+
+/// Whether a line says something by itself, or nothing.
+fn is_right(alloc: Global, row: Row<'_>) -> Result<bool, OutOfMemory> {
+    Ok(fault_of(alloc, row)?.is_none())
+}
+
+/// The line with a word in place of its bytes from one place to before another.
+fn edited(
+    alloc: Global,
+    line: &str,
+    from: usize,
+    to: usize,
+    word: &str,
+) -> Result<String, OutOfMemory> {
+    let before = line.get(..from).unwrap_or("");
+    let after = line.get(to..).unwrap_or("");
+    Ok(format!(in alloc; "{before} {word} {after}")?)
+}
+
+/// Whether a line with a word in place of its bytes from one place to before another is right.
+fn fits(
+    alloc: Global,
+    row: Row<'_>,
+    from: usize,
+    to: usize,
+    word: &str,
+) -> Result<bool, OutOfMemory> {
+    let changed = edited(alloc, row.text, from, to, word)?;
+    let row = Row {
+        number: row.number,
+        text: changed.as_str(),
+    };
+    is_right(alloc, row)
+}
+
+/// How a word is told.
+fn push_word(out: &mut String, word: &str) -> Result<(), OutOfMemory> {
+    match word {
+        "%x" => out.push_str(" a register")?,
+        "@x" => out.push_str(" a global's name")?,
+        "1" => out.push_str(" a number")?,
+        word => write!(out, " `{word}`")?,
+    }
+    Ok(())
+}
+
+/// The words with which the line is right, where they stand from one place to before another.
+fn words_that_fit(
+    alloc: Global,
+    row: Row<'_>,
+    from: usize,
+    to: usize,
+    words: &str,
+) -> Result<String, OutOfMemory> {
+    let mut fitting = String::new(alloc);
+    for word in words.split(' ') {
+        if fits(alloc, row, from, to, word)? {
+            push_word(&mut fitting, word)?;
+        }
+    }
+    Ok(fitting)
+}
+
+/// What could stand in place of a token, or before it, and whether the line is right without it.
+fn push_token_notes(
+    alloc: Global,
+    row: Row<'_>,
+    token: &Token,
+    words: &str,
+    notes: &mut String,
+) -> Result<(), OutOfMemory> {
+    let found = row.text.get(token.from..token.to).unwrap_or("");
+    let before = words_that_fit(alloc, row, token.from, token.from, words)?;
+    if !before.is_empty() {
+        writeln!(notes, "    before `{found}` could stand:{before}")?;
+    }
+    let instead = words_that_fit(alloc, row, token.from, token.to, words)?;
+    if !instead.is_empty() {
+        writeln!(notes, "    in place of `{found}` could stand:{instead}")?;
+    }
+    if fits(alloc, row, token.from, token.to, "")? {
+        writeln!(notes, "    without `{found}` the line is right")?;
+    }
+    Ok(())
+}
+
+/// What could stand at the line's end.
+fn push_end_notes(
+    alloc: Global,
+    row: Row<'_>,
+    tokens: &[Token],
+    words: &str,
+    notes: &mut String,
+) -> Result<(), OutOfMemory> {
+    if let Some(last) = tokens.last() {
+        let after = words_that_fit(alloc, row, last.to, last.to, words)?;
+        if !after.is_empty() {
+            writeln!(notes, "    at the end could stand:{after}")?;
+        }
+    }
+    Ok(())
+}
+
+/// The words that are of LLVM and not of the language.
+fn push_left_out_words(
+    row: Row<'_>,
+    tokens: &[Token],
+    notes: &mut String,
+) -> Result<(), OutOfMemory> {
+    for token in tokens {
+        push_left_out(row.text.get(token.from..token.to).unwrap_or(""), notes)?;
+    }
+    Ok(())
+}
+
+/// What one word more, less or other mends in a line.
+fn push_edits(
+    alloc: Global,
+    row: Row<'_>,
+    tokens: &[Token],
+    words: &str,
+    notes: &mut String,
+) -> Result<(), OutOfMemory> {
+    let count = notes.len();
+    for token in tokens {
+        push_token_notes(alloc, row, token, words, notes)?;
+    }
+    push_end_notes(alloc, row, tokens, words, notes)?;
+    if notes.len() == count {
+        notes.push_str("    no one word more, less or other makes it a line\n")?;
+    }
+    Ok(())
+}
+
+/// What is wrong with the words of a line.
+fn push_words(alloc: Global, row: Row<'_>, notes: &mut String) -> Result<(), OutOfMemory> {
+    let tokens = match lex(alloc, row.text.as_bytes(), row.number) {
+        Ok(tokens) => tokens,
+        Err(Refused::Fault { .. }) => return push_bad_tokens(alloc, row, notes),
+        Err(Refused::Memory) => return Err(OutOfMemory),
+    };
+    let Some(first) = tokens.first() else {
+        return Ok(());
+    };
+    let is_note = first.kind == Kind::Note;
+    if !is_note {
+        push_left_out_words(row, tokens.as_slice(), notes)?;
+    }
+    if tokens.len() > MOST_TOKENS {
+        return Ok(());
+    }
+    let words = if is_note { NOTE_WORDS } else { WORDS };
+    push_edits(alloc, row, tokens.as_slice(), words, notes)
+}
+
+/// Whether a run of bytes is no token by itself.
+fn is_bad(alloc: Global, word: &str, number: u32) -> Result<bool, OutOfMemory> {
+    match lex(alloc, word.as_bytes(), number) {
+        Ok(_) => Ok(false),
+        Err(Refused::Fault { .. }) => Ok(true),
+        Err(Refused::Memory) => Err(OutOfMemory),
+    }
+}
+
+/// The runs of bytes that are no tokens.
+fn push_bad_tokens(alloc: Global, row: Row<'_>, notes: &mut String) -> Result<(), OutOfMemory> {
+    if row.text.ends_with('\r') {
+        notes.push_str("  found: a carriage return at the line's end\n")?;
+    }
+    for word in row.text.split_whitespace() {
+        if is_bad(alloc, word, row.number)? {
+            let found = word.escape_debug();
+            writeln!(notes, "  found: `{found}`")?;
+            push_left_out(word, notes)?;
+        }
+    }
+    Ok(())
+}
+
+/// Whether the text before a line may go on with another one.
+fn may_stand(
+    alloc: Global,
+    source: Source<'_>,
+    before: &str,
+    line: &str,
+    number: u32,
+) -> Result<bool, OutOfMemory> {
+    let text = format!(in alloc; "{before}{line}\n")?;
+    match read(alloc, source.state, text.as_bytes()) {
+        Ok(whole) => {
+            drop(whole);
+            Ok(true)
+        }
+        Err(
+            Refused::Fault {
+                number: rule,
+                line: at,
+            },
+        ) => Ok(rule != 103 || at != number),
+        Err(Refused::Memory) => Err(OutOfMemory),
+    }
+}
+
+/// The kinds of lines that could stand where a right one may not.
+fn push_kinds(
+    alloc: Global,
+    source: Source<'_>,
+    number: u32,
+    notes: &mut String,
+) -> Result<(), OutOfMemory> {
+    let before = lines_before(alloc, source.text, number)?;
+    notes.push_str("  the line is right by itself, and may not stand here; here could stand:\n")?;
+    for row in KINDS.lines() {
+        if let Some((kind, line)) = row.split_once(" | ") {
+            if may_stand(alloc, source, before.as_str(), line, number)? {
+                writeln!(notes, "    {kind}")?;
+            }
+        }
+    }
+    Ok(())
+}
+
+/// What there is to say of a line with this fault.
+fn notes_of(
+    alloc: Global,
+    source: Source<'_>,
+    row: Row<'_>,
+    rule: u16,
+) -> Result<String, OutOfMemory> {
+    let mut notes = String::new(alloc);
+    match rule {
+        102 => push_bad_tokens(alloc, row, &mut notes)?,
+        107 => push_words(alloc, row, &mut notes)?,
+        103 => {
+            if is_right(alloc, row)? {
+                push_kinds(alloc, source, row.number, &mut notes)?;
+            } else {
+                push_words(alloc, row, &mut notes)?;
+            }
+        }
+        _ => {}
+    }
+    Ok(notes)
+}
+
+/// Adds the fault of a line: the one that the reader names there, else that of the line by itself.
+fn push_row(
+    alloc: Global,
+    source: Source<'_>,
+    row: Row<'_>,
+    named: Option<u16>,
+    findings: &mut Vec<Finding>,
+) -> Result<(), OutOfMemory> {
+    let fault = match named {
+        Some(number) => Some(number),
+        None => fault_of(alloc, row)?,
+    };
+    if let Some(number) = fault {
+        let notes = if findings.len() < MOST_TOLD {
+            notes_of(alloc, source, row, number)?
+        } else {
+            String::new(alloc)
+        };
+        push_finding(findings, number, row.number, notes)?;
+    }
+    Ok(())
+}
+
+/// The fault of the text that the reader names, and those of the lines after it by themselves.
+pub fn word_findings(
+    alloc: Global,
+    source: Source<'_>,
+    number: u16,
+    line: u32,
+) -> Result<Vec<Finding>, OutOfMemory> {
+    let mut findings: Vec<Finding> = Vec::new(alloc);
+    let mut at: u32 = 0;
+    for text in source.text.split('\n') {
+        at = at.saturating_add(1);
+        if at >= line {
+            let named = if at == line { Some(number) } else { None };
+            let row = Row { number: at, text };
+            push_row(alloc, source, row, named, &mut findings)?;
+        }
+    }
+    Ok(findings)
+}

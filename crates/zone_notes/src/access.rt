@@ -1,0 +1,520 @@
+//! Faults of zones, each with the zone and what stands beside it.
+
+use crate::zone_text::{as_written, push_why_beside, push_why_not, push_zone};
+use fact_notes::{Known, Matched, Scene, fact_lines};
+use findings::{Finding, Source, push_finding};
+use footprints::{
+    Cell, Place, PlacedZone, address_cell, cells_zone, conflict, covers, end_use, is_allowed,
+    is_clear, is_empty, passes_on, step_use,
+};
+use linear::RegisterId;
+use lists::OutOfMemory;
+use program::{
+    Address, Argument, Block, Ending, Function, Instruction, Mode, ObjectName, Operand, Pending,
+    Step, Terminator, Zone,
+};
+use ranges::{EdgeFacts, Move, Task, Way, argument_moves, block_facts};
+use std::alloc::Global;
+
+/// A place of a block, with what is known there and what it may touch.
+#[derive(Clone, Copy)]
+struct Spot<'s, 'a> {
+    source: Source<'s>,
+    known: Known<'a>,
+    place: Place<'a>,
+    block: &'a Block,
+}
+
+/// What there is to say of a missing cover, and of a conflict.
+#[derive(Drop)]
+struct Notes {
+    cover: String,
+    clear: String,
+}
+
+/// The foot of the child of a detach.
+fn foot_of<'a>(blocks: &'a [Block], terminator: &Terminator) -> &'a [Zone] {
+    match terminator {
+        Terminator::Detach { body, .. } => match blocks.get(body.0) {
+            Some(block) => block.foot.as_slice(),
+            None => &[],
+        },
+        _ => &[],
+    }
+}
+
+/// The zones that must cover what a block of a task touches.
+fn covering_of(function: &Function, task: Task) -> &[Zone] {
+    let blocks = function.blocks.as_slice();
+    match task {
+        Task::Unreached | Task::Body => function.zones.as_slice(),
+        Task::Child(detach) => match blocks.get(detach.0) {
+            Some(block) => match &block.ending {
+                Some(ending) => foot_of(blocks, &ending.terminator),
+                None => &[],
+            },
+            None => &[],
+        },
+    }
+}
+
+fn is_own_block(task: Task) -> bool {
+    match task {
+        Task::Unreached | Task::Body => true,
+        Task::Child(_) => false,
+    }
+}
+
+impl Spot<'_, '_> {
+    /// Why none of the zones covers this one.
+    fn push_uncovered(
+        &self,
+        alloc: Global,
+        y: &PlacedZone<'_>,
+        out: &mut String,
+    ) -> Result<(), OutOfMemory> {
+        out.push_str("  touched: ")?;
+        push_zone(alloc, self.known.scene, y, out)?;
+        out.push_str("\n")?;
+        let mut is_any = false;
+        for zone in self.place.covering {
+            let z = as_written(zone);
+            let is_same = push_why_not(alloc, self.source.text, self.known, &z, y, out)?;
+            is_any = is_any || is_same;
+        }
+        if !is_any {
+            out.push_str("    no zone here is of that object\n")?;
+        }
+        Ok(())
+    }
+
+    /// What is pending and conflicts with this zone.
+    fn push_conflicts(
+        &self,
+        alloc: Global,
+        y: &PlacedZone<'_>,
+        out: &mut String,
+    ) -> Result<(), OutOfMemory> {
+        out.push_str("  touched: ")?;
+        push_zone(alloc, self.known.scene, y, out)?;
+        out.push_str("\n")?;
+        for item in self.place.pending {
+            let z = as_written(&item.zone);
+            if conflict(alloc, self.known.facts, &z, y)? {
+                push_why_beside(alloc, self.source.text, self.known, &z, y, out)?;
+            }
+        }
+        Ok(())
+    }
+
+    /// What is wrong with a zone that is touched.
+    fn push_zone_notes(
+        &self,
+        alloc: Global,
+        y: &PlacedZone<'_>,
+        notes: &mut Notes,
+    ) -> Result<(), OutOfMemory> {
+        if !is_allowed(alloc, &self.place, y)? {
+            self.push_uncovered(alloc, y, &mut notes.cover)?;
+        }
+        if !is_clear(alloc, &self.place, y)? {
+            self.push_conflicts(alloc, y, &mut notes.clear)?;
+        }
+        Ok(())
+    }
+
+    /// What is wrong with cells that are touched.
+    fn push_cells_notes(
+        &self,
+        alloc: Global,
+        mode: Mode,
+        cell: Cell,
+        count: u64,
+        notes: &mut Notes,
+    ) -> Result<(), OutOfMemory> {
+        let zone = cells_zone(alloc, self.known.line, mode, cell, count)?;
+        self.push_zone_notes(alloc, &as_written(&zone), notes)
+    }
+
+    fn push_address_notes(
+        &self,
+        alloc: Global,
+        mode: Mode,
+        address: Address,
+        notes: &mut Notes,
+    ) -> Result<(), OutOfMemory> {
+        match address_cell(self.block.steps.as_slice(), address) {
+            Some(cell) => self.push_cells_notes(alloc, mode, cell, 1, notes),
+            None => Ok(()),
+        }
+    }
+
+    /// What is wrong with the zones of a callee.
+    fn push_call_notes(
+        &self,
+        alloc: Global,
+        callee: &Function,
+        arguments: &[Argument],
+        notes: &mut Notes,
+    ) -> Result<(), OutOfMemory> {
+        let moves = argument_moves(alloc, arguments)?;
+        for zone in callee.zones.as_slice() {
+            if let Some(object) = object_put(arguments, zone.object) {
+                let y = PlacedZone {
+                    object,
+                    moves: moves.as_slice(),
+                    zone,
+                };
+                self.push_zone_notes(alloc, &y, notes)?;
+            }
+        }
+        Ok(())
+    }
+
+    /// What is wrong with what an instruction touches.
+    fn push_step_notes(
+        &self,
+        alloc: Global,
+        instruction: &Instruction,
+        notes: &mut Notes,
+    ) -> Result<(), OutOfMemory> {
+        match instruction {
+            Instruction::Load { address, .. } => {
+                self.push_address_notes(alloc, Mode::Reads, *address, notes)
+            }
+            Instruction::Store { address, .. } => {
+                self.push_address_notes(alloc, Mode::Writes, *address, notes)
+            }
+            Instruction::AtomicAdd { address, .. } => {
+                self.push_address_notes(alloc, Mode::Adds, *address, notes)
+            }
+            Instruction::StoreZeros { cells, object } => {
+                let cell = Cell {
+                    object: *object,
+                    index: Operand::Number(0),
+                };
+                self.push_cells_notes(alloc, Mode::Writes, cell, *cells, notes)
+            }
+            Instruction::Call {
+                callee,
+                arguments,
+                ..
+            } => match self.known.scene.program.functions.as_slice().get(callee.0) {
+                Some(callee) => self.push_call_notes(alloc, callee, arguments.as_slice(), notes),
+                None => Ok(()),
+            },
+            _ => Ok(()),
+        }
+    }
+
+    /// Adds the faults of what is touched at the place.
+    fn push_used(
+        &self,
+        findings: &mut Vec<Finding>,
+        used: footprints::Use,
+        notes: Notes,
+    ) -> Result<(), OutOfMemory> {
+        let Notes { cover, clear } = notes;
+        if !used.covered {
+            push_finding(findings, used.number, self.known.line, cover)?;
+        }
+        if !used.clear {
+            push_finding(findings, 602, self.known.line, clear)?;
+        }
+        Ok(())
+    }
+
+    fn push_step(
+        &self,
+        alloc: Global,
+        step: &Step,
+        findings: &mut Vec<Finding>,
+    ) -> Result<(), OutOfMemory> {
+        let functions = self.known.scene.program.functions.as_slice();
+        let steps = self.block.steps.as_slice();
+        let used = step_use(
+            alloc,
+            &self.place,
+            functions,
+            steps,
+            step.line,
+            &step.instruction,
+        )?;
+        let mut notes = no_notes(alloc);
+        if !used.covered || !used.clear {
+            self.push_step_notes(alloc, &step.instruction, &mut notes)?;
+        }
+        self.push_used(findings, used, notes)
+    }
+
+    /// Adds the faults of the foot of a new child.
+    fn push_child(
+        &self,
+        alloc: Global,
+        terminator: &Terminator,
+        findings: &mut Vec<Finding>,
+    ) -> Result<(), OutOfMemory> {
+        let blocks = self.known.scene.function.blocks.as_slice();
+        let used = end_use(alloc, &self.place, blocks, terminator)?;
+        let mut notes = no_notes(alloc);
+        for zone in foot_of(blocks, terminator) {
+            self.push_zone_notes(alloc, &as_written(zone), &mut notes)?;
+        }
+        self.push_used(findings, used, notes)
+    }
+
+    /// Why a zone that may still be touched is not pending at the target of an edge.
+    fn push_unpassed(
+        &self,
+        alloc: Global,
+        edge: &EdgeFacts,
+        region: RegisterId,
+        zone: &Zone,
+        out: &mut String,
+    ) -> Result<(), OutOfMemory> {
+        let y = as_written(zone);
+        let known = Known {
+            facts: edge.facts.as_slice(),
+            ..self.known
+        };
+        let label = known.scene.label(edge.to);
+        write!(out, "  still pending on the edge to %{label}: ")?;
+        push_zone(alloc, known.scene, &y, out)?;
+        out.push_str("\n")?;
+        let waiting = pending_at(known.scene.function, edge);
+        let mut is_any = false;
+        for item in waiting {
+            let z = PlacedZone {
+                object: item.zone.object,
+                moves: edge.moves.as_slice(),
+                zone: &item.zone,
+            };
+            if item.region.0 == region.0 {
+                let is_same = push_why_not(alloc, self.source.text, known, &z, &y, out)?;
+                is_any = is_any || is_same;
+            }
+        }
+        if !is_any {
+            let name = known.scene.register(region);
+            writeln!(
+                out,
+                "    %{label} has no `pending %{name}` line of that object"
+            )?;
+        }
+        Ok(())
+    }
+
+    /// Says why a zone is not pending at the target of an edge, if it is not.
+    fn push_if_unpassed(
+        &self,
+        alloc: Global,
+        edge: &EdgeFacts,
+        region: RegisterId,
+        zone: &Zone,
+        out: &mut String,
+    ) -> Result<(), OutOfMemory> {
+        let facts = edge.facts.as_slice();
+        let y = as_written(zone);
+        if is_empty(alloc, facts, &y)? {
+            return Ok(());
+        }
+        for item in pending_at(self.known.scene.function, edge) {
+            let z = PlacedZone {
+                object: item.zone.object,
+                moves: edge.moves.as_slice(),
+                zone: &item.zone,
+            };
+            if item.region.0 == region.0 && covers(alloc, facts, &z, &y)? {
+                return Ok(());
+            }
+        }
+        self.push_unpassed(alloc, edge, region, zone, out)
+    }
+
+    fn push_edge_notes(
+        &self,
+        alloc: Global,
+        terminator: &Terminator,
+        edge: &EdgeFacts,
+        out: &mut String,
+    ) -> Result<(), OutOfMemory> {
+        for item in self.place.pending {
+            if goes_on(edge.way, item.region) {
+                self.push_if_unpassed(alloc, edge, item.region, &item.zone, out)?;
+            }
+        }
+        if let (Way::Continued, Terminator::Detach { region, .. }) = (edge.way, terminator) {
+            let blocks = self.known.scene.function.blocks.as_slice();
+            for zone in foot_of(blocks, terminator) {
+                self.push_if_unpassed(alloc, edge, *region, zone, out)?;
+            }
+        }
+        Ok(())
+    }
+
+    fn push_edge(
+        &self,
+        alloc: Global,
+        terminator: &Terminator,
+        edge: &EdgeFacts,
+        findings: &mut Vec<Finding>,
+    ) -> Result<(), OutOfMemory> {
+        let blocks = self.known.scene.function.blocks.as_slice();
+        if passes_on(alloc, blocks, self.place.pending, terminator, edge)? {
+            return Ok(());
+        }
+        let mut notes = String::new(alloc);
+        self.push_edge_notes(alloc, terminator, edge, &mut notes)?;
+        push_finding(findings, 603, self.known.line, notes)
+    }
+}
+
+/// Whether what is pending of a region goes on along an edge.
+fn goes_on(way: Way, region: RegisterId) -> bool {
+    match way {
+        Way::Branch | Way::Continued => true,
+        Way::Detached => false,
+        Way::Synced(synced) => synced.0 != region.0,
+    }
+}
+
+fn pending_at<'a>(function: &'a Function, edge: &EdgeFacts) -> &'a [Pending] {
+    match function.blocks.as_slice().get(edge.to.0) {
+        Some(block) => block.pending.as_slice(),
+        None => &[],
+    }
+}
+
+/// The caller's object for a callee's name.
+fn object_put(arguments: &[Argument], object: ObjectName) -> Option<ObjectName> {
+    match object {
+        ObjectName::Global(global) => Some(ObjectName::Global(global)),
+        ObjectName::Alloca(_) => None,
+        ObjectName::Parameter(register) => match arguments.get(register.0) {
+            Some(Argument::Object(object)) => Some(*object),
+            Some(Argument::Number(_)) | None => None,
+        },
+    }
+}
+
+fn no_notes(alloc: Global) -> Notes {
+    Notes {
+        cover: String::new(alloc),
+        clear: String::new(alloc),
+    }
+}
+
+/// Adds the faults at the end of a block.
+fn push_end(
+    alloc: Global,
+    spot: Spot<'_, '_>,
+    ending: &Ending,
+    edges: &[EdgeFacts],
+    findings: &mut Vec<Finding>,
+) -> Result<(), OutOfMemory> {
+    spot.push_child(alloc, &ending.terminator, findings)?;
+    for edge in edges {
+        spot.push_edge(alloc, &ending.terminator, edge, findings)?;
+    }
+    Ok(())
+}
+
+/// Adds the faults of a block of a task.
+fn push_block<'a>(
+    alloc: Global,
+    source: Source<'_>,
+    scene: &'a Scene<'a>,
+    task: Task,
+    index: usize,
+    block: &'a Block,
+    findings: &mut Vec<Finding>,
+) -> Result<(), OutOfMemory> {
+    let (table, _) = block_facts(alloc, scene.program, scene.function, index, block)?;
+    let lines = fact_lines(alloc, scene.function, index, block, &table)?;
+    for (place, step) in block.steps.as_slice().iter().enumerate() {
+        let facts = table.at_step(place);
+        let spot = spot_at(
+            source,
+            &*scene,
+            task,
+            &*block,
+            facts,
+            lines.as_slice(),
+            step.line,
+        );
+        spot.push_step(alloc, step, findings)?;
+    }
+    if let Some(ending) = &block.ending {
+        let facts = table.facts.as_slice();
+        let spot = spot_at(
+            source,
+            &*scene,
+            task,
+            &*block,
+            facts,
+            lines.as_slice(),
+            ending.line,
+        );
+        push_end(alloc, spot, ending, table.edges.as_slice(), findings)?;
+    }
+    Ok(())
+}
+
+fn spot_at<'s, 'a>(
+    source: Source<'s>,
+    scene: &'a Scene<'a>,
+    task: Task,
+    block: &'a Block,
+    facts: &'a [program::Fact],
+    lines: &'a [u32],
+    line: u32,
+) -> Spot<'s, 'a> {
+    Spot {
+        source,
+        known: Known {
+            scene,
+            facts,
+            lines,
+            stated: facts.len(),
+            line,
+        },
+        place: Place {
+            facts,
+            covering: covering_of(scene.function, task),
+            own: is_own_block(task),
+            pending: block.pending.as_slice(),
+        },
+        block,
+    }
+}
+
+fn push_function(
+    alloc: Global,
+    source: Source<'_>,
+    scene: &Scene<'_>,
+    tasks: &[Task],
+    findings: &mut Vec<Finding>,
+) -> Result<(), OutOfMemory> {
+    for (index, block) in scene.function.blocks.as_slice().iter().enumerate() {
+        let task = tasks.get(index).copied().unwrap_or(Task::Unreached);
+        push_block(alloc, source, &*scene, task, index, &*block, findings)?;
+    }
+    Ok(())
+}
+
+/// All faults of zones of a text whose numbers are right.
+pub fn zone_findings(
+    alloc: Global,
+    source: Source<'_>,
+    matched: &Matched,
+) -> Result<Vec<Finding>, OutOfMemory> {
+    let program = &matched.graph.typed.program;
+    let tables = matched.regions.functions.as_slice();
+    let mut findings: Vec<Finding> = Vec::new(alloc);
+    for (index, table) in tables.iter().enumerate() {
+        if let Some(scene) = Scene::of(alloc, program, &matched.whole, index)? {
+            push_function(alloc, source, &scene, table.tasks.as_slice(), &mut findings)?;
+        }
+    }
+    Ok(findings)
+}
