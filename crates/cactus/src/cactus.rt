@@ -161,15 +161,35 @@ impl<F: Drop> Cactus<F> {
         ensures ok { IfOk result (IsAdded self.old self.new path parent frame) }
         ensures err { OnErr result (self.new ≡ self.old) }
     {
+        let slot = self.nodes.vacant_key();
+        self.put_in(slot, path, parent, frame)?;
+        Ok(slot)
+    }
+
+    /// Puts a frame into the slot, which is the next one, with a new generation.
+    fn put_in(
+        &mut self,
+        slot: usize,
+        path: Path,
+        parent: Option<usize>,
+        frame: F,
+    ) -> Result<(), OutOfMemory>
+        requires { self.old.made + 1 < 2 ^ 64 }
+        ensures ok { OnOk result (IsAdded self.old self.new path parent frame slot) }
+        ensures err { OnErr result (self.new ≡ self.old) }
+    {
+        if self.nodes.vacant_key() != slot {
+            return Err(OutOfMemory);
+        }
         let generation = self.made;
-        let slot = self.nodes.insert(Node {
+        self.nodes.insert(Node {
             generation,
             path,
             parent,
             frame,
         })?;
         self.made += 1;
-        Ok(slot)
+        Ok(())
     }
 
     /// Makes the root; the answer is its slot. Where memory is refused nothing changes.
@@ -209,6 +229,32 @@ impl<F: Drop> Cactus<F> {
         ensures err { OnErr result (self.new ≡ self.old) }
     {
         self.add_child(caller, number, frame)
+    }
+
+    /// The slot that the next frame takes.
+    pub fn next_slot(&self) -> usize
+        ensures { node_at self.now result ≡ None }
+    {
+        self.nodes.vacant_key()
+    }
+
+    /// Makes the frame of the call of this number of a living frame in the slot that `next_slot` tells: so room for the
+    /// slot can be taken before the frame is made. Where memory is refused, or the slot is another, nothing changes.
+    pub fn push_call_in(
+        &mut self,
+        slot: usize,
+        caller: usize,
+        number: u64,
+        frame: F,
+    ) -> Result<(), OutOfMemory>
+        requires lives { Lives self.old caller }
+        requires room { self.old.made + 1 < 2 ^ 63 }
+        ensures ok { OnOk result (AddsChild self.old self.new caller number frame slot) }
+        ensures map { OnOk result (GrowsMap self.old self.new caller number frame) }
+        ensures err { OnErr result (self.new ≡ self.old) }
+    {
+        let path = child_path(self.alloc, &self.nodes[caller].path, number)?;
+        self.put_in(slot, path, Some(caller), frame)
     }
 
     /// Takes a frame away that has returned.
