@@ -10,3 +10,11 @@ pub mod Topmost
 pub mod Detaching
 pub mod Reattaching
 pub mod Stealing
+pub mod Rows
+pub mod Pointing
+pub mod Roomy
+pub mod Lying
+pub mod Begun
+pub mod Calling
+pub mod Callee
+pub mod Called

@@ -4,3 +4,5 @@ pub mod Layouts
 pub mod Shown
 pub mod Going
 pub mod Forking
+pub mod Rooms
+pub mod Calls

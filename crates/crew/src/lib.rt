@@ -4,16 +4,18 @@
 //! An address is an index of the row: globals first, then blocks, one a slot. A function's frame has its allocas in its slot's block as long
 //! as it lives, so no path is walked for a cell, and a copy of a frame names the same cells.
 //!
-//! What stands: how a run is shown (`Shown`), what it rests on (`Going`), the plain step, the array store, the detach, the reattach, the sync
-//! and the steal. Open: call, return and the start; and that accepted programs meet `Going`.
+//! What stands: how a run is shown (`Shown`), what it rests on (`Going`), the plain step, the array store, the call, the detach, the reattach,
+//! the sync and the steal. Open: return and the start.
 #![tactic(auto)]
 
 mod activation;
+mod call;
 mod clear;
 mod detach;
 mod hands;
 mod plain;
 mod reattach;
+mod room;
 mod run;
 mod steal;
 mod sync;
