@@ -18,3 +18,5 @@ pub mod Begun
 pub mod Calling
 pub mod Callee
 pub mod Called
+pub mod Lengths
+pub mod Following

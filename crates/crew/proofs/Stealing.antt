@@ -45,7 +45,7 @@ standing None (wait.Region region) = Some (running.Stalled region.0)
 standing None (wait.Call child register) = None
 standing (Some worker) waits = Some (running.Running worker)
 
-standing_is : (g : frames.Frame) (o : Option ℕ) (w : Wait) → g.waits ≡ wait_of w → running.status_at (Some g) o ≡ standing o w
+pub standing_is : (g : frames.Frame) (o : Option ℕ) (w : Wait) → g.waits ≡ wait_of w → running.status_at (Some g) o ≡ standing o w
 standing_is g None wait.Nothing is = ap running.waiting_status is
 standing_is g None (wait.Region region) is = ap running.waiting_status is
 standing_is g None (wait.Call child register) is = ap running.waiting_status is
@@ -61,7 +61,7 @@ no_child_empty : (l : List ℕ) (k : ℕ) → l ++ k ∷ [] ≢ []
 no_child_empty [] k e = cc
 no_child_empty (x ∷ l) k e = cc
 
-ready_standing : (o : Option ℕ) (w : Wait) → standing o w ≡ Some running.Ready → (o ≡ None) × (w ≡ wait.Nothing)
+pub ready_standing : (o : Option ℕ) (w : Wait) → standing o w ≡ Some running.Ready → (o ≡ None) × (w ≡ wait.Nothing)
 ready_standing None wait.Nothing e = (refl, refl)
 ready_standing None (wait.Region region) e = absurd (let f : Some (running.Stalled region.0) ≡ Some running.Ready = e in cc)
 ready_standing None (wait.Call child register) e = absurd (cc)
@@ -114,7 +114,7 @@ module _ (prog : Program) (places : Places) (m : Machine) (k : Run) (shown : IsS
             cc
 
     -- a frame is a task's lowest just where the definitions say so
-    task_tells : (IsLowest node × (running.is_task (place_of node) (m.core.frames (place_of node)) ≡ true)) ⊎ ((¬ IsLowest node) × (running.is_task (place_of node) (m.core.frames (place_of node)) ≡ false))
+    pub task_tells : (IsLowest node × (running.is_task (place_of node) (m.core.frames (place_of node)) ≡ true)) ⊎ ((¬ IsLowest node) × (running.is_task (place_of node) (m.core.frames (place_of node)) ≡ false))
     task_tells =
         let g = seen prog places k slot node node.frame stands m shown in
         elim (task_at (place_of node) g.frame refl g.shows.shown.role) [
@@ -122,10 +122,10 @@ module _ (prog : Program) (places : Places) (m : Machine) (k : Run) (shown : IsS
           | inr h ↦ inr (h.0, ap (running.is_task (place_of node)) g.is ∙ h.1)
         ]
 
-    top_place : TopIs prog places m k shown m.core.peak (place_of node) (top_within k.cactus k.peak slot)
+    pub top_place : TopIs prog places m k shown m.core.peak (place_of node) (top_within k.cactus k.peak slot)
     top_place = subst (λ (n : ℕ). TopIs prog places m k shown m.core.peak (place_of node) (top_within k.cactus n slot)) shown.shows.peak (top_is prog places m k shown m.core.peak slot node stands)
 
-    status_of_top : IsLowest node → (t : TopIs prog places m k shown m.core.peak (place_of node) (top_within k.cactus k.peak slot)) → running.status_of workers m (place_of node) ≡ standing t.node.frame.runner t.node.frame.frame.waits
+    pub status_of_top : IsLowest node → (t : TopIs prog places m k shown m.core.peak (place_of node) (top_within k.cactus k.peak slot)) → running.status_of workers m (place_of node) ≡ standing t.node.frame.runner t.node.frame.frame.waits
     status_of_top lowest t =
         let is_top : running.is_task (place_of node) (m.core.frames (place_of node)) ≡ true = elim task_tells [ inl h ↦ h.1 | inr h ↦ absurd (h.0 lowest) ] in
         let g = seen prog places k t.slot t.node t.node.frame t.stands m shown in
@@ -135,10 +135,10 @@ module _ (prog : Program) (places : Places) (m : Machine) (k : Run) (shown : IsS
         ∙ ap (running.status_at (Some g.frame)) (holder_is prog places m k shown t.slot t.node t.stands)
         ∙ standing_is g.frame t.node.frame.runner t.node.frame.frame.waits g.shows.waits
 
-    status_of_no_task : ¬ IsLowest node → running.status_of workers m (place_of node) ≡ None
+    pub status_of_no_task : ¬ IsLowest node → running.status_of workers m (place_of node) ≡ None
     status_of_no_task high = elim task_tells [ inl h ↦ absurd (high h.0) | inr h ↦ ap (λ b. cond b (running.top_status workers m (running.top_of m.core (place_of node))) None) h.1 ]
 
-  status_of_nobody : (path : Name) → HasNoPath k.cactus path → running.status_of workers m (reverse path.numbers) ≡ None
+  pub status_of_nobody : (path : Name) → HasNoPath k.cactus path → running.status_of workers m (reverse path.numbers) ≡ None
   status_of_nobody path none =
       let absent : named k.cactus (reverse (reverse path.numbers)) ≡ None = not_named k.cactus (reverse (reverse path.numbers)) (λ slot node stands same. none slot node stands (ap (λ (l : List ℕ). record { numbers = l }) (same ∙ reverse-reverse path.numbers))) in
       let empty = from (m.core.frames p) refl (subst (λ o. ShowsAt (layout_of prog places k.cactus m.core) places p (m.core.frames p) o) absent (shown.shows.frames p)) in

@@ -54,7 +54,7 @@ hand_place frames (Some slot) x e = from (node_at frames slot) refl e
     from None is e2 = absurd (cc)
     from (Some node) is e2 = (slot, node, refl, is, (let e3 : Some (place_of node) ≡ Some x = e2 in cc))
 
-hand_found : (frames : Frames Activation) (hands : List (Option ℕ)) (worker : ℕ) (x : Path) → hands_of frames hands worker ≡ Some x → (slot : ℕ) × (node : Node Activation) × (hand_of hands worker ≡ Some slot) × (node_at frames slot ≡ Some node) × (place_of node ≡ x)
+pub hand_found : (frames : Frames Activation) (hands : List (Option ℕ)) (worker : ℕ) (x : Path) → hands_of frames hands worker ≡ Some x → (slot : ℕ) × (node : Node Activation) × (hand_of hands worker ≡ Some slot) × (node_at frames slot ≡ Some node) × (place_of node ≡ x)
 hand_found frames hands worker x e = hand_place frames (hand_of hands worker) x e
 
 is_place_of : (o : Option Path) (x : Path) → o ≡ Some x → running.is_place o x ≡ true
@@ -89,7 +89,7 @@ ended_at slot callee = by_call (λ c. None) slot callee
 
 module _ (prog : Program) (places : Places) (m : Machine) (k : Run) (shown : IsShown prog places m k) where
   -- one slot for a path
-  same_place : (slot other : ℕ) (node twin : Node Activation) → node_at k.cactus slot ≡ Some node → node_at k.cactus other ≡ Some twin → place_of node ≡ place_of twin → slot ≡ other
+  pub same_place : (slot other : ℕ) (node twin : Node Activation) → node_at k.cactus slot ≡ Some node → node_at k.cactus other ≡ Some twin → place_of node ≡ place_of twin → slot ≡ other
   same_place slot other node twin here there same = shown.agrees.tree.distinct slot other node twin here there (sym (reverse-reverse node.path.numbers) ∙ (ap reverse same ∙ reverse-reverse twin.path.numbers))
 
   -- who runs a frame

@@ -6,3 +6,8 @@ pub mod Going
 pub mod Forking
 pub mod Rooms
 pub mod Calls
+pub mod Follows
+pub mod Stalls
+pub mod Lowest
+pub mod Events
+pub mod Starts

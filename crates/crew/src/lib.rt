@@ -13,6 +13,8 @@ mod call;
 mod clear;
 mod detach;
 mod hands;
+mod lowest;
+mod moves;
 mod plain;
 mod reattach;
 mod room;
@@ -22,4 +24,5 @@ mod sync;
 mod tops;
 
 pub use activation::Activation;
+pub use moves::most_moves;
 pub use run::{Block, Run};

@@ -1,9 +1,11 @@
-ghost use Rattle.std.specs.Prelude.{◌≡◌, IsSomeAnd, IsTrue, reverse};
+ghost use Rattle.std.specs.Prelude.{◌≡◌, IsSomeAnd, IsTrue, length, reverse};
 ghost use Rattle.cactus.specs.Frames.{frame_at};
 ghost use Rattle.program.specs.declared.function.Program.{Program};
 ghost use Rattle.engine.specs.declared.activation.Places.{Places};
 ghost use Rattle.crew.specs.Tasks.{IsIdle, IsReady, Takes};
+ghost use Rattle.crew.specs.Follows.{Follows};
 ghost use Rattle.crew.specs.Going.{DoesSteal};
+ghost use Rattle.crew.specs.Stalls.{KeepsStalls};
 
 use crate::run::Run;
 use frame::Path;
@@ -13,6 +15,10 @@ impl Run {
     pub fn steal(&mut self, worker: u8, path: &Path) -> bool
         ensures steals { (prog : Program) (places : Places) → DoesSteal prog places self.old self.new worker (reverse path.now.numbers) result }
         ensures left { ¬ IsTrue result → self.new ≡ self.old }
+        ensures stalls { KeepsStalls self.old.cactus self.new.cactus }
+        ensures follows { Follows self.old.cactus self.new.cactus }
+        ensures workers { length self.new.hands.items ≡ length self.old.hands.items }
+        ensures moves { self.new.moves ≡ self.old.moves }
     {
         match self.top_of(path) {
             Some(top) => self.take(worker, top),
@@ -25,6 +31,8 @@ impl Run {
         ensures left { ¬ IsTrue result → self.new ≡ self.old }
         ensures takes { IsTrue result → Takes self.old self.new worker top }
         ensures enabled { IsIdle self.old.hands.items worker → IsSomeAnd (frame_at self.old.cactus top) IsReady → IsTrue result }
+        ensures workers { length self.new.hands.items ≡ length self.old.hands.items }
+        ensures moves { self.new.moves ≡ self.old.moves }
     {
         if worker as usize >= self.hands.len() || self.hand(worker).is_some() {
             return false;

@@ -8,7 +8,7 @@ use frame::{Path, Role};
 
 impl Run {
     /// Whether a path is that of a task: the root's, or a detached child's.
-    fn is_lowest(node: &Node<Activation>) -> bool
+    pub(crate) fn is_lowest(node: &Node<Activation>) -> bool
         ensures { IsTrue result ↔ IsLowest node.now }
     {
         node.parent.is_none() || node.frame.frame.role != Role::Body
