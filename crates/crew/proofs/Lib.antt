@@ -19,4 +19,6 @@ pub mod Calling
 pub mod Callee
 pub mod Called
 pub mod Lengths
+pub mod Uses
+pub mod Noted
 pub mod Following

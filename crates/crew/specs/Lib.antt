@@ -7,6 +7,7 @@ pub mod Forking
 pub mod Rooms
 pub mod Calls
 pub mod Follows
+pub mod Left
 pub mod Stalls
 pub mod Lowest
 pub mod Events
