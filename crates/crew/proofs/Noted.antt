@@ -137,3 +137,7 @@ written_keeps frames slot c like last agree s n here =
       | inl h ↦ subst (λ (x : Node Activation). IsStalledIn (last (place_of x)) x.frame) h.is (like h.was h.stood (last (place_of h.was)) (agree slot h.was h.stood))
       | inr h ↦ agree s n h
     ]
+
+pub written_keeps_one : (frames : Frames Activation) (slot : ℕ) (node : Node Activation) → node_at frames slot ≡ Some node → (c : Activation) → IsStalledAlike node.frame c → KeepsStalls frames (with_frame frames slot c)
+written_keeps_one frames slot node stands c like =
+    written_keeps frames slot c (λ n here. let same = same_Some node n (sym stands ∙ here) in subst (λ (x : Node Activation). (last : Option ℕ) → IsStalledIn last x.frame → IsStalledIn last c) same (stalled_alike node.frame c like))
