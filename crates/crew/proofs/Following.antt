@@ -8,10 +8,7 @@ use Rattle.crew.specs.Follows.{Follows}
 use Rattle.crew.specs.Stalls.{KeepsStalls}
 use Rattle.crew.specs.Tasks.{run_at, run_by, Takes}
 use Rattle.crew.proofs.Noted.{run_free, written_keeps}
-use Rattle.crew.proofs.Uses.{keeps_follows, same_uses, written_uses}
-
-pub follows_same : (frames : Frames Activation) → Follows frames frames
-follows_same frames = keeps_follows frames frames (same_uses frames)
+use Rattle.crew.proofs.Uses.{follows_same, keeps_follows, written_uses}
 
 module _ (frames : Frames Activation) (slot worker : ℕ) where
   taken_follows : (o : Option Activation) → Follows frames (run_at frames slot worker o)

@@ -21,4 +21,6 @@ pub mod Called
 pub mod Lengths
 pub mod Uses
 pub mod Noted
+pub mod Growing
+pub mod Stepping
 pub mod Following

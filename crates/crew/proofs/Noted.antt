@@ -129,6 +129,22 @@ module _ (prog : Program) (places : Places) (k : Run) (slot : ℕ) (node : Node 
   pub own_notes : (c : Activation) → IsStalledIn (Some node.frame.frame.place.block.0) c → NotesStalls (running.Step w) m k.cactus (with_frame k.cactus slot c) true
   own_notes c h = told_notes (with_frame k.cactus slot c) (told_written k.cactus told_old slot c (λ n here. let same = same_Some node n (sym stands ∙ here) in own (ap (λ (x : Node Activation). place_of x) (sym same)) h))
 
+  told_like : (n : Node Activation) (c : Activation) → ((last : Option ℕ) → IsStalledIn last n.frame → IsStalledIn last c) → IsTold n → IsTold (record n { frame = c })
+  told_like n c like (free h) = free (λ last. like last (h last))
+  told_like n c like (own place h) = own place (like (Some node.frame.frame.place.block.0) h)
+  told_like n c like (other s was away stood path h) = other s was away stood path (λ last x. like last (h last x))
+
+  -- a child begins, and its parent goes on or waits for it
+  pub child_notes : (mid : Frames Activation) (parent number : ℕ) (b : Activation) (s : ℕ) → AddsChild k.cactus mid parent number b s → IsFree b → (at : ℕ) (c : Activation) → IsFree c → NotesStalls (running.Step w) m k.cactus (with_frame mid at c) true
+  child_notes mid parent number b s adds begins at c goes = told_notes (with_frame mid at c) (told_written mid (told_added mid parent number b s adds begins) at c (λ n here. free goes))
+
+  -- a frame ends, and another learns of it
+  pub end_notes : (mid : Frames Activation) (s : ℕ) → IsRemoved k.cactus mid s → (at : ℕ) (c : Activation) → ((n : Node Activation) → node_at mid at ≡ Some n → (last : Option ℕ) → IsStalledIn last n.frame → IsStalledIn last c) → NotesStalls (running.Step w) m k.cactus (with_frame mid at c) true
+  end_notes mid s removed at c like = told_notes (with_frame mid at c) (told_written mid (told_removed mid s removed) at c (λ n here. told_like n c (like n here) (told_removed mid s removed at n here)))
+
+  pub last_notes : (mid : Frames Activation) (s : ℕ) → IsRemoved k.cactus mid s → NotesStalls (running.Step w) m k.cactus mid true
+  last_notes mid s removed = told_notes mid (told_removed mid s removed)
+
 -- ---- a frame is written that is stalled where it was
 
 pub written_keeps : (frames : Frames Activation) (slot : ℕ) (c : Activation) → ((n : Node Activation) → node_at frames slot ≡ Some n → (last : Option ℕ) → IsStalledIn last n.frame → IsStalledIn last c) → KeepsStalls frames (with_frame frames slot c)

@@ -79,7 +79,17 @@ same_uses frames = record { made = refl; back = stays frames; on = stays frames 
 pub keeps_follows : (old new : Frames Activation) → KeepsUses old new → Follows old new
 keeps_follows old new k = record { made = let same = k.made in omega (arith, same); uses = λ s n stands. inl (k.back s n stands) }
 
+pub follows_same : (frames : Frames Activation) → Follows frames frames
+follows_same frames = keeps_follows frames frames (same_uses frames)
+
 module _ (old mid new : Frames Activation) where
+  pub kept_uses : KeepsUses old mid → KeepsUses mid new → KeepsUses old new
+  kept_uses k l = record {
+    made = l.made ∙ k.made;
+    back = λ s n stands. let on = l.back s n stands in let was = k.back s on.there on.stands in record { there = was.there; stands = was.stands; generation = was.generation ∙ on.generation; path = was.path ∙ on.path };
+    on = λ s n stands. let on = k.on s n stands in let then = l.on s on.there on.stands in record { there = then.there; stands = then.stands; generation = then.generation ∙ on.generation; path = then.path ∙ on.path };
+  }
+
   pub kept_follows : KeepsUses old mid → Follows mid new → Follows old new
   kept_follows k f = record { made = let same = k.made in let low = f.made in omega (arith, same, low); uses = uses }
     where
@@ -164,3 +174,11 @@ module _ (old new : Frames Activation) (slot : ℕ) (removed : IsRemoved old new
 
   pub removed_follows : Follows old new
   removed_follows = record { made = let same = removed.made in omega (arith, same); uses = λ s n stands. inl (stays old s n (remains s n stands).1) }
+
+-- ---- a step that begins or ends a frame
+
+pub child_follows : (old mid : Frames Activation) (parent number : ℕ) (b : Activation) (s : ℕ) → AddsChild old mid parent number b s → (at : ℕ) (c : Activation) → Follows old (with_frame mid at c)
+child_follows old mid parent number b s adds at c = follows_kept old mid (with_frame mid at c) (added_follows old mid parent number b s adds) (written_uses mid at c)
+
+pub end_follows : (old mid : Frames Activation) (s : ℕ) → IsRemoved old mid s → (at : ℕ) (c : Activation) → Follows old (with_frame mid at c)
+end_follows old mid s removed at c = follows_kept old mid (with_frame mid at c) (removed_follows old mid s removed) (written_uses mid at c)

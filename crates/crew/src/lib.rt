@@ -17,9 +17,11 @@ mod lowest;
 mod moves;
 mod plain;
 mod reattach;
+mod returning;
 mod room;
 mod run;
 mod steal;
+mod step;
 mod sync;
 mod tops;
 
