@@ -1,17 +1,23 @@
 -- A step of a worker: from the run that a look for a plain instruction leaves, and of an idle worker.
-use Rattle.std.proofs.Common.{Vec, Global, ◌≡◌, ℕ, length, Option, None, Bool, false, refl, sym, ap, ◌∙◌, subst}
-use Rattle.std.specs.Prelude.{option_and_then}
+use Rattle.std.proofs.Common.{Vec, Global, ◌≡◌, ℕ, length, Option, Some, None, Bool, false, refl, sym, ap, ◌∙◌, subst}
+use Rattle.std.specs.Prelude.{Result, Ok, Err, OnErr, option_and_then, slice_get}
 use Rattle.std.specs.Option.{option_map}
+use Rattle.running.specs.Frames.{block_at}
 use Rattle.running.specs.Events as running
 use Rattle.running.specs.Events.{Event, Machine}
+use Rattle.program.specs.declared.function.Block.{Block}
+use Rattle.program.specs.declared.function.Function.{Function}
 use Rattle.program.specs.declared.function.Program.{Program}
 use Rattle.cactus.specs.Frames.{Frames, node_at}
 use Rattle.engine.specs.declared.activation.Places.{Places}
+use Rattle.engine.specs.Fits.{HasEnding}
+use Rattle.engine.proofs.Shown.{then_some}
+use Rattle.engine.proofs.Texts.{sizes_in}
 use Rattle.crew.specs.declared.activation.Activation.{Activation}
 use Rattle.crew.specs.declared.run.Run.{Run}
 use Rattle.crew.specs.Events.{DoesEvent, Grows, LeavesStalls}
 use Rattle.crew.specs.Follows.{KeepsUses}
-use Rattle.crew.specs.Going.{DoesStep, KeepsShown, RunsSafely, Stands}
+use Rattle.crew.specs.Going.{DoesStep, KeepsShown, RunsSafely, Stands, TextFits}
 use Rattle.crew.specs.Left.{LeavesAsShown}
 use Rattle.crew.specs.Scheduling.{hand_of}
 use Rattle.crew.specs.Shown.{place_of}
@@ -54,14 +60,29 @@ idle_stays prog places k w none m shown safe = (
 )
 
 -- a run in which nothing changed
-pub leaves_same : (prog : Program) (places : Places) (k : Run) → LeavesAsShown prog places k k
+leaves_same : (prog : Program) (places : Places) (k : Run) → LeavesAsShown prog places k k
 leaves_same prog places k = record { shown = λ m shown safe. shown; hands = refl; uses = same_uses k.cactus; stalls = λ last agree. agree }
 
 -- what is shown of a run, its hands and its slots stay
-pub leaves_slots : (prog : Program) (places : Places) (old new : Run) → KeepsShown prog places old new → new.hands ≡ old.hands → new.cactus ≡ old.cactus → LeavesAsShown prog places old new
+leaves_slots : (prog : Program) (places : Places) (old new : Run) → KeepsShown prog places old new → new.hands ≡ old.hands → new.cactus ≡ old.cactus → LeavesAsShown prog places old new
 leaves_slots prog places old new keeps hands slots = record {
   shown = keeps;
   hands = hands;
   uses = subst (λ (x : Frames Activation). KeepsUses old.cactus x) (sym slots) (same_uses old.cactus);
   stalls = subst (λ (x : Frames Activation). KeepsStalls old.cactus x) (sym slots) (λ last agree. agree);
 }
+
+-- what a call or a detach leaves where memory is refused
+pub call_leaves : {X E : Type 0} (prog : Program) (places : Places) (old new : Run) (r : Result X E) → OnErr r (KeepsShown prog places old new) → OnErr r (new.hands ≡ old.hands) → OnErr r (new.cactus ≡ old.cactus) → OnErr r (LeavesAsShown prog places old new)
+call_leaves prog places old new (Ok x) keeps hands slots = tt
+call_leaves prog places old new (Err e) keeps hands slots = leaves_slots prog places old new keeps hands slots
+
+pub detach_leaves : {X E : Type 0} (prog : Program) (places : Places) (old new : Run) (r : Result X E) → OnErr r (new ≡ old) → OnErr r (LeavesAsShown prog places old new)
+detach_leaves prog places old new (Ok x) same = tt
+detach_leaves prog places old new (Err e) same = subst (λ (x : Run). LeavesAsShown prog places old x) (sym same) (leaves_same prog places old)
+
+-- each block has an ending
+pub has_ending : (prog : Program) (places : Places) (moves k b : ℕ) (block : Block) → TextFits prog places moves → block_at prog k b ≡ Some block → block.ending ≡ None → ⊥
+has_ending prog places moves k b block text e none =
+    let u = then_some (slice_get prog.functions k) (λ (f : Function). slice_get f.blocks b) block e in
+    subst (HasEnding (sizes_in places k u.0) moves b u.0.blocks) none (text.fits.blocks k u.0 u.1 b block u.2).ending
