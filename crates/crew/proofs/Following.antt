@@ -13,7 +13,7 @@ use Rattle.crew.specs.Shown.{place_of}
 use Rattle.crew.specs.Stalls.{Blocks, IsStalledIn, KeepsStalls, StallsAgree}
 use Rattle.crew.specs.Tasks.{run_at, run_by, taken, Takes}
 
-made_still : (frames : Frames Activation) (slot : ℕ) (a : Activation) → (with_frame frames slot a).made ≡ frames.made
+pub made_still : (frames : Frames Activation) (slot : ℕ) (a : Activation) → (with_frame frames slot a).made ≡ frames.made
 made_still frames slot a = from (node_at frames slot)
   where
     from : (o : Option (Node Activation)) → (written frames slot o a).made ≡ frames.made
@@ -40,14 +40,14 @@ module _ (frames : Frames Activation) (slot : ℕ) (a : Activation) where
           let e : Some (record was { frame = a }) ≡ Some n = sym (node_at-with_frame frames slot a was there) ∙ at in
           inl (was, there, (let f : record was { frame = a } ≡ n = cc in f))
 
-  written_use : (s : ℕ) (n : Node Activation) → node_at (with_frame frames slot a) s ≡ Some n → IsSameUse frames s n
+  pub written_use : (s : ℕ) (n : Node Activation) → node_at (with_frame frames slot a) s ≡ Some n → IsSameUse frames s n
   written_use s n stands =
       elim (stood s n stands) [
         | inl h ↦ record { there = h.0; stands = h.1; generation = ap (λ (k : Node Activation). k.generation) h.2; path = ap (λ (k : Node Activation). k.path) h.2 }
         | inr h ↦ record { there = n; stands = h; generation = refl; path = refl }
       ]
 
-  written_stalls : ((last : Option ℕ) → IsStalledIn last a) → KeepsStalls frames (with_frame frames slot a)
+  pub written_stalls : ((last : Option ℕ) → IsStalledIn last a) → KeepsStalls frames (with_frame frames slot a)
   written_stalls free last agree s n stands =
       elim (stood s n stands) [
         | inl h ↦ subst (λ (k : Node Activation). IsStalledIn (last (place_of k)) k.frame) h.2 (free (last (place_of (record h.0 { frame = a }))))
@@ -57,7 +57,7 @@ module _ (frames : Frames Activation) (slot : ℕ) (a : Activation) where
 pub follows_same : (frames : Frames Activation) → Follows frames frames
 follows_same frames = record { made = omega arith; uses = λ slot node stands. inl (record { there = node; stands = stands; generation = refl; path = refl }) }
 
-runs_on : (a : Activation) (worker : ℕ) → a.runner ≡ Some worker → (last : Option ℕ) → IsStalledIn last a
+pub runs_on : (a : Activation) (worker : ℕ) → a.runner ≡ Some worker → (last : Option ℕ) → IsStalledIn last a
 runs_on a worker runs last region free waits = absurd (let e : None ≡ Some worker = sym free ∙ runs in cc)
 
 module _ (frames : Frames Activation) (slot worker : ℕ) where

@@ -20,3 +20,7 @@ pub mod Callee
 pub mod Called
 pub mod Lengths
 pub mod Following
+pub mod Leaving
+pub mod Cleared
+pub mod Returned
+pub mod Parting

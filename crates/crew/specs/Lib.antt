@@ -6,6 +6,7 @@ pub mod Going
 pub mod Forking
 pub mod Rooms
 pub mod Calls
+pub mod Returns
 pub mod Follows
 pub mod Stalls
 pub mod Lowest

@@ -17,6 +17,7 @@ mod lowest;
 mod moves;
 mod plain;
 mod reattach;
+mod returning;
 mod room;
 mod run;
 mod steal;
