@@ -51,7 +51,7 @@ use Rattle.crew.proofs.Changed.{Holds, Told, alike, anew, kept_holds}
 use Rattle.crew.proofs.Cleared.{Leaves, over, over_shown}
 use Rattle.crew.proofs.Following.{made_still}
 use Rattle.crew.proofs.Handing.{hands_after, held_then, others_stay, seen_at, seen_then, taken_up}
-use Rattle.crew.proofs.Leaving as gone
+use Rattle.crew.proofs.Leaving as leaving
 use Rattle.crew.proofs.Leaving.{remains, tested}
 use Rattle.crew.proofs.Onward.{seen, standing}
 use Rattle.crew.proofs.Standing.{can_step, may_go_on, safe_next}
@@ -214,7 +214,7 @@ module _ (prog : Program) (places : Places) (k : Run) (slot : ℕ) (node : Node 
 
   module _ (within : w < length k.hands.items) (mid : Frames Activation) (removed : IsRemoved k.cactus mid slot) (shrinks : ShrinksMap k.cactus mid slot node) where
     abbrev binds : Binds k.cactus mid node.path.numbers None
-    binds = shrinks shown.agrees.tree (gone.leaf prog places k slot node stands m shown (safe []).tree g is_g none)
+    binds = shrinks shown.agrees.tree (leaving.leaf prog places k slot node stands m shown (safe []).tree g is_g none)
 
     left_there : (x : ℕ) (y : Node Activation) → node_at mid x ≡ Some y → (x ≢ slot) × (node_at k.cactus x ≡ Some y)
     left_there = remains k.cactus mid slot removed
@@ -253,7 +253,7 @@ module _ (prog : Program) (places : Places) (k : Run) (slot : ℕ) (node : Node 
       last = next (end_change p v) ends
 
       still_mid : (x : ℕ) (y : Node Activation) → x ≢ slot → node_at k.cactus x ≡ Some y → (z : Node Activation) × (node_at mid x ≡ Some z) × (z.path ≡ y.path)
-      still_mid = gone.still_there prog places k slot node stands m shown (safe []).tree mid removed
+      still_mid = leaving.still_there prog places k slot node stands m shown (safe []).tree mid removed
 
       off_last : (q : Path) → p ≢ q → last.core.frames q ≡ m.core.frames q
       off_last q off = ap (λ o. override o (m.core.frames q)) (only_off p q None off)
@@ -295,25 +295,25 @@ module _ (prog : Program) (places : Places) (k : Run) (slot : ℕ) (node : Node 
 
     module _ (up : ℕ) (has : node.parent ≡ Some up) where
       abbrev above : Node Activation
-      above = gone.above prog places k slot node stands m shown (safe []).tree mid removed up has
+      above = leaving.above prog places k slot node stands m shown (safe []).tree mid removed up has
 
       abbrev number : ℕ
-      number = (gone.below prog places k slot node stands m shown (safe []).tree mid removed up has).number
+      number = (leaving.below prog places k slot node stands m shown (safe []).tree mid removed up has).number
 
       below_stands : node_at k.cactus up ≡ Some above
-      below_stands = (gone.below prog places k slot node stands m shown (safe []).tree mid removed up has).stands
+      below_stands = (leaving.below prog places k slot node stands m shown (safe []).tree mid removed up has).stands
 
       abbrev pa : Path
       pa = place_of above
 
       place : p ≡ number ∷ pa
-      place = gone.place prog places k slot node stands m shown (safe []).tree mid removed up has
+      place = leaving.place prog places k slot node stands m shown (safe []).tree mid removed up has
 
       apart : p ≢ pa
-      apart = gone.apart prog places k slot node stands m shown (safe []).tree mid removed up has
+      apart = leaving.apart prog places k slot node stands m shown (safe []).tree mid removed up has
 
       up_away : up ≢ slot
-      up_away = gone.up_away prog places k slot node stands m shown (safe []).tree mid removed up has
+      up_away = leaving.up_away prog places k slot node stands m shown (safe []).tree mid removed up has
 
       abbrev h : Shown
       h = (seen prog places k up above above.frame below_stands m shown).frame
@@ -324,7 +324,7 @@ module _ (prog : Program) (places : Places) (k : Run) (slot : ℕ) (node : Node 
       -- it waits for this very call
       waits : (d : Option RegisterId) × (h.waits ≡ OnCall number d)
       waits =
-          let (f, d, at, calls) = (safe []).tree.awaited number pa g (gone.lives_below prog places k slot node stands m shown (safe []).tree mid removed up has g is_g) body in
+          let (f, d, at, calls) = (safe []).tree.awaited number pa g (leaving.lives_below prog places k slot node stands m shown (safe []).tree mid removed up has g is_g) body in
           (d, subst (λ (x : Shown). x.waits ≡ OnCall number d) (some_same f h (sym at ∙ is_h)) calls)
 
       abbrev d : Option RegisterId
@@ -373,7 +373,7 @@ module _ (prog : Program) (places : Places) (k : Run) (slot : ℕ) (node : Node 
         later = record above { frame = back }
 
         stays_mid : node_at mid up ≡ Some above
-        stays_mid = gone.stays_mid prog places k slot node stands m shown (safe []).tree mid removed up has
+        stays_mid = leaving.stays_mid prog places k slot node stands m shown (safe []).tree mid removed up has
 
         abbrev again : Binds mid frames above.path.numbers (Some later)
         again = written_binds mid up above back binds.tree stays_mid
