@@ -1,5 +1,5 @@
 -- A frame that returns is gone with its allocas: the rest is shown as before.
-use Rattle.std.proofs.Common.{Vec, Global, ◌≡◌, ◌≢◌, ℕ, ◌+◌, ◌<◌, ◌≤◌, List, Option, Some, None, Bool, false, true, cond, reverse, inl, inr, refl, sym, ap, ◌∙◌, subst, arith, ℤ}
+use Rattle.std.proofs.Common.{Vec, Global, ◌≡◌, ◌≢◌, ℕ, ◌+◌, ◌<◌, ◌≤◌, List, Option, Some, None, Bool, false, cond, reverse, inl, inr, refl, sym, ap, ◌∙◌, subst, arith, ℤ}
 use Rattle.std.specs.Prelude.{IsTrue}
 use Rattle.running.specs.Paths.{Path}
 use Rattle.running.specs.Cells.{Cell, Object, Shared, Local, owns}
@@ -19,7 +19,7 @@ use Rattle.engine.specs.Shows.{IsIn, Layout, ShowsCells}
 use Rattle.crew.specs.declared.activation.Activation.{Activation}
 use Rattle.crew.specs.declared.run.Run.{Run}
 use Rattle.crew.specs.Scheduling.{hand_of}
-use Rattle.crew.specs.Layouts.{alloca_cells, layout_of, object_at}
+use Rattle.crew.specs.Layouts.{alloca_cells, layout_of}
 use Rattle.crew.specs.Going.{PointsUp}
 use Rattle.crew.specs.Shown.{Agrees, IsShown, ShowsAt, ShowsMachine, place_of, hands_of}
 use Rattle.crew.proofs.Changed.{Holds, Told, told_at, told_cells, told_shown}

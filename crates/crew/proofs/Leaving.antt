@@ -29,6 +29,9 @@ tested false o e = absurd (cc)
 not_both : (b : Bool) → b ≡ true → b ≡ false → ⊥
 not_both b t f = let e : true ≡ false = sym t ∙ f in cc
 
+pub none_some : (x : ℕ) → None ≡ Some x → ⊥
+none_some x e = cc
+
 no_node : (x : Node Activation) → None ≡ Some x → ⊥
 no_node x e = cc
 

@@ -1,7 +1,6 @@
 -- What a return leaves of the slots: frames in their uses, and stalled where they were.
-use Rattle.std.proofs.Common.{◌≡◌, ◌≢◌, ℕ, reverse, Option, Some, None, cond, inl, inr, refl, sym, ap, ◌∙◌, subst, arith, true}
+use Rattle.std.proofs.Common.{◌≡◌, ◌≢◌, ℕ, reverse, Some, cond, inl, refl, sym, ap, ◌∙◌, subst, arith, true}
 use Rattle.std.proofs.lemmas.List.{reverse-reverse}
-use Rattle.running.specs.Paths.{Path}
 use Rattle.running.specs.Events as running
 use Rattle.running.specs.Events.{Machine, Step}
 use Rattle.running.proofs.Places.{same_path_apart}
@@ -15,7 +14,7 @@ use Rattle.crew.specs.declared.run.Run.{Run}
 use Rattle.crew.specs.Follows.{Follows, IsSameUse}
 use Rattle.crew.specs.Scheduling.{hand_of}
 use Rattle.crew.specs.Shown.{IsShown, place_of}
-use Rattle.crew.specs.Stalls.{Blocks, IsStalledIn, NotesStalls, StallsAgree, block_of, noted}
+use Rattle.crew.specs.Stalls.{Blocks, IsStalledIn, NotesStalls, block_of, noted}
 use Rattle.crew.proofs.Following.{made_still, runs_on, written_stalls, written_use}
 use Rattle.crew.proofs.Leaving.{remains}
 use Rattle.crew.proofs.Views.{hand_seen}

@@ -1,5 +1,5 @@
 -- A reattach of the frame in a slot: the child ends, and its worker goes on with the parent or is idle.
-use Rattle.std.proofs.Common.{◌≡◌, ◌≢◌, ℕ, zero, suc, ◌+◌, ◌-◌, ◌<◌, List, [], ◌∷◌, ◌++◌, length, max, reverse, Option, Some, None, Bool, true, false, cond, ◌&&◌, eqb, eq-eqb, not, is_none, inl, inr, refl, sym, ap, ◌∙◌, subst, arith, ℤ, ◌+ℤ◌}
+use Rattle.std.proofs.Common.{◌≡◌, ◌≢◌, ℕ, zero, suc, ◌+◌, ◌-◌, ◌<◌, List, [], ◌∷◌, ◌++◌, length, max, reverse, Option, Some, None, Bool, true, false, cond, ◌&&◌, eqb, eq-eqb, not, inl, inr, refl, sym, ap, ◌∙◌, subst, arith, ℤ, ◌+ℤ◌}
 use Rattle.std.specs.Prelude.{◌↔◌, IsSome, pos, slice_get}
 use Rattle.std.specs.Option.{option_map_or}
 use Rattle.std.specs.Vec.{vec_len, with_item}
@@ -16,7 +16,7 @@ use Rattle.running.specs.Counts.{changed_at, count_of, counts_after, left_by, lo
 use Rattle.running.specs.Events as running
 use Rattle.running.specs.Events.{Machine, Step, event}
 use Rattle.running.proofs.Steps.{change_is, reattach, some_same}
-use Rattle.running.proofs.Places.{all_below_at, same_path_tells, same_path_apart, no_own_child, only_here, only_off}
+use Rattle.running.proofs.Places.{same_path_tells, same_path_apart, only_here, only_off}
 use Rattle.running.proofs.Actions.{reattach_is_child, same_path_itself}
 use Rattle.running.proofs.ChildCounts.{count_at, counted_none, none_counted, step_counts}
 use Rattle.program.specs.declared.function.Function.{Function}
@@ -31,7 +31,7 @@ use Rattle.frame.specs.declared.frame.Wait.TheVariants as wait
 use Rattle.frame.specs.Reading.{role_of, wait_of}
 use Rattle.cactus.specs.declared.node.Node.{Node}
 use Rattle.cactus.specs.Frames.{Frames, Lives, IsRemoved, frame_at, node_at}
-use Rattle.cactus.specs.ByPath.{named, Binds, IsBelow, IsLeaf, ShrinksMap}
+use Rattle.cactus.specs.ByPath.{named, Binds, IsBelow, ShrinksMap}
 use Rattle.cactus.specs.Lending.{with_frame}
 use Rattle.cactus.proofs.FramesLemmas.{node_at-with_frame, node_at-with_frame_other}
 use Rattle.cactus.proofs.ByPathLemmas.{written_binds}
@@ -50,11 +50,12 @@ use Rattle.crew.specs.Forking.{resumed_by_child, resumed_unheld}
 use Rattle.crew.specs.Going.{CanStep, RunsSafely}
 use Rattle.crew.proofs.Leaving as leaving
 use Rattle.crew.proofs.Leaving.{remains, tested}
+pub use Rattle.crew.proofs.Leaving.{none_some}
 use Rattle.crew.proofs.Onward.{seen, standing}
 use Rattle.crew.proofs.Standing.{can_step, may_go_on}
 use Rattle.crew.proofs.Syncing.{LeadsTo, chosen}
 use Rattle.crew.proofs.Topmost.{holder_is, reverse_last}
-use Rattle.crew.proofs.Views.{frame_found, named_at_place}
+use Rattle.crew.proofs.Views.{named_at_place}
 use Rattle.crew.proofs.Changed.{Holds, Told, alike, anew, changed, changed_shown, kept_holds}
 use Rattle.crew.proofs.Handing.{hands_after, held_then, others_stay, seen_at, seen_then, taken_up}
 
@@ -66,9 +67,6 @@ reattaches_own f r n (Child x y) free = chosen (eqb x r && eqb y n) (Reattach r)
 
 not_a_body : (x y : ℕ) → Child x y ≡ Body → ⊥
 not_a_body x y e = cc
-
-pub none_some : (x : ℕ) → None ≡ Some x → ⊥
-none_some x e = cc
 
 free_runner : (x : Option ℕ) (t : Wait) (made left child region : ℕ) → resumed_by_child x t made left child region ≡ true → x ≡ None
 free_runner None t made left child region e = refl

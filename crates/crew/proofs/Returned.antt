@@ -7,11 +7,10 @@ use Rattle.std.proofs.lemmas.Bool.Decides.{eqb_tells}
 use Rattle.std.proofs.lemmas.List.{reverse-reverse}
 use Rattle.std.proofs.lemmas.Option.{slice_get_cases}
 use Rattle.linear.specs.declared.form.RegisterId.{RegisterId}
-use Rattle.running.specs.Arithmetic.{Undefined, Unmatched}
 use Rattle.running.specs.Paths.{Path}
 use Rattle.running.specs.Frames.{Frame as Shown, Wait as Waits, Role, Child, Body, Ends, OnCall, item_at, word_at}
 use Rattle.running.specs.Effect.{Return, action_of, item_action, returns, returns_value, terminator_action}
-use Rattle.running.specs.State.{Change, act, apply, childless, change_of_frame, end_change, may_go, override, override_result, resumed, return_change, return_from}
+use Rattle.running.specs.State.{Change, act, childless, change_of_frame, end_change, may_go, override, override_result, resumed, return_change, return_from}
 use Rattle.running.specs.Counts.{count_of, counts_after}
 use Rattle.running.specs.Events as running
 use Rattle.running.specs.Events.{Machine, Step, event}
@@ -48,11 +47,11 @@ use Rattle.crew.specs.Returns.{taker_of}
 use Rattle.crew.specs.Scheduling.{hand_of}
 use Rattle.crew.specs.Shown.{CalleeStands, HasTaker, IsShown, ShowsAt, item_here, place_of}
 use Rattle.crew.proofs.Changed.{Holds, Told, alike, anew, kept_holds}
-use Rattle.crew.proofs.Cleared.{Leaves, over, over_shown}
+use Rattle.crew.proofs.Cleared.{over_shown}
 use Rattle.crew.proofs.Following.{made_still}
-use Rattle.crew.proofs.Handing.{hands_after, held_then, others_stay, seen_at, seen_then, taken_up}
+use Rattle.crew.proofs.Handing.{held_then, others_stay, seen_at, seen_then, taken_up}
 use Rattle.crew.proofs.Leaving as leaving
-use Rattle.crew.proofs.Leaving.{remains, tested}
+use Rattle.crew.proofs.Leaving.{none_some, remains, tested}
 use Rattle.crew.proofs.Onward.{seen, standing}
 use Rattle.crew.proofs.Standing.{can_step, may_go_on, safe_next}
 use Rattle.crew.proofs.Syncing.{LeadsTo}
@@ -124,9 +123,6 @@ handed x w o = record x { hands = with_item x.hands w o }
 -- who waits for a call does nothing
 no_step : (s : Waits) (may : Waits → Bool) (j : ℕ) (d : Option RegisterId) → s ≡ OnCall j d → may (OnCall j d) ≡ false → may s ≡ true → ⊥
 no_step s may j d is stops goes = let e : false ≡ true = sym stops ∙ (ap may (sym is) ∙ goes) in cc
-
-some_none : (s : ℕ) → None ≡ Some s → ⊥
-some_none s e = cc
 
 -- ---- the event
 
@@ -274,12 +270,12 @@ module _ (prog : Program) (places : Places) (k : Run) (slot : ℕ) (node : Node 
               let (away, was) = left_there x y here in
               kept_holds prog places m last k mid k.peak (with_item k.hands w None) shown x y (record {
                 was = was;
-                same_hands = others_stay prog places m k shown slot node stands w hand within None x away (some_none _);
+                same_hands = others_stay prog places m k shown slot node stands w hand within None x away (none_some _);
                 callee = callee_still mid still_mid x y was (λ number. not_child number (place_of y)) y.frame.frame.waits y.frame.callee (shown.agrees.nodes x y was).callee;
                 counts = counts_next (end_change p v) ends (place_of y);
               });
           seen = λ u. ap (λ z. running.with_hand m.hands w (running.caller_of z) u) at_root ∙ seen_then prog places m k shown slot node stands w hand within None mid None refl still_mid u;
-          held = held_then prog places m k shown slot node stands w hand within None mid (λ x e. absurd (some_none x e)) still_mid;
+          held = held_then prog places m k shown slot node stands w hand within None mid (λ x e. absurd (none_some x e)) still_mid;
           made = (let e = removed.made in omega (arith, e));
           memory = λ x. refl;
           done = omega arith;

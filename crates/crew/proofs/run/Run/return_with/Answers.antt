@@ -1,12 +1,8 @@
-use Rattle.std.proofs.Common.{rules, [], ◌≡◌, ℕ, ◌+◌, ◌<◌, length, None, Some, Option, true, false, refl, sym, ap, ◌∙◌, subst, arith, ℤ}
-use Rattle.std.specs.Prelude.{is_some}
+use Rattle.std.proofs.Common.{rules, [], ◌≡◌, ℕ, ◌+◌, ◌<◌, length, Option, true, sym, ap, ◌∙◌, subst, arith}
 use Rattle.std.specs.Option.{option_copied_mut}
-use Rattle.std.specs.Vec.{with_item}
 use Rattle.std.proofs.Math.Logic.{∥∥₁_elim}
 use Rattle.std.proofs.Props.{props}
 use Rattle.running.specs.Events.{Step}
-use Rattle.cactus.specs.declared.node.Node.{Node}
-use Rattle.cactus.specs.Frames.{node_at}
 use Rattle.engine.specs.Activation.{FrameFits}
 use Rattle.engine.specs.Names.{HasResult}
 use Rattle.crew.specs.declared.activation.Activation.{Activation}
