@@ -24,3 +24,6 @@ pub mod Noted
 pub mod Growing
 pub mod Stepping
 pub mod Following
+pub mod Leaving
+pub mod Cleared
+pub mod Returned
