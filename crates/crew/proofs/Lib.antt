@@ -20,3 +20,4 @@ pub mod Callee
 pub mod Called
 pub mod Lengths
 pub mod Following
+mod Starting

@@ -11,3 +11,4 @@ pub mod Stalls
 pub mod Lowest
 pub mod Events
 pub mod Starts
+pub mod Roots

@@ -19,6 +19,7 @@ mod plain;
 mod reattach;
 mod room;
 mod run;
+mod start;
 mod steal;
 mod sync;
 mod tops;
