@@ -39,14 +39,12 @@ use Rattle.engine.proofs.Texts.{frame_stands, starts_block}
 use Rattle.crew.specs.declared.activation.Activation.{Activation}
 use Rattle.crew.specs.declared.run.Block.{Block}
 use Rattle.crew.specs.declared.run.Run.{Run}
-use Rattle.crew.specs.Follows.{AreGiven}
 use Rattle.crew.specs.Layouts.{alloca_at, layout_of, number_in}
 use Rattle.crew.specs.Rooms.{empty_at}
 use Rattle.crew.specs.Roots.{HasBlock, IsRoot, first_frame}
 use Rattle.crew.specs.Scheduling.{counted_in, hand_of}
 use Rattle.crew.specs.Shown.{Agrees, AreBeside, BlocksStand, IsBlockOf, IsShown, NodeFits, ShowsAt, ShowsMachine, hands_of, place_of}
-use Rattle.crew.specs.Stalls.{IsStalledIn, StallsAgree, no_blocks}
-use Rattle.crew.specs.Starts.{ArePlaces, Begins, IsRowOf, row_start, sizes_in}
+use Rattle.crew.specs.Starts.{ArePlaces, IsRowOf, row_start, sizes_in}
 use Rattle.crew.proofs.Roomy.{get_more, is_cell_at, vec_small}
 use Rattle.crew.proofs.Rows.{cells_are, first_row_address, global_size, row_address, same_place, size_in, size_is, sizes_of, small_number, start_below, start_in, starts_are, sum_more, wrapped_small}
 
@@ -146,12 +144,6 @@ module _ (prog : Program) (arguments row : List ℤ) (f : Function) (workers slo
 
   runs : a.runner ≡ Some 0
   runs = ap (λ (x : Activation). x.runner) first.root.is
-
-  pub given : AreGiven k.cactus
-  given s n here = subst (λ (x : Node Activation). x.generation < k.cactus.made) (stood s n here).1 (let one = first.added.made in omega (arith, one))
-
-  pub unstalled : StallsAgree no_blocks k.cactus
-  unstalled s n here = subst (λ (x : Node Activation). IsStalledIn None x.frame) (stood s n here).1 (λ region none waits. absurd (let e : None ≡ Some 0 = sym none ∙ runs in cc))
 
   -- ---- hands
 
@@ -302,7 +294,8 @@ module _ (prog : Program) (arguments row : List ℤ) (f : Function) (workers slo
 
       shared_base : (g : ℕ) (w : ℤ) → slice_get places.globals g ≡ Some w → w ≡ address l (first_cell (Shared g))
       shared_base g w e =
-          let start : w ≡ pos (0 + start_in sizes g) = start_is sizes 0 g w globals_small (ap (λ (xs : List ℤ). slice_get xs g) (sym at.globals) ∙ e) in
+          let less : 0 + sum sizes < 9223372036854775808 = (let low = globals_small in omega (arith, low)) in
+          let start : w ≡ pos (0 + start_in sizes g) = start_is sizes 0 g w less (ap (λ (xs : List ℤ). slice_get xs g) (sym at.globals) ∙ e) in
           let low : 0 + start_in sizes g < 9223372036854775808 = start_low in
           start ∙ sym (wrapped_small (0 + start_in sizes g) low) ∙ ap (wrapped Bits64) (sym start ∙ zero_more w) ∙ ap (λ z. wrapped Bits64 (z +ℤ pos 0)) (sym (get_or_from_slice_get places.globals g w (pos 0) e))
         where
