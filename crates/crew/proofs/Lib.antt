@@ -21,3 +21,4 @@ pub mod Called
 pub mod Lengths
 pub mod Following
 mod Starting
+mod Copied

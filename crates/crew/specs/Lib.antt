@@ -12,3 +12,4 @@ pub mod Lowest
 pub mod Events
 pub mod Starts
 pub mod Roots
+pub mod Copying

@@ -11,6 +11,7 @@
 mod activation;
 mod call;
 mod clear;
+mod copies;
 mod detach;
 mod hands;
 mod lowest;
