@@ -138,13 +138,10 @@ module _ (old new : Frames Activation) (are : AreCopies IsActivationCopy old new
   layout_same : (prog : Program) (places : Places) (s : State) → layout_of prog places new s ≡ layout_of prog places old s
   layout_same prog places s = λ i. record { at = λ o. at_same o i; cells = living prog s }
     where
-      abbrev lies_at : Node Activation → ℕ → Frame → ℤ
-      lies_at node a f = own_at f.role (f.home +ℤ number_in (allocas_of places f.function.0) a)
-
       by : (a : ℕ) (o q : Option (Node Activation)) → Copied o q → alloca_at places q a ≡ alloca_at places o a
       by a None q c = ap (λ x. alloca_at places x a) c
       by a (Some node) None c = absurd c
-      by a (Some node) (Some copy) c = ap (lies_at node a) c.frame.frame.only
+      by a (Some node) (Some copy) c = ap (λ (f : Frame). own_at f.role (f.home +ℤ number_in (allocas_of places f.function.0) a)) c.frame.frame.only
 
       at_same : (o : Object) → object_at places new o ≡ object_at places old o
       at_same (Shared g) = refl

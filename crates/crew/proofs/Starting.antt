@@ -1,10 +1,10 @@
 -- The state before the first event: the root alone, with its allocas behind the cells of the globals.
-use Rattle.std.proofs.Common.{◌≡◌, ◌≢◌, ℕ, zero, suc, ◌+◌, ◌<◌, ◌≤◌, List, [], ◌∷◌, ◌++◌, get_or, length, replicate, reverse, take, Option, Some, None, cond, eqb, ◌⊎◌, inl, inr, refl, sym, ap, ◌∙◌, subst, arith, lit<, ℤ, pos, ◌+ℤ◌}
+use Rattle.std.proofs.Common.{◌≡◌, ◌≢◌, ℕ, zero, suc, ◌+◌, ◌<◌, ◌≤◌, List, [], ◌∷◌, ◌++◌, get_or, length, replicate, reverse, take, Option, Some, None, cond, eqb, ◌⊎◌, inl, inr, refl, sym, ap, ◌∙◌, subst, arith, ℤ, pos, ◌+ℤ◌}
 use Rattle.std.specs.Prelude.{◌↔◌, IsSomeAnd, IsTrue, map, slice_get, slice_set, sum}
 use Rattle.std.specs.Option.{option_map}
 use Rattle.std.proofs.lemmas.Bool.Decides.{eqb_tells}
 use Rattle.std.proofs.lemmas.Int.{ints}
-use Rattle.std.proofs.lemmas.List.{get_or-set_same, get_or-set_other, length-append, length-replicate, length-set, reverse-reverse}
+use Rattle.std.proofs.lemmas.List.{get_or-set_same, get_or-set_other, get_or_past, length-append, length-replicate, reverse-reverse}
 use Rattle.std.proofs.lemmas.Option.{same_Some, get_or_from_slice_get, slice_get-map}
 use Rattle.std.proofs.Math.Nat.{mod-eq_of_lt}
 use Rattle.running.specs.Arithmetic.{signed, wrapped}
@@ -23,17 +23,15 @@ use Rattle.program.specs.declared.function.Function.{Function}
 use Rattle.program.specs.declared.function.Global.{Global as SharedCells}
 use Rattle.program.specs.declared.function.Program.{Program}
 use Rattle.program.specs.declared.identifier.ObjectName.TheVariants as object
-use Rattle.frame.specs.declared.frame.Role.TheVariants as role
-use Rattle.frame.specs.declared.frame.Wait.TheVariants as wait
 use Rattle.cactus.specs.declared.node.Node.{Node}
 use Rattle.cactus.specs.Frames.{Frames, node_at, IsAdded, Lives}
 use Rattle.cactus.specs.ByPath.{named, IsTree, Binds}
 use Rattle.cactus.proofs.ByPathLemmas.{not_named}
 use Rattle.engine.specs.declared.activation.Frame.{Frame}
 use Rattle.engine.specs.declared.activation.Places.{Places}
-use Rattle.engine.specs.Activation.{FrameFits, ShowsFrame, allocas_of, bases_in}
+use Rattle.engine.specs.Activation.{FrameFits, ShowsFrame, allocas_of}
 use Rattle.engine.specs.Flat.{cell_in, is_cell}
-use Rattle.engine.specs.Shows.{IsIn, Layout, ShowsBases, ShowsCells, ShowsRegisters, Stands, address}
+use Rattle.engine.specs.Shows.{IsIn, Layout, ShowsCells, ShowsRegisters, Stands, address}
 use Rattle.engine.specs.Starts.{starts_from}
 use Rattle.engine.proofs.Texts.{frame_stands, starts_block}
 use Rattle.crew.specs.declared.activation.Activation.{Activation}
@@ -43,8 +41,8 @@ use Rattle.crew.specs.Layouts.{alloca_at, layout_of, number_in}
 use Rattle.crew.specs.Rooms.{empty_at}
 use Rattle.crew.specs.Roots.{HasBlock, IsRoot, first_frame}
 use Rattle.crew.specs.Scheduling.{counted_in, hand_of}
-use Rattle.crew.specs.Shown.{Agrees, AreBeside, BlocksStand, IsBlockOf, IsShown, NodeFits, ShowsAt, ShowsMachine, hands_of, place_of}
-use Rattle.crew.specs.Starts.{ArePlaces, IsRowOf, row_start, sizes_in}
+use Rattle.crew.specs.Shown.{AreBeside, BlocksStand, IsBlockOf, IsShown, NodeFits, ShowsAt, hands_of, place_of}
+use Rattle.crew.specs.Starts.{ArePlaces, IsRowOf, sizes_in}
 use Rattle.crew.proofs.Roomy.{get_more, is_cell_at, vec_small}
 use Rattle.crew.proofs.Rows.{cells_are, first_row_address, global_size, row_address, same_place, size_in, size_is, sizes_of, small_number, start_below, start_in, starts_are, sum_more, wrapped_small}
 
@@ -55,6 +53,11 @@ starts_sum [] zero = refl
 starts_sum [] (suc n) = refl
 starts_sum (c ∷ cs) zero = refl
 starts_sum (c ∷ cs) (suc n) = sum_more c (take n cs) ∙ ap (λ (s : ℕ). c + s) (starts_sum cs n)
+
+start_at_most : (cells : List ℕ) (n : ℕ) → start_in cells n ≤ sum cells
+start_at_most [] n = omega arith
+start_at_most (c ∷ cs) zero = omega arith
+start_at_most (c ∷ cs) (suc n) = let r = start_at_most cs n in let s = sum_more c cs in omega (arith, r, s)
 
 -- where an object in a row begins, whether it has cells or not
 start_is : (sizes : List ℕ) (at n : ℕ) (w : ℤ) → at + sum sizes < 9223372036854775808 → slice_get (starts_from at sizes) n ≡ Some w → w ≡ pos (at + start_in sizes n)
@@ -81,10 +84,6 @@ arguments_shown l arguments regs held x v w hv hw =
     word_stands l (slice_get arguments x) v w (sym (slice_get-map (λ z. Word z) arguments x) ∙ hv) (λ z e. same_Some w z (sym hw ∙ held x z e))
 
 -- ---- nobody else
-
-no_item : (s : ℕ) → get_or {A = Option (Node Activation)} [] s None ≡ None
-no_item zero = refl
-no_item (suc s) = refl
 
 none_in : (workers v : ℕ) → get_or {A = Option ℕ} (replicate workers None) v None ≡ None
 none_in zero zero = refl
@@ -117,7 +116,7 @@ module _ (prog : Program) (arguments row : List ℤ) (f : Function) (workers slo
   root = record { generation = first.before.made; path = record { numbers = [] }; parent = None; frame = a }
 
   none_at : (s : ℕ) → node_at first.before s ≡ None
-  none_at s = ap (λ (l : List (Option (Node Activation))). get_or l s None) first.bare ∙ no_item s
+  none_at s = ap (λ (l : List (Option (Node Activation))). get_or l s None) first.bare ∙ get_or_past [] s None (omega arith)
 
   none_named : (numbers : List ℕ) → named first.before numbers ≡ None
   none_named numbers = not_named first.before numbers (λ s n here. absurd (let e : None ≡ Some n = sym (none_at s) ∙ here in cc))
@@ -229,12 +228,6 @@ module _ (prog : Program) (arguments row : List ℤ) (f : Function) (workers slo
       below c (of_global g i h) = let low = start_below sizes g i h in let long = items_long in let row_long = stands.long in omega (arith, low, long, row_long)
       below c (of_root x i h) = let low = start_below own x i h in let long = items_long in let same = own_sum in omega (arith, low, long, same)
 
-      home_is : a.frame.home ≡ pos home
-      home_is = ap (λ (x : Activation). x.frame.home) first.root.is
-
-      role_is : a.frame.role ≡ role.Body
-      role_is = ap (λ (x : Activation). x.frame.role) first.root.is
-
       own_at : (x : ℕ) → l.at (Local [] x) ≡ pos home +ℤ number_in (allocas_of places prog.main.0) x
       own_at x = ap (λ o. alloca_at places o x) binds.here ∙ ap (λ (y : Activation). alloca_at places (Some (record root { frame = y })) x) first.root.is
 
@@ -265,9 +258,7 @@ module _ (prog : Program) (arguments row : List ℤ) (f : Function) (workers slo
 
       held_global : (g i : ℕ) (z : ℤ) → memory (record { object = Shared g; index = i }) ≡ Some z → cell_in items (address l (record { object = Shared g; index = i })) ≡ Some z
       held_global g i z e =
-          let c : Cell = record { object = Shared g; index = i } in
-          let t : Lies c = lies c (within_global g i z e) in
-          let lies_at : address l c ≡ pos (start_in sizes g + i) = first_row_address sizes g i (number_in places.globals g) (ap (λ xs. number_in xs g) at.globals) globals_small (subst (λ (n : ℕ). i < n) (global_size prog.globals g) (within_global g i z e)) in
+          let lies_at : address l (record { object = Shared g; index = i }) ≡ pos (start_in sizes g + i) = first_row_address sizes g i (number_in places.globals g) (ap (λ xs. number_in xs g) at.globals) globals_small (subst (λ (n : ℕ). i < n) (global_size prog.globals g) (within_global g i z e)) in
           let read : slice_get row (start_in sizes g + i) ≡ Some z = ap (λ (n : ℕ). slice_get row (n + i)) (sym (starts_sum sizes g)) ∙ stands.held g i z e in
           ap (cell_in items) lies_at ∙ ap (λ (xs : List ℤ). slice_get xs (start_in sizes g + i)) first.cells ∙ get_more row (replicate (main_cells f) (pos 0)) (start_in sizes g + i) z read
 
@@ -296,16 +287,8 @@ module _ (prog : Program) (arguments row : List ℤ) (f : Function) (workers slo
       shared_base g w e =
           let less : 0 + sum sizes < 9223372036854775808 = (let low = globals_small in omega (arith, low)) in
           let start : w ≡ pos (0 + start_in sizes g) = start_is sizes 0 g w less (ap (λ (xs : List ℤ). slice_get xs g) (sym at.globals) ∙ e) in
-          let low : 0 + start_in sizes g < 9223372036854775808 = start_low in
+          let low : 0 + start_in sizes g < 9223372036854775808 = (let most = start_at_most sizes g in omega (arith, most, less)) in
           start ∙ sym (wrapped_small (0 + start_in sizes g) low) ∙ ap (wrapped Bits64) (sym start ∙ zero_more w) ∙ ap (λ z. wrapped Bits64 (z +ℤ pos 0)) (sym (get_or_from_slice_get places.globals g w (pos 0) e))
-        where
-          start_low : 0 + start_in sizes g < 9223372036854775808
-          start_low = let low = start_at_most sizes g in let all = globals_small in omega (arith, low, all)
-            where
-              start_at_most : (cells : List ℕ) (n : ℕ) → start_in cells n ≤ sum cells
-              start_at_most [] n = omega arith
-              start_at_most (c ∷ cs) zero = omega arith
-              start_at_most (c ∷ cs) (suc n) = let r = start_at_most cs n in let s = sum_more c cs in omega (arith, r, s)
 
       own_base : (x : ℕ) (z : ℤ) → slice_get (allocas_of places prog.main.0) x ≡ Some z → wrapped Bits64 (pos home +ℤ z) ≡ address l (first_cell (Local [] x))
       own_base x z e =

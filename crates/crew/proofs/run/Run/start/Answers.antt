@@ -1,4 +1,4 @@
-use Rattle.std.proofs.Common.{◌≡◌, ◌+◌, ◌++◌, ℕ, List, length, replicate, None, sym, ap, ◌∙◌, subst, arith, pos, ℤ, refl}
+use Rattle.std.proofs.Common.{◌≡◌, ◌+◌, ◌++◌, List, length, replicate, None, sym, ap, ◌∙◌, subst, arith, pos, refl}
 use Rattle.std.specs.Prelude.{map, sum}
 use Rattle.running.specs.Events as running
 use Rattle.program.specs.declared.function.Alloca.{Alloca}
