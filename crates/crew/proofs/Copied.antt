@@ -1,6 +1,6 @@
 -- A copy of a run shows what the run shows, and keeps what it keeps.
-use Rattle.std.proofs.Common.{◌≡◌, ℕ, zero, suc, ◌+◌, ◌<◌, ◌≤◌, List, [], ◌∷◌, ◌++◌, length, reverse, Option, Some, None, Bool, true, false, cond, inl, refl, sym, ap, ◌∙◌, subst, get_or, slice_get, arith, ℤ, ◌+ℤ◌}
-use Rattle.std.specs.Prelude.{IsSome, IsTrue, option_and_then}
+use Rattle.std.proofs.Common.{◌≡◌, ℕ, zero, suc, List, [], ◌∷◌, ◌++◌, length, reverse, Option, Some, None, Bool, true, false, cond, inl, refl, sym, ap, ◌∙◌, subst, get_or, slice_get, arith, ℤ, ◌+ℤ◌}
+use Rattle.std.specs.Prelude.{IsSome, option_and_then}
 use Rattle.std.specs.Option.{option_map, option_map_or}
 use Rattle.std.specs.List.{AllZip}
 use Rattle.slab.specs.Slab.{IsSlotClone}
@@ -13,7 +13,6 @@ use Rattle.running.specs.Events.{Machine}
 use Rattle.program.specs.declared.function.Program.{Program}
 use Rattle.program.specs.declared.identifier.BlockId.{BlockId}
 use Rattle.program.specs.declared.identifier.FunctionId.{FunctionId}
-use Rattle.frame.specs.declared.frame.Role.TheVariants as role
 use Rattle.frame.specs.declared.frame.Wait.{Wait}
 use Rattle.frame.specs.declared.frame.Wait.TheVariants as wait
 use Rattle.frame.specs.Reading.{wait_of}

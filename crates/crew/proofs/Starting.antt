@@ -9,7 +9,6 @@ use Rattle.std.proofs.lemmas.Option.{same_Some, get_or_from_slice_get, slice_get
 use Rattle.std.proofs.Math.Nat.{mod-eq_of_lt}
 use Rattle.running.specs.Arithmetic.{signed, wrapped}
 use Rattle.running.specs.Cells.{Cell, Memory, Object, Shared, Local, if_shared}
-use Rattle.running.specs.Frames as frames
 use Rattle.running.specs.Frames.{Value, Word, first_cell, global_cells}
 use Rattle.running.specs.Paths.{Path}
 use Rattle.running.specs.State.{root_frame}
@@ -22,7 +21,6 @@ use Rattle.program.specs.declared.function.Alloca.{Alloca}
 use Rattle.program.specs.declared.function.Function.{Function}
 use Rattle.program.specs.declared.function.Global.{Global as SharedCells}
 use Rattle.program.specs.declared.function.Program.{Program}
-use Rattle.program.specs.declared.identifier.ObjectName.TheVariants as object
 use Rattle.cactus.specs.declared.node.Node.{Node}
 use Rattle.cactus.specs.Frames.{Frames, node_at, IsAdded, Lives}
 use Rattle.cactus.specs.ByPath.{named, IsTree, Binds}

@@ -52,5 +52,5 @@ returns-clause-begins c =
       result = refl;
     } in
     λ places memory at stands.
-        subst (λ frames. IsShown prog places (running.start prog arguments memory) (begun frames)) (sym c.cactus.view_is)
-        (begin_shown prog arguments numbers.items f c.args.workers slot a (begun c.add_root.new.self) first c.requires.workers c.function_at-main.ensures (c.requires.entry f c.function_at-main.ensures) places memory at stands)
+    subst (λ frames. IsShown prog places (running.start prog arguments memory) (begun frames)) (sym c.cactus.view_is)
+    (begin_shown prog arguments numbers.items f c.args.workers slot a (begun c.add_root.new.self) first c.requires.workers c.function_at-main.ensures (c.requires.entry f c.function_at-main.ensures) places memory at stands)
