@@ -27,3 +27,5 @@ pub mod Following
 pub mod Leaving
 pub mod Cleared
 pub mod Returned
+mod Starting
+mod Copied

@@ -13,3 +13,5 @@ pub mod Stalls
 pub mod Lowest
 pub mod Events
 pub mod Starts
+pub mod Roots
+pub mod Copying

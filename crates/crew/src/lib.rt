@@ -11,6 +11,7 @@
 mod activation;
 mod call;
 mod clear;
+mod copies;
 mod detach;
 mod hands;
 mod lowest;
@@ -20,6 +21,7 @@ mod reattach;
 mod returning;
 mod room;
 mod run;
+mod start;
 mod steal;
 mod step;
 mod sync;
