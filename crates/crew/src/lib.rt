@@ -4,8 +4,8 @@
 //! An address is an index of the row: globals first, then blocks, one a slot. A function's frame has its allocas in its slot's block as long
 //! as it lives, so no path is walked for a cell, and a copy of a frame names the same cells.
 //!
-//! What stands: how a run is shown (`Shown`), what it rests on (`Going`), the step of a worker and the steal, with what they leave of slots
-//! (`Follows`) and of stalled frames (`Stalls`). Open: the start.
+//! The definitions tell how a run is shown (`Shown`), what it rests on (`Going`), how it begins (`Starts`), and what a step or a steal comes to
+//! (`Events`) and leaves of slots (`Follows`) and of stalled frames (`Stalls`).
 #![tactic(auto)]
 
 mod activation;
