@@ -35,6 +35,14 @@ module _ (prog : Program) (places : Places) (m next : Machine) (k : Run) (frames
         ((a : ℕ) → alloca_cells prog (next.core.frames q) a ≡ alloca_cells prog (m.core.frames q) a) →
         ((a : ℕ) → alloca_at places (named frames (reverse q)) a ≡ alloca_at places (named k.cactus (reverse q)) a) → Told q
 
+  pub told_at : (owner : Path) → Told owner → (a : ℕ) → alloca_at places (named frames (reverse owner)) a ≡ alloca_at places (named k.cactus (reverse owner)) a
+  told_at owner (alike f n) a = ap (λ o. alloca_at places o a) n
+  told_at owner (anew s cells at) a = at a
+
+  pub told_cells : (owner : Path) → Told owner → (a : ℕ) → alloca_cells prog (next.core.frames owner) a ≡ alloca_cells prog (m.core.frames owner) a
+  told_cells owner (alike f n) a = ap (λ o. alloca_cells prog o a) f
+  told_cells owner (anew s cells at) a = cells a
+
   -- how a node agrees with hands, counts and blocks
   pub record Holds (s : ℕ) (n : Node Activation) : Type 0 where
     pub runner : (v : ℕ) → (n.frame.runner ≡ Some v) ↔ (hand_of hands.items v ≡ Some s)
@@ -75,38 +83,27 @@ module _ (prog : Program) (places : Places) (m next : Machine) (k : Run) (frames
           block = a.blocks.owned s n kept.was;
         }
 
+    pub told_shown : (q : Path) → Told q → ShowsAt l places q (next.core.frames q) (named frames (reverse q))
+    told_shown q (alike f n) =
+        subst (λ (o : Option Shown). ShowsAt l places q o (named frames (reverse q))) (sym f)
+        (subst (λ (o : Option (Node Activation)). ShowsAt l places q (m.core.frames q) o) (sym n) (shown.shows.frames q))
+    told_shown q (anew s cells at) = s
+
     module _ (c : Changes) where
       at_stays : (o : Object) → object_at places frames o ≡ object_at places k.cactus o
       at_stays (Shared n) = refl
-      at_stays (Local owner a) = from (c.told owner)
-        where
-          from : Told owner → alloca_at places (named frames (reverse owner)) a ≡ alloca_at places (named k.cactus (reverse owner)) a
-          from (alike f n) = ap (λ o. alloca_at places o a) n
-          from (anew s cells at) = at a
+      at_stays (Local owner a) = told_at owner (c.told owner) a
 
       lives : (o : Object) → living prog next.core o ≡ living prog m.core o
       lives (Shared n) = refl
-      lives (Local owner a) = from (c.told owner)
-        where
-          from : Told owner → alloca_cells prog (next.core.frames owner) a ≡ alloca_cells prog (m.core.frames owner) a
-          from (alike f n) = ap (λ o. alloca_cells prog o a) f
-          from (anew s cells at) = cells a
+      lives (Local owner a) = told_cells owner (c.told owner) a
 
       layout_stays : layout_of prog places frames next.core ≡ l
       layout_stays = λ i. record { at = λ o. at_stays o i; cells = λ o. lives o i }
 
-      at_path : (q : Path) → ShowsAt l places q (next.core.frames q) (named frames (reverse q))
-      at_path q = from (c.told q)
-        where
-          from : Told q → ShowsAt l places q (next.core.frames q) (named frames (reverse q))
-          from (alike f n) =
-              subst (λ (o : Option Shown). ShowsAt l places q o (named frames (reverse q))) (sym f)
-              (subst (λ (o : Option (Node Activation)). ShowsAt l places q (m.core.frames q) o) (sym n) (shown.shows.frames q))
-          from (anew s cells at) = s
-
       machine_shown : ShowsMachine prog places next changed
       machine_shown = record {
-        frames = λ q. subst (λ (x : Layout). ShowsAt x places q (next.core.frames q) (named frames (reverse q))) (sym layout_stays) (at_path q);
+        frames = λ q. subst (λ (x : Layout). ShowsAt x places q (next.core.frames q) (named frames (reverse q))) (sym layout_stays) (told_shown q (c.told q));
         cells =
             let holds : ShowsCells l (is_cell k.cells.cells.items) (λ a z. cell_in k.cells.cells.items a ≡ Some z) next.core.memory = subst (λ x. ShowsCells l (is_cell k.cells.cells.items) (λ a z. cell_in k.cells.cells.items a ≡ Some z) x) (sym c.memory) shown.shows.cells in
             subst (λ (x : Layout). ShowsCells x (is_cell k.cells.cells.items) (λ a z. cell_in k.cells.cells.items a ≡ Some z) next.core.memory) (sym layout_stays) holds;

@@ -19,4 +19,13 @@ pub mod Calling
 pub mod Callee
 pub mod Called
 pub mod Lengths
+pub mod Uses
+pub mod Noted
+pub mod Growing
+pub mod Stepping
 pub mod Following
+pub mod Leaving
+pub mod Cleared
+pub mod Returned
+mod Starting
+mod Copied

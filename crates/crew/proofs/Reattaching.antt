@@ -1,5 +1,5 @@
 -- A reattach of the frame in a slot: the child ends, and its worker goes on with the parent or is idle.
-use Rattle.std.proofs.Common.{◌≡◌, ◌≢◌, ℕ, zero, suc, ◌+◌, ◌-◌, ◌<◌, List, [], ◌∷◌, ◌++◌, length, max, reverse, Option, Some, None, Bool, true, false, cond, ◌&&◌, eqb, eq-eqb, not, is_none, inl, inr, refl, sym, ap, ◌∙◌, subst, arith, ℤ, ◌+ℤ◌}
+use Rattle.std.proofs.Common.{◌≡◌, ◌≢◌, ℕ, zero, suc, ◌+◌, ◌-◌, ◌<◌, List, [], ◌∷◌, ◌++◌, length, max, reverse, Option, Some, None, Bool, true, false, cond, ◌&&◌, eqb, eq-eqb, not, inl, inr, refl, sym, ap, ◌∙◌, subst, arith, ℤ, ◌+ℤ◌}
 use Rattle.std.specs.Prelude.{◌↔◌, IsSome, pos, slice_get}
 use Rattle.std.specs.Option.{option_map_or}
 use Rattle.std.specs.Vec.{vec_len, with_item}
@@ -16,7 +16,7 @@ use Rattle.running.specs.Counts.{changed_at, count_of, counts_after, left_by, lo
 use Rattle.running.specs.Events as running
 use Rattle.running.specs.Events.{Machine, Step, event}
 use Rattle.running.proofs.Steps.{change_is, reattach, some_same}
-use Rattle.running.proofs.Places.{all_below_at, same_path_tells, same_path_apart, no_own_child, only_here, only_off}
+use Rattle.running.proofs.Places.{same_path_tells, same_path_apart, only_here, only_off}
 use Rattle.running.proofs.Actions.{reattach_is_child, same_path_itself}
 use Rattle.running.proofs.ChildCounts.{count_at, counted_none, none_counted, step_counts}
 use Rattle.program.specs.declared.function.Function.{Function}
@@ -31,7 +31,7 @@ use Rattle.frame.specs.declared.frame.Wait.TheVariants as wait
 use Rattle.frame.specs.Reading.{role_of, wait_of}
 use Rattle.cactus.specs.declared.node.Node.{Node}
 use Rattle.cactus.specs.Frames.{Frames, Lives, IsRemoved, frame_at, node_at}
-use Rattle.cactus.specs.ByPath.{named, Binds, IsBelow, IsLeaf, ShrinksMap}
+use Rattle.cactus.specs.ByPath.{named, Binds, IsBelow, ShrinksMap}
 use Rattle.cactus.specs.Lending.{with_frame}
 use Rattle.cactus.proofs.FramesLemmas.{node_at-with_frame, node_at-with_frame_other}
 use Rattle.cactus.proofs.ByPathLemmas.{written_binds}
@@ -48,11 +48,14 @@ use Rattle.crew.specs.Layouts.{alloca_at, alloca_cells, layout_of, number_in, ob
 use Rattle.crew.specs.Shown.{CalleeStands, HasTaker, IsBlockOf, IsShown, ShowsAt, ShowsNode, item_here, place_of}
 use Rattle.crew.specs.Forking.{resumed_by_child, resumed_unheld}
 use Rattle.crew.specs.Going.{CanStep, RunsSafely}
+use Rattle.crew.proofs.Leaving as leaving
+use Rattle.crew.proofs.Leaving.{remains, tested}
+pub use Rattle.crew.proofs.Leaving.{none_some}
 use Rattle.crew.proofs.Onward.{seen, standing}
 use Rattle.crew.proofs.Standing.{can_step, may_go_on}
 use Rattle.crew.proofs.Syncing.{LeadsTo, chosen}
 use Rattle.crew.proofs.Topmost.{holder_is, reverse_last}
-use Rattle.crew.proofs.Views.{frame_found, named_at_place}
+use Rattle.crew.proofs.Views.{named_at_place}
 use Rattle.crew.proofs.Changed.{Holds, Told, alike, anew, changed, changed_shown, kept_holds}
 use Rattle.crew.proofs.Handing.{hands_after, held_then, others_stay, seen_at, seen_then, taken_up}
 
@@ -62,21 +65,8 @@ reattaches_own : (f : Shown) (r n : ℕ) (o : Role) → TrapFree (reattaches f r
 reattaches_own f r n Body free = absurd cc
 reattaches_own f r n (Child x y) free = chosen (eqb x r && eqb y n) (Reattach r) f Unmatched free
 
-childless_if : (b : Bool) (c : Change) → IsSome (cond b (Some c) None) → b ≡ true
-childless_if true c e = refl
-childless_if false c e = absurd (cc)
-
 not_a_body : (x y : ℕ) → Child x y ≡ Body → ⊥
 not_a_body x y e = cc
-
-not_both : (b : Bool) → b ≡ true → b ≡ false → ⊥
-not_both b t f = let e : true ≡ false = sym t ∙ f in cc
-
-pub none_some : (x : ℕ) → None ≡ Some x → ⊥
-none_some x e = cc
-
-no_node : (x : Node Activation) → None ≡ Some x → ⊥
-no_node x e = cc
 
 free_runner : (x : Option ℕ) (t : Wait) (made left child region : ℕ) → resumed_by_child x t made left child region ≡ true → x ≡ None
 free_runner None t made left child region e = refl
@@ -193,7 +183,7 @@ module _ (prog : Program) (places : Places) (k : Run) (slot : ℕ) (node : Node 
   none =
       let some : IsSome (change_of_frame prog m.core p (Some g)) = subst (λ (o : Option Shown). IsSome (change_of_frame prog m.core p o)) is_g can.goes in
       let acted : IsSome (act m.core p g (action_of prog p g m.core.memory)) = subst (λ b. IsSome (cond b (act m.core p g (action_of prog p g m.core.memory)) None)) go some in
-      childless_if (childless m.core p g.made) (reattach_change p) (subst (λ x. IsSome (act m.core p g x)) acts acted)
+      tested (childless m.core p g.made) (Some (reattach_change p)) (subst (λ x. IsSome (act m.core p g x)) acts acted)
 
   pub done_room : k.instructions + 2 < 9223372036854775808
   done_room = let x = (safe []).counted in let y = shown.shows.done in omega (arith, x, y)
@@ -232,21 +222,6 @@ module _ (prog : Program) (places : Places) (k : Run) (slot : ℕ) (node : Node 
 
   -- ---- the frames
 
-  -- the child has no child
-  leaf : IsLeaf k.cactus slot
-  leaf x y here has =
-      let b : IsBelow k.cactus slot y.path.numbers = shown.agrees.tree.below x slot y here has in
-      let same : b.above ≡ node = some_same b.above node (sym b.stands ∙ stands) in
-      let place : place_of y ≡ b.number ∷ p = ap reverse b.is ∙ (reverse_last b.above.path.numbers b.number ∙ ap (λ (z : Node Activation). b.number ∷ place_of z) same) in
-      let y_seen = seen prog places k x y y.frame here m shown in
-      let lives : m.core.frames (b.number ∷ p) ≡ Some y_seen.frame = ap m.core.frames (sym place) ∙ y_seen.is in
-      let (h, up, lt) = (safe []).tree.has_parent b.number p y_seen.frame lives in
-      let one : h ≡ g = some_same h g (sym up ∙ is_g) in
-      let low : b.number < g.made = subst (λ (z : Shown). b.number < z.made) one lt in
-      let dead : is_none (m.core.frames (b.number ∷ p)) ≡ true = all_below_at g.made (λ j. is_none (m.core.frames (j ∷ p))) none b.number low in
-      let some : is_none (m.core.frames (b.number ∷ p)) ≡ false = ap is_none lives in
-      not_both (is_none (m.core.frames (b.number ∷ p))) dead some
-
   -- nobody calls the child
   not_called : (x : ℕ) (y : Node Activation) (number : ℕ) (register : Option RegisterId) (s : ℕ) (called : Node Activation) → node_at k.cactus x ≡ Some y → y.frame.frame.waits ≡ wait.Call number register → node_at k.cactus s ≡ Some called → called.path.numbers ≡ y.path.numbers ++ number ∷ [] → s ≢ slot
   not_called x y number register s called here calls there path e =
@@ -259,14 +234,10 @@ module _ (prog : Program) (places : Places) (k : Run) (slot : ℕ) (node : Node 
 
   module _ (within : w < length k.hands.items) (mid : Frames Activation) (removed : IsRemoved k.cactus mid slot) (shrinks : ShrinksMap k.cactus mid slot node) where
     abbrev binds : Binds k.cactus mid node.path.numbers None
-    binds = shrinks shown.agrees.tree leaf
+    binds = shrinks shown.agrees.tree (leaving.leaf prog places k slot node stands m shown (safe []).tree g is_g none)
 
     left_there : (x : ℕ) (y : Node Activation) → node_at mid x ≡ Some y → (x ≢ slot) × (node_at k.cactus x ≡ Some y)
-    left_there x y here =
-        elim (eqb_tells slot x) [
-          | inl h ↦ absurd (no_node y (sym removed.change.changed ∙ subst (λ z. node_at mid z ≡ Some y) (sym h.1) here))
-          | inr h ↦ ((λ e. h.1 (sym e)), sym (removed.change.others x (λ e. h.1 (sym e))) ∙ here)
-        ]
+    left_there = remains k.cactus mid slot removed
 
     -- where frames stand that are those of mid, but for one that is written
     module _ (frames : Frames Activation) (still : (x : ℕ) (y : Node Activation) → x ≢ slot → node_at k.cactus x ≡ Some y → (z : Node Activation) × (node_at frames x ≡ Some z) × (z.path ≡ y.path)) where
@@ -306,7 +277,7 @@ module _ (prog : Program) (places : Places) (k : Run) (slot : ℕ) (node : Node 
       at_root = ap reverse (shown.agrees.tree.root slot node stands root)
 
       still_mid : (x : ℕ) (y : Node Activation) → x ≢ slot → node_at k.cactus x ≡ Some y → (z : Node Activation) × (node_at mid x ≡ Some z) × (z.path ≡ y.path)
-      still_mid x y away here = (y, removed.change.others x away ∙ here, refl)
+      still_mid = leaving.still_there prog places k slot node stands m shown (safe []).tree mid removed
 
       counts_same : (x : Path) (y : ℕ) → count_of next.core x y ≡ count_of m.core x y
       counts_same x y = follow x y ∙ ap (λ z. left_by z r.0 (count_of m.core) x y) at_root
@@ -343,8 +314,8 @@ module _ (prog : Program) (places : Places) (k : Run) (slot : ℕ) (node : Node 
     -- ---- a child and its parent
 
     module _ (up : ℕ) (has : node.parent ≡ Some up) where
-      pub below : IsBelow k.cactus up node.path.numbers
-      below = shown.agrees.tree.below slot up node stands has
+      abbrev pub below : IsBelow k.cactus up node.path.numbers
+      below = leaving.below prog places k slot node stands m shown (safe []).tree mid removed up has
 
       abbrev above : Node Activation
       above = below.above
@@ -356,13 +327,13 @@ module _ (prog : Program) (places : Places) (k : Run) (slot : ℕ) (node : Node 
       pa = place_of above
 
       place : p ≡ number ∷ pa
-      place = ap reverse below.is ∙ reverse_last above.path.numbers number
+      place = leaving.place prog places k slot node stands m shown (safe []).tree mid removed up has
 
       apart : p ≢ pa
-      apart e = no_own_child number pa (sym place ∙ e)
+      apart = leaving.apart prog places k slot node stands m shown (safe []).tree mid removed up has
 
       up_away : up ≢ slot
-      up_away e = apart (let same : above ≡ node = some_same above node (sym below.stands ∙ (ap (node_at k.cactus) e ∙ stands)) in ap (λ (z : Node Activation). place_of z) (sym same))
+      up_away = leaving.up_away prog places k slot node stands m shown (safe []).tree mid removed up has
 
       abbrev h : Shown
       h = (seen prog places k up above above.frame below.stands m shown).frame
@@ -374,7 +345,7 @@ module _ (prog : Program) (places : Places) (k : Run) (slot : ℕ) (node : Node 
       shows_h = (seen prog places k up above above.frame below.stands m shown).shows.shown
 
       lives_below : m.core.frames (number ∷ pa) ≡ Some g
-      lives_below = ap m.core.frames (sym place) ∙ is_g
+      lives_below = leaving.lives_below prog places k slot node stands m shown (safe []).tree mid removed up has g is_g
 
       below_made : number < h.made
       below_made =
@@ -409,13 +380,13 @@ module _ (prog : Program) (places : Places) (k : Run) (slot : ℕ) (node : Node 
       last_is = subst (λ (xs : List ℕ). slice_get xs (length xs - 1) ≡ Some number) (sym below.is) (last_at above.path.numbers number)
 
       pub stays_mid : node_at mid up ≡ Some above
-      stays_mid = removed.change.others up up_away ∙ below.stands
+      stays_mid = leaving.stays_mid prog places k slot node stands m shown (safe []).tree mid removed up has
 
       pub lives_mid : Lives mid up
-      lives_mid = rw stays_mid refl
+      lives_mid = leaving.lives_mid prog places k slot node stands m shown (safe []).tree mid removed up has
 
       pub found_above : (found : Activation) → frame_at mid up ≡ Some found → above.frame ≡ found
-      found_above found is = frame_found mid up above stays_mid found is
+      found_above = leaving.found_above prog places k slot node stands m shown (safe []).tree mid removed up has
 
       module _ (c : Activation) (frame_is : c.frame ≡ above.frame.frame) (callee_is : c.callee ≡ above.frame.callee) (as_many : length c.counts.items ≡ length above.frame.counts.items)
           (counted : (x : ℕ) → counted_in c x ≡ cond (eqb r.0 x) (counted_in above.frame r.0 - 1) (counted_in above.frame x)) where
@@ -543,10 +514,10 @@ module _ (prog : Program) (places : Places) (k : Run) (slot : ℕ) (node : Node 
 
             holds_other : (x : ℕ) (y : Node Activation) → x ≢ up → node_at mid x ≡ Some y → HoldsAt x y
             holds_other x y away here =
-                let (gone_by, was) = left_there x y here in
+                let (off, was) = left_there x y here in
                 kept_holds prog places m next k frames k.peak (hands_after prog places m k shown slot node stands w hand within o) shown x y (record {
                   was = was;
-                  same_hands = others_stay prog places m k shown slot node stands w hand within o x gone_by (λ e. away (sym (one x e)));
+                  same_hands = others_stay prog places m k shown slot node stands w hand within o x off (λ e. away (sym (one x e)));
                   callee = callee_still frames still x y was y.frame.frame.waits refl y.frame.callee (shown.agrees.nodes x y was).callee;
                   counts = λ z. follow_up (place_of y) z ∙ rw (same_path_apart pa (place_of y) (λ e. away (shown.agrees.tree.distinct x up y above was below.stands (sym (reverse-reverse y.path.numbers) ∙ (ap reverse (sym e) ∙ reverse-reverse above.path.numbers))))) refl;
                 })

@@ -66,10 +66,10 @@ wrapped_pos : (n : ℕ) → wrapped Bits64 (pos n) ≡ signed Bits64 (n % 184467
 unfolding int_wrap
 wrapped_pos n = refl
 
-wrapped_small : (n : ℕ) → n < 9223372036854775808 → wrapped Bits64 (pos n) ≡ pos n
+pub wrapped_small : (n : ℕ) → n < 9223372036854775808 → wrapped Bits64 (pos n) ≡ pos n
 wrapped_small n small = int_wrap_fits w64 (pos n) (record { sfits = small })
 
-small_number : (n : ℕ) → n < 9223372036854775808 → signed Bits64 n ≡ pos n
+pub small_number : (n : ℕ) → n < 9223372036854775808 → signed Bits64 n ≡ pos n
 small_number n small =
     let low : n < 18446744073709551616 = omega (arith, small) in
     ap (signed Bits64) (sym (mod-eq_of_lt low)) ∙ sym (wrapped_pos n) ∙ wrapped_small n small

@@ -26,3 +26,9 @@ pub record Follows (old new : Frames Activation) : Type 0 where
 -- the generations of living frames were given out
 abbrev pub AreGiven : Frames Activation → Type 0
 AreGiven frames = (slot : ℕ) (node : Node Activation) → node_at frames slot ≡ Some node → node.generation < frames.made
+
+-- each frame stays in its use of a slot, and none begins or ends
+pub record KeepsUses (old new : Frames Activation) : Type 0 where
+  pub made : new.made ≡ old.made
+  pub back : (slot : ℕ) (node : Node Activation) → node_at new slot ≡ Some node → IsSameUse old slot node
+  pub on : (slot : ℕ) (node : Node Activation) → node_at old slot ≡ Some node → IsSameUse new slot node

@@ -6,8 +6,12 @@ pub mod Going
 pub mod Forking
 pub mod Rooms
 pub mod Calls
+pub mod Returns
 pub mod Follows
+pub mod Left
 pub mod Stalls
 pub mod Lowest
 pub mod Events
 pub mod Starts
+pub mod Roots
+pub mod Copying

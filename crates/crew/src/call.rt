@@ -1,5 +1,6 @@
-ghost use Rattle.std.specs.Prelude.{◌≡◌, ◌+◌, ◌<◌, ◌≤◌, ℕ, IfOk, OnErr, OnOk, Some, length, max, slice_get, vec_len};
+ghost use Rattle.std.specs.Prelude.{◌≡◌, ◌+◌, ◌<◌, ◌≤◌, true, ℕ, IfOk, OnErr, OnOk, Some, length, max, slice_get, vec_len};
 ghost use Rattle.running.specs.Paths.{Path};
+ghost use Rattle.running.specs.Events.{Step};
 ghost use Rattle.running.specs.Frames as frames;
 ghost use Rattle.running.specs.Frames.{Does};
 ghost use Rattle.running.specs.State.{waiting};
@@ -13,6 +14,8 @@ ghost use Rattle.engine.specs.Names.{HasArgument, sizes};
 ghost use Rattle.engine.specs.Shows.{Layout};
 ghost use Rattle.crew.specs.declared.activation.Activation.{Activation as Living};
 ghost use Rattle.crew.specs.Calls.{IsCallee, waiting_on};
+ghost use Rattle.crew.specs.Events.{Grows, LeavesStalls};
+ghost use Rattle.crew.specs.Follows.{Follows};
 ghost use Rattle.crew.specs.Scheduling.{hand_of};
 ghost use Rattle.crew.specs.Shown.{item_here};
 ghost use Rattle.crew.specs.Going.{DoesStep, KeepsShown, StandsSafely, TextFits};
@@ -122,7 +125,11 @@ impl Run {
             item_here program.now node.frame.frame ≡ Some (Does (instruction.Call register callee arguments.now)) }
         requires safe { StandsSafely program.now places.now self.old }
         ensures steps { OnOk result (DoesStep program.now places.now self.old self.new worker) }
+        ensures stalls { OnOk result (LeavesStalls program.now places.now self.old self.new (Step worker) true) }
+        ensures follows { Follows self.old.cactus self.new.cactus }
         ensures left { OnErr result (KeepsShown program.now places.now self.old self.new) }
+        ensures slots { OnErr result (self.new.cactus ≡ self.old.cactus) }
+        ensures grows { OnErr result (Grows program.now places.now self.old worker) }
         ensures hands { OnErr result (self.new.hands ≡ self.old.hands) }
         ensures workers { length self.new.hands.items ≡ length self.old.hands.items }
         ensures moves { self.new.moves ≡ self.old.moves }

@@ -1,10 +1,13 @@
-ghost use Rattle.std.specs.Prelude.{◌≡◌, ℕ, Some, length};
+ghost use Rattle.std.specs.Prelude.{◌≡◌, true, ℕ, Some, length};
+ghost use Rattle.running.specs.Events.{Step};
 ghost use Rattle.running.specs.Frames.{Does};
 ghost use Rattle.program.specs.declared.instruction.Instruction.TheVariants as instruction;
 ghost use Rattle.cactus.specs.Frames.{node_at};
 ghost use Rattle.cactus.specs.declared.node.Node.{Node};
 ghost use Rattle.engine.specs.Activation.{ProgramFits};
 ghost use Rattle.crew.specs.declared.activation.Activation.{Activation as Living};
+ghost use Rattle.crew.specs.Events.{LeavesStalls};
+ghost use Rattle.crew.specs.Follows.{KeepsUses};
 ghost use Rattle.crew.specs.Scheduling.{hand_of, IsHeld};
 ghost use Rattle.crew.specs.Shown.{item_here};
 ghost use Rattle.crew.specs.Going.{DoesStep, StandsSafely};
@@ -31,6 +34,9 @@ impl Run {
         requires safe { StandsSafely program.now places.now self.old }
         ensures steps { (worker : ℕ) → hand_of self.old.hands.items worker ≡ Some slot →
             DoesStep program.now places.now self.old self.new worker }
+        ensures stalls { (worker : ℕ) → hand_of self.old.hands.items worker ≡ Some slot →
+            LeavesStalls program.now places.now self.old self.new (Step worker) true }
+        ensures uses { KeepsUses self.old.cactus self.new.cactus }
         ensures hands { self.new.hands ≡ self.old.hands }
         ensures moves { self.new.moves ≡ self.old.moves }
     {

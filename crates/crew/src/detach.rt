@@ -1,5 +1,6 @@
-ghost use Rattle.std.specs.Prelude.{◌≡◌, ◌+◌, ◌<◌, ◌^◌, ℕ, cond, eqb, IfOk, None, OnErr, OnOk, Some, length, vec_len};
+ghost use Rattle.std.specs.Prelude.{◌≡◌, ◌+◌, ◌<◌, ◌^◌, ℕ, cond, eqb, true, IfOk, None, OnErr, OnOk, Some, length, vec_len};
 ghost use Rattle.running.specs.Paths.{Path};
+ghost use Rattle.running.specs.Events.{Step};
 ghost use Rattle.running.specs.Frames as frames;
 ghost use Rattle.running.specs.Frames.{Ends};
 ghost use Rattle.running.specs.State.{continued};
@@ -10,6 +11,8 @@ ghost use Rattle.cactus.specs.declared.node.Node.{Node};
 ghost use Rattle.engine.specs.Activation.{ShowsFrame};
 ghost use Rattle.engine.specs.Shows.{Layout};
 ghost use Rattle.crew.specs.declared.activation.Activation.{Activation as Living};
+ghost use Rattle.crew.specs.Events.{Grows, LeavesStalls};
+ghost use Rattle.crew.specs.Follows.{Follows};
 ghost use Rattle.crew.specs.Scheduling.{counted_in, hand_of};
 ghost use Rattle.crew.specs.Shown.{item_here};
 ghost use Rattle.crew.specs.Forking.{IsChildFrame};
@@ -92,7 +95,10 @@ impl Run {
             item_here program.now node.frame.frame ≡ Some (Ends (terminator.Detach region child continuation)) }
         requires safe { StandsSafely program.now places.now self.old }
         ensures steps { OnOk result (DoesStep program.now places.now self.old self.new worker) }
+        ensures stalls { OnOk result (LeavesStalls program.now places.now self.old self.new (Step worker) true) }
+        ensures follows { Follows self.old.cactus self.new.cactus }
         ensures left { OnErr result (self.new ≡ self.old) }
+        ensures grows { OnErr result (Grows program.now places.now self.old worker) }
         ensures workers { length self.new.hands.items ≡ length self.old.hands.items }
         ensures moves { self.new.moves ≡ self.old.moves }
     {

@@ -4,22 +4,26 @@
 //! An address is an index of the row: globals first, then blocks, one a slot. A function's frame has its allocas in its slot's block as long
 //! as it lives, so no path is walked for a cell, and a copy of a frame names the same cells.
 //!
-//! What stands: how a run is shown (`Shown`), what it rests on (`Going`), the plain step, the array store, the call, the detach, the reattach,
-//! the sync and the steal. Open: return and the start.
+//! The definitions tell how a run is shown (`Shown`), what it rests on (`Going`), how it begins (`Starts`), and what a step or a steal comes to
+//! (`Events`) and leaves of slots (`Follows`) and of stalled frames (`Stalls`).
 #![tactic(auto)]
 
 mod activation;
 mod call;
 mod clear;
+mod copies;
 mod detach;
 mod hands;
 mod lowest;
 mod moves;
 mod plain;
 mod reattach;
+mod returning;
 mod room;
 mod run;
+mod start;
 mod steal;
+mod step;
 mod sync;
 mod tops;
 

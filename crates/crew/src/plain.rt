@@ -1,13 +1,17 @@
-ghost use Rattle.std.specs.Prelude.{◌≡◌, ℕ, Some, length};
+ghost use Rattle.std.specs.Prelude.{◌≡◌, true, ℕ, Some, length};
+ghost use Rattle.running.specs.Events.{Step};
 ghost use Rattle.std.specs.Bool.{OnFalse, OnTrue};
 ghost use Rattle.cactus.specs.Frames.{node_at};
 ghost use Rattle.cactus.specs.declared.node.Node.{Node};
 ghost use Rattle.engine.specs.Activation.{ProgramFits};
 ghost use Rattle.engine.specs.Border.{IsBorderItem};
 ghost use Rattle.crew.specs.declared.activation.Activation.{Activation as Living};
+ghost use Rattle.crew.specs.Events.{LeavesStalls};
+ghost use Rattle.crew.specs.Follows.{KeepsUses};
 ghost use Rattle.crew.specs.Scheduling.{hand_of, IsHeld};
 ghost use Rattle.crew.specs.Shown.{item_here};
 ghost use Rattle.crew.specs.Going.{DoesStep, KeepsShown, StandsSafely};
+ghost use Rattle.crew.specs.Stalls.{KeepsStalls};
 
 use crate::run::Run;
 use engine::Places;
@@ -25,6 +29,10 @@ impl Run {
         ensures left { OnFalse result (KeepsShown program.now places.now self.old self.new) }
         ensures border { OnFalse result ((node : Node Living) → node_at self.new.cactus slot ≡ Some node →
             IsBorderItem (item_here program.now node.frame.frame)) }
+        ensures stalls { OnTrue result ((worker : ℕ) → hand_of self.old.hands.items worker ≡ Some slot →
+            LeavesStalls program.now places.now self.old self.new (Step worker) true) }
+        ensures stalled { OnFalse result (KeepsStalls self.old.cactus self.new.cactus) }
+        ensures uses { KeepsUses self.old.cactus self.new.cactus }
         ensures hands { self.new.hands ≡ self.old.hands }
         ensures moves { length self.new.moves.items ≡ length self.old.moves.items }
     {

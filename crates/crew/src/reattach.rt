@@ -1,10 +1,13 @@
-ghost use Rattle.std.specs.Prelude.{◌≡◌, ◌-◌, ◌<◌, ℕ, cond, eqb, Some, length, vec_len};
+ghost use Rattle.std.specs.Prelude.{◌≡◌, ◌-◌, ◌<◌, true, ℕ, cond, eqb, Some, length, vec_len};
+ghost use Rattle.running.specs.Events.{Step};
 ghost use Rattle.running.specs.Frames.{Ends};
 ghost use Rattle.program.specs.declared.identifier.BlockId.{BlockId as Continuation};
 ghost use Rattle.program.specs.declared.instruction.Terminator.TheVariants as terminator;
 ghost use Rattle.cactus.specs.Frames.{node_at};
 ghost use Rattle.cactus.specs.declared.node.Node.{Node};
 ghost use Rattle.crew.specs.declared.activation.Activation.{Activation as Living};
+ghost use Rattle.crew.specs.Events.{LeavesStalls};
+ghost use Rattle.crew.specs.Follows.{Follows};
 ghost use Rattle.crew.specs.Scheduling.{counted_in, hand_of};
 ghost use Rattle.crew.specs.Shown.{item_here};
 ghost use Rattle.crew.specs.Forking.{parent_of, resumed_by_child};
@@ -67,6 +70,8 @@ impl Run {
             (item_here program.now node.frame.frame ≡ Some (Ends (terminator.Reattach region continuation))) }
         requires safe { StandsSafely program.now places.now self.old }
         ensures steps { DoesStep program.now places.now self.old self.new worker }
+        ensures stalls { LeavesStalls program.now places.now self.old self.new (Step worker) true }
+        ensures follows { Follows self.old.cactus self.new.cactus }
         ensures workers { length self.new.hands.items ≡ length self.old.hands.items }
         ensures moves { self.new.moves ≡ self.old.moves }
     {

@@ -1,9 +1,12 @@
-ghost use Rattle.std.specs.Prelude.{◌≡◌, ◌<◌, ℕ, Some, length, vec_len};
+ghost use Rattle.std.specs.Prelude.{◌≡◌, ◌<◌, true, ℕ, Some, length, vec_len};
+ghost use Rattle.running.specs.Events.{Step};
 ghost use Rattle.running.specs.Frames.{Ends};
 ghost use Rattle.program.specs.declared.instruction.Terminator.TheVariants as terminator;
 ghost use Rattle.cactus.specs.Frames.{node_at};
 ghost use Rattle.cactus.specs.declared.node.Node.{Node};
 ghost use Rattle.crew.specs.declared.activation.Activation.{Activation as Living};
+ghost use Rattle.crew.specs.Events.{LeavesStalls};
+ghost use Rattle.crew.specs.Follows.{KeepsUses};
 ghost use Rattle.crew.specs.Scheduling.{hand_of};
 ghost use Rattle.crew.specs.Shown.{item_here};
 ghost use Rattle.crew.specs.Going.{DoesStep, StandsSafely, TextFits};
@@ -31,6 +34,8 @@ impl Run {
             item_here program.now node.frame.frame ≡ Some (Ends (terminator.Sync region target)) }
         requires safe { StandsSafely program.now places.now self.old }
         ensures steps { DoesStep program.now places.now self.old self.new worker }
+        ensures stalls { LeavesStalls program.now places.now self.old self.new (Step worker) true }
+        ensures uses { KeepsUses self.old.cactus self.new.cactus }
         ensures workers { length self.new.hands.items ≡ length self.old.hands.items }
         ensures moves { length self.new.moves.items ≡ length self.old.moves.items }
     {

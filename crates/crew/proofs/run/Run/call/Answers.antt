@@ -1,5 +1,5 @@
-use Rattle.std.proofs.Common.{rules, ◌≡◌, ◌+◌, ◌<◌, ℕ, List, [], length, max, Option, Some, None, refl, sym, ap, ◌∙◌, subst, arith}
-use Rattle.std.specs.Prelude.{Result, Ok, Err, OnErr, map, sum}
+use Rattle.std.proofs.Common.{rules, true, ◌≡◌, ◌+◌, ◌<◌, ℕ, List, [], length, max, Option, Some, None, refl, sym, ap, ◌∙◌, subst, arith}
+use Rattle.std.specs.Prelude.{map, sum}
 use Rattle.std.specs.Vec.{with_item}
 use Rattle.std.specs.Option.{option_copied, option_copied_mut}
 use Rattle.std.proofs.Math.Logic.{∥∥₁_elim}
@@ -9,7 +9,8 @@ use Rattle.running.specs.Paths.{Path}
 use Rattle.running.specs.Frames as frames
 use Rattle.running.specs.State.{waiting}
 use Rattle.program.specs.declared.function.Alloca.{Alloca}
-use Rattle.cactus.specs.Frames.{node_at}
+use Rattle.running.specs.Events.{Step}
+use Rattle.cactus.specs.Frames.{AddsChild, Frames, node_at}
 use Rattle.cactus.specs.Lending.{with_frame}
 use Rattle.engine.specs.declared.activation.Places.{Places}
 use Rattle.engine.specs.Shows.{Layout}
@@ -24,11 +25,12 @@ use Rattle.crew.proofs.Callee.{call_names}
 use Rattle.crew.proofs.Onward.{fits_prop}
 use Rattle.crew.proofs.Roomy.{room_shown}
 use Rattle.crew.proofs.Views.{node_tells}
+use Rattle.crew.specs.Follows.{Follows}
+use Rattle.crew.specs.Stalls.{NotesStalls}
+use Rattle.crew.proofs.Growing.{calling, on_err}
+use Rattle.crew.proofs.Noted.{calling_free, child_notes, run_free}
+use Rattle.crew.proofs.Uses.{child_follows, follows_same}
 use Rattle.crew.proofs.run.Run.call.Goals as goal
-
-on_err : {X E : Type 0} {P : Type 0} (r : Result X E) → P → OnErr r P
-on_err (Ok x) p = tt
-on_err (Err e) p = p
 
 abbrev Goes : Activation → Option RegisterId → ℕ → Type 0
 Goes a d child = (x : Layout) (at : Places) (q : Path) (h : frames.Frame) → ShowsFrame x at q h a.frame → ShowsFrame x at q (waiting h d) (waiting_on d child a).frame
@@ -187,3 +189,62 @@ returns-clause-steps c =
       instructions = r.instructions + 1;
       peak = max r.peak (n.frame.frame.depth + 1 + 1);
     }) c.args.worker) (sym waits) steps)
+
+pub returns-clause-stalls : goal.returns-clause-stalls
+returns-clause-stalls c = λ m shown safe.
+    let k = c.args.self.now in
+    let r = c.make_room.new.self in
+    let n = c.in-Some-node.node.now in
+    let slots = ap (λ (x : Run). x.cactus) c.make_room.ensures.roomier.only in
+    let at : node_at k.cactus c.args.slot ≡ Some n = ap (λ x. node_at x c.args.slot) (sym slots) ∙ sym c.node.ensures ∙ ap option_copied c.in-Some-node.is in
+    let b = c.in_ok-begun.begun in
+    let child = c.next_slot-child.result in
+    let waits = c.wait_for.new.self in
+    let adds = subst (λ (x : Frames Activation). AddsChild x c.push_call_in.new.self c.args.slot n.frame.frame.made b child) slots c.in_ok-push_call_in.ensures.ok in
+    let now = ap (λ (x : Run). x.cactus) c.set_hand.ensures ∙ (ap (λ (x : Run). x.cactus) c.count_call.ensures ∙ ap (λ (x : Run). x.cactus) c.give.ensures) in
+    subst (λ (x : Frames Activation). NotesStalls (Step c.args.worker) m k.cactus x true) (sym now)
+    (child_notes c.args.program.now c.args.places.now k c.args.slot n at m shown c.args.worker c.requires.hand c.push_call_in.new.self c.args.slot n.frame.frame.made b child adds
+    (run_free b c.args.worker (ap (λ (x : Activation). x.runner) c.in_ok-begun.ensures.is)) c.args.slot waits
+    (calling_free waits c.in-Some-frame_mut.caller.now.frame.made c.args.register (ap (λ (x : Activation). x.frame.waits) c.wait_for.ensures.is)))
+
+pub returns-clause-follows : goal.returns-clause-follows
+returns-clause-follows c =
+    let k = c.args.self.now in
+    let n = c.in-Some-node.node.now in
+    let slots = ap (λ (x : Run). x.cactus) c.make_room.ensures.roomier.only in
+    let b = c.in_ok-begun.begun in
+    let child = c.next_slot-child.result in
+    let adds = subst (λ (x : Frames Activation). AddsChild x c.push_call_in.new.self c.args.slot n.frame.frame.made b child) slots c.in_ok-push_call_in.ensures.ok in
+    let now = ap (λ (x : Run). x.cactus) c.set_hand.ensures ∙ (ap (λ (x : Run). x.cactus) c.count_call.ensures ∙ ap (λ (x : Run). x.cactus) c.give.ensures) in
+    subst (λ (x : Frames Activation). Follows k.cactus x) (sym now)
+    (child_follows k.cactus c.push_call_in.new.self c.args.slot n.frame.frame.made b child adds c.args.slot c.wait_for.new.self)
+
+pub returns-in_default-clause-follows : goal.returns-in_default-clause-follows
+returns-in_default-clause-follows c = follows_same c.args.self.now.cactus
+
+pub returns-in_default-clause-grows : goal.returns-in_default-clause-grows
+returns-in_default-clause-grows c = calling c.args.program.now c.args.places.now c.args.self.now c.args.slot c.args.worker c.requires.hand c.args.register c.args.callee c.args.arguments.now c.requires.item
+
+pub returns-in_err-block-clause-grows : goal.returns-in_err-block-clause-grows
+returns-in_err-block-clause-grows c = on_err c.from_residual.result (calling c.args.program.now c.args.places.now c.args.self.now c.args.slot c.args.worker c.requires.hand c.args.register c.args.callee c.args.arguments.now c.requires.item)
+
+pub returns-in_err-block-clause-follows : goal.returns-in_err-block-clause-follows
+returns-in_err-block-clause-follows c =
+    let slots = ap (λ (x : Run). x.cactus) c.make_room.ensures.roomier.only in
+    subst (λ (x : Frames Activation). Follows c.args.self.now.cactus x) (sym slots) (follows_same c.args.self.now.cactus)
+
+pub returns-in_err-begun-clause-grows : goal.returns-in_err-begun-clause-grows
+returns-in_err-begun-clause-grows c = on_err c.from_residual-in_err-begun.result (calling c.args.program.now c.args.places.now c.args.self.now c.args.slot c.args.worker c.requires.hand c.args.register c.args.callee c.args.arguments.now c.requires.item)
+
+pub returns-in_err-begun-clause-follows : goal.returns-in_err-begun-clause-follows
+returns-in_err-begun-clause-follows c =
+    let slots = ap (λ (x : Run). x.cactus) c.make_room.ensures.roomier.only in
+    subst (λ (x : Frames Activation). Follows c.args.self.now.cactus x) (sym slots) (follows_same c.args.self.now.cactus)
+
+pub returns-in_err-push_call_in-clause-grows : goal.returns-in_err-push_call_in-clause-grows
+returns-in_err-push_call_in-clause-grows c = on_err c.from_residual-in_err-push_call_in.result (calling c.args.program.now c.args.places.now c.args.self.now c.args.slot c.args.worker c.requires.hand c.args.register c.args.callee c.args.arguments.now c.requires.item)
+
+pub returns-in_err-push_call_in-clause-follows : goal.returns-in_err-push_call_in-clause-follows
+returns-in_err-push_call_in-clause-follows c =
+    let slots = ap (λ (x : Run). x.cactus) c.make_room.ensures.roomier.only in
+    subst (λ (x : Frames Activation). Follows c.args.self.now.cactus x) (sym (c.in_err-push_call_in.ensures.err ∙ slots)) (follows_same c.args.self.now.cactus)

@@ -1,12 +1,16 @@
-use Rattle.std.proofs.Common.{◌+◌, ◌<◌, [], refl, sym, ap, ◌∙◌, arith}
+use Rattle.std.proofs.Common.{◌+◌, ◌<◌, [], Some, refl, sym, ap, ◌∙◌, arith}
 use Rattle.std.proofs.Math.Logic.{∥∥₁_elim, ∥∥₁_map}
 use Rattle.std.proofs.Props.{props}
 use Rattle.std.specs.Option.{option_copied_mut}
+use Rattle.frame.specs.declared.frame.Wait.TheVariants as wait
 use Rattle.engine.specs.Activation.{FrameFits}
 use Rattle.engine.proofs.Texts.{clear_names}
 use Rattle.crew.proofs.Onward.{fits_prop, node_of, not_there, seen, standing}
 use Rattle.crew.proofs.Standing.{can_step}
 use Rattle.crew.proofs.Zeroing.{clear_safe, cleared}
+use Rattle.crew.specs.declared.activation.Activation.{Activation}
+use Rattle.crew.proofs.Noted.{own_notes, ready_free}
+use Rattle.crew.proofs.Uses.{written_uses}
 use Rattle.crew.proofs.run.Run.clear.Goals as goal
 
 pub unreachable-requires : goal.unreachable-requires
@@ -62,3 +66,14 @@ returns-clause-steps c = λ w hand m shown safe.
     let n = node_of c.args.self.now.cactus c.args.slot a (sym c.frame_mut.ensures.value ∙ ap option_copied_mut c.in-Some.is) in
     cleared c.args.program.now c.args.places.now c.args.self.now c.args.slot n.0 a n.1 m shown c.args.count c.args.object (c.requires.item (record n.0 { frame = a }) n.1) w hand safe
     c.clear.new.self c.in-Ok.ensures.only c.clear.new.cells _ refl (c.in-Ok.ensures.led c.args.program.now)
+
+pub returns-clause-stalls : goal.returns-clause-stalls
+returns-clause-stalls c = λ w hand m shown safe.
+    let k = c.args.self.now in
+    let a = c.in-Some.activation.now in
+    let n = node_of k.cactus c.args.slot a (sym c.frame_mut.ensures.value ∙ ap option_copied_mut c.in-Some.is) in
+    let after : Activation = record a { frame = record c.clear.new.self { waits = wait.Nothing } } in
+    own_notes c.args.program.now c.args.places.now k c.args.slot (record n.0 { frame = a }) n.1 m shown w hand after (ready_free after refl (Some a.frame.place.block.0))
+
+pub returns-clause-uses : goal.returns-clause-uses
+returns-clause-uses c = written_uses c.args.self.now.cactus c.args.slot _

@@ -1,9 +1,9 @@
-use Rattle.std.proofs.Common.{rules, [], ◌≡◌, ℕ, ◌+◌, ◌<◌, length, cond, eqb, None, Some, sym, ap, ◌∙◌, subst, arith}
+use Rattle.std.proofs.Common.{rules, [], true, ◌≡◌, ℕ, ◌+◌, ◌<◌, length, cond, eqb, None, Some, sym, ap, ◌∙◌, subst, arith}
 use Rattle.std.proofs.Math.Logic.{∥∥₁_elim}
 use Rattle.std.proofs.Props.{props}
 use Rattle.std.specs.Option.{option_copied, option_copied_mut}
 use Rattle.frame.specs.declared.frame.Wait.TheVariants as wait
-use Rattle.cactus.specs.Frames.{node_at}
+use Rattle.cactus.specs.Frames.{Frames, node_at}
 use Rattle.crew.specs.declared.activation.Activation.{Activation}
 use Rattle.crew.specs.declared.run.Run.{Run}
 use Rattle.std.specs.Vec.{vec_len}
@@ -13,6 +13,12 @@ use Rattle.crew.specs.Scheduling.{counted_in}
 use Rattle.crew.proofs.Views.{node_tells}
 use Rattle.crew.proofs.Detaching.{count_room, counts_region, depth_room, detach_shown, found_again, frames_room, made_room}
 use Rattle.crew.proofs.Syncing.{LeadsTo}
+use Rattle.running.specs.Events.{Step}
+use Rattle.crew.specs.Follows.{Follows}
+use Rattle.crew.specs.Stalls.{NotesStalls}
+use Rattle.crew.proofs.Growing.{detaching, on_err}
+use Rattle.crew.proofs.Noted.{child_notes, ready_free, run_free}
+use Rattle.crew.proofs.Uses.{child_follows, follows_same}
 use Rattle.crew.proofs.run.Run.detach.Goals as goal
 
 pub unreachable-requires : goal.unreachable-requires
@@ -96,3 +102,39 @@ returns-clause-steps c = λ m shown safe.
     (subst (λ (x : Activation). length left.counts.items ≡ length x.counts.items) (sym same) c.leave_behind.ensures.as_many)
     (subst (λ (x : Activation). (y : ℕ) → counted_in left y ≡ cond (eqb c.args.region.0 y) (counted_in x c.args.region.0 + 1) (counted_in x y)) (sym same) c.leave_behind.ensures.counted)
     c.max-self.result c.max-self.ensures)
+
+pub returns-clause-stalls : goal.returns-clause-stalls
+returns-clause-stalls c = λ m shown safe.
+    let k = c.args.self.now in
+    let node = c.in-Some.node.now in
+    let stands : node_at k.cactus c.args.slot ≡ Some node = sym c.node.ensures ∙ ap option_copied c.in-Some.is in
+    let left = c.leave_behind.new.self in
+    subst (λ (x : Run). NotesStalls (Step c.args.worker) m k.cactus x.cactus true) (sym c.set_hand.ensures)
+    (child_notes c.args.program.now c.args.places.now k c.args.slot node stands m shown c.args.worker c.requires.hand c.add_child.new.self c.args.slot node.frame.frame.made c.in_ok-begun.begun c.in_ok-begun_slot.begun_slot c.in_ok-begun_slot.ensures.ok
+    (run_free c.in_ok-begun.begun c.args.worker (ap (λ (x : Activation). x.runner) c.in_ok-begun.ensures.is)) c.args.slot left
+    (ready_free left (ap (λ (x : Frame). x.waits) c.leave_behind.ensures.frame)))
+
+pub returns-clause-follows : goal.returns-clause-follows
+returns-clause-follows c =
+    let k = c.args.self.now in
+    let node = c.in-Some.node.now in
+    subst (λ (x : Run). Follows k.cactus x.cactus) (sym c.set_hand.ensures)
+    (child_follows k.cactus c.add_child.new.self c.args.slot node.frame.frame.made c.in_ok-begun.begun c.in_ok-begun_slot.begun_slot c.in_ok-begun_slot.ensures.ok c.args.slot c.leave_behind.new.self)
+
+pub returns-in_err-frame-clause-grows : goal.returns-in_err-frame-clause-grows
+returns-in_err-frame-clause-grows c = on_err c.from_residual.result (detaching c.args.program.now c.args.places.now c.args.self.now c.args.slot c.args.worker c.requires.hand c.args.region c.args.child c.args.continuation c.requires.item)
+
+pub returns-in_err-frame-clause-follows : goal.returns-in_err-frame-clause-follows
+returns-in_err-frame-clause-follows c = follows_same c.args.self.now.cactus
+
+pub returns-in_err-begun-clause-grows : goal.returns-in_err-begun-clause-grows
+returns-in_err-begun-clause-grows c = on_err c.from_residual-in_err-begun.result (detaching c.args.program.now c.args.places.now c.args.self.now c.args.slot c.args.worker c.requires.hand c.args.region c.args.child c.args.continuation c.requires.item)
+
+pub returns-in_err-begun-clause-follows : goal.returns-in_err-begun-clause-follows
+returns-in_err-begun-clause-follows c = follows_same c.args.self.now.cactus
+
+pub returns-in_err-begun_slot-clause-grows : goal.returns-in_err-begun_slot-clause-grows
+returns-in_err-begun_slot-clause-grows c = on_err c.from_residual-in_err-begun_slot.result (detaching c.args.program.now c.args.places.now c.args.self.now c.args.slot c.args.worker c.requires.hand c.args.region c.args.child c.args.continuation c.requires.item)
+
+pub returns-in_err-begun_slot-clause-follows : goal.returns-in_err-begun_slot-clause-follows
+returns-in_err-begun_slot-clause-follows c = subst (λ (x : Frames Activation). Follows c.args.self.now.cactus x) (sym c.in_err-begun_slot.ensures.err) (follows_same c.args.self.now.cactus)

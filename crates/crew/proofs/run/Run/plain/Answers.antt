@@ -1,11 +1,16 @@
-use Rattle.std.proofs.Common.{rules, ◌+◌, ◌<◌, [], sym, ap, ◌∙◌, arith}
+use Rattle.std.proofs.Common.{rules, ◌+◌, ◌<◌, [], Some, refl, sym, ap, ◌∙◌, arith}
 use Rattle.std.proofs.Math.Logic.{∥∥₁_elim, ∥∥₁_map}
 use Rattle.std.proofs.Props.{props}
 use Rattle.std.specs.Option.{option_copied_mut}
 use Rattle.std.specs.Vec.{with_items}
+use Rattle.frame.specs.declared.frame.Wait.TheVariants as wait
+use Rattle.engine.specs.declared.activation.Frame.{Frame}
+use Rattle.crew.specs.declared.activation.Activation.{Activation}
 use Rattle.crew.specs.Layouts.{layout_of}
 use Rattle.crew.specs.Shown.{place_of}
 use Rattle.crew.proofs.Onward.{fits_prop, left_shown, node_of, not_there, safe_standing, seen, stays, step_shown}
+use Rattle.crew.proofs.Noted.{own_notes, ready_free, written_keeps_one}
+use Rattle.crew.proofs.Uses.{written_uses}
 use Rattle.crew.proofs.run.Run.plain.Goals as goal
 
 pub unreachable-requires : goal.unreachable-requires
@@ -57,3 +62,26 @@ returns-clause-stepped c = λ w hand m shown safe.
     (c.advance-pause.ensures.led (layout_of prog places k.cactus m.core) (place_of (record n.0 { frame = a })) g.frame m.core.memory g.shows.shown shown.shows.cells (stays prog places k c.args.slot n.0 a n.1 m shown w hand safe))
     (search rules)
     c.advance-pause.ensures.room
+
+pub returns-clause-stalls : goal.returns-clause-stalls
+returns-clause-stalls c = λ w hand m shown safe.
+    let k = c.args.self.now in
+    let a = c.in-Some.activation.now in
+    let n = node_of k.cactus c.args.slot a (sym c.frame_mut.ensures.value ∙ ap option_copied_mut c.in-Some.is) in
+    let after : Activation = record a { frame = record c.advance-pause.new.self { waits = wait.Nothing } } in
+    own_notes c.args.program.now c.args.places.now k c.args.slot (record n.0 { frame = a }) n.1 m shown w hand after (ready_free after refl (Some a.frame.place.block.0))
+
+pub returns-then-self-before-clause-stalled : goal.returns-then-self-before-clause-stalled
+returns-then-self-before-clause-stalled c =
+    let k = c.args.self.now in
+    let a = c.in-Some.activation.now in
+    let n = node_of k.cactus c.args.slot a (sym c.frame_mut.ensures.value ∙ ap option_copied_mut c.in-Some.is) in
+    let waits = ap (λ (x : Frame). x.waits) c.advance-pause.ensures.only in
+    written_keeps_one k.cactus c.args.slot (record n.0 { frame = a }) n.1 (record a { frame = c.advance-pause.new.self })
+    (record { runner = refl; waits = waits; block = refl })
+
+pub returns-clause-uses : goal.returns-clause-uses
+returns-clause-uses c = written_uses c.args.self.now.cactus c.args.slot _
+
+pub returns-then-self-before-clause-uses : goal.returns-then-self-before-clause-uses
+returns-then-self-before-clause-uses c = written_uses c.args.self.now.cactus c.args.slot _

@@ -1,4 +1,4 @@
-use Rattle.std.proofs.Common.{rules, [], ◌≡◌, ℕ, ◌+◌, ◌-◌, ◌<◌, List, length, None, Some, sym, ap, ◌∙◌, subst, arith}
+use Rattle.std.proofs.Common.{rules, [], true, ◌≡◌, ℕ, ◌+◌, ◌-◌, ◌<◌, List, length, None, Some, sym, ap, ◌∙◌, subst, arith}
 use Rattle.std.specs.Prelude.{slice_get}
 use Rattle.std.specs.Option.{option_copied, option_copied_mut}
 use Rattle.std.specs.Vec.{vec_len, with_item}
@@ -6,16 +6,21 @@ use Rattle.std.proofs.Math.Logic.{∥∥₁_elim}
 use Rattle.std.proofs.Props.{props}
 use Rattle.running.proofs.Steps.{some_same}
 use Rattle.cactus.specs.declared.node.Node.{Node}
-use Rattle.cactus.specs.Frames.{node_at}
+use Rattle.running.specs.Events.{Step}
+use Rattle.cactus.specs.Frames.{frame_at, node_at}
 use Rattle.cactus.specs.ByPath.{ShrinksMap}
 use Rattle.cactus.specs.Lending.{with_frame}
 use Rattle.crew.specs.declared.activation.Activation.{Activation}
 use Rattle.crew.specs.declared.run.Run.{Run}
 use Rattle.crew.specs.Scheduling.{counted_in}
 use Rattle.crew.proofs.Onward.{not_there}
-use Rattle.crew.proofs.Views.{node_tells}
+use Rattle.crew.proofs.Views.{frame_found, node_tells}
 use Rattle.crew.proofs.Syncing.{LeadsTo}
 use Rattle.crew.proofs.Reattaching.{counted_room, found_above, goes_on, last_is, lives_mid, living_room, made_room, none_some, root_ends, stops}
+use Rattle.crew.specs.Follows.{Follows}
+use Rattle.crew.specs.Stalls.{NotesStalls}
+use Rattle.crew.proofs.Noted.{end_notes, last_notes, run_free, stalled_alike}
+use Rattle.crew.proofs.Uses.{end_follows, removed_follows}
 use Rattle.crew.proofs.run.Run.reattach.Goals as goal
 
 pub unreachable-requires : goal.unreachable-requires
@@ -140,3 +145,52 @@ returns-clause-steps c = λ m shown safe.
     (stops c.args.program.now c.args.places.now k c.args.slot node stands m shown c.args.region it.0 it.1 c.args.worker c.requires.hand safe (search rules) c.remove-child.new.self c.remove-child.ensures.rest shrinks c.in-Some-above.parent c.in-Some-above.is
     c.in-Some-frame_mut.activation.now c.lose_child.new.self found c.in-Some-last.number last c.lose_child.result
     (record { only = c.lose_child.ensures.only; as_many = c.lose_child.ensures.as_many; counted = c.lose_child.ensures.counted; resumed = c.lose_child.ensures.resumed }) c.if-lose_child.false)
+
+pub returns-in_default-above-clause-stalls : goal.returns-in_default-above-clause-stalls
+returns-in_default-above-clause-stalls c = λ m shown safe.
+    let k = c.args.self.now in
+    let node = c.in-Some.node.now in
+    let stands : node_at k.cactus c.args.slot ≡ Some node = sym c.node.ensures ∙ ap option_copied c.in-Some.is in
+    subst (λ (x : Run). NotesStalls (Step c.args.worker) m k.cactus x.cactus true) (sym c.set_hand.ensures)
+    (last_notes c.args.program.now c.args.places.now k c.args.slot node stands m shown c.args.worker c.requires.hand c.remove-child.new.self c.args.slot c.remove-child.ensures.rest)
+
+pub returns-then-lose_child-clause-stalls : goal.returns-then-lose_child-clause-stalls
+returns-then-lose_child-clause-stalls c = λ m shown safe.
+    let k = c.args.self.now in
+    let node = c.in-Some.node.now in
+    let stands : node_at k.cactus c.args.slot ≡ Some node = sym c.node.ensures ∙ ap option_copied c.in-Some.is in
+    let goes = c.run_by.new.self in
+    subst (λ (x : Run). NotesStalls (Step c.args.worker) m k.cactus x.cactus true) (sym c.set_hand-then-lose_child.ensures)
+    (end_notes c.args.program.now c.args.places.now k c.args.slot node stands m shown c.args.worker c.requires.hand c.remove-child.new.self c.args.slot c.remove-child.ensures.rest c.in-Some-above.parent goes
+    (λ n here last h. run_free goes c.args.worker (ap (λ (x : Activation). x.runner) c.run_by.ensures) last))
+
+pub returns-clause-stalls : goal.returns-clause-stalls
+returns-clause-stalls c = λ m shown safe.
+    let k = c.args.self.now in
+    let node = c.in-Some.node.now in
+    let stands : node_at k.cactus c.args.slot ≡ Some node = sym c.node.ensures ∙ ap option_copied c.in-Some.is in
+    let lost = c.lose_child.new.self in
+    let found : frame_at c.remove-child.new.self c.in-Some-above.parent ≡ Some c.in-Some-frame_mut.activation.now = sym c.frame_mut.ensures.value ∙ ap option_copied_mut c.in-Some-frame_mut.is in
+    subst (λ (x : Run). NotesStalls (Step c.args.worker) m k.cactus x.cactus true) (sym c.set_hand-else-lose_child.ensures)
+    (end_notes c.args.program.now c.args.places.now k c.args.slot node stands m shown c.args.worker c.requires.hand c.remove-child.new.self c.args.slot c.remove-child.ensures.rest c.in-Some-above.parent lost
+    (λ n here. let was = frame_found c.remove-child.new.self c.in-Some-above.parent n here c.in-Some-frame_mut.activation.now found in
+    let like = c.lose_child.ensures.only in
+    stalled_alike n.frame lost (record {
+      runner = ap (λ (x : Activation). x.runner) like ∙ ap (λ (x : Activation). x.runner) (sym was);
+      waits = ap (λ (x : Activation). x.frame.waits) like ∙ ap (λ (x : Activation). x.frame.waits) (sym was);
+      block = ap (λ (x : Activation). x.stalled_in) like ∙ ap (λ (x : Activation). x.stalled_in) (sym was);
+    })))
+
+pub returns-in_default-above-clause-follows : goal.returns-in_default-above-clause-follows
+returns-in_default-above-clause-follows c =
+    subst (λ (x : Run). Follows c.args.self.now.cactus x.cactus) (sym c.set_hand.ensures) (removed_follows c.args.self.now.cactus c.remove-child.new.self c.args.slot c.remove-child.ensures.rest)
+
+pub returns-then-lose_child-clause-follows : goal.returns-then-lose_child-clause-follows
+returns-then-lose_child-clause-follows c =
+    subst (λ (x : Run). Follows c.args.self.now.cactus x.cactus) (sym c.set_hand-then-lose_child.ensures)
+    (end_follows c.args.self.now.cactus c.remove-child.new.self c.args.slot c.remove-child.ensures.rest c.in-Some-above.parent c.run_by.new.self)
+
+pub returns-clause-follows : goal.returns-clause-follows
+returns-clause-follows c =
+    subst (λ (x : Run). Follows c.args.self.now.cactus x.cactus) (sym c.set_hand-else-lose_child.ensures)
+    (end_follows c.args.self.now.cactus c.remove-child.new.self c.args.slot c.remove-child.ensures.rest c.in-Some-above.parent c.lose_child.new.self)

@@ -1,7 +1,8 @@
 use Rattle.std.proofs.Common.{Option, ℕ, Some, None, false, subst, refl}
 use Rattle.crew.specs.Tasks.{FindsTop}
-use Rattle.crew.proofs.Following.{follows_same, steal_follows, steal_stalls}
+use Rattle.crew.proofs.Following.{steal_follows, steal_stalls}
 use Rattle.crew.proofs.Stealing.{steals, did_by, nothing}
+use Rattle.crew.proofs.Uses.{follows_same}
 use Rattle.crew.proofs.run.Run.steal.Goals as goal
 
 pub returns-in-Some-clause-steals : goal.returns-in-Some-clause-steals

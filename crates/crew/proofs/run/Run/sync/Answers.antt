@@ -1,13 +1,19 @@
-use Rattle.std.proofs.Common.{rules, ◌+◌, ◌<◌, [], None, Some, ℤ, List, length, refl, sym, ap, ◌∙◌, subst, arith}
+use Rattle.std.proofs.Common.{rules, ◌+◌, ◌<◌, [], true, None, Some, ℤ, List, length, refl, sym, ap, ◌∙◌, subst, arith}
 use Rattle.std.specs.Vec.{with_items}
 use Rattle.std.proofs.Math.Logic.{∥∥₁_elim}
 use Rattle.std.proofs.Props.{props}
 use Rattle.std.specs.Option.{option_copied_mut}
+use Rattle.running.specs.Events.{Step}
 use Rattle.engine.specs.Activation.{FrameFits}
 use Rattle.crew.specs.declared.run.Run.{Run}
 use Rattle.engine.proofs.Texts.{sync_edge}
 use Rattle.crew.proofs.Onward.{fits_prop, node_of, not_there}
 use Rattle.crew.proofs.Syncing.{LeadsTo, counts_region, counted_is, passes, stalls}
+use Rattle.crew.specs.declared.activation.Activation.{Activation}
+use Rattle.crew.specs.Follows.{KeepsUses}
+use Rattle.crew.specs.Stalls.{NotesStalls}
+use Rattle.crew.proofs.Noted.{own_notes, run_free}
+use Rattle.crew.proofs.Uses.{written_uses}
 use Rattle.crew.proofs.run.Run.sync.Goals as goal
 
 pub unreachable-requires : goal.unreachable-requires
@@ -65,3 +71,28 @@ returns-in-Stall-clause-steps c = λ m shown safe.
     (stalls c.args.program.now c.args.places.now k c.args.slot n.0 a n.1 m shown c.args.region c.args.target item c.args.worker c.requires.hand safe _ c.requires.text
     (record a { frame = c.sync.new.self; runner = None; stalled_in = Some a.frame.place.block }) c.sync.ensures.only c.sync.ensures.registers refl refl c.sync.ensures.shown (with_items k.moves c.sync.new.moves)
     refl (λ none. let pass = c.at_sync-passage.ensures.1 (sym counted ∙ none) in let stall = c.in-Stall.is in cc) (search rules))
+
+pub returns-in-Pass-clause-stalls : goal.returns-in-Pass-clause-stalls
+returns-in-Pass-clause-stalls c = λ m shown safe.
+    let k = c.args.self.now in
+    let a = c.in-Some.top.now in
+    let n = node_of k.cactus c.args.slot a (sym c.frame_mut.ensures.value ∙ ap option_copied_mut c.in-Some.is) in
+    let after : Activation = record a { frame = c.sync.new.self } in
+    let runs = (shown.agrees.runners c.args.slot c.args.worker (record n.0 { frame = a }) n.1).1 c.requires.hand in
+    own_notes c.args.program.now c.args.places.now k c.args.slot (record n.0 { frame = a }) n.1 m shown c.args.worker c.requires.hand after (run_free after c.args.worker runs (Some a.frame.place.block.0))
+
+-- it is stalled in the block of its sync
+pub returns-in-Stall-clause-stalls : goal.returns-in-Stall-clause-stalls
+returns-in-Stall-clause-stalls c = λ m shown safe.
+    let k = c.args.self.now in
+    let a = c.in-Some.top.now in
+    let n = node_of k.cactus c.args.slot a (sym c.frame_mut.ensures.value ∙ ap option_copied_mut c.in-Some.is) in
+    let after : Activation = record a { frame = c.sync.new.self; runner = None; stalled_in = Some a.frame.place.block } in
+    subst (λ (x : Run). NotesStalls (Step c.args.worker) m k.cactus x.cactus true) (sym c.set_hand.ensures)
+    (own_notes c.args.program.now c.args.places.now k c.args.slot (record n.0 { frame = a }) n.1 m shown c.args.worker c.requires.hand after (λ region unheld waits. refl))
+
+pub returns-in-Pass-clause-uses : goal.returns-in-Pass-clause-uses
+returns-in-Pass-clause-uses c = written_uses c.args.self.now.cactus c.args.slot _
+
+pub returns-in-Stall-clause-uses : goal.returns-in-Stall-clause-uses
+returns-in-Stall-clause-uses c = subst (λ (x : Run). KeepsUses c.args.self.now.cactus x.cactus) (sym c.set_hand.ensures) (written_uses c.args.self.now.cactus c.args.slot _)
