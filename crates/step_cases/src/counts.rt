@@ -1,4 +1,5 @@
 //! The count of a region's children, step by step.
+ghost use Rattle.std.specs.Prelude.{◌≡◌};
 
 use cases::Report;
 use std::io;
@@ -6,7 +7,9 @@ use std::io::Write;
 use sync_join::{Outcome, Parent, Passage, RegionCount};
 
 /// The count of a region with two children.
-fn two_children() -> RegionCount {
+fn two_children() -> RegionCount
+    ensures { result.living ≡ 2 }
+{
     let mut count = RegionCount::NONE;
     count.opened();
     count.opened();

@@ -35,9 +35,10 @@ fn main(rt: HostRuntime) -> anyhow::Result<ExitCode> {
     let pair = verified_file(&rt, state, "examples/pair.ll")?;
     let parallel_for = verified_file(&rt, state, "examples/parallel-for.ll")?;
     let fib = verified_file(&rt, state, "examples/fib.ll")?;
+    let rows = fs::read_to_string(&rt, "traps.txt")?;
     let mut report = Report::new(alloc, BufWriter::new(alloc, io::writer(&rt))?);
     counts::answer(&mut report)?;
-    traps::answer(alloc, &parallel_for, &fib, &mut report)?;
+    traps::answer(alloc, rows.as_str(), &parallel_for, &fib, &mut report)?;
     machines::answer(alloc, &pair, &parallel_for, &mut report)?;
     debugging::answer(alloc, &parallel_for, &mut report)?;
     Ok(report.finish()?)

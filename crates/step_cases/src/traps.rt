@@ -8,169 +8,54 @@ use std::alloc::Global;
 use std::io;
 use std::io::Write;
 
-/// Whether an operator meets a trap.
-fn is_trapped(operator: BinaryOperator, width: Width, values: (i64, i64), trap: Trap) -> bool {
-    binary(operator, width, values.0, values.1).err() == Some(trap)
+/// The operator of a name.
+fn operator_of(name: &str) -> Option<BinaryOperator> {
+    Some(match name {
+        "sdiv" => BinaryOperator::SignedDivide,
+        "udiv" => BinaryOperator::UnsignedDivide,
+        "srem" => BinaryOperator::SignedRemainder,
+        "urem" => BinaryOperator::UnsignedRemainder,
+        "shl" => BinaryOperator::ShiftLeft,
+        "lshr" => BinaryOperator::LogicalShiftRight,
+        "ashr" => BinaryOperator::ArithmeticShiftRight,
+        "add-nsw" => BinaryOperator::AddNoWrap,
+        "sub-nsw" => BinaryOperator::SubtractNoWrap,
+        "mul-nsw" => BinaryOperator::MultiplyNoWrap,
+        _ => return None,
+    })
 }
 
-fn answer_divisors<W: Write + Drop>(report: &mut Report<W>) -> io::Result<()> {
-    report.title("divisors")?;
-    for (name, operator, width, values) in [
-        (
-            "sdiv i64 by 0",
-            BinaryOperator::SignedDivide,
-            Width::Bits64,
-            (7, 0),
-        ),
-        (
-            "sdiv i32 by 0",
-            BinaryOperator::SignedDivide,
-            Width::Bits32,
-            (7, 0),
-        ),
-        (
-            "udiv i64 by 0",
-            BinaryOperator::UnsignedDivide,
-            Width::Bits64,
-            (7, 0),
-        ),
-        (
-            "udiv i32 by 0",
-            BinaryOperator::UnsignedDivide,
-            Width::Bits32,
-            (7, 0),
-        ),
-        (
-            "srem i64 by 0",
-            BinaryOperator::SignedRemainder,
-            Width::Bits64,
-            (7, 0),
-        ),
-        (
-            "srem i32 by 0",
-            BinaryOperator::SignedRemainder,
-            Width::Bits32,
-            (7, 0),
-        ),
-        (
-            "urem i64 by 0",
-            BinaryOperator::UnsignedRemainder,
-            Width::Bits64,
-            (7, 0),
-        ),
-        (
-            "urem i32 by 0",
-            BinaryOperator::UnsignedRemainder,
-            Width::Bits32,
-            (7, 0),
-        ),
-    ] {
-        let is_met = is_trapped(operator, width, values, Trap::BadDivisor);
-        report.holds(name, is_met)?;
+fn width_of(name: &str) -> Option<Width> {
+    match name {
+        "i32" => Some(Width::Bits32),
+        "i64" => Some(Width::Bits64),
+        _ => None,
     }
-    Ok(())
 }
 
-fn answer_least<W: Write + Drop>(report: &mut Report<W>) -> io::Result<()> {
-    report.title("the least number by -1")?;
-    for (name, operator, width, values) in [
-        (
-            "sdiv i64 of the least number by -1",
-            BinaryOperator::SignedDivide,
-            Width::Bits64,
-            (i64::MIN, -1),
-        ),
-        (
-            "sdiv i32 of the least number by -1",
-            BinaryOperator::SignedDivide,
-            Width::Bits32,
-            (-2_147_483_648, -1),
-        ),
-        (
-            "srem i64 of the least number by -1",
-            BinaryOperator::SignedRemainder,
-            Width::Bits64,
-            (i64::MIN, -1),
-        ),
-        (
-            "srem i32 of the least number by -1",
-            BinaryOperator::SignedRemainder,
-            Width::Bits32,
-            (-2_147_483_648, -1),
-        ),
-    ] {
-        let is_met = is_trapped(operator, width, values, Trap::BadDivisor);
-        report.holds(name, is_met)?;
+fn trap_of(name: &str) -> Option<Trap> {
+    match name {
+        "divisor" => Some(Trap::BadDivisor),
+        "undefined" => Some(Trap::Undefined),
+        _ => None,
     }
-    Ok(())
 }
 
-fn answer_shifts<W: Write + Drop>(report: &mut Report<W>) -> io::Result<()> {
-    report.title("shifts by the width")?;
-    for (name, operator, width, values) in [
-        ("shl i64", BinaryOperator::ShiftLeft, Width::Bits64, (1, 64)),
-        ("shl i32", BinaryOperator::ShiftLeft, Width::Bits32, (1, 32)),
-        (
-            "lshr i64",
-            BinaryOperator::LogicalShiftRight,
-            Width::Bits64,
-            (1, 64),
-        ),
-        (
-            "lshr i32",
-            BinaryOperator::LogicalShiftRight,
-            Width::Bits32,
-            (1, 32),
-        ),
-        (
-            "ashr i64",
-            BinaryOperator::ArithmeticShiftRight,
-            Width::Bits64,
-            (1, 64),
-        ),
-        (
-            "ashr i32",
-            BinaryOperator::ArithmeticShiftRight,
-            Width::Bits32,
-            (1, 32),
-        ),
-    ] {
-        let is_met = is_trapped(operator, width, values, Trap::Undefined);
-        report.holds(name, is_met)?;
-    }
-    Ok(())
+/// Whether the operator of a row (operator, width, two numbers, trap) meets its trap.
+fn is_met(row: &str) -> Option<bool> {
+    let mut words = row.split(' ');
+    let operator = operator_of(words.next()?)?;
+    let width = width_of(words.next()?)?;
+    let left = words.next()?.parse::<i64>().ok()?;
+    let right = words.next()?.parse::<i64>().ok()?;
+    let trap = trap_of(words.next()?)?;
+    Some(binary(operator, width, left, right).err() == Some(trap))
 }
 
-fn answer_overflows<W: Write + Drop>(report: &mut Report<W>) -> io::Result<()> {
-    report.title("results past the width under nsw")?;
-    for (name, operator, width, values) in [
-        (
-            "add nsw i64",
-            BinaryOperator::AddNoWrap,
-            Width::Bits64,
-            (i64::MAX, 1),
-        ),
-        (
-            "sub nsw i64",
-            BinaryOperator::SubtractNoWrap,
-            Width::Bits64,
-            (i64::MIN, 1),
-        ),
-        (
-            "mul nsw i64",
-            BinaryOperator::MultiplyNoWrap,
-            Width::Bits64,
-            (i64::MAX, 2),
-        ),
-        (
-            "add nsw i32",
-            BinaryOperator::AddNoWrap,
-            Width::Bits32,
-            (2_147_483_647, 1),
-        ),
-    ] {
-        let is_met = is_trapped(operator, width, values, Trap::Undefined);
-        report.holds(name, is_met)?;
+fn answer_operators<W: Write + Drop>(rows: &str, report: &mut Report<W>) -> io::Result<()> {
+    report.title("traps of operators")?;
+    for row in rows.lines() {
+        report.holds(row, is_met(row) == Some(true))?;
     }
     Ok(())
 }
@@ -211,17 +96,15 @@ fn answer_allocas<W: Write + Drop>(
     Ok(())
 }
 
-/// Meets each trap.
+/// Meets each trap: those of the operators by these rows.
 pub fn answer<W: Write + Drop>(
     alloc: Global,
+    rows: &str,
     parallel_for: &Verified,
     fib: &Verified,
     report: &mut Report<W>,
 ) -> anyhow::Result<()> {
-    answer_divisors(report)?;
-    answer_least(report)?;
-    answer_shifts(report)?;
-    answer_overflows(report)?;
+    answer_operators(rows, report)?;
     answer_indices(alloc, parallel_for, report)?;
     answer_allocas(alloc, fib, report)
 }
