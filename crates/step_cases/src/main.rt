@@ -12,7 +12,7 @@ use anyhow::Context;
 use cases::Report;
 use debugger::{Verified, verify};
 use std::hash::RandomState;
-use std::io::BufWriter;
+use std::io::{BufWriter, Write};
 use std::process::ExitCode;
 use std::rt::Files;
 use std::{fs, io};
@@ -29,17 +29,43 @@ fn verified_file(
         .context("a module that is refused")
 }
 
+fn answer_traps<W: Write + Drop>(
+    rt: &(impl AllocGlobal + Files),
+    state: RandomState,
+    parallel_for: &Verified,
+    report: &mut Report<W>,
+) -> anyhow::Result<()> {
+    let fib = verified_file(rt, state, "examples/fib.ll")?;
+    let rows = fs::read_to_string(rt, "traps.txt")?;
+    traps::answer(rt.alloc(), rows.as_str(), parallel_for, &fib, report)
+}
+
+fn answer_machines<W: Write + Drop>(
+    rt: &(impl AllocGlobal + Files),
+    state: RandomState,
+    parallel_for: &Verified,
+    report: &mut Report<W>,
+) -> anyhow::Result<()> {
+    let pair = verified_file(rt, state, "examples/pair.ll")?;
+    machines::answer(rt.alloc(), &pair, parallel_for, report)
+}
+
+fn answer<W: Write + Drop>(
+    rt: &(impl AllocGlobal + Files),
+    state: RandomState,
+    report: &mut Report<W>,
+) -> anyhow::Result<()> {
+    counts::answer(report)?;
+    let parallel_for = verified_file(rt, state, "examples/parallel-for.ll")?;
+    answer_traps(rt, state, &parallel_for, report)?;
+    answer_machines(rt, state, &parallel_for, report)?;
+    debugging::answer(rt.alloc(), &parallel_for, report)
+}
+
 fn main(rt: HostRuntime) -> anyhow::Result<ExitCode> {
     let alloc = rt.alloc();
     let state = RandomState::new(&rt)?;
-    let pair = verified_file(&rt, state, "examples/pair.ll")?;
-    let parallel_for = verified_file(&rt, state, "examples/parallel-for.ll")?;
-    let fib = verified_file(&rt, state, "examples/fib.ll")?;
-    let rows = fs::read_to_string(&rt, "traps.txt")?;
     let mut report = Report::new(alloc, BufWriter::new(alloc, io::writer(&rt))?);
-    counts::answer(&mut report)?;
-    traps::answer(alloc, rows.as_str(), &parallel_for, &fib, &mut report)?;
-    machines::answer(alloc, &pair, &parallel_for, &mut report)?;
-    debugging::answer(alloc, &parallel_for, &mut report)?;
+    answer(&rt, state, &mut report)?;
     Ok(report.finish()?)
 }
