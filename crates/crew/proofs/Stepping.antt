@@ -55,7 +55,7 @@ module _ (prog : Program) (places : Places) (old mid : Run) (hands : mid.hands �
 pub idle_stays : (prog : Program) (places : Places) (k : Run) (w : ℕ) → hand_of k.hands.items w ≡ None → DoesEvent prog places k k (running.Step w) false
 idle_stays prog places k w none m shown safe = (
   ap (λ t. running.unless_trapped t (running.by_hand prog (length k.hands.items) m w (m.hands w))) shown.shows.trapped
-  ∙ ap (running.by_hand prog (length k.hands.items) m w) (shown.shows.hands w ∙ ap (option_and_then (λ slot. option_map place_of (node_at k.cactus slot))) none),
+      ∙ ap (running.by_hand prog (length k.hands.items) m w) (shown.shows.hands w ∙ ap (option_and_then (λ slot. option_map place_of (node_at k.cactus slot))) none),
   shown,
 )
 
