@@ -2,7 +2,7 @@
 
 ghost use Rattle.program.specs.declared.function.Program.{Program};
 ghost use Rattle.std.specs.Prelude.{IfOk};
-ghost use Rattle.serial_promise.specs.store.Made.{HasGlobalCells};
+ghost use Rattle.serial_machine.specs.store.Made.{HasGlobalCells};
 
 use crate::answer::print_unreadable;
 use crate::beside::Beside;
@@ -14,7 +14,7 @@ use debugger::{
     Debugger, Event, Finished, Machine, Memory, RunFault, Verified, read_schedule, replay,
 };
 use deque_pool::OpenGate;
-use serial_promise::run_serially;
+use serial_machine::serial_run;
 use std::io;
 use std::io::{Read, Write};
 use std::sync::Wait;
@@ -57,7 +57,7 @@ pub fn run_serial<W: Write>(
         Err(status) => return print_unprepared(status, output),
     };
     let args = job.request.args.as_slice();
-    let run = run_serially(job.alloc, job.verified, args, memory);
+    let run = serial_run(job.alloc, job.verified, args, memory);
     print_run(job, &run, output, beside)
 }
 

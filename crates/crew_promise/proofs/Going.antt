@@ -13,22 +13,22 @@ use Rattle.running.proofs.Steps.{change_is}
 use Rattle.program.specs.declared.function.Program.{Program}
 use Rattle.program.specs.declared.instruction.Instruction.TheVariants as instruction
 use Rattle.engine.specs.Shows.{KeepsWithin, TrapFree}
-use Rattle.serial_promise.specs.schedule_theorem.Promise.{AreTaken, HasGlobals, KeepsItsPromise}
-use Rattle.serial_promise.specs.schedule_theorem.kinds.Uses.{HasKindedUses}
-use Rattle.serial_promise.specs.schedule_theorem.safe.Kept.{OfAll}
-use Rattle.serial_promise.specs.schedule_theorem.safe.Promise.{IsSafeRun}
-use Rattle.serial_promise.specs.schedule_theorem.safe.Safe.{CanStep as CanStepFrame, IsSafe}
-use Rattle.serial_promise.specs.schedule_theorem.safe.Steps.{Does}
-use Rattle.serial_promise.specs.verifier.Accepted.{IsProgramOf}
-use Rattle.serial_promise.specs.verifier.Budgets.{budget_of}
-use Rattle.serial_promise.proofs.schedule_theorem.Accepted.{IsTaken, is_taken}
-use Rattle.serial_promise.proofs.schedule_theorem.Promise.{accepted_programs_keep_their_promise}
-use Rattle.serial_promise.proofs.schedule_theorem.kinds.Uses.{uses_are_kinded}
-use Rattle.serial_promise.proofs.schedule_theorem.safe.Held.{always_rooted}
-use Rattle.serial_promise.proofs.schedule_theorem.safe.Replayed.{Next, from_later, held_next}
-use Rattle.serial_promise.proofs.schedule_theorem.safe.Safe.{schedules_are_safe}
-use Rattle.serial_promise.proofs.room.Operands.{items_fit}
-use Rattle.serial_promise.proofs.safe.Going.{item_whole, name_whole, some_there}
+use Rattle.serial_machine.specs.schedule_theorem.Promise.{AreTaken, HasGlobals, KeepsItsPromise}
+use Rattle.serial_machine.specs.schedule_theorem.kinds.Uses.{HasKindedUses}
+use Rattle.serial_machine.specs.schedule_theorem.safe.Kept.{OfAll}
+use Rattle.serial_machine.specs.schedule_theorem.safe.Promise.{IsSafeRun}
+use Rattle.serial_machine.specs.schedule_theorem.safe.Safe.{CanStep as CanStepFrame, IsSafe}
+use Rattle.serial_machine.specs.schedule_theorem.safe.Steps.{Does}
+use Rattle.serial_machine.specs.verifier.Accepted.{IsProgramOf}
+use Rattle.serial_machine.specs.verifier.Budgets.{budget_of}
+use Rattle.serial_machine.proofs.schedule_theorem.Accepted.{IsTaken, is_taken}
+use Rattle.serial_machine.proofs.schedule_theorem.Promise.{accepted_programs_keep_their_promise}
+use Rattle.serial_machine.proofs.schedule_theorem.kinds.Uses.{uses_are_kinded}
+use Rattle.serial_machine.proofs.schedule_theorem.safe.Held.{always_rooted}
+use Rattle.serial_machine.proofs.schedule_theorem.safe.Replayed.{Next, from_later, held_next}
+use Rattle.serial_machine.proofs.schedule_theorem.safe.Safe.{schedules_are_safe}
+use Rattle.serial_machine.proofs.room.Operands.{items_fit}
+use Rattle.serial_machine.proofs.safe.Going.{item_whole, name_whole, some_there}
 use Rattle.crew.specs.Going.{CanGo, CanStep}
 use Rattle.crew.specs.Layouts.{living}
 use Rattle.crew_promise.specs.Safe.{RunsAreSafe}

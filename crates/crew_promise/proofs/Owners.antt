@@ -6,9 +6,9 @@ use Rattle.running.specs.Frames.{Role, Child, Body, Frame, cells_of}
 use Rattle.running.specs.State.{State}
 use Rattle.program.specs.declared.function.Program.{Program}
 use Rattle.program.specs.declared.identifier.ObjectName.TheVariants as object
-use Rattle.serial_promise.specs.schedule_theorem.safe.Kept.{OfAll}
-use Rattle.serial_promise.specs.schedule_theorem.safe.Objects.{HasCells, HasCell, OwnsCells}
-use Rattle.serial_promise.proofs.safe.Stacks.{IsOwner}
+use Rattle.serial_machine.specs.schedule_theorem.safe.Kept.{OfAll}
+use Rattle.serial_machine.specs.schedule_theorem.safe.Objects.{HasCells, HasCell, OwnsCells}
+use Rattle.serial_machine.proofs.safe.Stacks.{IsOwner}
 use Rattle.crew.specs.Layouts.{alloca_cells, living, own_cells}
 use Rattle.crew_promise.proofs.Points.{IsBelow}
 

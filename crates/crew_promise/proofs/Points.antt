@@ -20,12 +20,12 @@ use Rattle.program.specs.declared.instruction.Instruction.TheVariants as instruc
 use Rattle.program.specs.declared.instruction.Phi.{Phi}
 use Rattle.conditions.specs.rules.InProofs.{Moves, is_next, is_along}
 use Rattle.conditions.proofs.rules.Moves.{moves, syncs_along, calls_here}
-use Rattle.serial_promise.specs.schedule_theorem.safe.Kept.{OfAll}
-use Rattle.serial_promise.specs.schedule_theorem.zones.ByPhases.{IsKeptBySteps}
-use Rattle.serial_promise.proofs.schedule_theorem.kinds.Registers.{argument_at}
-use Rattle.serial_promise.proofs.schedule_theorem.safe.Everywhere.{everywhere, of_first}
-use Rattle.serial_promise.proofs.safe.Mirrors.{under_long}
-use Rattle.serial_promise.proofs.safe.Stacks.{IsOwner}
+use Rattle.serial_machine.specs.schedule_theorem.safe.Kept.{OfAll}
+use Rattle.serial_machine.specs.schedule_theorem.zones.ByPhases.{IsKeptBySteps}
+use Rattle.serial_machine.proofs.schedule_theorem.kinds.Registers.{argument_at}
+use Rattle.serial_machine.proofs.schedule_theorem.safe.Everywhere.{everywhere, of_first}
+use Rattle.serial_machine.proofs.safe.Mirrors.{under_long}
+use Rattle.serial_machine.proofs.safe.Stacks.{IsOwner}
 use Rattle.crew.specs.Going.{IsAbove, PointsUp}
 
 -- ---- values and registers

@@ -12,7 +12,7 @@ use Rattle.running.proofs.Starting.{start_tree}
 use Rattle.running.proofs.Steps.{Does, plain, detach, reattach, sync, call, ret, end}
 use Rattle.running.proofs.TreeKept.{step_keeps_tree}
 use Rattle.program.specs.declared.function.Program.{Program}
-use Rattle.serial_promise.proofs.schedule_theorem.safe.Replayed.{replay_good}
+use Rattle.serial_machine.proofs.schedule_theorem.safe.Replayed.{replay_good}
 
 -- as long as the root lives there is no result
 pub record IsOpen (s : State) : Type 0 where

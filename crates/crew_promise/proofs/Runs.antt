@@ -12,11 +12,11 @@ use Rattle.cactus.specs.ByPath.{named}
 use Rattle.cactus.specs.declared.node.Node.{Node}
 use Rattle.engine.specs.Shows.{Layout}
 use Rattle.engine.specs.declared.activation.Places.{Places}
-use Rattle.serial_promise.specs.schedule_theorem.Promise.{KeepsItsPromise}
-use Rattle.serial_promise.specs.verifier.Accepted.{IsAccepted}
-use Rattle.serial_promise.proofs.schedule_theorem.Promise.{accepted_programs_keep_their_promise}
-use Rattle.serial_promise.proofs.schedule_theorem.safe.Replayed.{from_later}
-use Rattle.serial_promise.proofs.schedule_theorem.safe.Safe.{schedules_are_safe}
+use Rattle.serial_machine.specs.schedule_theorem.Promise.{KeepsItsPromise}
+use Rattle.serial_machine.specs.verifier.Accepted.{IsAccepted}
+use Rattle.serial_machine.proofs.schedule_theorem.Promise.{accepted_programs_keep_their_promise}
+use Rattle.serial_machine.proofs.schedule_theorem.safe.Replayed.{from_later}
+use Rattle.serial_machine.proofs.schedule_theorem.safe.Safe.{schedules_are_safe}
 use Rattle.conditions.specs.theorem.Schedules.{KeepsSchedule}
 use Rattle.crew.specs.declared.activation.Activation.{Activation}
 use Rattle.crew.specs.declared.run.Run.{Run}

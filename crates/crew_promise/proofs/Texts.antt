@@ -6,9 +6,9 @@ use Rattle.program.specs.declared.function.Function.{Function}
 use Rattle.program.specs.declared.function.Global.{Global}
 use Rattle.program.specs.declared.function.Program.{Program}
 use Rattle.program.specs.declared.instruction.Terminator.TheVariants as terminator
-use Rattle.serial_promise.proofs.schedule_theorem.Accepted.{IsTaken, is_taken}
-use Rattle.serial_promise.proofs.text.Fits as serial
-use Rattle.serial_promise.proofs.text.Fits.{parameters_first, some_at, starts_long}
+use Rattle.serial_machine.proofs.schedule_theorem.Accepted.{IsTaken, is_taken}
+use Rattle.serial_machine.proofs.text.Fits as serial
+use Rattle.serial_machine.proofs.text.Fits.{parameters_first, some_at, starts_long}
 use Rattle.engine.specs.Starts.{global_starts}
 use Rattle.engine.specs.declared.activation.Places.{Places}
 use Rattle.crew_promise.specs.Safe.{StartsFit, TextsFit}

@@ -12,9 +12,9 @@ use Rattle.conditions.specs.theorem.Schedules.{KeepsSchedule}
 use Rattle.cactus.specs.ByPath.{named}
 use Rattle.engine.specs.Flat.{cell_in}
 use Rattle.engine.specs.declared.activation.Places.{Places}
-use Rattle.serial_promise.specs.schedule_theorem.Promise.{AreTaken, HasGlobals}
-use Rattle.serial_promise.specs.verifier.Accepted.{IsAccepted}
-use Rattle.serial_promise.specs.verifier.Budgets.{budget_of, IsDepthOf}
+use Rattle.serial_machine.specs.schedule_theorem.Promise.{AreTaken, HasGlobals}
+use Rattle.serial_machine.specs.verifier.Accepted.{IsAccepted}
+use Rattle.serial_machine.specs.verifier.Budgets.{budget_of, IsDepthOf}
 use Rattle.crew.specs.declared.run.Run.{Run}
 use Rattle.crew.specs.Going.{Becomes, RunsSafely, StandsSafely}
 use Rattle.crew.specs.Layouts.{number_in}

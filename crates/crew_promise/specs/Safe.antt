@@ -6,9 +6,9 @@ use Rattle.program.specs.declared.function.Function.{Function}
 use Rattle.program.specs.declared.function.Program.{Program}
 use Rattle.engine.specs.Starts.{alloca_starts, global_starts}
 use Rattle.engine.specs.declared.activation.Places.{Places}
-use Rattle.serial_promise.specs.Safe.{HasMoves}
-use Rattle.serial_promise.specs.schedule_theorem.Promise.{AreTaken, HasGlobals}
-use Rattle.serial_promise.specs.verifier.Accepted.{IsProgramOf}
+use Rattle.serial_machine.specs.Safe.{HasMoves}
+use Rattle.serial_machine.specs.schedule_theorem.Promise.{AreTaken, HasGlobals}
+use Rattle.serial_machine.specs.verifier.Accepted.{IsProgramOf}
 use Rattle.crew.specs.Going.{RunsSafely, TextFits}
 
 -- wherever a schedule leads, each worker's frame can do its next step

@@ -4,7 +4,7 @@ ghost use Rattle.std.specs.Prelude.{◌≡◌, ◌≢◌, ◌≤◌, ◌-◌, �
 ghost use Rattle.store.specs.Made.{HasGlobalCells};
 ghost use Rattle.store.specs.Cells.{cell_named};
 ghost use Rattle.store.specs.declared.memory.Memory.{Memory};
-ghost use Rattle.serial_machine.specs.Requirements.{unmet_in};
+ghost use Rattle.outcome.specs.Requirements.{unmet_in};
 ghost use Rattle.worker_steps.specs.Running.{IsNumberOfWorkers};
 ghost use Rattle.schedule_core.specs.Viewed.{IsTask, status_in};
 ghost use Rattle.debugger.specs.Sessions.{AreMarks, Debugs, HasLineAt, IsAt, IsFirstStop, Session, Stays};
@@ -13,8 +13,8 @@ use crate::debugger::Debugger;
 use crate::marks::Marks;
 use frame::Path;
 use lists::OutOfMemory;
+use outcome::RunFault;
 use schedule_core::{Event, Machine, TaskView};
-use serial_machine::RunFault;
 use std::alloc::Global;
 use store::Memory;
 use verifier::Verified;

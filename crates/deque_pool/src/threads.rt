@@ -1,6 +1,6 @@
 //! A run on threads of its own.
 ghost use Rattle.std.specs.Prelude.{◌≡◌, ◌≢◌, ℕ, None, Some, Err, IfOk, OnOk};
-ghost use Rattle.serial_machine.specs.Requirements.{unmet_in};
+ghost use Rattle.outcome.specs.Requirements.{unmet_in};
 ghost use Rattle.store.specs.Made.{HasGlobalCells};
 ghost use Rattle.store.specs.declared.memory.Memory.{Memory};
 ghost use Rattle.worker_steps.specs.Running.{IsNumberOfWorkers};
@@ -11,7 +11,7 @@ use crate::crew::{Worker, crew_of, seats_of};
 use crate::gate::Gate;
 use crate::work::work;
 use crossbeam_utils::CachePadded;
-use serial_machine::{Finished, RunFault};
+use outcome::{Finished, RunFault};
 use shared_run::{Bench, Shared};
 use std::alloc::Global;
 use std::marker::Brand;

@@ -9,7 +9,7 @@ use Rattle.program.specs.declared.function.Program.{Program}
 use Rattle.verifier.specs.Accepted.{IsAccepted}
 use Rattle.store.specs.Cells.{NamedCells}
 use Rattle.store.specs.Made.{HasGlobalCells}
-use Rattle.serial_machine.specs.Requirements.{unmet_in}
+use Rattle.outcome.specs.Requirements.{unmet_in}
 use Rattle.worker_promise.specs.Promise.{IsScheduled, KeepsItsSchedule}
 use Rattle.worker_promise.proofs.Steps.{runs_keep_their_schedules, steps_never_stop}
 use Rattle.worker_steps.specs.declared.run.Run.{Run}

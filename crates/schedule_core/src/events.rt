@@ -1,5 +1,5 @@
 ghost use Rattle.std.specs.Prelude.{◌≡◌, ◌≢◌, ℕ, Some, None, false, IfOk, OnOk, OnErr};
-ghost use Rattle.serial_machine.specs.Requirements.{unmet_in};
+ghost use Rattle.outcome.specs.Requirements.{unmet_in};
 ghost use Rattle.store.specs.Made.{HasGlobalCells};
 ghost use Rattle.store.specs.declared.memory.Memory.{Memory};
 ghost use Rattle.verifier.specs.Accepted.{IsAccepted};
@@ -10,7 +10,7 @@ ghost use Rattle.schedule_core.specs.Replaying.{DoesAll, GrowsOnly, StopsOnly, e
 
 use crate::event::Event;
 use lists::OutOfMemory;
-use serial_machine::{RunFault, unmet_requirement};
+use outcome::{RunFault, unmet_requirement};
 use std::alloc::Global;
 use store::Memory;
 use verifier::Verified;

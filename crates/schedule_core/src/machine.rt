@@ -1,6 +1,6 @@
 ghost use Rattle.std.specs.Prelude.{◌↔◌, ◌≡◌, ◌≢◌, [], None, Some, IsSome, ℕ, IsTrue, IfOk, false, OnErr, OnOk};
 ghost use Rattle.running.specs.Replay.{CountsFrames};
-ghost use Rattle.serial_machine.specs.Requirements.{unmet_in};
+ghost use Rattle.outcome.specs.Requirements.{unmet_in};
 ghost use Rattle.store.specs.Made.{HasGlobalCells};
 ghost use Rattle.store.specs.declared.memory.Memory.{Memory};
 ghost use Rattle.store.specs.Cells.{cell_named};
@@ -16,7 +16,7 @@ ghost use Rattle.schedule_core.specs.Replaying.{GrowsOnly, Happens, IsMachine, R
 use crate::event::Event;
 use crate::events::{apply_to, begin};
 use lists::OutOfMemory;
-use serial_machine::RunFault;
+use outcome::RunFault;
 use std::alloc::Global;
 use store::Memory;
 use verifier::Verified;

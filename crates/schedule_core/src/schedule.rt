@@ -1,5 +1,5 @@
 ghost use Rattle.std.specs.Prelude.{◌≡◌, ◌≢◌, ℕ, Some, None, IfOk, OnOk};
-ghost use Rattle.serial_machine.specs.Requirements.{unmet_in};
+ghost use Rattle.outcome.specs.Requirements.{unmet_in};
 ghost use Rattle.store.specs.Made.{HasGlobalCells};
 ghost use Rattle.store.specs.declared.memory.Memory.{Memory};
 ghost use Rattle.worker_steps.specs.Running.{IsTrapped, IsNumberOfWorkers};
@@ -10,7 +10,7 @@ use crate::event::Event;
 use crate::events::{apply_all, begin};
 use crate::machine::Machine;
 use lists::OutOfMemory;
-use serial_machine::RunFault;
+use outcome::RunFault;
 use std::alloc::Global;
 use store::Memory;
 use verifier::Verified;

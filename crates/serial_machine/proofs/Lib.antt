@@ -1,11 +1,13 @@
-pub mod Calls
-pub mod Cells
-pub mod Depths
-pub mod Performed
-pub mod Places
-pub mod Running
-pub mod Serially
-pub mod Steps
-pub mod Unmet
-pub mod Walks
-pub mod Wide
+pub mod Arguments
+pub mod Globals
+pub mod Stops
+pub mod Ends
+pub mod room
+pub mod walks
+pub mod safe
+pub mod text
+pub mod Rows
+pub mod Held
+pub mod Engine
+-- for the crates above
+pub use Rattle.schedule_theorem.proofs as schedule_theorem

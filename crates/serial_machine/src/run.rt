@@ -1,60 +1,62 @@
-ghost use Rattle.std.specs.Prelude.{◌≡◌, Err, MatchOption};
-ghost use Rattle.serial_machine.specs.Requirements.{unmet_in};
-ghost use Rattle.serial_machine.specs.Serially.{Answers, RunsTo};
-ghost use Rattle.store.specs.verifier.Budgets.{budget_of};
+ghost use Rattle.std.specs.Prelude.{◌≡◌, ℕ, Some, None, Err, IfOk};
+ghost use Rattle.outcome.specs.Requirements.{unmet_in};
+ghost use Rattle.store.specs.Made.{HasGlobalCells};
+ghost use Rattle.verifier.specs.Accepted.{IsAccepted};
+ghost use Rattle.verifier.specs.Budgets.{budget_of};
+ghost use Rattle.serial_machine.specs.Promise.{EndsOrLacksMemory, EndsWithinBudget};
 
-use crate::arguments::unmet_requirement;
-use crate::outcome::{Finished, Halt, RunFault};
-use crate::stack::{Progress, Stack};
-use frame::Frame;
+use crate::places::{most_moves, places_of};
+use lists::OutOfMemory;
+use outcome::{Finished, RunFault, unmet_requirement};
 use program::Program;
+use serial_steps::Stack;
 use std::alloc::Global;
-use store::{Memory, Verified};
+use store::Memory;
+use verifier::Verified;
 
-/// Runs `main` to its end, within so many instructions.
-fn run_within(
+/// The run of arguments that the program takes, over a row of the globals' numbers.
+fn run_over_row(
     alloc: Global,
     program: &Program,
     arguments: &[i64],
-    memory: Memory,
+    memory: &Memory,
     budget: u64,
-) -> Result<Finished, Halt>
-    ensures { RunsTo program.now arguments.now memory budget result }
+) -> Result<Finished, OutOfMemory>
+    requires accepted { IsAccepted program.now }
+    requires taken { unmet_in program.now arguments.now ≡ None }
+    requires cells { HasGlobalCells program.now memory.now }
+    requires budget { budget ≡ budget_of program.now }
+    ensures { IfOk result (λ done. EndsWithinBudget program.now arguments.now memory.now done) }
 {
-    let mut stack = Stack {
-        alloc,
-        top: Frame::root(alloc, program, arguments)?,
-        below: Vec::new(alloc),
-        memory,
-    };
-    let mut peak = 1;
-    for executed in 0..budget {
-        match stack.step(program) {
-            Ok(Progress::GoesOn) => peak = peak.max(stack.depth()),
-            Ok(Progress::Ended { result }) => {
-                return Ok(Finished {
-                    result,
-                    memory: stack.memory,
-                    instructions: executed + 1,
-                    peak,
-                });
-            }
-            Err(halt) => return Err(halt),
-        }
-    }
-    Err(Halt::Trapped)
+    let sizes = memory.sizes()?;
+    let places = places_of(alloc, program, sizes.as_slice())?;
+    let row = memory.row()?;
+    let mut stack = Stack::begin(alloc, program, arguments, row, most_moves(program))?;
+    let ended = stack.run(program, &places, budget)?;
+    let globals = memory.with_row(stack.cells.cells.as_slice())?;
+    Ok(Finished {
+        result: ended.result,
+        memory: globals,
+        instructions: ended.instructions,
+        peak: ended.peak,
+    })
 }
 
-/// The serial run of a module that the verifier took, from memory that was made for it.
+/// The serial run of a module that the verifier took, from memory that was made for it: its elision's memory, result, count of
+/// instructions and depth, within the budget and the depth that the verifier answers (Tapir, "serial elision"). It never traps.
+///
+/// # Errors
+///
+/// 801 where the arguments are not those of `main`; the memory is handed back. 803 where memory is refused.
 pub fn serial_run(
     alloc: Global,
     verified: &Verified,
     arguments: &[i64],
     memory: Memory,
 ) -> Result<Finished, RunFault>
-    ensures { MatchOption (unmet_in verified.now arguments.now)
-        (Answers verified.now arguments.now memory (budget_of verified.now) result)
-        (λ r. result ≡ Err (RunFault.BadArguments r memory)) }
+    requires cells { HasGlobalCells verified.now memory }
+    ensures refused { (requirement : ℕ) → unmet_in verified.now arguments.now ≡ Some requirement → result ≡ Err (RunFault.BadArguments requirement memory) }
+    ensures ends { unmet_in verified.now arguments.now ≡ None → EndsOrLacksMemory verified.now arguments.now memory result }
 {
     let program = verified.program();
     match unmet_requirement(program, arguments) {
@@ -62,10 +64,9 @@ pub fn serial_run(
             requirement,
             memory,
         }),
-        None => match run_within(alloc, program, arguments, memory, verified.budget()) {
+        None => match run_over_row(alloc, program, arguments, &memory, verified.budget()) {
             Ok(finished) => Ok(finished),
-            Err(Halt::OutOfMemory) => Err(RunFault::OutOfMemory),
-            Err(Halt::Trapped) => Err(RunFault::Trapped),
+            Err(OutOfMemory) => Err(RunFault::OutOfMemory),
         },
     }
 }

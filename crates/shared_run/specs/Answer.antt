@@ -3,7 +3,7 @@ use Rattle.std.specs.Prelude.{◌≡◌, ℕ, Some}
 use Rattle.running.specs.Cells.{Shared}
 use Rattle.running.specs.SerialMeaning.{Gave, Outcome, IsSerialMeaning}
 use Rattle.store.specs.Cells.{cell_at}
-use Rattle.serial_machine.specs.declared.outcome.Finished.{Finished}
+use Rattle.outcome.specs.declared.outcome.Finished.{Finished}
 use Rattle.worker_steps.specs.Seen.{given}
 use Rattle.shared_run.specs.Story.{Origin}
 

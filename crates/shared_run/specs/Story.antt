@@ -11,7 +11,7 @@ use Rattle.store.specs.Made.{HasGlobalCells}
 use Rattle.frame.specs.declared.path.Path.{Path}
 use Rattle.cactus.specs.declared.node.Node.{Node}
 use Rattle.cactus.specs.Frames.{node_of_use}
-use Rattle.serial_machine.specs.Requirements.{unmet_in}
+use Rattle.outcome.specs.Requirements.{unmet_in}
 use Rattle.worker_steps.specs.declared.activation.Activation.{Activation}
 use Rattle.worker_steps.specs.declared.run.Run.{Run}
 use Rattle.worker_steps.specs.Running.{IsNumberOfWorkers}

@@ -1,5 +1,5 @@
 ghost use Rattle.std.specs.Prelude.{◌≡◌, ◌≢◌, ℕ, ◌<◌, None, Some, Err, vec_len, sum_by, IfOk, IfErr, OnOk};
-ghost use Rattle.serial_machine.specs.Requirements.{unmet_in};
+ghost use Rattle.outcome.specs.Requirements.{unmet_in};
 ghost use Rattle.store.specs.Made.{HasGlobalCells};
 ghost use Rattle.store.specs.declared.memory.Memory.{Memory};
 ghost use Rattle.worker_steps.specs.Running.{IsNumberOfWorkers};
@@ -10,7 +10,7 @@ use crate::bench::Bench;
 use crate::board::Board;
 use crate::seat::Seat;
 use crate::start::{Start, admitted};
-use serial_machine::{Finished, RunFault};
+use outcome::{Finished, RunFault};
 use std::alloc::Global;
 use std::marker::Model;
 use std::sync::Mutex;

@@ -1,11 +1,11 @@
 ghost use Rattle.std.specs.Prelude.{◌≡◌, ◌≢◌, ◌↔◌, ℕ, Some, None, Err, IfOk, IsTrue, OnOk};
-ghost use Rattle.serial_machine.specs.Requirements.{unmet_in};
+ghost use Rattle.outcome.specs.Requirements.{unmet_in};
 ghost use Rattle.store.specs.declared.memory.Memory.{Memory};
 ghost use Rattle.worker_steps.specs.Running.{IsNumberOfWorkers};
 ghost use Rattle.shared_run.specs.Story.{origin};
 
 use lists::OutOfMemory;
-use serial_machine::{RunFault, unmet_requirement};
+use outcome::{RunFault, unmet_requirement};
 use std::alloc::Global;
 use std::marker::Model;
 use store::Memory;

@@ -21,9 +21,9 @@ use Rattle.frame.specs.Room.{register_count}
 use Rattle.cactus.specs.declared.node.Node.{Node}
 use Rattle.cactus.specs.Frames.{node_at}
 use Rattle.cactus.specs.ByPath.{IsBelow}
-use Rattle.serial_promise.specs.phase_laws.facts.Owing.{AreFactsStable}
-use Rattle.serial_promise.specs.schedule_theorem.typing.Kinds.{HasKinds}
-use Rattle.serial_promise.proofs.schedule_theorem.typing.Lists.{there}
+use Rattle.serial_machine.specs.phase_laws.facts.Owing.{AreFactsStable}
+use Rattle.serial_machine.specs.schedule_theorem.typing.Kinds.{HasKinds}
+use Rattle.serial_machine.proofs.schedule_theorem.typing.Lists.{there}
 use Rattle.worker_steps.specs.declared.activation.Activation.{Activation}
 use Rattle.worker_steps.specs.declared.run.Run.{Run}
 use Rattle.worker_steps.specs.Scheduling.{count_in, counted_in, living_within}
@@ -31,7 +31,7 @@ use Rattle.worker_steps.specs.Seen.{place_of, seen, tree_of, Agrees}
 use Rattle.worker_steps.specs.Stepping.{frame_in}
 use Rattle.worker_steps.specs.Stopping.{HasRoomBelow, CanCount, IsChildless, CanReattach, CanReturn, IsLet}
 use Rattle.worker_steps.proofs.Views.{frame_seen}
-use Rattle.serial_promise.specs.schedule_theorem.safe.Steps.{HasParent, Joins, Returns, Does}
+use Rattle.serial_machine.specs.schedule_theorem.safe.Steps.{HasParent, Joins, Returns, Does}
 use Rattle.worker_steps.specs.Slots.{HasSlots}
 use Rattle.worker_promise.specs.Let.{IsFine, NamesRegister, IsSteadyAt, StepsAreLet}
 use Rattle.worker_promise.proofs.Let.{let_on_cells}

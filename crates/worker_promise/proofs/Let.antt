@@ -20,18 +20,18 @@ use Rattle.frame.specs.Room.{FitsPhis}
 use Rattle.cactus.specs.declared.node.Node.{Node}
 use Rattle.cactus.specs.Frames.{node_at}
 use Rattle.cactus.specs.ByPath.{named}
-use Rattle.serial_promise.specs.phase_laws.facts.Owing.{AreFactsStable}
-use Rattle.serial_promise.specs.schedule_theorem.typing.Kinds.{HasKinds}
-use Rattle.serial_promise.proofs.room.Moves.{moves_fit}
+use Rattle.serial_machine.specs.phase_laws.facts.Owing.{AreFactsStable}
+use Rattle.serial_machine.specs.schedule_theorem.typing.Kinds.{HasKinds}
+use Rattle.serial_machine.proofs.room.Moves.{moves_fit}
 use Rattle.worker_steps.specs.declared.activation.Activation.{Activation}
 use Rattle.worker_steps.specs.declared.run.Run.{Run}
 use Rattle.worker_steps.specs.Seen.{place_of, seen_at, seen, Agrees}
 use Rattle.worker_steps.specs.Stepping.{frame_in}
 use Rattle.worker_steps.specs.Stopping.{HasCellAt, HasCellIn, CanGoAlong}
-use Rattle.serial_promise.specs.schedule_theorem.safe.Objects.{OwnsCells, HasCells}
+use Rattle.serial_machine.specs.schedule_theorem.safe.Objects.{OwnsCells, HasCells}
 use Rattle.worker_steps.specs.Slots.{HasSlots}
 use Rattle.worker_promise.specs.Let.{IsFine, IsLetOnCells, CellsAreLet}
-use Rattle.serial_promise.proofs.Globals.{globals_there}
+use Rattle.serial_machine.proofs.Globals.{globals_there}
 use Rattle.worker_promise.proofs.Owned.{owner_has}
 
 -- ---- a cell that is there by the definitions is there in a slot

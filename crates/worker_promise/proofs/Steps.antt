@@ -13,7 +13,7 @@ use Rattle.program.specs.declared.function.Function.{Function}
 use Rattle.program.specs.declared.function.Program.{Program}
 use Rattle.program.specs.declared.instruction.Terminator.{Terminator}
 use Rattle.program.specs.declared.instruction.Terminator.TheVariants as terminator
-use Rattle.serial_promise.specs.verifier.Budgets.{budget_of}
+use Rattle.serial_machine.specs.verifier.Budgets.{budget_of}
 use Rattle.conditions.specs.rules.Moves.{SyncsTo}
 use Rattle.conditions.proofs.rules.Moves.{forks_here, sync_here}
 use Rattle.frame.specs.Answers.{trap_of}
@@ -21,27 +21,27 @@ use Rattle.frame.specs.Asked.{HasRoom}
 use Rattle.frame.specs.Room.{HasChild, HasNext, register_count}
 use Rattle.cactus.specs.declared.node.Node.{Node}
 use Rattle.cactus.specs.Frames.{node_at}
-use Rattle.serial_promise.proofs.room.Doable.{frames_have_room}
-use Rattle.serial_promise.proofs.schedule_theorem.Accepted.{IsTaken, is_taken}
+use Rattle.serial_machine.proofs.room.Doable.{frames_have_room}
+use Rattle.serial_machine.proofs.schedule_theorem.Accepted.{IsTaken, is_taken}
 use Rattle.worker_steps.specs.declared.activation.Activation.{Activation}
 use Rattle.worker_steps.specs.declared.run.Run.{Run}
 use Rattle.worker_steps.specs.Scheduling.{hand_of}
 use Rattle.worker_steps.specs.Seen.{place_of, seen, given, Agrees}
-use Rattle.serial_promise.proofs.Globals.{globals_given}
+use Rattle.serial_machine.proofs.Globals.{globals_given}
 use Rattle.worker_steps.specs.Stepping.{frame_in}
 use Rattle.worker_steps.specs.Stopping.{Halts, no_effect, not_let}
 use Rattle.worker_steps.proofs.Views.{frame_seen}
-use Rattle.serial_promise.specs.schedule_theorem.safe.Steps.{Does}
-use Rattle.serial_promise.specs.schedule_theorem.safe.Promise.{IsSafeRun}
-use Rattle.serial_promise.specs.schedule_theorem.safe.Reads.{TerminatorReads, ItemReads}
-use Rattle.serial_promise.specs.schedule_theorem.safe.Safe.{CanStep, IsSafe}
-use Rattle.serial_promise.proofs.schedule_theorem.safe.Safe.{schedules_are_safe}
+use Rattle.serial_machine.specs.schedule_theorem.safe.Steps.{Does}
+use Rattle.serial_machine.specs.schedule_theorem.safe.Promise.{IsSafeRun}
+use Rattle.serial_machine.specs.schedule_theorem.safe.Reads.{TerminatorReads, ItemReads}
+use Rattle.serial_machine.specs.schedule_theorem.safe.Safe.{CanStep, IsSafe}
+use Rattle.serial_machine.proofs.schedule_theorem.safe.Safe.{schedules_are_safe}
 use Rattle.worker_steps.specs.Slots.{HasSlots}
 use Rattle.worker_promise.specs.Let.{IsFine, NamesRegister, IsSteadyAt}
 use Rattle.worker_promise.proofs.Counts.{steps_are_let}
-use Rattle.serial_promise.proofs.Arguments.{are_taken}
-use Rattle.serial_promise.specs.schedule_theorem.Promise.{KeepsItsPromise}
-use Rattle.serial_promise.proofs.schedule_theorem.Promise.{accepted_programs_keep_their_promise}
+use Rattle.serial_machine.proofs.Arguments.{are_taken}
+use Rattle.serial_machine.specs.schedule_theorem.Promise.{KeepsItsPromise}
+use Rattle.serial_machine.proofs.schedule_theorem.Promise.{accepted_programs_keep_their_promise}
 use Rattle.conditions.specs.theorem.Schedules.{KeepsSchedule}
 use Rattle.worker_promise.specs.Promise.{RunsKeepTheirSchedules, StepsNeverStop}
 

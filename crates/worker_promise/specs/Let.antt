@@ -11,18 +11,18 @@ use Rattle.frame.specs.Reading.{cell_of, object_of}
 use Rattle.frame.specs.Room.{register_count}
 use Rattle.cactus.specs.declared.node.Node.{Node}
 use Rattle.cactus.specs.Frames.{node_at}
-use Rattle.serial_promise.specs.phase_laws.facts.Owing.{AreFactsStable}
-use Rattle.serial_promise.specs.schedule_theorem.typing.Kinds.{HasKinds}
-use Rattle.serial_promise.specs.phase_laws.zones.Uses.{Uses}
+use Rattle.serial_machine.specs.phase_laws.facts.Owing.{AreFactsStable}
+use Rattle.serial_machine.specs.schedule_theorem.typing.Kinds.{HasKinds}
+use Rattle.serial_machine.specs.phase_laws.zones.Uses.{Uses}
 use Rattle.worker_steps.specs.declared.activation.Activation.{Activation}
 use Rattle.worker_steps.specs.declared.run.Run.{Run}
 use Rattle.worker_steps.specs.Seen.{place_of, seen, Agrees}
 use Rattle.worker_steps.specs.Slots.{HasSlots}
 use Rattle.worker_steps.specs.Stepping.{frame_in}
 use Rattle.worker_steps.specs.Stopping.{HasCellIn, CanGoAlong, IsLet}
-use Rattle.serial_promise.specs.schedule_theorem.safe.Kept.{IsWithin}
-use Rattle.serial_promise.specs.schedule_theorem.safe.Objects.{HasCell}
-use Rattle.serial_promise.specs.schedule_theorem.safe.Steps.{Does}
+use Rattle.serial_machine.specs.schedule_theorem.safe.Kept.{IsWithin}
+use Rattle.serial_machine.specs.schedule_theorem.safe.Objects.{HasCell}
+use Rattle.serial_machine.specs.schedule_theorem.safe.Steps.{Does}
 
 -- the node's frame does not trap next, and the cells that it uses are there, by the definitions
 pub record IsFine (prog : Program) (m : Run) (node : Node Activation) : Type 0 where

@@ -5,11 +5,11 @@ use Rattle.running.specs.Replay.{replay}
 use Rattle.program.specs.declared.function.Program.{Program}
 use Rattle.running.specs.SerialMeaning.{Outcome, IsSerialMeaning}
 use Rattle.conditions.specs.theorem.Schedules.{KeepsSchedule}
-use Rattle.serial_promise.specs.verifier.Accepted.{IsAccepted}
-use Rattle.serial_promise.specs.verifier.Budgets.{budget_of}
-use Rattle.serial_promise.specs.store.Cells.{NamedCells}
-use Rattle.serial_promise.specs.store.Made.{HasGlobalCells}
-use Rattle.serial_promise.specs.serial_machine.Requirements.{unmet_in}
+use Rattle.serial_machine.specs.verifier.Accepted.{IsAccepted}
+use Rattle.serial_machine.specs.verifier.Budgets.{budget_of}
+use Rattle.serial_machine.specs.store.Cells.{NamedCells}
+use Rattle.serial_machine.specs.store.Made.{HasGlobalCells}
+use Rattle.serial_machine.specs.outcome.Requirements.{unmet_in}
 use Rattle.worker_steps.specs.declared.run.Run.{Run}
 use Rattle.worker_steps.specs.Seen.{seen, given, Agrees}
 use Rattle.worker_steps.specs.Slots.{HasSlots}

@@ -1,5 +1,5 @@
 use Rattle.program.specs.declared.function.Program.{Program}
-use Rattle.serial_promise.specs.store.Made.{HasGlobalCells}
+use Rattle.serial_machine.specs.store.Made.{HasGlobalCells}
 use Rattle.commands.proofs.runs.set_cells.Given as goal
 
 abbrev pub invariant-loop-setting : goal.invariant-loop-setting

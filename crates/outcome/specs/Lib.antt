@@ -1,0 +1,5 @@
+pub mod Requirements
+pub mod Running
+pub mod Serially
+pub mod Stack
+pub mod Stepping

@@ -1,0 +1,47 @@
+ghost use Rattle.std.specs.Prelude.{◌≡◌};
+ghost use Rattle.outcome.specs.declared.outcome.Halt.TheVariants.{OutOfMemory as Refused};
+
+use lists::OutOfMemory;
+use store::Memory;
+
+/// What a run that has ended comes to.
+#[derive(Debug, Drop)]
+pub struct Finished {
+    /// What `main` returned.
+    pub result: i64,
+    /// The globals at the end.
+    pub memory: Memory,
+    /// The instructions that were executed, terminators counted, phis not.
+    pub instructions: u64,
+    /// The most frames that lived at a time.
+    pub peak: u64,
+}
+
+/// Why a run does not begin, or does not end.
+#[derive(Debug, Drop)]
+pub enum RunFault {
+    /// 801: 0 for a wrong number of arguments, else the first `requires` of `main` that they do not meet, counted from
+    /// 1. The memory is as it was handed in.
+    BadArguments { requirement: usize, memory: Memory },
+    /// 802: not from 1 to 64 workers. The memory is as it was handed in.
+    BadWorkers { memory: Memory },
+    /// 803: memory was refused.
+    OutOfMemory,
+    /// 804: an instruction had no effect.
+    Trapped,
+}
+
+/// Why a run stops before its end.
+#[derive(Clone, Copy, Debug, PartialEq, Eq)]
+pub enum Halt {
+    OutOfMemory,
+    Trapped,
+}
+
+impl From<OutOfMemory> for Halt {
+    ghost from_gives = { λ error halt. halt ≡ Refused };
+
+    fn from(_error: OutOfMemory) -> Halt {
+        Halt::OutOfMemory
+    }
+}

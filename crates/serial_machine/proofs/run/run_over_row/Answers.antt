@@ -1,0 +1,61 @@
+use Rattle.std.proofs.Common.{rules, ◌≡◌, ◌∙◌, ◌<◌, ap, sym, subst, ℕ, List, length, map, ℤ, FitsSigned}
+use Rattle.std.specs.Int.{w64}
+use mir.Val.{to_z, of_z}
+use Rattle.std.proofs.lemmas.Int.{to_z-of_z}
+use Rattle.engine.specs.Starts.{alloca_starts, starts_from}
+use Rattle.store.specs.Cells.{NamedCells}
+use Rattle.store.specs.Rows.{refilled, row_of, sizes_of}
+use Rattle.outcome.specs.declared.outcome.Finished.{Finished}
+use Rattle.serial_steps.specs.Runs.{GoesSafely, RunsTo}
+use Rattle.serial_steps.specs.Shown.{TextFits}
+use Rattle.serial_steps.specs.Starts.{Begins}
+use Rattle.serial_steps.proofs.Calling.{vec_small}
+use Rattle.serial_machine.specs.Promise.{EndsWithinBudget}
+use Rattle.serial_machine.proofs.Engine.{ends, fits, goes, room}
+use Rattle.serial_machine.proofs.run.run_over_row.Goals as goal
+
+pub begin-requires-clause-room : goal.begin-requires-clause-room
+begin-requires-clause-room c = room c.args.program.now c.requires.accepted c.args.arguments.now c.args.memory.now c.requires.taken c.requires.cells
+
+pub begin-requires-clause-entry : goal.begin-requires-clause-entry
+begin-requires-clause-entry c =
+    let places = c.in_ok-places.places in
+    let globals_are : places.globals ≡ starts_from 0 (sizes_of c.args.memory.now) = c.in_ok-places.ensures.globals ∙ ap (λ (xs : List ℕ). starts_from 0 xs) (c.as_slice.ensures.value ∙ c.in_ok-sizes.ensures) in
+    (fits c.args.program.now c.requires.accepted c.args.arguments.now c.args.memory.now c.requires.taken c.requires.cells places globals_are c.in_ok-places.ensures.allocas c.most_moves.result c.most_moves.ensures).entries c.args.program.now.main.0
+
+pub run-requires-clause-text : goal.run-requires-clause-text
+run-requires-clause-text c =
+    let places = c.in_ok-places.places in
+    let globals_are : places.globals ≡ starts_from 0 (sizes_of c.args.memory.now) = c.in_ok-places.ensures.globals ∙ ap (λ (xs : List ℕ). starts_from 0 xs) (c.as_slice.ensures.value ∙ c.in_ok-sizes.ensures) in
+    subst (λ (n : ℕ). TextFits c.args.program.now places n) (sym c.in_ok-stack.ensures.moves)
+    (fits c.args.program.now c.requires.accepted c.args.arguments.now c.args.memory.now c.requires.taken c.requires.cells places globals_are c.in_ok-places.ensures.allocas c.most_moves.result c.most_moves.ensures)
+
+pub run-requires-clause-safe : goal.run-requires-clause-safe
+run-requires-clause-safe c =
+    let places = c.in_ok-places.places in
+    let k = c.in_ok-stack.stack in
+    let globals_are : places.globals ≡ starts_from 0 (sizes_of c.args.memory.now) = c.in_ok-places.ensures.globals ∙ ap (λ (xs : List ℕ). starts_from 0 xs) (c.as_slice.ensures.value ∙ c.in_ok-sizes.ensures) in
+    let begun : Begins c.args.program.now c.args.arguments.now (row_of c.args.memory.now) k = subst (λ (xs : List ℤ). Begins c.args.program.now c.args.arguments.now xs k) c.in_ok-row.ensures c.in_ok-stack.ensures.begins in
+    subst (λ (b : ℕ). GoesSafely c.args.program.now places b 0 k) (sym c.requires.budget)
+    (goes c.args.program.now c.requires.accepted c.args.arguments.now c.args.memory.now c.requires.taken c.requires.cells places globals_are c.in_ok-places.ensures.allocas k begun)
+
+pub returns : goal.returns
+returns c =
+    let program = c.args.program.now in
+    let m = c.args.memory.now in
+    let places = c.in_ok-places.places in
+    let k = c.in_ok-stack.stack in
+    let new = c.run.new.self in
+    let e = c.in_ok-ended.ended in
+    let globals_are : places.globals ≡ starts_from 0 (sizes_of m) = c.in_ok-places.ensures.globals ∙ ap (λ (xs : List ℕ). starts_from 0 xs) (c.as_slice.ensures.value ∙ c.in_ok-sizes.ensures) in
+    let begun : Begins program c.args.arguments.now (row_of m) k = subst (λ (xs : List ℤ). Begins program c.args.arguments.now xs k) c.in_ok-row.ensures c.in_ok-stack.ensures.begins in
+    let small : length (row_of m) < 9223372036854775808 = subst (λ (xs : List ℤ). length xs < 9223372036854775808) c.in_ok-row.ensures (vec_small c.in_ok-row.row) in
+    let runs : RunsTo program places _ k new e = subst (λ (b : ℕ). RunsTo program places b k new e) c.requires.budget c.in_ok-ended.ensures.ends in
+    let kept : c.in_ok-globals.globals ≡ refilled m new.cells.cells.items = c.in_ok-globals.ensures ∙ ap (λ (xs : List ℤ). refilled m xs) c.as_slice-2.ensures.value in
+    let fit : FitsSigned w64 e.result = search rules in
+    let number : to_z w64 (of_z w64 e.result) ≡ e.result = to_z-of_z w64 e.result fit in
+    let same : ◌≡◌ {A = Finished} (record { result = e.result; memory = refilled m new.cells.cells.items; instructions = e.instructions; peak = e.peak })
+    (record { result = to_z w64 (of_z w64 e.result); memory = c.in_ok-globals.globals; instructions = e.instructions; peak = e.peak }) =
+    λ i. record { result = sym number i; memory = sym kept i; instructions = e.instructions; peak = e.peak } in
+    subst (λ (d : Finished). EndsWithinBudget program c.args.arguments.now m d) same
+    (ends program c.requires.accepted c.args.arguments.now m c.requires.taken c.requires.cells places globals_are c.in_ok-places.ensures.allocas k begun small new e runs)

@@ -1,0 +1,35 @@
+-- What the machine rests on, of each program that the verifier took: its text fits, and its serial run can do each next step.
+use Rattle.std.specs.Prelude.{◌≡◌, ℕ, ◌≤◌, List, length, map, Some, ℤ, slice_get}
+use Rattle.running.specs.Cells.{Memory}
+use Rattle.running.specs.Frames.{global_cells}
+use Rattle.program.specs.declared.function.Function.{Function}
+use Rattle.program.specs.declared.function.Program.{Program}
+use Rattle.verifier.specs.Accepted.{IsProgramOf}
+use Rattle.verifier.specs.Budgets.{budget_of}
+use Rattle.engine.specs.Starts.{alloca_starts}
+use Rattle.engine.specs.declared.activation.Places.{Places}
+use Rattle.schedule_theorem.specs.Promise.{AreTaken, HasGlobals}
+use Rattle.outcome.specs.Stack.{starting}
+use Rattle.serial_steps.specs.Layouts.{size_in}
+use Rattle.serial_steps.specs.Shown.{RunsSafely, TextFits}
+
+-- these sizes are as large as the program's globals
+abbrev pub HasCellsOf : Program → List ℕ → Type 0
+HasCellsOf program globals = (g : ℕ) → global_cells (slice_get program.globals g) ≤ size_in globals g
+
+-- wherever a serial run comes it can do its next step, within the budget
+abbrev pub RunsAreSafe : Type 0
+RunsAreSafe =
+    (text : List ℕ) (program : Program) → IsProgramOf text program → (arguments : List ℤ) (memory : Memory) → AreTaken program arguments →
+    HasGlobals program memory →
+    (globals : List ℕ) → HasCellsOf program globals → RunsSafely globals program (budget_of program) (starting program arguments memory)
+
+-- as many moves as a function has registers are enough
+abbrev pub HasMoves : Program → ℕ → Type 0
+HasMoves program moves = (k : ℕ) (f : Function) → slice_get program.functions k ≡ Some f → length f.registers ≤ moves
+
+-- what the text names is there
+abbrev pub TextsFit : Type 0
+TextsFit =
+    (text : List ℕ) (program : Program) → IsProgramOf text program → (places : Places) (moves : ℕ) → length program.globals ≤ length places.globals →
+    places.allocas ≡ map (λ (f : Function). alloca_starts f.allocas) program.functions → HasMoves program moves → TextFits program places moves

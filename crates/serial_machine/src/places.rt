@@ -1,0 +1,47 @@
+ghost use Rattle.std.specs.Prelude.{◌≡◌, IfOk, map};
+ghost use Rattle.program.specs.declared.function.Function.{Function};
+ghost use Rattle.engine.specs.Starts.{alloca_starts, starts_from};
+ghost use Rattle.serial_machine.specs.Safe.{HasMoves};
+
+use engine::Places;
+use lists::{OutOfMemory, Seq};
+use program::Program;
+use std::alloc::Global;
+
+/// Where objects of these sizes begin, one behind the other.
+fn starts(alloc: Global, sizes: &[u64]) -> Result<Seq<i64>, OutOfMemory>
+    ensures { IfOk result (λ starts. starts ≡ starts_from 0 sizes.now) }
+{
+    let mut starts = Vec::new(alloc);
+    let mut next: u64 = 0;
+    for size in sizes {
+        starts.push(next.cast_signed())?;
+        next = next.wrapping_add(*size);
+    }
+    Ok(Seq::from_vec(starts))
+}
+
+/// The places of a program's objects, where its globals have these sizes.
+pub(crate) fn places_of(
+    alloc: Global,
+    program: &Program,
+    sizes: &[u64],
+) -> Result<Places, OutOfMemory>
+    ensures globals { IfOk result (λ places. places.globals ≡ starts_from 0 sizes.now) }
+    ensures allocas { IfOk result (λ places. places.allocas ≡ map (λ (f : Function). alloca_starts f.allocas) program.now.functions) }
+{
+    let mut places = Places::of_program(alloc, program)?;
+    places.globals = starts(alloc, sizes)?;
+    Ok(places)
+}
+
+/// As many moves as any edge of the program makes at a time.
+pub(crate) fn most_moves(program: &Program) -> usize
+    ensures { HasMoves program.now result }
+{
+    let mut most = 0;
+    for function in program.functions.as_slice() {
+        most = most.max(function.registers.len());
+    }
+    most
+}

@@ -1,5 +1,0 @@
-use Rattle.serial_promise.proofs.room.Operands.{operands_fit}
-use Rattle.serial_promise.proofs.law.operands_fit.Goals as goal
-
-pub returns : goal.returns
-returns c = operands_fit

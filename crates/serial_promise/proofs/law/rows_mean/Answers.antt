@@ -1,5 +1,0 @@
-use Rattle.serial_promise.proofs.Rows.{rows_mean}
-use Rattle.serial_promise.proofs.law.rows_mean.Goals as goal
-
-pub returns : goal.returns
-returns c = rows_mean

@@ -1,5 +1,0 @@
-use Rattle.serial_promise.proofs.text.Fits.{texts_fit}
-use Rattle.serial_promise.proofs.law.texts_fit.Goals as goal
-
-pub returns : goal.returns
-returns c = texts_fit

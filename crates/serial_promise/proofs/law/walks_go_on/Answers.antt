@@ -1,5 +1,0 @@
-use Rattle.serial_promise.proofs.walks.Ahead.{walks_go_on}
-use Rattle.serial_promise.proofs.law.walks_go_on.Goals as goal
-
-pub returns : goal.returns
-returns c = walks_go_on

@@ -1,6 +1,0 @@
-use Rattle.std.proofs.Common.{◌≡◌, ◌++◌, drop}
-use Rattle.engine.specs.Starts.{starts_from}
-use Rattle.serial_promise.proofs.places.starts.Given as goal
-
-abbrev pub invariant-loop-size : goal.invariant-loop-size
-invariant-loop-size l = l.starts.items ++ starts_from l.next (drop l.size-index l.sizes) ≡ starts_from 0 l.sizes
