@@ -1,3 +1,4 @@
+pub mod Alone
 pub mod Chains
 pub mod Indexing
 pub mod Buffers
