@@ -17,7 +17,8 @@ use Rattle.crew.specs.Starts.{ArePlaces, Begins, HasMoves, IsRowOf, row_start, s
 use Rattle.schedule_core.specs.declared.event.Event.{Event}
 use Rattle.schedule_core.specs.declared.stage.Stage.{Stage}
 use Rattle.schedule_core.specs.Replaying.{IsMachine, KeepsItsSchedule, Replays, first_state}
-use Rattle.schedule_core.specs.Stages.{IsMadeFor, IsState, given, program_of, workers_of}
+use Rattle.store.specs.Made.{IsMadeFor}
+use Rattle.schedule_core.specs.Stages.{IsState, given, program_of, workers_of}
 use Rattle.schedule_core.proofs.Grounds.{FromStart, laws}
 
 -- ---- the row of the globals

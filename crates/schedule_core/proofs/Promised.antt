@@ -21,17 +21,18 @@ use Rattle.crew.specs.declared.run.Run.{Run}
 use Rattle.crew.specs.Events.{DoesEvent, Grows, LeavesStalls}
 use Rattle.crew.specs.Follows.{AreGiven, Follows}
 use Rattle.crew.specs.Going.{DoesSteal, StandsSafely, TextFits}
+use Rattle.crew.specs.Left.{LeavesAsShown}
 use Rattle.crew.specs.Stalls.{KeepsStalls}
 use Rattle.crew.specs.Starts.{ArePlaces, HasMoves}
 use Rattle.engine.specs.declared.activation.Places.{Places}
 use Rattle.schedule_core.specs.declared.event.Event.{Event}
 use Rattle.schedule_core.specs.declared.event.Event.TheVariants.{Step, Steal}
 use Rattle.schedule_core.specs.declared.stage.Stage.{Stage}
-use Rattle.schedule_core.specs.Replaying.{Becomes, GrowsOnly, Happens, IsMachine, Replays, ReplaysOneMore, event_of, state_after}
+use Rattle.schedule_core.specs.Replaying.{Becomes, GrowsOnly, Happens, IsMachine, Replays, ReplaysOneMore, StaysAsSeen, event_of, state_after}
 use Rattle.schedule_core.specs.Stages.{IsState, program_of, workers_of}
 use Rattle.schedule_core.proofs.Grounds.{laws}
 use Rattle.schedule_core.proofs.Over.{ended_enables_nothing, no_frames, no_root}
-use Rattle.schedule_core.proofs.Replaying.{happens, replays_next, with_run}
+use Rattle.schedule_core.proofs.Replaying.{happens, replays_next, replays_stays, stays_as_seen, with_run}
 
 -- ---- what a step rests on
 
@@ -81,8 +82,25 @@ module _ (old : Stage) (k : Run) (many : length k.hands.items ≡ length old.run
         (next (program_of old) m.arguments old.memory (workers_of old) m.events m.replays);
   }
 
-  pub machine_after : (r : Result Bool OutOfMemory) → OnErr r (k ≡ old.run) → OnOk r (ReplaysOneMore old (with_run old k) e) → ∥ IsMachine old ∥₁ → ∥ IsMachine (with_run old k) ∥₁
-  machine_after (Err x) same next kept = subst (λ (x : Run). ∥ IsMachine (with_run old x) ∥₁) (sym same) kept
+  -- where memory was refused
+  machine_stays : LeavesAsShown (program_of old) old.places old.run k → IsMachine old → IsMachine (with_run old k)
+  machine_stays left m = record {
+    accepted = m.accepted;
+    moves = subst (λ n. HasMoves (program_of old) n) (sym moves) m.moves;
+    places = m.places;
+    made = m.made;
+    small = m.small;
+    given = given_on old.run.cactus k.cactus follows m.given;
+    arguments = m.arguments;
+    taken = m.taken;
+    events = m.events;
+    replays =
+        subst (λ n. Replays (program_of old) m.arguments old.memory n m.events (with_run old k)) (sym many)
+        (replays_stays old k many left (program_of old) m.arguments old.memory (workers_of old) m.events m.replays);
+  }
+
+  pub machine_after : (r : Result Bool OutOfMemory) → OnErr r (LeavesAsShown (program_of old) old.places old.run k) → OnOk r (ReplaysOneMore old (with_run old k) e) → ∥ IsMachine old ∥₁ → ∥ IsMachine (with_run old k) ∥₁
+  machine_after (Err x) left next kept = ∥∥₁_map kept (machine_stays left)
   machine_after (Ok done) same next kept = ∥∥₁_map kept (machine_next next)
 
   pub happens_after : (r : Result Bool OutOfMemory) → IfOk r (DoesEvent (program_of old) old.places old.run k (event_of e)) → IfOk r (Happens old (with_run old k) (event_of e))
@@ -94,6 +112,11 @@ module _ (old : Stage) (k : Run) (many : length k.hands.items ≡ length old.run
   replays_after (Err x) does same stalls = tt
   replays_after (Ok done) does same stalls =
       replays_next old k many e done (happens old k many (event_of e) done does) (λ off. ap (with_run old) (same (ap Ok off))) stalls
+
+pub stays_after : (old : Stage) (k : Run) → length k.hands.items ≡ length old.run.hands.items → (r : Result Bool OutOfMemory) → OnErr r (LeavesAsShown (program_of old) old.places old.run k) →
+    OnErr r (StaysAsSeen old (with_run old k))
+stays_after old k many (Err x) left = stays_as_seen old k many left
+stays_after old k many (Ok done) left = tt
 
 -- want of memory at a step
 pub grows_only : (old : Stage) (w : ℕ) (r : Result Bool OutOfMemory) → OnErr r (Grows (program_of old) old.places old.run w) →

@@ -12,11 +12,12 @@ use Rattle.outcome.specs.Requirements.{unmet_in}
 use Rattle.store.specs.Cells.{NamedCells}
 use Rattle.store.specs.Rows.{sizes_of}
 use Rattle.crew.specs.Events.{GrowsAtStep}
-use Rattle.crew.specs.Follows.{AreGiven}
+use Rattle.crew.specs.Follows.{AreGiven, KeepsUses}
 use Rattle.crew.specs.Stalls.{StallsAgree, last_blocks, no_blocks}
 use Rattle.crew.specs.Starts.{ArePlaces, HasMoves}
 use Rattle.schedule_core.specs.Lines.{line_after, line_or_zero}
-use Rattle.schedule_core.specs.Stages.{given, program_of, workers_of, IsMadeFor, IsState}
+use Rattle.store.specs.Made.{IsMadeFor}
+use Rattle.schedule_core.specs.Stages.{given, program_of, workers_of, IsState}
 use Rattle.schedule_core.specs.declared.event.Event.{Event}
 use Rattle.schedule_core.specs.declared.event.Event.TheVariants.{Step, Steal}
 use Rattle.schedule_core.specs.declared.stage.Stage.{Stage}
@@ -80,6 +81,13 @@ abbrev pub ReplaysTheSame : Stage → Stage → Type 0
 ReplaysTheSame stage other =
     (prog : Program) (arguments : List ℤ) (globals : List NamedCells) (workers : ℕ) (events : List Event) →
     Replays prog arguments globals workers events stage → Replays prog arguments globals workers events other
+
+-- nothing has changed that is seen: it stands as what it stood as, and what led to it leads to it
+pub record StaysAsSeen (old new : Stage) : Type 0 where
+  pub states : (m : running.Machine) → IsState old m → IsState new m
+  pub replays : ReplaysTheSame old new
+  pub memory : new.memory ≡ old.memory
+  pub uses : KeepsUses old.run.cactus new.run.cactus
 
 -- ---- what a machine keeps
 
