@@ -1,5 +1,5 @@
 -- One event after another.
-use Rattle.std.proofs.Common.{◌≡◌, ℕ, ◌+◌, ◌≤◌, List, [], ◌∷◌, ◌++◌, append_assoc, append-nil, length, map, Option, Some, None, Bool, true, false, cond, refl, sym, ap, ◌∙◌, subst, ℤ}
+use Rattle.std.proofs.Common.{◌≡◌, ℕ, ◌≤◌, List, [], ◌∷◌, ◌++◌, append_assoc, append-nil, length, map, Option, Some, None, Bool, true, false, cond, refl, sym, ap, ◌∙◌, subst, ℤ}
 use Rattle.running.specs.Events as running
 use Rattle.running.specs.Events.{Machine}
 use Rattle.running.specs.Replay.{or_unchanged, replay}
@@ -131,8 +131,8 @@ module _ (old : Stage) (k : Run) (many : length k.hands.items ≡ length old.run
     program = r.program;
     as_many = many ∙ r.as_many;
     globals_are = r.globals_are;
-    state = state_stays _ r.state;
-    stalls = left.stalls _ r.stalls;
+    state = state_stays (state_after prog arguments globals workers events) r.state;
+    stalls = left.stalls (last_blocks prog workers (map event_of events) (first_state prog arguments globals) no_blocks) r.stalls;
   }
 
   pub stays_as_seen : StaysAsSeen old (with_run old k)

@@ -1,5 +1,5 @@
 -- What a stage stands for: a machine of the definitions, from which each schedule goes well.
-use Rattle.std.specs.Prelude.{◌≡◌, ℕ, ◌≤◌, ◌<◌, List, length, map, sum, Option, Some, None, IsSome, option_and_then, slice_get, ℤ}
+use Rattle.std.specs.Prelude.{◌≡◌, ℕ, ◌≤◌, ◌<◌, List, length, map, Option, Some, None, IsSome, option_and_then, slice_get, ℤ}
 use Rattle.running.specs.Cells.{Object, Shared, Local, Memory}
 use Rattle.running.specs.Events.{Machine, Event, start}
 use Rattle.running.specs.Replay.{replay}
