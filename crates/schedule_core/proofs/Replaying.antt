@@ -13,7 +13,7 @@ use Rattle.crew.specs.Shown.{IsShown}
 use Rattle.crew.specs.Stalls.{Blocks, StallsAgree, if_enabled, last_blocks, no_blocks, noted}
 use Rattle.schedule_core.specs.declared.event.Event.{Event}
 use Rattle.schedule_core.specs.declared.stage.Stage.{Stage}
-use Rattle.schedule_core.specs.Replaying.{Becomes, Happens, Replays, ReplaysMore, ReplaysOneMore, ReplaysTheSame, StaysAsSeen, event_of, first_state, state_after}
+use Rattle.schedule_core.specs.Replaying.{Becomes, Happens, LeavesAsBefore, Replays, ReplaysMore, ReplaysOneMore, ReplaysTheSame, event_of, first_state, state_after}
 use Rattle.schedule_core.specs.Stages.{GoesWell, IsReached, IsState, program_of, workers_of}
 use Rattle.schedule_core.proofs.Reached.{reached_next, replay_more}
 
@@ -115,28 +115,31 @@ module _ (old : Stage) (k : Run) (many : length k.hands.items ≡ length old.run
         subst (λ q. Replays q arguments globals workers (events ++ e ∷ []) new) r.program
         (subst (λ n. Replays (program_of old) arguments globals n (events ++ e ∷ []) new) r.as_many (replays_here arguments globals events own done refl (h _ own.state)))
 
--- ---- nothing
+-- ---- a run of which the same is seen
 
 module _ (old : Stage) (k : Run) (many : length k.hands.items ≡ length old.run.hands.items) (left : LeavesAsShown (program_of old) old.places old.run k) where
-  state_stays : (m : Machine) → IsState old m → IsState (with_run old k) m
-  state_stays m s = record {
+  abbrev seen : Stage
+  seen = with_run old k
+
+  state_same : (m : Machine) → IsState old m → IsState seen m
+  state_same m s = record {
     shown = left.shown m s.shown s.well.safe;
     manned = subst (λ n. 1 ≤ n) (sym many) s.manned;
     reached = subst (λ n. IsReached (program_of old) n m) (sym many) s.reached;
     well = subst (λ n. GoesWell (program_of old) n m) (sym many) s.well;
   }
 
-  pub replays_stays : ReplaysTheSame old (with_run old k)
-  replays_stays prog arguments globals workers events r = record {
+  replays_same : ReplaysTheSame old seen
+  replays_same prog arguments globals workers events r = record {
     program = r.program;
     as_many = many ∙ r.as_many;
     globals_are = r.globals_are;
-    state = state_stays (state_after prog arguments globals workers events) r.state;
+    state = state_same _ r.state;
     stalls = left.stalls (last_blocks prog workers (map event_of events) (first_state prog arguments globals) no_blocks) r.stalls;
   }
 
-  pub stays_as_seen : StaysAsSeen old (with_run old k)
-  stays_as_seen = record { states = state_stays; replays = replays_stays; memory = refl; uses = left.uses }
+  pub leaves_as_before : LeavesAsBefore old seen
+  leaves_as_before = record { state = state_same; replays = replays_same; uses = left.uses; globals = refl }
 
 -- ---- many
 

@@ -15,6 +15,7 @@ use Rattle.crew.specs.Events.{GrowsAtStep}
 use Rattle.crew.specs.Follows.{AreGiven, KeepsUses}
 use Rattle.crew.specs.Stalls.{StallsAgree, last_blocks, no_blocks}
 use Rattle.crew.specs.Starts.{ArePlaces, HasMoves}
+use Rattle.schedule_core.specs.Spots.{KeepsSpots}
 use Rattle.schedule_core.specs.Lines.{line_after, line_or_zero}
 use Rattle.store.specs.Made.{IsMadeFor}
 use Rattle.schedule_core.specs.Stages.{given, program_of, workers_of, IsState}
@@ -82,12 +83,20 @@ ReplaysTheSame stage other =
     (prog : Program) (arguments : List ℤ) (globals : List NamedCells) (workers : ℕ) (events : List Event) →
     Replays prog arguments globals workers events stage → Replays prog arguments globals workers events other
 
--- nothing has changed that is seen: it stands as what it stood as, and what led to it leads to it
-pub record StaysAsSeen (old new : Stage) : Type 0 where
-  pub states : (m : running.Machine) → IsState old m → IsState new m
+-- nothing has changed that is seen of the stage: whatever machine it stood as it stands as, whatever events led to it lead to it, and frames keep
+-- their uses of slots
+pub record LeavesAsBefore (old new : Stage) : Type 0 where
+  pub state : (m : running.Machine) → IsState old m → IsState new m
   pub replays : ReplaysTheSame old new
-  pub memory : new.memory ≡ old.memory
   pub uses : KeepsUses old.run.cactus new.run.cactus
+  pub globals : new.memory ≡ old.memory
+
+-- another stage stands as what this one stands as, what led to this one leads to it, and frames stand in the same uses of slots
+pub record StandsAsWell (stage other : Stage) : Type 0 where
+  pub state : (m : running.Machine) → IsState stage m → IsState other m
+  pub replays : ReplaysTheSame stage other
+  pub spots : KeepsSpots stage.run.cactus other.run.cactus
+  pub globals : other.memory ≡ stage.memory
 
 -- ---- what a machine keeps
 
@@ -111,6 +120,8 @@ pub record KeepsItsSchedule (prog : Program) (arguments : List ℤ) (globals : L
   pub is_serial : IsSerialMeaning prog arguments (given globals) serial
   pub within_budget : serial.count ≤ budget_of prog
   pub schedule : KeepsSchedule prog workers serial (state_after prog arguments globals workers events)
+  -- and so after whatever events follow these
+  pub onwards : (more : List Event) → KeepsSchedule prog workers serial (state_after prog arguments globals workers (events ++ more))
 
 -- ---- lines
 

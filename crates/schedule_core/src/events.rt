@@ -3,7 +3,7 @@ ghost use Rattle.running.specs.Events.{Machine};
 ghost use Rattle.outcome.specs.Requirements.{unmet_in};
 ghost use Rattle.store.specs.declared.memory.Memory.{Memory};
 ghost use Rattle.crew.specs.Follows.{Follows};
-ghost use Rattle.schedule_core.specs.Replaying.{GrowsOnly, Happens, IsMachine, IsNumberOfWorkers, Replays, ReplaysMore, ReplaysOneMore, StaysAsSeen, event_of};
+ghost use Rattle.schedule_core.specs.Replaying.{GrowsOnly, Happens, IsMachine, IsNumberOfWorkers, LeavesAsBefore, Replays, ReplaysMore, ReplaysOneMore, StandsAsWell, event_of};
 ghost use Rattle.store.specs.Made.{IsMadeFor};
 ghost use Rattle.schedule_core.specs.Stages.{IsState, program_of};
 
@@ -78,12 +78,30 @@ pub(crate) fn begin<'v>(
     }
 }
 
+/// The stage again, in lists of its own.
+pub(crate) fn copied<'v>(stage: &Stage<'v>) -> Result<Stage<'v>, OutOfMemory>
+    requires { ∥ IsMachine stage.now ∥₁ }
+    ensures same { IfOk result (StandsAsWell stage.now) }
+    ensures machine { IfOk result (λ other. ∥ IsMachine other ∥₁) }
+{
+    let program = stage.verified.program();
+    let run = stage.run.copy()?;
+    let places = Places::of_program(run.alloc, program)?;
+    let memory = stage.memory.copy()?;
+    Ok(Stage {
+        verified: stage.verified,
+        places,
+        memory,
+        run,
+    })
+}
+
 /// One event. The answer is whether it was enabled; where it was not, nothing changes.
 pub(crate) fn apply_to(stage: &mut Stage<'_>, event: &Event) -> Result<bool, OutOfMemory>
     requires { ∥ IsMachine stage.old ∥₁ }
     ensures enabled { IfOk result (Happens stage.old stage.new (event_of event.now)) }
     ensures not_enabled { result ≡ Ok false → stage.new ≡ stage.old }
-    ensures refused { OnErr result (StaysAsSeen stage.old stage.new) }
+    ensures refused { OnErr result (LeavesAsBefore stage.old stage.new) }
     ensures only { OnErr result ((m : Machine) → IsState stage.old m → GrowsOnly (program_of stage.old) m event.now) }
     ensures replays { OnOk result (ReplaysOneMore stage.old stage.new event.now) }
     ensures machine { ∥ IsMachine stage.new ∥₁ }

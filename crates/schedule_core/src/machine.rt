@@ -4,12 +4,12 @@ ghost use Rattle.running.specs.Replay.{CountsFrames, has_ended};
 ghost use Rattle.outcome.specs.Requirements.{unmet_in};
 ghost use Rattle.store.specs.declared.memory.Memory.{Memory};
 ghost use Rattle.schedule_core.specs.Spots.{KeepsSpots};
-ghost use Rattle.schedule_core.specs.Replaying.{GrowsOnly, Happens, IsMachine, IsNumberOfWorkers, Replays, ReplaysOneMore, StaysAsSeen, event_of};
+ghost use Rattle.schedule_core.specs.Replaying.{GrowsOnly, Happens, IsMachine, IsNumberOfWorkers, LeavesAsBefore, Replays, ReplaysOneMore, StandsAsWell, event_of};
 ghost use Rattle.store.specs.Made.{IsMadeFor};
 ghost use Rattle.schedule_core.specs.Stages.{IsState, program_of};
 
 use crate::event::Event;
-use crate::events::{apply_to, begin};
+use crate::events::{apply_to, begin, copied};
 use crate::stage::Stage;
 use lists::OutOfMemory;
 use outcome::RunFault;
@@ -58,11 +58,11 @@ impl<'v> Machine<'v> {
     ///
     /// # Errors
     ///
-    /// Memory was refused: nothing has changed that is seen. Only a step that makes a frame takes memory.
+    /// Memory was refused: nothing has changed that is seen of the machine. Only a step that makes a frame takes memory.
     pub fn apply(&mut self, event: &Event) -> Result<bool, OutOfMemory>
         ensures enabled { IfOk result (Happens self.old.stage self.new.stage (event_of event.now)) }
         ensures not_enabled { result ≡ Ok false → self.new.stage ≡ self.old.stage }
-        ensures refused { OnErr result (StaysAsSeen self.old.stage self.new.stage) }
+        ensures refused { OnErr result (LeavesAsBefore self.old.stage self.new.stage) }
         ensures only { OnErr result ((m : running.Machine) → IsState self.old.stage m → GrowsOnly (program_of self.old.stage) m event.now) }
         ensures over { (m : running.Machine) → IsState self.old.stage m → has_ended m ≡ true → result ≡ Ok false }
         ensures keeps { OnOk result (ReplaysOneMore self.old.stage self.new.stage event.now) }
@@ -70,6 +70,18 @@ impl<'v> Machine<'v> {
         ensures names { self.new.stage.memory ≡ self.old.stage.memory }
     {
         apply_to(&mut self.stage, event)
+    }
+
+    /// The same machine again.
+    ///
+    /// # Errors
+    ///
+    /// Memory was refused.
+    pub fn copy(&self) -> Result<Machine<'v>, OutOfMemory>
+        ensures same { IfOk result (λ m. StandsAsWell self.now.stage m.stage) }
+    {
+        let stage = copied(&self.stage)?;
+        Ok(Machine { stage })
     }
 
     /// Whether `main` has returned.

@@ -11,7 +11,7 @@ use Rattle.schedule_core.specs.declared.event.Event.TheVariants.{Step, Steal}
 use Rattle.schedule_core.specs.Replaying.{GrowsOnly, Happens, ReplaysOneMore, event_of}
 use Rattle.schedule_core.specs.Stages.{IsState, program_of}
 use Rattle.schedule_core.proofs.Replaying.{with_run}
-use Rattle.schedule_core.proofs.Promised.{happens_after, grows_only, machine_after, replays_after, stays_after, stands_safely, steal_happens, steal_replays, text_fits, unless_done}
+use Rattle.schedule_core.proofs.Promised.{grows_only, happens_after, left_after, machine_after, replays_after, stands_safely, steal_happens, steal_replays, text_fits, unless_done}
 use Rattle.schedule_core.proofs.events.apply_to.Goals as goal
 
 pub step-requires-clause-text : goal.step-requires-clause-text
@@ -45,8 +45,8 @@ pub returns-in-Step-clause-refused : goal.returns-in-Step-clause-refused
 returns-in-Step-clause-refused c =
     let old = c.args.stage.now in
     let k = c.step.new.self in
-    stays_after old k c.step.ensures.workers c.step.result
-    (subst (λ (q : Program). OnErr c.step.result (LeavesAsShown q old.places old.run k)) c.program-program.ensures.value c.step.ensures.refused)
+    let left = subst (λ (q : Program). OnErr c.step.result (LeavesAsShown q old.places old.run k)) c.program-program.ensures.value c.step.ensures.refused in
+    left_after old k c.step.ensures.workers c.step.ensures.moves c.step.ensures.follows (Step c.in-Step.worker) c.step.result left
 
 pub returns-in-Step-clause-only : goal.returns-in-Step-clause-only
 returns-in-Step-clause-only c =
@@ -61,8 +61,9 @@ returns-in-Step-clause-machine c =
     let k = c.step.new.self in
     let does = subst (λ (q : Program). IfOk c.step.result (DoesEvent q old.places old.run k (running.Step c.in-Step.worker))) c.program-program.ensures.value c.step.ensures.event in
     let stalls = subst (λ (q : Program). IfOk c.step.result (LeavesStalls q old.places old.run k (running.Step c.in-Step.worker))) c.program-program.ensures.value c.step.ensures.stalls in
+    let left = subst (λ (q : Program). OnErr c.step.result (LeavesAsShown q old.places old.run k)) c.program-program.ensures.value c.step.ensures.refused in
     machine_after old k c.step.ensures.workers c.step.ensures.moves c.step.ensures.follows (Step c.in-Step.worker) c.step.result
-    (subst (λ (q : Program). OnErr c.step.result (LeavesAsShown q old.places old.run k)) c.program-program.ensures.value c.step.ensures.refused)
+    (left_after old k c.step.ensures.workers c.step.ensures.moves c.step.ensures.follows (Step c.in-Step.worker) c.step.result left)
     (replays_after old k c.step.ensures.workers c.step.ensures.moves c.step.ensures.follows (Step c.in-Step.worker) c.step.result does c.step.ensures.left stalls) c.requires
 
 pub returns-in-Steal-clause-enabled : goal.returns-in-Steal-clause-enabled
