@@ -1,6 +1,6 @@
 -- The tops that are ready, by slots, are those of the ready tasks.
-use Rattle.std.proofs.Common.{◌≡◌, ◌≢◌, ℕ, List, Contains, length, reverse, Option, Some, None, Bool, true, false, cond, ◌⊎◌, inl, inr, refl, sym, ap, ◌∙◌, subst}
-use Rattle.std.specs.Prelude.{IsSomeAnd, IfSome}
+use Rattle.std.proofs.Common.{◌≡◌, ◌≢◌, ℕ, List, Contains, reverse, Option, Some, None, Bool, true, false, cond, ◌⊎◌, inl, inr, refl, sym, ap, ◌∙◌, subst}
+use Rattle.std.specs.Prelude.{IsSomeAnd, IfNone, IfSome}
 use Rattle.std.specs.Cmp.Lexicographic.{slice_cmp}
 use Rattle.std.specs.Cmp.{IsTotalOrder}
 use Rattle.std.specs.Ordering.{nat_cmp, ordering_reverse}
@@ -10,26 +10,27 @@ use Rattle.std.proofs.lemmas.List.{reverse-reverse}
 use Rattle.std.proofs.lemmas.Cmp.{nat_list_cmp_total}
 use Rattle.running.specs.Frames as defined
 use Rattle.running.specs.Events as running
+use Rattle.running.specs.Events.{Machine}
 use Rattle.running.specs.Tasks.{OnTask, is_lowest}
-use Rattle.program.specs.declared.function.Program.{Program}
 use Rattle.frame.specs.declared.path.Path.{Path}
 use Rattle.frame.specs.declared.frame.Wait.{Wait}
 use Rattle.frame.specs.declared.frame.Wait.TheVariants as wait
-use Rattle.frame.specs.Reading.{frame_of, wait_of}
+use Rattle.frame.specs.Reading.{wait_of}
 use Rattle.cactus.specs.declared.node.Node.{Node}
 use Rattle.cactus.specs.Frames.{Frames, frame_at, node_at}
 use Rattle.cactus.specs.ByPath.{IsTree}
 use Rattle.slab.specs.Slab.{entries_from}
 use Rattle.slab.proofs.SlabLemmas.{Contains-entries}
-use Rattle.worker_steps.specs.declared.activation.Activation.{Activation}
-use Rattle.worker_steps.specs.declared.run.Run.{Run}
-use Rattle.worker_steps.specs.Scheduling.{IsReady}
-use Rattle.worker_steps.specs.Seen.{place_of, seen, CalleeStands}
-use Rattle.worker_steps.specs.Stepping.{IsRun}
-use Rattle.worker_steps.specs.Tasks.{IsLowest, IsLowestBelow, lowest, under}
-use Rattle.worker_steps.proofs.Steals.{holder_is}
+use Rattle.crew.specs.declared.activation.Activation.{Activation}
+use Rattle.crew.specs.Lowest.{IsLowestBelow, lowest, under}
+use Rattle.crew.specs.Shown.{CalleeStands, place_of}
+use Rattle.crew.specs.Tasks.{IsLowest, IsReady}
+use Rattle.crew.proofs.Topmost.{holder_is}
+use Rattle.schedule_core.specs.declared.stage.Stage.{Stage}
+use Rattle.schedule_core.specs.Stages.{IsState, program_of, workers_of}
 use Rattle.schedule_core.specs.Viewed.{status_in, Advances, IsAtMost, IsNamedBelow, IsReadyAt, IsLesser, IsFirstReady, IsNoneReady}
-use Rattle.schedule_core.proofs.TaskPlaces.{parts, same_node, lowest_is_task, lowest_of, seen_here, slot_of, top_of_slots}
+use Rattle.schedule_core.proofs.Spots.{same_node}
+use Rattle.schedule_core.proofs.TaskPlaces.{here_at, parts, lowest_is_task, lowest_of, slot_of, top_of_slots}
 use Rattle.schedule_core.proofs.Shown.{lowest_low, status_of_slots}
 
 -- ---- the order of paths
@@ -168,26 +169,26 @@ free_is wait.Nothing e = refl
 free_is (wait.Region region) e = absurd (cc)
 free_is (wait.Call child register) e = absurd (cc)
 
-module _ (prog : Program) (m : Run) (k : IsRun prog m) where
+module _ (stage : Stage) (m : Machine) (state : IsState stage m) where
   -- a top that is ready is a ready task's
-  pub ready_status : (slot : ℕ) (path : Path) → IsReadyAt m.cactus slot path → status_in m path ≡ Some running.Ready
+  pub ready_status : (slot : ℕ) (path : Path) → IsReadyAt stage.run.cactus slot path → status_in (workers_of stage) m path ≡ Some running.Ready
   ready_status slot path r =
-      let none : r.top.frame.callee ≡ None = subst (λ w. CalleeStands m.cactus r.top w r.top.frame.callee) r.ready.free (k.agrees.callees slot r.top r.stands) in
-      let status : running.status_of (length m.hands.items) (seen m) (place_of r.task.lowest) ≡ Some running.Ready =
-      status_of_slots m k.agrees slot r.top r.task.lowest r.stands
-      (lowest_is_task prog m k r.task.low r.task.lowest r.task.stands (lowest_low prog m k slot r.task.low r.task.below r.task.lowest r.task.stands))
-      (top_of_slots prog m k slot r.task.low r.task.below r.top r.task.lowest r.stands r.task.stands none)
+      let none : r.top.frame.callee ≡ None = subst (λ w. CalleeStands stage.run.cactus r.top w r.top.frame.callee) r.ready.free (state.shown.agrees.nodes slot r.top r.stands).callee in
+      let status : running.status_of (workers_of stage) m (place_of r.task.lowest) ≡ Some running.Ready =
+      status_of_slots stage m state slot r.top r.task.lowest r.stands
+      (lowest_is_task stage m state r.task.low r.task.lowest r.task.stands (lowest_low stage m state slot r.task.low r.task.below r.task.lowest r.task.stands))
+      (top_of_slots stage m state slot r.task.low r.task.below r.top r.task.lowest r.stands r.task.stands none)
       ∙ rw (r.ready.unheld, r.ready.free) refl in
-      subst (λ (p : Path). status_in m p ≡ Some running.Ready) r.task.named status
+      subst (λ (p : Path). status_in (workers_of stage) m p ≡ Some running.Ready) r.task.named status
 
   -- the top of a ready task
-  pub ready_found : (path : Path) → status_in m path ≡ Some running.Ready → (slot : ℕ) × IsReadyAt m.cactus slot path
-  ready_found path is = by_task (running.is_task (reverse path.numbers) ((seen m).core.frames (reverse path.numbers))) refl is
+  pub ready_found : (path : Path) → status_in (workers_of stage) m path ≡ Some running.Ready → (slot : ℕ) × IsReadyAt stage.run.cactus slot path
+  ready_found path is = by_task (running.is_task (reverse path.numbers) (m.core.frames (reverse path.numbers))) refl is
     where
-      by_slots : running.is_task (reverse path.numbers) ((seen m).core.frames (reverse path.numbers)) ≡ true → (low slot : ℕ) (base node : Node Activation) → node_at m.cactus low ≡ Some base → place_of base ≡ reverse path.numbers → node_at m.cactus slot ≡ Some node → place_of node ≡ (running.top_of (seen m).core (reverse path.numbers)) →
-          node.frame.runner ≡ None → node.frame.frame.waits ≡ wait.Nothing → (s : ℕ) × IsReadyAt m.cactus s path
+      by_slots : running.is_task (reverse path.numbers) (m.core.frames (reverse path.numbers)) ≡ true → (low slot : ℕ) (base node : Node Activation) → node_at stage.run.cactus low ≡ Some base → place_of base ≡ reverse path.numbers → node_at stage.run.cactus slot ≡ Some node → place_of node ≡ (running.top_of m.core (reverse path.numbers)) →
+          node.frame.runner ≡ None → node.frame.frame.waits ≡ wait.Nothing → (s : ℕ) × IsReadyAt stage.run.cactus s path
       by_slots task low slot base node at low_place stands place unheld free =
-          let on : OnTask (seen m).core (reverse path.numbers) (running.top_of (seen m).core (reverse path.numbers)) = ((parts prog m k).top (reverse path.numbers) (reverse path.numbers) (is_lowest task)).0 in
+          let on : OnTask m.core (reverse path.numbers) (running.top_of m.core (reverse path.numbers)) = ((parts stage m state).top (reverse path.numbers) (reverse path.numbers) (is_lowest task)).0 in
           let numbers : base.path.numbers ≡ path.numbers = sym (reverse-reverse base.path.numbers) ∙ (ap (λ (l : List ℕ). reverse l) low_place ∙ reverse-reverse path.numbers) in (
             slot,
             record {
@@ -196,7 +197,7 @@ module _ (prog : Program) (m : Run) (k : IsRun prog m) where
               ready = record { unheld = unheld; free = free };
               task = record {
                 low = low;
-                below = lowest_of prog m k (reverse path.numbers) (running.top_of (seen m).core (reverse path.numbers)) on slot low node base stands place at low_place;
+                below = lowest_of stage m state (reverse path.numbers) (running.top_of m.core (reverse path.numbers)) on slot low node base stands place at low_place;
                 lowest = base;
                 stands = at;
                 named = ap (λ (l : List ℕ). record { numbers = l }) numbers;
@@ -204,14 +205,15 @@ module _ (prog : Program) (m : Run) (k : IsRun prog m) where
             },
           )
 
-      by_top : running.is_task (reverse path.numbers) ((seen m).core.frames (reverse path.numbers)) ≡ true → (f : defined.Frame) → (seen m).core.frames (reverse path.numbers) ≡ Some f → (g : defined.Frame) → (seen m).core.frames (running.top_of (seen m).core (reverse path.numbers)) ≡ Some g → running.holder (length m.hands.items) (seen m).hands (running.top_of (seen m).core (reverse path.numbers)) ≡ None → g.waits ≡ defined.Free → (s : ℕ) × IsReadyAt m.cactus s path
+      by_top : running.is_task (reverse path.numbers) (m.core.frames (reverse path.numbers)) ≡ true → (f : defined.Frame) → m.core.frames (reverse path.numbers) ≡ Some f → (g : defined.Frame) → m.core.frames (running.top_of m.core (reverse path.numbers)) ≡ Some g → running.holder (workers_of stage) m.hands (running.top_of m.core (reverse path.numbers)) ≡ None → g.waits ≡ defined.Free → (s : ℕ) × IsReadyAt stage.run.cactus s path
       by_top task f at g over none free =
-          let (low, base, there, low_place) = slot_of prog m k (reverse path.numbers) f at in
-          let (slot, node, stands, place) = slot_of prog m k (running.top_of (seen m).core (reverse path.numbers)) g over in
-          let e : Some (frame_of (place_of node) node.frame.frame) ≡ Some g = sym (seen_here prog m k slot node stands) ∙ (ap (seen m).core.frames place ∙ over) in
-          let same : frame_of (place_of node) node.frame.frame ≡ g = cc in
-          let runner : node.frame.runner ≡ None = sym (holder_is m.cactus m.hands.items k.agrees slot node stands) ∙ (ap (λ p. running.holder (length m.hands.items) (seen m).hands p) place ∙ none) in
-          by_slots task low slot base node there low_place stands place runner (free_is node.frame.frame.waits (ap (λ (h : defined.Frame). h.waits) same ∙ free))
+          let (low, base, there, low_place) = slot_of stage m state (reverse path.numbers) f at in
+          let (slot, node, stands, place) = slot_of stage m state (running.top_of m.core (reverse path.numbers)) g over in
+          let here = here_at stage m state slot node stands in
+          let e : Some here.frame ≡ Some g = sym here.is ∙ (ap m.core.frames place ∙ over) in
+          let same : here.frame ≡ g = cc in
+          let runner : node.frame.runner ≡ None = sym (holder_is (program_of stage) stage.places m stage.run state.shown slot node stands) ∙ (ap (λ p. running.holder (workers_of stage) m.hands p) place ∙ none) in
+          by_slots task low slot base node there low_place stands place runner (free_is node.frame.frame.waits (sym here.waits ∙ (ap (λ (h : defined.Frame). h.waits) same ∙ free)))
 
       by_wait : (w : defined.Wait) → running.waiting_status w ≡ Some running.Ready → w ≡ defined.Free
       by_wait defined.Free e = refl
@@ -219,30 +221,39 @@ module _ (prog : Program) (m : Run) (k : IsRun prog m) where
       by_wait (defined.OnCall j d) e = absurd (let f : None ≡ Some running.Ready = e in cc)
       by_wait defined.Halted e = absurd (let f : None ≡ Some running.Ready = e in cc)
 
-      by_holder : (o : Option ℕ) (h : Option defined.Frame) → running.holder (length m.hands.items) (seen m).hands (running.top_of (seen m).core (reverse path.numbers)) ≡ o → (seen m).core.frames (running.top_of (seen m).core (reverse path.numbers)) ≡ h → running.status_at h o ≡ Some running.Ready → (g : defined.Frame) × ((seen m).core.frames (running.top_of (seen m).core (reverse path.numbers)) ≡ Some g) × (running.holder (length m.hands.items) (seen m).hands (running.top_of (seen m).core (reverse path.numbers)) ≡ None) × (g.waits ≡ defined.Free)
+      by_holder : (o : Option ℕ) (h : Option defined.Frame) → running.holder (workers_of stage) m.hands (running.top_of m.core (reverse path.numbers)) ≡ o → m.core.frames (running.top_of m.core (reverse path.numbers)) ≡ h → running.status_at h o ≡ Some running.Ready → (g : defined.Frame) × (m.core.frames (running.top_of m.core (reverse path.numbers)) ≡ Some g) × (running.holder (workers_of stage) m.hands (running.top_of m.core (reverse path.numbers)) ≡ None) × (g.waits ≡ defined.Free)
       by_holder (Some w) h held over e = absurd (let f : Some (running.Running w) ≡ Some running.Ready = e in cc)
       by_holder None None held over e = absurd (let f : None ≡ Some running.Ready = e in cc)
       by_holder None (Some g) held over e = (g, over, held, by_wait g.waits e)
 
-      by_frame : (o : Option defined.Frame) → (seen m).core.frames (reverse path.numbers) ≡ o → running.is_task (reverse path.numbers) o ≡ true → (f : defined.Frame) × ((seen m).core.frames (reverse path.numbers) ≡ Some f)
+      by_frame : (o : Option defined.Frame) → m.core.frames (reverse path.numbers) ≡ o → running.is_task (reverse path.numbers) o ≡ true → (f : defined.Frame) × (m.core.frames (reverse path.numbers) ≡ Some f)
       by_frame None at e = absurd (let f : false ≡ true = e in cc)
       by_frame (Some f) at e = (f, at)
 
-      by_task : (b : Bool) → running.is_task (reverse path.numbers) ((seen m).core.frames (reverse path.numbers)) ≡ b → cond b (running.top_status (length m.hands.items) (seen m) (running.top_of (seen m).core (reverse path.numbers))) None ≡ Some running.Ready → (s : ℕ) × IsReadyAt m.cactus s path
+      by_task : (b : Bool) → running.is_task (reverse path.numbers) (m.core.frames (reverse path.numbers)) ≡ b → cond b (running.top_status (workers_of stage) m (running.top_of m.core (reverse path.numbers))) None ≡ Some running.Ready → (s : ℕ) × IsReadyAt stage.run.cactus s path
       by_task false task e = absurd (let f : None ≡ Some running.Ready = e in cc)
       by_task true task e =
-          let (f, at) = by_frame ((seen m).core.frames (reverse path.numbers)) refl task in
-          let (g, over, none, free) = by_holder (running.holder (length m.hands.items) (seen m).hands (running.top_of (seen m).core (reverse path.numbers))) ((seen m).core.frames (running.top_of (seen m).core (reverse path.numbers))) refl refl e in
+          let (f, at) = by_frame (m.core.frames (reverse path.numbers)) refl task in
+          let (g, over, none, free) = by_holder (running.holder (workers_of stage) m.hands (running.top_of m.core (reverse path.numbers))) (m.core.frames (running.top_of m.core (reverse path.numbers))) refl refl e in
           by_top task f at g over none free
 
   -- ---- what the walk over the slots found
 
-  pub first_is : (slot : ℕ) (path : Path) → IsReadyAt m.cactus slot path → ((s : ℕ) (q : Path) → IsReadyAt m.cactus s q → IsAtMost path q) → IsFirstReady m path
+  pub first_is : (slot : ℕ) (path : Path) → IsReadyAt stage.run.cactus slot path → ((s : ℕ) (q : Path) → IsReadyAt stage.run.cactus s q → IsAtMost path q) → IsFirstReady (workers_of stage) m path
   first_is slot path here covers =
       record {
         ready = ready_status slot path here;
         least = λ other is. let (s, r) = ready_found other is in covers s other r;
       }
 
-  pub none_is : ((s : ℕ) (q : Path) → ¬ IsReadyAt m.cactus s q) → IsNoneReady m
+  pub none_is : ((s : ℕ) (q : Path) → ¬ IsReadyAt stage.run.cactus s q) → IsNoneReady (workers_of stage) m
   none_is covers path is = let (s, r) = ready_found path is in covers s path r
+
+  -- what a walk over all slots found
+  pub least_found : (o : Option Path) → Found stage.run.cactus o → (IsTree stage.run.cactus → (s : ℕ) (n : Node Activation) → node_at stage.run.cactus s ≡ Some n → Covered stage.run.cactus s o) → IfSome o (IsFirstReady (workers_of stage) m)
+  least_found None found covers = tt
+  least_found (Some p) found covers = first_is found.0 p found.1 (λ s q r. covers state.shown.agrees.tree s r.top r.stands q r)
+
+  pub none_found : (o : Option Path) → (IsTree stage.run.cactus → (s : ℕ) (n : Node Activation) → node_at stage.run.cactus s ≡ Some n → Covered stage.run.cactus s o) → IfNone o (IsNoneReady (workers_of stage) m)
+  none_found (Some p) covers = tt
+  none_found None covers = none_is (λ s q r. covers state.shown.agrees.tree s r.top r.stands q r)

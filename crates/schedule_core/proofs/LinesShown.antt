@@ -1,31 +1,32 @@
--- The line that a view shows is the definitions' line of its task.
-use Rattle.std.proofs.Common.{◌≡◌, ℕ, ℤ, List, length, map, reverse, Option, Some, None, refl, sym, ap, ◌∙◌}
+-- The line of a view is that of its task, by the events that lead here.
+use Rattle.std.proofs.Common.{◌≡◌, ℕ, List, map, reverse, Option, Some, None, refl, sym, ap, ◌∙◌, ℤ}
 use Rattle.std.specs.Prelude.{IfSome, option_and_then}
 use Rattle.std.specs.Option.{option_map}
-use Rattle.running.specs.Paths.{Path as RunningPath}
-use Rattle.running.specs.Frames.{Frame as RunningFrame}
-use Rattle.running.specs.Events as running
 use Rattle.linear.specs.declared.form.RegisterId.{RegisterId}
+use Rattle.running.specs.Paths.{Path as RunningPath}
+use Rattle.running.specs.Frames.{Frame as RunningFrame, block_at}
+use Rattle.running.specs.Events as running
+use Rattle.running.specs.Events.{Machine}
+use Rattle.program.specs.declared.function.Block.{Block}
 use Rattle.program.specs.declared.function.Program.{Program}
 use Rattle.program.specs.declared.identifier.BlockId.{BlockId}
-use Rattle.store.specs.Cells.{NamedCells}
-use Rattle.frame.specs.declared.frame.Frame.{Frame}
 use Rattle.frame.specs.declared.frame.Wait.{Wait}
 use Rattle.frame.specs.declared.frame.Wait.TheVariants as wait
 use Rattle.frame.specs.declared.path.Path.{Path}
-use Rattle.frame.specs.Reading.{frame_of}
-use Rattle.worker_steps.specs.declared.run.Run.{Run}
-use Rattle.worker_steps.specs.Running.{IsTrapped}
-use Rattle.worker_steps.specs.Seen.{place_of, seen, Agrees}
-use Rattle.worker_steps.specs.Stalls.{Blocks, StallsAgree, last_blocks, no_blocks}
-use Rattle.worker_steps.proofs.Views.{frame_seen}
+use Rattle.store.specs.Cells.{NamedCells}
+use Rattle.engine.specs.declared.activation.Frame.{Frame}
+use Rattle.crew.specs.Shown.{place_of}
+use Rattle.crew.specs.Stalls.{Blocks, StallsAgree, last_blocks, no_blocks}
+use Rattle.crew.proofs.Onward.{seen}
 use Rattle.schedule_core.specs.declared.event.Event.{Event}
+use Rattle.schedule_core.specs.declared.stage.Stage.{Stage}
 use Rattle.schedule_core.specs.declared.task.Status.{Status}
 use Rattle.schedule_core.specs.declared.task.Status.TheVariants.{Running, Ready, Stalled}
 use Rattle.schedule_core.specs.declared.task.TaskView.{TaskView}
-use Rattle.schedule_core.specs.Lines.{ending_at, line_at_top, line_by, line_of_task, line_or_zero, next_line, place_line, sync_line}
-use Rattle.schedule_core.specs.Replaying.{event_of, first_state, HasLine, HasLineAfter, Replays}
-use Rattle.schedule_core.specs.Viewed.{place_in, seen_status, status_by, IsRunBy, IsTask, Shows}
+use Rattle.schedule_core.specs.Lines.{ending_at, ending_line, line_at_top, line_by, line_in, line_of_task, line_or_zero, next_line, place_line, sync_line}
+use Rattle.schedule_core.specs.Replaying.{HasLine, HasLineAfter, Replays, event_of, first_state, state_after}
+use Rattle.schedule_core.specs.Stages.{IsState, program_of, workers_of}
+use Rattle.schedule_core.specs.Viewed.{IsRunBy, IsTask, Shows, place_in, seen_status, status_by}
 
 stalled_by : (o : Option ℕ) (w : Wait) (region : RegisterId) → status_by o w ≡ Stalled region → (o ≡ None) × (w ≡ wait.Region region)
 stalled_by None wait.Nothing region e = absurd (cc)
@@ -33,13 +34,13 @@ stalled_by None (wait.Region r) region e = (refl, (let same : Stalled r ≡ Stal
 stalled_by None (wait.Call child register) region e = absurd (cc)
 stalled_by (Some worker) w region e = absurd (cc)
 
-sync_there : (prog : Program) (f : Frame) (p : RunningPath) (stalled_in : Option BlockId) → option_and_then (sync_line prog f.function) stalled_in ≡ ending_at prog (option_map (λ (b : BlockId). b.0) stalled_in) (frame_of p f)
-sync_there prog f p None = refl
-sync_there prog f p (Some b) = refl
+sync_there : (prog : Program) (f : Frame) (g : RunningFrame) (stalled_in : Option BlockId) → g.function ≡ f.function.0 → option_and_then (sync_line prog f.function) stalled_in ≡ ending_at prog (option_map (λ (b : BlockId). b.0) stalled_in) g
+sync_there prog f g None same = refl
+sync_there prog f g (Some b) same = ap (λ n. option_and_then ending_line (block_at prog n b.0)) (sym same)
 
-module _ (m : Run) (agrees : Agrees m.cactus m.hands.items) (last : Blocks) (agree : StallsAgree last m.cactus) (view : TaskView) (low high : ℕ) (shows : Shows m low high view) where
+module _ (stage : Stage) (m : Machine) (state : IsState stage m) (last : Blocks) (agree : StallsAgree last stage.run.cactus) (view : TaskView) (low high : ℕ) (shows : Shows stage low high view) where
   abbrev prog : Program
-  prog = m.verified.now
+  prog = program_of stage
 
   abbrev top : RunningPath
   top = place_of shows.above
@@ -47,43 +48,58 @@ module _ (m : Run) (agrees : Agrees m.cactus m.hands.items) (last : Blocks) (agr
   abbrev top_frame : Frame
   top_frame = shows.above.frame.frame
 
-  there : (seen m).core.frames top ≡ Some (frame_of top top_frame)
-  there = frame_seen m.cactus agrees.tree high shows.above shows.stands_above
+  -- the top's frame in the definitions
+  record There : Type 0 where
+    frame : RunningFrame
+    is : m.core.frames top ≡ Some frame
+    function : frame.function ≡ top_frame.function.0
+    next : place_line prog frame ≡ next_line prog top_frame
 
-  next_there : next_line prog top_frame ≡ option_and_then (place_line prog) ((seen m).core.frames top)
-  next_there = sym (ap (λ (o : Option RunningFrame). option_and_then (place_line prog) o) there)
+  there : There
+  there =
+      let g = seen prog stage.places stage.run high shows.above shows.above.frame shows.stands_above m state.shown in
+      record {
+        frame = g.frame;
+        is = g.is;
+        function = g.shows.shown.function;
+        next = λ i. option_and_then (λ (block : Block). line_in block (g.shows.shown.index i)) (block_at prog (g.shows.shown.function i) (g.shows.shown.block i));
+      }
 
-  line_there : (s : Status) → view.status ≡ s → line_by prog top_frame shows.above.frame.stalled_in s ≡ line_at_top prog (seen m) (last top) top (seen_status s)
+  next_there : next_line prog top_frame ≡ option_and_then (place_line prog) (m.core.frames top)
+  next_there = sym (ap (λ (o : Option RunningFrame). option_and_then (place_line prog) o) there.is ∙ there.next)
+
+  line_there : (s : Status) → view.status ≡ s → line_by prog top_frame shows.above.frame.stalled_in s ≡ line_at_top prog m (last top) top (seen_status s)
   line_there (Stalled region) is =
       let (free, waits) = stalled_by shows.above.frame.runner top_frame.waits region (sym shows.status ∙ is) in
-      sync_there prog top_frame top shows.above.frame.stalled_in
-      ∙ (ap (λ (b : Option ℕ). ending_at prog b (frame_of top top_frame)) (agree high shows.above shows.stands_above region free waits)
-      ∙ sym (ap (λ (o : Option RunningFrame). option_and_then (ending_at prog (last top)) o) there))
+      sync_there prog top_frame there.frame shows.above.frame.stalled_in there.function
+      ∙ (ap (λ (b : Option ℕ). ending_at prog b there.frame) (agree high shows.above shows.stands_above region free waits)
+      ∙ sym (ap (λ (o : Option RunningFrame). option_and_then (ending_at prog (last top)) o) there.is))
   line_there Ready is = next_there
   line_there (Running worker) is = next_there
 
-  pub line_shown : (path : Path) → IsTask m path view → view.line ≡ line_or_zero (line_of_task prog (length m.hands.items) (seen m) last (place_in path))
+  pub line_shown : (path : Path) → IsTask stage m path view → view.line ≡ line_or_zero (line_of_task prog (workers_of stage) m last (place_in path))
   line_shown path task =
-      let high_is : running.top_of (seen m).core (place_in path) ≡ top = task.top_path ∙ ap (λ (p : Path). reverse p.numbers) shows.top_path in
+      let high_is : running.top_of m.core (place_in path) ≡ top = task.top_path ∙ ap (λ (p : Path). reverse p.numbers) shows.top_path in
       shows.line ∙ ap line_or_zero
       (line_there view.status refl
-      ∙ (ap (λ (q : RunningPath). line_at_top prog (seen m) (last q) q (seen_status view.status)) (sym high_is)
-      ∙ sym (ap (λ (s : Option running.Status). option_and_then (line_at_top prog (seen m) (last (running.top_of (seen m).core (place_in path))) (running.top_of (seen m).core (place_in path))) s) task.status)))
+      ∙ (ap (λ (q : RunningPath). line_at_top prog m (last q) q (seen_status view.status)) (sym high_is)
+      ∙ sym (ap (λ (s : Option running.Status). option_and_then (line_at_top prog m (last (running.top_of m.core (place_in path))) (running.top_of m.core (place_in path))) s) task.status)))
 
 -- ---- after events
 
-module _ (m : Run) (arguments : List ℤ) (globals : List NamedCells) (workers : ℕ) (events : List Event) (r : Replays m.verified.now arguments globals workers events m) where
-  line_after_events : (view : TaskView) (low high : ℕ) (path : Path) → Shows m low high view → IsTask m path view → HasLineAfter m.verified.now arguments globals workers events (place_in path) view
+module _ (stage : Stage) (prog : Program) (arguments : List ℤ) (globals : List NamedCells) (workers : ℕ) (events : List Event) (r : Replays prog arguments globals workers events stage) where
+  line_after_events : (view : TaskView) (low high : ℕ) (path : Path) → Shows stage low high view → IsTask stage (state_after prog arguments globals workers events) path view →
+      HasLineAfter prog arguments globals workers events (place_in path) view
   line_after_events view low high path shows task =
-      let prog = m.verified.now in
+      let c = state_after prog arguments globals workers events in
       let last = last_blocks prog workers (map event_of events) (first_state prog arguments globals) no_blocks in
-      line_shown m r.run.agrees last r.stalls view low high shows path task
-      ∙ (ap (λ n. line_or_zero (line_of_task prog n (seen m) last (place_in path))) r.as_many ∙ ap (λ c. line_or_zero (line_of_task prog workers c last (place_in path))) r.reads)
+      line_shown stage c r.state last r.stalls view low high shows path task
+      ∙ (ap (λ n. line_or_zero (line_of_task (program_of stage) n c last (place_in path))) r.as_many ∙ ap (λ q. line_or_zero (line_of_task q workers c last (place_in path))) r.program)
 
-pub line_if : (m : Run) (o : Option TaskView) (low high : ℕ) (path : Path) → IfSome o (Shows m low high) → (¬ IsTrapped m → IfSome o (IsTask m path)) → IfSome o (HasLine m (place_in path))
-line_if m None low high path shows task = tt
-line_if m (Some view) low high path shows task = λ arguments globals workers events r. line_after_events m arguments globals workers events r view low high path shows (task r.run.sound)
+pub line_if : (stage : Stage) (o : Option TaskView) (low high : ℕ) (path : Path) → IfSome o (Shows stage low high) → ((m : Machine) → IsState stage m → IfSome o (IsTask stage m path)) → IfSome o (HasLine stage (place_in path))
+line_if stage None low high path shows task = tt
+line_if stage (Some view) low high path shows task = λ prog arguments globals workers events r. line_after_events stage prog arguments globals workers events r view low high path shows (task _ r.state)
 
-pub run_line_if : (m : Run) (o : Option TaskView) (low high worker : ℕ) → IfSome o (Shows m low high) → (¬ IsTrapped m → IfSome o (IsRunBy m worker)) → IfSome o (λ view. HasLine m (place_in view.path.now) view)
-run_line_if m None low high worker shows by = tt
-run_line_if m (Some view) low high worker shows by = λ arguments globals workers events r. line_after_events m arguments globals workers events r view low high view.path.now shows (by r.run.sound).task
+pub run_line_if : (stage : Stage) (o : Option TaskView) (low high worker : ℕ) → IfSome o (Shows stage low high) → ((m : Machine) → IsState stage m → IfSome o (IsRunBy stage m worker)) → IfSome o (λ view. HasLine stage (place_in view.path.now) view)
+run_line_if stage None low high worker shows by = tt
+run_line_if stage (Some view) low high worker shows by = λ prog arguments globals workers events r. line_after_events stage prog arguments globals workers events r view low high view.path.now shows (by _ r.state).task

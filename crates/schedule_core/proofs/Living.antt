@@ -3,10 +3,8 @@ use Rattle.std.proofs.Common.{◌≡◌, ◌≢◌, ℕ, suc, ◌+◌, List, [],
 use Rattle.std.specs.Prelude.{count_by, is_some}
 use Rattle.std.specs.List.{AllByRecursion, IsDistinct}
 use Rattle.std.specs.Set.{is_member}
-use Rattle.std.proofs.Math.Logic.{∥∥₁_elim}
 use Rattle.std.proofs.lemmas.List.{reverse-reverse}
 use Rattle.std.proofs.lemmas.List.Recursion.{is_count_by}
-use Rattle.std.proofs.lemmas.Map.Keys.{IsDistinct-prop}
 use Rattle.running.specs.Paths.{Path, same_path}
 use Rattle.running.specs.Replay.{CountsFrames}
 use Rattle.running.proofs.Actions.{same_path_itself}
@@ -14,33 +12,35 @@ use Rattle.running.proofs.Places.{same_path_tells, same_path_apart}
 use Rattle.cactus.specs.declared.node.Node.{Node}
 use Rattle.cactus.specs.Frames.{Frames}
 use Rattle.cactus.specs.ByPath.{first_named, named}
-use Rattle.program.specs.declared.function.Program.{Program}
-use Rattle.worker_steps.specs.declared.activation.Activation.{Activation}
-use Rattle.worker_steps.specs.declared.run.Run.{Run}
-use Rattle.worker_steps.specs.Running.{IsTrapped}
-use Rattle.worker_steps.specs.Seen.{place_of, seen, seen_at}
-use Rattle.worker_steps.specs.Stepping.{IsRun}
+use Rattle.crew.specs.declared.activation.Activation.{Activation}
+use Rattle.crew.specs.Shown.{ShowsAt, place_of}
+use Rattle.engine.specs.declared.activation.Places.{Places}
+use Rattle.engine.specs.Shows.{Layout}
+use Rattle.running.specs.Events.{Machine}
+use Rattle.running.specs.Frames as frames
+use Rattle.schedule_core.specs.declared.stage.Stage.{Stage}
+use Rattle.schedule_core.specs.Stages.{IsState}
 
 abbrev Slots : Type 0
 Slots = List (Option (Node Activation))
 
 -- the paths of the frames, by rising slot
-places : Slots → List Path
-places [] = []
-places (None ∷ nodes) = places nodes
-places (Some node ∷ nodes) = place_of node ∷ places nodes
+places_of : Slots → List Path
+places_of [] = []
+places_of (None ∷ nodes) = places_of nodes
+places_of (Some node ∷ nodes) = place_of node ∷ places_of nodes
 
-count_step : (o : Option (Node Activation)) (nodes : Slots) → length (places (o ∷ nodes)) ≡ cond (is_some o) (1 + length (places nodes)) (length (places nodes))
-unfolding places
+count_step : (o : Option (Node Activation)) (nodes : Slots) → length (places_of (o ∷ nodes)) ≡ cond (is_some o) (1 + length (places_of nodes)) (length (places_of nodes))
+unfolding places_of
 count_step None nodes = refl
 count_step (Some node) nodes = omega arith
 
-no_places : length (places []) ≡ 0
-unfolding places
+no_places : length (places_of []) ≡ 0
+unfolding places_of
 no_places = refl
 
-count_places : (nodes : Slots) → count_by is_some nodes ≡ length (places nodes)
-count_places nodes = sym (is_count_by (λ (xs : Slots). length (places xs)) is_some no_places count_step nodes)
+count_places : (nodes : Slots) → count_by is_some nodes ≡ length (places_of nodes)
+count_places nodes = sym (is_count_by (λ (xs : Slots). length (places_of xs)) is_some no_places count_step nodes)
 
 -- ---- which paths they are
 
@@ -51,8 +51,8 @@ here_tells node p =
       | inr h ↦ inr (h.0, same_path_apart p (place_of node) (λ e. h.1 (sym (reverse-reverse node.path.numbers) ∙ ap (λ (l : Path). reverse l) (sym e))))
     ]
 
-is_place : (nodes : Slots) (p : Path) → is_member same_path (places nodes) p ≡ is_some (first_named nodes (reverse p))
-unfolding places
+is_place : (nodes : Slots) (p : Path) → is_member same_path (places_of nodes) p ≡ is_some (first_named nodes (reverse p))
+unfolding places_of
 is_place [] p = refl
 is_place (None ∷ nodes) p = is_place nodes p
 is_place (Some node ∷ nodes) p =
@@ -69,8 +69,8 @@ Apart nodes = (slot other : ℕ) (node twin : Node Activation) → get_or nodes 
 apart_rest : (o : Option (Node Activation)) (nodes : Slots) → Apart (o ∷ nodes) → Apart nodes
 apart_rest o nodes apart slot other node twin here there same = let e : suc slot ≡ suc other = apart (suc slot) (suc other) node twin here there same in omega arith
 
-all_differ : (n : Node Activation) (nodes : Slots) → ((slot : ℕ) (twin : Node Activation) → get_or nodes slot None ≡ Some twin → n.path.numbers ≢ twin.path.numbers) → AllByRecursion (λ y. same_path (place_of n) y ≡ false) (places nodes)
-unfolding places
+all_differ : (n : Node Activation) (nodes : Slots) → ((slot : ℕ) (twin : Node Activation) → get_or nodes slot None ≡ Some twin → n.path.numbers ≢ twin.path.numbers) → AllByRecursion (λ y. same_path (place_of n) y ≡ false) (places_of nodes)
+unfolding places_of
 all_differ n [] differs = tt
 all_differ n (None ∷ nodes) differs = all_differ n nodes (λ slot twin there. differs (suc slot) twin there)
 all_differ n (Some node ∷ nodes) differs = (
@@ -78,8 +78,8 @@ all_differ n (Some node ∷ nodes) differs = (
   all_differ n nodes (λ slot twin there. differs (suc slot) twin there),
 )
 
-distinct : (nodes : Slots) → Apart nodes → IsDistinct same_path (places nodes)
-unfolding places IsDistinct
+distinct : (nodes : Slots) → Apart nodes → IsDistinct same_path (places_of nodes)
+unfolding places_of IsDistinct
 distinct [] apart = tt
 distinct (None ∷ nodes) apart = distinct nodes (apart_rest None nodes apart)
 distinct (Some node ∷ nodes) apart = (
@@ -87,21 +87,23 @@ distinct (Some node ∷ nodes) apart = (
   distinct nodes (apart_rest (Some node) nodes apart),
 )
 
--- ---- of a run
+-- ---- of a stage
 
-seen_some : (p : Path) (o : Option (Node Activation)) → is_some o ≡ is_some (seen_at p o)
-seen_some p None = refl
-seen_some p (Some node) = refl
+shown_some : (l : Layout) (places : Places) (p : Path) (g : Option frames.Frame) (o : Option (Node Activation)) → ShowsAt l places p g o → is_some o ≡ is_some g
+shown_some l places p None None h = refl
+shown_some l places p None (Some node) h = absurd h
+shown_some l places p (Some g) None h = absurd h
+shown_some l places p (Some g) (Some node) h = refl
 
 found_named : (frames : Frames Activation) (numbers : Path) → first_named frames.nodes numbers ≡ named frames numbers
 unfolding named
 found_named frames numbers = refl
 
-pub counts_frames : (prog : Program) (m : Run) (n : ℕ) → ∥ (¬ IsTrapped m → IsRun prog m) ∥₁ → ¬ IsTrapped m → n ≡ count_by is_some m.cactus.nodes → CountsFrames (seen m).core n
-counts_frames prog m n kept fine is =
+pub counts_frames : (stage : Stage) (m : Machine) (n : ℕ) → IsState stage m → n ≡ count_by is_some stage.run.cactus.nodes → CountsFrames m.core n
+counts_frames stage m n s is =
     record {
-      living = places m.cactus.nodes;
-      distinct = ∥∥₁_elim kept (IsDistinct-prop same_path (places m.cactus.nodes)) (λ k. distinct m.cactus.nodes (k fine).agrees.tree.distinct);
-      all = λ p. is_place m.cactus.nodes p ∙ (ap is_some (found_named m.cactus (reverse p)) ∙ seen_some p (named m.cactus (reverse p)));
-      count = is ∙ count_places m.cactus.nodes;
+      living = places_of stage.run.cactus.nodes;
+      distinct = distinct stage.run.cactus.nodes s.shown.agrees.tree.distinct;
+      all = λ p. is_place stage.run.cactus.nodes p ∙ (ap is_some (found_named stage.run.cactus (reverse p)) ∙ shown_some _ stage.places p (m.core.frames p) (named stage.run.cactus (reverse p)) (s.shown.shows.frames p));
+      count = is ∙ count_places stage.run.cactus.nodes;
     }

@@ -1,154 +1,158 @@
--- No run of a module that the verifier took stops, and each keeps the schedule theorem.
-use Rattle.std.proofs.Common.{◌≡◌, ℕ, ◌≤◌, List, [], ◌∷◌, ◌++◌, length, map, None, Bool, true, false, refl, sym, ap, ◌∙◌, subst, ℤ}
-use Rattle.std.specs.Prelude.{IsTrue, Result, Ok, Err, IfOk, OnErr}
+-- A machine stays one, and rests on what accepted programs promise.
+use Rattle.std.proofs.Common.{◌≡◌, ℕ, ◌<◌, List, [], ◌∷◌, ◌++◌, length, reverse, Some, None, Bool, true, false, inl, inr, refl, sym, ap, ◌∙◌, subst, arith}
+use Rattle.std.specs.Prelude.{IsTrue, Result, Ok, Err, IfOk, OnErr, OnOk}
 use Rattle.std.proofs.Math.Logic.{∥∥₁_elim, ∥∥₁_map}
+use Rattle.std.proofs.Props.{props}
+use Rattle.std.proofs.Math.Nat.{ℕ_set}
+use Rattle.std.proofs.Math.IntN.{ℤ_set}
+use mathlib.Core.Sum.{⊎_set}
 use Rattle.lists.specs.declared.memory.OutOfMemory.{OutOfMemory}
+use Rattle.running.specs.Paths.{Path}
+use Rattle.frame.specs.declared.path.Path.{Path as Name}
 use Rattle.running.specs.Events as running
-use Rattle.running.specs.Replay.{or_unchanged, replay}
+use Rattle.running.specs.Events.{Machine}
+use Rattle.running.specs.Replay.{has_ended}
 use Rattle.program.specs.declared.function.Program.{Program}
 use Rattle.verifier.specs.Accepted.{IsAccepted}
-use Rattle.store.specs.Cells.{NamedCells}
-use Rattle.store.specs.Made.{HasGlobalCells}
-use Rattle.outcome.specs.Requirements.{unmet_in}
-use Rattle.worker_promise.specs.Promise.{IsScheduled, KeepsItsSchedule}
-use Rattle.worker_promise.proofs.Steps.{runs_keep_their_schedules, steps_never_stop}
-use Rattle.worker_steps.specs.declared.run.Run.{Run}
-use Rattle.worker_steps.specs.declared.run.Phase.{Phase}
-use Rattle.worker_steps.specs.declared.run.Phase.TheVariants.{Going, Ended, Trapped}
-use Rattle.worker_steps.specs.Running.{IsGoing, IsTrapped}
-use Rattle.worker_steps.specs.Seen.{seen, given}
-use Rattle.worker_steps.specs.Slots.{HasSlots}
-use Rattle.worker_steps.specs.Follows.{names_of}
-use Rattle.worker_steps.specs.Stepping.{IsRun, IsEvent, DoesEvent, StartsAs}
-use Rattle.worker_steps.proofs.Follows.{given_on}
-use Rattle.worker_steps.proofs.Reached.{replay_more}
+use Rattle.cactus.specs.Frames.{Frames}
+use Rattle.crew.specs.declared.activation.Activation.{Activation}
+use Rattle.crew.specs.declared.run.Run.{Run}
+use Rattle.crew.specs.Events.{DoesEvent, Grows, LeavesStalls}
+use Rattle.crew.specs.Follows.{AreGiven, Follows}
+use Rattle.crew.specs.Going.{DoesSteal, StandsSafely, TextFits}
+use Rattle.crew.specs.Left.{LeavesAsShown}
+use Rattle.crew.specs.Stalls.{KeepsStalls}
+use Rattle.crew.specs.Starts.{ArePlaces, HasMoves}
+use Rattle.engine.specs.declared.activation.Places.{Places}
 use Rattle.schedule_core.specs.declared.event.Event.{Event}
 use Rattle.schedule_core.specs.declared.event.Event.TheVariants.{Step, Steal}
-use Rattle.schedule_core.specs.Replaying.{event_of, IsMachine, Happens, StopsOnly, AreEvents, StopsAt, DoesAll}
-use Rattle.schedule_core.specs.Spots.{KeepsSpots}
-use Rattle.schedule_core.proofs.Replaying.{replays_from}
-use Rattle.schedule_core.proofs.Spots.{keeps_spots, names_prop, spots_prop, spots_same}
+use Rattle.schedule_core.specs.declared.stage.Stage.{Stage}
+use Rattle.schedule_core.specs.Replaying.{Becomes, GrowsOnly, Happens, IsMachine, LeavesAsBefore, Replays, ReplaysOneMore, event_of, state_after}
+use Rattle.schedule_core.specs.Stages.{IsState, program_of, workers_of}
+use Rattle.schedule_core.proofs.Grounds.{laws}
+use Rattle.schedule_core.proofs.Over.{ended_enables_nothing, no_frames, no_root}
+use Rattle.schedule_core.proofs.Replaying.{happens, leaves_as_before, replays_next, with_run}
 
-never_at : (prog : Program) → IsAccepted prog → (m : Run) → IsScheduled prog m → IsRun prog m → HasSlots prog m → (e : Event) → StopsOnly prog m e → ⊥
-never_at prog accepted m at run slots (Step worker) stops = steps_never_stop prog accepted m at run.agrees slots worker stops
-never_at prog accepted m at run slots (Steal worker path) stops = stops
+-- ---- what a step rests on
 
--- ---- a schedule from a start
+places_prop : (prog : Program) (places : Places) → IsProp (ArePlaces prog places)
+places_prop prog places = Prim.hlevel (props, ⊎_set, ℕ_set, ℤ_set)
 
-module _ (prog : Program) (accepted : IsAccepted prog) (arguments : List ℤ) (none : unmet_in prog arguments ≡ None) (globals : List NamedCells) (made : HasGlobalCells prog globals) (workers : ℕ)
-    (first : Run) (s : StartsAs prog arguments globals first) (slots : HasSlots prog first) (many : length first.hands.items ≡ workers) where
-  scheduled : (events : List Event) (m : Run) → AreEvents prog first m (map event_of events) → IsScheduled prog m
-  scheduled events m all =
-      record {
-        arguments = arguments;
-        taken = none;
-        globals = globals;
-        made = made;
-        manned = all.run.manned;
-        events = map event_of events;
-        reads = subst (λ n. seen m ≡ replay prog n (map event_of events) (running.start prog arguments (given globals))) (sym (all.workers ∙ many)) (replays_from prog arguments globals workers first s slots many events m all).reads;
-      }
+moves_prop : (prog : Program) (n : ℕ) → IsProp (HasMoves prog n)
+moves_prop prog n = Prim.hlevel (props, ⊎_set, ℕ_set, ℤ_set)
 
-  pub never_stops : (m : Run) (events : List Event) → DoesAll prog first m events → ¬ IsTrapped m
-  never_stops m events does trapped =
-      let a : StopsAt prog first events = does.trapped trapped in
-      never_at prog accepted a.stood (scheduled a.before a.stood a.reached) a.reached.run (a.reached.slots slots) a.last a.stops
+module _ (stage : Stage) (kept : ∥ IsMachine stage ∥₁) where
+  pub stands_safely : StandsSafely (program_of stage) stage.places stage.run
+  stands_safely =
+      ∥∥₁_map kept (λ k. record {
+        machine = state_after (program_of stage) k.arguments stage.memory (workers_of stage) k.events;
+        shown = k.replays.state.shown;
+        safe = k.replays.state.well.safe;
+      })
 
-  machine_of : (events : List Event) (m : Run) → AreEvents prog first m (map event_of events) → prog ≡ m.verified.now → IsMachine m
-  machine_of events m all same =
-      record {
-        accepted = subst (λ (q : Program). IsAccepted q) same accepted;
-        run = subst (λ (q : Program). IsRun q m) same all.run;
-        slots = subst (λ (q : Program). HasSlots q m) same (all.slots slots);
-        schedule = subst (λ (q : Program). IsScheduled q m) same (scheduled events m all);
-        given = all.given s.generations;
-      }
+  pub text_fits : IsAccepted (program_of stage) → TextFits (program_of stage) stage.places (length stage.run.moves.items)
+  text_fits accepted =
+      laws.texts_fit (program_of stage) accepted stage.places (∥∥₁_elim kept (places_prop (program_of stage) stage.places) (λ k. k.places)) (length stage.run.moves.items)
+      (∥∥₁_elim kept (moves_prop (program_of stage) (length stage.run.moves.items)) (λ k. k.moves))
 
-  pub machine_after : (m : Run) (events : List Event) → DoesAll prog first m events → IsMachine m
-  machine_after m events does =
-      let all : AreEvents prog first m (map event_of events) = does.sound (never_stops m events does) in
-      machine_of events m all (sym (ap (λ v. v.now) all.program ∙ s.program))
+-- ---- one event more
 
-  pub machine_at_start : IsMachine first
-  machine_at_start = machine_of [] first (record { replayed = refl; workers = refl; program = refl; run = s.machine; slots = λ h. h; stalls = λ last agree. agree; names = refl; given = λ g. g }) (sym s.program)
+-- generations of living frames were given out
+given_on : (old new : Frames Activation) → Follows old new → AreGiven old → AreGiven new
+given_on old new f given slot node stands = elim (f.uses slot node stands) [
+  | inl same ↦ let below : same.there.generation < old.made = given slot same.there same.stands in let generation = same.generation in let made = f.made in omega (arith, below, generation, made)
+  | inr fresh ↦ fresh.below
+]
 
-  -- the schedule theorem
-  pub keeps_schedule : (m : Run) (events : List Event) → DoesAll prog first m events → KeepsItsSchedule prog arguments globals workers m
-  unfolding scheduled
-  keeps_schedule m events does =
-      let all : AreEvents prog first m (map event_of events) = does.sound (never_stops m events does) in
-      subst (λ n. KeepsItsSchedule prog arguments globals n m) (all.workers ∙ many) (runs_keep_their_schedules prog accepted m (scheduled events m all))
+module _ (old : Stage) (k : Run) (many : length k.hands.items ≡ length old.run.hands.items) (moves : length k.moves.items ≡ length old.run.moves.items) (follows : Follows old.run.cactus k.cactus) (e : Event) where
+  machine_of : (m : IsMachine old) (events : List Event) → Replays (program_of old) m.arguments old.memory (workers_of old) events (with_run old k) → IsMachine (with_run old k)
+  machine_of m events r = record {
+    accepted = m.accepted;
+    moves = subst (λ n. HasMoves (program_of old) n) (sym moves) m.moves;
+    places = m.places;
+    made = m.made;
+    small = m.small;
+    given = given_on old.run.cactus k.cactus follows m.given;
+    arguments = m.arguments;
+    taken = m.taken;
+    events = events;
+    replays = subst (λ n. Replays (program_of old) m.arguments old.memory n events (with_run old k)) (sym many) r;
+  }
 
--- ---- one event
+  machine_next : ReplaysOneMore old (with_run old k) e → IsMachine old → IsMachine (with_run old k)
+  machine_next next m = machine_of m (m.events ++ e ∷ []) (next (program_of old) m.arguments old.memory (workers_of old) m.events m.replays)
 
-scheduled_next : (prog : Program) (old new : Run) (e : running.Event) (done : Bool) → IsEvent prog old new e done → (¬ IsTrue done → new ≡ old) → IsScheduled prog old → IsScheduled prog new
-scheduled_next prog old new e false ev same at = subst (λ (m : Run). IsScheduled prog m) (sym (same (λ x. cc))) at
-scheduled_next prog old new e true ev same at =
-    record {
-      arguments = at.arguments;
-      taken = at.taken;
-      globals = at.globals;
-      made = at.made;
-      manned = subst (λ n. 1 ≤ n) (sym ev.workers) at.manned;
-      events = at.events ++ e ∷ [];
-      reads = subst (λ n. seen new ≡ replay prog n (at.events ++ e ∷ []) (running.start prog at.arguments (given at.globals))) (sym ev.workers)
-          (sym (replay_more prog (length old.hands.items) at.events e (running.start prog at.arguments (given at.globals))
-          ∙ (ap (λ x. or_unchanged (running.event prog (length old.hands.items) e x) x) (sym at.reads) ∙ ap (λ o. or_unchanged o (seen old)) ev.exact)));
-    }
+  machine_same : LeavesAsBefore old (with_run old k) → IsMachine old → IsMachine (with_run old k)
+  machine_same left m = machine_of m m.events (left.replays (program_of old) m.arguments old.memory (workers_of old) m.events m.replays)
 
-module _ (old new : Run) (e : Event) (over : ¬ IsGoing old → new ≡ old) (stops : IsGoing old → IsTrapped new → StopsOnly old.verified.now old e) where
-  never : IsMachine old → ¬ IsTrapped new
-  never k trapped = by old.phase refl
-    where
-      by : (x : Phase) → old.phase ≡ x → ⊥
-      by Going is = never_at old.verified.now k.accepted old k.schedule k.run k.slots e (stops is trapped)
-      by (Ended z) is = absurd (let same : new ≡ old = over (λ g. (let h : Going ≡ Ended z = sym g ∙ is in cc)) in let h : Trapped ≡ Ended z = sym trapped ∙ (ap (λ (m : Run). m.phase) same ∙ is) in cc)
-      by Trapped is = k.run.sound is
+  pub machine_after : (r : Result Bool OutOfMemory) → OnErr r (LeavesAsBefore old (with_run old k)) → OnOk r (ReplaysOneMore old (with_run old k) e) → ∥ IsMachine old ∥₁ → ∥ IsMachine (with_run old k) ∥₁
+  machine_after (Err x) left next kept = ∥∥₁_map kept (machine_same left)
+  machine_after (Ok done) left next kept = ∥∥₁_map kept (machine_next next)
 
-  module _ (k : IsMachine old) (done : Bool) (does : DoesEvent old.verified.now old new (event_of e) done) where
-    happened : Happens old new (event_of e) done
-    happened = does k.run (never k)
+  pub left_after : (r : Result Bool OutOfMemory) → OnErr r (LeavesAsShown (program_of old) old.places old.run k) → OnErr r (LeavesAsBefore old (with_run old k))
+  left_after (Err x) left = leaves_as_before old k many left
+  left_after (Ok done) left = tt
 
-    next_machine : (¬ IsTrue done → new ≡ old) → IsMachine new
-    next_machine unless =
-        let ev : Happens old new (event_of e) done = happened in
-        let same : old.verified.now ≡ new.verified.now = sym (ap (λ v. v.now) ev.program) in
-        record {
-          accepted = subst (λ (q : Program). IsAccepted q) same k.accepted;
-          run = subst (λ (q : Program). IsRun q new) same ev.machine;
-          slots = subst (λ (q : Program). HasSlots q new) same (ev.slots k.slots);
-          schedule = subst (λ (q : Program). IsScheduled q new) same (scheduled_next old.verified.now old new (event_of e) done ev unless k.schedule);
-          given = given_on old new ev.follows k.given;
-        }
+  pub happens_after : (r : Result Bool OutOfMemory) → IfOk r (DoesEvent (program_of old) old.places old.run k (event_of e)) → IfOk r (Happens old (with_run old k) (event_of e))
+  happens_after (Err x) does = tt
+  happens_after (Ok done) does = happens old k many (event_of e) done does
 
-  -- slots, generations and names are kept
-  pub spots_after : (r : Result Bool OutOfMemory) → OnErr r (new ≡ old) → IfOk r (DoesEvent old.verified.now old new (event_of e)) → ∥ IsMachine old ∥₁ → KeepsSpots old.cactus new.cactus
-  spots_after r same does kept = ∥∥₁_elim kept (spots_prop old.cactus new.cactus) (λ k. by r same does k)
-    where
-      by : (r : Result Bool OutOfMemory) → OnErr r (new ≡ old) → IfOk r (DoesEvent old.verified.now old new (event_of e)) → IsMachine old → KeepsSpots old.cactus new.cactus
-      by (Err x) same does k = subst (λ (m : Run). KeepsSpots old.cactus m.cactus) (sym same) (spots_same old k.run.agrees.tree)
-      by (Ok done) same does k = let ev : Happens old new (event_of e) done = happened k done does in keeps_spots old new k.run.agrees.tree ev.machine.agrees.tree ev.follows
+  pub replays_after : (r : Result Bool OutOfMemory) → IfOk r (DoesEvent (program_of old) old.places old.run k (event_of e)) → (r ≡ Ok false → k ≡ old.run) →
+      IfOk r (LeavesStalls (program_of old) old.places old.run k (event_of e)) → OnOk r (ReplaysOneMore old (with_run old k) e)
+  replays_after (Err x) does same stalls = tt
+  replays_after (Ok done) does same stalls =
+      replays_next old k many e done (happens old k many (event_of e) done does) (λ off. ap (with_run old) (same (ap Ok off))) stalls
 
-  pub names_after : (r : Result Bool OutOfMemory) → OnErr r (new ≡ old) → IfOk r (DoesEvent old.verified.now old new (event_of e)) → ∥ IsMachine old ∥₁ → names_of new.memory ≡ names_of old.memory
-  names_after r same does kept = ∥∥₁_elim kept (names_prop old.memory new.memory) (λ k. by r same does k)
-    where
-      by : (r : Result Bool OutOfMemory) → OnErr r (new ≡ old) → IfOk r (DoesEvent old.verified.now old new (event_of e)) → IsMachine old → names_of new.memory ≡ names_of old.memory
-      by (Err x) same does k = ap (λ (m : Run). names_of m.memory) same
-      by (Ok done) same does k = (happened k done does).follows.names
+-- want of memory at a step
+pub grows_only : (old : Stage) (w : ℕ) (r : Result Bool OutOfMemory) → OnErr r (Grows (program_of old) old.places old.run w) →
+    OnErr r ((m : Machine) → IsState old m → GrowsOnly (program_of old) m (Step w))
+grows_only old w (Err x) grows = λ m s. grows m s.shown s.well.safe
+grows_only old w (Ok done) grows = tt
 
-  pub happens_if : (r : Result Bool OutOfMemory) → IfOk r (DoesEvent old.verified.now old new (event_of e)) → ∥ IsMachine old ∥₁ → IfOk r (λ done. ∥ Happens old new (event_of e) done ∥₁)
-  happens_if (Err x) does kept = tt
-  happens_if (Ok done) does kept = ∥∥₁_map kept (λ k. happened k done does)
+-- ---- the end
 
-  pub never_trapped : ∥ IsMachine old ∥₁ → ¬ IsTrapped new
-  never_trapped kept trapped = ∥∥₁_elim kept (λ a b. absurd a) (λ k. never k trapped)
+over_by : (old new : Stage) (m : Machine) (e : running.Event) (done : Bool) → running.event (program_of old) (workers_of old) e m ≡ None → Becomes e m old new done → done ≡ false
+over_by old new m e true none h = absurd (let s : None ≡ Some h.0 = sym none ∙ h.1 in cc)
+over_by old new m e false none h = refl
 
-  pub kept_after : (r : Result Bool OutOfMemory) → OnErr r (new ≡ old) → (r ≡ Ok false → new ≡ old) → IfOk r (DoesEvent old.verified.now old new (event_of e)) → ∥ IsMachine old ∥₁ → ∥ IsMachine new ∥₁
-  kept_after (Err x) same unless does kept = subst (λ (m : Run). ∥ IsMachine m ∥₁) (sym same) kept
-  kept_after (Ok true) same unless does kept = ∥∥₁_map kept (λ k. next_machine k true does (λ off. absurd (off refl)))
-  kept_after (Ok false) same unless does kept = ∥∥₁_map kept (λ k. next_machine k false does (λ off. unless refl))
+-- an ended machine enables nothing
+nothing_over : (old : Stage) (m : Machine) (e : running.Event) → IsState old m → has_ended m ≡ true → running.event (program_of old) (workers_of old) e m ≡ None
+nothing_over old m e s over =
+    let r = s.reached in
+    subst (λ x. running.event (program_of old) (workers_of old) e x ≡ None) r.after
+    (ended_enables_nothing (program_of old) r.arguments r.memory (workers_of old) s.manned r.events (ap has_ended r.after ∙ over) e)
 
--- of a run that a schedule leads to, an event that does not trap is that of the definitions
-pub happens_from : (old new : Run) (e : Event) (r : Result Bool OutOfMemory) → IfOk r (DoesEvent old.verified.now old new (event_of e)) → ¬ IsTrapped new → IsRun old.verified.now old → IfOk r (Happens old new (event_of e))
-happens_from old new e (Err x) does fine run = tt
-happens_from old new e (Ok done) does fine run = does run fine
+-- and makes no frame
+grows_over : (old : Stage) (m : Machine) (e : Event) → IsState old m → has_ended m ≡ true → GrowsOnly (program_of old) m e → ⊥
+grows_over old m (Steal w path) s over grows = grows
+grows_over old m (Step w) s over grows =
+    let none = no_frames m.core (s.well.safe []).tree (no_root (m.core.frames []) over) grows.path in
+    let e : None ≡ Some grows.frame = sym none ∙ grows.stands in
+    cc
+
+pub over_after : (old new : Stage) (m : Machine) (e : Event) (r : Result Bool OutOfMemory) → IfOk r (Happens old new (event_of e)) → OnErr r ((x : Machine) → IsState old x → GrowsOnly (program_of old) x e) →
+    IsState old m → has_ended m ≡ true → r ≡ Ok false
+over_after old new m e (Err x) does only s over = absurd (grows_over old m e s over (only m s))
+over_after old new m e (Ok done) does only s over = ap Ok (over_by old new m (event_of e) done (nothing_over old m (event_of e) s over) (does m s))
+
+-- ---- steals
+
+steal_leaves : (prog : Program) (places : Places) (old k : Run) (w : ℕ) (t : Path) (done : Bool) → KeepsStalls old.cactus k.cactus → LeavesStalls prog places old k (running.Steal w t) done
+steal_leaves prog places old k w t true keeps = λ m shown safe last agree. keeps last agree
+steal_leaves prog places old k w t false keeps = λ m shown safe last agree. keeps last agree
+
+module _ (old : Stage) (k : Run) (w : ℕ) (path : Name) (done : Bool) (steals : (prog : Program) (places : Places) → DoesSteal prog places old.run k w (reverse path.numbers) done) (left : ¬ IsTrue done → k ≡ old.run)
+    (stalls : KeepsStalls old.run.cactus k.cactus) (many : length k.hands.items ≡ length old.run.hands.items) where
+  steal_does : DoesEvent (program_of old) old.places old.run k (running.Steal w (reverse path.numbers)) done
+  steal_does = λ m shown safe. steals (program_of old) old.places m shown
+
+  pub steal_happens : Happens old (with_run old k) (running.Steal w (reverse path.numbers)) done
+  steal_happens = happens old k many (running.Steal w (reverse path.numbers)) done steal_does
+
+  pub unless_done : ◌≡◌ {A = Result Bool OutOfMemory} (Ok done) (Ok false) → k ≡ old.run
+  unless_done off = left (λ yes. (let no : done ≡ false = (let e : ◌≡◌ {A = Result Bool OutOfMemory} (Ok done) (Ok false) = off in cc) in cc))
+
+  pub steal_replays : ReplaysOneMore old (with_run old k) (Steal w path)
+  steal_replays =
+      replays_next old k many (Steal w path) done steal_happens (λ off. ap (with_run old) (left (λ yes. cc)))
+      (steal_leaves (program_of old) old.places old.run k w (reverse path.numbers) done stalls)

@@ -8,28 +8,28 @@ use Rattle.running.specs.State.{State}
 use Rattle.running.specs.Tree.{Tree}
 use Rattle.running.specs.Tasks.{OnTask, is_lowest, is_called, PartIntoTasks}
 use Rattle.running.specs.Events as running
+use Rattle.running.specs.Events.{Machine}
 use Rattle.running.proofs.TaskLaws.{frames_on_tasks}
-use Rattle.program.specs.declared.function.Program.{Program}
 use Rattle.frame.specs.declared.frame.Wait.{Wait as Waits}
 use Rattle.frame.specs.declared.frame.Wait.TheVariants as waits
 use Rattle.frame.specs.declared.frame.Role.{Role}
 use Rattle.frame.specs.declared.frame.Role.TheVariants as role
-use Rattle.frame.specs.Reading.{frame_of, role_of, wait_of}
+use Rattle.frame.specs.Reading.{role_of, wait_of}
 use Rattle.cactus.specs.declared.node.Node.{Node}
 use Rattle.cactus.specs.Frames.{node_at}
 use Rattle.cactus.specs.ByPath.{named, IsBelow}
 use Rattle.cactus.proofs.ByPathLemmas.{FoundAt, named_found}
-use Rattle.worker_steps.specs.declared.activation.Activation.{Activation}
-use Rattle.worker_steps.specs.declared.run.Run.{Run}
-use Rattle.worker_steps.specs.Seen.{place_of, seen, seen_at, CalleeStands}
-use Rattle.worker_steps.specs.Stepping.{IsRun}
-use Rattle.worker_steps.specs.Tasks.{IsLowest, IsLowestBelow, lowest, under}
-use Rattle.worker_steps.proofs.Views.{frame_seen, same_place, reverse_last}
-use Rattle.worker_steps.proofs.Reached.{reached_manned}
-use Rattle.worker_steps.proofs.Steals.{task_tells}
-
-pub same_node : (o : Option (Node Activation)) (n k : Node Activation) → o ≡ Some n → o ≡ Some k → n ≡ k
-same_node o n k a b = let e : Some n ≡ Some k = sym a ∙ b in cc
+use Rattle.crew.specs.declared.activation.Activation.{Activation}
+use Rattle.crew.specs.Layouts.{layout_of}
+use Rattle.crew.specs.Lowest.{IsLowestBelow, lowest, under}
+use Rattle.crew.specs.Shown.{CalleeStands, ShowsAt, place_of}
+use Rattle.crew.specs.Tasks.{IsLowest}
+use Rattle.crew.proofs.Onward.{seen}
+use Rattle.crew.proofs.Stealing.{task_tells}
+use Rattle.crew.proofs.Topmost.{reverse_last, same_place}
+use Rattle.schedule_core.specs.declared.stage.Stage.{Stage}
+use Rattle.schedule_core.specs.Stages.{IsState, program_of, workers_of}
+use Rattle.schedule_core.proofs.Spots.{same_node}
 
 -- ---- in the definitions
 
@@ -68,20 +68,29 @@ module _ (s : State) (tree : Tree s) (t p : Path) (on : OnTask s t p) (free : (f
             absurd (free g k d (ap s.frames here ∙ over) wait)
       ]
 
--- ---- of a run
+-- ---- of a stage
 
-module _ (prog : Program) (m : Run) (k : IsRun prog m) where
-  pub parts : PartIntoTasks (length m.hands.items) (seen m)
-  parts = subst (λ x. PartIntoTasks (length m.hands.items) x) k.reached.after (frames_on_tasks prog k.reached.arguments k.reached.memory (length m.hands.items) k.manned k.reached.events)
+module _ (stage : Stage) (m : Machine) (state : IsState stage m) where
+  pub parts : PartIntoTasks (workers_of stage) m
+  parts = subst (λ x. PartIntoTasks (workers_of stage) x) state.reached.after (frames_on_tasks (program_of stage) state.reached.arguments state.reached.memory (workers_of stage) state.manned state.reached.events)
 
-  tree : Tree (seen m).core
-  tree = (reached_manned prog (length m.hands.items) (seen m) k.manned k.reached refl).tree
+  tree : Tree m.core
+  tree = (state.well.safe []).tree
 
-  pub seen_here : (slot : ℕ) (node : Node Activation) → node_at m.cactus slot ≡ Some node → (seen m).core.frames (place_of node) ≡ Some (frame_of (place_of node) node.frame.frame)
-  seen_here slot node stands = frame_seen m.cactus k.agrees.tree slot node stands
+  -- the frame of the definitions that is shown in a slot
+  pub record Here (node : Node Activation) : Type 0 where
+    pub frame : Frame
+    pub is : m.core.frames (place_of node) ≡ Some frame
+    pub role : frame.role ≡ role_of node.frame.frame.role
+    pub waits : frame.waits ≡ wait_of node.frame.frame.waits
 
-  pub lowest_is_task : (slot : ℕ) (node : Node Activation) → node_at m.cactus slot ≡ Some node → IsLowest node → running.is_task (place_of node) ((seen m).core.frames (place_of node)) ≡ true
-  lowest_is_task slot node stands low = elim (task_tells m.cactus m.hands.items k.agrees slot node stands) [ inl h ↦ h.1 | inr h ↦ absurd (h.0 low) ]
+  pub here_at : (slot : ℕ) (node : Node Activation) → node_at stage.run.cactus slot ≡ Some node → Here node
+  here_at slot node stands =
+      let g = seen (program_of stage) stage.places stage.run slot node node.frame stands m state.shown in
+      record { frame = g.frame; is = g.is; role = g.shows.shown.role; waits = g.shows.waits }
+
+  pub lowest_is_task : (slot : ℕ) (node : Node Activation) → node_at stage.run.cactus slot ≡ Some node → IsLowest node → running.is_task (place_of node) (m.core.frames (place_of node)) ≡ true
+  lowest_is_task slot node stands low = elim (task_tells (program_of stage) stage.places m stage.run state.shown slot node stands) [ inl h ↦ h.1 | inr h ↦ absurd (h.0 low) ]
 
   is_body : (r : Role) → ¬ (r ≢ role.Body) → role_of r ≡ Body
   is_body role.Body off = refl
@@ -92,45 +101,46 @@ module _ (prog : Program) (m : Run) (k : IsRun prog m) where
   body_is (role.Child region continuation) e = absurd (cc)
 
   -- the path of a frame is its parent's with its own number
-  pub below_place : (slot parent : ℕ) (node : Node Activation) → node_at m.cactus slot ≡ Some node → node.parent ≡ Some parent → (above : Node Activation) × (number : ℕ) × (node_at m.cactus parent ≡ Some above) × (place_of node ≡ number ∷ place_of above)
+  pub below_place : (slot parent : ℕ) (node : Node Activation) → node_at stage.run.cactus slot ≡ Some node → node.parent ≡ Some parent → (above : Node Activation) × (number : ℕ) × (node_at stage.run.cactus parent ≡ Some above) × (place_of node ≡ number ∷ place_of above)
   below_place slot parent node stands has =
-      let b : IsBelow m.cactus parent node.path.numbers = k.agrees.tree.below slot parent node stands has in
+      let b : IsBelow stage.run.cactus parent node.path.numbers = state.shown.agrees.tree.below slot parent node stands has in
       (b.above, b.number, b.stands, ap reverse b.is ∙ reverse_last b.above.path.numbers b.number)
 
   -- a frame is on the task that stands below it
-  pub on_task : (slot low : ℕ) → IsLowestBelow m.cactus slot low → (node lowest_node : Node Activation) → node_at m.cactus slot ≡ Some node → node_at m.cactus low ≡ Some lowest_node → OnTask (seen m).core (place_of lowest_node) (place_of node)
+  pub on_task : (slot low : ℕ) → IsLowestBelow stage.run.cactus slot low → (node lowest_node : Node Activation) → node_at stage.run.cactus slot ≡ Some node → node_at stage.run.cactus low ≡ Some lowest_node → OnTask m.core (place_of lowest_node) (place_of node)
   on_task slot low (lowest s n at is_low) node lowest_node stands below =
-      let same : n ≡ node = same_node (node_at m.cactus s) n node at stands in
-      let same_low : n ≡ lowest_node = same_node (node_at m.cactus s) n lowest_node at below in
-      subst (λ (x : Node Activation). OnTask (seen m).core (place_of lowest_node) (place_of x)) (sym same_low ∙ same)
+      let same : n ≡ node = same_node (node_at stage.run.cactus s) n node at stands in
+      let same_low : n ≡ lowest_node = same_node (node_at stage.run.cactus s) n lowest_node at below in
+      subst (λ (x : Node Activation). OnTask m.core (place_of lowest_node) (place_of x)) (sym same_low ∙ same)
       (is_lowest (lowest_is_task s lowest_node below (subst (λ (x : Node Activation). IsLowest x) same_low is_low)))
   on_task slot low (under s caller l n at high has rest) node lowest_node stands below =
-      let same : n ≡ node = same_node (node_at m.cactus s) n node at stands in
+      let same : n ≡ node = same_node (node_at stage.run.cactus s) n node at stands in
       let (above, number, there, place) = below_place s caller n at has in
-      let on : OnTask (seen m).core (place_of lowest_node) (place_of above) = on_task caller l rest above lowest_node there below in
-      let is : (seen m).core.frames (number ∷ place_of above) ≡ Some (frame_of (place_of n) n.frame.frame) = ap (seen m).core.frames (sym place) ∙ seen_here s n at in
-      let called : OnTask (seen m).core (place_of lowest_node) (number ∷ place_of above) = is_called number (frame_of (place_of n) n.frame.frame) on is (is_body n.frame.frame.role (λ off. high (inr off))) in
-      subst (λ (x : Node Activation). OnTask (seen m).core (place_of lowest_node) (place_of x)) same (subst (λ p. OnTask (seen m).core (place_of lowest_node) p) (sym place) called)
+      let on : OnTask m.core (place_of lowest_node) (place_of above) = on_task caller l rest above lowest_node there below in
+      let g = here_at s n at in
+      let called : OnTask m.core (place_of lowest_node) (number ∷ place_of above) = is_called number g.frame on (ap m.core.frames (sym place) ∙ g.is) (g.role ∙ is_body n.frame.frame.role (λ off. high (inr off))) in
+      subst (λ (x : Node Activation). OnTask m.core (place_of lowest_node) (place_of x)) same (subst (λ p. OnTask m.core (place_of lowest_node) p) (sym place) called)
 
   -- and the other way round
-  pub lowest_of : (t p : Path) → OnTask (seen m).core t p → (slot low : ℕ) (node lowest_node : Node Activation) → node_at m.cactus slot ≡ Some node → place_of node ≡ p → node_at m.cactus low ≡ Some lowest_node → place_of lowest_node ≡ t → IsLowestBelow m.cactus slot low
+  pub lowest_of : (t p : Path) → OnTask m.core t p → (slot low : ℕ) (node lowest_node : Node Activation) → node_at stage.run.cactus slot ≡ Some node → place_of node ≡ p → node_at stage.run.cactus low ≡ Some lowest_node → place_of lowest_node ≡ t → IsLowestBelow stage.run.cactus slot low
   lowest_of t p (is_lowest task) slot low node lowest_node stands at below is =
-      let one : slot ≡ low = same_place m.cactus k.agrees.tree slot low node lowest_node stands below (at ∙ sym is) in
-      subst (λ x. IsLowestBelow m.cactus slot x) one (lowest slot node stands
-      (elim (task_tells m.cactus m.hands.items k.agrees slot node stands) [
+      let one : slot ≡ low = same_place (program_of stage) stage.places m stage.run state.shown slot low node lowest_node stands below (at ∙ sym is) in
+      subst (λ x. IsLowestBelow stage.run.cactus slot x) one (lowest slot node stands
+      (elim (task_tells (program_of stage) stage.places m stage.run state.shown slot node stands) [
         | inl h ↦ h.0
-        | inr h ↦ absurd (let yes : running.is_task (place_of node) ((seen m).core.frames (place_of node)) ≡ true = subst (λ x. running.is_task x ((seen m).core.frames x) ≡ true) (sym at) task in let no : running.is_task (place_of node) ((seen m).core.frames (place_of node)) ≡ false = h.1 in let e : true ≡ false = sym yes ∙ no in cc)
+        | inr h ↦ absurd (let yes : running.is_task (place_of node) (m.core.frames (place_of node)) ≡ true = subst (λ x. running.is_task x (m.core.frames x) ≡ true) (sym at) task in let no : running.is_task (place_of node) (m.core.frames (place_of node)) ≡ false = h.1 in let e : true ≡ false = sym yes ∙ no in cc)
       ]))
   lowest_of t p (is_called number {p = q} f on frame_is body) slot low node lowest_node stands at below is = by_parent node.parent refl (λ s n a b. lowest_of t q on s low n lowest_node a b below is)
     where
       role_is : node.frame.frame.role ≡ role.Body
       role_is =
-          let e : Some (frame_of (place_of node) node.frame.frame) ≡ Some f = sym (seen_here slot node stands) ∙ (ap (seen m).core.frames at ∙ frame_is) in
-          let same : frame_of (place_of node) node.frame.frame ≡ f = cc in
-          body_is node.frame.frame.role (ap (λ (x : Frame). x.role) same ∙ body)
+          let g = here_at slot node stands in
+          let e : Some g.frame ≡ Some f = sym g.is ∙ (ap m.core.frames at ∙ frame_is) in
+          let same : g.frame ≡ f = cc in
+          body_is node.frame.frame.role (sym g.role ∙ (ap (λ (x : Frame). x.role) same ∙ body))
 
-      by_parent : (o : Option ℕ) → node.parent ≡ o → ((s : ℕ) (n : Node Activation) → node_at m.cactus s ≡ Some n → place_of n ≡ q → IsLowestBelow m.cactus s low) → IsLowestBelow m.cactus slot low
-      by_parent None none rest = absurd (let nil : [] ≡ number ∷ q = sym (ap (λ (l : List ℕ). reverse l) (k.agrees.tree.root slot node stands none)) ∙ at in cc)
+      by_parent : (o : Option ℕ) → node.parent ≡ o → ((s : ℕ) (n : Node Activation) → node_at stage.run.cactus s ≡ Some n → place_of n ≡ q → IsLowestBelow stage.run.cactus s low) → IsLowestBelow stage.run.cactus slot low
+      by_parent None none rest = absurd (let nil : [] ≡ number ∷ q = sym (ap (λ (l : List ℕ). reverse l) (state.shown.agrees.tree.root slot node stands none)) ∙ at in cc)
       by_parent (Some parent) has rest =
           let (above, last, there, place) = below_place slot parent node stands has in
           let e : last ∷ place_of above ≡ number ∷ q = sym place ∙ at in
@@ -138,30 +148,32 @@ module _ (prog : Program) (m : Run) (k : IsRun prog m) where
           under slot parent low node stands (λ low_of. elim low_of [ inl none ↦ (let f : None ≡ Some parent = sym none ∙ has in cc) | inr other ↦ other role_is ]) has (rest parent above there up)
 
   -- the top of the task that stands below a frame that waits for no call is that frame
-  pub top_of_slots : (slot low : ℕ) → IsLowestBelow m.cactus slot low → (node lowest_node : Node Activation) → node_at m.cactus slot ≡ Some node → node_at m.cactus low ≡ Some lowest_node → node.frame.callee ≡ None → running.top_of (seen m).core (place_of lowest_node) ≡ place_of node
+  pub top_of_slots : (slot low : ℕ) → IsLowestBelow stage.run.cactus slot low → (node lowest_node : Node Activation) → node_at stage.run.cactus slot ≡ Some node → node_at stage.run.cactus low ≡ Some lowest_node → node.frame.callee ≡ None → running.top_of m.core (place_of lowest_node) ≡ place_of node
   top_of_slots slot low below node lowest_node stands at none =
-      let on : OnTask (seen m).core (place_of lowest_node) (place_of node) = on_task slot low below node lowest_node stands at in
-      let whole : PartIntoTasks (length m.hands.items) (seen m) = parts in
+      let on : OnTask m.core (place_of lowest_node) (place_of node) = on_task slot low below node lowest_node stands at in
+      let whole : PartIntoTasks (workers_of stage) m = parts in
       let (up, u) = whole.top (place_of lowest_node) (place_of node) on in
-      sym (no_deeper (seen m).core tree (place_of lowest_node) (place_of node) on calls_nothing (running.top_of (seen m).core (place_of lowest_node)) up u)
+      sym (no_deeper m.core tree (place_of lowest_node) (place_of node) on calls_nothing (running.top_of m.core (place_of lowest_node)) up u)
     where
-      no_call : (w : Waits) → CalleeStands m.cactus node w None → (j : ℕ) (d : Option RegisterId) → wait_of w ≢ OnCall j d
+      no_call : (w : Waits) → CalleeStands stage.run.cactus node w None → (j : ℕ) (d : Option RegisterId) → wait_of w ≢ OnCall j d
       no_call waits.Nothing c j d e = cc
       no_call (waits.Region region) c j d e = cc
       no_call (waits.Call child register) c j d e = let (s, called, some, rest, numbers) = c in absurd (cc)
 
-      calls_nothing : (f : Frame) (j : ℕ) (d : Option RegisterId) → (seen m).core.frames (place_of node) ≡ Some f → f.waits ≢ OnCall j d
+      calls_nothing : (f : Frame) (j : ℕ) (d : Option RegisterId) → m.core.frames (place_of node) ≡ Some f → f.waits ≢ OnCall j d
       calls_nothing f j d is wait =
-          let e : Some (frame_of (place_of node) node.frame.frame) ≡ Some f = sym (seen_here slot node stands) ∙ is in
-          let same : frame_of (place_of node) node.frame.frame ≡ f = cc in
-          no_call node.frame.frame.waits (subst (λ o. CalleeStands m.cactus node node.frame.frame.waits o) none (k.agrees.callees slot node stands)) j d (ap (λ (x : Frame). x.waits) same ∙ wait)
+          let g = here_at slot node stands in
+          let e : Some g.frame ≡ Some f = sym g.is ∙ is in
+          let same : g.frame ≡ f = cc in
+          no_call node.frame.frame.waits (subst (λ o. CalleeStands stage.run.cactus node node.frame.frame.waits o) none (state.shown.agrees.nodes slot node stands).callee) j d (sym g.waits ∙ (ap (λ (x : Frame). x.waits) same ∙ wait))
 
   -- a path of the state is a slot's
-  pub slot_of : (p : Path) (f : Frame) → (seen m).core.frames p ≡ Some f → (slot : ℕ) × (node : Node Activation) × (node_at m.cactus slot ≡ Some node) × (place_of node ≡ p)
-  slot_of p f is = from (named m.cactus (reverse p)) refl is
+  pub slot_of : (p : Path) (f : Frame) → m.core.frames p ≡ Some f → (slot : ℕ) × (node : Node Activation) × (node_at stage.run.cactus slot ≡ Some node) × (place_of node ≡ p)
+  slot_of p f is = from (named stage.run.cactus (reverse p)) refl (subst (λ o. ShowsAt (layout_of (program_of stage) stage.places stage.run.cactus m.core) stage.places p o (named stage.run.cactus (reverse p))) is (state.shown.shows.frames p))
     where
-      from : (o : Option (Node Activation)) → named m.cactus (reverse p) ≡ o → seen_at p o ≡ Some f → (slot : ℕ) × (node : Node Activation) × (node_at m.cactus slot ≡ Some node) × (place_of node ≡ p)
-      from None at e = absurd (cc)
-      from (Some node) at e =
-          let found : FoundAt m.cactus (reverse p) node = named_found m.cactus (reverse p) node at in
+      from : (o : Option (Node Activation)) → named stage.run.cactus (reverse p) ≡ o → ShowsAt (layout_of (program_of stage) stage.places stage.run.cactus m.core) stage.places p (Some f) (named stage.run.cactus (reverse p)) →
+          (slot : ℕ) × (node : Node Activation) × (node_at stage.run.cactus slot ≡ Some node) × (place_of node ≡ p)
+      from None at h = absurd (subst (λ o. ShowsAt (layout_of (program_of stage) stage.places stage.run.cactus m.core) stage.places p (Some f) o) at h)
+      from (Some node) at h =
+          let found : FoundAt stage.run.cactus (reverse p) node = named_found stage.run.cactus (reverse p) node at in
           (found.slot, node, found.stands, ap reverse found.is ∙ reverse-reverse p)

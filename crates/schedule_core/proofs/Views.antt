@@ -1,150 +1,124 @@
--- What is shown of a run that is kept, and that has not trapped.
-use Rattle.std.proofs.Common.{◌≡◌, ◌↔◌, ℕ, ℤ, List, length, reverse, Option, Some, None, refl, sym, ap, ◌∙◌, subst}
-use Rattle.std.specs.Prelude.{IfNone, IfSome, IsSome}
+-- What is shown of a stage that stands as a machine: frames, hands, lines.
+use Rattle.std.proofs.Common.{◌≡◌, ◌≢◌, ◌↔◌, ℕ, ◌<◌, ◌≤◌, List, length, reverse, Option, Some, None, Bool, true, false, ltb, refl, sym, ap, ◌∙◌, subst}
+use Rattle.std.specs.Prelude.{IfNone, IfSome, IsSome, is_some, option_and_then}
+use Rattle.std.specs.Option.{option_map}
 use Rattle.std.proofs.Math.Logic.{∥∥₁_elim}
 use Rattle.std.proofs.Props.{props}
 use Rattle.std.proofs.Math.Nat.{ℕ_set}
 use Rattle.std.proofs.Math.IntN.{ℤ_set}
 use mathlib.Core.Sum.{⊎_set}
-use Rattle.std.proofs.lemmas.List.{reverse-reverse}
-use Rattle.running.specs.Frames.{Frame}
+use Rattle.std.proofs.lemmas.Bool.{ltb-true, ltb-false}
+use Rattle.std.proofs.lemmas.List.{get_or_past, length-reverse, reverse-reverse}
+use Rattle.running.specs.Paths.{Path as RunningPath}
+use Rattle.running.specs.Frames.{Frame, block_at}
+use Rattle.running.specs.Events.{Machine}
+use Rattle.program.specs.declared.function.Block.{Block}
 use Rattle.frame.specs.declared.path.Path.{Path}
-use Rattle.frame.specs.declared.value.Cell.{Cell}
-use Rattle.frame.specs.Room.{ObjectWithin}
 use Rattle.cactus.specs.declared.node.Node.{Node}
-use Rattle.cactus.specs.Frames.{Frames, node_at, HasPath, HasNoPath, Lives}
-use Rattle.cactus.specs.ByPath.{named, IsTree}
-use Rattle.cactus.proofs.ByPathLemmas.{named_none, not_named}
-use Rattle.worker_steps.specs.declared.activation.Activation.{Activation}
-use Rattle.worker_steps.specs.declared.run.Run.{Run}
-use Rattle.worker_steps.specs.Running.{IsTrapped}
-use Rattle.worker_steps.specs.Scheduling.{hand_of}
-use Rattle.worker_steps.specs.Seen.{seen, seen_at, FindsTop}
-use Rattle.worker_steps.specs.Stepping.{HoldsAt, IsRun, OwnerStands}
-use Rattle.worker_steps.specs.Tasks.{IsLowestBelow}
-use Rattle.schedule_core.specs.declared.task.TaskView.{TaskView}
-use Rattle.schedule_core.specs.Viewed.{HoldsNothing, IsAtMost, IsFirstReady, IsNoneReady, IsReadyAt, IsRunBy, IsTask, Shows, held_at, place_in, status_in}
-use Rattle.schedule_core.proofs.Shown.{has_node, low_lives, no_top, run_shown, task_shown}
-use Rattle.schedule_core.proofs.Firsts.{Covered, Found, first_is, none_is}
+use Rattle.cactus.specs.Frames.{Frames, node_at, HasPath, HasNoPath}
+use Rattle.cactus.specs.ByPath.{named}
+use Rattle.cactus.proofs.ByPathLemmas.{not_named}
+use Rattle.crew.specs.declared.activation.Activation.{Activation}
+use Rattle.crew.specs.Layouts.{layout_of}
+use Rattle.crew.specs.Scheduling.{hand_of}
+use Rattle.crew.specs.Shown.{ShowsAt, place_of}
+use Rattle.crew.proofs.Onward.{seen}
+use Rattle.crew.proofs.Views.{hand_seen, node_tells}
+use Rattle.schedule_core.specs.declared.stage.Stage.{Stage}
+use Rattle.schedule_core.specs.Lines.{StandsAt, line_in, line_of_worker, next_line, place_line}
+use Rattle.schedule_core.specs.Replaying.{IsMachine}
+use Rattle.schedule_core.specs.Stages.{IsState, program_of}
+use Rattle.schedule_core.specs.Viewed.{place_in}
+use Rattle.schedule_core.proofs.Spots.{IsUse, named_use, use_found}
 
-abbrev pub Kept : Run → Type 0
-Kept m = ∥ (¬ IsTrapped m → IsRun m.verified.now m) ∥₁
+-- what stands in a use of a slot
+pub has_node : (frames : Frames Activation) (slot generation : ℕ) (path : Path) → HasPath frames slot generation path →
+    (node : Node Activation) × (node_at frames slot ≡ Some node) × (node.path ≡ path)
+has_node frames slot generation path has =
+    let u : IsUse frames slot generation path = use_found frames slot generation path (named_use frames slot generation path has) in
+    (u.node, u.stands, u.named)
 
--- what follows from a run that a schedule leads to
-pub from_kept : {P : Type 0} (m : Run) → IsProp P → Kept m → ¬ IsTrapped m → (IsRun m.verified.now m → P) → P
-from_kept m prop kept fine f = ∥∥₁_elim kept prop (λ k. f (k fine))
+module _ (stage : Stage) (m : Machine) (s : IsState stage m) where
+  -- ---- hands
 
-task_prop : (m : Run) (path : Path) (view : TaskView) → IsProp (IsTask m path view)
-task_prop m path view = Prim.hlevel (props, ⊎_set, ℕ_set, ℤ_set)
+  pub hand_is : (worker slot : ℕ) (node : Node Activation) → hand_of stage.run.hands.items worker ≡ Some slot → node_at stage.run.cactus slot ≡ Some node → m.hands worker ≡ Some (place_of node)
+  hand_is worker slot node hand stands = s.shown.shows.hands worker ∙ hand_seen stage.run.cactus stage.run.hands.items worker slot node hand stands
 
-run_prop : (m : Run) (worker : ℕ) (view : TaskView) → IsProp (IsRunBy m worker view)
-run_prop m worker view = Prim.hlevel (props, ⊎_set, ℕ_set, ℤ_set)
+  pub no_hand : (worker : ℕ) → hand_of stage.run.hands.items worker ≡ None → m.hands worker ≡ None
+  no_hand worker none = s.shown.shows.hands worker ∙ rw none refl
 
-status_prop : (m : Run) (path : Path) → IsProp (status_in m path ≡ None)
-status_prop m path = Prim.hlevel (props, ⊎_set, ℕ_set, ℤ_set)
+  -- a hand holds a living frame
+  pub hand_lives : (worker slot : ℕ) → hand_of stage.run.hands.items worker ≡ Some slot → (node : Node Activation) × (node_at stage.run.cactus slot ≡ Some node)
+  hand_lives worker slot hand = node_tells stage.run.cactus slot (s.shown.agrees.held worker slot hand)
 
-first_prop : (m : Run) (path : Path) → IsProp (IsFirstReady m path)
-first_prop m path = Prim.hlevel (props, ⊎_set, ℕ_set, ℤ_set)
+  pub depth_is : (worker slot : ℕ) (node : Node Activation) → hand_of stage.run.hands.items worker ≡ Some slot → node_at stage.run.cactus slot ≡ Some node →
+      Some (length node.path.numbers) ≡ option_map (λ (p : RunningPath). length p) (m.hands worker)
+  depth_is worker slot node hand stands = ap Some (sym (length-reverse node.path.numbers)) ∙ sym (ap (option_map (λ (p : RunningPath). length p)) (hand_is worker slot node hand stands))
 
-none_prop : (m : Run) → IsProp (IsNoneReady m)
-none_prop m = Prim.hlevel (props, ⊎_set, ℕ_set, ℤ_set)
+  pub no_depth : (worker : ℕ) → hand_of stage.run.hands.items worker ≡ None → None ≡ option_map (λ (p : RunningPath). length p) (m.hands worker)
+  no_depth worker none = sym (ap (option_map (λ (p : RunningPath). length p)) (no_hand worker none))
 
-held_prop : (m : Run) (path : Path) (cell : Cell) (held : Option ℤ) → IsProp (held_at m path cell ≡ held)
-held_prop m path cell held = Prim.hlevel (props, ⊎_set, ℕ_set, ℤ_set)
+  pub empty_hand : (P : Type 0) (worker slot : ℕ) → hand_of stage.run.hands.items worker ≡ Some slot → node_at stage.run.cactus slot ≡ None → P
+  empty_hand P worker slot hand none = let lives = hand_lives worker slot hand in absurd (let e : None ≡ Some lives.0 = sym none ∙ lives.1 in cc)
 
-nothing_prop : (m : Run) (path : Path) (cell : Cell) → IsProp (HoldsNothing m path cell)
-nothing_prop m path cell = Prim.hlevel (props, ⊎_set, ℕ_set, ℤ_set)
+  -- ---- frames by path
 
--- ---- tasks
+  pub gone_path : (path : Path) → HasNoPath stage.run.cactus path → m.core.frames (place_in path) ≡ None
+  gone_path path none =
+      let p = place_in path in
+      let absent : named stage.run.cactus (reverse p) ≡ None = not_named stage.run.cactus (reverse p) (λ slot node stands same. none slot node stands (ap (λ (l : List ℕ). record { numbers = l }) (same ∙ reverse-reverse path.numbers))) in
+      from (m.core.frames p) refl (subst (λ o. ShowsAt (layout_of (program_of stage) stage.places stage.run.cactus m.core) stage.places p (m.core.frames p) o) absent (s.shown.shows.frames p))
+    where
+      from : (o : Option Frame) → m.core.frames (place_in path) ≡ o → ShowsAt (layout_of (program_of stage) stage.places stage.run.cactus m.core) stage.places (place_in path) o None → m.core.frames (place_in path) ≡ None
+      from None e h = e
+      from (Some g) e h = absurd h
 
-pub shown_if : (m : Run) (kept : Kept m) (fine : ¬ IsTrapped m) (o : Option TaskView) (low high generation : ℕ) (path : Path) → FindsTop m.cactus m.peak path (Some high) → HasPath m.cactus low generation path → IfSome o (Shows m low high) → IfSome o (IsTask m path)
-shown_if m kept fine None low high generation path finds has shows = shows
-shown_if m kept fine (Some view) low high generation path finds has shows =
-    from_kept m (task_prop m path view) kept fine (λ k. let (node, stands, same) = has_node m.cactus low generation path has in task_shown m.verified.now m k view low high path shows finds node stands same)
+  pub found_path : (slot generation : ℕ) (path : Path) → HasPath stage.run.cactus slot generation path → IsSome (m.core.frames (place_in path))
+  found_path slot generation path has =
+      let h = has_node stage.run.cactus slot generation path has in
+      let g = seen (program_of stage) stage.places stage.run slot h.0 h.0.frame h.1 m s.shown in
+      subst (λ (p : Path). IsSome (m.core.frames (place_in p))) h.2 (ap is_some g.is)
 
-pub absent_top : (m : Run) (kept : Kept m) (fine : ¬ IsTrapped m) (path : Path) → FindsTop m.cactus m.peak path None → status_in m path ≡ None
-absent_top m kept fine path finds = from_kept m (status_prop m path) kept fine (λ k. no_top m.verified.now m k path finds)
+  pub spot_lives : (path : Path) (o : Option (ℕ × ℕ)) → IfSome o (λ spot. HasPath stage.run.cactus spot.0 spot.1 path) → IfNone o (HasNoPath stage.run.cactus path) →
+      IsSome o ↔ IsSome (m.core.frames (place_in path))
+  spot_lives path None found absent = ((λ some. absurd (cc)), (λ some. let e : IsSome {T = Frame} None = subst (λ x. IsSome x) (gone_path path absent) some in absurd (cc)))
+  spot_lives path (Some spot) found absent = ((λ some. found_path spot.0 spot.1 path found), (λ some. refl))
 
-pub run_if : (m : Run) (kept : Kept m) (fine : ¬ IsTrapped m) (o : Option TaskView) (low high worker : ℕ) → IsLowestBelow m.cactus high low → hand_of m.hands.items worker ≡ Some high → IfSome o (Shows m low high) → IfSome o (IsRunBy m worker)
-run_if m kept fine None low high worker below hand shows = shows
-run_if m kept fine (Some view) low high worker below hand shows = from_kept m (run_prop m worker view) kept fine (λ k. run_shown m.verified.now m k view low high worker shows below hand)
+  -- ---- lines
 
--- a view of two frames that live is one
-pub never_none : (P : Type 0) (o : Option TaskView) → IsSome o → IfNone o P
-never_none P None some = absurd (cc)
-never_none P (Some view) some = tt
+  pub held_line : (worker slot : ℕ) (node : Node Activation) → hand_of stage.run.hands.items worker ≡ Some slot → node_at stage.run.cactus slot ≡ Some node →
+      line_of_worker (program_of stage) m worker ≡ next_line (program_of stage) node.frame.frame
+  held_line worker slot node hand stands =
+      let prog = program_of stage in
+      let g = seen prog stage.places stage.run slot node node.frame stands m s.shown in
+      let by_place : place_line prog g.frame ≡ next_line prog node.frame.frame =
+      λ i. option_and_then (λ (block : Block). line_in block (g.shows.shown.index i)) (block_at prog (g.shows.shown.function i) (g.shows.shown.block i)) in
+      ap (λ (o : Option RunningPath). option_and_then (λ p. option_and_then (place_line prog) (m.core.frames p)) o) (hand_is worker slot node hand stands)
+      ∙ (ap (λ (o : Option Frame). option_and_then (place_line prog) o) g.is ∙ by_place)
 
-pub run_never_none : (P : Type 0) (m : Run) (kept : Kept m) (fine : ¬ IsTrapped m) (o : Option TaskView) (low high worker : ℕ) → IsLowestBelow m.cactus high low → hand_of m.hands.items worker ≡ Some high → (Lives m.cactus low → Lives m.cactus high → IsSome o) → IfNone o P
-run_never_none P m kept fine (Some view) low high worker below hand found = tt
-run_never_none P m kept fine None low high worker below hand found = absurd (from_kept m (λ x y. absurd x) kept fine (λ k. let some : IsSome {T = TaskView} None = found (low_lives m.cactus high low below) (k.agrees.held worker high hand) in absurd (cc)))
+  pub idle_line : (worker : ℕ) → hand_of stage.run.hands.items worker ≡ None → line_of_worker (program_of stage) m worker ≡ None
+  idle_line worker none = ap (λ (o : Option RunningPath). option_and_then (λ p. option_and_then (place_line (program_of stage)) (m.core.frames p)) o) (no_hand worker none)
 
--- a frame in a hand stands on a task
-pub low_found : (P : Type 0) (m : Run) (kept : Kept m) (fine : ¬ IsTrapped m) (o : Option ℕ) (high worker : ℕ) → o ≡ None → hand_of m.hands.items worker ≡ Some high → (IsTree m.cactus → Lives m.cactus high → IsSome o) → P
-low_found P m kept fine o high worker none hand found = absurd (from_kept m (λ x y. absurd x) kept fine (λ k. let some : IsSome o = found k.agrees.tree (k.agrees.held worker high hand) in let e : IsSome {T = ℕ} None = subst (λ x. IsSome x) none some in absurd (cc)))
+  -- workers past the last are idle
+  past_line : (worker : ℕ) → length stage.run.hands.items ≤ worker → line_of_worker (program_of stage) m worker ≡ None
+  past_line worker past = idle_line worker (get_or_past stage.run.hands.items worker None past)
 
-pub idle_hand : (m : Run) (worker : ℕ) → hand_of m.hands.items worker ≡ None → (seen m).hands worker ≡ None
-idle_hand m worker none = rw none refl
+  -- where no worker stands on the line, none does
+  pub stands_nowhere : (line : ℕ) → ((w : ℕ) → w < length stage.run.hands.items → line_of_worker (program_of stage) m w ≢ Some line) → ¬ StandsAt (program_of stage) m line
+  stands_nowhere line none stands = by (ltb stands.0 (length stage.run.hands.items)) refl
+    where
+      by : (b : Bool) → ltb stands.0 (length stage.run.hands.items) ≡ b → ⊥
+      by true is = none stands.0 (ltb-true stands.0 (length stage.run.hands.items) is) stands.1
+      by false is = let e : None ≡ Some line = sym (past_line stands.0 (ltb-false stands.0 (length stage.run.hands.items) is)) ∙ stands.1 in cc
 
--- ---- the first ready task
+-- ---- without a state
 
-pub first_if : (m : Run) (kept : Kept m) (fine : ¬ IsTrapped m) (slot : ℕ) (path : Path) → IsReadyAt m.cactus slot path → (IsRun m.verified.now m → (s : ℕ) (q : Path) → IsReadyAt m.cactus s q → IsAtMost path q) → IsFirstReady m path
-first_if m kept fine slot path here covers = from_kept m (first_prop m path) kept fine (λ k. first_is m.verified.now m k slot path here (covers k))
+below_prop : (a b : ℕ) → IsProp (a < b)
+below_prop a b = Prim.hlevel (props, ⊎_set, ℕ_set, ℤ_set)
 
-pub none_if : (m : Run) (kept : Kept m) (fine : ¬ IsTrapped m) → (IsRun m.verified.now m → (s : ℕ) (q : Path) → ¬ IsReadyAt m.cactus s q) → IsNoneReady m
-none_if m kept fine covers = from_kept m (none_prop m) kept fine (λ k. none_is m.verified.now m k (covers k))
-
--- what a walk over all slots found
-pub least_found : (m : Run) (kept : Kept m) (fine : ¬ IsTrapped m) (o : Option Path) → Found m.cactus o → (IsTree m.cactus → (s : ℕ) (n : Node Activation) → node_at m.cactus s ≡ Some n → Covered m.cactus s o) → IfSome o (IsFirstReady m)
-least_found m kept fine None found covers = tt
-least_found m kept fine (Some p) found covers = first_if m kept fine found.0 p found.1 (λ k s q r. covers k.agrees.tree s r.top r.stands q r)
-
-pub none_found : (m : Run) (kept : Kept m) (fine : ¬ IsTrapped m) (o : Option Path) → (IsTree m.cactus → (s : ℕ) (n : Node Activation) → node_at m.cactus s ≡ Some n → Covered m.cactus s o) → IfNone o (IsNoneReady m)
-none_found m kept fine (Some p) covers = tt
-none_found m kept fine None covers = none_if m kept fine (λ k s q r. covers k.agrees.tree s r.top r.stands q r)
-
--- ---- frames and cells
-
--- no frame has the path
-pub gone_path : (m : Run) (path : Path) → HasNoPath m.cactus path → (seen m).core.frames (place_in path) ≡ None
-gone_path m path none =
-    let absent : named m.cactus (reverse (reverse path.numbers)) ≡ None = not_named m.cactus (reverse (reverse path.numbers)) (λ slot node stands same. none slot node stands (ap (λ (l : List ℕ). record { numbers = l }) (same ∙ reverse-reverse path.numbers))) in
-    rw absent refl
-
--- a frame has it
-pub found_path : (m : Run) (slot generation : ℕ) (path : Path) → HasPath m.cactus slot generation path → IsSome ((seen m).core.frames (place_in path))
-found_path m slot generation path has = from (named m.cactus (reverse (place_in path))) refl
-  where
-    from : (o : Option (Node Activation)) → named m.cactus (reverse (place_in path)) ≡ o → IsSome (seen_at (place_in path) (named m.cactus (reverse (place_in path))))
-    from (Some node) e = rw e refl
-    from None e =
-        let (node, stands, is) = has_node m.cactus slot generation path has in
-        absurd (named_none m.cactus (reverse (place_in path)) e slot node stands (ap (λ (p : Path). p.numbers) is ∙ sym (reverse-reverse path.numbers)))
-
--- the cell as the slot's frame names it is that of the path
-pub cell_held : (m : Run) (kept : Kept m) (fine : ¬ IsTrapped m) (slot generation : ℕ) (path : Path) (cell : Cell) (held : Option ℤ) → HasPath m.cactus slot generation path → HoldsAt m slot cell held → held_at m path cell ≡ held
-cell_held m kept fine slot generation path cell held has holds =
-    from_kept m (held_prop m path cell held) kept fine (λ k.
-    let (node, stands, is) = has_node m.cactus slot generation path has in
-    subst (λ (p : Path). held_at m p cell ≡ held) is (holds node stands k.agrees.tree))
-
-pub cells_held : (m : Run) (kept : Kept m) (fine : ¬ IsTrapped m) (slot generation : ℕ) (path : Path) (cell : Cell) (o : Option (Option ℤ)) → HasPath m.cactus slot generation path → IfSome o (HoldsAt m slot cell) → IfSome o (λ held. held_at m path cell ≡ held)
-cells_held m kept fine slot generation path cell None has holds = holds
-cells_held m kept fine slot generation path cell (Some held) has holds = cell_held m kept fine slot generation path cell held has holds
-
-pub cells_absent : (m : Run) (kept : Kept m) (fine : ¬ IsTrapped m) (slot generation : ℕ) (path : Path) (cell : Cell) (o : Option (Option ℤ)) → HasPath m.cactus slot generation path → IfNone o (OwnerStands m.cactus slot cell.object → HoldsAt m slot cell None) → IfNone o (HoldsNothing m path cell)
-cells_absent m kept fine slot generation path cell (Some held) has absent = absent
-cells_absent m kept fine slot generation path cell None has absent = λ there within.
-    from_kept m (held_prop m path cell None) kept fine (λ k.
-    let (node, stands, is) = has_node m.cactus slot generation path has in
-    let owner : OwnerStands m.cactus slot cell.object = λ other at. (let e : Some node ≡ Some other = sym stands ∙ at in let same : node ≡ other = cc in subst (λ (n : Node Activation). ObjectWithin (length n.path.numbers) cell.object) same (subst (λ (p : Path). ObjectWithin (length p.numbers) cell.object) (sym is) within)) in
-    subst (λ (p : Path). held_at m p cell ≡ None) is (absent owner node stands k.agrees.tree))
-
-pub cell_nowhere : (m : Run) (path : Path) (cell : Cell) → HasNoPath m.cactus path → HoldsNothing m path cell
-cell_nowhere m path cell none there within = absurd (there (gone_path m path none))
-
-pub spot_lives : (m : Run) (path : Path) (o : Option (ℕ × ℕ)) → IfSome o (λ spot. HasPath m.cactus spot.0 spot.1 path) → IfNone o (HasNoPath m.cactus path) → IsSome o ↔ IsSome ((seen m).core.frames (place_in path))
-spot_lives m path None found absent = ((λ some. absurd (cc)), (λ some. let e : IsSome {T = Frame} None = subst (λ x. IsSome x) (gone_path m path absent) some in absurd (cc)))
-spot_lives m path (Some spot) found absent = ((λ some. found_path m spot.0 spot.1 path found), (λ some. refl))
-
-pub lives_by : (frames : Frames Activation) (slot : ℕ) (node : Node Activation) → node_at frames slot ≡ Some node → Lives frames slot
-lives_by frames slot node stands = rw stands refl
+-- what is found was given out
+pub spot_given : (stage : Stage) → ∥ IsMachine stage ∥₁ → (path : Path) (o : Option (ℕ × ℕ)) → IfSome o (λ spot. HasPath stage.run.cactus spot.0 spot.1 path) → IfSome o (λ spot. spot.1 < stage.run.cactus.made)
+spot_given stage kept path None found = tt
+spot_given stage kept path (Some spot) found =
+    let u : IsUse stage.run.cactus spot.0 spot.1 path = use_found stage.run.cactus spot.0 spot.1 path (named_use stage.run.cactus spot.0 spot.1 path found) in
+    ∥∥₁_elim kept (below_prop spot.1 stage.run.cactus.made) (λ k. subst (λ g. g < stage.run.cactus.made) u.since (k.given spot.0 u.node u.stands))

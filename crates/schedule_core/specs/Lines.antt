@@ -12,8 +12,8 @@ use Rattle.program.specs.declared.identifier.BlockId.{BlockId}
 use Rattle.program.specs.declared.identifier.FunctionId.{FunctionId}
 use Rattle.program.specs.declared.instruction.Step.{Step}
 use Rattle.program.specs.declared.instruction.Ending.{Ending}
-use Rattle.frame.specs.declared.frame.Frame.{Frame}
-use Rattle.worker_steps.specs.Stalls.{Blocks, no_blocks, last_blocks}
+use Rattle.engine.specs.declared.activation.Frame.{Frame}
+use Rattle.crew.specs.Stalls.{Blocks, no_blocks, last_blocks}
 use Rattle.schedule_core.specs.declared.task.Status.{Status}
 use Rattle.schedule_core.specs.declared.task.Status.TheVariants.{Running, Ready, Stalled}
 
@@ -31,7 +31,7 @@ line_in block index = step_line block (slice_get block.steps index)
 
 -- the line of the frame's next instruction
 abbrev pub next_line : Program → Frame → Option ℕ
-next_line prog f = option_and_then (λ (block : Block). line_in block f.index) (block_at prog f.function.0 f.block.0)
+next_line prog f = option_and_then (λ (block : Block). line_in block f.place.index) (block_at prog f.function.0 f.place.block.0)
 
 -- the line of the sync that ends a block
 abbrev pub sync_line : Program → FunctionId → BlockId → Option ℕ

@@ -1,5 +1,5 @@
 -- The parent of the child that a worker runs.
-use Rattle.std.specs.Prelude.{◌≡◌, ◌≢◌, ℕ, ◌∷◌, List, length, Option, Some, None, true}
+use Rattle.std.specs.Prelude.{◌≡◌, ◌≢◌, ℕ, ◌∷◌, length, Some, None, true}
 use Rattle.running.specs.Paths.{Path as RunningPath}
 use Rattle.running.specs.Frames as defined
 use Rattle.running.specs.Events as running
@@ -7,10 +7,9 @@ use Rattle.frame.specs.declared.path.Path.{Path}
 use Rattle.frame.specs.declared.frame.Role.TheVariants.{Body}
 use Rattle.cactus.specs.declared.node.Node.{Node}
 use Rattle.cactus.specs.Frames.{node_at, HasPath}
-use Rattle.worker_steps.specs.declared.activation.Activation.{Activation}
-use Rattle.worker_steps.specs.declared.run.Run.{Run}
-use Rattle.worker_steps.specs.Scheduling.{hand_of}
-use Rattle.worker_steps.specs.Seen.{seen}
+use Rattle.crew.specs.declared.activation.Activation.{Activation}
+use Rattle.crew.specs.declared.run.Run.{Run}
+use Rattle.crew.specs.Scheduling.{hand_of}
 use Rattle.schedule_core.specs.Viewed.{place_in, status_in}
 
 -- the top of the worker's task is a child of the frame in the slot
@@ -29,19 +28,18 @@ HasNoParentSlot run worker =
     child.parent ≡ None
 
 -- in this use of the slot stands the lowest frame of a ready task, whose top detached the child that the worker runs
-pub record IsReadyParent (run : Run) (worker slot generation : ℕ) : Type 0 where
+pub record IsReadyParent (run : Run) (m : running.Machine) (worker slot generation : ℕ) : Type 0 where
   pub path : Path
   pub named : HasPath run.cactus slot generation path
-  pub ready : status_in run path ≡ Some running.Ready
+  pub ready : status_in (length run.hands.items) m path ≡ Some running.Ready
   pub number : ℕ
-  pub hand : (seen run).hands worker ≡ Some (number ∷ running.top_of (seen run).core (place_in path))
+  pub hand : m.hands worker ≡ Some (number ∷ running.top_of m.core (place_in path))
   pub child : defined.Frame
-  pub stands : (seen run).core.frames (number ∷ running.top_of (seen run).core (place_in path)) ≡ Some child
+  pub stands : m.core.frames (number ∷ running.top_of m.core (place_in path)) ≡ Some child
   pub is_child : running.is_child child.role ≡ true
 
 -- the worker runs no child whose parent is a ready top
-abbrev pub HasNoReadyParent : Run → ℕ → Type 0
-HasNoReadyParent run worker =
-    (number : ℕ) (above : RunningPath) (child : defined.Frame) → (seen run).hands worker ≡ Some (number ∷ above) →
-    (seen run).core.frames (number ∷ above) ≡ Some child → running.is_child child.role ≡ true →
-    ¬ (running.top_status (length run.hands.items) (seen run) above ≡ Some running.Ready)
+abbrev pub HasNoReadyParent : ℕ → running.Machine → ℕ → Type 0
+HasNoReadyParent workers m worker =
+    (number : ℕ) (above : RunningPath) (child : defined.Frame) → m.hands worker ≡ Some (number ∷ above) →
+    m.core.frames (number ∷ above) ≡ Some child → running.is_child child.role ≡ true → ¬ (running.top_status workers m above ≡ Some running.Ready)

@@ -1,110 +1,137 @@
--- What events do to a run, one and many.
-use Rattle.std.specs.Prelude.{◌≡◌, ℕ, List, [], ◌∷◌, ◌++◌, length, reverse, map, Bool, ℤ}
+-- What events do to a stage, one and many.
+use Rattle.std.specs.Prelude.{◌≡◌, ℕ, ◌≤◌, ◌<◌, List, [], ◌∷◌, ◌++◌, length, reverse, map, sum, Bool, true, false, Some, None, ℤ}
 use Rattle.running.specs.Paths.{Path as RunningPath}
 use Rattle.running.specs.Events as running
 use Rattle.running.specs.Replay.{replay}
+use Rattle.running.specs.SerialMeaning.{Outcome, IsSerialMeaning}
+use Rattle.conditions.specs.theorem.Schedules.{KeepsSchedule}
 use Rattle.verifier.specs.Accepted.{IsAccepted}
+use Rattle.verifier.specs.Budgets.{budget_of}
 use Rattle.program.specs.declared.function.Program.{Program}
+use Rattle.outcome.specs.Requirements.{unmet_in}
 use Rattle.store.specs.Cells.{NamedCells}
-use Rattle.worker_steps.specs.declared.run.Run.{Run}
-use Rattle.worker_steps.specs.Running.{IsTrapped}
-use Rattle.worker_steps.specs.Seen.{seen, given}
-use Rattle.worker_steps.specs.Growing.{GrowsAtStep}
-use Rattle.worker_steps.specs.Slots.{HasSlots}
-use Rattle.worker_steps.specs.Follows.{AreGiven, names_of}
-use Rattle.worker_steps.specs.Stalls.{Blocks, StallsAgree, last_blocks, no_blocks}
-use Rattle.worker_steps.specs.Stepping.{IsRun, IsEvent}
-use Rattle.worker_steps.specs.Stopping.{StopsAtStep}
-use Rattle.worker_promise.specs.Promise.{IsScheduled}
+use Rattle.store.specs.Rows.{sizes_of}
+use Rattle.crew.specs.Events.{GrowsAtStep}
+use Rattle.crew.specs.Follows.{AreGiven, KeepsUses}
+use Rattle.crew.specs.Stalls.{StallsAgree, last_blocks, no_blocks}
+use Rattle.crew.specs.Starts.{ArePlaces, HasMoves}
+use Rattle.schedule_core.specs.Spots.{KeepsSpots}
 use Rattle.schedule_core.specs.Lines.{line_after, line_or_zero}
+use Rattle.store.specs.Made.{IsMadeFor}
+use Rattle.schedule_core.specs.Stages.{given, program_of, workers_of, IsState}
 use Rattle.schedule_core.specs.declared.event.Event.{Event}
 use Rattle.schedule_core.specs.declared.event.Event.TheVariants.{Step, Steal}
+use Rattle.schedule_core.specs.declared.stage.Stage.{Stage}
 use Rattle.schedule_core.specs.declared.task.TaskView.{TaskView}
 
 abbrev pub event_of : Event → running.Event
 event_of (Step worker) = running.Step worker
 event_of (Steal worker path) = running.Steal worker (reverse path.numbers)
 
--- the event is done exactly where the definitions enable it, and then the run reads as they say
-abbrev pub Happens : Run → Run → running.Event → Bool → Type 0
-Happens old new event done = IsEvent old.verified.now old new event done
+abbrev pub IsNumberOfWorkers : ℕ → Type 0
+IsNumberOfWorkers workers = (0 < workers) × (workers ≤ 64)
 
--- the event is a step of a worker that runs a task, where the budget is used up or the top of the task goes no further
-abbrev pub StopsOnly : Program → Run → Event → Type 0
-StopsOnly prog run (Step worker) = StopsAtStep prog run worker
-StopsOnly prog run (Steal worker path) = ⊥
+-- ---- one event
+
+-- the event is done just where the definitions enable it, and then the stage stands as they say
+abbrev pub Becomes : running.Event → running.Machine → Stage → Stage → Bool → Type 0
+Becomes e m old new true = (next : running.Machine) × (running.event (program_of old) (workers_of old) e m ≡ Some next) × IsState new next
+Becomes e m old new false = running.event (program_of old) (workers_of old) e m ≡ None
+
+-- whatever machine the stage stands as
+abbrev pub Happens : Stage → Stage → running.Event → Bool → Type 0
+Happens old new e done = (m : running.Machine) → IsState old m → Becomes e m old new done
 
 -- the event is a step that makes a frame: a detach or a call
-abbrev pub GrowsOnly : Program → Run → Event → Type 0
-GrowsOnly prog run (Step worker) = GrowsAtStep prog run worker
-GrowsOnly prog run (Steal worker path) = ⊥
+abbrev pub GrowsOnly : Program → running.Machine → Event → Type 0
+GrowsOnly prog m (Step worker) = GrowsAtStep prog m worker
+GrowsOnly prog m (Steal worker path) = ⊥
 
--- the run of a schedule, of a module that the verifier took, whose slots have a place for all that the text names
-pub record IsMachine (m : Run) : Type 0 where
-  pub accepted : IsAccepted m.verified.now
-  pub run : IsRun m.verified.now m
-  pub slots : HasSlots m.verified.now m
-  pub schedule : IsScheduled m.verified.now m
-  pub given : AreGiven m.cactus
-
--- the events, one after another, are those of the definitions' replay
-pub record AreEvents (prog : Program) (old new : Run) (events : List running.Event) : Type 0 where
-  pub replayed : replay prog (length old.hands.items) events (seen old) ≡ seen new
-  pub workers : length new.hands.items ≡ length old.hands.items
-  pub program : new.verified ≡ old.verified
-  pub run : IsRun prog new
-  pub slots : HasSlots prog old → HasSlots prog new
-  pub stalls : (last : Blocks) → StallsAgree last old.cactus → StallsAgree (last_blocks prog (length old.hands.items) events (seen old) last) new.cactus
-  pub names : names_of new.memory ≡ names_of old.memory
-  pub given : AreGiven old.cactus → AreGiven new.cactus
-
--- the run got through these events, and stopped at the next
-pub record StopsAt (prog : Program) (old : Run) (events : List Event) : Type 0 where
-  pub before : List Event
-  pub last : Event
-  pub after : List Event
-  pub parts : events ≡ before ++ last ∷ after
-  pub stood : Run
-  pub reached : AreEvents prog old stood (map event_of before)
-  pub stops : StopsOnly prog stood last
-
--- the run is the definitions' replay of the events, or it stopped at one of them
-pub record DoesAll (prog : Program) (old new : Run) (events : List Event) : Type 0 where
-  pub sound : ¬ IsTrapped new → AreEvents prog old new (map event_of events)
-  pub trapped : IsTrapped new → StopsAt prog old events
+-- ---- many
 
 -- the definitions' state before the first event
 abbrev pub first_state : Program → List ℤ → List NamedCells → running.Machine
 first_state prog arguments globals = running.start prog arguments (given globals)
 
--- the run is the definitions' replay of the events from the start
-pub record Replays (prog : Program) (arguments : List ℤ) (globals : List NamedCells) (workers : ℕ) (events : List Event) (m : Run) : Type 0 where
-  pub reads : seen m ≡ replay prog workers (map event_of events) (first_state prog arguments globals)
-  pub as_many : length m.hands.items ≡ workers
-  pub run : IsRun prog m
-  pub slots : HasSlots prog m
-  pub stalls : StallsAgree (last_blocks prog workers (map event_of events) (first_state prog arguments globals) no_blocks) m.cactus
-  pub names : names_of m.memory ≡ names_of globals
+-- and after these events
+abbrev pub state_after : Program → List ℤ → List NamedCells → ℕ → List Event → running.Machine
+state_after prog arguments globals workers events = replay prog workers (map event_of events) (first_state prog arguments globals)
 
--- whatever events lead to the one run, they lead to the other with this one more
-abbrev pub ReplaysOneMore : Run → Run → Event → Type 0
+-- the stage is the definitions' replay of the events from the start
+pub record Replays (prog : Program) (arguments : List ℤ) (globals : List NamedCells) (workers : ℕ) (events : List Event) (stage : Stage) : Type 0 where
+  pub program : program_of stage ≡ prog
+  pub as_many : workers_of stage ≡ workers
+  pub globals_are : stage.memory ≡ globals
+  pub state : IsState stage (state_after prog arguments globals workers events)
+  pub stalls : StallsAgree (last_blocks prog workers (map event_of events) (first_state prog arguments globals) no_blocks) stage.run.cactus
+
+-- whatever events lead to the one stage, they lead to the other with this one more
+abbrev pub ReplaysOneMore : Stage → Stage → Event → Type 0
 ReplaysOneMore old new event =
-    (arguments : List ℤ) (globals : List NamedCells) (workers : ℕ) (events : List Event) →
-    Replays old.verified.now arguments globals workers events old → Replays old.verified.now arguments globals workers (events ++ event ∷ []) new
+    (prog : Program) (arguments : List ℤ) (globals : List NamedCells) (workers : ℕ) (events : List Event) →
+    Replays prog arguments globals workers events old → Replays prog arguments globals workers (events ++ event ∷ []) new
 
--- whatever events lead to the one run lead to the other
-abbrev pub ReplaysTheSame : Run → Run → Type 0
-ReplaysTheSame m other =
-    (arguments : List ℤ) (globals : List NamedCells) (workers : ℕ) (events : List Event) →
-    Replays m.verified.now arguments globals workers events m → Replays m.verified.now arguments globals workers events other
+-- and with these
+abbrev pub ReplaysMore : Stage → Stage → List Event → Type 0
+ReplaysMore old new more =
+    (prog : Program) (arguments : List ℤ) (globals : List NamedCells) (workers : ℕ) (events : List Event) →
+    Replays prog arguments globals workers events old → Replays prog arguments globals workers (events ++ more) new
+
+-- whatever events lead to the one stage lead to the other
+abbrev pub ReplaysTheSame : Stage → Stage → Type 0
+ReplaysTheSame stage other =
+    (prog : Program) (arguments : List ℤ) (globals : List NamedCells) (workers : ℕ) (events : List Event) →
+    Replays prog arguments globals workers events stage → Replays prog arguments globals workers events other
+
+-- nothing has changed that is seen of the stage: whatever machine it stood as it stands as, whatever events led to it lead to it, and frames keep
+-- their uses of slots
+pub record LeavesAsBefore (old new : Stage) : Type 0 where
+  pub state : (m : running.Machine) → IsState old m → IsState new m
+  pub replays : ReplaysTheSame old new
+  pub uses : KeepsUses old.run.cactus new.run.cactus
+  pub globals : new.memory ≡ old.memory
+
+-- another stage stands as what this one stands as, what led to this one leads to it, and frames stand in the same uses of slots
+pub record StandsAsWell (stage other : Stage) : Type 0 where
+  pub state : (m : running.Machine) → IsState stage m → IsState other m
+  pub replays : ReplaysTheSame stage other
+  pub spots : KeepsSpots stage.run.cactus other.run.cactus
+  pub globals : other.memory ≡ stage.memory
+
+-- ---- what a machine keeps
+
+-- of a module that the verifier took, a schedule leads here from arguments that `main` takes and memory that was made for the module
+pub record IsMachine (stage : Stage) : Type 0 where
+  pub accepted : IsAccepted (program_of stage)
+  pub moves : HasMoves (program_of stage) (length stage.run.moves.items)
+  pub places : ArePlaces (program_of stage) stage.places
+  pub made : IsMadeFor (program_of stage) stage.memory
+  pub small : sum (sizes_of stage.memory) < 9223372036854775808
+  pub given : AreGiven stage.run.cactus
+  pub arguments : List ℤ
+  pub taken : unmet_in (program_of stage) arguments ≡ None
+  pub events : List Event
+  pub replays : Replays (program_of stage) arguments stage.memory (workers_of stage) events stage
+
+-- The schedule theorem of the definitions' state after these events: no step has trapped; the instructions are no more than serially, and within the
+-- budget; living frames are at most the workers times the serial depth; and once it has ended, its memory, result, count and depth are those of the serial run.
+pub record KeepsItsSchedule (prog : Program) (arguments : List ℤ) (globals : List NamedCells) (workers : ℕ) (events : List Event) : Type 0 where
+  pub serial : Outcome
+  pub is_serial : IsSerialMeaning prog arguments (given globals) serial
+  pub within_budget : serial.count ≤ budget_of prog
+  pub schedule : KeepsSchedule prog workers serial (state_after prog arguments globals workers events)
+  -- and so after whatever events follow these
+  pub onwards : (more : List Event) → KeepsSchedule prog workers serial (state_after prog arguments globals workers (events ++ more))
+
+-- ---- lines
 
 -- the view has the line of its task of this path, after these events
 abbrev pub HasLineAfter : Program → List ℤ → List NamedCells → ℕ → List Event → RunningPath → TaskView → Type 0
 HasLineAfter prog arguments globals workers events t view =
     view.line ≡ line_or_zero (line_after prog workers (map event_of events) (first_state prog arguments globals) t)
 
--- whatever events lead to the run, the view has the line of its task after them
-abbrev pub HasLine : Run → RunningPath → TaskView → Type 0
-HasLine m t view =
-    (arguments : List ℤ) (globals : List NamedCells) (workers : ℕ) (events : List Event) →
-    Replays m.verified.now arguments globals workers events m → HasLineAfter m.verified.now arguments globals workers events t view
+-- whatever events lead to the stage, the view has the line of its task after them
+abbrev pub HasLine : Stage → RunningPath → TaskView → Type 0
+HasLine stage t view =
+    (prog : Program) (arguments : List ℤ) (globals : List NamedCells) (workers : ℕ) (events : List Event) →
+    Replays prog arguments globals workers events stage → HasLineAfter prog arguments globals workers events t view

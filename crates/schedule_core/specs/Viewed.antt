@@ -1,42 +1,34 @@
 -- What the views of a run show, in the definitions of running.
-use Rattle.std.specs.Prelude.{◌≡◌, ◌≢◌, ◌⊎◌, ℕ, ℤ, length, reverse, Option, Some, None, IfSome, IsSomeAnd}
+use Rattle.std.specs.Prelude.{◌≡◌, ◌≢◌, ◌⊎◌, ℕ, reverse, Option, Some, None, IfSome, IsSomeAnd}
 use Rattle.std.specs.Cmp.Lexicographic.{slice_cmp}
 use Rattle.std.specs.Ordering.{nat_cmp}
 use Rattle.std.specs.declared.cmp.Ordering.TheVariants.{Greater}
 use Rattle.running.specs.Paths.{Path as RunningPath}
+use Rattle.running.specs.Frames.{Frame}
 use Rattle.running.specs.Events as running
 use Rattle.frame.specs.declared.path.Path.{Path}
 use Rattle.frame.specs.declared.frame.Wait as frame_wait
 use Rattle.frame.specs.declared.frame.Wait.TheVariants as wait
-use Rattle.frame.specs.declared.value.Cell.{Cell}
-use Rattle.frame.specs.Reading.{frame_of, cell_of}
-use Rattle.frame.specs.Room.{ObjectWithin}
 use Rattle.cactus.specs.declared.node.Node.{Node}
 use Rattle.cactus.specs.Frames.{Frames, node_at}
 use Rattle.cactus.specs.ByPath.{IsTree}
-use Rattle.worker_steps.specs.declared.activation.Activation.{Activation}
-use Rattle.worker_steps.specs.declared.run.Run.{Run}
-use Rattle.worker_steps.specs.Scheduling.{IsReady}
-use Rattle.worker_steps.specs.Seen.{seen}
-use Rattle.worker_steps.specs.Tasks.{IsLowestBelow}
+use Rattle.crew.specs.declared.activation.Activation.{Activation}
+use Rattle.crew.specs.Tasks.{IsReady}
+use Rattle.crew.specs.Layouts.{layout_of}
+use Rattle.crew.specs.Shown.{ShowsNode}
+use Rattle.crew.specs.Lowest.{IsLowestBelow}
+use Rattle.schedule_core.specs.Stages.{program_of, workers_of}
+use Rattle.schedule_core.specs.declared.stage.Stage.{Stage}
 use Rattle.schedule_core.specs.declared.task.Status.{Status}
 use Rattle.schedule_core.specs.declared.task.Status.TheVariants.{Running, Ready, Stalled}
 use Rattle.schedule_core.specs.declared.task.TaskView.{TaskView}
 use Rattle.schedule_core.specs.Lines.{line_by, line_or_zero}
 
--- ---- frames and cells
+-- ---- frames
 
 -- the frame of the path, in the definitions' state
 abbrev pub place_in : Path → RunningPath
 place_in path = reverse path.numbers
-
--- what the cell holds that the frame of the path names
-abbrev pub held_at : Run → Path → Cell → Option ℤ
-held_at run path cell = (seen run).core.memory (cell_of (place_in path) cell)
-
--- no such frame lives, or the cell that it names holds nothing
-abbrev pub HoldsNothing : Run → Path → Cell → Type 0
-HoldsNothing run path cell = (seen run).core.frames (place_in path) ≢ None → ObjectWithin (length path.numbers) cell.object → held_at run path cell ≡ None
 
 -- ---- tasks
 
@@ -56,37 +48,39 @@ seen_status Ready = running.Ready
 seen_status (Stalled region) = running.Stalled region.0
 
 -- how the task of this path stands, if it is a task's
-abbrev pub status_in : Run → Path → Option running.Status
-status_in run path = running.status_of (length run.hands.items) (seen run) (place_in path)
+abbrev pub status_in : ℕ → running.Machine → Path → Option running.Status
+status_in workers m path = running.status_of workers m (place_in path)
 
 -- the view is of these two slots
-pub record Shows (run : Run) (low high : ℕ) (view : TaskView) : Type 0 where
+pub record Shows (stage : Stage) (low high : ℕ) (view : TaskView) : Type 0 where
   pub below : Node Activation
-  pub stands_below : node_at run.cactus low ≡ Some below
+  pub stands_below : node_at stage.run.cactus low ≡ Some below
   pub path : view.path.now ≡ below.path
   pub above : Node Activation
-  pub stands_above : node_at run.cactus high ≡ Some above
+  pub stands_above : node_at stage.run.cactus high ≡ Some above
   pub top : view.top.now ≡ above.frame.frame
   pub top_path : view.top_path.now ≡ above.path
   pub status : view.status ≡ status_by above.frame.runner above.frame.frame.waits
-  pub line : view.line ≡ line_or_zero (line_by run.verified.now above.frame.frame above.frame.stalled_in view.status)
+  pub line : view.line ≡ line_or_zero (line_by (program_of stage) above.frame.frame above.frame.stalled_in view.status)
 
--- the view's top frame stands at the top's path
-abbrev pub ShowsTop : Run → TaskView → Type 0
-ShowsTop run view = (seen run).core.frames (place_in view.top_path.now) ≡ Some (frame_of (place_in view.top_path.now) view.top.now)
+-- the view's top frame shows the one that stands at the top's path
+pub record ShowsTop (stage : Stage) (m : running.Machine) (view : TaskView) : Type 0 where
+  pub frame : Frame
+  pub stands : m.core.frames (place_in view.top_path.now) ≡ Some frame
+  pub shown : ShowsNode (layout_of (program_of stage) stage.places stage.run.cactus m.core) stage.places (place_in view.top_path.now) frame view.top.now
 
--- the view is of the task of this path
-pub record IsTask (run : Run) (path : Path) (view : TaskView) : Type 0 where
+-- the view is of the task of this path, where the stage stands as this machine
+pub record IsTask (stage : Stage) (m : running.Machine) (path : Path) (view : TaskView) : Type 0 where
   pub named : view.path.now ≡ path
-  pub status : status_in run path ≡ Some (seen_status view.status)
-  pub top_path : running.top_of (seen run).core (place_in path) ≡ place_in view.top_path.now
-  pub top : ShowsTop run view
+  pub status : status_in (workers_of stage) m path ≡ Some (seen_status view.status)
+  pub top_path : running.top_of m.core (place_in path) ≡ place_in view.top_path.now
+  pub top : ShowsTop stage m view
 
 -- the view is of a task, whose top is in the worker's hand
-pub record IsRunBy (run : Run) (worker : ℕ) (view : TaskView) : Type 0 where
-  pub task : IsTask run view.path.now view
+pub record IsRunBy (stage : Stage) (m : running.Machine) (worker : ℕ) (view : TaskView) : Type 0 where
+  pub task : IsTask stage m view.path.now view
   pub status : view.status ≡ Running worker
-  pub hand : (seen run).hands worker ≡ Some (place_in view.top_path.now)
+  pub hand : m.hands worker ≡ Some (place_in view.top_path.now)
 
 -- ---- the first task that may be stolen
 
@@ -122,10 +116,10 @@ pub record Advances (frames : Frames Activation) (slot : ℕ) (first next : Opti
   pub covers : IsTree frames → (path : Path) → IsReadyAt frames slot path → IsSomeAnd next (λ least. IsAtMost least path)
 
 -- the path is a ready task's, and no other ready task's is less
-pub record IsFirstReady (run : Run) (path : Path) : Type 0 where
-  pub ready : status_in run path ≡ Some running.Ready
-  pub least : (other : Path) → status_in run other ≡ Some running.Ready → IsAtMost path other
+pub record IsFirstReady (workers : ℕ) (m : running.Machine) (path : Path) : Type 0 where
+  pub ready : status_in workers m path ≡ Some running.Ready
+  pub least : (other : Path) → status_in workers m other ≡ Some running.Ready → IsAtMost path other
 
 -- no task is ready
-abbrev pub IsNoneReady : Run → Type 0
-IsNoneReady run = (path : Path) → status_in run path ≢ Some running.Ready
+abbrev pub IsNoneReady : ℕ → running.Machine → Type 0
+IsNoneReady workers m = (path : Path) → status_in workers m path ≢ Some running.Ready

@@ -1,33 +1,59 @@
-ghost use Rattle.std.specs.Prelude.{◌≡◌, ◌≢◌, ℕ, Some, None, false, IfOk, OnOk, OnErr};
+ghost use Rattle.std.specs.Prelude.{◌≡◌, ◌≢◌, ◌<◌, ℕ, [], Some, None, Err, Ok, true, false, IfOk, OnOk, OnErr, length, sum};
+ghost use Rattle.running.specs.Events.{Machine};
 ghost use Rattle.outcome.specs.Requirements.{unmet_in};
-ghost use Rattle.store.specs.Made.{HasGlobalCells};
 ghost use Rattle.store.specs.declared.memory.Memory.{Memory};
-ghost use Rattle.verifier.specs.Accepted.{IsAccepted};
-ghost use Rattle.worker_steps.specs.Running.{IsGoing, IsTrapped, IsStart, IsNumberOfWorkers, StepsWhere};
-ghost use Rattle.worker_steps.specs.Slots.{HasSlots};
-ghost use Rattle.worker_steps.specs.Stepping.{DoesEvent, IsRun, StartsAs};
-ghost use Rattle.schedule_core.specs.Replaying.{DoesAll, GrowsOnly, StopsOnly, event_of};
+ghost use Rattle.crew.specs.Follows.{Follows};
+ghost use Rattle.schedule_core.specs.Replaying.{GrowsOnly, Happens, IsMachine, IsNumberOfWorkers, LeavesAsBefore, Replays, ReplaysMore, ReplaysOneMore, StandsAsWell, event_of};
+ghost use Rattle.store.specs.Made.{IsMadeFor};
+ghost use Rattle.schedule_core.specs.Stages.{IsState, program_of};
 
 use crate::event::Event;
+use crate::stage::Stage;
+use crew::{Run, most_moves};
+use engine::Places;
 use lists::OutOfMemory;
 use outcome::{RunFault, unmet_requirement};
 use std::alloc::Global;
 use store::Memory;
 use verifier::Verified;
-use worker_steps::{Phase, Run};
 
-/// The state before the first event.
+/// The stage before the first event, of arguments that `main` takes.
+fn staged<'v>(
+    alloc: Global,
+    verified: &'v Verified,
+    arguments: &[i64],
+    memory: Memory,
+    workers: usize,
+) -> Result<Stage<'v>, OutOfMemory>
+    requires made { IsMadeFor verified.now memory }
+    requires met { unmet_in verified.now arguments.now ≡ None }
+    requires workers { 0 < workers }
+    ensures machine { IfOk result IsMachine }
+    ensures replays { IfOk result (Replays verified.now arguments.now memory workers []) }
+{
+    let program = verified.program();
+    let places = Places::of_program(alloc, program)?;
+    let row = memory.row()?;
+    let run = Run::start(alloc, program, arguments, row, workers, most_moves(program))?;
+    Ok(Stage {
+        verified,
+        places,
+        memory,
+        run,
+    })
+}
+
+/// The stage before the first event.
 pub(crate) fn begin<'v>(
     alloc: Global,
     verified: &'v Verified,
     arguments: &[i64],
     memory: Memory,
     workers: usize,
-) -> Result<Run<'v>, RunFault>
-    requires { HasGlobalCells verified.now memory }
-    ensures started { IfOk result (λ m. IsStart m workers) }
-    ensures state { IfOk result (λ m. StartsAs verified.now arguments.now memory m) }
-    ensures slots { IfOk result (λ m. HasSlots verified.now m) }
+) -> Result<Stage<'v>, RunFault>
+    requires { IsMadeFor verified.now memory }
+    ensures machine { IfOk result IsMachine }
+    ensures replays { IfOk result (Replays verified.now arguments.now memory workers []) }
     ensures in_range { OnOk result (IsNumberOfWorkers workers) }
     ensures bad_arguments { (requirement : ℕ) → unmet_in verified.now arguments.now ≡ Some requirement
         → result ≡ Err (RunFault.BadArguments requirement memory) }
@@ -36,8 +62,6 @@ pub(crate) fn begin<'v>(
         → unmet_in verified.now arguments.now ≡ Some requirement }
     ensures only_bad_workers { (m : Memory) → result ≡ Err (RunFault.BadWorkers m) → ¬ IsNumberOfWorkers workers }
     ensures met { OnOk result (unmet_in verified.now arguments.now ≡ None) }
-    ensures no_trap { result ≢ Err RunFault.Trapped }
-    ensures accepted { OnOk result (IsAccepted verified.now) }
 {
     if let Some(requirement) = unmet_requirement(verified.program(), arguments) {
         return Err(RunFault::BadArguments {
@@ -48,37 +72,57 @@ pub(crate) fn begin<'v>(
     if workers == 0 || 64 < workers {
         return Err(RunFault::BadWorkers { memory });
     }
-    match Run::start(alloc, verified, arguments, memory, workers) {
-        Ok(run) => Ok(run),
+    match staged(alloc, verified, arguments, memory, workers) {
+        Ok(stage) => Ok(stage),
         Err(OutOfMemory) => Err(RunFault::OutOfMemory),
     }
 }
 
-/// One event. The answer is whether it was enabled; where it was not, nothing changes.
-pub(crate) fn apply_to(run: &mut Run, event: &Event) -> Result<bool, OutOfMemory>
-    ensures refused { OnErr result (run.new ≡ run.old) }
-    ensures grows { OnErr result (GrowsOnly run.old.verified.now run.old event.now) }
-    ensures not_enabled { result ≡ Ok false → run.new ≡ run.old }
-    ensures over { ¬ IsGoing run.old → result ≡ Ok false }
-    ensures step { (worker : ℕ) → event.now ≡ Event.Step worker → IfOk result (StepsWhere run.old run.new worker) }
-    ensures event { IfOk result (DoesEvent run.old.verified.now run.old run.new (event_of event.now)) }
-    ensures stops { IsGoing run.old → IsTrapped run.new → StopsOnly run.old.verified.now run.old event.now }
+/// The stage again, in lists of its own.
+pub(crate) fn copied<'v>(stage: &Stage<'v>) -> Result<Stage<'v>, OutOfMemory>
+    requires { ∥ IsMachine stage.now ∥₁ }
+    ensures same { IfOk result (StandsAsWell stage.now) }
+    ensures machine { IfOk result (λ other. ∥ IsMachine other ∥₁) }
 {
-    if run.phase != Phase::Going {
-        return Ok(false);
-    }
+    let program = stage.verified.program();
+    let run = stage.run.copy()?;
+    let places = Places::of_program(run.alloc, program)?;
+    let memory = stage.memory.copy()?;
+    Ok(Stage {
+        verified: stage.verified,
+        places,
+        memory,
+        run,
+    })
+}
+
+/// One event. The answer is whether it was enabled; where it was not, nothing changes.
+pub(crate) fn apply_to(stage: &mut Stage<'_>, event: &Event) -> Result<bool, OutOfMemory>
+    requires { ∥ IsMachine stage.old ∥₁ }
+    ensures enabled { IfOk result (Happens stage.old stage.new (event_of event.now)) }
+    ensures not_enabled { result ≡ Ok false → stage.new ≡ stage.old }
+    ensures refused { OnErr result (LeavesAsBefore stage.old stage.new) }
+    ensures only { OnErr result ((m : Machine) → IsState stage.old m → GrowsOnly (program_of stage.old) m event.now) }
+    ensures replays { OnOk result (ReplaysOneMore stage.old stage.new event.now) }
+    ensures machine { ∥ IsMachine stage.new ∥₁ }
+    ensures follows { Follows stage.old.run.cactus stage.new.run.cactus }
+    ensures memory { stage.new.memory ≡ stage.old.memory }
+{
+    let program = stage.verified.program();
     match event {
-        Event::Step(worker) => run.step(*worker),
-        Event::Steal(worker, path) => Ok(run.steal(*worker, path)),
+        Event::Step(worker) => stage.run.step(program, &stage.places, *worker),
+        Event::Steal(worker, path) => Ok(stage.run.steal(*worker, path)),
     }
 }
 
 /// The events, one after another; one that is not enabled changes nothing.
-pub(crate) fn apply_all(run: &mut Run, events: &[Event]) -> Result<(), OutOfMemory>
-    ensures { OnOk result (IsRun run.old.verified.now run.old → DoesAll run.old.verified.now run.old run.new events.now) }
+pub(crate) fn apply_all(stage: &mut Stage<'_>, events: &[Event]) -> Result<(), OutOfMemory>
+    requires { ∥ IsMachine stage.old ∥₁ }
+    ensures replays { OnOk result (ReplaysMore stage.old stage.new events.now) }
+    ensures machine { ∥ IsMachine stage.new ∥₁ }
 {
     for event in events {
-        let _enabled = apply_to(run, event)?;
+        let _enabled = apply_to(stage, event)?;
     }
     Ok(())
 }

@@ -5,14 +5,19 @@
 
 mod event;
 mod events;
+mod globals;
+mod laws;
 mod machine;
 mod parent;
 mod schedule;
+mod stage;
 mod stands;
 mod task;
 mod view;
 
 pub use event::Event;
+pub use laws::ended_enables_nothing;
 pub use machine::Machine;
 pub use schedule::replay;
+pub use stage::Stage;
 pub use task::{Status, TaskView};

@@ -1,10 +1,8 @@
-ghost use Rattle.std.specs.Prelude.{◌≡◌, ◌≢◌, ℕ, Some, None, IfOk, OnOk};
+ghost use Rattle.std.specs.Prelude.{◌≡◌, ◌≢◌, ℕ, Some, None, Err, IfOk, OnOk};
 ghost use Rattle.outcome.specs.Requirements.{unmet_in};
-ghost use Rattle.store.specs.Made.{HasGlobalCells};
 ghost use Rattle.store.specs.declared.memory.Memory.{Memory};
-ghost use Rattle.worker_steps.specs.Running.{IsTrapped, IsNumberOfWorkers};
-ghost use Rattle.schedule_core.specs.Replaying.{Replays};
-ghost use Rattle.worker_promise.specs.Promise.{KeepsItsSchedule};
+ghost use Rattle.schedule_core.specs.Replaying.{IsNumberOfWorkers, KeepsItsSchedule, Replays};
+ghost use Rattle.store.specs.Made.{IsMadeFor};
 
 use crate::event::Event;
 use crate::events::{apply_all, begin};
@@ -28,9 +26,9 @@ pub fn replay<'v>(
     workers: usize,
     events: &[Event],
 ) -> Result<Machine<'v>, RunFault>
-    requires { HasGlobalCells verified.now memory }
-    ensures sound { IfOk result (λ m. ¬ IsTrapped m.run) }
-    ensures replays { IfOk result (λ m. Replays verified.now arguments.now memory workers events.now m.run) }
+    requires { IsMadeFor verified.now memory }
+    ensures replays { IfOk result (λ m. Replays verified.now arguments.now memory workers events.now m.stage) }
+    ensures keeps { OnOk result (KeepsItsSchedule verified.now arguments.now memory workers events.now) }
     ensures in_range { OnOk result (IsNumberOfWorkers workers) }
     ensures bad_arguments { (requirement : ℕ) → unmet_in verified.now arguments.now ≡ Some requirement
         → result ≡ Err (RunFault.BadArguments requirement memory) }
@@ -39,12 +37,10 @@ pub fn replay<'v>(
         → unmet_in verified.now arguments.now ≡ Some requirement }
     ensures only_bad_workers { (m : Memory) → result ≡ Err (RunFault.BadWorkers m) → ¬ IsNumberOfWorkers workers }
     ensures met { OnOk result (unmet_in verified.now arguments.now ≡ None) }
-    ensures keeps { IfOk result (λ m. KeepsItsSchedule verified.now arguments.now memory workers m.run) }
-    ensures no_trap { result ≢ Err RunFault.Trapped }
 {
-    let mut run = begin(alloc, verified, arguments, memory, workers)?;
-    match apply_all(&mut run, events) {
+    let mut stage = begin(alloc, verified, arguments, memory, workers)?;
+    match apply_all(&mut stage, events) {
         Err(OutOfMemory) => Err(RunFault::OutOfMemory),
-        Ok(()) => Ok(Machine { run }),
+        Ok(()) => Ok(Machine { stage }),
     }
 }

@@ -1,10 +1,10 @@
 //! On which lines the workers' next instructions stand.
 
 ghost use Rattle.std.specs.Prelude.{◌≡◌, ◌↔◌, IsTrue, Some};
-ghost use Rattle.worker_steps.specs.Running.{IsTrapped};
-ghost use Rattle.worker_steps.specs.Scheduling.{hand_of};
-ghost use Rattle.worker_steps.specs.Seen.{seen};
+ghost use Rattle.running.specs.Events as running;
+ghost use Rattle.crew.specs.Scheduling.{hand_of};
 ghost use Rattle.schedule_core.specs.Lines.{StandsAt, line_of_worker};
+ghost use Rattle.schedule_core.specs.Stages.{IsState, program_of};
 
 use crate::machine::Machine;
 use crate::task::next_line;
@@ -12,23 +12,29 @@ use crate::task::next_line;
 impl Machine<'_> {
     /// The slot of the top frame of the worker's task.
     fn hand(&self, worker: usize) -> Option<usize>
-        ensures { result ≡ hand_of self.now.run.hands.items worker }
+        ensures { result ≡ hand_of self.now.stage.run.hands.items worker }
     {
-        self.run.hands.as_slice().get(worker).copied().flatten()
+        self.stage
+            .run
+            .hands
+            .as_slice()
+            .get(worker)
+            .copied()
+            .flatten()
     }
 
     /// The line of the next instruction of the worker's task.
     fn worker_line(&self, worker: usize) -> Option<u32>
-        ensures { ¬ IsTrapped self.now.run → result ≡ line_of_worker self.now.run.verified.now (seen self.now.run) worker }
+        ensures { (m : running.Machine) → IsState self.now.stage m → result ≡ line_of_worker (program_of self.now.stage) m worker }
     {
         let slot = self.hand(worker)?;
-        let node = self.run.cactus.node(slot)?;
-        next_line(self.run.program(), &node.frame.frame)
+        let node = self.stage.run.cactus.node(slot)?;
+        next_line(self.stage.verified.program(), &node.frame.frame)
     }
 
     /// Whether the worker's next instruction stands on the line.
     fn worker_stands_at(&self, worker: usize, line: u64) -> bool
-        ensures { ¬ IsTrapped self.now.run → IsTrue result ↔ (line_of_worker self.now.run.verified.now (seen self.now.run) worker ≡ Some line) }
+        ensures { (m : running.Machine) → IsState self.now.stage m → IsTrue result ↔ (line_of_worker (program_of self.now.stage) m worker ≡ Some line) }
     {
         match self.worker_line(worker) {
             Some(found) => found as u64 == line,
@@ -38,9 +44,9 @@ impl Machine<'_> {
 
     /// Whether some worker's next instruction stands on the line.
     pub fn stands_at(&self, line: u64) -> bool
-        ensures { ¬ IsTrapped self.now.run → IsTrue result ↔ StandsAt self.now.run.verified.now (seen self.now.run) line }
+        ensures { (m : running.Machine) → IsState self.now.stage m → IsTrue result ↔ StandsAt (program_of self.now.stage) m line }
     {
-        for worker in 0..self.run.hands.len() {
+        for worker in 0..self.stage.run.hands.len() {
             if self.worker_stands_at(worker, line) {
                 return true;
             }

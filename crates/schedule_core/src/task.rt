@@ -2,9 +2,10 @@ ghost use Rattle.std.specs.Prelude.{◌≡◌};
 ghost use Rattle.schedule_core.specs.Lines as lines;
 ghost use Rattle.schedule_core.specs.Viewed.{status_by};
 
-use frame::{Frame, Path, Wait, block_at};
+use crew::Activation;
+use engine::Frame;
+use frame::{Path, Wait, block_at};
 use program::{Block, BlockId, FunctionId, Program, RegisterId};
-use worker_steps::Activation;
 
 /// How a task stands.
 #[derive(Clone, Copy, Debug, PartialEq, Eq)]
@@ -22,7 +23,7 @@ pub enum Status {
 pub struct TaskView<'a> {
     pub path: &'a Path,
     pub status: Status,
-    /// The frame whose instruction is next.
+    /// The frame whose instruction is next, over words: a register without a value holds any.
     pub top: &'a Frame,
     pub top_path: &'a Path,
     /// The line of that instruction, from 1; of a stalled task the line of its sync. 0 where no instruction stands there.
@@ -64,8 +65,8 @@ fn line_in(block: &Block, index: usize) -> Option<u32>
 pub(crate) fn next_line(program: &Program, frame: &Frame) -> Option<u32>
     ensures { result ≡ lines.next_line program.now frame.now }
 {
-    match block_at(program, frame.function, frame.block) {
-        Some(block) => line_in(block, frame.index),
+    match block_at(program, frame.function, frame.place.block) {
+        Some(block) => line_in(block, frame.place.index),
         None => None,
     }
 }

@@ -2,16 +2,15 @@ ghost use Rattle.std.specs.Prelude.{◌≡◌, ◌↔◌, ◌<◌, None, Some, I
 ghost use Rattle.std.specs.Option.{option_copied, option_map};
 ghost use Rattle.cactus.specs.Frames.{Lives, HasPath, frame_at, node_of_use};
 ghost use Rattle.cactus.specs.ByPath.{IsTree};
-ghost use Rattle.worker_steps.specs.Running.{IsTrapped};
-ghost use Rattle.worker_steps.specs.Scheduling.{IsReady};
-ghost use Rattle.worker_steps.specs.Seen.{seen};
+ghost use Rattle.running.specs.Events as running;
+ghost use Rattle.crew.specs.Tasks.{IsReady};
 ghost use Rattle.schedule_core.specs.Replaying.{HasLine};
-ghost use Rattle.schedule_core.specs.Viewed.{Advances, HoldsNothing, IsFirstReady, IsLesser, IsNamedBelow, IsNoneReady, IsReadyAt, IsRunBy, IsTask};
-ghost use Rattle.schedule_core.specs.Viewed.{Shows, held_at, place_in, status_in};
+ghost use Rattle.schedule_core.specs.Stages.{IsState, workers_of};
+ghost use Rattle.schedule_core.specs.Viewed.{Advances, IsFirstReady, IsLesser, IsNamedBelow, IsNoneReady, IsReadyAt, IsRunBy, IsTask, Shows, place_in, status_in};
 
 use crate::machine::Machine;
 use crate::task::{TaskView, line, standing};
-use frame::{Cell, Path};
+use frame::Path;
 use std::cmp::Ordering;
 
 /// The lesser of two paths.
@@ -37,56 +36,56 @@ fn lesser_of<'a>(first: Option<&'a Path>, path: &'a Path) -> &'a Path
 impl Machine<'_> {
     /// The task with this lowest frame and this top.
     fn view(&self, lowest: usize, top: usize) -> Option<TaskView<'_>>
-        ensures shown { IfSome result (λ view. Shows self.now.run lowest top view) }
-        ensures found { Lives self.now.run.cactus lowest → Lives self.now.run.cactus top → IsSome result }
+        ensures shown { IfSome result (λ view. Shows self.now.stage lowest top view) }
+        ensures found { Lives self.now.stage.run.cactus lowest → Lives self.now.stage.run.cactus top → IsSome result }
     {
-        let path = &self.run.cactus.node(lowest)?.path;
-        let node = self.run.cactus.node(top)?;
+        let path = &self.stage.run.cactus.node(lowest)?.path;
+        let node = self.stage.run.cactus.node(top)?;
         Some(TaskView {
             path,
             status: standing(&node.frame),
             top: &node.frame.frame,
             top_path: &node.path,
-            line: line(self.run.program(), &node.frame),
+            line: line(self.stage.verified.program(), &node.frame),
         })
     }
 
     /// The task of the path; none where the path is no task's.
     pub fn task(&self, path: &Path) -> Option<TaskView<'_>>
-        ensures shown { ¬ IsTrapped self.now.run → IfSome result (IsTask self.now.run path.now) }
-        ensures absent { ¬ IsTrapped self.now.run → IfNone result (status_in self.now.run path.now ≡ None) }
-        ensures line { IfSome result (HasLine self.now.run (place_in path.now)) }
+        ensures shown { (m : running.Machine) → IsState self.now.stage m → IfSome result (IsTask self.now.stage m path.now) }
+        ensures absent { (m : running.Machine) → IsState self.now.stage m → IfNone result (status_in (workers_of self.now.stage) m path.now ≡ None) }
+        ensures line { IfSome result (HasLine self.now.stage (place_in path.now)) }
     {
-        let top = self.run.top_of(path)?;
-        let (lowest, _generation) = self.run.cactus.spot(path)?;
+        let top = self.stage.run.top_of(path)?;
+        let (lowest, _generation) = self.stage.run.cactus.spot(path)?;
         self.view(lowest, top)
     }
 
     /// The task that the worker runs; none where it is idle.
     pub fn task_of(&self, worker: u8) -> Option<TaskView<'_>>
-        ensures shown { ¬ IsTrapped self.now.run → IfSome result (IsRunBy self.now.run worker) }
-        ensures idle { ¬ IsTrapped self.now.run → IfNone result ((seen self.now.run).hands worker ≡ None) }
-        ensures line { IfSome result (λ view. HasLine self.now.run (place_in view.path.now) view) }
+        ensures shown { (m : running.Machine) → IsState self.now.stage m → IfSome result (IsRunBy self.now.stage m worker) }
+        ensures idle { (m : running.Machine) → IsState self.now.stage m → IfNone result (m.hands worker ≡ None) }
+        ensures line { IfSome result (λ view. HasLine self.now.stage (place_in view.path.now) view) }
     {
-        let top = self.run.hand(worker)?;
-        self.view(self.run.lowest_below(top)?, top)
+        let top = self.stage.run.hand(worker)?;
+        self.view(self.stage.run.lowest_below(top)?, top)
     }
 
     /// The path of the task on which the slot's frame stands.
     fn lowest_path(&self, slot: usize) -> Option<&Path>
-        ensures shown { IfSome (option_copied result) (IsNamedBelow self.now.run.cactus slot) }
-        ensures found { IsTree self.now.run.cactus → Lives self.now.run.cactus slot → IsSome result }
+        ensures shown { IfSome (option_copied result) (IsNamedBelow self.now.stage.run.cactus slot) }
+        ensures found { IsTree self.now.stage.run.cactus → Lives self.now.stage.run.cactus slot → IsSome result }
     {
-        let lowest = self.run.lowest_below(slot)?;
-        Some(&self.run.cactus.node(lowest)?.path)
+        let lowest = self.stage.run.lowest_below(slot)?;
+        Some(&self.stage.run.cactus.node(lowest)?.path)
     }
 
     /// The path of the task of which the slot's frame is the top, where the task is ready.
     pub(crate) fn ready_task(&self, slot: usize) -> Option<&Path>
-        ensures shown { IfSome (option_copied result) (IsReadyAt self.now.run.cactus slot) }
-        ensures absent { IsTree self.now.run.cactus → IfNone (option_copied result) (¬ IsSomeAnd (frame_at self.now.run.cactus slot) IsReady) }
+        ensures shown { IfSome (option_copied result) (IsReadyAt self.now.stage.run.cactus slot) }
+        ensures absent { IsTree self.now.stage.run.cactus → IfNone (option_copied result) (¬ IsSomeAnd (frame_at self.now.stage.run.cactus slot) IsReady) }
     {
-        let node = self.run.cactus.node(slot)?;
+        let node = self.stage.run.cactus.node(slot)?;
         if node.frame.is_ready() {
             self.lowest_path(slot)
         } else {
@@ -96,7 +95,7 @@ impl Machine<'_> {
 
     /// The lesser of the path, if there is one, and that of the task of which the slot's frame is the top, if it is ready.
     fn first_of<'a>(&'a self, first: Option<&'a Path>, slot: usize) -> Option<&'a Path>
-        ensures { Advances self.now.run.cactus slot (option_copied first.entry) (option_copied result) }
+        ensures { Advances self.now.stage.run.cactus slot (option_copied first.entry) (option_copied result) }
     {
         match self.ready_task(slot) {
             Some(path) => Some(lesser_of(first, path)),
@@ -106,11 +105,11 @@ impl Machine<'_> {
 
     /// The path of the ready task of least path.
     pub fn first_ready(&self) -> Option<&Path>
-        ensures least { ¬ IsTrapped self.now.run → IfSome (option_copied result) (IsFirstReady self.now.run) }
-        ensures none { ¬ IsTrapped self.now.run → IfNone (option_copied result) (IsNoneReady self.now.run) }
+        ensures least { (m : running.Machine) → IsState self.now.stage m → IfSome (option_copied result) (IsFirstReady (workers_of self.now.stage) m) }
+        ensures none { (m : running.Machine) → IsState self.now.stage m → IfNone (option_copied result) (IsNoneReady (workers_of self.now.stage) m) }
     {
         let mut first: Option<&Path> = None;
-        for (slot, _node) in self.run.cactus.iter() {
+        for (slot, _node) in self.stage.run.cactus.iter() {
             first = self.first_of(first, slot);
         }
         first
@@ -118,28 +117,17 @@ impl Machine<'_> {
 
     /// The slot and the generation of the frame of this path; none where no such frame lives.
     pub fn spot(&self, path: &Path) -> Option<(usize, u64)>
-        ensures found { IfSome result (λ spot. HasPath self.now.run.cactus spot.0 spot.1 path.now) }
-        ensures given { IfSome result (λ spot. spot.1 < self.now.run.cactus.made) }
-        ensures lives { IsSome result ↔ IsSome ((seen self.now.run).core.frames (place_in path.now)) }
+        ensures found { IfSome result (λ spot. HasPath self.now.stage.run.cactus spot.0 spot.1 path.now) }
+        ensures given { IfSome result (λ spot. spot.1 < self.now.stage.run.cactus.made) }
+        ensures lives { (m : running.Machine) → IsState self.now.stage m → IsSome result ↔ IsSome (m.core.frames (place_in path.now)) }
     {
-        self.run.cactus.spot(path)
+        self.stage.run.cactus.spot(path)
     }
 
     /// The path of the frame that lives in this use of a slot.
     pub fn path_at(&self, slot: usize, generation: u64) -> Option<&Path>
-        ensures { option_copied result ≡ option_map (λ node. node.path) (node_of_use self.now.run.cactus slot generation) }
+        ensures { option_copied result ≡ option_map (λ node. node.path) (node_of_use self.now.stage.run.cactus slot generation) }
     {
-        self.run.cactus.path_at(slot, generation)
-    }
-
-    /// What a cell holds as the frame of the path names it: none where it is not there, and none inside where it is
-    /// undefined.
-    pub fn cell(&self, path: &Path, cell: Cell) -> Option<Option<i64>>
-        ensures held { ¬ IsTrapped self.now.run → IfSome result (λ held. held_at self.now.run path.now cell ≡ held) }
-        ensures absent { ¬ IsTrapped self.now.run → IfNone result (HoldsNothing self.now.run path.now cell) }
-        ensures lives { IsSome result → IsSome ((seen self.now.run).core.frames (place_in path.now)) }
-    {
-        let (slot, _generation) = self.run.cactus.spot(path)?;
-        self.run.cell_of(slot, cell)
+        self.stage.run.cactus.path_at(slot, generation)
     }
 }

@@ -1,8 +1,8 @@
 use Rattle.std.proofs.Common.{◌≢◌, ◌<◌, ℕ, Some}
-use Rattle.worker_steps.specs.Running.{IsTrapped}
-use Rattle.worker_steps.specs.Seen.{seen}
+use Rattle.running.specs.Events.{Machine}
 use Rattle.schedule_core.specs.Lines.{line_of_worker}
+use Rattle.schedule_core.specs.Stages.{IsState, program_of}
 use Rattle.schedule_core.proofs.machine.Machine.stands_at.Given as goal
 
 abbrev pub invariant-loop-worker : goal.invariant-loop-worker
-invariant-loop-worker l = ¬ IsTrapped l.self.run → (w : ℕ) → w < l.worker → line_of_worker l.self.run.verified.now (seen l.self.run) w ≢ Some l.line
+invariant-loop-worker l = (m : Machine) → IsState l.self.stage m → (w : ℕ) → w < l.worker → line_of_worker (program_of l.self.stage) m w ≢ Some l.line

@@ -19,5 +19,5 @@ returns-clause-shown c =
       top_path = refl;
       status = c.standing.ensures;
       line = c.line.ensures
-          ∙ (ap (λ (q : Program). line_or_zero (line_by q a.frame a.stalled_in (status_by a.runner a.frame.waits))) c.program.ensures ∙ ap (λ (s : Status). line_or_zero (line_by c.args.self.now.run.verified.now a.frame a.stalled_in s)) (sym c.standing.ensures));
+          ∙ (ap (λ (q : Program). line_or_zero (line_by q a.frame a.stalled_in (status_by a.runner a.frame.waits))) c.program.ensures.value ∙ ap (λ (s : Status). line_or_zero (line_by c.args.self.now.stage.verified.now a.frame a.stalled_in s)) (sym c.standing.ensures));
     }

@@ -1,0 +1,13 @@
+-- After the end.
+use Rattle.std.specs.Prelude.{◌≡◌, ℕ, ◌≤◌, List, None, true, ℤ}
+use Rattle.running.specs.Cells.{Memory}
+use Rattle.running.specs.Events.{Event, event, start}
+use Rattle.running.specs.Replay.{replay, has_ended}
+use Rattle.program.specs.declared.function.Program.{Program}
+
+-- in a state that a schedule leads to, and in which the root has returned, no event is enabled
+abbrev pub EndedEnablesNothing : Type 0
+EndedEnablesNothing =
+    (prog : Program) (arguments : List ℤ) (memory : Memory) (workers : ℕ) → 1 ≤ workers → (events : List Event) →
+    has_ended (replay prog workers events (start prog arguments memory)) ≡ true →
+    (e : Event) → event prog workers e (replay prog workers events (start prog arguments memory)) ≡ None

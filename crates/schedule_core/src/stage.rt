@@ -1,0 +1,15 @@
+use crew::Run;
+use engine::Places;
+use store::Memory;
+use verifier::Verified;
+
+/// A run of a verified module, with what its steps read.
+#[derive(Drop)]
+pub struct Stage<'v> {
+    pub verified: &'v Verified,
+    /// Where the module's objects begin.
+    pub places: Places,
+    /// The globals as they were handed in: their names and sizes. What they hold now stands in the run's cells.
+    pub memory: Memory,
+    pub run: Run,
+}
