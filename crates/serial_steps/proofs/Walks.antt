@@ -1,15 +1,15 @@
--- The steps of a serial run, backwards: from the rest of the run after a step to the rest before it.
+-- Steps over a stack of frames come to the serial meaning: from the rest of the run after a step to the rest before it.
 use Rattle.std.proofs.Common.{◌≡◌, ℕ, suc, ◌+◌, ◌≤◌, max, List, [], ◌∷◌, length, Option, Some, None, refl, ap, sym, ◌∙◌, subst, arith, ℤ}
 use Rattle.running.specs.Paths.{Path}
 use Rattle.running.specs.Cells.{Memory}
 use Rattle.running.specs.Frames.{Value, Registers, Wait, Free, OnRegion, OnCall, Halted, Frame}
 use Rattle.running.specs.Effect.{Effect, Plain, Detach, Reattach, Sync, Call, Return, action_of}
 use Rattle.running.specs.State.{went, detached, continued, synced, called, waiting, resumed}
-use Rattle.running.specs.SerialMeaning.{Ending, Left, Gave, Outcome, written, cleared, counted, after_effect, by_action, meaning, one_more, both_outcomes, at_last}
+use Rattle.running.specs.SerialMeaning.{Ending, Left, Gave, Outcome, IsSerialMeaning, written, cleared, counted, after_effect, by_action, meaning, one_more, both_outcomes, at_last}
 use Rattle.running.proofs.Fuel.{more_fuel}
 use Rattle.linear.specs.declared.form.RegisterId.{RegisterId}
 use Rattle.program.specs.declared.function.Program.{Program}
-use Rattle.outcome.specs.Stack.{Placed, ComesTo, over, GoesOn, Rests, Run, Goes, plain, sync, detach, call, reattach, ret, Walk, begins, goes_on, starting, StepsMean}
+use Rattle.serial_steps.specs.Steps.{Placed, ComesTo, over, GoesOn, Rests, Run, Goes, plain, sync, detach, call, reattach, ret, Walk, begins, goes_on, starting}
 
 pub outcome_is : (e : Ending) (m : Memory) (c d h k : ℕ) → c ≡ d → h ≡ k → ◌≡◌ {A = Outcome} (record { ending = e; memory = m; count = c; depth = h }) (record { ending = e; memory = m; count = d; depth = k })
 outcome_is e m c d h k a b = λ i. record { ending = e; memory = m; count = a i; depth = b i }
@@ -165,7 +165,9 @@ walk_back prog start s n peak root (goes_on k high r t w g) x h =
     let (y, before, same) = step_back prog r t k high (walk_fits prog start r k high root w) g x h in
     subst (RunRests prog start) same (walk_back prog start r k high root w y before)
 
-pub steps_mean : StepsMean
+-- with as many instructions as steps, and as deep as the stack was at most
+pub steps_mean : (prog : Program) (arguments : List ℤ) (memory : Memory) (n peak : ℕ) (s : Run) (v : Option ℤ) → Walk prog (starting prog arguments memory) n peak s → s.below ≡ [] → action_of prog s.path s.frame s.memory ≡ Return v →
+    IsSerialMeaning prog arguments memory (record { ending = Gave v; memory = cleared s.path s.memory; count = suc n; depth = peak })
 steps_mean prog arguments memory n peak s v w last act =
     let only = return_means prog s.path s.frame s.memory v act in
     let at : RunRests prog s (at_last (Gave v) (cleared s.path s.memory)) = subst (λ below. Rests prog s.path s.frame below s.memory (at_last (Gave v) (cleared s.path s.memory))) (sym last) only in
