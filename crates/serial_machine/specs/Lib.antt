@@ -1,6 +1,5 @@
 pub mod Promise
 pub mod walks
-pub mod room
 pub mod Safe
 pub mod Rows
 -- for the crates above
