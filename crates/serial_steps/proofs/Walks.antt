@@ -9,7 +9,34 @@ use Rattle.running.specs.SerialMeaning.{Ending, Left, Gave, Outcome, IsSerialMea
 use Rattle.running.proofs.Fuel.{more_fuel}
 use Rattle.linear.specs.declared.form.RegisterId.{RegisterId}
 use Rattle.program.specs.declared.function.Program.{Program}
-use Rattle.serial_steps.specs.Steps.{Placed, ComesTo, over, GoesOn, Rests, Run, Goes, plain, sync, detach, call, reattach, ret, Walk, begins, goes_on, starting}
+use Rattle.serial_steps.specs.Steps.{Placed, Run, Goes, plain, sync, detach, call, reattach, ret, Walk, begins, goes_on, starting}
+
+-- ---- what the rest of a run comes to
+
+pub record ComesTo (prog : Program) (p : Path) (f : Frame) (m : Memory) (o : Outcome) : Type 0 where
+  pub within : ℕ
+  pub meets : meaning prog within p f m ≡ Some o
+  pub deep : 1 ≤ o.depth
+
+-- a frame's outcome and then that of the frames below it, of which there are n; depths count from the root
+abbrev pub over : ℕ → Outcome → Outcome → Outcome
+over n o u = record { ending = u.ending; memory = u.memory; count = o.count + u.count; depth = max (n + o.depth) u.depth }
+
+-- The nearest frame below goes on: behind the detach of a child that has left, or behind its call with what was returned.
+abbrev pub GoesOn : (Frame → Memory → Outcome → Type 0) → ℕ → Outcome → Frame → Ending → Wait → Outcome → Type 0
+GoesOn next n o g Left Free x = (u : Outcome) × next g o.memory u × (x ≡ over n o u)
+GoesOn next n o g Left (OnRegion r) x = ⊥
+GoesOn next n o g Left (OnCall k d) x = ⊥
+GoesOn next n o g Left Halted x = ⊥
+GoesOn next n o g (Gave v) Free x = ⊥
+GoesOn next n o g (Gave v) (OnRegion r) x = ⊥
+GoesOn next n o g (Gave v) (OnCall k d) x = (u : Outcome) × next (resumed g d v) o.memory u × (x ≡ over n o u)
+GoesOn next n o g (Gave v) Halted x = ⊥
+
+abbrev pub Rests : Program → Path → Frame → List Placed → Memory → Outcome → Type 0
+Rests prog p f [] m x = ComesTo prog p f m x
+Rests prog p f (g ∷ below) m x =
+    (o : Outcome) × ComesTo prog p f m o × GoesOn (λ h w u. Rests prog g.path h below w u) (suc (length below)) o g.frame o.ending g.frame.waits x
 
 pub outcome_is : (e : Ending) (m : Memory) (c d h k : ℕ) → c ≡ d → h ≡ k → ◌≡◌ {A = Outcome} (record { ending = e; memory = m; count = c; depth = h }) (record { ending = e; memory = m; count = d; depth = k })
 outcome_is e m c d h k a b = λ i. record { ending = e; memory = m; count = a i; depth = b i }

@@ -14,8 +14,8 @@ use Rattle.syntax.specs.declared.operator.Width.{Width}
 use Rattle.syntax.specs.declared.operator.Width.TheVariants.{Bits64, Bits32}
 use Rattle.program.specs.Widths.{source_width}
 use Rattle.engine.specs.Operands.{FitsIn, ItemFits, OperandsFit}
-use Rattle.schedule_theorem.specs.typing.Kinds.{HasKinds, IsNumber, IsKinded}
-use Rattle.schedule_theorem.specs.kinds.Holding.{HasKindedRegisters, HoldKinds, holds_kind}
+use Rattle.schedule_theorem.specs.typing.Kinds.{IsNumber, IsKinded}
+use Rattle.schedule_theorem.specs.kinds.Holding.{HoldKinds, holds_kind}
 use Rattle.schedule_theorem.proofs.kinds.Widths.{fits_signed}
 use Rattle.serial_machine.specs.Safe.{ItemsFit}
 
