@@ -1,3 +1,5 @@
+pub mod Bits
+pub mod Cases
 pub mod Shown
 pub mod PlainSteps
 pub mod Runs

@@ -1,4 +1,5 @@
 pub mod Arithmetic
+pub mod Operands
 pub mod Words
 pub mod Names
 pub mod Shows

@@ -2,7 +2,7 @@ ghost use Rattle.std.specs.Prelude.{◌≡◌, ◌<◌, ◌^◌, ◌%◌, ◌≢
 ghost use Rattle.std.specs.Int.{w64, int_wrap, int_bit_and, int_bit_or, int_bit_xor};
 ghost use Rattle.running.specs.Arithmetic as running;
 ghost use Rattle.running.specs.Arithmetic.{word, Gives};
-ghost use Rattle.frame.specs.Answers.{Fits};
+ghost use Rattle.engine.specs.Operands.{Fits};
 ghost use Rattle.program.specs.Widths.{source_width};
 ghost use Rattle.engine.specs.Arithmetic.{IsGiven};
 ghost use Rattle.syntax.specs.declared.operator.BinaryOperator.TheVariants.{SignedDivide, UnsignedDivide, SignedRemainder, UnsignedRemainder};

@@ -1,11 +1,2 @@
-pub mod Calls
-pub mod Cells
-pub mod Depths
-pub mod Performed
-pub mod Places
-pub mod Running
-pub mod Serially
-pub mod Steps
 pub mod Unmet
-pub mod Walks
 pub mod Wide

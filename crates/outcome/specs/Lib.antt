@@ -1,5 +1,2 @@
 pub mod Requirements
-pub mod Running
 pub mod Serially
-pub mod Stack
-pub mod Stepping

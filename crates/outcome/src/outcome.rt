@@ -1,7 +1,3 @@
-ghost use Rattle.std.specs.Prelude.{◌≡◌};
-ghost use Rattle.outcome.specs.declared.outcome.Halt.TheVariants.{OutOfMemory as Refused};
-
-use lists::OutOfMemory;
 use store::Memory;
 
 /// What a run that has ended comes to.
@@ -27,21 +23,4 @@ pub enum RunFault {
     BadWorkers { memory: Memory },
     /// 803: memory was refused.
     OutOfMemory,
-    /// 804: an instruction had no effect.
-    Trapped,
-}
-
-/// Why a run stops before its end.
-#[derive(Clone, Copy, Debug, PartialEq, Eq)]
-pub enum Halt {
-    OutOfMemory,
-    Trapped,
-}
-
-impl From<OutOfMemory> for Halt {
-    ghost from_gives = { λ error halt. halt ≡ Refused };
-
-    fn from(_error: OutOfMemory) -> Halt {
-        Halt::OutOfMemory
-    }
 }

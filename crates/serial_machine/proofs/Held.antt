@@ -1,9 +1,9 @@
 -- The globals of memory and a row of their numbers are one memory.
-use Rattle.std.proofs.Common.{◌≡◌, ℕ, zero, suc, ◌+◌, ◌<◌, ◌≤◌, List, [], ◌∷◌, ◌++◌, length, map, take, drop, Option, Some, None, Bool, true, false, cond, refl, ap, sym, ◌∙◌, subst, arith, slice_get, ℤ}
+use Rattle.std.proofs.Common.{◌≡◌, ℕ, zero, suc, ◌+◌, ◌<◌, ◌≤◌, List, [], ◌∷◌, ◌++◌, length, take, drop, Option, Some, None, Bool, true, false, cond, refl, ap, sym, ◌∙◌, arith, slice_get, ℤ}
 use Rattle.std.specs.Prelude.{IsSome, nat_lt, sum}
 use Rattle.std.proofs.lemmas.Bool.{le-ltb, ltb-false, ltb-true}
 use Rattle.std.proofs.lemmas.List.{drop_at, length-append, length-map, take_at}
-use Rattle.running.specs.Cells.{Object, Shared, Local, Memory}
+use Rattle.running.specs.Cells.{Object, Shared, Local}
 use Rattle.running.specs.Frames.{global_cells}
 use Rattle.program.specs.declared.function.Global.{Global}
 use Rattle.program.specs.declared.function.Program.{Program}
@@ -12,9 +12,7 @@ use Rattle.engine.specs.Starts.{starts_from}
 use Rattle.store.specs.Cells.{NamedCells, cell_at}
 use Rattle.store.specs.Made.{HasGlobalCells}
 use Rattle.store.specs.Rows.{refilled, row_of, sizes_of}
-use Rattle.outcome.specs.Running.{object_cell}
-use Rattle.outcome.specs.Serially.{memory_of_globals}
-use Rattle.outcome.specs.Stepping.{names_of}
+use Rattle.outcome.specs.Serially.{global_cell, memory_of_globals, names_of}
 use Rattle.serial_steps.specs.Layouts.{size_in, start_in}
 use Rattle.serial_steps.specs.Starts.{StandsInRow}
 use Rattle.serial_steps.proofs.Rows.{sum_more}
@@ -69,7 +67,7 @@ held_in (x ∷ m) row (suc g) i =
 pub refilled_is : (m : List NamedCells) (row : List ℤ) → memory_of_globals (refilled m row) ≡ row_memory (sizes_of m) row
 refilled_is m row = λ i c. by c.object c.index i
   where
-    by : (o : Object) (k : ℕ) → object_cell [] (refilled m row) o k ≡ in_row (sizes_of m) row o k
+    by : (o : Object) (k : ℕ) → global_cell (refilled m row) o k ≡ in_row (sizes_of m) row o k
     by (Shared g) k = held_in m row g k
     by (Local owner n) k = refl
 

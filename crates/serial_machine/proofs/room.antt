@@ -1,6 +1,2 @@
--- The machine's frames have room for what their places ask for.
+-- What the operands of a frame's instruction are.
 pub mod Operands
-pub mod Moves
-pub mod Doable
-pub mod SpaceWrites
-pub mod Space

@@ -4,7 +4,7 @@ use Rattle.running.specs.Cells.{Object, Shared, Local, Memory}
 use Rattle.running.specs.SerialMeaning.{Gave, IsSerialMeaning}
 use Rattle.program.specs.declared.function.Program.{Program}
 use Rattle.engine.specs.declared.activation.Places.{Places}
-use Rattle.outcome.specs.Stack.{starting}
+use Rattle.serial_steps.specs.Steps.{starting}
 use Rattle.serial_steps.specs.Layouts.{size_in, start_in}
 use Rattle.serial_steps.specs.Runs.{HasEnded}
 use Rattle.serial_steps.specs.declared.stack.Stack.{Stack}

@@ -1,15 +1,18 @@
 -- What the machine rests on, of each program that the verifier took: its text fits, and its serial run can do each next step.
 use Rattle.std.specs.Prelude.{◌≡◌, ℕ, ◌≤◌, List, length, map, Some, ℤ, slice_get}
 use Rattle.running.specs.Cells.{Memory}
-use Rattle.running.specs.Frames.{global_cells}
+use Rattle.running.specs.Frames.{Frame, global_cells, item_at}
 use Rattle.program.specs.declared.function.Function.{Function}
 use Rattle.program.specs.declared.function.Program.{Program}
 use Rattle.verifier.specs.Accepted.{IsProgramOf}
 use Rattle.verifier.specs.Budgets.{budget_of}
+use Rattle.engine.specs.Operands.{ItemFits}
 use Rattle.engine.specs.Starts.{alloca_starts}
 use Rattle.engine.specs.declared.activation.Places.{Places}
 use Rattle.schedule_theorem.specs.Promise.{AreTaken, HasGlobals}
-use Rattle.outcome.specs.Stack.{starting}
+use Rattle.schedule_theorem.specs.kinds.Holding.{HasKindedRegisters}
+use Rattle.schedule_theorem.specs.typing.Kinds.{HasKinds}
+use Rattle.serial_steps.specs.Steps.{starting}
 use Rattle.serial_steps.specs.Layouts.{size_in}
 use Rattle.serial_steps.specs.Shown.{RunsSafely, TextFits}
 
@@ -23,6 +26,10 @@ RunsAreSafe =
     (text : List ℕ) (program : Program) → IsProgramOf text program → (arguments : List ℤ) (memory : Memory) → AreTaken program arguments →
     HasGlobals program memory →
     (globals : List ℕ) → HasCellsOf program globals → RunsSafely globals program (budget_of program) (starting program arguments memory)
+
+-- numbers of i32 that an instruction reads are numbers of that type
+abbrev pub ItemsFit : Type 0
+ItemsFit = (prog : Program) → HasKinds prog → (f : Frame) → HasKindedRegisters prog f → ItemFits f (item_at prog f.function f.block f.index)
 
 -- as many moves as a function has registers are enough
 abbrev pub HasMoves : Program → ℕ → Type 0

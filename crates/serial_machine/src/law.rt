@@ -1,10 +1,7 @@
-//! The laws below the promise: of walks, of room, and of globals.
+//! The laws below the promise: of walks, of operands, of safety, and of rows of cells.
 
-ghost use Rattle.serial_machine.specs.Promise.{RunsNeverStop};
-ghost use Rattle.serial_machine.specs.room.Cells.{CellsAreThere};
-ghost use Rattle.serial_machine.specs.room.Room.{EffectsFit, FramesHaveRoom, ItemsFit, MovesFit};
 ghost use Rattle.serial_machine.specs.Rows.{RowsMean};
-ghost use Rattle.serial_machine.specs.Safe.{RunsAreSafe, TextsFit};
+ghost use Rattle.serial_machine.specs.Safe.{ItemsFit, RunsAreSafe, TextsFit};
 ghost use Rattle.serial_machine.specs.walks.Along.{WalksCount, WalksGoOn, WalksKeepTests};
 
 /// Where the serial meaning of a program gives a number, the steps from its start never get stuck, and neither their count nor the depth of
@@ -29,41 +26,13 @@ pub fn operands_fit()
     ensures { ItemsFit }
 {}
 
-/// A frame that has a register and a move for each register of its function has room for the phis of each of its blocks.
-pub fn moves_fit()
-    ensures { MovesFit }
-{}
-
-/// What the place of a frame asks for, where it is no trap, the frame can do: the register that it defines is there, and the place behind and a
-/// child have numbers.
-pub fn effects_fit()
-    ensures { EffectsFit }
-{}
-
-/// So a frame whose registers hold values of their kinds has room for what its place asks for.
-pub fn frames_have_room()
-    ensures { FramesHaveRoom }
-{}
-
-/// In a frame on a stack that names objects so, where the cells of globals, of parameters' objects and of allocas have values as the rules on
-/// definedness have it, and the owner of the frame's allocas has their cells: each cell that the frame's next instruction is to store is there.
-pub fn cells_are_there()
-    ensures { CellsAreThere }
-{}
-
-/// No serial run of a program that the verifier took stops, with arguments that its `main` takes and its globals: none meets a trap, a cell
-/// that is not there, a frame without room, or the end of its budget.
-pub fn runs_never_stop()
-    ensures { RunsNeverStop }
-{}
-
-/// Wherever the serial run of such a program comes, it can do its next step, within its budget: the step does not trap, the cells that it
-/// stores or adds to are there, and its numbers fit.
+/// Wherever the serial run of a program that the verifier took comes, with arguments that its `main` takes and its globals, it can do its next
+/// step, within its budget: the step does not trap, the cells that it stores or adds to are there, and its numbers fit.
 pub fn runs_are_safe()
     ensures { RunsAreSafe }
 {}
 
-/// What the text of such a program names is there: blocks, registers, objects, callees, and room for the moves of each edge.
+/// What the text of a program that the verifier took names is there: blocks, registers, objects, callees, and room for the moves of each edge.
 pub fn texts_fit()
     ensures { TextsFit }
 {}

@@ -4,12 +4,11 @@
 //! The proof puts the schedule theorem together with what the engine asks for:
 //!
 //! - `walks`: what holds along the steps of a serial run, from its start on (`walks_go_on`, `walks_keep`, `walks_count`).
-//! - `room`: the machine's own tests stop no frame of it: a frame has room for what its place asks for (`frames_have_room` ..), and the
-//!   cells that are to be stored are there (`cells_are_there`).
+//! - `room`: the numbers that an instruction reads are of its width (`operands_fit`).
 //! - `safe`: wherever the run comes it can do its next step (`runs_are_safe`). `text`: what the text names is there (`texts_fit`). `Rows`: what a
 //!   run over a row of cells comes to (`rows_mean`). `Held`: memory as such a row, and back. `Engine`: so the run is safe, and means what it should.
 //! - `Arguments`: arguments that the machine's test takes are those that the theorem asks for. `Globals`: memory that was made for a program
-//!   has values in its cells. `Ends`: what a run comes to is the run that the theorem speaks of. `Stops`: the machine with tests would stop nowhere.
+//!   has values in its cells. `Ends`: what a run comes to is the run that the theorem speaks of.
 #![tactic(auto)]
 
 mod law;
@@ -17,7 +16,6 @@ mod places;
 mod run;
 
 pub use law::{
-    cells_are_there, effects_fit, frames_have_room, moves_fit, operands_fit, rows_mean,
-    runs_are_safe, runs_never_stop, texts_fit, walks_count, walks_go_on, walks_keep,
+    operands_fit, rows_mean, runs_are_safe, texts_fit, walks_count, walks_go_on, walks_keep,
 };
 pub use run::serial_run;

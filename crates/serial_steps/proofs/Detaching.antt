@@ -22,7 +22,7 @@ use Rattle.engine.specs.Flat.{cell_in, is_cell}
 use Rattle.engine.specs.declared.flat.Flat.{Flat}
 use Rattle.engine.specs.Shows.{Layout, ShowsCells}
 use Rattle.serial_steps.specs.Layouts.{end_of, frames_of, layout_of}
-use Rattle.outcome.specs.Stack.{Placed, Run, Goes, detach}
+use Rattle.serial_steps.specs.Steps.{Placed, Run, Goes, detach}
 use Rattle.serial_steps.specs.Shown.{BeginsAt, CanGo, HasTaker, ShowsBelow, ShowsOn, ShowsRun, TextFits, place_of}
 use Rattle.serial_steps.specs.declared.stack.Stack.{Stack}
 use Rattle.serial_steps.proofs.Places.{detach_here}

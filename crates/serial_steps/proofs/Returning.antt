@@ -33,7 +33,7 @@ use Rattle.engine.specs.Flat.{cell_in, is_cell}
 use Rattle.engine.specs.Names.{HasResult, Sizes, sizes}
 use Rattle.engine.specs.Shows.{IsIn, Layout, ShowsCells, address}
 use Rattle.serial_steps.specs.Layouts.{alloca_sizes, end_of, for_body, layout_of, with_allocas}
-use Rattle.outcome.specs.Stack.{Placed, Run, Goes, ret}
+use Rattle.serial_steps.specs.Steps.{Placed, Run, Goes, ret}
 use Rattle.serial_steps.specs.Shown.{BeginsAt, CanGo, HasTaker, Ends as EndsRun, ShowsBelow, ShowsOn, ShowsRun, TextFits, item_here, taker_of}
 use Rattle.serial_steps.specs.declared.stack.Stack.{Stack}
 use Rattle.serial_steps.proofs.Calling.{tall_below}

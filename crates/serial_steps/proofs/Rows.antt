@@ -14,7 +14,7 @@ use Rattle.program.specs.declared.function.Program.{Program}
 use Rattle.engine.specs.Flat.{cell_in, is_cell}
 use Rattle.engine.specs.Shows.{IsIn, Layout, ShowsCells, address}
 use Rattle.serial_steps.specs.Layouts.{size_in, start_in, of_globals, with_allocas, alloca_sizes, for_body, end_of, layout_of}
-use Rattle.outcome.specs.Stack.{Placed}
+use Rattle.serial_steps.specs.Steps.{Placed}
 
 summed : (a : ℕ) (cells : List ℕ) → fold (λ (s x : ℕ). s + x) a cells ≡ a + fold (λ (s x : ℕ). s + x) 0 cells
 summed a [] = omega arith

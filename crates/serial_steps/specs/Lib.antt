@@ -1,3 +1,4 @@
+pub mod Steps
 pub mod Layouts
 pub mod Shown
 pub mod Runs

@@ -1,6 +1,6 @@
 ghost use Rattle.std.specs.Prelude.{◌≡◌, ◌<◌, ◌≤◌, OnOk, IfOk, Some, ℕ, length};
 ghost use Rattle.running.specs.Frames.{Does, Ends};
-ghost use Rattle.outcome.specs.Stack.{Run};
+ghost use Rattle.serial_steps.specs.Steps.{Run};
 ghost use Rattle.engine.specs.Activation.{FrameFits};
 ghost use Rattle.engine.specs.Border.{IsBorder, IsBorderEnding, IsBorderItem};
 ghost use Rattle.engine.specs.Pause.{IfBorder, IfLimit};

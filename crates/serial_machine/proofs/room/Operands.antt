@@ -13,13 +13,11 @@ use Rattle.program.specs.declared.instruction.Operand.TheVariants as operand
 use Rattle.syntax.specs.declared.operator.Width.{Width}
 use Rattle.syntax.specs.declared.operator.Width.TheVariants.{Bits64, Bits32}
 use Rattle.program.specs.Widths.{source_width}
-use Rattle.frame.specs.Asked.{FitsIn, ItemFits}
-use Rattle.frame.specs.Asked as asked
-use Rattle.frame.specs.Reading.{frame_of}
-use Rattle.schedule_theorem.specs.typing.Kinds.{HasKinds, IsNumber, IsKinded}
-use Rattle.schedule_theorem.specs.kinds.Holding.{HasKindedRegisters, HoldKinds, holds_kind}
+use Rattle.engine.specs.Operands.{FitsIn, ItemFits, OperandsFit}
+use Rattle.schedule_theorem.specs.typing.Kinds.{IsNumber, IsKinded}
+use Rattle.schedule_theorem.specs.kinds.Holding.{HoldKinds, holds_kind}
 use Rattle.schedule_theorem.proofs.kinds.Widths.{fits_signed}
-use Rattle.serial_machine.specs.room.Room.{ItemsFit}
+use Rattle.serial_machine.specs.Safe.{ItemsFit}
 
 -- ---- an operand
 
@@ -37,7 +35,7 @@ number_fits kinds r Bits32 (operand.Register x) holds is = held_fits (r x.0) (ho
 
 -- ---- an instruction
 
-instruction_fits : (kinds : List RegisterKind) (f : Frame) (i : Instruction) → HoldKinds kinds f.registers → IsKinded kinds i → asked.OperandsFit f i
+instruction_fits : (kinds : List RegisterKind) (f : Frame) (i : Instruction) → HoldKinds kinds f.registers → IsKinded kinds i → OperandsFit f i
 instruction_fits kinds f (instruction.Binary d op w a b) holds is = (number_fits kinds f.registers w a holds is.1, number_fits kinds f.registers w b holds is.2)
 instruction_fits kinds f (instruction.Compare d by w a b) holds is = (number_fits kinds f.registers w a holds is.1, number_fits kinds f.registers w b holds is.2)
 instruction_fits kinds f (instruction.Convert d by a) holds is = number_fits kinds f.registers (source_width by) a holds is.1
@@ -60,8 +58,7 @@ function_there prog g b i x e = by (slice_get prog.functions g) refl e
     by None is h = absurd (cc)
     by (Some function) is h = (function, is)
 
--- of any frame of the definitions
-pub items_fit : (prog : Program) → HasKinds prog → (f : Frame) → HasKindedRegisters prog f → ItemFits f (item_at prog f.function f.block f.index)
+pub items_fit : ItemsFit
 items_fit prog kinds f held = from (item_at prog f.function f.block f.index) refl
   where
     from : (o : Option Item) → item_at prog f.function f.block f.index ≡ o → ItemFits f o
@@ -70,6 +67,3 @@ items_fit prog kinds f held = from (item_at prog f.function f.block f.index) ref
         let there = function_there prog f.function f.block f.index (Does i) is in
         instruction_fits there.0.registers f i (held.holds there.0 there.1) (kinds.steps f.function f.block f.index i there.0 is there.1)
     from (Some (Ends t)) is = tt
-
-pub operands_fit : ItemsFit
-operands_fit prog kinds p f held = items_fit prog kinds (frame_of p f) held

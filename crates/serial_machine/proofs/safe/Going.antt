@@ -43,7 +43,7 @@ use Rattle.schedule_theorem.proofs.Promise.{accepted_programs_keep_their_promise
 use Rattle.schedule_theorem.proofs.Serially.{Found}
 use Rattle.verifier.specs.Accepted.{IsProgramOf}
 use Rattle.verifier.specs.Budgets.{budget_of}
-use Rattle.outcome.specs.Stack.{Placed, Run, HasNoStep, IsStuck, Walk, starting}
+use Rattle.serial_steps.specs.Steps.{Placed, Run, HasNoStep, IsStuck, Walk, starting}
 use Rattle.serial_steps.specs.Layouts.{frames_of, layout_of}
 use Rattle.serial_steps.specs.Shown.{CanGo, CanGoOn, IsOld}
 use Rattle.serial_machine.specs.Safe.{HasCellsOf, RunsAreSafe}

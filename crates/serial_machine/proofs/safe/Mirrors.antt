@@ -15,8 +15,8 @@ use Rattle.phase_laws.specs.defined.Names.{IsNamed}
 use Rattle.phase_laws.specs.defined.Values.{NamesObjects}
 use Rattle.schedule_theorem.specs.safe.Objects.{KnowsObjects}
 use Rattle.schedule_theorem.proofs.safe.Objects.{Known, known_kept, first_known}
-use Rattle.outcome.specs.Stack as stack
-use Rattle.outcome.specs.Stack.{Placed, Run, Goes, Walk, begins, goes_on, starting}
+use Rattle.serial_steps.specs.Steps as stack
+use Rattle.serial_steps.specs.Steps.{Placed, Run, Goes, Walk, begins, goes_on, starting}
 use Rattle.serial_machine.proofs.safe.Stacks.{at_path, Stacked, stack_of, higher, lower, none_higher, on_top, no_children, IsAwake, may, none_left, put, put_two, gone, handed, AreOwners}
 
 pub under_long : (x y : Path) → Under x y → length x ≤ length y

@@ -12,7 +12,7 @@ use Rattle.engine.specs.Shows.{Layout, IsIn}
 use Rattle.phase_laws.specs.defined.Names.{IsNamed}
 use Rattle.phase_laws.specs.defined.Values.{NamesObjects}
 use Rattle.schedule_theorem.specs.safe.Objects.{HasCells, HasCell}
-use Rattle.outcome.specs.Stack.{Placed, Run}
+use Rattle.serial_steps.specs.Steps.{Placed, Run}
 use Rattle.serial_steps.specs.Layouts.{size_in, alloca_sizes, allocas_in, with_allocas, for_body, end_of, layout_of, frames_of}
 use Rattle.serial_machine.specs.Safe.{HasCellsOf}
 use Rattle.serial_machine.proofs.safe.Stacks.{at_path, IsOwner, AreOwners}

@@ -6,7 +6,7 @@ use Rattle.running.specs.Frames.{Wait, Free, OnRegion, OnCall, Halted, Role, Chi
 use Rattle.running.specs.State.{State, all_below, may_go, childless, outside, override}
 use Rattle.running.proofs.Actions.{same_path_itself}
 use Rattle.running.proofs.Places.{same_path_apart}
-use Rattle.outcome.specs.Stack.{Placed, Run}
+use Rattle.serial_steps.specs.Steps.{Placed, Run}
 
 abbrev pub at_path : List Placed → Path → Option Frame
 at_path [] x = None

@@ -9,8 +9,8 @@ use Rattle.running.specs.SerialMeaning.{Ending, Left, Gave, Outcome, written, cl
 use Rattle.running.specs.SerialMeaning.{one_more, both_outcomes, at_last}
 use Rattle.linear.specs.declared.form.RegisterId.{RegisterId}
 use Rattle.program.specs.declared.function.Program.{Program}
-use Rattle.outcome.specs.Stack.{Placed, ComesTo, over, GoesOn, Rests, Run, Goes, plain, sync, detach, call, reattach, ret, IsNotFree, IsNotCalling, HasNoStep, Walk, begins, goes_on, starting}
-use Rattle.outcome.proofs.Walks.{rests_deep, outcome_is}
+use Rattle.serial_steps.specs.Steps.{Placed, Run, Goes, plain, sync, detach, call, reattach, ret, IsNotFree, IsNotCalling, HasNoStep, Walk, begins, goes_on, starting}
+use Rattle.serial_steps.proofs.Walks.{ComesTo, over, GoesOn, Rests, rests_deep, outcome_is}
 use Rattle.serial_machine.specs.walks.Along.{GoesOnTo, WalksGoOn}
 use Rattle.serial_machine.proofs.walks.Apart.{meaning_means, plain_apart, sync_apart, detach_apart, call_apart, reattach_apart, return_apart}
 

@@ -10,7 +10,7 @@ use Rattle.running.specs.SerialMeaning.{one_more, both_outcomes, at_last}
 use Rattle.running.proofs.Outcomes.{counted_is, joined_is, from_effect, from_child, from_call, from_last}
 use Rattle.linear.specs.declared.form.RegisterId.{RegisterId}
 use Rattle.program.specs.declared.function.Program.{Program}
-use Rattle.outcome.specs.Stack.{ComesTo}
+use Rattle.serial_steps.proofs.Walks.{ComesTo}
 
 -- ---- each outcome has a frame
 

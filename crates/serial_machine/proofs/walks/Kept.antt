@@ -11,7 +11,7 @@ use Rattle.conditions.specs.theorem.SerialConditions.{Says, Finds, Nothing, Kept
 use Rattle.running.specs.SerialMeaning.{one_more, both_outcomes, at_last}
 use Rattle.linear.specs.declared.form.RegisterId.{RegisterId}
 use Rattle.program.specs.declared.function.Program.{Program}
-use Rattle.outcome.specs.Stack.{Placed, Run, Goes, plain, sync, detach, call, reattach, ret, Walk, begins, goes_on, starting}
+use Rattle.serial_steps.specs.Steps.{Placed, Run, Goes, plain, sync, detach, call, reattach, ret, Walk, begins, goes_on, starting}
 use Rattle.serial_machine.specs.walks.Along.{WalksKeepTests, KeepsAlong}
 
 -- so it is whatever is kept

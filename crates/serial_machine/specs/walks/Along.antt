@@ -7,7 +7,7 @@ use Rattle.conditions.specs.theorem.SerialConditions.{Says, Finds, Nothing, Kept
 use Rattle.running.specs.SerialMeaning.{Gave, Outcome, IsSerialMeaning}
 use Rattle.running.specs.State.{root_frame}
 use Rattle.program.specs.declared.function.Program.{Program}
-use Rattle.outcome.specs.Stack.{Placed, Run, IsStuck, Walk, starting}
+use Rattle.serial_steps.specs.Steps.{Placed, Run, IsStuck, Walk, starting}
 
 -- after n steps of a serial run whose outcome is o: one more instruction is left at least, and there are no more frames than o has
 pub record GoesOnTo (prog : Program) (o : Outcome) (n : ℕ) (s : Run) : Type 0 where

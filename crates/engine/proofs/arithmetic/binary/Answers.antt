@@ -1,6 +1,6 @@
 use Rattle.std.proofs.Common.{rules}
 use Rattle.std.proofs.lemmas.Int.{wraps}
-use Rattle.frame.proofs.Words.{wrapped_once}
+use Rattle.engine.proofs.Bits.{wrapped_once}
 use Rattle.engine.proofs.arithmetic.binary.Goals as goal
 
 pub returns-in-Add : goal.returns-in-Add

@@ -2,7 +2,7 @@ use mir.Val.{bits as bits_of}
 use Rattle.running.specs.Arithmetic.{word}
 use Rattle.std.proofs.Common.{◌∙◌, bit_and}
 use Rattle.std.specs.Int.Bits.{and_lt}
-use Rattle.frame.proofs.Words.{read_again, written, bits_are}
+use Rattle.engine.proofs.Bits.{read_again, written, bits_are}
 use Rattle.engine.proofs.arithmetic.both.Goals as goal
 
 pub returns : goal.returns

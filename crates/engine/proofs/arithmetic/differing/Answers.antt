@@ -3,7 +3,7 @@ use Rattle.running.specs.Arithmetic.{word}
 use Rattle.std.specs.Prelude.{bit_xor}
 use Rattle.std.proofs.Common.{◌∙◌}
 use Rattle.std.proofs.lemmas.Nat.{xor_lt}
-use Rattle.frame.proofs.Words.{read_again, written, bits_are}
+use Rattle.engine.proofs.Bits.{read_again, written, bits_are}
 use Rattle.engine.proofs.arithmetic.differing.Goals as goal
 
 pub returns : goal.returns

@@ -2,7 +2,7 @@ use mir.Val.{bits as bits_of}
 use Rattle.running.specs.Arithmetic.{word}
 use Rattle.std.proofs.Common.{◌∙◌, bit_or}
 use Rattle.std.proofs.lemmas.Nat.{or_lt}
-use Rattle.frame.proofs.Words.{read_again, written, bits_are}
+use Rattle.engine.proofs.Bits.{read_again, written, bits_are}
 use Rattle.engine.proofs.arithmetic.either.Goals as goal
 
 pub returns : goal.returns

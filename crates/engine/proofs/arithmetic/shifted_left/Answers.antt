@@ -1,7 +1,7 @@
 use mir.Val.{bits as bits_of}
 use Rattle.running.specs.Arithmetic.{word, signed}
 use Rattle.std.proofs.Common.{◌∙◌, ap, ◌^◌, ◌*◌, ◌%◌}
-use Rattle.frame.proofs.Words.{read_again, written, bits_are, gives_amount, shifted_bits}
+use Rattle.engine.proofs.Bits.{read_again, written, bits_are, gives_amount, shifted_bits}
 use Rattle.engine.proofs.Division.{amount_given}
 use Rattle.engine.proofs.arithmetic.shifted_left.Goals as goal
 

@@ -2,7 +2,7 @@ use mir.Val.{bits as bits_of}
 use Rattle.running.specs.Arithmetic.{word}
 use Rattle.std.proofs.Common.{◌∙◌, ◌<◌, ◌^◌, ◌/◌, arith}
 use Rattle.std.proofs.Math.Nat.{div-le_self}
-use Rattle.frame.proofs.Words.{read_again, written, bits_are, gives_amount}
+use Rattle.engine.proofs.Bits.{read_again, written, bits_are, gives_amount}
 use Rattle.engine.proofs.Division.{amount_given}
 use Rattle.engine.proofs.arithmetic.shifted_right.Goals as goal
 

@@ -2,7 +2,7 @@ use mir.Val.{bits as bits_of}
 use Rattle.running.specs.Arithmetic.{word}
 use Rattle.std.proofs.Common.{◌∙◌, ◌<◌, ◌^◌, ◌%◌, arith}
 use Rattle.std.proofs.Math.Nat.{mod-le}
-use Rattle.frame.proofs.Words.{read_again, written, bits_are, gives_divisor}
+use Rattle.engine.proofs.Bits.{read_again, written, bits_are, gives_divisor}
 use Rattle.engine.proofs.Division.{divisor_given, divisor_positive}
 use Rattle.engine.proofs.arithmetic.unsigned_remainder.Goals as goal
 

@@ -1,7 +1,7 @@
 use Rattle.std.proofs.Common.{◌∙◌, ℤ}
 use Rattle.std.specs.Int.{w64}
 use mir.Val.{to_z}
-use Rattle.frame.proofs.Words.{written}
+use Rattle.engine.proofs.Bits.{written}
 use Rattle.engine.proofs.Zeroing.{one_further, others_more, zeros_more}
 use Rattle.engine.proofs.clearing.write_zeros.Goals as goal
 

@@ -4,7 +4,7 @@ use Rattle.running.specs.Arithmetic.{Gives, binary}
 use Rattle.std.specs.Int.{w64}
 use Rattle.std.proofs.lemmas.Int.{to_z-of_z}
 use mir.Val.{to_z, of_z}
-use Rattle.frame.proofs.Words.{written}
+use Rattle.engine.proofs.Bits.{written}
 use Rattle.engine.proofs.PlainSteps.{binary_ready, binary_stepped, compare_stepped, bool_word, load_stepped, load_reached}
 use Rattle.engine.specs.Words.{bases}
 use Rattle.engine.proofs.Values.{convert_stepped, alloca_stepped, pointer_stepped}

@@ -1,7 +1,7 @@
 use Rattle.std.proofs.Common.{Some, None}
 use Rattle.std.specs.Int.{w64}
 use Rattle.std.proofs.lemmas.Int.{to_z-of_z}
-use Rattle.frame.proofs.Effects.{chosen_is}
+use Rattle.engine.proofs.Cases.{chosen_is}
 use Rattle.engine.proofs.ending.chosen.Goals as goal
 
 pub returns-in-Some : goal.returns-in-Some

@@ -1,5 +1,5 @@
 use Rattle.std.proofs.Common.{◌≡◌, ap, sym, ◌∙◌, of_z, to_z, w64, pos}
-use Rattle.frame.proofs.Words.{written}
+use Rattle.engine.proofs.Bits.{written}
 use Rattle.running.specs.Effect.{case_for}
 use Rattle.engine.proofs.Branches.{branch_true, branch_false, switch_goes, switch_edge}
 use Rattle.engine.proofs.ending.next_block.Goals as goal

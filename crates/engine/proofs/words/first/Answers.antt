@@ -1,7 +1,7 @@
 use Rattle.std.proofs.Common.{◌∙◌, ◌+ℤ◌, rules, FitsSigned}
 use Rattle.std.proofs.lemmas.Int.{to_z-of_z}
 use Rattle.std.specs.Int.{w64}
-use Rattle.frame.proofs.Words.{written}
+use Rattle.engine.proofs.Bits.{written}
 use Rattle.running.specs.Arithmetic.{wrapped}
 use Rattle.syntax.specs.declared.operator.Width.TheVariants.{Bits64}
 use Rattle.engine.proofs.words.first.Goals as goal

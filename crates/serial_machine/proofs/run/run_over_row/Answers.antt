@@ -1,9 +1,8 @@
-use Rattle.std.proofs.Common.{rules, ◌≡◌, ◌∙◌, ◌<◌, ap, sym, subst, ℕ, List, length, map, ℤ, FitsSigned}
+use Rattle.std.proofs.Common.{rules, ◌≡◌, ◌∙◌, ◌<◌, ap, sym, subst, ℕ, List, length, ℤ, FitsSigned}
 use Rattle.std.specs.Int.{w64}
 use mir.Val.{to_z, of_z}
 use Rattle.std.proofs.lemmas.Int.{to_z-of_z}
-use Rattle.engine.specs.Starts.{alloca_starts, starts_from}
-use Rattle.store.specs.Cells.{NamedCells}
+use Rattle.engine.specs.Starts.{starts_from}
 use Rattle.store.specs.Rows.{refilled, row_of, sizes_of}
 use Rattle.outcome.specs.declared.outcome.Finished.{Finished}
 use Rattle.serial_steps.specs.Runs.{GoesSafely, RunsTo}

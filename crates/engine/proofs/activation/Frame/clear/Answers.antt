@@ -1,5 +1,5 @@
 use Rattle.std.proofs.Common.{sym, subst}
-use Rattle.frame.proofs.Words.{written}
+use Rattle.engine.proofs.Bits.{written}
 use Rattle.program.specs.declared.instruction.Instruction.TheVariants as instruction
 use Rattle.engine.specs.Activation.{bases_in}
 use Rattle.engine.specs.Shows.{IsSafe}

@@ -1,5 +1,5 @@
 use Rattle.std.proofs.Common.{◌≡◌, ◌∙◌, ap, sym, refl, subst, ℤ, Some}
-use Rattle.frame.proofs.Words.{written}
+use Rattle.engine.proofs.Bits.{written}
 use Rattle.running.specs.Effect.{Return, terminator_action}
 use Rattle.running.specs.Frames.{word_at}
 use Rattle.program.specs.declared.instruction.Terminator.TheVariants as terminator

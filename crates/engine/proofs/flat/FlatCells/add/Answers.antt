@@ -1,6 +1,6 @@
 use Rattle.std.specs.Int.{w64}
 use Rattle.std.proofs.lemmas.Int.{to_z-of_z}
-use Rattle.frame.proofs.Words.{written}
+use Rattle.engine.proofs.Bits.{written}
 use Rattle.engine.proofs.FlatCells.{add_here, add_there}
 use Rattle.engine.proofs.flat.FlatCells.add.Goals as goal
 

@@ -2,7 +2,7 @@ use Rattle.std.proofs.Common.{◌≡◌, ◌+◌, ◌∙◌, ap, arith, max, ref
 use Rattle.std.specs.Int.{w64}
 use Rattle.std.proofs.lemmas.Int.{to_z-of_z}
 use Rattle.std.proofs.Math.Logic.{∥∥₁_map}
-use Rattle.outcome.specs.Stack.{Run}
+use Rattle.serial_steps.specs.Steps.{Run}
 use Rattle.serial_steps.specs.Runs.{HasEnded, HasWalked, Turned}
 use Rattle.serial_steps.specs.Shown.{RunsSafely, TextFits}
 use Rattle.serial_steps.proofs.Turning.{may_go_on}

@@ -1,5 +1,5 @@
 use Rattle.std.proofs.Common.{◌≡◌, ◌-◌, ℕ, List, length}
-use Rattle.outcome.specs.Stack.{Run}
+use Rattle.serial_steps.specs.Steps.{Run}
 use Rattle.serial_steps.specs.Runs.{GoesSafely, HasWalked}
 use Rattle.serial_steps.specs.Shown.{RunsSafely}
 use Rattle.serial_steps.proofs.stack.Stack.run.Given as goal
