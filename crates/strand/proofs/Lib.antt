@@ -6,3 +6,7 @@ pub mod Showing
 pub mod Walking
 pub mod Advancing
 pub mod Borders
+pub mod Fitting
+pub mod Alone
+pub mod Seen
+pub mod Pausing

@@ -1,4 +1,4 @@
-ghost use Rattle.std.specs.Prelude.{◌≡◌, ◌≢◌, ◌≤◌, [], ◌++◌, ◌∷◌, ℕ, IfOk, None, Some, length, vec_capacity};
+ghost use Rattle.std.specs.Prelude.{◌≡◌, ◌≢◌, ◌≤◌, [], ◌++◌, ◌∷◌, ℕ, ℤ, IfOk, None, Some, length, vec_capacity};
 ghost use Rattle.engine.specs.Activation.{FrameFits, ProgramFits};
 ghost use Rattle.strand.specs.Along.{HasRegisters, IsGoing, IsKept, MayBegin};
 ghost use Rattle.strand.specs.Standing.{IsCopy};
