@@ -10,3 +10,5 @@ pub mod Fitting
 pub mod Alone
 pub mod Seen
 pub mod Pausing
+pub mod Going
+pub mod Beginning

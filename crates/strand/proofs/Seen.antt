@@ -5,7 +5,7 @@ use Rattle.std.specs.List.{All}
 use Rattle.std.specs.Map.{lookup}
 use Rattle.std.specs.Option.{option_map}
 use Rattle.std.proofs.lemmas.Bool.Decides.{leb_tells}
-use Rattle.std.proofs.lemmas.List.Elements.{All-cons, All-head, All-nil, All-tail, All-slice_get}
+use Rattle.std.proofs.lemmas.List.Elements.{All-cons, All-head, All-nil, All-tail}
 use Rattle.std.proofs.lemmas.Option.{same_Some, slice_get-map}
 use Rattle.running.specs.Cells.{Cell, Memory, same_cell, or_zero}
 use Rattle.running.specs.State.{sum_in}
@@ -27,17 +27,22 @@ all_from : {X : Type 0} (P : X → Type 0) (xs : List X) → ((i : ℕ) (x : X) 
 all_from P [] h = All-nil P
 all_from P (x ∷ xs) h = All-cons P x xs (h 0 x refl) (all_from P xs (λ i y e. h (suc i) y e))
 
+at_all : {X : Type 0} (P : X → Type 0) (xs : List X) (i : ℕ) (x : X) → slice_get xs i ≡ Some x → All P xs → P x
+at_all P [] i x e all = absurd cc
+at_all P (y ∷ xs) zero x e all = subst P (same_Some y x e) (All-head P y xs all)
+at_all P (y ∷ xs) (suc i) x e all = at_all P xs i x e (All-tail P y xs all)
+
 -- a cell that is written is one of those that were
 written_in : (l : Layout) (x : Cell) (u : Write) (ws : List (Cell × Write)) → All (λ (w : Cell × Write). IsIn l w.0) ws → lookup (same_cell x) ws ≡ Some u → IsIn l x
 written_in l x u [] all e = absurd cc
-written_in l x u (w ∷ ws) all e = from (same_cell x w.0) refl e
+written_in l x u (w ∷ ws) all e = from (same_cell x w.0) refl e (written_in l x u ws (All-tail (λ (y : Cell × Write). IsIn l y.0) w ws all))
   where
-    from : (b : Bool) → same_cell x w.0 ≡ b → cond b (Some w.1) (lookup (same_cell x) ws) ≡ Some u → IsIn l x
-    from true is h = subst (IsIn l) (sym (same_cell_is x w.0 is)) (All-head (λ (y : Cell × Write). IsIn l y.0) w ws all)
-    from false is h = written_in l x u ws (All-tail (λ (y : Cell × Write). IsIn l y.0) w ws all) h
+    from : (b : Bool) → same_cell x w.0 ≡ b → cond b (Some w.1) (lookup (same_cell x) ws) ≡ Some u → (lookup (same_cell x) ws ≡ Some u → IsIn l x) → IsIn l x
+    from true is h rest = subst (IsIn l) (sym (same_cell_is x w.0 is)) (All-head (λ (y : Cell × Write). IsIn l y.0) w ws all)
+    from false is h rest = rest h
 
 module _ (l : Layout) (f : Footprint) where
-  pub seen_by : Memory
+  abbrev pub seen_by : Memory
   seen_by c = cond (nat_le (suc c.index) (l.cells c.object)) (Some (or_zero (read_at f c))) None
 
   within_seen : (c : Cell) → IsIn l c → seen_by c ≡ Some (or_zero (read_at f c))
@@ -55,7 +60,7 @@ module _ (l : Layout) (f : Footprint) where
   module _ (b : Buffers) (s : ShowsFootprint l f b) (apart : AreApart l) (differ : AreDifferent (map (λ (r : Read). r.at) b.reads)) where
     pub seen_reads : All (λ r. seen_by r.0 ≡ Some r.1) f.reads
     seen_reads = all_from (λ (r : Cell × ℤ). seen_by r.0 ≡ Some r.1) f.reads (λ i r e.
-        let here : IsIn l r.0 = All-slice_get (λ (x : Cell × ℤ). IsIn l x.0) f.reads i r e s.reads_in in
+        let here : IsIn l r.0 = at_all (λ (x : Cell × ℤ). IsIn l x.0) f.reads i r e s.reads_in in
         let there : slice_get b.reads i ≡ Some (read_of l r) = ap (λ xs. slice_get xs i) s.reads ∙ slice_get-map (read_of l) f.reads i ∙ ap (option_map (read_of l)) e in
         let value : read_at f r.0 ≡ Some r.1 = sym (value_is l apart r.0 here f b s) ∙ value_at b.reads i (read_of l r) (address l r.0) there refl differ in
         within_seen r.0 here ∙ ap (λ o. Some (or_zero o)) value)
