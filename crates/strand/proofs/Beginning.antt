@@ -90,7 +90,7 @@ module _ (prog : Program) (places : Places) (path : List ℕ) (f : machine.Frame
       };
     }
 
-  pub under_way : FrameFits prog f → MayBegin prog places path f → IsUnderWay prog places x
+  abbrev pub under_way : FrameFits prog f → MayBegin prog places path f → IsUnderWay prog places x
   under_way fits may = record {
     stands = copy_fits f x.present present prog fits;
     room = omega (arith, none);

@@ -12,3 +12,5 @@ pub mod Seen
 pub mod Pausing
 pub mod Going
 pub mod Beginning
+pub mod Filling
+pub mod Keeping
