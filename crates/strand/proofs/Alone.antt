@@ -95,9 +95,10 @@ module _ (prog : Program) (l : Layout) (p : Path) (f g : Frame) (k : Memory) whe
   alone_on i a full n h j here = (subst (λ (c : ℕ). AloneSteps prog l p f c g) (omega arith) a, full)
   alone_on i a full n h j (more {n = n'} {g = h'} {k = j'} e steps act fine) =
       let (b, full') = alone_on i a full n' h' j' steps in
-      let far : suc (i + n') ≡ i + suc n' = omega arith in
-      (subst (λ (c : ℕ). AloneSteps prog l p f c (went h' e)) far (alone.more j' e b full' act fine),
-      λ c within. some_kept e j' (item_keeps prog p h' j' (item_at prog h'.function h'.block h'.index) e act fine) c (full' c within))
+      let far : suc (i + n') ≡ i + suc n' = omega arith in (
+        subst (λ (c : ℕ). AloneSteps prog l p f c (went h' e)) far (alone.more j' e b full' act fine),
+        λ c within. some_kept e j' (item_keeps prog p h' j' (item_at prog h'.function h'.block h'.index) e act fine) c (full' c within),
+      )
 
 pub stays_safe : (prog : Program) (l : Layout) (s : Strand) (m : Memory) → IsStrand prog s → StaysSafeAlone prog l s.path s.loaded → IsFull l m → StaysSafe prog l s.path s.present m
 stays_safe prog l s m is stays full = λ n g k steps.

@@ -112,8 +112,8 @@ module _ (prog : Program) (places : Places) (path : List ℕ) (f : machine.Frame
     way = under_way fits may;
     pauses = λ l g goes.
         let goes' : GoesAlone prog places l (reverse y.path.items) g y.loaded =
-            copy_goes f y.loaded loaded' prog places l (reverse y.path.items) g
-            (copy_goes x.loaded f (copy_back f x.loaded loaded) prog places l (reverse y.path.items) g (subst (λ p. GoesAlone prog places l (reverse p) g x.loaded) (at ∙ sym at') goes)) in
+        copy_goes f y.loaded loaded' prog places l (reverse y.path.items) g
+        (copy_goes x.loaded f (copy_back f x.loaded loaded) prog places l (reverse y.path.items) g (subst (λ p. GoesAlone prog places l (reverse p) g x.loaded) (at ∙ sym at') goes)) in
         let a = way.along l g goes' in
         let free = first_free prog a.strand a.is (no_reads l a.strand.footprint.reads y.cells.reads a.shown.footprint.reads unread) (a.shown.done ∙ one) in
         let same : strands.loaded a.strand.path a.strand.loaded ≡ strands.loaded (reverse x.path.items) g = λ i. strands.loaded ((a.path ∙ ap reverse (at' ∙ sym at)) i) (a.loaded i) in

@@ -16,7 +16,7 @@ use Rattle.strands.specs.Strands as strands
 use Rattle.strands.specs.Strands.{Access, IsStrand, is_filled, access_of, is_border, is_full, need, next_of, pause_at, pause_of}
 use Rattle.engine.specs.declared.activation.Places.{Places}
 use Rattle.strand.specs.Alone.{GoesAlone}
-use Rattle.strand.specs.Along.{IsAlong, IsGoing, NeedsLiving, PausesAt, pause_in}
+use Rattle.strand.specs.Along.{IsAlong, IsGoing, IsKept, NeedsLiving, PausesAt, pause_in}
 use Rattle.strand.specs.Buffers.{Buffers, held_in}
 use Rattle.strand.specs.Showing.{AreApart}
 use Rattle.strand.specs.Standing.{ShowsStrand}
@@ -34,10 +34,6 @@ pub record NeedsCell (prog : Program) (l : Layout) (s : strands.Strand) (at : �
   pub is : at ≡ address l cell
   pub living : IsIn l cell
 
-abbrev at_of : Pause → ℤ → ℤ
-at_of (Need at) other = at
-at_of p other = other
-
 pub needs_cell : (prog : Program) (l : Layout) (s : strands.Strand) (at : ℤ) → PausesAt prog l s (Some (Need at)) → NeedsCell prog l s at
 needs_cell prog l s at p = from (pause_of prog s) refl p.is p.living
   where
@@ -47,7 +43,7 @@ needs_cell prog l s at p = from (pause_of prog s) refl p.is p.living
     from (Some strands.Border) is e living = absurd cc
     from (Some strands.Limit) is e living = absurd cc
     from (Some strands.Full) is e living = absurd cc
-    from (Some (strands.Need c)) is e living = record { cell = c; pauses = is; is = let same : Need (address l c) ≡ Need at = cc in sym (ap (λ p. at_of p at) same); living = living }
+    from (Some (strands.Need c)) is e living = record { cell = c; pauses = is; is = cc; living = living }
 
 -- ---- what it waits for
 
@@ -147,3 +143,17 @@ module _ (prog : Program) (places : Places) (x : Course) (at : ℤ) (going : IsG
           let n = needs_cell prog l a.strand at (going.pauses l g goes) in
           stands_free prog l (strands.filled a.strand n.cell value) (free_after prog a.strand n.cell n.pauses value);
     }
+
+pub needed_going : (prog : Program) (places : Places) (x : Course) (pause : Option Pause) (at : ℤ) → pause ≡ Some (Need at) → IsKept prog places x pause → IsGoing prog places x (Some (Need at))
+needed_going prog places x pause at is kept = subst (IsGoing prog places x) is (kept.going (λ e. let bad = sym is ∙ e in cc))
+
+pub same_need : (at other : ℤ) → Some (Need at) ≡ Some (Need other) → at ≡ other
+same_need at other e = cc
+
+-- and what came of it is kept
+pub filled_at : (prog : Program) (places : Places) (x y : Course) (at value : ℤ) → y ≡ record x { cells = y.cells } →
+    ((l : Layout) (ps : Places) (s : strands.Strand) (c : Cell) → ShowsStrand l ps s x → AreApart l → IsIn l c → at ≡ address l c → ShowsStrand l ps (strands.filled s c value) y) →
+    IsGoing prog places x (Some (Need at)) → IsGoing prog places y None
+filled_at prog places x y at value only fills going =
+    subst (λ (z : Course). IsGoing prog places z None) (sym only)
+    (filled_going prog places x at going y.cells value (λ l ps s c shown apart here is. subst (ShowsStrand l ps (strands.filled s c value)) only (fills l ps s c shown apart here is)))
