@@ -201,7 +201,7 @@ pub record IsBelow (p : Path) (f : Frame) : Type 0 where
 below : (home p : Path) (k : ℕ) → Under home p → length home < suc (length p)
 below home p k above = let long = under_long home p above in omega (arith, long)
 
-below_kept : (prog : Program) → IsKeptBySteps prog IsBelow
+pub below_kept : (prog : Program) → IsKeptBySteps prog IsBelow
 below_kept prog = record {
   plain = λ p f m e h going at fine. record { home = h.home; owner = h.owner; registers = plain_up p f h.home h.registers prog m e at (moves prog p f m e at fine) };
   child = λ p f m r b n h going at. record { home = deeper f.made h.home; owner = below f.home p f.made h.home; registers = λ x. child_up p f.made (f.registers x) (h.registers x) };

@@ -109,3 +109,10 @@ raised_some z y (Some (Stored x)) r v e h = absurd (cc)
 raised_some z y (Some (Delta x)) r None e h = absurd (cc)
 raised_some z y (Some (Delta x)) r (Some n) e h = refl
 raised_some z y None r v e h = h
+
+-- what is not held has a value in memory, where it has one with what was written
+pub value_beneath : (u : Option Write) (r v : Option ℤ) → known u r ≡ None → is_some (put u v) ≡ true → is_some v ≡ true
+value_beneath None r v e h = h
+value_beneath (Some (Stored z)) r v e h = absurd (cc)
+value_beneath (Some (Delta z)) r None e h = h
+value_beneath (Some (Delta z)) r (Some n) e h = refl

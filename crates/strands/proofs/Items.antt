@@ -1,5 +1,5 @@
 -- What an instruction that is no border does to cells: it loads from one, stores to one or adds to one, or does none of these.
-use Rattle.std.proofs.Common.{◌≡◌, ℕ, Option, Some, None, Bool, true, false, cond, ◌&&◌, refl, ap, ◌∙◌, subst, ℤ}
+use Rattle.std.proofs.Common.{◌≡◌, ℕ, Option, Some, None, Bool, true, false, cond, ◌&&◌, refl, sym, ap, ◌∙◌, subst, ℤ}
 use Rattle.std.specs.Prelude.{pos, int_lt, int_le, unsigned_abs}
 use Rattle.running.specs.Paths.{Path}
 use Rattle.running.specs.Cells.{Object, Cell, Memory, same_cell}
@@ -115,34 +115,48 @@ item_touches prog p f m (Some (Ends t)) h = terminator_touches prog p f t h
 pub touches : (prog : Program) (p : Path) (f : Frame) (m : Memory) (o : Option Item) (e : Effect) → is_border o ≡ false → item_action prog p f m o ≡ Plain e → e.trap ≡ None → Touches (item_access f o) e
 touches prog p f m o e h at fine = (subst (λ a. TouchesBy (item_access f o) a) at (item_touches prog p f m o h)) fine
 
--- ---- an add to a cell without a value traps
+-- ---- a load of a cell without a value traps, and so does an add to one
 
 abbrev TrapsBy : Action → Type 0
 TrapsBy a = (e : Effect) × (a ≡ Plain e) × (e.trap ≡ Some Undefined)
 
-add_traps : (f : Frame) (m : Memory) (o : Option Cell) (v : Option ℤ) (c : Cell) → to_cell Adds o ≡ Adds c → m c ≡ None → TrapsBy (Plain (given f o (λ c. given f v (λ z. adds_to f c z (m c)))))
-add_traps f m None v c is none = absurd (cc)
-add_traps f m (Some d) None c is none = (_, refl, refl)
-add_traps f m (Some d) (Some z) c is none = let same : d ≡ c = cc in let gone : m d ≡ None = ap m same ∙ none in (adds_to f d z (m d), refl, rw gone)
+-- the cell has to have a value
+abbrev pub Wants : Access → Cell → Type 0
+Wants Nowhere c = ⊥
+Wants (Loads d) c = d ≡ c
+Wants (Stores d) c = ⊥
+Wants (Adds d) c = d ≡ c
 
-other_access : (o : Option Cell) (kind : Cell → Access) (c : Cell) → ((d : Cell) → kind d ≡ Adds c → ⊥) → to_cell kind o ≡ Adds c → ⊥
-other_access None kind c apart is = cc
-other_access (Some d) kind c apart is = apart d is
+load_traps : (f : Frame) (d : RegisterId) (m : Memory) (o : Option Cell) (c : Cell) → Wants (to_cell Loads o) c → m c ≡ None → TrapsBy (Plain (given f o (λ x. loads f d x (m x))))
+load_traps f d m None c is none = absurd is
+load_traps f d m (Some x) c is none = let gone : m x ≡ None = ap m is ∙ none in (loads f d x (m x), refl, rw gone)
 
-instruction_traps : (prog : Program) (p : Path) (f : Frame) (m : Memory) (i : Instruction) (c : Cell) → item_access f (Some (Does i)) ≡ Adds c → m c ≡ None → TrapsBy (instruction_action prog p f m i)
-instruction_traps prog p f m (instruction.Load d a) c is none = absurd (other_access (cell_at f a) Loads c (λ d e. cc) is)
-instruction_traps prog p f m (instruction.Store a b) c is none = absurd (other_access (cell_at f b) Stores c (λ d e. cc) is)
+add_traps : (f : Frame) (m : Memory) (o : Option Cell) (v : Option ℤ) (c : Cell) → Wants (to_cell Adds o) c → m c ≡ None → TrapsBy (Plain (given f o (λ x. given f v (λ z. adds_to f x z (m x)))))
+add_traps f m None v c is none = absurd is
+add_traps f m (Some x) None c is none = (_, refl, refl)
+add_traps f m (Some x) (Some z) c is none = let gone : m x ≡ None = ap m is ∙ none in (adds_to f x z (m x), refl, rw gone)
+
+store_wants : (o : Option Cell) (c : Cell) → Wants (to_cell Stores o) c → ⊥
+store_wants None c is = is
+store_wants (Some x) c is = is
+
+instruction_traps : (prog : Program) (p : Path) (f : Frame) (m : Memory) (i : Instruction) (c : Cell) → Wants (item_access f (Some (Does i))) c → m c ≡ None → TrapsBy (instruction_action prog p f m i)
+instruction_traps prog p f m (instruction.Load d a) c is none = load_traps f d m (cell_at f a) c is none
+instruction_traps prog p f m (instruction.Store a b) c is none = absurd (store_wants (cell_at f b) c is)
 instruction_traps prog p f m (instruction.AtomicAdd a b) c is none = add_traps f m (cell_at f a) (word_at f.registers b) c is none
-instruction_traps prog p f m (instruction.Binary d op w a b) c is none = absurd (cc)
-instruction_traps prog p f m (instruction.Compare d by w a b) c is none = absurd (cc)
-instruction_traps prog p f m (instruction.Convert d by a) c is none = absurd (cc)
-instruction_traps prog p f m (instruction.Alloca d a) c is none = absurd (cc)
-instruction_traps prog p f m (instruction.ElementPointer d name i) c is none = absurd (cc)
-instruction_traps prog p f m (instruction.StoreZeros cells name) c is none = absurd (cc)
-instruction_traps prog p f m (instruction.Call d g arguments) c is none = absurd (cc)
-instruction_traps prog p f m (instruction.StartRegion d) c is none = absurd (cc)
+instruction_traps prog p f m (instruction.Binary d op w a b) c is none = absurd is
+instruction_traps prog p f m (instruction.Compare d by w a b) c is none = absurd is
+instruction_traps prog p f m (instruction.Convert d by a) c is none = absurd is
+instruction_traps prog p f m (instruction.Alloca d a) c is none = absurd is
+instruction_traps prog p f m (instruction.ElementPointer d name i) c is none = absurd is
+instruction_traps prog p f m (instruction.StoreZeros cells name) c is none = absurd is
+instruction_traps prog p f m (instruction.Call d g arguments) c is none = absurd is
+instruction_traps prog p f m (instruction.StartRegion d) c is none = absurd is
+
+pub undefined_traps : (prog : Program) (p : Path) (f : Frame) (m : Memory) (o : Option Item) (c : Cell) → Wants (item_access f o) c → m c ≡ None → TrapsBy (item_action prog p f m o)
+undefined_traps prog p f m None c is none = absurd is
+undefined_traps prog p f m (Some (Does i)) c is none = instruction_traps prog p f m i c is none
+undefined_traps prog p f m (Some (Ends t)) c is none = absurd is
 
 pub add_traps_at : (prog : Program) (p : Path) (f : Frame) (m : Memory) (o : Option Item) (c : Cell) → item_access f o ≡ Adds c → m c ≡ None → TrapsBy (item_action prog p f m o)
-add_traps_at prog p f m None c is none = absurd (cc)
-add_traps_at prog p f m (Some (Does i)) c is none = instruction_traps prog p f m i c is none
-add_traps_at prog p f m (Some (Ends t)) c is none = absurd (cc)
+add_traps_at prog p f m o c is none = undefined_traps prog p f m o c (subst (λ a. Wants a c) (sym is) refl) none

@@ -1,6 +1,6 @@
 -- A strand that fits a machine is steps of the worker.
 use Rattle.std.proofs.Common.{◌≡◌, ℕ, suc, ◌+◌, max, [], ◌∷◌, ◌++◌, Option, Some, None, Bool, true, false, cond, refl, sym, ap, ◌∙◌, subst, arith, eqb, eqb-true, nat_le, is_some, is_none, ℤ}
-use Rattle.std.proofs.lemmas.List.Elements.{All-pop}
+use Rattle.std.proofs.lemmas.List.Elements.{All-nil, All-pop, All-push}
 use Rattle.std.specs.Map.{lookup}
 use Rattle.running.specs.Paths.{Path, same_path}
 use Rattle.running.specs.Cells.{Cell, Memory, same_cell, or_zero}
@@ -13,32 +13,41 @@ use Rattle.running.proofs.Actions.{reads_of, adds_of, action_kept, same_cell_its
 use Rattle.running.proofs.Places.{only_here, same_path_is}
 use Rattle.running.proofs.Steps.{plain, change_is}
 use Rattle.strands.specs.Footprint.{Write, Stored, Delta, Footprint, read_at, write_at, held, memory_of, with_write, stored, raised, added_to, settled, with_read, put}
-use Rattle.strands.specs.Strands.{Strand, Access, Nowhere, Loads, Stores, Adds, is_border, next_of, access_of, most_done, Border, Limit, Full, Need, is_full, need, pause_at, pause_of, loaded, filled, footprint_after, advanced, next_action, IsStrand, is_loaded, is_filled, is_advanced}
-use Rattle.strands.specs.Law.{steps_by, Happen, Fits, absorbed, IsSteps, StrandsAreSteps, HasValues, StrandsAreStepsWhereDefined, StrandsGoOverBorders}
+use Rattle.strands.specs.Strands.{Strand, Access, Nowhere, Loads, Stores, Adds, is_border, next_of, access_of, most_done, Pause, Border, Limit, Full, Need, is_full, need, pause_at, pause_of, loaded, filled, footprint_after, advanced, next_action, IsStrand, is_loaded, is_filled, is_advanced}
+use Rattle.strands.specs.Law.{steps_by, Happen, Fits, absorbed, IsSteps, StrandsAreSteps, ReadsAgree, ReadsAreThere, HasValues, StrandsAreStepsWhereDefined, StrandsGoOverBorders}
 use Rattle.running.specs.Replay.{NeverTraps}
 use Rattle.running.proofs.SameCells.{same_cell_is}
 use Rattle.strands.proofs.Footprints.{lookup_with_write}
-use Rattle.strands.proofs.Items.{Touches, touches, add_traps_at}
-use Rattle.strands.proofs.Growing.{held_put, put_read, put_after, put_some, raised_some}
+use Rattle.strands.proofs.Items.{Touches, touches, Wants, undefined_traps}
+use Rattle.strands.proofs.Growing.{held_put, put_read, put_after, put_some, raised_some, value_beneath}
 use Rattle.strands.proofs.Happening.{steps_more, happen_more, never_later, sound_next}
 use Rattle.program.specs.declared.function.Program.{Program}
 
 -- ---- where a strand goes on
 
-not_paused : (f : Footprint) (n : ℕ) (o : Option Item) (a : Access) → pause_at f n o a ≡ None → (is_border o ≡ false) × (need f a ≡ None)
-not_paused f n o a e = at_border (is_border o) refl e
+-- no pause, or one for a cell that it needs
+abbrev IsOfNeed : Option Pause → Type 0
+IsOfNeed None = Unit {0}
+IsOfNeed (Some (Need c)) = Unit {0}
+IsOfNeed other = ⊥
+
+paused_by_need : (f : Footprint) (n : ℕ) (o : Option Item) (a : Access) (p : Option Pause) → IsOfNeed p → pause_at f n o a ≡ p → (is_border o ≡ false) × (need f a ≡ p)
+paused_by_need f n o a p of_need e = at_border (is_border o) refl e
   where
-    at_full : (b : Bool) → cond b (Some Full) (need f a) ≡ None → need f a ≡ None
-    at_full true h = absurd (cc)
+    at_full : (b : Bool) → cond b (Some Full) (need f a) ≡ p → need f a ≡ p
+    at_full true h = absurd (subst IsOfNeed (sym h) of_need)
     at_full false h = h
 
-    at_limit : (b : Bool) → cond b (Some Limit) (cond (is_full f a) (Some Full) (need f a)) ≡ None → need f a ≡ None
-    at_limit true h = absurd (cc)
+    at_limit : (b : Bool) → cond b (Some Limit) (cond (is_full f a) (Some Full) (need f a)) ≡ p → need f a ≡ p
+    at_limit true h = absurd (subst IsOfNeed (sym h) of_need)
     at_limit false h = at_full (is_full f a) h
 
-    at_border : (b : Bool) → is_border o ≡ b → cond b (Some Border) (cond (nat_le most_done n) (Some Limit) (cond (is_full f a) (Some Full) (need f a))) ≡ None → (is_border o ≡ false) × (need f a ≡ None)
-    at_border true is h = absurd (cc)
+    at_border : (b : Bool) → is_border o ≡ b → cond b (Some Border) (cond (nat_le most_done n) (Some Limit) (cond (is_full f a) (Some Full) (need f a))) ≡ p → (is_border o ≡ false) × (need f a ≡ p)
+    at_border true is h = absurd (subst IsOfNeed (sym h) of_need)
     at_border false is h = (is, at_limit (nat_le most_done n) h)
+
+not_paused : (f : Footprint) (n : ℕ) (o : Option Item) (a : Access) → pause_at f n o a ≡ None → (is_border o ≡ false) × (need f a ≡ None)
+not_paused f n o a e = paused_by_need f n o a None tt e
 
 held_there : (f : Footprint) (c : Cell) → need f (Loads c) ≡ None → (y : ℤ) × (held f c ≡ Some y)
 held_there f c e = from (held f c) refl e
@@ -46,6 +55,17 @@ held_there f c e = from (held f c) refl e
     from : (o : Option ℤ) → held f c ≡ o → cond (is_some o) None (Some (Need c)) ≡ None → (y : ℤ) × (held f c ≡ Some y)
     from None is h = absurd (cc)
     from (Some y) is h = (y, is)
+
+-- a strand that needs a cell is before a load of it
+loads_needed : (f : Footprint) (a : Access) (c : Cell) → need f a ≡ Some (Need c) → Wants a c × (held f c ≡ None)
+loads_needed f Nowhere c e = absurd (cc)
+loads_needed f (Stores d) c e = absurd (cc)
+loads_needed f (Adds d) c e = absurd (cc)
+loads_needed f (Loads d) c e = from (held f d) refl e
+  where
+    from : (o : Option ℤ) → held f d ≡ o → cond (is_some o) None (Some (Need d)) ≡ Some (Need c) → Wants (Loads d) c × (held f c ≡ None)
+    from None is h = let same : d ≡ c = cc in (same, ap (λ x. held f x) (sym same) ∙ is)
+    from (Some y) is h = absurd (cc)
 
 -- ---- one instruction more
 
@@ -168,16 +188,19 @@ module _ (prog : Program) (workers : ℕ) (m : Machine) (w : ℕ) (s : Strand) (
         from true is = is
         from false is = absurd (let t : Some Unmatched ≡ None = sound_next prog workers (Step w) now _ (step_is None (stuck is)) never in cc)
 
-    pub added_now : (c : Cell) → access_of prog s.present ≡ Adds c → is_some (now.core.memory c) ≡ true
-    added_now c is = from (now.core.memory c) refl
+    pub value_now : (c : Cell) → Wants (access_of prog s.present) c → is_some (now.core.memory c) ≡ true
+    value_now c wants = from (now.core.memory c) refl
       where
         from : (o : Option ℤ) → now.core.memory c ≡ o → is_some o ≡ true
         from (Some y) has = refl
         from None has =
-            let (e, at, trap) = add_traps_at prog s.path s.present now.core.memory (next_of prog s.present) c is has in
+            let (e, at, trap) = undefined_traps prog s.path s.present now.core.memory (next_of prog s.present) c wants has in
             let change : change_of prog now.core s.path ≡ Some (plain_change s.path s.present e) = change_is prog now.core s.path _ (plain s.present e frame_now goes_now at) in
             let quiet : e.trap ≡ None = sound_next prog workers (Step w) now _ (step_is _ change) never in
             absurd (cc)
+
+    pub added_now : (c : Cell) → access_of prog s.present ≡ Adds c → is_some (now.core.memory c) ≡ true
+    added_now c is = value_now c (subst (λ a. Wants a c) (sym is) refl)
 
 -- ---- the law
 
@@ -270,6 +293,38 @@ module _ (prog : Program) (workers : ℕ) (m : Machine) (w : ℕ) where
 
 pub strands_are_steps : StrandsAreSteps
 strands_are_steps prog workers m w s is fits never = never_law prog workers m w s is fits never
+
+-- ---- reads that the machine need not hold yet
+
+number_in : (o : Option ℤ) → is_some o ≡ true → (z : ℤ) × (o ≡ Some z)
+number_in None h = absurd (cc)
+number_in (Some z) h = (z, refl)
+
+module _ (prog : Program) (workers : ℕ) (m : Machine) (w : ℕ) (never : NeverTraps prog workers m) where
+  abbrev Agrees : Cell × ℤ → Type 0
+  Agrees r = (z : ℤ) → m.core.memory r.0 ≡ Some z → z ≡ r.1
+
+  -- the load that asked for the cell does not trap
+  filled_there : (s : Strand) (c : Cell) → IsStrand prog s → pause_of prog s ≡ Some (Need c) → Fits m w s → is_some (m.core.memory c) ≡ true
+  filled_there s c is paused fits =
+      let law = never_law prog workers m w s is fits never in
+      let later = never_later prog workers (steps_by w s.done) m (absorbed m s) law.steps never in
+      let load = loads_needed s.footprint (access_of prog s.present) c (paused_by_need s.footprint s.done (next_of prog s.present) (access_of prog s.present) (Some (Need c)) tt paused).1 in
+      value_beneath (write_at s.footprint c) (read_at s.footprint c) (m.core.memory c) load.1 (value_now prog workers m w s fits (never []) later c load.0)
+
+  reads_there : (s : Strand) → IsStrand prog s → m.hands w ≡ Some s.path → m.core.frames s.path ≡ Some s.loaded → ReadsAgree m s → Fits m w s
+  reads_there _ (is_loaded p f) hand frame agree = record { hand = hand; frame = frame; reads = All-nil (λ r. m.core.memory r.0 ≡ Some r.1) }
+  reads_there _ (is_filled s c v is paused) hand frame agree =
+      let (all, here) = All-pop Agrees (s.footprint.reads ++ (c, v) ∷ []) s.footprint.reads (Some (c, v)) refl agree in
+      let fits = reads_there s is hand frame all in
+      let (z, has) = number_in (m.core.memory c) (filled_there s c is paused fits) in
+      record { hand = hand; frame = frame; reads = All-push (λ r. m.core.memory r.0 ≡ Some r.1) s.footprint.reads (c, v) fits.reads (has ∙ ap Some (here z has)) }
+  reads_there _ (is_advanced s e is free at fine) hand frame agree =
+      let fits = reads_there s is hand frame agree in
+      record { hand = fits.hand; frame = fits.frame; reads = fits.reads }
+
+pub reads_are_there : ReadsAreThere
+reads_are_there prog workers m w s is hand frame never agree = reads_there prog workers m w never s is hand frame agree
 
 -- ---- of any machine
 

@@ -47,6 +47,18 @@ StrandsAreSteps =
     (prog : Program) (workers : ℕ) (m : Machine) (w : ℕ) (s : Strand) → IsStrand prog s → Fits m w s → NeverTraps prog workers m →
     IsSteps prog workers m w s
 
+-- ---- reads that the machine need not hold yet
+
+-- a cell that was read holds what was read, where it holds a number
+abbrev pub ReadsAgree : Machine → Strand → Type 0
+ReadsAgree m s = All (λ r. (z : ℤ) → m.core.memory r.0 ≡ Some z → z ≡ r.1) s.footprint.reads
+
+-- then it does hold a number: a machine that never traps loads it
+abbrev pub ReadsAreThere : Type 0
+ReadsAreThere =
+    (prog : Program) (workers : ℕ) (m : Machine) (w : ℕ) (s : Strand) → IsStrand prog s → m.hands w ≡ Some s.path →
+    m.core.frames s.path ≡ Some s.loaded → NeverTraps prog workers m → ReadsAgree m s → Fits m w s
+
 -- ---- of any machine
 
 -- it has not trapped, the loaded frame may go on, and each cell that was written holds a value

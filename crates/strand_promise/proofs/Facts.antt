@@ -1,0 +1,52 @@
+-- What is known of a place holds of each frame there that goes on, whatever the schedule.
+use Rattle.std.proofs.Common.{◌≡◌, ◌≢◌, ℕ, List, [], Some, true, ℤ}
+use Rattle.running.specs.Paths.{Path}
+use Rattle.running.specs.Cells.{Memory}
+use Rattle.running.specs.Frames.{Halted, Frame}
+use Rattle.running.specs.State.{root_frame}
+use Rattle.running.specs.Events.{Event, start}
+use Rattle.running.specs.Replay.{NeverTraps, replay}
+use Rattle.program.specs.declared.function.Program.{Program}
+use Rattle.verifier.specs.Accepted.{IsProgramOf}
+use Rattle.conditions.specs.theorem.Conditions.{Going}
+use Rattle.phase_laws.specs.defined.Placed.{IsPlaced}
+use Rattle.phase_laws.specs.facts.Known.{KnownHold}
+use Rattle.phase_laws.proofs.facts.Handed.{facts_at_start}
+use Rattle.schedule_theorem.specs.Promise.{AreTaken}
+use Rattle.schedule_theorem.specs.kinds.Holding.{HasKindedRegisters, is_kinded}
+use Rattle.schedule_theorem.specs.kinds.Uses.{HasKindedUses}
+use Rattle.schedule_theorem.specs.zones.ByPhases.{GivesWidths, IsJudged}
+use Rattle.schedule_theorem.specs.zones.Conditions.{MeetsZones}
+use Rattle.schedule_theorem.specs.zones.Keeping.{Keeping, OfTask, kept_cells, pending_at, Fits, Expects}
+use Rattle.schedule_theorem.proofs.Accepted.{IsTaken, regions_of, judged}
+use Rattle.schedule_theorem.proofs.Starting.{met_at_root}
+use Rattle.schedule_theorem.proofs.kinds.Given.{widths_are_given_by_tests}
+use Rattle.schedule_theorem.proofs.kinds.Tested.{kinds_are_tested}
+use Rattle.schedule_theorem.proofs.zones.Conditions.{zones_are_met}
+use Rattle.schedule_theorem.proofs.zones.Named.{accepted_zones_are_named}
+use Rattle.schedule_theorem.proofs.zones.Starting.{zones_at_start}
+use Rattle.strand_promise.proofs.Feet.{always_fit}
+
+module _ (text : List ℕ) (program : Program) (accepted : IsProgramOf text program) (t : IsTaken program) (uses : HasKindedUses program) where
+  abbrev Kinded : Path → Frame → Type 0
+  Kinded p f = is_kinded program f ≡ true
+
+  pub met : IsJudged program (regions_of program t)
+  met = judged program t (accepted_zones_are_named text program accepted)
+
+  given : GivesWidths program Kinded
+  given = widths_are_given_by_tests program t.names.typed t.names.kinds uses
+
+  zoned : MeetsZones program (regions_of program t) Kinded
+  zoned = zones_are_met program (regions_of program t) (λ p f. is_kinded program f) met given
+
+  pub always_known : (arguments : List ℤ) (memory : Memory) → AreTaken program arguments → IsPlaced program (root_frame program arguments) → HasKindedRegisters program (root_frame program arguments) →
+      (workers : ℕ) → NeverTraps program workers (start program arguments memory) → (events : List Event) →
+      (p : Path) (f : Frame) → (replay program workers events (start program arguments memory)).core.frames p ≡ Some f → f.waits ≢ Halted → Going f → KnownHold program f
+  always_known arguments memory taken placed kinds workers never events p f is on going =
+      let root : Keeping = OfTask (root_frame program arguments) placed.function.zones [] in
+      let begun : is_kinded program (root_frame program arguments) ≡ true = (kinds_are_tested program (root_frame program arguments)).complete kinds in
+      let fits : Fits program (regions_of program t) Kinded [] (root_frame program arguments) root =
+      zones_at_start program (regions_of program t) (λ q g. is_kinded program g) met arguments placed.function placed.block placed.is begun
+      (facts_at_start program met.ranges arguments (met_at_root program arguments taken)) in
+      (always_fit Keeping (kept_cells program) program (Fits program (regions_of program t) Kinded) (pending_at program) (Expects program) zoned.passes arguments memory root fits workers never events p f is on).1.knows going

@@ -1,0 +1,49 @@
+-- What a frame keeps with what its caller relies on is so of each living frame of every schedule.
+use Rattle.std.proofs.Common.{◌≡◌, ◌≢◌, ◌∙◌, ℕ, List, [], Some, None, sym, ap, subst, ℤ}
+use Rattle.running.specs.Paths.{Path}
+use Rattle.running.specs.Cells.{Memory}
+use Rattle.running.specs.Frames.{Free, OnCall, Halted, Frame}
+use Rattle.running.specs.State.{State, Change, apply, root_frame, start_state}
+use Rattle.running.specs.Tree.{Tree}
+use Rattle.running.specs.Events.{Event, start}
+use Rattle.running.specs.Replay.{NeverTraps, replay}
+use Rattle.running.proofs.Starting.{at_start, start_tree}
+use Rattle.running.proofs.Steps.{Does}
+use Rattle.running.proofs.TreeKept.{step_keeps_tree}
+use Rattle.program.specs.declared.function.Program.{Program}
+use Rattle.conditions.specs.theorem.Conditions.{Zone, PassesZonesOn}
+use Rattle.conditions.proofs.theorem.Feet.{Footed}
+use Rattle.conditions.proofs.theorem.FeetKept.{step_footed}
+use Rattle.schedule_theorem.proofs.safe.Replayed.{replay_good}
+
+module _ (Z : Type 0) (zone : Z → Zone) (prog : Program) (fits : Path → Frame → Z → Type 0) (pending : Path → Frame → ℕ → Z) (expects : Frame → Z → Type 0)
+    (passes : PassesZonesOn Z zone prog fits pending expects)
+  where
+    record Standing (s : State) : Type 0 where
+      tree : Tree s
+      feet : Path → Z
+      footed : Footed Z zone fits pending expects s feet
+
+    standing_kept : (s : State) (p : Path) (c : Change) → Does prog s p c → c.trap ≡ None → Standing s → Standing (apply c s)
+    standing_kept s p c does fine h =
+        let (next, footed) = step_footed Z zone prog fits pending expects passes s h.tree h.feet h.footed p c does in
+        record { tree = step_keeps_tree h.tree does; feet = next; footed = footed }
+
+    module _ (arguments : List ℤ) (memory : Memory) (z : Z) (root : fits [] (root_frame prog arguments) z) where
+      first_footed : Footed Z zone fits pending expects (start_state prog arguments memory) (λ x. z)
+      first_footed = record {
+        own = λ p f is on.
+            let (a, b) = at_start prog arguments memory p f is in
+            subst (λ (x : Path). fits x f z) (sym a) (subst (λ (y : Frame). fits [] y z) (sym b) root);
+        nested = λ k p c e. absurd (cc);
+        waited = λ k r n p f c e e2. absurd (cc);
+        siblings = λ k j p c d differ e. absurd (cc);
+        expected = λ k d p f is wait. absurd (let (a, b) = at_start prog arguments memory p f is in let w : Free ≡ OnCall k d = sym (ap (λ (y : Frame). y.waits) b) ∙ wait in cc);
+      }
+
+      pub always_fit : (workers : ℕ) → NeverTraps prog workers (start prog arguments memory) → (events : List Event) →
+          (p : Path) (f : Frame) → (replay prog workers events (start prog arguments memory)).core.frames p ≡ Some f → f.waits ≢ Halted → (foot : Z) × fits p f foot
+      always_fit workers never events p f is on =
+          let there = replay_good prog workers Standing standing_kept events (start prog arguments memory) never
+          (record { tree = start_tree prog arguments memory; feet = λ x. z; footed = first_footed }) in
+          (there.feet p, there.footed.own p f is on)

@@ -1,0 +1,5 @@
+pub mod Feet
+pub mod Numbers
+pub mod Facts
+pub mod Alone
+pub mod Law
