@@ -17,6 +17,14 @@ pub(crate) fn cell(row: &[i64], at: i64) -> Option<i64>
     row.get(at as usize).copied()
 }
 
+/// What the row's cell at an address holds.
+fn number_in(row: &[i64], at: i64) -> i64
+    requires { IsTrue (is_cell row.now at) }
+    ensures { cell_in row.now at ≡ Some result }
+{
+    row[at as usize]
+}
+
 /// Writes the cell at an address of the row.
 fn set(row: &mut [i64], at: i64, number: i64)
     requires { IsTrue (is_cell row.old at) }
@@ -34,11 +42,13 @@ fn put(row: &mut [i64], written: &Written)
     ensures here { cell_in row.new written.now.at ≡ put_change (Some written.now.change) (cell_in row.old written.now.at) }
     ensures others { (a : ℤ) → a ≢ written.now.at → cell_in row.new a ≡ cell_in row.old a }
 {
-    let number = match written.change {
-        Change::Stored(number) => number,
-        Change::Delta(number) => sum(row[written.at as usize], number),
-    };
-    set(row, written.at, number);
+    match written.change {
+        Change::Stored(number) => set(row, written.at, number),
+        Change::Delta(number) => {
+            let held = number_in(row, written.at);
+            set(row, written.at, sum(held, number));
+        }
+    }
 }
 
 /// Puts what a strand wrote into a row of cells.

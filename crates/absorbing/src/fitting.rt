@@ -11,14 +11,16 @@ use strand::{Read, Strand};
 fn is_same(one: &Frame, other: &Frame) -> bool
     ensures { IsTrue result ↔ IsCopy one.now other.now }
 {
-    one.function == other.function
-        && one.place == other.place
-        && one.home == other.home
-        && one.made == other.made
-        && one.waits == other.waits
-        && one.role == other.role
-        && one.depth == other.depth
-        && one.registers.as_slice() == other.registers.as_slice()
+    if one.function != other.function || one.place != other.place {
+        return false;
+    }
+    if one.waits != other.waits || one.role != other.role {
+        return false;
+    }
+    if one.home != other.home || one.made != other.made || one.depth != other.depth {
+        return false;
+    }
+    one.registers.as_slice() == other.registers.as_slice()
 }
 
 /// Whether each cell that was read holds what was read.
