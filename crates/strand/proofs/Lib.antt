@@ -6,3 +6,11 @@ pub mod Showing
 pub mod Walking
 pub mod Advancing
 pub mod Borders
+pub mod Fitting
+pub mod Alone
+pub mod Seen
+pub mod Pausing
+pub mod Going
+pub mod Beginning
+pub mod Filling
+pub mod Keeping

@@ -1,5 +1,7 @@
 pub mod Alone
+pub mod Along
 pub mod Chains
+pub mod Gone
 pub mod Indexing
 pub mod Buffers
 pub mod Keeping

@@ -1,14 +1,12 @@
 -- A strand of the machine, as one of the definitions.
-use Rattle.std.specs.Prelude.{◌≡◌, ◌≤◌, reverse}
-use Rattle.program.specs.declared.function.Program.{Program}
+use Rattle.std.specs.Prelude.{◌≡◌, reverse}
 use Rattle.strands.specs.Strands as strands
-use Rattle.strands.specs.Strands.{IsStrand}
 use Rattle.engine.specs.Activation.{ShowsFrame}
 use Rattle.engine.specs.Shows.{Layout}
 use Rattle.engine.specs.declared.activation.Frame.{Frame}
 use Rattle.engine.specs.declared.activation.Places.{Places}
 use Rattle.strand.specs.Showing.{ShowsFootprint}
-use Rattle.strand.specs.declared.standing.Strand.{Strand}
+use Rattle.strand.specs.declared.standing.Course.{Course}
 
 -- the same frame, whatever room its registers have
 pub record IsCopy (f g : Frame) : Type 0 where
@@ -22,19 +20,9 @@ pub record IsCopy (f g : Frame) : Type 0 where
   pub depth : g.depth ≡ f.depth
 
 -- the path with the root's number first, both frames in words, and the cells by address
-pub record ShowsStrand (l : Layout) (places : Places) (s : strands.Strand) (x : Strand) : Type 0 where
+pub record ShowsStrand (l : Layout) (places : Places) (s : strands.Strand) (x : Course) : Type 0 where
   pub path : s.path ≡ reverse x.path.items
   pub loaded : ShowsFrame l places s.path s.loaded x.loaded
   pub present : ShowsFrame l places s.path s.present x.present
   pub done : s.done ≡ x.done
   pub footprint : ShowsFootprint l s.footprint x.cells
-
--- a strand of the same frame at the same path, with the same reads, is shown
-pub record StrandWentOn (prog : Program) (l : Layout) (places : Places) (s : strands.Strand) (x : Strand) : Type 0 where
-  pub strand : strands.Strand
-  pub is : IsStrand prog strand
-  pub path : strand.path ≡ s.path
-  pub loaded : strand.loaded ≡ s.loaded
-  pub reads : strand.footprint.reads ≡ s.footprint.reads
-  pub more : s.done ≤ strand.done
-  pub shown : ShowsStrand l places strand x

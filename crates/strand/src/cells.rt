@@ -1,5 +1,6 @@
-ghost use Rattle.std.specs.Prelude.{◌≡◌, ◌<◌, ◌++◌, ◌∷◌, ℤ, [], IfErr, IfNone, IfOk, IfSome, OnErr, OnOk, None, Some, if◌then◌else◌, length, nat_le, slice_get};
+ghost use Rattle.std.specs.Prelude.{◌≡◌, ◌<◌, ◌++◌, ◌∷◌, ℤ, [], map, IfErr, IfNone, IfOk, IfSome, OnErr, OnOk, None, Some, if◌then◌else◌, length, nat_le, slice_get};
 ghost use Rattle.strand.specs.Buffers.{IsPut, LacksPlace, change_in, held_in, raised_change, settled_changes, value_in};
+ghost use Rattle.strand.specs.Keeping.{AreDifferent};
 ghost use Rattle.strand.specs.Showing.{Becomes, with_add, with_store};
 ghost use Rattle.strands.specs.Footprint.{with_read};
 
@@ -105,14 +106,16 @@ impl StrandCells {
 
     /// The cells that were read, in their order.
     pub fn reads(&self) -> &[Read]
-        ensures { result.now ≡ self.now.reads }
+        ensures is { result.now ≡ self.now.reads }
+        ensures differ { AreDifferent (map (λ (r : Read). r.at) self.now.reads) }
     {
         self.reads.as_slice()
     }
 
     /// The cells that were written, in the order of their first writes.
     pub fn writes(&self) -> &[Written]
-        ensures { result.now ≡ self.now.writes }
+        ensures is { result.now ≡ self.now.writes }
+        ensures differ { AreDifferent (map (λ (w : Written). w.at) self.now.writes) }
     {
         self.writes.as_slice()
     }

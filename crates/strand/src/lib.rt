@@ -8,8 +8,10 @@ mod access;
 mod cells;
 mod finding;
 mod law;
+mod outside;
 mod standing;
 
 pub use cells::{Change, Read, Stop, StrandCells, Written};
 pub use law::accesses_are_strands;
-pub use standing::{MOST, Strand};
+pub use outside::Strand;
+pub use standing::{Course, MOST, Pause};

@@ -1,4 +1,4 @@
-use Rattle.strand.proofs.standing.Strand.fill.Goals as goal
+use Rattle.strand.proofs.standing.Course.fill.Goals as goal
 
 pub returns-clause-filled : goal.returns-clause-filled
 returns-clause-filled c = λ l places s x shown apart here is.
