@@ -18,8 +18,8 @@ use Rattle.program.specs.declared.instruction.Argument.TheVariants as argument
 use Rattle.program.specs.declared.instruction.Instruction.{Instruction}
 use Rattle.program.specs.declared.instruction.Instruction.TheVariants as instruction
 use Rattle.program.specs.declared.instruction.Phi.{Phi}
-use Rattle.conditions.specs.rules.InProofs.{Moves, is_next, is_along}
-use Rattle.conditions.proofs.rules.Moves.{moves, syncs_along, calls_here}
+use Rattle.serial_machine.specs.conditions.rules.InProofs.{Moves, is_next, is_along}
+use Rattle.serial_machine.proofs.conditions.rules.Moves.{moves, syncs_along, calls_here}
 use Rattle.serial_machine.specs.schedule_theorem.safe.Kept.{OfAll}
 use Rattle.serial_machine.specs.schedule_theorem.zones.ByPhases.{IsKeptBySteps}
 use Rattle.serial_machine.proofs.schedule_theorem.kinds.Registers.{argument_at}

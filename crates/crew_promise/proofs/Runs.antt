@@ -17,7 +17,7 @@ use Rattle.serial_machine.specs.verifier.Accepted.{IsAccepted}
 use Rattle.serial_machine.proofs.schedule_theorem.Promise.{accepted_programs_keep_their_promise}
 use Rattle.serial_machine.proofs.schedule_theorem.safe.Replayed.{from_later}
 use Rattle.serial_machine.proofs.schedule_theorem.safe.Safe.{schedules_are_safe}
-use Rattle.conditions.specs.theorem.Schedules.{KeepsSchedule}
+use Rattle.serial_machine.specs.conditions.theorem.Schedules.{KeepsSchedule}
 use Rattle.crew.specs.declared.activation.Activation.{Activation}
 use Rattle.crew.specs.declared.run.Run.{Run}
 use Rattle.crew.specs.Going.{Becomes, CanGo, RunsSafely}

@@ -8,7 +8,7 @@ use Rattle.running.specs.SerialMeaning.{Gave, Outcome, IsSerialMeaning}
 use Rattle.running.specs.Events.{Machine, Event, start}
 use Rattle.running.specs.Replay.{replay}
 use Rattle.program.specs.declared.function.Program.{Program}
-use Rattle.conditions.specs.theorem.Schedules.{KeepsSchedule}
+use Rattle.serial_machine.specs.conditions.theorem.Schedules.{KeepsSchedule}
 use Rattle.cactus.specs.ByPath.{named}
 use Rattle.engine.specs.Flat.{cell_in}
 use Rattle.engine.specs.declared.activation.Places.{Places}

@@ -6,3 +6,4 @@ mod outcome;
 
 pub use arguments::unmet_requirement;
 pub use outcome::{Finished, RunFault};
+pub use store::{Memory, Verified};

@@ -5,17 +5,17 @@ use Rattle.std.specs.List.{fold}
 use Rattle.std.proofs.lemmas.List.{length-append}
 use Rattle.program.specs.declared.function.Global.{Global}
 use Rattle.program.specs.declared.function.Program.{Program}
-use Rattle.verifier.specs.Accepted.{IsAccepted}
-use Rattle.outcome.specs.Requirements.{unmet_in}
-use Rattle.store.specs.Cells.{NamedCells, cell_at}
-use Rattle.store.specs.Rows.{row_of, sizes_of}
+use Rattle.crew_promise.specs.verifier.Accepted.{IsAccepted}
+use Rattle.crew_promise.specs.outcome.Requirements.{unmet_in}
+use Rattle.crew_promise.specs.store.Cells.{NamedCells, cell_at}
+use Rattle.crew_promise.specs.store.Rows.{row_of, sizes_of}
 use Rattle.crew.specs.Follows.{AreGiven}
 use Rattle.crew.specs.Stalls.{StallsAgree, no_blocks}
 use Rattle.crew.specs.Starts.{ArePlaces, Begins, HasMoves, IsRowOf}
 use Rattle.schedule_core.specs.declared.event.Event.{Event}
 use Rattle.schedule_core.specs.declared.stage.Stage.{Stage}
 use Rattle.schedule_core.specs.Replaying.{IsMachine, KeepsItsSchedule, Replays, first_state}
-use Rattle.store.specs.Made.{IsMadeFor}
+use Rattle.crew_promise.specs.store.Made.{IsMadeFor}
 use Rattle.schedule_core.specs.Stages.{IsState, given, program_of, workers_of}
 use Rattle.schedule_core.proofs.Grounds.{FromStart, laws}
 

@@ -6,7 +6,7 @@ use Rattle.std.proofs.Math.Nat.{ℕ_set}
 use Rattle.std.proofs.Math.IntN.{ℤ_set}
 use mathlib.Core.Sum.{⊎_set}
 use Rattle.running.specs.Events.{Machine}
-use Rattle.store.specs.Cells.{NamedCells}
+use Rattle.crew_promise.specs.store.Cells.{NamedCells}
 use Rattle.engine.specs.declared.activation.Places.{Places}
 use Rattle.crew.specs.Copying.{IsCopy}
 use Rattle.crew.specs.Starts.{ArePlaces, HasMoves}

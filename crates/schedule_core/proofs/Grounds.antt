@@ -6,16 +6,16 @@ use Rattle.running.specs.Frames.{global_cells}
 use Rattle.running.specs.Replay.{replay}
 use Rattle.program.specs.declared.function.Global.{Global}
 use Rattle.program.specs.declared.function.Program.{Program}
-use Rattle.verifier.specs.Accepted.{IsAccepted}
-use Rattle.outcome.specs.Requirements.{unmet_in}
-use Rattle.store.specs.Cells.{NamedCells, cell_at}
-use Rattle.store.specs.Made.{HasGlobalCells, IsMadeFor}
-use Rattle.store.specs.Rows.{sizes_of}
-use Rattle.serial_machine.specs.schedule_theorem.Promise.{AreTaken, HasGlobals}
-use Rattle.serial_machine.proofs.Arguments.{are_taken}
-use Rattle.serial_machine.proofs.Globals.{globals_given}
-use Rattle.serial_machine.proofs.schedule_theorem.Promise.{accepted_programs_keep_their_promise}
-use Rattle.serial_machine.proofs.schedule_theorem.safe.Safe.{schedules_are_safe}
+use Rattle.crew_promise.specs.verifier.Accepted.{IsAccepted}
+use Rattle.crew_promise.specs.outcome.Requirements.{unmet_in}
+use Rattle.crew_promise.specs.store.Cells.{NamedCells, cell_at}
+use Rattle.crew_promise.specs.store.Made.{HasGlobalCells, IsMadeFor}
+use Rattle.crew_promise.specs.store.Rows.{sizes_of}
+use Rattle.crew_promise.specs.schedule_theorem.Promise.{AreTaken, HasGlobals}
+use Rattle.crew_promise.proofs.serial_machine.Arguments.{are_taken}
+use Rattle.crew_promise.proofs.serial_machine.Globals.{globals_given}
+use Rattle.crew_promise.proofs.serial_machine.schedule_theorem.Promise.{accepted_programs_keep_their_promise}
+use Rattle.crew_promise.proofs.serial_machine.schedule_theorem.safe.Safe.{schedules_are_safe}
 use Rattle.crew_promise.specs.Safe.{StartFits}
 use Rattle.crew_promise.proofs.Going.{runs_are_safe}
 use Rattle.crew_promise.proofs.Texts.{texts_fit, starts_fit}

@@ -16,9 +16,9 @@ use Rattle.running.specs.Events.{Machine}
 use Rattle.syntax.specs.declared.operator.Width.TheVariants.{Bits64}
 use Rattle.program.specs.Cells.{global_cells}
 use Rattle.program.specs.declared.function.Global.{Global}
-use Rattle.store.specs.Cells.{NamedCells, cell_at, cell_named, cell_of, number_of, size_of}
-use Rattle.store.specs.Made.{IsMadeFor}
-use Rattle.store.specs.Rows.{refilled, sizes_of}
+use Rattle.crew_promise.specs.store.Cells.{NamedCells, cell_at, cell_named, cell_of, number_of, size_of}
+use Rattle.crew_promise.specs.store.Made.{IsMadeFor}
+use Rattle.crew_promise.specs.store.Rows.{refilled, sizes_of}
 use Rattle.engine.specs.Flat.{cell_in}
 use Rattle.engine.specs.Starts.{global_starts, starts_from}
 use Rattle.crew.specs.Layouts.{number_in}

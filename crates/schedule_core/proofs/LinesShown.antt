@@ -13,7 +13,7 @@ use Rattle.program.specs.declared.identifier.BlockId.{BlockId}
 use Rattle.frame.specs.declared.frame.Wait.{Wait}
 use Rattle.frame.specs.declared.frame.Wait.TheVariants as wait
 use Rattle.frame.specs.declared.path.Path.{Path}
-use Rattle.store.specs.Cells.{NamedCells}
+use Rattle.crew_promise.specs.store.Cells.{NamedCells}
 use Rattle.engine.specs.declared.activation.Frame.{Frame}
 use Rattle.crew.specs.Shown.{place_of}
 use Rattle.crew.specs.Stalls.{Blocks, StallsAgree, last_blocks, no_blocks}

@@ -13,7 +13,7 @@ use Rattle.running.specs.Events as running
 use Rattle.running.specs.Events.{Machine}
 use Rattle.running.specs.Replay.{has_ended}
 use Rattle.program.specs.declared.function.Program.{Program}
-use Rattle.verifier.specs.Accepted.{IsAccepted}
+use Rattle.crew_promise.specs.verifier.Accepted.{IsAccepted}
 use Rattle.cactus.specs.Frames.{Frames}
 use Rattle.crew.specs.declared.activation.Activation.{Activation}
 use Rattle.crew.specs.declared.run.Run.{Run}

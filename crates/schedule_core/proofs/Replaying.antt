@@ -4,7 +4,7 @@ use Rattle.running.specs.Events as running
 use Rattle.running.specs.Events.{Machine}
 use Rattle.running.specs.Replay.{or_unchanged, replay}
 use Rattle.program.specs.declared.function.Program.{Program}
-use Rattle.store.specs.Cells.{NamedCells}
+use Rattle.crew_promise.specs.store.Cells.{NamedCells}
 use Rattle.crew.specs.declared.run.Run.{Run}
 use Rattle.crew.specs.Events.{DoesEvent, LeavesStalls}
 use Rattle.crew.specs.Going as crew

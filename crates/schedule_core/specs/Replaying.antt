@@ -4,20 +4,20 @@ use Rattle.running.specs.Paths.{Path as RunningPath}
 use Rattle.running.specs.Events as running
 use Rattle.running.specs.Replay.{replay}
 use Rattle.running.specs.SerialMeaning.{Outcome, IsSerialMeaning}
-use Rattle.conditions.specs.theorem.Schedules.{KeepsSchedule}
-use Rattle.verifier.specs.Accepted.{IsAccepted}
-use Rattle.verifier.specs.Budgets.{budget_of}
+use Rattle.crew_promise.specs.conditions.theorem.Schedules.{KeepsSchedule}
+use Rattle.crew_promise.specs.verifier.Accepted.{IsAccepted}
+use Rattle.crew_promise.specs.verifier.Budgets.{budget_of}
 use Rattle.program.specs.declared.function.Program.{Program}
-use Rattle.outcome.specs.Requirements.{unmet_in}
-use Rattle.store.specs.Cells.{NamedCells}
-use Rattle.store.specs.Rows.{sizes_of}
+use Rattle.crew_promise.specs.outcome.Requirements.{unmet_in}
+use Rattle.crew_promise.specs.store.Cells.{NamedCells}
+use Rattle.crew_promise.specs.store.Rows.{sizes_of}
 use Rattle.crew.specs.Events.{GrowsAtStep}
 use Rattle.crew.specs.Follows.{AreGiven, KeepsUses}
 use Rattle.crew.specs.Stalls.{StallsAgree, last_blocks, no_blocks}
 use Rattle.crew.specs.Starts.{ArePlaces, HasMoves}
 use Rattle.schedule_core.specs.Spots.{KeepsSpots}
 use Rattle.schedule_core.specs.Lines.{line_after, line_or_zero}
-use Rattle.store.specs.Made.{IsMadeFor}
+use Rattle.crew_promise.specs.store.Made.{IsMadeFor}
 use Rattle.schedule_core.specs.Stages.{given, program_of, workers_of, IsState}
 use Rattle.schedule_core.specs.declared.event.Event.{Event}
 use Rattle.schedule_core.specs.declared.event.Event.TheVariants.{Step, Steal}

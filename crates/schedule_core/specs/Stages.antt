@@ -5,7 +5,7 @@ use Rattle.running.specs.Events.{Machine, Event, start}
 use Rattle.running.specs.Replay.{replay}
 use Rattle.program.specs.declared.function.Global.{Global}
 use Rattle.program.specs.declared.function.Program.{Program}
-use Rattle.store.specs.Cells.{NamedCells, cell_at, number_of}
+use Rattle.crew_promise.specs.store.Cells.{NamedCells, cell_at, number_of}
 use Rattle.crew.specs.Going.{RunsSafely}
 use Rattle.crew.specs.Shown.{IsShown}
 use Rattle.schedule_core.specs.declared.stage.Stage.{Stage}

@@ -1,10 +1,10 @@
 ghost use Rattle.std.specs.Prelude.{◌≡◌, ◌≢◌, ◌<◌, ℕ, [], Some, None, Err, Ok, true, false, IfOk, OnOk, OnErr, length, sum};
 ghost use Rattle.running.specs.Events.{Machine};
-ghost use Rattle.outcome.specs.Requirements.{unmet_in};
-ghost use Rattle.store.specs.declared.memory.Memory.{Memory};
+ghost use Rattle.crew_promise.specs.outcome.Requirements.{unmet_in};
+ghost use Rattle.crew_promise.specs.store.declared.memory.Memory.{Memory};
 ghost use Rattle.crew.specs.Follows.{Follows};
 ghost use Rattle.schedule_core.specs.Replaying.{GrowsOnly, Happens, IsMachine, IsNumberOfWorkers, LeavesAsBefore, Replays, ReplaysMore, ReplaysOneMore, StandsAsWell, event_of};
-ghost use Rattle.store.specs.Made.{IsMadeFor};
+ghost use Rattle.crew_promise.specs.store.Made.{IsMadeFor};
 ghost use Rattle.schedule_core.specs.Stages.{IsState, program_of};
 
 use crate::event::Event;
@@ -12,10 +12,8 @@ use crate::stage::Stage;
 use crew::{Run, most_moves};
 use engine::Places;
 use lists::OutOfMemory;
-use outcome::{RunFault, unmet_requirement};
+use outcome::{Memory, RunFault, Verified, unmet_requirement};
 use std::alloc::Global;
-use store::Memory;
-use verifier::Verified;
 
 /// The stage before the first event, of arguments that `main` takes.
 fn staged<'v>(

@@ -1,21 +1,19 @@
 ghost use Rattle.std.specs.Prelude.{◌↔◌, ◌≡◌, [], None, Some, Err, Ok, IsSome, ℕ, IsTrue, IfOk, true, false, OnErr, OnOk};
 ghost use Rattle.running.specs.Events as running;
 ghost use Rattle.running.specs.Replay.{CountsFrames, has_ended};
-ghost use Rattle.outcome.specs.Requirements.{unmet_in};
-ghost use Rattle.store.specs.declared.memory.Memory.{Memory};
+ghost use Rattle.crew_promise.specs.outcome.Requirements.{unmet_in};
+ghost use Rattle.crew_promise.specs.store.declared.memory.Memory.{Memory};
 ghost use Rattle.schedule_core.specs.Spots.{KeepsSpots};
 ghost use Rattle.schedule_core.specs.Replaying.{GrowsOnly, Happens, IsMachine, IsNumberOfWorkers, LeavesAsBefore, Replays, ReplaysOneMore, StandsAsWell, event_of};
-ghost use Rattle.store.specs.Made.{IsMadeFor};
+ghost use Rattle.crew_promise.specs.store.Made.{IsMadeFor};
 ghost use Rattle.schedule_core.specs.Stages.{IsState, program_of};
 
 use crate::event::Event;
 use crate::events::{apply_to, begin, copied};
 use crate::stage::Stage;
 use lists::OutOfMemory;
-use outcome::RunFault;
+use outcome::{Memory, RunFault, Verified};
 use std::alloc::Global;
-use store::Memory;
-use verifier::Verified;
 
 /// A run of a verified module by workers, between two events.
 #[derive(Drop)]

@@ -1,17 +1,15 @@
 ghost use Rattle.std.specs.Prelude.{◌≡◌, ◌≢◌, ℕ, Some, None, Err, IfOk, OnOk};
-ghost use Rattle.outcome.specs.Requirements.{unmet_in};
-ghost use Rattle.store.specs.declared.memory.Memory.{Memory};
+ghost use Rattle.crew_promise.specs.outcome.Requirements.{unmet_in};
+ghost use Rattle.crew_promise.specs.store.declared.memory.Memory.{Memory};
 ghost use Rattle.schedule_core.specs.Replaying.{IsNumberOfWorkers, KeepsItsSchedule, Replays};
-ghost use Rattle.store.specs.Made.{IsMadeFor};
+ghost use Rattle.crew_promise.specs.store.Made.{IsMadeFor};
 
 use crate::event::Event;
 use crate::events::{apply_all, begin};
 use crate::machine::Machine;
 use lists::OutOfMemory;
-use outcome::RunFault;
+use outcome::{Memory, RunFault, Verified};
 use std::alloc::Global;
-use store::Memory;
-use verifier::Verified;
 
 /// The machine after a schedule, from memory that was made for this module; an event that is not enabled changes nothing.
 ///

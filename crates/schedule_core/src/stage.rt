@@ -1,7 +1,6 @@
 use crew::Run;
 use engine::Places;
-use store::Memory;
-use verifier::Verified;
+use outcome::{Memory, Verified};
 
 /// A run of a verified module, with what its steps read.
 #[derive(Drop)]

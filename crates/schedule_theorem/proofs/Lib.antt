@@ -13,3 +13,9 @@ pub mod pointers
 pub mod typing
 pub mod zones
 pub mod safe
+-- for the crates above
+pub use Rattle.conditions.proofs as conditions
+pub use Rattle.ir_reader.proofs as ir_reader
+pub use Rattle.phase_laws.proofs as phase_laws
+pub use Rattle.scopes.proofs as scopes
+pub use Rattle.types.proofs as types

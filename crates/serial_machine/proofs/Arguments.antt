@@ -17,7 +17,7 @@ use Rattle.program.specs.declared.function.Function.{Function}
 use Rattle.program.specs.declared.function.Program.{Program}
 use Rattle.outcome.specs.Requirements.{size, wide, with_term, with_terms, value_at, at_most, is_met, unmet_of, unmet_in}
 use Rattle.running.specs.Cells.{or_zero}
-use Rattle.phase_laws.specs.facts.Known.{IsMet}
+use Rattle.schedule_theorem.specs.phase_laws.facts.Known.{IsMet}
 use Rattle.schedule_theorem.specs.Promise.{argument_at, AreTaken}
 
 -- ---- forms

@@ -2,10 +2,10 @@
 use Rattle.std.proofs.Common.{◌≡◌, ℕ, ◌≤◌, List, Some, None, ℤ, sym, subst}
 use Rattle.running.specs.SerialMeaning.{Gave, Outcome}
 use Rattle.program.specs.declared.function.Program.{Program}
-use Rattle.verifier.specs.Accepted.{IsProgramOf}
-use Rattle.verifier.specs.Budgets.{budget_of}
-use Rattle.store.specs.Cells.{NamedCells}
-use Rattle.store.specs.Made.{HasGlobalCells}
+use Rattle.outcome.specs.verifier.Accepted.{IsProgramOf}
+use Rattle.outcome.specs.verifier.Budgets.{budget_of}
+use Rattle.outcome.specs.store.Cells.{NamedCells}
+use Rattle.outcome.specs.store.Made.{HasGlobalCells}
 use Rattle.schedule_theorem.specs.Promise.{KeepsItsPromise}
 use Rattle.schedule_theorem.proofs.Promise.{accepted_programs_keep_their_promise}
 use Rattle.outcome.specs.Requirements.{unmet_in}

@@ -4,8 +4,8 @@ use Rattle.std.specs.Prelude.{IsSome}
 use Rattle.running.specs.Frames.{global_cells}
 use Rattle.program.specs.declared.function.Global.{Global}
 use Rattle.program.specs.declared.function.Program.{Program}
-use Rattle.store.specs.Cells.{NamedCells, cell_at}
-use Rattle.store.specs.Made.{HasGlobalCells}
+use Rattle.outcome.specs.store.Cells.{NamedCells, cell_at}
+use Rattle.outcome.specs.store.Made.{HasGlobalCells}
 use Rattle.schedule_theorem.specs.Promise.{HasGlobals}
 use Rattle.outcome.specs.Serially.{memory_of_globals}
 

@@ -7,11 +7,11 @@ use Rattle.running.specs.Cells.{Object, Shared, Local}
 use Rattle.running.specs.Frames.{global_cells}
 use Rattle.program.specs.declared.function.Global.{Global}
 use Rattle.program.specs.declared.function.Program.{Program}
-use Rattle.verifier.specs.Accepted.{IsProgramOf}
+use Rattle.outcome.specs.verifier.Accepted.{IsProgramOf}
 use Rattle.engine.specs.Starts.{starts_from}
-use Rattle.store.specs.Cells.{NamedCells, cell_at}
-use Rattle.store.specs.Made.{HasGlobalCells}
-use Rattle.store.specs.Rows.{refilled, row_of, sizes_of}
+use Rattle.outcome.specs.store.Cells.{NamedCells, cell_at}
+use Rattle.outcome.specs.store.Made.{HasGlobalCells}
+use Rattle.outcome.specs.store.Rows.{refilled, row_of, sizes_of}
 use Rattle.outcome.specs.Serially.{global_cell, memory_of_globals, names_of}
 use Rattle.serial_steps.specs.Layouts.{size_in, start_in}
 use Rattle.serial_steps.specs.Starts.{StandsInRow}

@@ -15,7 +15,7 @@ use Rattle.engine.specs.declared.activation.Places.{Places}
 use Rattle.engine.specs.Flat.{cell_in}
 use Rattle.engine.specs.declared.flat.Flat.{Flat}
 use Rattle.engine.specs.Shows.{IsIn, Layout, address}
-use Rattle.phase_laws.proofs.defined.Written.{plain_keeps}
+use Rattle.schedule_theorem.proofs.phase_laws.defined.Written.{plain_keeps}
 use Rattle.serial_steps.specs.Steps.{Placed, Run, Goes, plain, sync, detach, call, reattach, ret, Walk, begins, goes_on, starting}
 use Rattle.serial_steps.proofs.Walks.{steps_mean}
 use Rattle.serial_steps.specs.Layouts.{size_in, start_in, alloca_sizes, end_of, for_body, with_allocas, of_globals, layout_of, frames_of}

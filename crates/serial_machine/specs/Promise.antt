@@ -1,8 +1,8 @@
 -- What the serial run of a program that the verifier took comes to.
 use Rattle.std.specs.Prelude.{⊤, ℕ, ◌≤◌, List, ℤ, Result, Ok, Err}
 use Rattle.program.specs.declared.function.Program.{Program}
-use Rattle.verifier.specs.Budgets.{budget_of, IsDepthOf}
-use Rattle.store.specs.Cells.{NamedCells}
+use Rattle.outcome.specs.verifier.Budgets.{budget_of, IsDepthOf}
+use Rattle.outcome.specs.store.Cells.{NamedCells}
 use Rattle.outcome.specs.Serially.{IsMeant}
 use Rattle.outcome.specs.declared.outcome.Finished.{Finished}
 use Rattle.outcome.specs.declared.outcome.RunFault.{RunFault}

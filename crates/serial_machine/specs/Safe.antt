@@ -4,8 +4,8 @@ use Rattle.running.specs.Cells.{Memory}
 use Rattle.running.specs.Frames.{Frame, global_cells, item_at}
 use Rattle.program.specs.declared.function.Function.{Function}
 use Rattle.program.specs.declared.function.Program.{Program}
-use Rattle.verifier.specs.Accepted.{IsProgramOf}
-use Rattle.verifier.specs.Budgets.{budget_of}
+use Rattle.outcome.specs.verifier.Accepted.{IsProgramOf}
+use Rattle.outcome.specs.verifier.Budgets.{budget_of}
 use Rattle.engine.specs.Operands.{ItemFits}
 use Rattle.engine.specs.Starts.{alloca_starts}
 use Rattle.engine.specs.declared.activation.Places.{Places}

@@ -1,18 +1,16 @@
 ghost use Rattle.std.specs.Prelude.{◌≡◌, ℕ, Some, None, Err, IfOk};
 ghost use Rattle.outcome.specs.Requirements.{unmet_in};
-ghost use Rattle.store.specs.Made.{HasGlobalCells};
-ghost use Rattle.verifier.specs.Accepted.{IsAccepted};
-ghost use Rattle.verifier.specs.Budgets.{budget_of};
+ghost use Rattle.outcome.specs.store.Made.{HasGlobalCells};
+ghost use Rattle.outcome.specs.verifier.Accepted.{IsAccepted};
+ghost use Rattle.outcome.specs.verifier.Budgets.{budget_of};
 ghost use Rattle.serial_machine.specs.Promise.{EndsOrLacksMemory, EndsWithinBudget};
 
 use crate::places::{most_moves, places_of};
 use lists::OutOfMemory;
-use outcome::{Finished, RunFault, unmet_requirement};
+use outcome::{Finished, Memory, RunFault, Verified, unmet_requirement};
 use program::Program;
 use serial_steps::Stack;
 use std::alloc::Global;
-use store::Memory;
-use verifier::Verified;
 
 /// The run of arguments that the program takes, over a row of the globals' numbers.
 fn run_over_row(

@@ -15,39 +15,39 @@ use Rattle.program.specs.declared.function.Program.{Program}
 use Rattle.program.specs.declared.instruction.Address.{Address}
 use Rattle.program.specs.declared.instruction.Instruction.{Instruction}
 use Rattle.program.specs.declared.instruction.Instruction.TheVariants as instruction
-use Rattle.conditions.specs.theorem.Conditions.{Going, ClosesRegions}
-use Rattle.conditions.specs.theorem.SerialConditions.{Nothing, KeptSerially}
-use Rattle.conditions.specs.rules.Registers.{Registered, GivesNumber}
-use Rattle.conditions.proofs.theorem.Feet.{going_now}
-use Rattle.phase_laws.specs.region_match.declared.tables.Regions.{Regions}
-use Rattle.phase_laws.specs.defined.Defined.{IsAlways}
-use Rattle.phase_laws.specs.defined.Placed.{IsPlaced, Placed, NoFinds}
-use Rattle.phase_laws.specs.defined.Regions.{OwnsRegions, Owns}
-use Rattle.phase_laws.specs.defined.Values.{Reads as ReadsCell, ReadsValues}
-use Rattle.phase_laws.specs.facts.Kept.{Knows, Ensures}
-use Rattle.phase_laws.specs.facts.Known.{KnownHold}
-use Rattle.phase_laws.specs.facts.Traps.{FindsAll, MayDo, IsReady}
-use Rattle.phase_laws.specs.zones.Uses.{Uses}
-use Rattle.phase_laws.proofs.defined.Regions.{regions_are_kept, regions_are_own}
-use Rattle.phase_laws.proofs.defined.Registers.{defined_are_kept}
-use Rattle.phase_laws.proofs.facts.Kept.{facts_kept}
-use Rattle.phase_laws.proofs.facts.Traps.{no_traps}
-use Rattle.schedule_theorem.specs.kinds.Holding.{HasKindedRegisters}
-use Rattle.schedule_theorem.specs.kinds.Ready.{IsReadByRules}
-use Rattle.schedule_theorem.specs.kinds.Uses.{HasKindedUses}
-use Rattle.schedule_theorem.specs.safe.Kept.{OfAll}
-use Rattle.schedule_theorem.specs.safe.Objects.{KnowsObjects}
-use Rattle.schedule_theorem.specs.safe.Sizes.{HasSizedUses}
-use Rattle.schedule_theorem.specs.zones.ByPhases.{GivesWidths, IsJudged}
-use Rattle.schedule_theorem.proofs.Accepted.{IsTaken}
-use Rattle.schedule_theorem.proofs.kinds.Given.{widths_are_given}
-use Rattle.schedule_theorem.proofs.kinds.Ready.{frames_are_ready}
-use Rattle.schedule_theorem.proofs.safe.Cells.{uses_there}
-use Rattle.schedule_theorem.proofs.safe.Everywhere.{step_keeps}
-use Rattle.schedule_theorem.proofs.safe.Objects.{Known, known_kept}
-use Rattle.schedule_theorem.proofs.safe.Owners.{StaysAbove, cells_stay}
-use Rattle.serial_machine.proofs.room.Operands.{items_fit}
-use Rattle.serial_machine.proofs.safe.Going.{item_whole, some_there}
+use Rattle.crew_promise.specs.conditions.theorem.Conditions.{Going, ClosesRegions}
+use Rattle.crew_promise.specs.conditions.theorem.SerialConditions.{Nothing, KeptSerially}
+use Rattle.crew_promise.specs.conditions.rules.Registers.{Registered, GivesNumber}
+use Rattle.crew_promise.proofs.conditions.theorem.Feet.{going_now}
+use Rattle.crew_promise.specs.phase_laws.region_match.declared.tables.Regions.{Regions}
+use Rattle.crew_promise.specs.phase_laws.defined.Defined.{IsAlways}
+use Rattle.crew_promise.specs.phase_laws.defined.Placed.{IsPlaced, Placed, NoFinds}
+use Rattle.crew_promise.specs.phase_laws.defined.Regions.{OwnsRegions, Owns}
+use Rattle.crew_promise.specs.phase_laws.defined.Values.{Reads as ReadsCell, ReadsValues}
+use Rattle.crew_promise.specs.phase_laws.facts.Kept.{Knows, Ensures}
+use Rattle.crew_promise.specs.phase_laws.facts.Known.{KnownHold}
+use Rattle.crew_promise.specs.phase_laws.facts.Traps.{FindsAll, MayDo, IsReady}
+use Rattle.crew_promise.specs.phase_laws.zones.Uses.{Uses}
+use Rattle.crew_promise.proofs.phase_laws.defined.Regions.{regions_are_kept, regions_are_own}
+use Rattle.crew_promise.proofs.phase_laws.defined.Registers.{defined_are_kept}
+use Rattle.crew_promise.proofs.phase_laws.facts.Kept.{facts_kept}
+use Rattle.crew_promise.proofs.phase_laws.facts.Traps.{no_traps}
+use Rattle.crew_promise.specs.schedule_theorem.kinds.Holding.{HasKindedRegisters}
+use Rattle.crew_promise.specs.schedule_theorem.kinds.Ready.{IsReadByRules}
+use Rattle.crew_promise.specs.schedule_theorem.kinds.Uses.{HasKindedUses}
+use Rattle.crew_promise.specs.schedule_theorem.safe.Kept.{OfAll}
+use Rattle.crew_promise.specs.schedule_theorem.safe.Objects.{KnowsObjects}
+use Rattle.crew_promise.specs.schedule_theorem.safe.Sizes.{HasSizedUses}
+use Rattle.crew_promise.specs.schedule_theorem.zones.ByPhases.{GivesWidths, IsJudged}
+use Rattle.crew_promise.proofs.schedule_theorem.Accepted.{IsTaken}
+use Rattle.crew_promise.proofs.schedule_theorem.kinds.Given.{widths_are_given}
+use Rattle.crew_promise.proofs.schedule_theorem.kinds.Ready.{frames_are_ready}
+use Rattle.crew_promise.proofs.schedule_theorem.safe.Cells.{uses_there}
+use Rattle.crew_promise.proofs.schedule_theorem.safe.Everywhere.{step_keeps}
+use Rattle.crew_promise.proofs.schedule_theorem.safe.Objects.{Known, known_kept}
+use Rattle.crew_promise.proofs.schedule_theorem.safe.Owners.{StaysAbove, cells_stay}
+use Rattle.crew_promise.proofs.serial_machine.room.Operands.{items_fit}
+use Rattle.crew_promise.proofs.serial_machine.safe.Going.{item_whole, some_there}
 use Rattle.engine.specs.Shows.{Layout, TrapFree, KeepsWithin, Safe}
 use Rattle.crew.specs.Layouts.{alloca_cells, living}
 use Rattle.crew_promise.proofs.Owners.{cell_living}

@@ -7,24 +7,24 @@ use Rattle.running.specs.State.{root_frame}
 use Rattle.running.specs.Events.{Event, start}
 use Rattle.running.specs.Replay.{NeverTraps, replay}
 use Rattle.program.specs.declared.function.Program.{Program}
-use Rattle.verifier.specs.Accepted.{IsProgramOf}
-use Rattle.conditions.specs.theorem.Conditions.{Going}
-use Rattle.phase_laws.specs.defined.Placed.{IsPlaced}
-use Rattle.phase_laws.specs.facts.Known.{KnownHold}
-use Rattle.phase_laws.proofs.facts.Handed.{facts_at_start}
-use Rattle.schedule_theorem.specs.Promise.{AreTaken}
-use Rattle.schedule_theorem.specs.kinds.Holding.{HasKindedRegisters, is_kinded}
-use Rattle.schedule_theorem.specs.kinds.Uses.{HasKindedUses}
-use Rattle.schedule_theorem.specs.zones.ByPhases.{GivesWidths, IsJudged}
-use Rattle.schedule_theorem.specs.zones.Conditions.{MeetsZones}
-use Rattle.schedule_theorem.specs.zones.Keeping.{Keeping, OfTask, kept_cells, pending_at, Fits, Expects}
-use Rattle.schedule_theorem.proofs.Accepted.{IsTaken, regions_of, judged}
-use Rattle.schedule_theorem.proofs.Starting.{met_at_root}
-use Rattle.schedule_theorem.proofs.kinds.Given.{widths_are_given_by_tests}
-use Rattle.schedule_theorem.proofs.kinds.Tested.{kinds_are_tested}
-use Rattle.schedule_theorem.proofs.zones.Conditions.{zones_are_met}
-use Rattle.schedule_theorem.proofs.zones.Named.{accepted_zones_are_named}
-use Rattle.schedule_theorem.proofs.zones.Starting.{zones_at_start}
+use Rattle.crew_promise.specs.verifier.Accepted.{IsProgramOf}
+use Rattle.crew_promise.specs.conditions.theorem.Conditions.{Going}
+use Rattle.crew_promise.specs.phase_laws.defined.Placed.{IsPlaced}
+use Rattle.crew_promise.specs.phase_laws.facts.Known.{KnownHold}
+use Rattle.crew_promise.proofs.phase_laws.facts.Handed.{facts_at_start}
+use Rattle.crew_promise.specs.schedule_theorem.Promise.{AreTaken}
+use Rattle.crew_promise.specs.schedule_theorem.kinds.Holding.{HasKindedRegisters, is_kinded}
+use Rattle.crew_promise.specs.schedule_theorem.kinds.Uses.{HasKindedUses}
+use Rattle.crew_promise.specs.schedule_theorem.zones.ByPhases.{GivesWidths, IsJudged}
+use Rattle.crew_promise.specs.schedule_theorem.zones.Conditions.{MeetsZones}
+use Rattle.crew_promise.specs.schedule_theorem.zones.Keeping.{Keeping, OfTask, kept_cells, pending_at, Fits, Expects}
+use Rattle.crew_promise.proofs.schedule_theorem.Accepted.{IsTaken, regions_of, judged}
+use Rattle.crew_promise.proofs.schedule_theorem.Starting.{met_at_root}
+use Rattle.crew_promise.proofs.schedule_theorem.kinds.Given.{widths_are_given_by_tests}
+use Rattle.crew_promise.proofs.schedule_theorem.kinds.Tested.{kinds_are_tested}
+use Rattle.crew_promise.proofs.schedule_theorem.zones.Conditions.{zones_are_met}
+use Rattle.crew_promise.proofs.schedule_theorem.zones.Named.{accepted_zones_are_named}
+use Rattle.crew_promise.proofs.schedule_theorem.zones.Starting.{zones_at_start}
 use Rattle.strand_promise.proofs.Feet.{always_fit}
 
 module _ (text : List ℕ) (program : Program) (accepted : IsProgramOf text program) (t : IsTaken program) (uses : HasKindedUses program) where

@@ -11,10 +11,10 @@ use Rattle.running.proofs.Starting.{at_start, start_tree}
 use Rattle.running.proofs.Steps.{Does}
 use Rattle.running.proofs.TreeKept.{step_keeps_tree}
 use Rattle.program.specs.declared.function.Program.{Program}
-use Rattle.conditions.specs.theorem.Conditions.{Zone, PassesZonesOn}
-use Rattle.conditions.proofs.theorem.Feet.{Footed}
-use Rattle.conditions.proofs.theorem.FeetKept.{step_footed}
-use Rattle.schedule_theorem.proofs.safe.Replayed.{replay_good}
+use Rattle.crew_promise.specs.conditions.theorem.Conditions.{Zone, PassesZonesOn}
+use Rattle.crew_promise.proofs.conditions.theorem.Feet.{Footed}
+use Rattle.crew_promise.proofs.conditions.theorem.FeetKept.{step_footed}
+use Rattle.crew_promise.proofs.schedule_theorem.safe.Replayed.{replay_good}
 
 module _ (Z : Type 0) (zone : Z → Zone) (prog : Program) (fits : Path → Frame → Z → Type 0) (pending : Path → Frame → ℕ → Z) (expects : Frame → Z → Type 0)
     (passes : PassesZonesOn Z zone prog fits pending expects)

@@ -6,26 +6,26 @@ use Rattle.running.specs.Frames.{Halted, Frame}
 use Rattle.running.specs.Events.{Machine, Event, start}
 use Rattle.running.specs.Replay.{NeverTraps, replay}
 use Rattle.program.specs.declared.function.Program.{Program}
-use Rattle.verifier.specs.Accepted.{IsProgramOf}
-use Rattle.conditions.proofs.theorem.Feet.{alive_now, going_now}
-use Rattle.phase_laws.specs.defined.Starting.{IsFirst}
-use Rattle.phase_laws.specs.regions.Closed.{ClosesByPlace}
-use Rattle.phase_laws.proofs.defined.Starting.{starts_well}
-use Rattle.phase_laws.proofs.regions.Closed.{regions_are_closed}
-use Rattle.schedule_theorem.specs.Promise.{AreTaken, HasGlobals, KeepsItsPromise}
-use Rattle.schedule_theorem.specs.kinds.Uses.{HasKindedUses}
-use Rattle.schedule_theorem.specs.safe.Promise.{IsSafeRun}
-use Rattle.schedule_theorem.specs.safe.Steps.{IsSteady}
-use Rattle.schedule_theorem.proofs.Accepted.{IsTaken, is_taken, regions_of}
-use Rattle.schedule_theorem.proofs.Promise.{accepted_programs_keep_their_promise}
-use Rattle.schedule_theorem.proofs.Starting.{as_many}
-use Rattle.schedule_theorem.proofs.kinds.Kept.{starts_kinded}
-use Rattle.schedule_theorem.proofs.kinds.Uses.{uses_are_kinded}
-use Rattle.schedule_theorem.proofs.safe.Held.{held_frames_are_steady}
-use Rattle.schedule_theorem.proofs.safe.Objects.{Known, first_known, known_kept}
-use Rattle.schedule_theorem.proofs.safe.Replayed.{replay_good}
-use Rattle.schedule_theorem.proofs.safe.Safe.{schedules_are_safe}
-use Rattle.schedule_theorem.proofs.safe.Sizes.{uses_are_sized}
+use Rattle.crew_promise.specs.verifier.Accepted.{IsProgramOf}
+use Rattle.crew_promise.proofs.conditions.theorem.Feet.{alive_now, going_now}
+use Rattle.crew_promise.specs.phase_laws.defined.Starting.{IsFirst}
+use Rattle.crew_promise.specs.phase_laws.regions.Closed.{ClosesByPlace}
+use Rattle.crew_promise.proofs.phase_laws.defined.Starting.{starts_well}
+use Rattle.crew_promise.proofs.phase_laws.regions.Closed.{regions_are_closed}
+use Rattle.crew_promise.specs.schedule_theorem.Promise.{AreTaken, HasGlobals, KeepsItsPromise}
+use Rattle.crew_promise.specs.schedule_theorem.kinds.Uses.{HasKindedUses}
+use Rattle.crew_promise.specs.schedule_theorem.safe.Promise.{IsSafeRun}
+use Rattle.crew_promise.specs.schedule_theorem.safe.Steps.{IsSteady}
+use Rattle.crew_promise.proofs.schedule_theorem.Accepted.{IsTaken, is_taken, regions_of}
+use Rattle.crew_promise.proofs.schedule_theorem.Promise.{accepted_programs_keep_their_promise}
+use Rattle.crew_promise.proofs.schedule_theorem.Starting.{as_many}
+use Rattle.crew_promise.proofs.schedule_theorem.kinds.Kept.{starts_kinded}
+use Rattle.crew_promise.proofs.schedule_theorem.kinds.Uses.{uses_are_kinded}
+use Rattle.crew_promise.proofs.schedule_theorem.safe.Held.{held_frames_are_steady}
+use Rattle.crew_promise.proofs.schedule_theorem.safe.Objects.{Known, first_known, known_kept}
+use Rattle.crew_promise.proofs.schedule_theorem.safe.Replayed.{replay_good}
+use Rattle.crew_promise.proofs.schedule_theorem.safe.Safe.{schedules_are_safe}
+use Rattle.crew_promise.proofs.schedule_theorem.safe.Sizes.{uses_are_sized}
 use Rattle.crew.specs.Layouts.{living}
 use Rattle.crew_promise.proofs.Points.{always_below}
 use Rattle.strand.specs.Alone.{StaysSafeAlone}

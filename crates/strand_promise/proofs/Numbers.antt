@@ -13,17 +13,17 @@ use Rattle.running.specs.Replay.{NeverTraps, replay}
 use Rattle.running.proofs.Diamond.{no_call_after}
 use Rattle.running.proofs.Outcomes.{gave_same, left_none}
 use Rattle.program.specs.declared.function.Program.{Program}
-use Rattle.conditions.specs.theorem.Conditions.{Zone, Covers, Clear, Going, PassesZonesOn, ClosesRegions}
-use Rattle.conditions.specs.theorem.SerialConditions.{Nothing, KeptSerially}
-use Rattle.conditions.specs.rules.Registers.{returns_number, Registered, GivesNumber}
-use Rattle.phase_laws.specs.region_match.Matched.{AreRegionsRight}
-use Rattle.phase_laws.specs.defined.Defined.{IsAlways}
-use Rattle.phase_laws.specs.defined.Names.{IsNamed}
-use Rattle.phase_laws.specs.defined.Placed.{IsPlaced, Placed, NoFinds}
-use Rattle.phase_laws.specs.defined.Regions.{OwnsRegions, Owns}
-use Rattle.phase_laws.proofs.defined.Regions.{regions_are_kept}
-use Rattle.phase_laws.proofs.defined.Registers.{defined_are_kept}
-use Rattle.schedule_theorem.proofs.Waits.{free_never, region_never, same_call}
+use Rattle.crew_promise.specs.conditions.theorem.Conditions.{Zone, Covers, Clear, Going, PassesZonesOn, ClosesRegions}
+use Rattle.crew_promise.specs.conditions.theorem.SerialConditions.{Nothing, KeptSerially}
+use Rattle.crew_promise.specs.conditions.rules.Registers.{returns_number, Registered, GivesNumber}
+use Rattle.crew_promise.specs.phase_laws.region_match.Matched.{AreRegionsRight}
+use Rattle.crew_promise.specs.phase_laws.defined.Defined.{IsAlways}
+use Rattle.crew_promise.specs.phase_laws.defined.Names.{IsNamed}
+use Rattle.crew_promise.specs.phase_laws.defined.Placed.{IsPlaced, Placed, NoFinds}
+use Rattle.crew_promise.specs.phase_laws.defined.Regions.{OwnsRegions, Owns}
+use Rattle.crew_promise.proofs.phase_laws.defined.Regions.{regions_are_kept}
+use Rattle.crew_promise.proofs.phase_laws.defined.Registers.{defined_are_kept}
+use Rattle.crew_promise.proofs.schedule_theorem.Waits.{free_never, region_never, same_call}
 use Rattle.strand_promise.proofs.Feet.{always_fit}
 
 -- a frame of the function of this number touches no cell here; it promises a number where the function returns one

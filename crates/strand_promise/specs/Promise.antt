@@ -6,8 +6,8 @@ use Rattle.running.specs.Frames.{Frame}
 use Rattle.running.specs.Events.{Machine, Event, start}
 use Rattle.running.specs.Replay.{replay}
 use Rattle.program.specs.declared.function.Program.{Program}
-use Rattle.verifier.specs.Accepted.{IsProgramOf}
-use Rattle.schedule_theorem.specs.Promise.{AreTaken, HasGlobals}
+use Rattle.crew_promise.specs.verifier.Accepted.{IsProgramOf}
+use Rattle.crew_promise.specs.schedule_theorem.Promise.{AreTaken, HasGlobals}
 use Rattle.crew.specs.Layouts.{living}
 use Rattle.strand.specs.Alone.{StaysSafeAlone}
 

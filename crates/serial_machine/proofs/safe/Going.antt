@@ -18,13 +18,13 @@ use Rattle.program.specs.declared.instruction.Address.TheVariants as address
 use Rattle.program.specs.declared.instruction.Argument.TheVariants as argument
 use Rattle.program.specs.declared.instruction.Instruction.{Instruction}
 use Rattle.program.specs.declared.instruction.Instruction.TheVariants as instruction
-use Rattle.conditions.proofs.rules.Moves.{calls_here}
-use Rattle.types.specs.Apart.{InstructionNames}
+use Rattle.schedule_theorem.proofs.conditions.rules.Moves.{calls_here}
+use Rattle.schedule_theorem.specs.types.Apart.{InstructionNames}
 use Rattle.engine.specs.Shows.{Layout, KeepsWithin, NameIsWhole, NamesWhole, ItemWhole, TrapFree}
-use Rattle.phase_laws.specs.defined.Names.{IsNamed}
-use Rattle.phase_laws.specs.defined.Values.{NamesObjects}
-use Rattle.phase_laws.specs.facts.Traps.{IsReady}
-use Rattle.phase_laws.proofs.defined.Values.{passed_at, passed_object}
+use Rattle.schedule_theorem.specs.phase_laws.defined.Names.{IsNamed}
+use Rattle.schedule_theorem.specs.phase_laws.defined.Values.{NamesObjects}
+use Rattle.schedule_theorem.specs.phase_laws.facts.Traps.{IsReady}
+use Rattle.schedule_theorem.proofs.phase_laws.defined.Values.{passed_at, passed_object}
 use Rattle.schedule_theorem.specs.kinds.Holding.{HasKindedRegisters, HoldKinds, holds_kind}
 use Rattle.schedule_theorem.specs.kinds.Uses.{HasKindedUses}
 use Rattle.schedule_theorem.proofs.kinds.Uses.{uses_are_kinded}
@@ -41,8 +41,8 @@ use Rattle.schedule_theorem.proofs.Along.{Along, kept_along, kept_at_root}
 use Rattle.schedule_theorem.proofs.Bounds.{budget_bounded}
 use Rattle.schedule_theorem.proofs.Promise.{accepted_programs_keep_their_promise}
 use Rattle.schedule_theorem.proofs.Serially.{Found}
-use Rattle.verifier.specs.Accepted.{IsProgramOf}
-use Rattle.verifier.specs.Budgets.{budget_of}
+use Rattle.outcome.specs.verifier.Accepted.{IsProgramOf}
+use Rattle.outcome.specs.verifier.Budgets.{budget_of}
 use Rattle.serial_steps.specs.Steps.{Placed, Run, HasNoStep, IsStuck, Walk, starting}
 use Rattle.serial_steps.specs.Layouts.{frames_of, layout_of}
 use Rattle.serial_steps.specs.Shown.{CanGo, CanGoOn, IsOld}

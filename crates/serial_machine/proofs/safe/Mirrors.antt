@@ -11,8 +11,8 @@ use Rattle.running.proofs.Actions.{reattach_is_child, return_is_body, same_path_
 use Rattle.running.proofs.Places.{no_own_child, same_path_is}
 use Rattle.running.proofs.Steps.{Does, plain, detach, reattach, sync, call, ret}
 use Rattle.program.specs.declared.function.Program.{Program}
-use Rattle.phase_laws.specs.defined.Names.{IsNamed}
-use Rattle.phase_laws.specs.defined.Values.{NamesObjects}
+use Rattle.schedule_theorem.specs.phase_laws.defined.Names.{IsNamed}
+use Rattle.schedule_theorem.specs.phase_laws.defined.Values.{NamesObjects}
 use Rattle.schedule_theorem.specs.safe.Objects.{KnowsObjects}
 use Rattle.schedule_theorem.proofs.safe.Objects.{Known, known_kept, first_known}
 use Rattle.serial_steps.specs.Steps as stack

@@ -9,8 +9,8 @@ use Rattle.program.specs.declared.function.Function.{Function}
 use Rattle.program.specs.declared.function.Program.{Program}
 use Rattle.program.specs.declared.identifier.ObjectName.TheVariants as object
 use Rattle.engine.specs.Shows.{Layout, IsIn}
-use Rattle.phase_laws.specs.defined.Names.{IsNamed}
-use Rattle.phase_laws.specs.defined.Values.{NamesObjects}
+use Rattle.schedule_theorem.specs.phase_laws.defined.Names.{IsNamed}
+use Rattle.schedule_theorem.specs.phase_laws.defined.Values.{NamesObjects}
 use Rattle.schedule_theorem.specs.safe.Objects.{HasCells, HasCell}
 use Rattle.serial_steps.specs.Steps.{Placed, Run}
 use Rattle.serial_steps.specs.Layouts.{size_in, alloca_sizes, allocas_in, with_allocas, for_body, end_of, layout_of, frames_of}

@@ -31,14 +31,14 @@ use Rattle.program.specs.declared.instruction.Phi.{Phi}
 use Rattle.program.specs.declared.instruction.Step.{Step}
 use Rattle.program.specs.declared.instruction.Terminator.{Terminator}
 use Rattle.program.specs.declared.instruction.Terminator.TheVariants as terminator
-use Rattle.types.specs.Apart.{InstructionNames}
+use Rattle.schedule_theorem.specs.types.Apart.{InstructionNames}
 use Rattle.program.specs.Calls.{parameters_in}
-use Rattle.phase_laws.specs.cfg.Rules.{IsFunctionRight}
-use Rattle.phase_laws.specs.cfg.declared.structure.Way.{Way}
-use Rattle.phase_laws.specs.cfg.declared.structure.Way.TheVariants as way
-use Rattle.phase_laws.specs.defined.Leads.{IsBlock, LeadsTo}
-use Rattle.phase_laws.proofs.defined.Items.{block_is, is_block, function_there, item_there, edge_behind}
-use Rattle.phase_laws.proofs.defined.Lists.{at_within}
+use Rattle.schedule_theorem.specs.phase_laws.cfg.Rules.{IsFunctionRight}
+use Rattle.schedule_theorem.specs.phase_laws.cfg.declared.structure.Way.{Way}
+use Rattle.schedule_theorem.specs.phase_laws.cfg.declared.structure.Way.TheVariants as way
+use Rattle.schedule_theorem.specs.phase_laws.defined.Leads.{IsBlock, LeadsTo}
+use Rattle.schedule_theorem.proofs.phase_laws.defined.Items.{block_is, is_block, function_there, item_there, edge_behind}
+use Rattle.schedule_theorem.proofs.phase_laws.defined.Lists.{at_within}
 use Rattle.schedule_theorem.specs.kinds.Uses.{HasKindedUses, address_in}
 use Rattle.schedule_theorem.proofs.kinds.Needed.{entry_there}
 use Rattle.schedule_theorem.proofs.kinds.Registers.{entry_kinded}
@@ -48,7 +48,7 @@ use Rattle.schedule_theorem.proofs.safe.Registers.{first_named}
 use Rattle.schedule_theorem.specs.typing.Kinds.{HasKinds, IsKinded, IsKindedEnd, IsNumber, IsNumberIfAny, IsOfKind, IsResult}
 use Rattle.schedule_theorem.proofs.typing.Lists.{there}
 use Rattle.schedule_theorem.proofs.Accepted.{IsTaken, is_taken}
-use Rattle.verifier.specs.Accepted.{IsProgramOf}
+use Rattle.outcome.specs.verifier.Accepted.{IsProgramOf}
 use Rattle.engine.specs.declared.activation.Places.{Places}
 use Rattle.engine.specs.Activation.{allocas_of, or_none}
 use Rattle.engine.specs.Fits.{BlockFits, EdgeFits, EndingFits, HasEnding, HasEntry, HasPhi, HasReturned}

@@ -23,29 +23,29 @@ use Rattle.syntax.specs.declared.instruction.Instruction.TheVariants as text
 use Rattle.syntax.specs.declared.module.Function.{Function as FunctionText}
 use Rattle.syntax.specs.declared.module.Global.{Global as GlobalText}
 use Rattle.syntax.specs.declared.module.Module.{Module}
-use Rattle.ir_reader.specs.Kept.{IsGlobalWritten, IsKeptModule}
-use Rattle.ir_reader.proofs.Keeping.{answers_kept}
-use Rattle.refusal.specs.declared.refused.Refused.{Refused as TypeFault}
-use Rattle.refusal.specs.declared.refused.Refused.TheVariants.{Fault}
-use Rattle.scopes.specs.declared.scope.Holding.{Holding}
-use Rattle.scopes.specs.declared.scope.Holding.TheVariants as holding
-use Rattle.scopes.specs.declared.scope.Named.TheVariants as named_as
-use Rattle.scopes.specs.declared.scope.Register.{Register}
-use Rattle.scopes.specs.declared.address.WholeObject.{WholeObject}
-use Rattle.scopes.specs.Address.{object_of}
-use Rattle.scopes.specs.Fault.{both_of, made_of, unless_of}
-use Rattle.scopes.specs.Item.{items_of}
-use Rattle.scopes.specs.Layout.{layout_of}
-use Rattle.scopes.specs.Operand.{register_of}
-use Rattle.scopes.specs.Scope.{Scope}
-use Rattle.scopes.proofs.Inversion.{made_ok, then_ok, both_ok, same_ok, err_not_ok}
-use Rattle.types.specs.Apart.{InstructionNames}
-use Rattle.types.specs.Call.{Named}
-use Rattle.types.specs.Instruction.{defined_of, as_alloca, alloca_id_of, instruction_of}
-use Rattle.types.specs.Meaning.{Means, global_of}
-use Rattle.types.proofs.Scopes.{register_found}
-use Rattle.phase_laws.proofs.defined.Items.{stands, step_there}
-use Rattle.phase_laws.proofs.defined.Lists.{at_within}
+use Rattle.schedule_theorem.specs.ir_reader.Kept.{IsGlobalWritten, IsKeptModule}
+use Rattle.schedule_theorem.proofs.ir_reader.Keeping.{answers_kept}
+use Rattle.schedule_theorem.specs.refusal.declared.refused.Refused.{Refused as TypeFault}
+use Rattle.schedule_theorem.specs.refusal.declared.refused.Refused.TheVariants.{Fault}
+use Rattle.schedule_theorem.specs.scopes.declared.scope.Holding.{Holding}
+use Rattle.schedule_theorem.specs.scopes.declared.scope.Holding.TheVariants as holding
+use Rattle.schedule_theorem.specs.scopes.declared.scope.Named.TheVariants as named_as
+use Rattle.schedule_theorem.specs.scopes.declared.scope.Register.{Register}
+use Rattle.schedule_theorem.specs.scopes.declared.address.WholeObject.{WholeObject}
+use Rattle.schedule_theorem.specs.scopes.Address.{object_of}
+use Rattle.schedule_theorem.specs.scopes.Fault.{both_of, made_of, unless_of}
+use Rattle.schedule_theorem.specs.scopes.Item.{items_of}
+use Rattle.schedule_theorem.specs.scopes.Layout.{layout_of}
+use Rattle.schedule_theorem.specs.scopes.Operand.{register_of}
+use Rattle.schedule_theorem.specs.scopes.Scope.{Scope}
+use Rattle.schedule_theorem.proofs.scopes.Inversion.{made_ok, then_ok, both_ok, same_ok, err_not_ok}
+use Rattle.schedule_theorem.specs.types.Apart.{InstructionNames}
+use Rattle.schedule_theorem.specs.types.Call.{Named}
+use Rattle.schedule_theorem.specs.types.Instruction.{defined_of, as_alloca, alloca_id_of, instruction_of}
+use Rattle.schedule_theorem.specs.types.Meaning.{Means, global_of}
+use Rattle.schedule_theorem.proofs.types.Scopes.{register_found}
+use Rattle.schedule_theorem.proofs.phase_laws.defined.Items.{stands, step_there}
+use Rattle.schedule_theorem.proofs.phase_laws.defined.Lists.{at_within}
 use Rattle.schedule_theorem.proofs.typing.Calls.{instruction_at}
 use Rattle.schedule_theorem.proofs.typing.Objects.{cells_are}
 use Rattle.schedule_theorem.proofs.typing.Parts.{function_from, block_from, step_from}
@@ -53,7 +53,7 @@ use Rattle.schedule_theorem.proofs.typing.Positive.{object_positive}
 use Rattle.schedule_theorem.proofs.typing.Registers.{kept_function}
 use Rattle.schedule_theorem.proofs.typing.Scoping.{IsNamedRight, HoldsRight, IsOwnObject, named_found, layout_right}
 use Rattle.schedule_theorem.proofs.typing.Sized.{named_sized}
-use Rattle.verifier.specs.Accepted.{IsProgramOf}
+use Rattle.outcome.specs.verifier.Accepted.{IsProgramOf}
 
 -- ---- what has cells is there
 

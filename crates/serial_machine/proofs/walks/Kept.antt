@@ -7,7 +7,7 @@ use Rattle.running.specs.Frames.{Value, Wait, Free, OnRegion, OnCall, Halted, Fr
 use Rattle.running.specs.Effect.{Detach, Call, action_of}
 use Rattle.running.specs.State.{went, detached, continued, synced, called, waiting, resumed}
 use Rattle.running.specs.SerialMeaning.{Ending, Left, Gave, Outcome, written, cleared}
-use Rattle.conditions.specs.theorem.SerialConditions.{Says, Finds, Nothing, KeptSerially}
+use Rattle.schedule_theorem.specs.conditions.theorem.SerialConditions.{Says, Finds, Nothing, KeptSerially}
 use Rattle.running.specs.SerialMeaning.{one_more, both_outcomes, at_last}
 use Rattle.linear.specs.declared.form.RegisterId.{RegisterId}
 use Rattle.program.specs.declared.function.Program.{Program}

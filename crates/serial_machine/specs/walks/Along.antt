@@ -3,7 +3,7 @@ use Rattle.std.specs.Prelude.{◌≡◌, ⊤, ℕ, suc, ◌<◌, ◌≤◌, Bool
 use Rattle.running.specs.Paths.{Path}
 use Rattle.running.specs.Cells.{Memory, globals_of}
 use Rattle.running.specs.Frames.{Frame}
-use Rattle.conditions.specs.theorem.SerialConditions.{Says, Finds, Nothing, KeptSerially}
+use Rattle.schedule_theorem.specs.conditions.theorem.SerialConditions.{Says, Finds, Nothing, KeptSerially}
 use Rattle.running.specs.SerialMeaning.{Gave, Outcome, IsSerialMeaning}
 use Rattle.running.specs.State.{root_frame}
 use Rattle.program.specs.declared.function.Program.{Program}

@@ -3,7 +3,7 @@ use Rattle.std.specs.Int.{w64}
 use mir.Val.{to_z, of_z}
 use Rattle.std.proofs.lemmas.Int.{to_z-of_z}
 use Rattle.engine.specs.Starts.{starts_from}
-use Rattle.store.specs.Rows.{refilled, row_of, sizes_of}
+use Rattle.outcome.specs.store.Rows.{refilled, row_of, sizes_of}
 use Rattle.outcome.specs.declared.outcome.Finished.{Finished}
 use Rattle.serial_steps.specs.Runs.{GoesSafely, RunsTo}
 use Rattle.serial_steps.specs.Shown.{TextFits}
