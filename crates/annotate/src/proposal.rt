@@ -7,7 +7,7 @@ use crate::left::{Need, World, needs_of};
 use crate::pending::{Handed, Waiting, waiting_of};
 use crate::sum::Sum;
 use ir_annotation::push_zone;
-use ir_text::read;
+use ir_reader::read;
 use refusal::Refused;
 use std::alloc::{AllocError, Global};
 use std::hash::RandomState;

@@ -2,7 +2,7 @@
 
 use cost_notes::push_budgets;
 use findings::{Source, with_line_at};
-use ir_text::read;
+use ir_reader::read;
 use lists::OutOfMemory;
 use program::Program;
 use std::alloc::Global;

@@ -10,12 +10,12 @@ use Rattle.ir_item.specs.declared.item.Item.TheVariants as item
 use Rattle.ir_item.specs.Printed.{item_on, IsKeptItem, said}
 use Rattle.ir_item.proofs.ItemsAgain.{kept_again}
 use Rattle.ir_item.proofs.Shown.{shown_utf8}
-use Rattle.ir_text.specs.declared.draft.Draft.{Draft}
-use Rattle.ir_text.specs.Draft.{placed}
-use Rattle.ir_text.specs.Counting.{is_within_limits}
+use Rattle.ir_reader.specs.declared.draft.Draft.{Draft}
+use Rattle.ir_reader.specs.Draft.{placed}
+use Rattle.ir_reader.specs.Counting.{is_within_limits}
 use Rattle.ir_text.specs.Items.{indentation, printed_content, printed_line}
-use Rattle.ir_text.specs.Lines.{content}
-use Rattle.ir_text.specs.Reading.{defines_again, judged_if_placed, with_item, Steps, Said, Reads, Done, Next}
+use Rattle.ir_reader.specs.Lines.{content}
+use Rattle.ir_reader.specs.Reading.{defines_again, judged_if_placed, with_item, Steps, Said, Reads, Done, Next}
 use Rattle.ir_text.proofs.Unlining.{unlined_draft, placed_unlined, within-unlined, again-on, again-unlined}
 use Rattle.ir_text.proofs.Rerun.{IsPassed, Passes}
 use Rattle.ir_text.proofs.PrintedLines.{content_is, content_shown, AreKept}

@@ -22,16 +22,16 @@ use Rattle.syntax.specs.declared.module.Global.{Global}
 use Rattle.syntax.specs.declared.module.Block.{Block}
 use Rattle.syntax.specs.declared.module.Function.{Function}
 use Rattle.syntax.specs.declared.module.Module.{Module}
-use Rattle.ir_text.specs.declared.annotating.BlockHead.{BlockHead}
-use Rattle.ir_text.specs.declared.draft.Draft.{Draft}
-use Rattle.ir_text.specs.declared.draft.Place.TheVariants as place
-use Rattle.ir_text.specs.Opening.{no_function_notes, new_function, no_block_notes, new_block, with_function, with_block}
-use Rattle.ir_text.specs.Annotating.{with_zone_of}
-use Rattle.ir_text.specs.Draft.{drafted, new_place, placed}
+use Rattle.ir_reader.specs.declared.annotating.BlockHead.{BlockHead}
+use Rattle.ir_reader.specs.declared.draft.Draft.{Draft}
+use Rattle.ir_reader.specs.declared.draft.Place.TheVariants as place
+use Rattle.ir_reader.specs.Opening.{no_function_notes, new_function, no_block_notes, new_block, with_function, with_block}
+use Rattle.ir_reader.specs.Annotating.{with_zone_of}
+use Rattle.ir_reader.specs.Draft.{drafted, new_place, placed}
 use Rattle.ir_text.specs.Items.{note_items, function_note_items, block_note_items, step_items, ending_items, body_items, block_items, function_items, module_items}
 use Rattle.ir_text.specs.Unlined.{unlined_inequalities, unlined_zones, unlined_function_notes, unlined_block_notes, unlined_phi, unlined_step, unlined_ending, unlined_block, unlined_function, unlined_global, unlined}
-use Rattle.ir_text.specs.Reading.{start}
-use Rattle.ir_text.specs.Kept.{IsZoneOf, IsFunctionWritten, AreFunctionNotesWritten}
+use Rattle.ir_reader.specs.Reading.{start}
+use Rattle.ir_reader.specs.Kept.{IsZoneOf, IsFunctionWritten, AreFunctionNotesWritten}
 
 -- an item is put on line 0
 abbrev pub Puts : Draft → Item → Draft → Type 0

@@ -8,7 +8,7 @@ use Rattle.ir_item.specs.declared.item.Item.{Item}
 use Rattle.ir_item.specs.Printed.{IsKeptItem, item_text}
 use Rattle.ir_item.proofs.Shown.{is_shown, item_shown, spaces_shown}
 use Rattle.ir_text.specs.Items.{indentation, printed_content, printed_line}
-use Rattle.ir_text.specs.Lines.{is_inner, onto_first, lines_of, content}
+use Rattle.ir_reader.specs.Lines.{is_inner, onto_first, lines_of, content}
 use Rattle.ir_lex.proofs.Names.{by_test}
 
 no_end : (b : ℕ) → is_shown b ≡ true → eqb b 10 ≡ false

@@ -6,17 +6,17 @@ use Rattle.ir_item.specs.declared.item.Item.TheVariants as item
 use Rattle.ir_item.specs.Printed.{item_on}
 use Rattle.syntax.specs.declared.module.Function.{Function}
 use Rattle.syntax.specs.declared.module.Module.{Module}
-use Rattle.ir_text.specs.declared.draft.Draft.{Draft}
-use Rattle.ir_text.specs.declared.limits.Counts.{Counts}
-use Rattle.ir_text.specs.Draft.{placed}
-use Rattle.ir_text.specs.Names.{is_repeated}
-use Rattle.ir_text.specs.Defined.{open_function, names_outside, names_in, names_inside, defined_outside, defined_inside, inside_before}
-use Rattle.ir_text.specs.Counting.{counts_in, counts_of, counts_with, are_counts_within, IsSmall, is_within_limits}
-use Rattle.ir_text.specs.Tracking.{IsStepless}
-use Rattle.ir_text.specs.Reading.{defines_again}
-use Rattle.ir_text.proofs.Follows.{Follows, placed_follows}
-use Rattle.ir_text.proofs.Keeping.{repeats-append}
-use Rattle.ir_text.proofs.Limiting.{IsOpenKept, AtItsEnds, IsDraftFew, placed_before, place_passes}
+use Rattle.ir_reader.specs.declared.draft.Draft.{Draft}
+use Rattle.ir_reader.specs.declared.limits.Counts.{Counts}
+use Rattle.ir_reader.specs.Draft.{placed}
+use Rattle.ir_reader.specs.Names.{is_repeated}
+use Rattle.ir_reader.specs.Defined.{open_function, names_outside, names_in, names_inside, defined_outside, defined_inside, inside_before}
+use Rattle.ir_reader.specs.Counting.{counts_in, counts_of, counts_with, are_counts_within, IsSmall, is_within_limits}
+use Rattle.ir_reader.specs.Tracking.{IsStepless}
+use Rattle.ir_reader.specs.Reading.{defines_again}
+use Rattle.ir_reader.proofs.Follows.{Follows, placed_follows}
+use Rattle.ir_reader.proofs.Keeping.{repeats-append}
+use Rattle.ir_reader.proofs.Limiting.{IsOpenKept, AtItsEnds, IsDraftFew, placed_before, place_passes}
 use Rattle.ir_text.proofs.Fills.{Puts, Fills}
 
 pub record IsGoodDraft (d : Draft) : Type 0 where

@@ -20,23 +20,23 @@ use Rattle.syntax.specs.declared.terminator.Ending.{Ending}
 use Rattle.syntax.specs.declared.module.Block.{Block}
 use Rattle.syntax.specs.declared.module.Function.{Function}
 use Rattle.syntax.specs.declared.module.Module.{Module}
-use Rattle.ir_text.specs.declared.draft.Draft.{Draft}
-use Rattle.ir_text.specs.declared.draft.Place.{Place}
-use Rattle.ir_text.specs.declared.draft.Place.TheVariants as place
-use Rattle.ir_text.specs.Draft.{drafted}
-use Rattle.ir_text.specs.Names.{is_repeated}
-use Rattle.ir_text.specs.Defined.{reserved_outside, reserved_inside, module_names}
-use Rattle.ir_text.specs.Counting.{IsSmall, counts_of}
+use Rattle.ir_reader.specs.declared.draft.Draft.{Draft}
+use Rattle.ir_reader.specs.declared.draft.Place.{Place}
+use Rattle.ir_reader.specs.declared.draft.Place.TheVariants as place
+use Rattle.ir_reader.specs.Draft.{drafted}
+use Rattle.ir_reader.specs.Names.{is_repeated}
+use Rattle.ir_reader.specs.Defined.{reserved_outside, reserved_inside, module_names}
+use Rattle.ir_reader.specs.Counting.{IsSmall, counts_of}
 use Rattle.ir_text.specs.Items.{note_items, function_note_items, block_note_items, step_items, ending_items, body_items, block_items, function_items, module_items, printed_line, module_text}
-use Rattle.ir_text.specs.Kept.{IsZoneOf, AreFunctionNotesWritten, AreBlockNotesWritten, IsPhiWritten, IsStepWritten, IsEndingWrittenIfAny, IsBlockWritten, IsFunctionWritten, IsGlobalWritten, AreStepShowsFew, AreEndingShowsFew, IsBlockWithin, IsFunctionWithin, IsKeptFunction, IsKeptModule}
-use Rattle.ir_text.specs.Lines.{lines_of}
-use Rattle.ir_text.specs.Reading.{start, Reads, ended, Answers, Read}
+use Rattle.ir_reader.specs.Kept.{IsZoneOf, AreFunctionNotesWritten, AreBlockNotesWritten, IsPhiWritten, IsStepWritten, IsEndingWrittenIfAny, IsBlockWritten, IsFunctionWritten, IsGlobalWritten, AreStepShowsFew, AreEndingShowsFew, IsBlockWithin, IsFunctionWithin, IsKeptFunction, IsKeptModule}
+use Rattle.ir_reader.specs.Lines.{lines_of}
+use Rattle.ir_reader.specs.Reading.{start, Reads, ended, Answers, Read}
 use Rattle.ir_text.specs.RoundTrip.{IsAgain, IsReadBackAs}
 use Rattle.ir_text.specs.Unlined.{unlined_step, unlined_block, unlined_function, unlined}
 use Rattle.ir_text.proofs.Again.{reads_again}
 use Rattle.ir_text.proofs.Fills.{IsWhole, module_fills}
-use Rattle.ir_text.proofs.Limiting.{IsOpenFunction}
-use Rattle.ir_text.proofs.OneAnswer.{one_answer}
+use Rattle.ir_reader.proofs.Limiting.{IsOpenFunction}
+use Rattle.ir_reader.proofs.OneAnswer.{one_answer}
 use Rattle.ir_text.proofs.PrintedLines.{AreKept, printed_lines}
 use Rattle.ir_text.proofs.Rerun.{IsGoodDraft, Passes, all_pass}
 use Rattle.ir_text.proofs.Unlining.{unlined_place, function_names-unlined, module_names-unlined, register_count-unlined, function_cells-unlined, global_cells-unlined}

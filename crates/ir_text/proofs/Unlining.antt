@@ -24,20 +24,20 @@ use Rattle.syntax.specs.declared.module.Global.{Global}
 use Rattle.syntax.specs.declared.module.Block.{Block}
 use Rattle.syntax.specs.declared.module.Function.{Function}
 use Rattle.syntax.specs.declared.module.Module.{Module}
-use Rattle.ir_text.specs.declared.annotating.FunctionHead.{FunctionHead}
-use Rattle.ir_text.specs.declared.annotating.BlockHead.{BlockHead}
-use Rattle.ir_text.specs.declared.draft.Draft.{Draft}
-use Rattle.ir_text.specs.declared.draft.Place.{Place}
-use Rattle.ir_text.specs.declared.draft.Place.TheVariants as place
-use Rattle.ir_text.specs.declared.limits.Counts.{Counts}
-use Rattle.ir_text.specs.Opening.{with_global, with_function, with_block, with_phi, with_step}
-use Rattle.ir_text.specs.Annotating.{with_function_notes, with_block_notes, with_zone_of, annotated_function}
-use Rattle.ir_text.specs.Draft.{drafted, new_place, placed, placed_in, placed_outside, placed_at_function, placed_in_function_head, placed_at_block, annotated_in_block_head, placed_in_block_head, placed_in_phis, annotated_in_body, placed_in_body, placed_in_ended}
-use Rattle.ir_text.specs.Names.{is_repeated}
-use Rattle.ir_text.specs.Defined.{parameter_name, step_registers, phi_register, block_registers, block_names, function_names, global_name, function_name, module_names, reserved_outside, reserved_inside, option_list, open_function, names_beside, names_outside, names_in, names_inside, defined_outside, defined_inside, inside_before}
-use Rattle.ir_text.specs.Limits.{global_cells, step_cells, block_cells, function_cells, block_register_count, register_count, is_place_within}
-use Rattle.ir_text.specs.Counting.{registers_in, cells_in, counts_of, are_counts_within, is_within_limits}
-use Rattle.ir_text.specs.Reading.{defines_again}
+use Rattle.ir_reader.specs.declared.annotating.FunctionHead.{FunctionHead}
+use Rattle.ir_reader.specs.declared.annotating.BlockHead.{BlockHead}
+use Rattle.ir_reader.specs.declared.draft.Draft.{Draft}
+use Rattle.ir_reader.specs.declared.draft.Place.{Place}
+use Rattle.ir_reader.specs.declared.draft.Place.TheVariants as place
+use Rattle.ir_reader.specs.declared.limits.Counts.{Counts}
+use Rattle.ir_reader.specs.Opening.{with_global, with_function, with_block, with_phi, with_step}
+use Rattle.ir_reader.specs.Annotating.{with_function_notes, with_block_notes, with_zone_of, annotated_function}
+use Rattle.ir_reader.specs.Draft.{drafted, new_place, placed, placed_in, placed_outside, placed_at_function, placed_in_function_head, placed_at_block, annotated_in_block_head, placed_in_block_head, placed_in_phis, annotated_in_body, placed_in_body, placed_in_ended}
+use Rattle.ir_reader.specs.Names.{is_repeated}
+use Rattle.ir_reader.specs.Defined.{parameter_name, step_registers, phi_register, block_registers, block_names, function_names, global_name, function_name, module_names, reserved_outside, reserved_inside, option_list, open_function, names_beside, names_outside, names_in, names_inside, defined_outside, defined_inside, inside_before}
+use Rattle.ir_reader.specs.Limits.{global_cells, step_cells, block_cells, function_cells, block_register_count, register_count, is_place_within}
+use Rattle.ir_reader.specs.Counting.{registers_in, cells_in, counts_of, are_counts_within, is_within_limits}
+use Rattle.ir_reader.specs.Reading.{defines_again}
 use Rattle.ir_text.specs.Unlined.{unlined_inequalities, unlined_zones, unlined_function_notes, unlined_block_notes, unlined_phi, unlined_step, unlined_block, unlined_function, unlined_global, unlined}
 
 abbrev pub unlined_function_head : FunctionHead → FunctionHead

@@ -2,8 +2,8 @@
 use Rattle.std.specs.Prelude.{◌≡◌, ◌≤◌, ℕ, List, length, Result, Ok, Err}
 use Rattle.syntax.specs.declared.module.Module.{Module}
 use Rattle.ir_text.specs.Items.{module_text}
-use Rattle.ir_text.specs.Kept.{IsKeptModule}
-use Rattle.ir_text.specs.Reading.{Answers}
+use Rattle.ir_reader.specs.Kept.{IsKeptModule}
+use Rattle.ir_reader.specs.Reading.{Answers}
 use Rattle.ir_text.specs.Unlined.{unlined}
 
 -- Where the canonical text of a module that is kept is no longer than a text may be, reading it gives the module, lines aside.

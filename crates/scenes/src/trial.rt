@@ -2,7 +2,7 @@
 
 use cfg::{Graph, graph};
 use definedness::defined;
-use ir_text::read;
+use ir_reader::read;
 use lists::OutOfMemory;
 use refusal::Refused;
 use region_match::{Regions, regions};

@@ -5,8 +5,8 @@ use Rattle.std.specs.List.{All}
 use Rattle.program.specs.declared.function.Function.{Function}
 use Rattle.program.specs.declared.function.Program.{Program}
 use Rattle.syntax.specs.declared.module.Module.{Module}
-use Rattle.ir_text.specs.Kept.{IsKeptModule}
-use Rattle.ir_text.proofs.Keeping.{answers_kept}
+use Rattle.ir_reader.specs.Kept.{IsKeptModule}
+use Rattle.ir_reader.proofs.Keeping.{answers_kept}
 use Rattle.types.specs.Apart.{CallsApart}
 use Rattle.types.specs.Definitions.{KeepsParameters}
 use Rattle.types.specs.Meaning.{Means}

@@ -4,7 +4,7 @@ use Rattle.std.specs.Prelude.{IsErrAnd}
 use Rattle.refusal.specs.declared.refused.Refused.{Refused}
 use Rattle.refusal.specs.declared.refused.Refused.TheVariants.{Fault, Memory}
 use Rattle.syntax.specs.declared.module.Module.{Module}
-use Rattle.ir_text.specs.Reading.{Answers, IsFaultOfText}
+use Rattle.ir_reader.specs.Reading.{Answers, IsFaultOfText}
 use Rattle.types.specs.declared.typed.Typed.{Typed}
 use Rattle.types.specs.Typed.{Judges}
 use Rattle.cfg.specs.declared.structure.FunctionGraph.{FunctionGraph}

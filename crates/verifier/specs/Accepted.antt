@@ -6,7 +6,7 @@ use Rattle.refusal.specs.declared.refused.Refused.TheVariants.{Fault, Memory}
 use Rattle.refusal.specs.Earliest.{NamesEarliest}
 use Rattle.syntax.specs.declared.module.Module.{Module}
 use Rattle.program.specs.declared.function.Program.{Program}
-use Rattle.ir_text.specs.Reading.{Answers}
+use Rattle.ir_reader.specs.Reading.{Answers}
 use Rattle.types.specs.declared.typed.Typed.{Typed}
 use Rattle.types.specs.Typed.{MeansTyped}
 use Rattle.cfg.specs.Edges.{graphs_of}

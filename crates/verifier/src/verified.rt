@@ -7,7 +7,7 @@ use cfg::{Graph, graph};
 use cost_table::{Table, check_cost};
 use definedness::defined;
 use footprints::check_zones;
-use ir_text::read;
+use ir_reader::read;
 use program::Program;
 use ranges::check_ranges;
 use refusal::Refused;

@@ -1,7 +1,7 @@
 ghost use Rattle.std.specs.Prelude.{◌≡◌, Ok, IfOk, IfErr, string_bytes};
 ghost use Rattle.syntax.specs.declared.module.Module.{Module};
 ghost use Rattle.ir_text.specs.Items.{module_text};
-ghost use Rattle.ir_text.specs.Reading.{Answers, IsFaultOfText};
+ghost use Rattle.ir_reader.specs.Reading.{Answers, IsFaultOfText};
 
 use ir_text::{print, read};
 use refusal::Refused;

@@ -7,7 +7,7 @@ use crate::range::range_of;
 use crate::usage::{most_cells, usage_of};
 use cfg::Graph;
 use ir_annotation::{push_foot, push_left, push_pending};
-use ir_text::read;
+use ir_reader::read;
 use program::{Fact, Function, Parameter, Program, RegisterId};
 use ranges::{start_facts, stated};
 use refusal::Refused;

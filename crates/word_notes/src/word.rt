@@ -4,7 +4,7 @@ use crate::left_out::push_left_out;
 use findings::{Finding, Source, lines_before, push_finding};
 use ir_item::read_line;
 use ir_lex::{Kind, Token, lex};
-use ir_text::read;
+use ir_reader::read;
 use lists::OutOfMemory;
 use refusal::Refused;
 use std::alloc::Global;

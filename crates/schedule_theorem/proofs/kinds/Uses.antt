@@ -31,8 +31,8 @@ use Rattle.syntax.specs.declared.module.Parameter.{Parameter as ParameterText}
 use Rattle.syntax.specs.declared.module.Parameter.TheVariants as parameter_text
 use Rattle.syntax.specs.declared.operator.BinaryOperator.{BinaryOperator}
 use Rattle.syntax.specs.declared.operator.Width.{Width}
-use Rattle.ir_text.specs.Kept.{IsStepWritten, IsBlockWritten, IsKeptModule}
-use Rattle.ir_text.proofs.Keeping.{answers_kept}
+use Rattle.ir_reader.specs.Kept.{IsStepWritten, IsBlockWritten, IsKeptModule}
+use Rattle.ir_reader.proofs.Keeping.{answers_kept}
 use Rattle.scopes.specs.Item.{items_of}
 use Rattle.scopes.specs.Layout.{kind_of, layout_of}
 use Rattle.types.specs.Apart.{InstructionNames}

@@ -10,9 +10,9 @@ use Rattle.syntax.specs.declared.instruction.Step.{Step}
 use Rattle.syntax.specs.declared.module.Block.{Block}
 use Rattle.syntax.specs.declared.module.Function.{Function}
 use Rattle.syntax.specs.declared.module.Module.{Module}
-use Rattle.ir_text.specs.Defined.{parameter_name as read_parameter_name, option_list, step_registers, phi_register, block_registers, block_names, reserved_inside, function_names}
-use Rattle.ir_text.specs.Kept.{IsKeptFunction, IsKeptModule}
-use Rattle.ir_text.specs.Names.{is_known, is_repeated}
+use Rattle.ir_reader.specs.Defined.{parameter_name as read_parameter_name, option_list, step_registers, phi_register, block_registers, block_names, reserved_inside, function_names}
+use Rattle.ir_reader.specs.Kept.{IsKeptFunction, IsKeptModule}
+use Rattle.ir_reader.specs.Names.{is_known, is_repeated}
 use Rattle.types.specs.Definitions.{IsParameterName, defined_name, DefinesAnew, EachDefinesAnew}
 use Rattle.schedule_theorem.proofs.typing.Lists.{in_first, in_map, in_second}
 use Rattle.schedule_theorem.proofs.typing.Once.{same_defined, same_parameter, known_last, fresh}

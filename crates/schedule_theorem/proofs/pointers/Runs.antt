@@ -19,7 +19,7 @@ use Rattle.types.specs.Apart.{NamesGlobal, parameters_at, CallsApart}
 use Rattle.types.specs.Definitions.{IsFrom, KeepsParameters}
 use Rattle.schedule_theorem.specs.pointers.Apart.{IsReached, at_start as starts, by_step, KeepsNamesApart, PointerNamesAreApart, MeantNamesAreApart, AcceptedNamesAreApart}
 use Rattle.types.proofs.Programs.{program_apart, program_kept}
-use Rattle.ir_text.proofs.Keeping.{answers_kept}
+use Rattle.ir_reader.proofs.Keeping.{answers_kept}
 use Rattle.schedule_theorem.proofs.pointers.Anew.{read_anew}
 use Rattle.schedule_theorem.specs.pointers.Given.{IsGiven, KnowsGiven}
 use Rattle.schedule_theorem.proofs.pointers.Given.{names_apart}

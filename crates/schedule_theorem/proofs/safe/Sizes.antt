@@ -10,8 +10,8 @@ use Rattle.program.specs.declared.instruction.Address.TheVariants as address
 use Rattle.program.specs.declared.instruction.Instruction.TheVariants as instruction
 use Rattle.syntax.specs.declared.module.Function.{Function as FunctionText}
 use Rattle.syntax.specs.declared.module.Module.{Module}
-use Rattle.ir_text.specs.Kept.{IsKeptModule}
-use Rattle.ir_text.proofs.Keeping.{answers_kept}
+use Rattle.ir_reader.specs.Kept.{IsKeptModule}
+use Rattle.ir_reader.proofs.Keeping.{answers_kept}
 use Rattle.scopes.specs.Item.{items_of}
 use Rattle.scopes.specs.Layout.{layout_of}
 use Rattle.types.specs.Call.{Named}

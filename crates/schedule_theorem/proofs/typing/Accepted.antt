@@ -2,8 +2,8 @@
 use Rattle.std.proofs.Common.{subst, Ok}
 use Rattle.program.specs.declared.function.Program.{Program}
 use Rattle.syntax.specs.declared.module.Module.{Module}
-use Rattle.ir_text.specs.Kept.{IsKeptModule}
-use Rattle.ir_text.proofs.Keeping.{answers_kept}
+use Rattle.ir_reader.specs.Kept.{IsKeptModule}
+use Rattle.ir_reader.proofs.Keeping.{answers_kept}
 use Rattle.types.specs.Meaning.{Means}
 use Rattle.verifier.specs.Accepted.{IsRight}
 use Rattle.phase_laws.proofs.facts.Stable.{facts_are_stable}

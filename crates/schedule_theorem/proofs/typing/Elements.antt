@@ -27,7 +27,7 @@ use Rattle.syntax.specs.declared.module.Function.{Function as FunctionText}
 use Rattle.syntax.specs.declared.module.Module.{Module}
 use Rattle.phase_laws.specs.definedness.declared.act.Act.TheVariants.{Needs}
 use Rattle.phase_laws.specs.definedness.RegisterActs.{operand_needs, address_needs, instruction_needs}
-use Rattle.ir_text.specs.Kept.{IsKeptModule}
+use Rattle.ir_reader.specs.Kept.{IsKeptModule}
 use Rattle.scopes.specs.declared.scope.Named.{Named as Meaning}
 use Rattle.scopes.specs.declared.scope.Named.TheVariants as named_as
 use Rattle.scopes.specs.declared.scope.Origin.{Origin}

@@ -38,7 +38,7 @@ use Rattle.syntax.specs.declared.operator.Width.{Width}
 use Rattle.syntax.specs.declared.operator.Width.TheVariants.{Bits64, Bits32}
 use Rattle.syntax.specs.declared.terminator.Terminator.{Terminator as TerminatorText}
 use Rattle.syntax.specs.declared.terminator.Terminator.TheVariants as ending
-use Rattle.ir_text.specs.Kept.{IsKeptModule}
+use Rattle.ir_reader.specs.Kept.{IsKeptModule}
 use Rattle.scopes.specs.declared.address.WholeObject.{WholeObject}
 use Rattle.refusal.specs.declared.refused.Refused.{Refused as TypeFault}
 use Rattle.refusal.specs.declared.refused.Refused.TheVariants.{Fault}

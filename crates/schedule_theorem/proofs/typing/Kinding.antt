@@ -13,7 +13,7 @@ use Rattle.syntax.specs.declared.module.Function.{Function as FunctionText}
 use Rattle.syntax.specs.declared.module.Parameter.{Parameter as ParameterText}
 use Rattle.syntax.specs.declared.module.Parameter.TheVariants as parameter
 use Rattle.syntax.specs.declared.operator.Width.TheVariants.{Bits64}
-use Rattle.ir_text.specs.Kept.{IsKeptFunction}
+use Rattle.ir_reader.specs.Kept.{IsKeptFunction}
 use Rattle.scopes.specs.declared.layout.Layout.{Layout}
 use Rattle.scopes.specs.declared.scope.Holding.{Holding}
 use Rattle.scopes.specs.declared.scope.Holding.TheVariants as holding

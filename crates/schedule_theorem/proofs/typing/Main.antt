@@ -10,7 +10,7 @@ use Rattle.syntax.specs.declared.module.Module.{Module}
 use Rattle.syntax.specs.declared.module.Parameter.{Parameter as ParameterText}
 use Rattle.syntax.specs.declared.module.ResultType.{ResultType}
 use Rattle.syntax.specs.declared.module.ResultType.TheVariants.{Number, Void}
-use Rattle.ir_text.specs.Kept.{IsKeptModule}
+use Rattle.ir_reader.specs.Kept.{IsKeptModule}
 use Rattle.refusal.specs.declared.refused.Refused.TheVariants.{Fault}
 use Rattle.scopes.specs.declared.item.Item.{Item}
 use Rattle.scopes.specs.declared.item.Item.TheVariants as item

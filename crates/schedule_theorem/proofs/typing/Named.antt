@@ -11,7 +11,7 @@ use Rattle.program.specs.declared.instruction.Argument.{Argument}
 use Rattle.program.specs.declared.instruction.Instruction.TheVariants as instruction
 use Rattle.program.specs.declared.instruction.Phi.{Phi}
 use Rattle.syntax.specs.declared.module.Module.{Module}
-use Rattle.ir_text.specs.Kept.{IsKeptModule}
+use Rattle.ir_reader.specs.Kept.{IsKeptModule}
 use Rattle.phase_laws.specs.cfg.Rules.{IsGraphRight}
 use Rattle.types.specs.Meaning.{Means}
 use Rattle.phase_laws.specs.defined.Leads.{IsBlock}

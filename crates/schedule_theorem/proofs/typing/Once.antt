@@ -16,9 +16,9 @@ use Rattle.syntax.specs.declared.module.Block.{Block}
 use Rattle.syntax.specs.declared.module.Function.{Function}
 use Rattle.syntax.specs.declared.module.Parameter.{Parameter}
 use Rattle.syntax.specs.declared.module.Parameter.TheVariants as parameter
-use Rattle.ir_text.specs.Defined.{parameter_name as read_parameter_name, defined_register, option_list, step_registers, phi_register, block_registers, block_names, reserved_inside, function_names}
-use Rattle.ir_text.specs.Kept.{IsKeptFunction}
-use Rattle.ir_text.specs.Names.{is_known, is_repeated}
+use Rattle.ir_reader.specs.Defined.{parameter_name as read_parameter_name, defined_register, option_list, step_registers, phi_register, block_registers, block_names, reserved_inside, function_names}
+use Rattle.ir_reader.specs.Kept.{IsKeptFunction}
+use Rattle.ir_reader.specs.Names.{is_known, is_repeated}
 use Rattle.types.specs.Definitions.{parameter_name, IsParameterName, defined_name}
 use Rattle.schedule_theorem.proofs.typing.Lists.{in_first, in_second, in_map}
 

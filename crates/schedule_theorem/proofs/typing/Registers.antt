@@ -11,7 +11,7 @@ use Rattle.program.specs.declared.instruction.Phi.{Phi}
 use Rattle.syntax.specs.declared.module.Block.{Block as BlockText}
 use Rattle.syntax.specs.declared.module.Function.{Function as FunctionText}
 use Rattle.syntax.specs.declared.module.Module.{Module}
-use Rattle.ir_text.specs.Kept.{IsKeptFunction, IsKeptModule}
+use Rattle.ir_reader.specs.Kept.{IsKeptFunction, IsKeptModule}
 use Rattle.scopes.specs.declared.scope.Named.TheVariants as named
 use Rattle.scopes.specs.Item.{items_of}
 use Rattle.scopes.specs.Layout.{layout_of}

@@ -10,7 +10,7 @@ use Rattle.program.specs.declared.identifier.ObjectName.{ObjectName}
 use Rattle.program.specs.declared.identifier.ObjectName.TheVariants.{Global, Alloca, Parameter}
 use Rattle.types.specs.Apart.{NamesGlobal, parameters_at, CallsApart}
 use Rattle.types.specs.Definitions.{KeepsParameters}
-use Rattle.ir_text.specs.Reading.{Answers}
+use Rattle.ir_reader.specs.Reading.{Answers}
 use Rattle.types.specs.Meaning.{Means}
 use Rattle.verifier.specs.Accepted.{IsProgramOf}
 use Rattle.syntax.specs.declared.module.Module.{Module}

@@ -23,7 +23,7 @@ use Rattle.program.specs.declared.instruction.Terminator.TheVariants as terminat
 use Rattle.syntax.specs.declared.module.Module.{Module}
 use Rattle.syntax.specs.declared.operator.Width.{Width}
 use Rattle.syntax.specs.declared.operator.Width.TheVariants.{Bits64}
-use Rattle.ir_text.specs.Kept.{IsKeptModule}
+use Rattle.ir_reader.specs.Kept.{IsKeptModule}
 use Rattle.scopes.specs.Layout.{target_width}
 use Rattle.scopes.specs.Operand.{fits_width}
 use Rattle.program.specs.Widths.{source_width}

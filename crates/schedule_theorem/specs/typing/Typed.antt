@@ -5,7 +5,7 @@ use Rattle.linear.specs.declared.form.Term.{Term}
 use Rattle.program.specs.declared.function.Program.{Program}
 use Rattle.syntax.specs.declared.module.Module.{Module}
 use Rattle.phase_laws.specs.cfg.Rules.{IsGraphRight}
-use Rattle.ir_text.specs.Kept.{IsKeptModule}
+use Rattle.ir_reader.specs.Kept.{IsKeptModule}
 use Rattle.phase_laws.specs.region_match.Matched.{AreRegionsRight}
 use Rattle.types.specs.Meaning.{Means}
 use Rattle.conditions.specs.rules.Costs.{parameters_of, measure_of}

@@ -23,8 +23,8 @@ use Rattle.syntax.specs.declared.instruction.Instruction.TheVariants as text
 use Rattle.syntax.specs.declared.module.Function.{Function as FunctionText}
 use Rattle.syntax.specs.declared.module.Global.{Global as GlobalText}
 use Rattle.syntax.specs.declared.module.Module.{Module}
-use Rattle.ir_text.specs.Kept.{IsGlobalWritten, IsKeptModule}
-use Rattle.ir_text.proofs.Keeping.{answers_kept}
+use Rattle.ir_reader.specs.Kept.{IsGlobalWritten, IsKeptModule}
+use Rattle.ir_reader.proofs.Keeping.{answers_kept}
 use Rattle.refusal.specs.declared.refused.Refused.{Refused as TypeFault}
 use Rattle.refusal.specs.declared.refused.Refused.TheVariants.{Fault}
 use Rattle.scopes.specs.declared.scope.Holding.{Holding}

@@ -1,4 +1,4 @@
-use Rattle.ir_text.proofs.OneAnswer.{one_answer}
+use Rattle.ir_reader.proofs.OneAnswer.{one_answer}
 use Rattle.ir_text.proofs.RoundTrip.{round_trip}
 use Rattle.ir_text.proofs.laws.print_is_read_back.Goals as goal
 

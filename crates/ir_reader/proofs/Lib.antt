@@ -1,0 +1,10 @@
+pub mod FirstLine
+pub mod Follows
+pub mod Keeping
+pub mod LineByLine
+pub mod Seen
+pub mod Tracked
+pub mod Writing
+pub mod Limiting
+pub mod OneAnswer
+pub mod Naming

@@ -1,0 +1,13 @@
+pub mod Annotating
+pub mod Counting
+pub mod Defined
+pub mod Draft
+pub mod Faults
+pub mod Kept
+pub mod Limits
+pub mod Lines
+pub mod Names
+pub mod Opening
+pub mod Reading
+pub mod Scoping
+pub mod Tracking

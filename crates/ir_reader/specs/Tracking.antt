@@ -1,0 +1,76 @@
+-- Only the reader's own functions and its loop need these: what it keeps beside the draft, and what its steps answer.
+use Rattle.std.specs.Prelude.{◌≡◌, ℕ, min, Bool, ◌&&◌, is_some, if◌then◌else◌, List, [], Option, Some, None, Result, Ok, Err}
+use Rattle.refusal.specs.declared.refused.Refused.{Refused}
+use Rattle.refusal.specs.declared.refused.Refused.TheVariants as faults
+use Rattle.syntax.specs.declared.module.Module.{Module}
+use Rattle.ir_item.specs.declared.line.Line.{Line}
+use Rattle.ir_reader.specs.declared.draft.Draft.{Draft}
+use Rattle.ir_reader.specs.declared.draft.Place.{Place}
+use Rattle.ir_reader.specs.declared.draft.Place.TheVariants as place
+use Rattle.ir_reader.specs.declared.limits.Counts.{Counts}
+use Rattle.ir_reader.specs.declared.scope.Scope.{Scope}
+use Rattle.ir_reader.specs.declared.reader.Reader.{Reader}
+use Rattle.ir_reader.specs.Defined.{names_outside, names_inside}
+use Rattle.ir_reader.specs.Counting.{counts_of, IsSmall, is_within_limits}
+use Rattle.ir_reader.specs.Draft.{placed}
+use Rattle.ir_reader.specs.Reading.{Steps, OverlongFault}
+
+-- no instruction stands before a phi
+abbrev pub IsStepless : Place → Type 0
+IsStepless (place.BlockHead f h) = h.block.steps ≡ []
+IsStepless (place.Phis f b) = b.steps ≡ []
+IsStepless _ = Unit {0}
+
+pub record IsTracked (r : Reader) : Type 0 where
+  pub outside : r.scope.outside ≡ names_outside r.draft
+  pub inside : r.scope.inside ≡ names_inside r.draft
+  pub counted : r.counts ≡ counts_of r.draft
+  pub small : IsSmall r.counts
+  pub stepless : IsStepless r.draft.place
+
+-- 104 comes before 106
+abbrev pub judged_reader : ℕ → Bool → Bool → Reader → Result Reader Refused
+judged_reader at is_within is_new r =
+    if is_within && is_within_limits r.draft then (if is_new then Ok r else Err (faults.Fault 106 at))
+    else Err (faults.Fault 104 at)
+
+-- 103 comes first
+abbrev pub judged_place : ℕ → Option Draft → Bool → Bool → Counts → Scope → Result Reader Refused
+judged_place at None is_within is_new c s = Err (faults.Fault 103 at)
+judged_place at (Some e) is_within is_new c s = judged_reader at is_within is_new (record { draft = e; counts = c; scope = s })
+
+-- this result, or memory was refused
+abbrev pub OrMemory : Result Reader Refused → Result Reader Refused → Type 0
+OrMemory (Err faults.Memory) out = Unit {0}
+OrMemory (Err (faults.Fault number at)) out = out ≡ Err (faults.Fault number at)
+OrMemory (Ok r) out = out ≡ Ok r
+
+-- the fault is what one more item meets, on this line, or memory was refused
+abbrev pub FailsAt : ℕ → Result Draft ℕ → Refused → Type 0
+FailsAt at out faults.Memory = Unit {0}
+FailsAt at out (faults.Fault number line) = (line ≡ at) × (out ≡ Err number)
+
+-- and what one more line meets
+abbrev pub FaultSteps : Draft → ℕ → List ℕ → Refused → Type 0
+FaultSteps d at line faults.Memory = Unit {0}
+FaultSteps d at line (faults.Fault number found_at) = (found_at ≡ at) × Steps d at line (Err number)
+
+-- and where the text grows too long with the line
+abbrev pub FaultOverlong : Draft → ℕ → List ℕ → Refused → Type 0
+FaultOverlong d at line faults.Memory = Unit {0}
+FaultOverlong d at line (faults.Fault number found_at) = (found_at ≡ at) × OverlongFault d at line number
+
+-- and with its item
+abbrev pub FaultTooLate : Draft → ℕ → Line → Refused → Type 0
+FaultTooLate d at line faults.Memory = Unit {0}
+FaultTooLate d at line (faults.Fault number found_at) = (found_at ≡ at) × (number ≡ (if is_some (placed d at line.item) then 104 else 103))
+
+-- the lower of a line's own fault and 104
+abbrev pub or_too_late : Refused → Refused
+or_too_late faults.Memory = faults.Memory
+or_too_late (faults.Fault number at) = faults.Fault (min number 104) at
+
+-- the fault is that of the text's end, or memory was refused
+abbrev pub FaultEnded : Result Module (ℕ × ℕ) → Refused → Type 0
+FaultEnded out faults.Memory = Unit {0}
+FaultEnded out (faults.Fault number line) = out ≡ Err (number, line)

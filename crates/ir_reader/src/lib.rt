@@ -1,0 +1,17 @@
+//! From a module's text to its syntax tree, line by line.
+//!
+//! Reading stops at the first line with a fault; of several faults on one line the lowest number is named. A line's item is put behind
+//! what was read (`draft`), and then the module so far is held to its limits (`limits`) and its names to being defined once (`names`).
+#![tactic(auto)]
+
+mod annotating;
+mod draft;
+mod limits;
+mod lines;
+mod names;
+mod opening;
+mod reader;
+mod scope;
+
+pub use reader::read;
+pub use refusal::Refused as TextFault;
