@@ -8,7 +8,7 @@ use Rattle.schedule_core.specs.declared.event.Event.{Event}
 use Rattle.schedule_core.specs.declared.stage.Stage.{Stage}
 use Rattle.schedule_core.specs.Lines.{StandsAt}
 use Rattle.schedule_core.specs.declared.task.TaskView.{TaskView}
-use Rattle.schedule_core.specs.Replaying.{HasLineAfter, LeavesStage, Replays, state_after}
+use Rattle.schedule_core.specs.Replaying.{HasLineAfter, LeavesAsBefore, Replays, state_after}
 use Rattle.schedule_core.specs.Viewed.{place_in}
 use Rattle.debugger.specs.declared.debugger.Debugger.{Debugger}
 use Rattle.debugger.specs.declared.marks.Mark.{Mark}
@@ -55,4 +55,4 @@ pub record IsFirstStop (s : Session) (line old new : ℕ) : Type 0 where
 -- position and state stay
 pub record Stays (old new : Debugger) : Type 0 where
   pub position : new.position ≡ old.position
-  pub state : LeavesStage old.machine.stage new.machine.stage
+  pub state : LeavesAsBefore old.machine.stage new.machine.stage

@@ -12,10 +12,11 @@ use Rattle.running.proofs.Workers.{Manned}
 use Rattle.program.specs.declared.function.Program.{Program}
 use Rattle.frame.specs.declared.path.Path.{Path}
 use Rattle.cactus.specs.declared.node.Node.{Node}
-use Rattle.cactus.specs.Frames.{HasPath, node_of_use}
+use Rattle.cactus.specs.Frames.{HasPath, node_at, node_of_use}
 use Rattle.crew.specs.declared.activation.Activation.{Activation}
+use Rattle.crew.specs.Follows.{IsSameUse}
 use Rattle.schedule_core.specs.Parents.{HasNoReadyParent, IsReadyParent}
-use Rattle.schedule_core.specs.Replaying.{GrowsOnly, LeavesStage}
+use Rattle.schedule_core.specs.Replaying.{GrowsOnly, LeavesAsBefore}
 use Rattle.schedule_core.specs.Stages.{workers_of}
 use Rattle.schedule_core.specs.Viewed.{place_in, status_in, IsFirstReady}
 use Rattle.schedule_core.specs.declared.event.Event.{Event}
@@ -210,20 +211,23 @@ module _ (s t : Story) (p q : Place) where
 
 -- ---- want of memory
 
-as_it_was : (stage : Stage) → LeavesStage stage stage
+as_it_was : (stage : Stage) → LeavesAsBefore stage stage
 as_it_was stage = record {
+  state = λ m is. is;
   replays = λ program arguments globals workers events r. r;
-  stands = λ m is. is;
-  uses = record { made = refl; back = λ slot node stands. record { there = node; stands = stands; generation = refl; path = refl }; on = λ slot node stands. record { there = node; stands = stands; generation = refl; path = refl } };
-  names = refl;
+  globals = refl;
+  uses = record { made = refl; back = λ slot node stands. itself slot node stands; on = λ slot node stands. itself slot node stands };
 }
+  where
+    itself : (slot : ℕ) (node : Node Activation) → node_at stage.run.cactus slot ≡ Some node → IsSameUse stage.run.cactus slot node
+    itself slot node stands = record { there = node; stands = stands; generation = refl; path = refl }
 
 pub stays_same : (s t : Story) (p q : Place) → Same s t p q → Stays s t p q
 stays_same s t p q (same, seat) =
     record {
       start = ap (λ (x : Story). x.start) same;
       events = ap (λ (x : Story). x.events) same;
-      stage = subst (λ (x : Stage). LeavesStage s.stage x) (ap (λ (x : Story). x.stage) (sym same)) (as_it_was s.stage);
+      stage = subst (λ (x : Stage). LeavesAsBefore s.stage x) (ap (λ (x : Story). x.stage) (sym same)) (as_it_was s.stage);
       seat = seat;
     }
 

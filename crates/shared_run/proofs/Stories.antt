@@ -1,7 +1,7 @@
 -- What a legal history says of its machine, and an event more.
-use Rattle.std.proofs.Common.{◌≡◌, ℕ, ℤ, ◌≤◌, List, [], ◌∷◌, ◌++◌, map, length, reverse, reverse-reverse, Option, Some, None, Bool, true, false, refl, sym, ap, ◌∙◌, subst, arith}
+use Rattle.std.proofs.Common.{◌≡◌, ℕ, ℤ, ◌≤◌, List, [], ◌∷◌, ◌++◌, map, length, reverse, Option, Some, None, Bool, true, false, refl, sym, ap, ◌∙◌, subst, arith}
 use Rattle.std.specs.Prelude.{IsSome, IfSome, is_none}
-use Rattle.std.proofs.lemmas.List.{map-append}
+use Rattle.std.proofs.lemmas.List.{map-append, reverse-reverse}
 use Rattle.running.specs.Frames.{Frame}
 use Rattle.running.specs.Events as running
 use Rattle.running.specs.Events.{Machine, event}
@@ -37,6 +37,7 @@ back (running.Step worker) = Step worker
 back (running.Steal worker task) = Steal worker (record { numbers = reverse task })
 
 back_is : (e : running.Event) → event_of (back e) ≡ e
+unfolding back
 back_is (running.Step worker) = refl
 back_is (running.Steal worker task) = ap (λ t. running.Steal worker t) (reverse-reverse task)
 

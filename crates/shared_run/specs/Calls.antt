@@ -10,7 +10,7 @@ use Rattle.program.specs.declared.function.Program.{Program}
 use Rattle.frame.specs.declared.path.Path.{Path}
 use Rattle.schedule_core.specs.declared.event.Event.{Event}
 use Rattle.schedule_core.specs.declared.event.Event.TheVariants.{Step, Steal}
-use Rattle.schedule_core.specs.Replaying.{event_of, LeavesStage, Replays}
+use Rattle.schedule_core.specs.Replaying.{event_of, LeavesAsBefore, Replays}
 use Rattle.schedule_core.specs.Viewed.{place_in, status_in, IsFirstReady}
 use Rattle.shared_run.specs.declared.ticket.Ticket.{Ticket}
 use Rattle.shared_run.specs.declared.answers.Stepped.{Stepped}
@@ -33,7 +33,7 @@ Same s t p q = (t ≡ s) × (q ≡ p)
 pub record Stays (s t : Story) (p q : Place) : Type 0 where
   pub start : t.start ≡ s.start
   pub events : t.events ≡ s.events
-  pub stage : LeavesStage s.stage t.stage
+  pub stage : LeavesAsBefore s.stage t.stage
   pub seat : q ≡ p
 
 -- memory was refused for the event

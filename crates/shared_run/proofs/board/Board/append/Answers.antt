@@ -45,3 +45,9 @@ returns-in-Ok-false-clause-done g c =
       ),
       not_here c.self.inside.start c.self.inside.history.events c.self.inside.machine.stage c.self.invariant.0 c.args.event c.apply.new.self.stage happened,
     )
+
+pub returns-in_err-reserve-clause-refused : goal.returns-in_err-reserve-clause-refused
+returns-in_err-reserve-clause-refused g c = ?
+
+pub returns-in-Err-clause-refused : goal.returns-in-Err-clause-refused
+returns-in-Err-clause-refused g c = ?
