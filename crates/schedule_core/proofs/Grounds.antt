@@ -1,20 +1,29 @@
 -- The laws on accepted programs that a machine rests on.
-use Rattle.std.proofs.Common.{◌≡◌, ℕ, ◌<◌, ◌≤◌, List, length, None, Some, slice_get, ℤ}
+use Rattle.std.proofs.Common.{◌≡◌, ℕ, zero, suc, ◌<◌, ◌≤◌, List, [], ◌∷◌, ◌++◌, append_assoc, length, map, None, Some, arith, refl, ap, ◌∙◌, sym, subst, slice_get, ℤ}
+use Rattle.std.specs.Prelude.{IsSome}
 use Rattle.running.specs.Cells.{Memory}
 use Rattle.running.specs.Events.{Event, start}
+use Rattle.running.specs.Frames.{global_cells}
 use Rattle.running.specs.Replay.{replay}
-use Rattle.running.specs.SerialMeaning.{Outcome, IsSerialMeaning}
-use Rattle.conditions.specs.theorem.Schedules.{KeepsSchedule}
-use Rattle.program.specs.declared.function.Function.{Function}
+use Rattle.program.specs.declared.function.Global.{Global}
 use Rattle.program.specs.declared.function.Program.{Program}
 use Rattle.verifier.specs.Accepted.{IsAccepted}
-use Rattle.verifier.specs.Budgets.{budget_of}
 use Rattle.outcome.specs.Requirements.{unmet_in}
-use Rattle.store.specs.Cells.{NamedCells}
+use Rattle.store.specs.Cells.{NamedCells, cell_at}
+use Rattle.store.specs.Made.{HasGlobalCells}
+use Rattle.store.specs.Rows.{sizes_of}
+use Rattle.serial_machine.specs.schedule_theorem.Promise.{AreTaken, HasGlobals}
+use Rattle.serial_machine.proofs.Arguments.{are_taken}
+use Rattle.serial_machine.proofs.Globals.{globals_given}
+use Rattle.serial_machine.proofs.schedule_theorem.Promise.{accepted_programs_keep_their_promise}
+use Rattle.serial_machine.proofs.schedule_theorem.safe.Safe.{schedules_are_safe}
+use Rattle.crew_promise.specs.Safe.{StartFits}
+use Rattle.crew_promise.proofs.Going.{runs_are_safe}
+use Rattle.crew_promise.proofs.Texts.{texts_fit, starts_fit}
 use Rattle.crew.specs.Going.{RunsSafely, TextFits}
 use Rattle.crew.specs.Starts.{ArePlaces, HasMoves}
 use Rattle.engine.specs.declared.activation.Places.{Places}
-use Rattle.schedule_core.specs.Replaying.{KeepsItsSchedule}
+use Rattle.schedule_core.specs.Replaying.{KeepsItsSchedule, event_of}
 use Rattle.schedule_core.specs.Stages.{AreFull, IsMadeFor, given}
 use Rattle.schedule_core.specs.declared.event.Event.{Event as MachineEvent}
 
@@ -33,12 +42,62 @@ pub record Laws : Type 0 where
       TextFits program places moves
   pub from_start : (program : Program) → IsAccepted program → (arguments : List ℤ) → unmet_in program arguments ≡ None → (globals : List NamedCells) →
       IsMadeFor program globals → (workers : ℕ) → 1 ≤ workers → FromStart program arguments globals workers
-  -- `main` is there, has an entry, and registers for its arguments (as in serial_machine's `Engine`)
-  pub main_there : (program : Program) → IsAccepted program → program.main.0 < length program.functions
-  pub main_room : (program : Program) → IsAccepted program → (arguments : List ℤ) → unmet_in program arguments ≡ None → (f : Function) →
-      slice_get program.functions program.main.0 ≡ Some f → length arguments ≤ length f.registers
-  pub main_entry : (program : Program) → IsAccepted program → (f : Function) → slice_get program.functions program.main.0 ≡ Some f → 0 < length f.blocks
+  -- `main` is there, has an entry, and registers for its arguments (crew_promise's `starts_fit`)
+  pub main : (program : Program) → IsAccepted program → (arguments : List ℤ) → unmet_in program arguments ≡ None → StartFits program arguments
 
--- open: to be put together from the laws that are named
+-- ---- memory that was made for a program has its cells
+
+there : (xs : List ℤ) (i : ℕ) → i < length xs → IsSome (slice_get xs i)
+there [] i low = absurd (omega (arith, low))
+there (x ∷ xs) zero low = refl
+there (x ∷ xs) (suc i) low = there xs i (omega (arith, low))
+
+cells_there : (m : List NamedCells) (globals : List Global) → sizes_of m ≡ map (λ (g : Global). g.cells) globals → (g i : ℕ) (global : Global) → slice_get globals g ≡ Some global → i < global.cells → IsSome (cell_at m g i)
+cells_there m [] made g i global is low = absurd (cc)
+cells_there [] (d ∷ globals) made g i global is low = absurd (cc)
+cells_there (x ∷ m) (d ∷ globals) made zero i global is low =
+    let same : length x.cells ≡ d.cells = (let both : length x.cells ∷ sizes_of m ≡ d.cells ∷ map (λ (g : Global). g.cells) globals = made in cc) in
+    let one : d.cells ≡ global.cells = (let e : Some d ≡ Some global = is in let f : d ≡ global = cc in ap (λ (g : Global). g.cells) f) in
+    there x.cells i (omega (arith, same, one, low))
+cells_there (x ∷ m) (d ∷ globals) made (suc g) i global is low =
+    let rest : sizes_of m ≡ map (λ (g : Global). g.cells) globals = (let both : length x.cells ∷ sizes_of m ≡ d.cells ∷ map (λ (g : Global). g.cells) globals = made in cc) in
+    cells_there m globals rest g i global is low
+
+pub made_cells : (program : Program) (globals : List NamedCells) → IsMadeFor program globals → HasGlobalCells program globals
+made_cells program globals made g i global is low = cells_there globals program.globals made g i global is low
+
+-- ---- put together
+
+module _ (program : Program) (a : IsAccepted program) (arguments : List ℤ) (none : unmet_in program arguments ≡ None) where
+  taken : AreTaken program arguments
+  taken = are_taken program arguments none
+
+  main : StartFits program arguments
+  main = starts_fit a.text program a.means arguments taken
+
+  module _ (globals : List NamedCells) (made : IsMadeFor program globals) (workers : ℕ) (some : 1 ≤ workers) where
+    valued : HasGlobals program (given globals)
+    valued = globals_given program globals (made_cells program globals made)
+
+    from : FromStart program arguments globals workers
+    from = record {
+      safe = runs_are_safe a.text program a.means arguments (given globals) taken valued workers some;
+      full = λ events g i global is low.
+          (schedules_are_safe a.text program a.means arguments (given globals) taken valued workers some events).globals g i (subst (λ o. i < global_cells o) (sym is) low);
+      keeps = λ events.
+          let p = accepted_programs_keep_their_promise a.text program a.means arguments (given globals) taken valued in
+          record {
+            serial = p.serial;
+            is_serial = p.is_serial;
+            within_budget = p.within_budget;
+            schedule = p.every_schedule workers some (map event_of events);
+            onwards = λ more. p.every_schedule workers some (map event_of (events ++ more));
+          };
+    }
+
 pub laws : Laws
-laws = ?
+laws = record {
+  texts_fit = λ program a places at moves has. texts_fit a.text program a.means places moves at.globals at.allocas has;
+  from_start = λ program a arguments none globals made workers some. from program a arguments none globals made workers some;
+  main = λ program a arguments none. main program a arguments none;
+}

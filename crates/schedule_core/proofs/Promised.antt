@@ -21,17 +21,18 @@ use Rattle.crew.specs.declared.run.Run.{Run}
 use Rattle.crew.specs.Events.{DoesEvent, Grows, LeavesStalls}
 use Rattle.crew.specs.Follows.{AreGiven, Follows}
 use Rattle.crew.specs.Going.{DoesSteal, StandsSafely, TextFits}
+use Rattle.crew.specs.Left.{LeavesAsShown}
 use Rattle.crew.specs.Stalls.{KeepsStalls}
 use Rattle.crew.specs.Starts.{ArePlaces, HasMoves}
 use Rattle.engine.specs.declared.activation.Places.{Places}
 use Rattle.schedule_core.specs.declared.event.Event.{Event}
 use Rattle.schedule_core.specs.declared.event.Event.TheVariants.{Step, Steal}
 use Rattle.schedule_core.specs.declared.stage.Stage.{Stage}
-use Rattle.schedule_core.specs.Replaying.{Becomes, GrowsOnly, Happens, IsMachine, Replays, ReplaysOneMore, event_of, state_after}
+use Rattle.schedule_core.specs.Replaying.{Becomes, GrowsOnly, Happens, IsMachine, LeavesAsBefore, Replays, ReplaysOneMore, event_of, state_after}
 use Rattle.schedule_core.specs.Stages.{IsState, program_of, workers_of}
 use Rattle.schedule_core.proofs.Grounds.{laws}
 use Rattle.schedule_core.proofs.Over.{ended_enables_nothing, no_frames, no_root}
-use Rattle.schedule_core.proofs.Replaying.{happens, replays_next, with_run}
+use Rattle.schedule_core.proofs.Replaying.{happens, leaves_as_before, replays_next, with_run}
 
 -- ---- what a step rests on
 
@@ -65,8 +66,8 @@ given_on old new f given slot node stands = elim (f.uses slot node stands) [
 ]
 
 module _ (old : Stage) (k : Run) (many : length k.hands.items ≡ length old.run.hands.items) (moves : length k.moves.items ≡ length old.run.moves.items) (follows : Follows old.run.cactus k.cactus) (e : Event) where
-  machine_next : ReplaysOneMore old (with_run old k) e → IsMachine old → IsMachine (with_run old k)
-  machine_next next m = record {
+  machine_of : (m : IsMachine old) (events : List Event) → Replays (program_of old) m.arguments old.memory (workers_of old) events (with_run old k) → IsMachine (with_run old k)
+  machine_of m events r = record {
     accepted = m.accepted;
     moves = subst (λ n. HasMoves (program_of old) n) (sym moves) m.moves;
     places = m.places;
@@ -75,15 +76,23 @@ module _ (old : Stage) (k : Run) (many : length k.hands.items ≡ length old.run
     given = given_on old.run.cactus k.cactus follows m.given;
     arguments = m.arguments;
     taken = m.taken;
-    events = m.events ++ e ∷ [];
-    replays =
-        subst (λ n. Replays (program_of old) m.arguments old.memory n (m.events ++ e ∷ []) (with_run old k)) (sym many)
-        (next (program_of old) m.arguments old.memory (workers_of old) m.events m.replays);
+    events = events;
+    replays = subst (λ n. Replays (program_of old) m.arguments old.memory n events (with_run old k)) (sym many) r;
   }
 
-  pub machine_after : (r : Result Bool OutOfMemory) → OnErr r (k ≡ old.run) → OnOk r (ReplaysOneMore old (with_run old k) e) → ∥ IsMachine old ∥₁ → ∥ IsMachine (with_run old k) ∥₁
-  machine_after (Err x) same next kept = subst (λ (x : Run). ∥ IsMachine (with_run old x) ∥₁) (sym same) kept
-  machine_after (Ok done) same next kept = ∥∥₁_map kept (machine_next next)
+  machine_next : ReplaysOneMore old (with_run old k) e → IsMachine old → IsMachine (with_run old k)
+  machine_next next m = machine_of m (m.events ++ e ∷ []) (next (program_of old) m.arguments old.memory (workers_of old) m.events m.replays)
+
+  machine_same : LeavesAsBefore old (with_run old k) → IsMachine old → IsMachine (with_run old k)
+  machine_same left m = machine_of m m.events (left.replays (program_of old) m.arguments old.memory (workers_of old) m.events m.replays)
+
+  pub machine_after : (r : Result Bool OutOfMemory) → OnErr r (LeavesAsBefore old (with_run old k)) → OnOk r (ReplaysOneMore old (with_run old k) e) → ∥ IsMachine old ∥₁ → ∥ IsMachine (with_run old k) ∥₁
+  machine_after (Err x) left next kept = ∥∥₁_map kept (machine_same left)
+  machine_after (Ok done) left next kept = ∥∥₁_map kept (machine_next next)
+
+  pub left_after : (r : Result Bool OutOfMemory) → OnErr r (LeavesAsShown (program_of old) old.places old.run k) → OnErr r (LeavesAsBefore old (with_run old k))
+  left_after (Err x) left = leaves_as_before old k many left
+  left_after (Ok done) left = tt
 
   pub happens_after : (r : Result Bool OutOfMemory) → IfOk r (DoesEvent (program_of old) old.places old.run k (event_of e)) → IfOk r (Happens old (with_run old k) (event_of e))
   happens_after (Err x) does = tt

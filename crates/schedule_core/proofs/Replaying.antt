@@ -8,11 +8,12 @@ use Rattle.store.specs.Cells.{NamedCells}
 use Rattle.crew.specs.declared.run.Run.{Run}
 use Rattle.crew.specs.Events.{DoesEvent, LeavesStalls}
 use Rattle.crew.specs.Going as crew
+use Rattle.crew.specs.Left.{LeavesAsShown}
 use Rattle.crew.specs.Shown.{IsShown}
 use Rattle.crew.specs.Stalls.{Blocks, StallsAgree, if_enabled, last_blocks, no_blocks, noted}
 use Rattle.schedule_core.specs.declared.event.Event.{Event}
 use Rattle.schedule_core.specs.declared.stage.Stage.{Stage}
-use Rattle.schedule_core.specs.Replaying.{Becomes, Happens, Replays, ReplaysMore, ReplaysOneMore, event_of, first_state, state_after}
+use Rattle.schedule_core.specs.Replaying.{Becomes, Happens, LeavesAsBefore, Replays, ReplaysMore, ReplaysOneMore, ReplaysTheSame, event_of, first_state, state_after}
 use Rattle.schedule_core.specs.Stages.{GoesWell, IsReached, IsState, program_of, workers_of}
 use Rattle.schedule_core.proofs.Reached.{reached_next, replay_more}
 
@@ -113,6 +114,32 @@ module _ (old : Stage) (k : Run) (many : length k.hands.items ≡ length old.run
         subst (λ n. Replays (program_of old) arguments globals n events old) (sym r.as_many) (subst (λ q. Replays q arguments globals workers events old) (sym r.program) r) in
         subst (λ q. Replays q arguments globals workers (events ++ e ∷ []) new) r.program
         (subst (λ n. Replays (program_of old) arguments globals n (events ++ e ∷ []) new) r.as_many (replays_here arguments globals events own done refl (h _ own.state)))
+
+-- ---- a run of which the same is seen
+
+module _ (old : Stage) (k : Run) (many : length k.hands.items ≡ length old.run.hands.items) (left : LeavesAsShown (program_of old) old.places old.run k) where
+  abbrev seen : Stage
+  seen = with_run old k
+
+  state_same : (m : Machine) → IsState old m → IsState seen m
+  state_same m s = record {
+    shown = left.shown m s.shown s.well.safe;
+    manned = subst (λ n. 1 ≤ n) (sym many) s.manned;
+    reached = subst (λ n. IsReached (program_of old) n m) (sym many) s.reached;
+    well = subst (λ n. GoesWell (program_of old) n m) (sym many) s.well;
+  }
+
+  replays_same : ReplaysTheSame old seen
+  replays_same prog arguments globals workers events r = record {
+    program = r.program;
+    as_many = many ∙ r.as_many;
+    globals_are = r.globals_are;
+    state = state_same _ r.state;
+    stalls = left.stalls (last_blocks prog workers (map event_of events) (first_state prog arguments globals) no_blocks) r.stalls;
+  }
+
+  pub leaves_as_before : LeavesAsBefore old seen
+  leaves_as_before = record { state = state_same; replays = replays_same; uses = left.uses; globals = refl }
 
 -- ---- many
 

@@ -12,7 +12,7 @@ use Rattle.outcome.specs.Requirements.{unmet_in}
 use Rattle.store.specs.Cells.{NamedCells}
 use Rattle.store.specs.Rows.{sizes_of}
 use Rattle.crew.specs.Events.{GrowsAtStep}
-use Rattle.crew.specs.Follows.{AreGiven}
+use Rattle.crew.specs.Follows.{AreGiven, KeepsUses}
 use Rattle.crew.specs.Stalls.{StallsAgree, last_blocks, no_blocks}
 use Rattle.crew.specs.Starts.{ArePlaces, HasMoves}
 use Rattle.schedule_core.specs.Lines.{line_after, line_or_zero}
@@ -81,6 +81,14 @@ ReplaysTheSame stage other =
     (prog : Program) (arguments : List ℤ) (globals : List NamedCells) (workers : ℕ) (events : List Event) →
     Replays prog arguments globals workers events stage → Replays prog arguments globals workers events other
 
+-- nothing has changed that is seen of the stage: whatever machine it stood as it stands as, whatever events led to it lead to it, and frames keep
+-- their uses of slots
+pub record LeavesAsBefore (old new : Stage) : Type 0 where
+  pub state : (m : running.Machine) → IsState old m → IsState new m
+  pub replays : ReplaysTheSame old new
+  pub uses : KeepsUses old.run.cactus new.run.cactus
+  pub globals : new.memory ≡ old.memory
+
 -- ---- what a machine keeps
 
 -- of a module that the verifier took, a schedule leads here from arguments that `main` takes and memory that was made for the module
@@ -103,6 +111,8 @@ pub record KeepsItsSchedule (prog : Program) (arguments : List ℤ) (globals : L
   pub is_serial : IsSerialMeaning prog arguments (given globals) serial
   pub within_budget : serial.count ≤ budget_of prog
   pub schedule : KeepsSchedule prog workers serial (state_after prog arguments globals workers events)
+  -- and so after whatever events follow these
+  pub onwards : (more : List Event) → KeepsSchedule prog workers serial (state_after prog arguments globals workers (events ++ more))
 
 -- ---- lines
 

@@ -3,7 +3,7 @@ ghost use Rattle.running.specs.Events.{Machine};
 ghost use Rattle.outcome.specs.Requirements.{unmet_in};
 ghost use Rattle.store.specs.declared.memory.Memory.{Memory};
 ghost use Rattle.crew.specs.Follows.{Follows};
-ghost use Rattle.schedule_core.specs.Replaying.{GrowsOnly, Happens, IsMachine, IsNumberOfWorkers, Replays, ReplaysMore, ReplaysOneMore, event_of};
+ghost use Rattle.schedule_core.specs.Replaying.{GrowsOnly, Happens, IsMachine, IsNumberOfWorkers, LeavesAsBefore, Replays, ReplaysMore, ReplaysOneMore, event_of};
 ghost use Rattle.schedule_core.specs.Stages.{IsMadeFor, IsState, program_of};
 
 use crate::event::Event;
@@ -82,7 +82,7 @@ pub(crate) fn apply_to(stage: &mut Stage<'_>, event: &Event) -> Result<bool, Out
     requires { ∥ IsMachine stage.old ∥₁ }
     ensures enabled { IfOk result (Happens stage.old stage.new (event_of event.now)) }
     ensures not_enabled { result ≡ Ok false → stage.new ≡ stage.old }
-    ensures refused { OnErr result (stage.new ≡ stage.old) }
+    ensures refused { OnErr result (LeavesAsBefore stage.old stage.new) }
     ensures only { OnErr result ((m : Machine) → IsState stage.old m → GrowsOnly (program_of stage.old) m event.now) }
     ensures replays { OnOk result (ReplaysOneMore stage.old stage.new event.now) }
     ensures machine { ∥ IsMachine stage.new ∥₁ }

@@ -4,7 +4,7 @@ ghost use Rattle.running.specs.Replay.{CountsFrames, has_ended};
 ghost use Rattle.outcome.specs.Requirements.{unmet_in};
 ghost use Rattle.store.specs.declared.memory.Memory.{Memory};
 ghost use Rattle.schedule_core.specs.Spots.{KeepsSpots};
-ghost use Rattle.schedule_core.specs.Replaying.{GrowsOnly, Happens, IsMachine, IsNumberOfWorkers, Replays, ReplaysOneMore, ReplaysTheSame, event_of};
+ghost use Rattle.schedule_core.specs.Replaying.{GrowsOnly, Happens, IsMachine, IsNumberOfWorkers, LeavesAsBefore, Replays, ReplaysOneMore, event_of};
 ghost use Rattle.schedule_core.specs.Stages.{IsMadeFor, IsState, program_of};
 
 use crate::event::Event;
@@ -57,11 +57,11 @@ impl<'v> Machine<'v> {
     ///
     /// # Errors
     ///
-    /// Memory was refused: nothing has changed. Only a step that makes a frame takes memory.
+    /// Memory was refused: nothing has changed that is seen of the machine. Only a step that makes a frame takes memory.
     pub fn apply(&mut self, event: &Event) -> Result<bool, OutOfMemory>
         ensures enabled { IfOk result (Happens self.old.stage self.new.stage (event_of event.now)) }
         ensures not_enabled { result ≡ Ok false → self.new.stage ≡ self.old.stage }
-        ensures refused { OnErr result (self.new.stage ≡ self.old.stage) }
+        ensures refused { OnErr result (LeavesAsBefore self.old.stage self.new.stage) }
         ensures only { OnErr result ((m : running.Machine) → IsState self.old.stage m → GrowsOnly (program_of self.old.stage) m event.now) }
         ensures over { (m : running.Machine) → IsState self.old.stage m → has_ended m ≡ true → result ≡ Ok false }
         ensures keeps { OnOk result (ReplaysOneMore self.old.stage self.new.stage event.now) }

@@ -3,14 +3,15 @@ use Rattle.std.specs.Prelude.{Ok, IfOk, OnErr, OnOk}
 use Rattle.running.specs.Events as running
 use Rattle.running.specs.Events.{Machine}
 use Rattle.program.specs.declared.function.Program.{Program}
-use Rattle.crew.specs.Events.{DoesEvent, LeavesStalls}
+use Rattle.crew.specs.Events.{DoesEvent, Grows, LeavesStalls}
 use Rattle.crew.specs.Going.{StandsSafely, TextFits}
+use Rattle.crew.specs.Left.{LeavesAsShown}
 use Rattle.schedule_core.specs.declared.event.Event.{Event}
 use Rattle.schedule_core.specs.declared.event.Event.TheVariants.{Step, Steal}
 use Rattle.schedule_core.specs.Replaying.{GrowsOnly, Happens, ReplaysOneMore, event_of}
 use Rattle.schedule_core.specs.Stages.{IsState, program_of}
 use Rattle.schedule_core.proofs.Replaying.{with_run}
-use Rattle.schedule_core.proofs.Promised.{happens_after, machine_after, replays_after, stands_safely, steal_happens, steal_replays, text_fits, unless_done}
+use Rattle.schedule_core.proofs.Promised.{grows_only, happens_after, left_after, machine_after, replays_after, stands_safely, steal_happens, steal_replays, text_fits, unless_done}
 use Rattle.schedule_core.proofs.events.apply_to.Goals as goal
 
 pub step-requires-clause-text : goal.step-requires-clause-text
@@ -40,9 +41,19 @@ returns-in-Step-clause-replays c =
     subst (λ (e : Event). OnOk c.step.result (ReplaysOneMore old (with_run old k) e)) (sym c.in-Step.is)
     (replays_after old k c.step.ensures.workers c.step.ensures.moves c.step.ensures.follows (Step c.in-Step.worker) c.step.result does c.step.ensures.left stalls)
 
--- open: once `Run::step` ensures `grows`, grows_only old worker result (its clause, along the program's equation)
+pub returns-in-Step-clause-refused : goal.returns-in-Step-clause-refused
+returns-in-Step-clause-refused c =
+    let old = c.args.stage.now in
+    let k = c.step.new.self in
+    let left = subst (λ (q : Program). OnErr c.step.result (LeavesAsShown q old.places old.run k)) c.program-program.ensures.value c.step.ensures.refused in
+    left_after old k c.step.ensures.workers c.step.ensures.moves c.step.ensures.follows (Step c.in-Step.worker) c.step.result left
+
 pub returns-in-Step-clause-only : goal.returns-in-Step-clause-only
-returns-in-Step-clause-only c = ?
+returns-in-Step-clause-only c =
+    let old = c.args.stage.now in
+    let grows = subst (λ (q : Program). OnErr c.step.result (Grows q old.places old.run c.in-Step.worker)) c.program-program.ensures.value c.step.ensures.grows in
+    subst (λ (e : Event). OnErr c.step.result ((m : Machine) → IsState old m → GrowsOnly (program_of old) m e)) (sym c.in-Step.is)
+    (grows_only old c.in-Step.worker c.step.result grows)
 
 pub returns-in-Step-clause-machine : goal.returns-in-Step-clause-machine
 returns-in-Step-clause-machine c =
@@ -50,7 +61,9 @@ returns-in-Step-clause-machine c =
     let k = c.step.new.self in
     let does = subst (λ (q : Program). IfOk c.step.result (DoesEvent q old.places old.run k (running.Step c.in-Step.worker))) c.program-program.ensures.value c.step.ensures.event in
     let stalls = subst (λ (q : Program). IfOk c.step.result (LeavesStalls q old.places old.run k (running.Step c.in-Step.worker))) c.program-program.ensures.value c.step.ensures.stalls in
-    machine_after old k c.step.ensures.workers c.step.ensures.moves c.step.ensures.follows (Step c.in-Step.worker) c.step.result c.step.ensures.refused
+    let left = subst (λ (q : Program). OnErr c.step.result (LeavesAsShown q old.places old.run k)) c.program-program.ensures.value c.step.ensures.refused in
+    machine_after old k c.step.ensures.workers c.step.ensures.moves c.step.ensures.follows (Step c.in-Step.worker) c.step.result
+    (left_after old k c.step.ensures.workers c.step.ensures.moves c.step.ensures.follows (Step c.in-Step.worker) c.step.result left)
     (replays_after old k c.step.ensures.workers c.step.ensures.moves c.step.ensures.follows (Step c.in-Step.worker) c.step.result does c.step.ensures.left stalls) c.requires
 
 pub returns-in-Steal-clause-enabled : goal.returns-in-Steal-clause-enabled

@@ -10,17 +10,17 @@ use Rattle.schedule_core.proofs.Begun.{begun_machine, begun_replays, row_long}
 use Rattle.schedule_core.proofs.events.staged.Goals as goal
 
 pub start-requires-clause-there : goal.start-requires-clause-there
-start-requires-clause-there c = subst (λ (q : Program). q.main.0 < length q.functions) (sym c.program-program.ensures.value) (laws.main_there c.args.verified.now c.program-program.ensures.accepted)
+start-requires-clause-there c = subst (λ (q : Program). q.main.0 < length q.functions) (sym c.program-program.ensures.value) (laws.main c.args.verified.now c.program-program.ensures.accepted c.args.arguments.now c.requires.met).there
 
 pub start-requires-clause-room : goal.start-requires-clause-room
 start-requires-clause-room c =
     subst (λ (q : Program). (f : Function) → slice_get q.functions q.main.0 ≡ Some f → length c.args.arguments.now ≤ length f.registers) (sym c.program-program.ensures.value)
-    (laws.main_room c.args.verified.now c.program-program.ensures.accepted c.args.arguments.now c.requires.met)
+    (laws.main c.args.verified.now c.program-program.ensures.accepted c.args.arguments.now c.requires.met).room
 
 pub start-requires-clause-entry : goal.start-requires-clause-entry
 start-requires-clause-entry c =
     subst (λ (q : Program). (f : Function) → slice_get q.functions q.main.0 ≡ Some f → 0 < length f.blocks) (sym c.program-program.ensures.value)
-    (laws.main_entry c.args.verified.now c.program-program.ensures.accepted)
+    (laws.main c.args.verified.now c.program-program.ensures.accepted c.args.arguments.now c.requires.met).entry
 
 pub returns-clause-replays : goal.returns-clause-replays
 returns-clause-replays c =
