@@ -1,9 +1,11 @@
 use Rattle.std.proofs.Common.{Bool, refl, sym, ap, ◌∙◌, ◌∷◌, ◌++◌, [], subst, length, length-append, arith}
 use Rattle.std.specs.Prelude.{Ok}
+use Rattle.crew.proofs.Growing.{on_err}
 use Rattle.schedule_core.specs.Replaying.{Happens, event_of}
-use Rattle.shared_run.specs.Story.{place}
+use Rattle.schedule_core.specs.Stages.{program_of}
+use Rattle.shared_run.specs.Story.{place, reached, story}
 use Rattle.shared_run.proofs.Bound.{room}
-use Rattle.shared_run.proofs.Calls.{same_story}
+use Rattle.shared_run.proofs.Calls.{leaves_grown, leaves_same, same_story}
 use Rattle.shared_run.proofs.Stories.{done_here, legal_more, not_here}
 use Rattle.shared_run.proofs.board.Board.append.Goals as goal
 
@@ -47,7 +49,20 @@ returns-in-Ok-false-clause-done g c =
     )
 
 pub returns-in_err-reserve-clause-refused : goal.returns-in_err-reserve-clause-refused
-returns-in_err-reserve-clause-refused g c = ?
+returns-in_err-reserve-clause-refused g c =
+    let o = c.self.inside.start in
+    let stage = c.self.inside.machine.stage in
+    let events = c.self.inside.history.events in
+    rw (← c.self.view_is)
+    (on_err c.from_residual.result
+    (leaves_same c.args.event (story o events stage) (story o c.reserve.new.self.events stage) c.args.seat.now c.args.seat.now (same_story o events c.reserve.new.self.events stage stage c.reserve.ensures.events refl, refl)))
 
 pub returns-in-Err-clause-refused : goal.returns-in-Err-clause-refused
-returns-in-Err-clause-refused g c = ?
+returns-in-Err-clause-refused g c =
+    let o = c.self.inside.start in
+    let stage = c.self.inside.machine.stage in
+    let events = c.self.inside.history.events in
+    rw (← c.self.view_is)
+    (leaves_grown (program_of stage) (reached o events) c.args.event (story o events stage) (story o c.reserve.new.self.events c.apply.new.self.stage) c.args.seat.now c.args.seat.now
+    (c.in-Err.ensures.only (reached o events) c.self.invariant.0.replays.state)
+    (record { start = refl; events = c.reserve.ensures.events; stage = c.in-Err.ensures.refused; seat = refl }))
