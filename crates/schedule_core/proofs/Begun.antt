@@ -1,23 +1,22 @@
 -- The stage before the first event.
-use Rattle.std.proofs.Common.{◌≡◌, ℕ, zero, suc, ◌+◌, ◌<◌, ◌≤◌, List, [], ◌∷◌, ◌++◌, length, map, take, Option, Some, None, refl, sym, ap, ◌∙◌, subst, arith, slice_get, ℤ}
-use Rattle.std.specs.Prelude.{IsSome, sum}
+use Rattle.std.proofs.Common.{◌≡◌, ℕ, zero, suc, ◌+◌, ◌<◌, List, [], ◌∷◌, ◌++◌, length, map, take, Some, None, refl, sym, ap, ◌∙◌, subst, arith, slice_get, ℤ}
+use Rattle.std.specs.Prelude.{sum}
 use Rattle.std.specs.List.{fold}
 use Rattle.std.proofs.lemmas.List.{length-append}
-use Rattle.running.specs.Cells.{Shared, Memory}
-use Rattle.running.specs.Events.{Machine}
 use Rattle.program.specs.declared.function.Global.{Global}
 use Rattle.program.specs.declared.function.Program.{Program}
 use Rattle.verifier.specs.Accepted.{IsAccepted}
 use Rattle.outcome.specs.Requirements.{unmet_in}
-use Rattle.store.specs.Cells.{NamedCells, cell_at, cell_in}
+use Rattle.store.specs.Cells.{NamedCells, cell_at}
 use Rattle.store.specs.Rows.{row_of, sizes_of}
 use Rattle.crew.specs.Follows.{AreGiven}
 use Rattle.crew.specs.Stalls.{StallsAgree, no_blocks}
-use Rattle.crew.specs.Starts.{ArePlaces, Begins, HasMoves, IsRowOf, row_start, sizes_in}
+use Rattle.crew.specs.Starts.{ArePlaces, Begins, HasMoves, IsRowOf}
 use Rattle.schedule_core.specs.declared.event.Event.{Event}
 use Rattle.schedule_core.specs.declared.stage.Stage.{Stage}
 use Rattle.schedule_core.specs.Replaying.{IsMachine, KeepsItsSchedule, Replays, first_state}
-use Rattle.schedule_core.specs.Stages.{IsMadeFor, IsState, given, program_of, workers_of}
+use Rattle.store.specs.Made.{IsMadeFor}
+use Rattle.schedule_core.specs.Stages.{IsState, given, program_of, workers_of}
 use Rattle.schedule_core.proofs.Grounds.{FromStart, laws}
 
 -- ---- the row of the globals

@@ -1,5 +1,5 @@
 -- The views that `task` and `task_of` find.
-use Rattle.std.proofs.Common.{◌≡◌, ℕ, Option, Some, None, refl, sym, ap, ◌∙◌, subst}
+use Rattle.std.proofs.Common.{◌≡◌, ℕ, Option, Some, None, refl, sym, ◌∙◌, subst}
 use Rattle.std.specs.Prelude.{IfNone, IfSome, IsSome}
 use Rattle.running.specs.Events.{Machine}
 use Rattle.frame.specs.declared.path.Path.{Path}
@@ -10,12 +10,12 @@ use Rattle.crew.specs.declared.activation.Activation.{Activation}
 use Rattle.crew.specs.Lowest.{IsLowestBelow}
 use Rattle.crew.specs.Scheduling.{hand_of}
 use Rattle.crew.specs.Shown.{place_of}
-use Rattle.crew.specs.Tasks.{FindsTop, nobody, no_task, task, top_within, IsLowest}
+use Rattle.crew.specs.Tasks.{FindsTop, nobody, no_task, task, top_within}
 use Rattle.crew.proofs.Stealing.{top_place}
 use Rattle.crew.proofs.Topmost.{TopIs, ended_at}
 use Rattle.schedule_core.specs.declared.stage.Stage.{Stage}
 use Rattle.schedule_core.specs.declared.task.TaskView.{TaskView}
-use Rattle.schedule_core.specs.Stages.{IsState, program_of, workers_of}
+use Rattle.schedule_core.specs.Stages.{IsState, program_of}
 use Rattle.schedule_core.specs.Viewed.{IsRunBy, IsTask, Shows}
 use Rattle.schedule_core.proofs.Shown.{low_lives, run_shown, task_shown}
 use Rattle.schedule_core.proofs.Views.{has_node}

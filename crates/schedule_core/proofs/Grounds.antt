@@ -1,7 +1,6 @@
 -- The laws on accepted programs that a machine rests on.
-use Rattle.std.proofs.Common.{◌≡◌, ℕ, zero, suc, ◌<◌, ◌≤◌, List, [], ◌∷◌, ◌++◌, append_assoc, length, map, None, Some, arith, refl, ap, ◌∙◌, sym, subst, slice_get, ℤ}
+use Rattle.std.proofs.Common.{◌≡◌, ℕ, zero, suc, ◌<◌, ◌≤◌, List, [], ◌∷◌, ◌++◌, length, map, None, Some, arith, refl, ap, sym, subst, slice_get, ℤ}
 use Rattle.std.specs.Prelude.{IsSome}
-use Rattle.running.specs.Cells.{Memory}
 use Rattle.running.specs.Events.{Event, start}
 use Rattle.running.specs.Frames.{global_cells}
 use Rattle.running.specs.Replay.{replay}
@@ -10,7 +9,7 @@ use Rattle.program.specs.declared.function.Program.{Program}
 use Rattle.verifier.specs.Accepted.{IsAccepted}
 use Rattle.outcome.specs.Requirements.{unmet_in}
 use Rattle.store.specs.Cells.{NamedCells, cell_at}
-use Rattle.store.specs.Made.{HasGlobalCells}
+use Rattle.store.specs.Made.{HasGlobalCells, IsMadeFor}
 use Rattle.store.specs.Rows.{sizes_of}
 use Rattle.serial_machine.specs.schedule_theorem.Promise.{AreTaken, HasGlobals}
 use Rattle.serial_machine.proofs.Arguments.{are_taken}
@@ -24,7 +23,7 @@ use Rattle.crew.specs.Going.{RunsSafely, TextFits}
 use Rattle.crew.specs.Starts.{ArePlaces, HasMoves}
 use Rattle.engine.specs.declared.activation.Places.{Places}
 use Rattle.schedule_core.specs.Replaying.{KeepsItsSchedule, event_of}
-use Rattle.schedule_core.specs.Stages.{AreFull, IsMadeFor, given}
+use Rattle.schedule_core.specs.Stages.{AreFull, given}
 use Rattle.schedule_core.specs.declared.event.Event.{Event as MachineEvent}
 
 -- of one program, from arguments that `main` takes and memory that was made for it

@@ -1,5 +1,5 @@
 -- The line of a view is that of its task, by the events that lead here.
-use Rattle.std.proofs.Common.{◌≡◌, ℕ, List, length, map, reverse, Option, Some, None, refl, sym, ap, ◌∙◌, subst, ℤ}
+use Rattle.std.proofs.Common.{◌≡◌, ℕ, List, map, reverse, Option, Some, None, refl, sym, ap, ◌∙◌, ℤ}
 use Rattle.std.specs.Prelude.{IfSome, option_and_then}
 use Rattle.std.specs.Option.{option_map}
 use Rattle.linear.specs.declared.form.RegisterId.{RegisterId}

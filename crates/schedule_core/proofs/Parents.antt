@@ -1,5 +1,5 @@
 -- The slot of a child's parent is that of the task whose top detached it.
-use Rattle.std.proofs.Common.{◌≡◌, ◌≢◌, ℕ, List, [], ◌∷◌, length, reverse, Option, Some, None, Bool, true, false, refl, sym, ap, ◌∙◌, subst}
+use Rattle.std.proofs.Common.{◌≡◌, ◌≢◌, ℕ, List, [], ◌∷◌, reverse, Option, Some, None, true, refl, sym, ap, ◌∙◌, subst}
 use Rattle.std.specs.Prelude.{IfNone, IfSome, IsSomeAnd}
 use Rattle.running.specs.Paths.{Path as RunningPath}
 use Rattle.running.specs.Frames as defined
@@ -10,11 +10,9 @@ use Rattle.program.specs.declared.identifier.BlockId.{BlockId}
 use Rattle.frame.specs.declared.path.Path.{Path}
 use Rattle.frame.specs.declared.frame.Role.{Role}
 use Rattle.frame.specs.declared.frame.Role.TheVariants as role
-use Rattle.frame.specs.declared.frame.Wait.{Wait}
-use Rattle.frame.specs.declared.frame.Wait.TheVariants as wait
-use Rattle.frame.specs.Reading.{role_of, wait_of}
+use Rattle.frame.specs.Reading.{role_of}
 use Rattle.cactus.specs.declared.node.Node.{Node}
-use Rattle.cactus.specs.Frames.{Frames, node_at, frame_at, HasPath, HasNoPath}
+use Rattle.cactus.specs.Frames.{node_at, frame_at, HasPath, HasNoPath}
 use Rattle.crew.specs.declared.activation.Activation.{Activation}
 use Rattle.crew.specs.declared.run.Run.{Run}
 use Rattle.crew.specs.Scheduling.{hand_of}

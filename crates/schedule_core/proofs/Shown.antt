@@ -1,5 +1,5 @@
 -- A view of two slots shows a task of the definitions.
-use Rattle.std.proofs.Common.{◌≡◌, ℕ, [], reverse, Option, Some, None, true, cond, refl, sym, ap, ◌∙◌, subst, inl, inr}
+use Rattle.std.proofs.Common.{◌≡◌, ℕ, [], reverse, Option, Some, None, true, cond, refl, sym, ap, ◌∙◌, subst}
 use Rattle.running.specs.State.{may_go}
 use Rattle.running.specs.Events as running
 use Rattle.running.specs.Events.{Machine}
@@ -24,7 +24,7 @@ use Rattle.schedule_core.specs.declared.task.TaskView.{TaskView}
 use Rattle.schedule_core.specs.Stages.{IsState, program_of, workers_of}
 use Rattle.schedule_core.specs.Viewed.{status_by, seen_status, status_in, Shows, IsTask, ShowsTop, IsRunBy}
 use Rattle.schedule_core.proofs.Spots.{same_node}
-use Rattle.schedule_core.proofs.TaskPlaces.{here_at, lowest_is_task, parts, top_of_slots}
+use Rattle.schedule_core.proofs.TaskPlaces.{lowest_is_task, parts, top_of_slots}
 use Rattle.schedule_core.proofs.Views.{hand_is}
 
 stands_as : (stage : Stage) (node : Node Activation) (o : Option ℕ) (w : Wait) → CalleeStands stage.run.cactus node w None → standing o w ≡ Some (seen_status (status_by o w))

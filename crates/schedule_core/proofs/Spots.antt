@@ -1,6 +1,6 @@
 -- Frames keep their slots and generations.
-use Rattle.std.proofs.Common.{◌≡◌, ℕ, ◌<◌, List, Option, Some, None, Bool, true, false, inl, inr, refl, sym, ap, ◌∙◌, subst, arith}
-use Rattle.std.specs.Prelude.{IfSome, IsSomeAnd, ◌==◌, if◌then◌else◌}
+use Rattle.std.proofs.Common.{◌≡◌, ℕ, ◌<◌, Option, Some, None, Bool, true, false, inl, inr, refl, sym, ap, ◌∙◌, subst, arith}
+use Rattle.std.specs.Prelude.{IsSomeAnd, ◌==◌, if◌then◌else◌}
 use Rattle.std.specs.Option.{option_map}
 use Rattle.std.proofs.Math.Logic.{∥∥₁_elim}
 use Rattle.std.proofs.Props.{props}
@@ -14,7 +14,7 @@ use Rattle.cactus.specs.Frames.{Frames, node_at, node_of_use, of_generation, Has
 use Rattle.cactus.specs.ByPath.{IsTree}
 use Rattle.cactus.proofs.FramesLemmas.{node_of_use-own}
 use Rattle.crew.specs.declared.activation.Activation.{Activation}
-use Rattle.crew.specs.Follows.{Follows, IsSameUse}
+use Rattle.crew.specs.Follows.{Follows}
 use Rattle.schedule_core.specs.declared.stage.Stage.{Stage}
 use Rattle.schedule_core.specs.Replaying.{IsMachine}
 use Rattle.schedule_core.specs.Spots.{path_of_use, KeepsSpots}

@@ -24,7 +24,7 @@ use Rattle.crew.specs.Layouts.{layout_of}
 use Rattle.crew.specs.Lowest.{IsLowestBelow, lowest, under}
 use Rattle.crew.specs.Shown.{CalleeStands, ShowsAt, place_of}
 use Rattle.crew.specs.Tasks.{IsLowest}
-use Rattle.crew.proofs.Onward.{Seen, seen}
+use Rattle.crew.proofs.Onward.{seen}
 use Rattle.crew.proofs.Stealing.{task_tells}
 use Rattle.crew.proofs.Topmost.{reverse_last, same_place}
 use Rattle.schedule_core.specs.declared.stage.Stage.{Stage}

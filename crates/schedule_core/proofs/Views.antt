@@ -1,6 +1,6 @@
 -- What is shown of a stage that stands as a machine: frames, hands, lines.
-use Rattle.std.proofs.Common.{◌≡◌, ◌≢◌, ◌↔◌, ℕ, ◌<◌, ◌≤◌, ◌+◌, List, length, reverse, Option, Some, None, Bool, true, false, inl, inr, ltb, refl, sym, ap, ◌∙◌, subst, arith}
-use Rattle.std.specs.Prelude.{IfNone, IfSome, IsSome, IsSomeAnd, is_some, option_and_then}
+use Rattle.std.proofs.Common.{◌≡◌, ◌≢◌, ◌↔◌, ℕ, ◌<◌, ◌≤◌, List, length, reverse, Option, Some, None, Bool, true, false, ltb, refl, sym, ap, ◌∙◌, subst}
+use Rattle.std.specs.Prelude.{IfNone, IfSome, IsSome, is_some, option_and_then}
 use Rattle.std.specs.Option.{option_map}
 use Rattle.std.proofs.Math.Logic.{∥∥₁_elim}
 use Rattle.std.proofs.Props.{props}
@@ -8,28 +8,26 @@ use Rattle.std.proofs.Math.Nat.{ℕ_set}
 use Rattle.std.proofs.Math.IntN.{ℤ_set}
 use mathlib.Core.Sum.{⊎_set}
 use Rattle.std.proofs.lemmas.Bool.{ltb-true, ltb-false}
-use Rattle.std.proofs.lemmas.Bool.Decides.{eqb_tells}
 use Rattle.std.proofs.lemmas.List.{get_or_past, length-reverse, reverse-reverse}
 use Rattle.running.specs.Paths.{Path as RunningPath}
 use Rattle.running.specs.Frames.{Frame, block_at}
 use Rattle.running.specs.Events.{Machine}
 use Rattle.program.specs.declared.function.Block.{Block}
-use Rattle.program.specs.declared.function.Program.{Program}
 use Rattle.frame.specs.declared.path.Path.{Path}
 use Rattle.cactus.specs.declared.node.Node.{Node}
-use Rattle.cactus.specs.Frames.{Frames, node_at, node_of_use, HasPath, HasNoPath}
+use Rattle.cactus.specs.Frames.{Frames, node_at, HasPath, HasNoPath}
 use Rattle.cactus.specs.ByPath.{named}
 use Rattle.cactus.proofs.ByPathLemmas.{not_named}
 use Rattle.crew.specs.declared.activation.Activation.{Activation}
 use Rattle.crew.specs.Layouts.{layout_of}
 use Rattle.crew.specs.Scheduling.{hand_of}
-use Rattle.crew.specs.Shown.{ShowsAt, hands_of, place_of}
+use Rattle.crew.specs.Shown.{ShowsAt, place_of}
 use Rattle.crew.proofs.Onward.{seen}
 use Rattle.crew.proofs.Views.{hand_seen, node_tells}
 use Rattle.schedule_core.specs.declared.stage.Stage.{Stage}
 use Rattle.schedule_core.specs.Lines.{StandsAt, line_in, line_of_worker, next_line, place_line}
 use Rattle.schedule_core.specs.Replaying.{IsMachine}
-use Rattle.schedule_core.specs.Stages.{IsState, program_of, workers_of}
+use Rattle.schedule_core.specs.Stages.{IsState, program_of}
 use Rattle.schedule_core.specs.Viewed.{place_in}
 use Rattle.schedule_core.proofs.Spots.{IsUse, named_use, use_found}
 

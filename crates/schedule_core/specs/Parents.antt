@@ -1,5 +1,5 @@
 -- The parent of the child that a worker runs.
-use Rattle.std.specs.Prelude.{◌≡◌, ◌≢◌, ℕ, ◌∷◌, List, length, Option, Some, None, true}
+use Rattle.std.specs.Prelude.{◌≡◌, ◌≢◌, ℕ, ◌∷◌, length, Some, None, true}
 use Rattle.running.specs.Paths.{Path as RunningPath}
 use Rattle.running.specs.Frames as defined
 use Rattle.running.specs.Events as running

@@ -15,8 +15,10 @@ use Rattle.crew.specs.Events.{GrowsAtStep}
 use Rattle.crew.specs.Follows.{AreGiven, KeepsUses}
 use Rattle.crew.specs.Stalls.{StallsAgree, last_blocks, no_blocks}
 use Rattle.crew.specs.Starts.{ArePlaces, HasMoves}
+use Rattle.schedule_core.specs.Spots.{KeepsSpots}
 use Rattle.schedule_core.specs.Lines.{line_after, line_or_zero}
-use Rattle.schedule_core.specs.Stages.{given, program_of, workers_of, IsMadeFor, IsState}
+use Rattle.store.specs.Made.{IsMadeFor}
+use Rattle.schedule_core.specs.Stages.{given, program_of, workers_of, IsState}
 use Rattle.schedule_core.specs.declared.event.Event.{Event}
 use Rattle.schedule_core.specs.declared.event.Event.TheVariants.{Step, Steal}
 use Rattle.schedule_core.specs.declared.stage.Stage.{Stage}
@@ -88,6 +90,13 @@ pub record LeavesAsBefore (old new : Stage) : Type 0 where
   pub replays : ReplaysTheSame old new
   pub uses : KeepsUses old.run.cactus new.run.cactus
   pub globals : new.memory ≡ old.memory
+
+-- another stage stands as what this one stands as, what led to this one leads to it, and frames stand in the same uses of slots
+pub record StandsAsWell (stage other : Stage) : Type 0 where
+  pub state : (m : running.Machine) → IsState stage m → IsState other m
+  pub replays : ReplaysTheSame stage other
+  pub spots : KeepsSpots stage.run.cactus other.run.cactus
+  pub globals : other.memory ≡ stage.memory
 
 -- ---- what a machine keeps
 

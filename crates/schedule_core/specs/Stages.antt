@@ -1,12 +1,11 @@
 -- What a stage stands for: a machine of the definitions, from which each schedule goes well.
-use Rattle.std.specs.Prelude.{◌≡◌, ℕ, ◌≤◌, ◌<◌, List, length, map, sum, Option, Some, None, IsSome, option_and_then, slice_get, ℤ}
+use Rattle.std.specs.Prelude.{◌≡◌, ℕ, ◌≤◌, ◌<◌, List, length, map, Option, Some, None, IsSome, option_and_then, slice_get, ℤ}
 use Rattle.running.specs.Cells.{Object, Shared, Local, Memory}
 use Rattle.running.specs.Events.{Machine, Event, start}
 use Rattle.running.specs.Replay.{replay}
 use Rattle.program.specs.declared.function.Global.{Global}
 use Rattle.program.specs.declared.function.Program.{Program}
 use Rattle.store.specs.Cells.{NamedCells, cell_at, number_of}
-use Rattle.store.specs.Rows.{sizes_of}
 use Rattle.crew.specs.Going.{RunsSafely}
 use Rattle.crew.specs.Shown.{IsShown}
 use Rattle.schedule_core.specs.declared.stage.Stage.{Stage}
@@ -32,10 +31,6 @@ given_in globals (Local owner n) i = None
 -- the memory of a run that begins with these globals
 abbrev pub given : List NamedCells → Memory
 given globals x = given_in globals x.object x.index
-
--- there are as many globals as the program declares, each with just its cells
-abbrev pub IsMadeFor : Program → List NamedCells → Type 0
-IsMadeFor program memory = sizes_of memory ≡ map (λ (g : Global). g.cells) program.globals
 
 -- each declared cell of a global holds a number
 abbrev pub AreFull : Program → Memory → Type 0

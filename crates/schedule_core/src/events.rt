@@ -3,8 +3,9 @@ ghost use Rattle.running.specs.Events.{Machine};
 ghost use Rattle.outcome.specs.Requirements.{unmet_in};
 ghost use Rattle.store.specs.declared.memory.Memory.{Memory};
 ghost use Rattle.crew.specs.Follows.{Follows};
-ghost use Rattle.schedule_core.specs.Replaying.{GrowsOnly, Happens, IsMachine, IsNumberOfWorkers, LeavesAsBefore, Replays, ReplaysMore, ReplaysOneMore, event_of};
-ghost use Rattle.schedule_core.specs.Stages.{IsMadeFor, IsState, program_of};
+ghost use Rattle.schedule_core.specs.Replaying.{GrowsOnly, Happens, IsMachine, IsNumberOfWorkers, LeavesAsBefore, Replays, ReplaysMore, ReplaysOneMore, StandsAsWell, event_of};
+ghost use Rattle.store.specs.Made.{IsMadeFor};
+ghost use Rattle.schedule_core.specs.Stages.{IsState, program_of};
 
 use crate::event::Event;
 use crate::stage::Stage;
@@ -75,6 +76,24 @@ pub(crate) fn begin<'v>(
         Ok(stage) => Ok(stage),
         Err(OutOfMemory) => Err(RunFault::OutOfMemory),
     }
+}
+
+/// The stage again, in lists of its own.
+pub(crate) fn copied<'v>(stage: &Stage<'v>) -> Result<Stage<'v>, OutOfMemory>
+    requires { ∥ IsMachine stage.now ∥₁ }
+    ensures same { IfOk result (StandsAsWell stage.now) }
+    ensures machine { IfOk result (λ other. ∥ IsMachine other ∥₁) }
+{
+    let program = stage.verified.program();
+    let run = stage.run.copy()?;
+    let places = Places::of_program(run.alloc, program)?;
+    let memory = stage.memory.copy()?;
+    Ok(Stage {
+        verified: stage.verified,
+        places,
+        memory,
+        run,
+    })
 }
 
 /// One event. The answer is whether it was enabled; where it was not, nothing changes.

@@ -5,6 +5,7 @@
 
 mod event;
 mod events;
+mod globals;
 mod laws;
 mod machine;
 mod parent;

@@ -4,11 +4,12 @@ ghost use Rattle.running.specs.Replay.{CountsFrames, has_ended};
 ghost use Rattle.outcome.specs.Requirements.{unmet_in};
 ghost use Rattle.store.specs.declared.memory.Memory.{Memory};
 ghost use Rattle.schedule_core.specs.Spots.{KeepsSpots};
-ghost use Rattle.schedule_core.specs.Replaying.{GrowsOnly, Happens, IsMachine, IsNumberOfWorkers, LeavesAsBefore, Replays, ReplaysOneMore, event_of};
-ghost use Rattle.schedule_core.specs.Stages.{IsMadeFor, IsState, program_of};
+ghost use Rattle.schedule_core.specs.Replaying.{GrowsOnly, Happens, IsMachine, IsNumberOfWorkers, LeavesAsBefore, Replays, ReplaysOneMore, StandsAsWell, event_of};
+ghost use Rattle.store.specs.Made.{IsMadeFor};
+ghost use Rattle.schedule_core.specs.Stages.{IsState, program_of};
 
 use crate::event::Event;
-use crate::events::{apply_to, begin};
+use crate::events::{apply_to, begin, copied};
 use crate::stage::Stage;
 use lists::OutOfMemory;
 use outcome::RunFault;
@@ -69,6 +70,18 @@ impl<'v> Machine<'v> {
         ensures names { self.new.stage.memory ≡ self.old.stage.memory }
     {
         apply_to(&mut self.stage, event)
+    }
+
+    /// The same machine again.
+    ///
+    /// # Errors
+    ///
+    /// Memory was refused.
+    pub fn copy(&self) -> Result<Machine<'v>, OutOfMemory>
+        ensures same { IfOk result (λ m. StandsAsWell self.now.stage m.stage) }
+    {
+        let stage = copied(&self.stage)?;
+        Ok(Machine { stage })
     }
 
     /// Whether `main` has returned.

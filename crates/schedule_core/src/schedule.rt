@@ -2,7 +2,7 @@ ghost use Rattle.std.specs.Prelude.{◌≡◌, ◌≢◌, ℕ, Some, None, Err, 
 ghost use Rattle.outcome.specs.Requirements.{unmet_in};
 ghost use Rattle.store.specs.declared.memory.Memory.{Memory};
 ghost use Rattle.schedule_core.specs.Replaying.{IsNumberOfWorkers, KeepsItsSchedule, Replays};
-ghost use Rattle.schedule_core.specs.Stages.{IsMadeFor};
+ghost use Rattle.store.specs.Made.{IsMadeFor};
 
 use crate::event::Event;
 use crate::events::{apply_all, begin};

@@ -1,15 +1,18 @@
 -- Memory that is made for a program has the cells of its globals, and setting a cell leaves them there.
-use Rattle.std.proofs.Common.{◌≡◌, ◌∙◌, inl, inr, ℕ, zero, suc, ◌<◌, List, replicate, Option, is_some, refl, sym, ap, subst, arith, pos, ℤ}
+use Rattle.std.proofs.Common.{◌≡◌, ◌∙◌, inl, inr, ℕ, zero, suc, ◌<◌, List, [], ◌∷◌, replicate, Option, is_some, refl, sym, ap, subst, arith, pos, ℤ}
 use Rattle.std.specs.Prelude.{Bool, true, false, IfOk, IsSome, Result, Ok, Err, map, slice_get}
 use Rattle.std.specs.Bool.{OnTrue, OnFalse}
 use Rattle.std.proofs.lemmas.Bool.{OnTrue_at, OnFalse_at}
 use Rattle.std.specs.Option.{option_map}
 use Rattle.std.proofs.lemmas.Bool.Decides.{eqb_tells}
+use Rattle.std.proofs.lemmas.List.{length-replicate}
 use Rattle.std.proofs.lemmas.Option.{slice_get-map}
 use Rattle.lists.specs.declared.memory.OutOfMemory.{OutOfMemory}
+use Rattle.program.specs.declared.function.Global.{Global}
 use Rattle.program.specs.declared.function.Program.{Program}
 use Rattle.store.specs.Cells.{NamedCells, Sets, zeros, cell_in, cell_at}
-use Rattle.store.specs.Made.{HasGlobalCells}
+use Rattle.store.specs.Made.{HasGlobalCells, IsMadeFor}
+use Rattle.store.specs.Rows.{sizes_of}
 
 replicated : {A : Type 0} (n i : ℕ) (a : A) → i < n → IsSome (slice_get (replicate n a) i)
 replicated zero i a within = absurd (omega (arith, within))
@@ -36,3 +39,12 @@ kept_if program false before after g i z sets same has = subst (λ (m : List Nam
 pub made_if : (program : Program) (r : Result (List NamedCells) OutOfMemory) → IfOk r (λ m. m ≡ map zeros program.globals) → IfOk r (λ m. HasGlobalCells program m)
 made_if program (Ok memory) is = subst (λ (m : List NamedCells). HasGlobalCells program m) (sym is) (cells_made program)
 made_if program (Err e) is = tt
+
+-- just as many as the program declares
+zeros_sized : (globals : List Global) → sizes_of (map zeros globals) ≡ map (λ (g : Global). g.cells) globals
+zeros_sized [] = refl
+zeros_sized (g ∷ globals) = ap (λ n. n ∷ sizes_of (map zeros globals)) (length-replicate g.cells (pos 0)) ∙ ap (λ l. g.cells ∷ l) (zeros_sized globals)
+
+pub made_for_if : (program : Program) (r : Result (List NamedCells) OutOfMemory) → IfOk r (λ m. m ≡ map zeros program.globals) → IfOk r (λ m. IsMadeFor program m)
+made_for_if program (Ok memory) is = subst (λ (m : List NamedCells). IsMadeFor program m) (sym is) (zeros_sized program.globals)
+made_for_if program (Err e) is = tt

@@ -1,15 +1,22 @@
 -- What a memory is after one cell took a value.
 use Rattle.std.proofs.Common.{◌≡◌, ℕ, zero, suc, ◌<◌, ◌≤◌, List, [], ◌∷◌, length, Some, None, ℤ, refl, ap, sym, ◌∙◌, arith, subst, ◌⊎◌, inl, inr, ⊎_elim}
 use Rattle.std.specs.Prelude.{◌≢◌, slice_get, slice_set, map, Bool, true, false, IsTrue, IsSome, is_some}
-use Rattle.std.specs.Bool.{OnTrue, Decides}
+use Rattle.std.specs.Bool.{OnFalse, OnTrue, Decides}
+use Rattle.std.proofs.lemmas.Bool.{OnTrue_at, OnFalse_at}
 use Rattle.std.proofs.lemmas.Option.{slice_get_past}
 use Rattle.store.specs.Cells.{NamedCells, Sets, cell_in, cell_at}
+use Rattle.store.specs.Rows.{sizes_of}
 
 equal_or_not : (a b : ℕ) → (a ≡ b) ⊎ (a ≢ b)
 equal_or_not zero zero = inl refl
 equal_or_not zero (suc b) = inr (λ e. omega (arith, e))
 equal_or_not (suc a) zero = inr (λ e. omega (arith, e))
 equal_or_not (suc a) (suc b) = ⊎_elim (λ e. inl (ap suc e)) (λ n. inr (λ e. n (omega (arith, e)))) (equal_or_not a b)
+
+length-slice_set : {X : Type 0} (xs : List X) (i : ℕ) (y : X) → length (slice_set xs i y) ≡ length xs
+length-slice_set [] i y = refl
+length-slice_set (x ∷ xs) zero y = refl
+length-slice_set (x ∷ xs) (suc i) y = ap suc (length-slice_set xs i y)
 
 get_set : {X : Type 0} (xs : List X) (i : ℕ) (y : X) → i < length xs → slice_get (slice_set xs i y) i ≡ Some y
 get_set [] i y h = absurd (omega arith)
@@ -62,3 +69,15 @@ same_cells n o xs ys us vs x y b ex ey e ea eb d = (
   (λ t. sym ex ∙ (λ i. record { name = e i; cells = (sym ea ∙ d.0 t ∙ eb) i }) ∙ ey),
   (λ s. d.1 (ea ∙ ap (λ (w : NamedCells). w.cells) (ex ∙ s ∙ sym ey) ∙ sym eb)),
 )
+
+sizes_put : (m : List NamedCells) (g : ℕ) (x y : NamedCells) → slice_get m g ≡ Some x → length y.cells ≡ length x.cells → sizes_of (slice_set m g y) ≡ sizes_of m
+sizes_put [] g x y at long = refl
+sizes_put (w ∷ ws) zero x y at long = let s : w ≡ x = cc in ap (λ n. n ∷ sizes_of ws) (long ∙ sym (ap (λ (v : NamedCells). length v.cells) s))
+sizes_put (w ∷ ws) (suc g) x y at long = ap (λ ns. length w.cells ∷ ns) (sizes_put ws g x y at long)
+
+-- the sizes stay, whether the cell was there or not
+pub sizes_set : (m items : List NamedCells) (g i : ℕ) (v : ℤ) (x y : NamedCells) (b : Bool) → items ≡ m → slice_get items g ≡ Some x → OnTrue b (y ≡ record x { cells = slice_set x.cells i v }) → OnFalse b (y ≡ x) →
+    sizes_of (slice_set items g y) ≡ sizes_of m
+sizes_set m items g i v x y true e at set same =
+    sizes_put items g x y at (ap (λ (w : NamedCells). length w.cells) (OnTrue_at refl set) ∙ length-slice_set x.cells i v) ∙ ap sizes_of e
+sizes_set m items g i v x y false e at set same = sizes_put items g x y at (ap (λ (w : NamedCells). length w.cells) (OnFalse_at refl same)) ∙ ap sizes_of e

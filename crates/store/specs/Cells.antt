@@ -1,11 +1,15 @@
 -- The globals' cells.
-use Rattle.std.specs.Prelude.{◌≡◌, ◌≢◌, ℕ, ℤ, pos, List, Option, Some, None, map, replicate, position, slice_get}
+use Rattle.std.specs.Prelude.{◌≡◌, ◌≢◌, ℕ, ℤ, pos, List, Option, Some, None, map, length, replicate, position, slice_get}
 use Rattle.std.specs.Str.{bytes_eq}
 use Rattle.program.specs.declared.function.Global.{Global}
 
 pub record NamedCells : Type 0 where
   pub name : List ℕ
   pub cells : List ℤ
+
+-- how many cells a global has
+abbrev pub size_of : NamedCells → ℕ
+size_of g = length g.cells
 
 abbrev pub cell_in : Option NamedCells → ℕ → Option ℤ
 cell_in None i = None

@@ -1,8 +1,10 @@
-ghost use Rattle.std.specs.Prelude.{◌≡◌, ◌↔◌, ◌<◌, ℕ, Some, IfOk, IsSome, IsTrue, length, map, slice_set};
+ghost use Rattle.std.specs.Prelude.{◌≡◌, ◌↔◌, ◌<◌, ℕ, None, Some, IfNone, IfOk, IfSome, IsSome, IsTrue, length, map, slice_get, slice_set};
 ghost use Rattle.std.specs.Bool.{OnFalse, OnTrue};
+ghost use Rattle.std.specs.Option.{option_map};
 ghost use Rattle.program.specs.declared.function.Program.{Program};
-ghost use Rattle.store.specs.Cells.{NamedCells, Sets, cell_at, cell_named, number_of, zeros};
-ghost use Rattle.store.specs.Made.{HasGlobalCells};
+ghost use Rattle.store.specs.Cells.{NamedCells, Sets, cell_at, cell_named, number_of, size_of, zeros};
+ghost use Rattle.store.specs.Made.{HasGlobalCells, IsMadeFor};
+ghost use Rattle.store.specs.Rows.{sizes_of};
 
 use lists::{Name, OutOfMemory};
 use program::{GlobalId, Program};
@@ -77,6 +79,7 @@ impl Memory {
     pub fn zeroed(alloc: Global, verified: &Verified) -> Result<Memory, OutOfMemory>
         ensures zeros { IfOk result (λ m. m ≡ map zeros verified.now.globals) }
         ensures cells { IfOk result (λ m. HasGlobalCells verified.now m) }
+        ensures made { IfOk result (λ m. IsMadeFor verified.now m) }
     {
         Memory::of_program(alloc, verified.program())
     }
@@ -96,12 +99,22 @@ impl Memory {
     }
 
     /// The number of the global of this name.
-    fn find(&self, name: &str) -> Option<usize>
+    pub(crate) fn find(&self, name: &str) -> Option<usize>
         ensures { result ≡ number_of self.now name.now }
     {
         self.globals
             .iter()
             .position(|global| global.name.as_bytes() == name.as_bytes())
+    }
+
+    /// The number of the global of this name, and how many cells it has; none where there is no such global.
+    pub fn place_of(&self, name: &str) -> Option<(usize, u64)>
+        ensures there { IfSome result (λ place. (number_of self.now name.now ≡ Some place.0) × (option_map size_of (slice_get self.now place.0) ≡ Some place.1)) }
+        ensures not_there { IfNone result ((index : ℕ) → cell_named self.now name.now index ≡ None) }
+    {
+        let found = self.find(name)?;
+        let global = self.globals.as_slice().get(found)?;
+        Some((found, global.cells.len() as u64))
     }
 
     /// Gives a cell a number; false, and nothing is changed, where there is no such cell.
@@ -110,6 +123,7 @@ impl Memory {
         ensures not_there { OnFalse result (self.new ≡ self.old) }
         ensures set { OnTrue result ((g : ℕ) → number_of self.old name.now ≡ Some g → Sets self.old self.new g index value) }
         ensures cells { (program : Program) → HasGlobalCells program self.old → HasGlobalCells program self.new }
+        ensures sizes { sizes_of self.new ≡ sizes_of self.old }
     {
         match self.find(name) {
             Some(found) => self.set_cell(GlobalId(found), index, value),
@@ -140,6 +154,7 @@ impl Memory {
         ensures there { IsTrue result ↔ IsSome (cell_at self.old global.0 index) }
         ensures not_there { OnFalse result (self.new ≡ self.old) }
         ensures set { OnTrue result (Sets self.old self.new global.0 index value) }
+        ensures sizes { sizes_of self.new ≡ sizes_of self.old }
     {
         if global.0 < self.globals.len() {
             let found = &mut self.globals[global.0];

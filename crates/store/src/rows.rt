@@ -1,4 +1,4 @@
-ghost use Rattle.std.specs.Prelude.{◌≡◌, IfOk};
+ghost use Rattle.std.specs.Prelude.{◌≡◌, ◌≤◌, IfOk, drop, length, sum, take};
 ghost use Rattle.store.specs.Rows.{refilled, row_of, sizes_of};
 
 use crate::memory::{GlobalCells, Memory};
@@ -16,6 +16,17 @@ impl GlobalCells {
             name: self.name.copy()?,
             cells,
         })
+    }
+
+    /// The global takes its numbers from the beginning of the row; the answer is the rest of the row.
+    fn refill<'a>(&mut self, row: &'a [i64]) -> &'a [i64]
+        requires { length self.old.cells ≤ length row.now }
+        ensures taken { self.new ≡ record self.old { cells = take (length self.old.cells) row.now } }
+        ensures rest { result.now ≡ drop (length self.old.cells) row.now }
+    {
+        let (own, more) = row.split_at(self.cells.len());
+        self.cells.as_mut_slice().copy_from_slice(own);
+        more
     }
 }
 
@@ -57,5 +68,16 @@ impl Memory {
             alloc: self.alloc,
             globals,
         })
+    }
+
+    /// The globals take the numbers of a row.
+    pub fn refill(&mut self, row: &[i64])
+        requires { sum (sizes_of self.old) ≤ length row.now }
+        ensures { self.new ≡ refilled self.old row.now }
+    {
+        let mut rest = row;
+        for i in 0..self.globals.len() {
+            rest = self.globals[i].refill(rest);
+        }
     }
 }

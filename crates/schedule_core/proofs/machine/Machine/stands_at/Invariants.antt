@@ -1,4 +1,4 @@
-use Rattle.std.proofs.Common.{◌≡◌, ◌≢◌, ◌<◌, ℕ, Some}
+use Rattle.std.proofs.Common.{◌≢◌, ◌<◌, ℕ, Some}
 use Rattle.running.specs.Events.{Machine}
 use Rattle.schedule_core.specs.Lines.{line_of_worker}
 use Rattle.schedule_core.specs.Stages.{IsState, program_of}

@@ -1,0 +1,18 @@
+use Rattle.std.proofs.Common.{◌≤◌, List, length, sym, subst, ℤ}
+use Rattle.std.specs.Prelude.{sum}
+use Rattle.store.specs.Cells.{NamedCells}
+use Rattle.store.specs.Rows.{refilled, sizes_of}
+use Rattle.schedule_core.specs.Stages.{HoldsGlobals}
+use Rattle.schedule_core.proofs.Held.{globals_held, row_holds_all}
+use Rattle.schedule_core.proofs.machine.Machine.into_memory.Goals as goal
+
+pub refill-requires : goal.refill-requires
+refill-requires c =
+    let stage = c.args.self.stage in
+    subst (λ (l : List ℤ). sum (sizes_of stage.memory) ≤ length l) (sym c.as_slice.ensures.value) (row_holds_all stage c.args.self.kept)
+
+pub returns : goal.returns
+returns c m s =
+    let stage = c.args.self.stage in
+    subst (λ (l : List NamedCells). HoldsGlobals m stage.memory l) (sym c.refill.ensures)
+    (subst (λ (l : List ℤ). HoldsGlobals m stage.memory (refilled stage.memory l)) (sym c.as_slice.ensures.value) (globals_held stage c.args.self.kept m s))
