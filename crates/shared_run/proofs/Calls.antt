@@ -12,9 +12,8 @@ use Rattle.running.proofs.Workers.{Manned}
 use Rattle.program.specs.declared.function.Program.{Program}
 use Rattle.frame.specs.declared.path.Path.{Path}
 use Rattle.cactus.specs.declared.node.Node.{Node}
-use Rattle.cactus.specs.Frames.{HasPath, node_at, node_of_use}
+use Rattle.cactus.specs.Frames.{HasPath, node_of_use}
 use Rattle.crew.specs.declared.activation.Activation.{Activation}
-use Rattle.crew.specs.Follows.{IsSameUse}
 use Rattle.schedule_core.specs.Parents.{HasNoReadyParent, IsReadyParent}
 use Rattle.schedule_core.specs.Replaying.{GrowsOnly, LeavesAsBefore}
 use Rattle.schedule_core.specs.Stages.{workers_of}
@@ -22,6 +21,7 @@ use Rattle.schedule_core.specs.Viewed.{place_in, status_in, IsFirstReady}
 use Rattle.schedule_core.specs.declared.event.Event.{Event}
 use Rattle.schedule_core.specs.declared.event.Event.TheVariants.{Step, Steal}
 use Rattle.schedule_core.specs.declared.stage.Stage.{Stage}
+use Rattle.schedule_core.proofs.Unchanged.{as_it_was}
 use Rattle.shared_run.specs.declared.ticket.Ticket.{Ticket}
 use Rattle.shared_run.specs.declared.answers.Stepped.TheVariants as stepped
 use Rattle.shared_run.specs.declared.answers.Claimed.{Claimed}
@@ -210,17 +210,6 @@ module _ (s t : Story) (p q : Place) where
   firsts_of path claimed.OutOfMemory first takes = takes
 
 -- ---- want of memory
-
-as_it_was : (stage : Stage) → LeavesAsBefore stage stage
-as_it_was stage = record {
-  state = λ m is. is;
-  replays = λ program arguments globals workers events r. r;
-  globals = refl;
-  uses = record { made = refl; back = λ slot node stands. itself slot node stands; on = λ slot node stands. itself slot node stands };
-}
-  where
-    itself : (slot : ℕ) (node : Node Activation) → node_at stage.run.cactus slot ≡ Some node → IsSameUse stage.run.cactus slot node
-    itself slot node stands = record { there = node; stands = stands; generation = refl; path = refl }
 
 pub stays_same : (s t : Story) (p q : Place) → Same s t p q → Stays s t p q
 stays_same s t p q (same, seat) =

@@ -10,6 +10,6 @@ returns-clause-session c =
     let start : IsAt s 0 c.in_ok-first.first.stage = c.in_ok-first.ensures.replays in
     record {
       events = refl;
-      at = c.in-Ok.ensures.keeps s.program s.arguments s.globals s.workers [] start;
+      at = c.in-Ok.ensures.same.replays s.program s.arguments s.globals s.workers [] start;
       marks = none_marked s c.new-marks.result c.new-marks.ensures.none (subst (λ (m : Machine). IsAt s 0 m.stage) (sym c.new-marks.ensures.first) start);
     }
