@@ -1,4 +1,0 @@
-pub mod Owned
-pub mod Let
-pub mod Counts
-pub mod Steps

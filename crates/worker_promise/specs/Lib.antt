@@ -1,2 +1,0 @@
-pub mod Let
-pub mod Promise

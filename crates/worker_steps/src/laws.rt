@@ -1,8 +1,0 @@
-//! What holds of every schedule.
-
-ghost use Rattle.worker_steps.specs.Over.{EndedEnablesNothing};
-
-/// Whatever the program: once the root has returned no event is enabled, no worker's step and no steal.
-pub fn ended_enables_nothing()
-    ensures { EndedEnablesNothing }
-{}
