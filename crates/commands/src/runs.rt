@@ -2,7 +2,7 @@
 
 ghost use Rattle.program.specs.declared.function.Program.{Program};
 ghost use Rattle.std.specs.Prelude.{IfOk};
-ghost use Rattle.serial_machine.specs.store.Made.{HasGlobalCells};
+ghost use Rattle.serial_machine.specs.store.Made.{HasGlobalCells, IsMadeFor};
 
 use crate::answer::print_unreadable;
 use crate::beside::Beside;
@@ -126,7 +126,8 @@ fn debug_events<R: Read, W: Write>(
 
 /// The memory to begin with; else the status: an option names no cell, or memory was refused.
 pub fn prepared(job: &Job<'_>) -> Result<Memory, Status>
-    ensures { IfOk result (λ memory. HasGlobalCells job.now.verified.now memory) }
+    ensures cells { IfOk result (λ memory. HasGlobalCells job.now.verified.now memory) }
+    ensures made { IfOk result (λ memory. IsMadeFor job.now.verified.now memory) }
 {
     let Ok(mut memory) = Memory::zeroed(job.alloc, job.verified) else {
         return Err(Status::Stopped);
@@ -170,12 +171,12 @@ pub fn run_replay<W: Write>(
     output: &mut W,
     beside: &mut Beside,
 ) -> io::Result<Status>
-    requires { HasGlobalCells job.now.verified.now memory }
+    requires { IsMadeFor job.now.verified.now memory }
 {
     let args = job.request.args.as_slice();
     let workers = job.request.workers;
     match replay(job.alloc, job.verified, args, memory, workers, events) {
-        Ok(machine) => print_replayed(job, machine, output, beside),
+        Ok(machine) => print_replayed(job, machine, output),
         Err(fault) => job.print_run_fault(&fault, output, beside),
     }
 }
@@ -196,21 +197,33 @@ fn print_replayed<W: Write>(
     job: &Job<'_>,
     machine: Machine<'_>,
     output: &mut W,
-    beside: &mut Beside,
 ) -> io::Result<Status> {
-    if machine.ended() {
-        return print_run(job, &finished(machine), output, beside);
+    let cells = job.request.show.as_slice();
+    match machine.result() {
+        Some(result) => print_finished(&finished(machine, result), cells, output),
+        None => print_unfinished(&machine, cells, output),
     }
+}
+
+fn print_unfinished<W: Write>(
+    machine: &Machine<'_>,
+    cells: &[CellWord],
+    output: &mut W,
+) -> io::Result<Status> {
     writeln!(output, "not ended")?;
     writeln!(output, "instructions {}", machine.instructions())?;
     writeln!(output, "frames {}", machine.live_frames())?;
-    print_cells(machine.memory(), job.request.show.as_slice(), output)?;
+    for cell in cells {
+        let value = machine.get_global(cell.name.as_str(), cell.index);
+        print_cell(cell, value, output)?;
+    }
     Ok(Status::Done)
 }
 
 /// Sets a cell; false where it is not there.
 fn set_cell(memory: &mut Memory, setting: &Setting) -> bool
-    ensures { (program : Program) → HasGlobalCells program memory.old → HasGlobalCells program memory.new }
+    ensures cells { (program : Program) → HasGlobalCells program memory.old → HasGlobalCells program memory.new }
+    ensures made { (program : Program) → IsMadeFor program memory.old → IsMadeFor program memory.new }
 {
     memory.set_global(
         setting.cell.name.as_str(),
@@ -221,7 +234,8 @@ fn set_cell(memory: &mut Memory, setting: &Setting) -> bool
 
 /// Sets cells in order; false where one is not there.
 fn set_cells(memory: &mut Memory, settings: &[Setting]) -> bool
-    ensures { (program : Program) → HasGlobalCells program memory.old → HasGlobalCells program memory.new }
+    ensures cells { (program : Program) → HasGlobalCells program memory.old → HasGlobalCells program memory.new }
+    ensures made { (program : Program) → IsMadeFor program memory.old → IsMadeFor program memory.new }
 {
     for setting in settings {
         if !set_cell(memory, setting) {
@@ -240,19 +254,16 @@ fn has_cells(memory: &Memory, cells: &[CellWord]) -> bool {
     true
 }
 
-/// What a run came to. One that has not ended within its budget met a trap.
-fn finished(machine: Machine<'_>) -> Result<Finished, RunFault> {
-    let Some(result) = machine.result() else {
-        return Err(RunFault::Trapped);
-    };
+/// What a run with this result came to.
+fn finished(machine: Machine<'_>, result: i64) -> Finished {
     let instructions = machine.instructions();
     let peak = machine.peak();
-    Ok(Finished {
+    Finished {
         result,
         memory: machine.into_memory(),
         instructions,
         peak,
-    })
+    }
 }
 
 fn print_finished<W: Write>(
@@ -269,9 +280,16 @@ fn print_finished<W: Write>(
 
 fn print_cells<W: Write>(memory: &Memory, cells: &[CellWord], output: &mut W) -> io::Result<()> {
     for cell in cells {
-        if let Some(value) = memory.get_global(cell.name.as_str(), cell.index) {
-            writeln!(output, "@{}:{} {value}", cell.name, cell.index)?;
-        }
+        let value = memory.get_global(cell.name.as_str(), cell.index);
+        print_cell(cell, value, output)?;
+    }
+    Ok(())
+}
+
+/// Prints what a cell holds, where it is there.
+fn print_cell<W: Write>(cell: &CellWord, value: Option<i64>, output: &mut W) -> io::Result<()> {
+    if let Some(value) = value {
+        writeln!(output, "@{}:{} {value}", cell.name, cell.index)?;
     }
     Ok(())
 }

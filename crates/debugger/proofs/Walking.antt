@@ -1,48 +1,27 @@
 -- From one position to the next.
-use Rattle.std.proofs.Common.{◌≡◌, ◌≢◌, inl, inr, ℕ, ◌+◌, ◌<◌, ◌≤◌, ◌++◌, ◌∷◌, [], List, All, take, length, get_or, Option, None, Some, Bool, false, sym, ap, ◌∙◌, subst, arith}
+use Rattle.std.proofs.Common.{◌≡◌, ◌≢◌, ◌↔◌, inl, inr, ℕ, ℤ, ◌+◌, ◌<◌, ◌≤◌, ◌++◌, ◌∷◌, [], List, All, take, length, get_or, Option, None, Some, Bool, sym, ap, ◌∙◌, subst, arith}
 use Rattle.std.proofs.lemmas.Bool.Decides.{eqb_tells}
 use Rattle.std.proofs.lemmas.List.{take_more}
-use Rattle.std.specs.Prelude.{IfSome}
-use Rattle.program.specs.declared.function.Program.{Program}
+use Rattle.std.specs.Prelude.{IfNone, IfSome, IsTrue}
+use Rattle.running.specs.Events.{Machine}
 use Rattle.frame.specs.declared.path.Path.{Path}
-use Rattle.worker_steps.specs.declared.run.Run.{Run}
-use Rattle.worker_steps.specs.Copying.{IsCopy}
-use Rattle.worker_steps.specs.Running.{IsTrapped}
-use Rattle.worker_steps.specs.Seen.{seen}
-use Rattle.worker_steps.specs.Slots.{HasSlots}
-use Rattle.worker_steps.specs.Stepping.{IsEvent, DoesEvent, StartsAs}
+use Rattle.store.specs.Cells.{NamedCells}
 use Rattle.schedule_core.specs.declared.event.Event.{Event}
+use Rattle.schedule_core.specs.declared.stage.Stage.{Stage}
 use Rattle.schedule_core.specs.Lines.{StandsAt}
 use Rattle.schedule_core.specs.declared.task.TaskView.{TaskView}
-use Rattle.schedule_core.specs.Replaying.{event_of, HasLine, HasLineAfter, Replays}
-use Rattle.schedule_core.specs.Viewed.{place_in}
-use Rattle.schedule_core.proofs.Replaying.{replays_copy, replays_next, replays_start}
+use Rattle.schedule_core.specs.Replaying.{HasLine, Replays, ReplaysOneMore}
+use Rattle.schedule_core.specs.Stages.{IsState, global_named, program_of, workers_of}
+use Rattle.schedule_core.specs.Viewed.{place_in, status_in}
 use Rattle.debugger.specs.declared.marks.Mark.{Mark}
 use Rattle.debugger.specs.declared.marks.Marks.{Marks}
 use Rattle.debugger.specs.Sessions.{Session, HasLineAt, IsAt, AreMarks, IsMark, IsFirstStop, state_at}
 
 module _ (s : Session) where
-  -- at the start
-  pub at_start : (m : Run) → StartsAs s.program s.arguments s.globals m → HasSlots s.program m → length m.hands.items ≡ s.workers → IsAt s 0 m
-  at_start m starts slots many = record { replays = replays_start s.program s.arguments s.globals s.workers m starts slots many; workers = many; program = starts.program }
-
-  -- a copy stands there too
-  pub at_copy : (n : ℕ) (m copy : Run) → IsCopy m copy → IsAt s n m → IsAt s n copy
-  at_copy n m copy c at =
-      record {
-        replays = replays_copy s.program s.arguments s.globals s.workers (take n s.events) m copy c at.replays;
-        workers = ap (λ l. length l) c.holds.hands ∙ at.workers;
-        program = ap (λ (r : Run). r.verified.now) c.holds.only ∙ at.program;
-      }
-
   -- the next event
-  pub at_next : (events : List Event) → s.events ≡ events → (n : ℕ) (m new : Run) (e : Event) (done : Bool) → n < length events → e ≡ get_or events n e → DoesEvent m.verified.now m new (event_of e) done → (done ≡ false → new ≡ m) → ¬ IsTrapped new → IsAt s n m → IsAt s (n + 1) new
-  at_next events listed n m new e done inside there does same fine at =
-      record {
-        replays = subst (λ l. Replays s.program s.arguments s.globals s.workers l new) (sym more) (replays_next s.program s.arguments s.globals s.workers (take n s.events) m new e done d same at.replays);
-        workers = d.workers ∙ at.workers;
-        program = ap (λ v. v.now) d.program ∙ at.program;
-      }
+  pub at_next : (events : List Event) → s.events ≡ events → (n : ℕ) (old new : Stage) (e : Event) → n < length events → e ≡ get_or events n e → ReplaysOneMore old new e → IsAt s n old → IsAt s (n + 1) new
+  at_next events listed n old new e inside there next at =
+      subst (λ l. Replays s.program s.arguments s.globals s.workers l new) (sym more) (next s.program s.arguments s.globals s.workers (take n s.events) at)
     where
       within : n < length s.events
       within = subst (λ l. n < length l) (sym listed) inside
@@ -50,44 +29,44 @@ module _ (s : Session) where
       is : e ≡ get_or s.events n e
       is = subst (λ l. e ≡ get_or l n e) (sym listed) there
 
-      d : IsEvent s.program m new (event_of e) done
-      d = subst (λ (q : Program). DoesEvent q m new (event_of e) done) at.program does at.replays.run fine
-
       more : take (n + 1) s.events ≡ take n s.events ++ e ∷ []
       more = take_more s.events n e within ∙ ap (λ x. take n s.events ++ x ∷ []) (sym is)
 
   -- the line of a view, at the position
-  pub line_shown : (n : ℕ) (path : Path) (m : Run) → IsAt s n m → (o : Option TaskView) → IfSome o (HasLine m (place_in path)) → IfSome o (HasLineAt s n path)
-  line_shown n path m at None shown = tt
-  line_shown n path m at (Some view) shown =
-      subst (λ (q : Program). HasLineAfter q s.arguments s.globals s.workers (take n s.events) (place_in path) view) at.program
-      (shown s.arguments s.globals s.workers (take n s.events) (subst (λ (q : Program). Replays q s.arguments s.globals s.workers (take n s.events) m) (sym at.program) at.replays))
+  pub line_shown : (n : ℕ) (path : Path) (stage : Stage) → IsAt s n stage → (o : Option TaskView) → IfSome o (HasLine stage (place_in path)) → IfSome o (HasLineAt s n path)
+  line_shown n path stage at None shown = tt
+  line_shown n path stage at (Some view) shown = shown s.program s.arguments s.globals s.workers (take n s.events) at
 
-  -- where a worker stands on a line of the run, it does so in the definitions' state
-  pub stands_there : (n line : ℕ) (m : Run) → IsAt s n m → StandsAt m.verified.now (seen m) line → StandsAt s.program (state_at s n) line
-  stands_there n line m at stands = subst (λ c. StandsAt s.program c line) at.replays.reads (subst (λ (q : Program). StandsAt q (seen m) line) at.program stands)
+  -- a test for a worker on the line tells of the definitions' state
+  pub stands_there : (n line : ℕ) (stage : Stage) (b : Bool) → IsAt s n stage → ((m : Machine) → IsState stage m → IsTrue b ↔ StandsAt (program_of stage) m line) → IsTrue b ↔ StandsAt s.program (state_at s n) line
+  stands_there n line stage b at tells = subst (λ q. IsTrue b ↔ StandsAt q (state_at s n) line) at.program (tells (state_at s n) at.state)
 
-  pub stands_back : (n line : ℕ) (m : Run) → IsAt s n m → StandsAt s.program (state_at s n) line → StandsAt m.verified.now (seen m) line
-  stands_back n line m at stands = subst (λ (q : Program). StandsAt q (seen m) line) (sym at.program) (subst (λ c. StandsAt s.program c line) (sym at.replays.reads) stands)
+  -- no task of the path, where the stage's machine has none
+  pub absent_there : (n : ℕ) (path : Path) (stage : Stage) → IsAt s n stage → (o : Option TaskView) → IfNone o (status_in (workers_of stage) (state_at s n) path ≡ None) → IfNone o (status_in s.workers (state_at s n) path ≡ None)
+  absent_there n path stage at o absent = subst (λ w. IfNone o (status_in w (state_at s n) path ≡ None)) at.as_many absent
+
+  -- what a cell holds
+  pub cell_there : (n : ℕ) (name : List ℕ) (i : ℕ) (stage : Stage) → IsAt s n stage → (o : Option ℤ) → o ≡ global_named (state_at s n) stage.memory name i → o ≡ global_named (state_at s n) s.globals name i
+  cell_there n name i stage at o is = is ∙ ap (λ (g : List NamedCells). global_named (state_at s n) g name i) at.globals_are
 
   -- no earlier position, and not this one
-  pub past_more : (line from n : ℕ) (m : Run) → IsAt s (n + 1) m → ¬ StandsAt m.verified.now (seen m) line → ((k : ℕ) → from < k → k ≤ n → ¬ StandsAt s.program (state_at s k) line) → (k : ℕ) → from < k → k ≤ n + 1 → ¬ StandsAt s.program (state_at s k) line
-  past_more line from n m at off before k later within stands =
+  pub past_more : (line from n : ℕ) → ¬ StandsAt s.program (state_at s (n + 1)) line → ((k : ℕ) → from < k → k ≤ n → ¬ StandsAt s.program (state_at s k) line) → (k : ℕ) → from < k → k ≤ n + 1 → ¬ StandsAt s.program (state_at s k) line
+  past_more line from n off before k later within stands =
       elim (eqb_tells k (n + 1)) [
-        | inl h ↦ off (stands_back (n + 1) line m at (subst (λ j. StandsAt s.program (state_at s j) line) h.1 stands))
+        | inl h ↦ off (subst (λ j. StandsAt s.program (state_at s j) line) h.1 stands)
         | inr h ↦ before k later (let differ : k ≢ n + 1 = h.1 in omega arith) stands
       ]
 
   -- it stops here
-  pub stop_here : (line from n : ℕ) (m : Run) → from ≤ n → IsAt s (n + 1) m → StandsAt m.verified.now (seen m) line → ((k : ℕ) → from < k → k ≤ n → ¬ StandsAt s.program (state_at s k) line) → IsFirstStop s line from (n + 1)
-  stop_here line from n m le at on before = record { later = omega arith; past = λ k later within. before k later (omega arith); stops = inl (omega arith, stands_there (n + 1) line m at on) }
+  pub stop_here : (line from n : ℕ) → from ≤ n → StandsAt s.program (state_at s (n + 1)) line → ((k : ℕ) → from < k → k ≤ n → ¬ StandsAt s.program (state_at s k) line) → IsFirstStop s line from (n + 1)
+  stop_here line from n le on before = record { later = omega arith; past = λ k later within. before k later (omega arith); stops = inl (omega arith, on) }
 
   pub stop_end : (line from n : ℕ) → from ≤ n → n ≡ length s.events → ((k : ℕ) → from < k → k ≤ n → ¬ StandsAt s.program (state_at s k) line) → IsFirstStop s line from n
   stop_end line from n le is before = record { later = le; past = λ k later within. before k later (omega arith); stops = inr is }
 
   -- ---- marks
 
-  pub none_marked : (marks : Marks) → marks.rest.items ≡ [] → IsAt s 0 marks.first.run → AreMarks s marks
+  pub none_marked : (marks : Marks) → marks.rest.items ≡ [] → IsAt s 0 marks.first.stage → AreMarks s marks
   none_marked marks none at = record { first = at; rest = subst (λ l. All (IsMark s) l) (sym none) (λ k d below. absurd (omega arith)) }
 
   pub mark_at : (marks : Marks) (listed : List Mark) → listed ≡ marks.rest.items → (k : ℕ) (mark : Mark) → k < length listed → mark ≡ get_or listed k mark → AreMarks s marks → IsMark s mark

@@ -1,16 +1,14 @@
 -- A debugger stands between two events of a list.
-use Rattle.std.specs.Prelude.{◌≡◌, ◌⊎◌, ◌<◌, ◌≤◌, ℕ, ℤ, List, All, length, map, take}
+use Rattle.std.specs.Prelude.{◌≡◌, ◌⊎◌, ◌<◌, ◌≤◌, ℕ, ℤ, List, All, length, take}
 use Rattle.running.specs.Events as running
-use Rattle.running.specs.Replay.{replay}
 use Rattle.program.specs.declared.function.Program.{Program}
 use Rattle.frame.specs.declared.path.Path.{Path}
 use Rattle.store.specs.Cells.{NamedCells}
-use Rattle.worker_steps.specs.declared.run.Run.{Run}
-use Rattle.worker_steps.specs.Seen.{given}
 use Rattle.schedule_core.specs.declared.event.Event.{Event}
+use Rattle.schedule_core.specs.declared.stage.Stage.{Stage}
 use Rattle.schedule_core.specs.Lines.{StandsAt}
 use Rattle.schedule_core.specs.declared.task.TaskView.{TaskView}
-use Rattle.schedule_core.specs.Replaying.{HasLineAfter, Replays, event_of}
+use Rattle.schedule_core.specs.Replaying.{HasLineAfter, LeavesAsBefore, Replays, state_after}
 use Rattle.schedule_core.specs.Viewed.{place_in}
 use Rattle.debugger.specs.declared.debugger.Debugger.{Debugger}
 use Rattle.debugger.specs.declared.marks.Mark.{Mark}
@@ -26,24 +24,22 @@ pub record Session : Type 0 where
 
 -- the definitions' state after so many events
 abbrev pub state_at : Session → ℕ → running.Machine
-state_at s n = replay s.program s.workers (map event_of (take n s.events)) (running.start s.program s.arguments (given s.globals))
+state_at s n = state_after s.program s.arguments s.globals s.workers (take n s.events)
 
--- the run is the replay of so many events from the start
-pub record IsAt (s : Session) (n : ℕ) (m : Run) : Type 0 where
-  pub replays : Replays s.program s.arguments s.globals s.workers (take n s.events) m
-  pub workers : length m.hands.items ≡ s.workers
-  pub program : m.verified.now ≡ s.program
+-- the stage is the replay of so many events from the start
+abbrev pub IsAt : Session → ℕ → Stage → Type 0
+IsAt s n stage = Replays s.program s.arguments s.globals s.workers (take n s.events) stage
 
 abbrev pub IsMark : Session → Mark → Type 0
-IsMark s mark = IsAt s mark.position mark.machine.run
+IsMark s mark = IsAt s mark.position mark.machine.stage
 
 pub record AreMarks (s : Session) (marks : Marks) : Type 0 where
-  pub first : IsAt s 0 marks.first.run
+  pub first : IsAt s 0 marks.first.stage
   pub rest : All (IsMark s) marks.rest.items
 
 pub record Debugs (s : Session) (d : Debugger) : Type 0 where
   pub events : d.events.items ≡ s.events
-  pub at : IsAt s d.position d.machine.run
+  pub at : IsAt s d.position d.machine.stage
   pub marks : AreMarks s d.marks
 
 -- the view has the line of its task of this path, at this position
@@ -59,4 +55,4 @@ pub record IsFirstStop (s : Session) (line old new : ℕ) : Type 0 where
 -- position and state stay
 pub record Stays (old new : Debugger) : Type 0 where
   pub position : new.position ≡ old.position
-  pub state : new.machine.run ≡ old.machine.run
+  pub state : LeavesAsBefore old.machine.stage new.machine.stage

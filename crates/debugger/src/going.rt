@@ -1,13 +1,13 @@
 //! Forwards and backwards through a schedule.
 
-ghost use Rattle.std.specs.Prelude.{◌≡◌, ◌≢◌, ◌≤◌, ◌-◌, ◌+◌, ℕ, Some, None, IfOk, IfSome, IfNone, OnOk, OnErr, length, min, vec_len};
-ghost use Rattle.store.specs.Made.{HasGlobalCells};
-ghost use Rattle.store.specs.Cells.{cell_named};
+ghost use Rattle.std.specs.Prelude.{◌≡◌, ◌≤◌, ◌-◌, ◌+◌, ℕ, Some, None, IfOk, IfSome, IfNone, OnOk, OnErr, length, min, vec_len};
+ghost use Rattle.store.specs.Made.{IsMadeFor};
 ghost use Rattle.store.specs.declared.memory.Memory.{Memory};
 ghost use Rattle.outcome.specs.Requirements.{unmet_in};
-ghost use Rattle.worker_steps.specs.Running.{IsNumberOfWorkers};
+ghost use Rattle.schedule_core.specs.Replaying.{IsNumberOfWorkers};
+ghost use Rattle.schedule_core.specs.Stages.{global_named};
 ghost use Rattle.schedule_core.specs.Viewed.{IsTask, status_in};
-ghost use Rattle.debugger.specs.Sessions.{AreMarks, Debugs, HasLineAt, IsAt, IsFirstStop, Session, Stays};
+ghost use Rattle.debugger.specs.Sessions.{AreMarks, Debugs, HasLineAt, IsAt, IsFirstStop, Session, Stays, state_at};
 
 use crate::debugger::Debugger;
 use crate::marks::Marks;
@@ -28,8 +28,8 @@ fn walk<'v>(
     marks: &mut Marks<'v>,
 ) -> Result<(), OutOfMemory>
     requires { to ≤ length events.now }
-    ensures marks { (s : Session) → s.events ≡ events.now → IsAt s from machine.old.run → AreMarks s marks.old → AreMarks s marks.new }
-    ensures at { OnOk result ((s : Session) → s.events ≡ events.now → from ≤ to → IsAt s from machine.old.run → IsAt s to machine.new.run) }
+    ensures marks { (s : Session) → s.events ≡ events.now → IsAt s from machine.old.stage → AreMarks s marks.old → AreMarks s marks.new }
+    ensures at { OnOk result ((s : Session) → s.events ≡ events.now → from ≤ to → IsAt s from machine.old.stage → IsAt s to machine.new.stage) }
 {
     for position in from..to {
         let _enabled = machine.apply(&events[position])?;
@@ -48,9 +48,9 @@ fn walk_to_line<'v>(
     marks: &mut Marks<'v>,
 ) -> Result<usize, OutOfMemory>
     requires { from ≤ length events.now }
-    ensures marks { (s : Session) → s.events ≡ events.now → IsAt s from machine.old.run → AreMarks s marks.old → AreMarks s marks.new }
-    ensures at { IfOk result (λ to. (s : Session) → s.events ≡ events.now → IsAt s from machine.old.run → IsAt s to machine.new.run) }
-    ensures stop { IfOk result (λ to. (s : Session) → s.events ≡ events.now → IsAt s from machine.old.run → IsFirstStop s line from to) }
+    ensures marks { (s : Session) → s.events ≡ events.now → IsAt s from machine.old.stage → AreMarks s marks.old → AreMarks s marks.new }
+    ensures at { IfOk result (λ to. (s : Session) → s.events ≡ events.now → IsAt s from machine.old.stage → IsAt s to machine.new.stage) }
+    ensures stop { IfOk result (λ to. (s : Session) → s.events ≡ events.now → IsAt s from machine.old.stage → IsFirstStop s line from to) }
     ensures within { IfOk result (λ to. to ≤ length events.now) }
 {
     for position in from..events.len() {
@@ -77,7 +77,7 @@ impl<'v> Debugger<'v> {
         workers: usize,
         events: Vec<Event>,
     ) -> Result<Debugger<'v>, RunFault>
-        requires { HasGlobalCells verified.now memory }
+        requires { IsMadeFor verified.now memory }
         ensures session { let s : Session =
             record { program = verified.now; arguments = arguments.now; globals = memory; workers = workers; events = events.items }
             in IfOk result (Debugs s) }
@@ -88,7 +88,6 @@ impl<'v> Debugger<'v> {
         ensures unmet { (requirement : ℕ) (m : Memory) → result ≡ Err (RunFault.BadArguments requirement m) →
             unmet_in verified.now arguments.now ≡ Some requirement }
         ensures met { OnOk result (unmet_in verified.now arguments.now ≡ None) }
-        ensures no_trap { result ≢ Err RunFault.Trapped }
     {
         let first = Machine::start(alloc, verified, arguments, memory, workers)?;
         let Ok(machine) = first.copy() else {
@@ -120,7 +119,7 @@ impl<'v> Debugger<'v> {
     /// A state at or before the position, with its own position.
     fn state_before(&self, position: usize) -> Result<(usize, Machine<'v>), OutOfMemory>
         ensures before { IfOk result (λ r. r.0 ≤ position) }
-        ensures state { IfOk result (λ r. (s : Session) → Debugs s self.now → IsAt s r.0 r.1.run) }
+        ensures state { IfOk result (λ r. (s : Session) → Debugs s self.now → IsAt s r.0 r.1.stage) }
     {
         let (last, marked) = self.marks.before(position);
         if last <= self.position && self.position <= position {
@@ -215,8 +214,8 @@ impl<'v> Debugger<'v> {
 
     /// The task of the path; none where the path is no task's.
     pub fn show_task(&self, path: &Path) -> Option<TaskView<'_>>
-        ensures shown { (s : Session) → Debugs s self.now → IfSome result (IsTask self.now.machine.run path.now) }
-        ensures absent { (s : Session) → Debugs s self.now → IfNone result (status_in self.now.machine.run path.now ≡ None) }
+        ensures shown { (s : Session) → Debugs s self.now → IfSome result (IsTask self.now.machine.stage (state_at s self.now.position) path.now) }
+        ensures absent { (s : Session) → Debugs s self.now → IfNone result (status_in s.workers (state_at s self.now.position) path.now ≡ None) }
         ensures line { (s : Session) → Debugs s self.now → IfSome result (HasLineAt s self.now.position path.now) }
     {
         self.machine.task(path)
@@ -224,7 +223,7 @@ impl<'v> Debugger<'v> {
 
     /// What a cell of a global holds; none where there is no such cell.
     pub fn show_cell(&self, name: &str, index: u64) -> Option<i64>
-        ensures { result ≡ cell_named self.now.machine.run.memory name.now index }
+        ensures { (s : Session) → Debugs s self.now → result ≡ global_named (state_at s self.now.position) s.globals name.now index }
     {
         self.machine.get_global(name, index)
     }

@@ -46,7 +46,7 @@ impl<'v> Marks<'v> {
     /// The last state at or before the position, with its own position.
     pub(crate) fn before(&self, position: usize) -> (usize, &Machine<'v>)
         ensures before { result.0 ≤ position }
-        ensures state { (s : Session) → AreMarks s self.now → IsAt s result.0 result.1.now.run }
+        ensures state { (s : Session) → AreMarks s self.now → IsAt s result.0 result.1.now.stage }
     {
         let mut last = 0;
         let mut machine = &self.first;
@@ -61,7 +61,7 @@ impl<'v> Marks<'v> {
 
     /// Keeps the state of the position.
     fn add(&mut self, position: usize, machine: Machine<'v>) -> Result<(), OutOfMemory>
-        ensures { (s : Session) → AreMarks s self.old → IsAt s position machine.entry.run → AreMarks s self.new }
+        ensures { (s : Session) → AreMarks s self.old → IsAt s position machine.entry.stage → AreMarks s self.new }
     {
         self.rest.push(Mark { position, machine })?;
         self.due = position.saturating_add(self.distance);
@@ -70,7 +70,7 @@ impl<'v> Marks<'v> {
 
     /// Keeps a copy of the machine, where a mark is due at its position and memory allows: a mark only saves time.
     pub(crate) fn keep(&mut self, position: usize, machine: &Machine<'v>)
-        ensures { (s : Session) → AreMarks s self.old → IsAt s position machine.now.run → AreMarks s self.new }
+        ensures { (s : Session) → AreMarks s self.old → IsAt s position machine.now.stage → AreMarks s self.new }
     {
         if position < self.due {
             return;

@@ -1,9 +1,9 @@
 //! A run on threads of its own.
-ghost use Rattle.std.specs.Prelude.{◌≡◌, ◌≢◌, ℕ, None, Some, Err, IfOk, OnOk};
+ghost use Rattle.std.specs.Prelude.{◌≡◌, ℕ, None, Some, Err, IfOk, OnOk};
 ghost use Rattle.outcome.specs.Requirements.{unmet_in};
-ghost use Rattle.store.specs.Made.{HasGlobalCells};
+ghost use Rattle.store.specs.Made.{IsMadeFor};
 ghost use Rattle.store.specs.declared.memory.Memory.{Memory};
-ghost use Rattle.worker_steps.specs.Running.{IsNumberOfWorkers};
+ghost use Rattle.schedule_core.specs.Replaying.{IsNumberOfWorkers};
 ghost use Rattle.shared_run.specs.Answer.{IsSerialAnswer};
 ghost use Rattle.shared_run.specs.Story.{origin};
 
@@ -41,14 +41,13 @@ pub fn run<G: Gate + Sync, R: Threads + Wait + Clock + Sync>(
     workers: usize,
     gate: &G,
 ) -> Result<Finished, RunFault>
-    requires made { HasGlobalCells verified.now memory }
+    requires made { IsMadeFor verified.now memory }
     ensures answer { IfOk result (λ done. IsSerialAnswer (origin verified.now arguments.now memory workers) done) }
     ensures in_range { OnOk result (IsNumberOfWorkers workers) }
     ensures met { OnOk result (unmet_in verified.now arguments.now ≡ None) }
     ensures bad_workers { (m : Memory) → result ≡ Err (RunFault.BadWorkers m) → (m ≡ memory) × ¬ IsNumberOfWorkers workers }
     ensures bad_arguments { (requirement : ℕ) (m : Memory) → result ≡ Err (RunFault.BadArguments requirement m) → m ≡ memory }
     ensures unmet { (requirement : ℕ) (m : Memory) → result ≡ Err (RunFault.BadArguments requirement m) → unmet_in verified.now arguments.now ≡ Some requirement }
-    ensures no_trap { result ≢ Err RunFault.Trapped }
 {
     run_by::<Brand, G, R>(
         rt,
@@ -73,7 +72,7 @@ fn run_by<L: Bench + Send + Sync, G: Gate + Sync, R: Threads + Wait + Clock + Sy
     gate: &G,
     blank: Blank,
 ) -> Result<Finished, RunFault>
-    requires made { HasGlobalCells verified.now memory }
+    requires made { IsMadeFor verified.now memory }
     requires code { verified.now ≡ L.code }
     requires crew { workers ≡ L.crew }
     requires name { blank.name ≡ L.name }
@@ -85,7 +84,6 @@ fn run_by<L: Bench + Send + Sync, G: Gate + Sync, R: Threads + Wait + Clock + Sy
     ensures bad_workers { (m : Memory) → result ≡ Err (RunFault.BadWorkers m) → (m ≡ memory) × ¬ IsNumberOfWorkers workers }
     ensures bad_arguments { (requirement : ℕ) (m : Memory) → result ≡ Err (RunFault.BadArguments requirement m) → m ≡ memory }
     ensures unmet { (requirement : ℕ) (m : Memory) → result ≡ Err (RunFault.BadArguments requirement m) → unmet_in verified.now arguments.now ≡ Some requirement }
-    ensures no_trap { result ≢ Err RunFault.Trapped }
 {
     let (shared, seats) = Shared::<L>::new(alloc, verified, arguments, memory, workers, blank)?;
     let Ok(room) = Vec::with_capacity(alloc, seats.len()) else {

@@ -12,7 +12,7 @@ use Rattle.running.proofs.Places.{both_first, both_second, no_own_child}
 use Rattle.running.proofs.Diamond.{same_frame}
 use Rattle.running.proofs.Steps.{Does, plain, detach, reattach, sync, call, ret, end, does}
 use Rattle.running.proofs.Workers.{Manned}
-use Rattle.worker_steps.proofs.Views.{holder_nobody}
+use Rattle.running.proofs.Machines.{holder_some}
 use Rattle.program.specs.declared.function.Program.{Program}
 use Rattle.shared_run.specs.Calls.{IsDetach}
 
@@ -190,7 +190,7 @@ module _ (prog : Program) (workers : ℕ) (m next : Machine) (w : ℕ) where
     -- after a detach the parent is a ready top
     pub parent_ready : Manned workers m.core m.hands → Begins s.path → top_status workers next s.path ≡ Some running.Ready
     parent_ready man b =
-        rw (b.parent_stands, holder_nobody workers next.hands s.path nobody)
+        rw (b.parent_stands, unheld (holder workers next.hands s.path) refl)
         (ap running.waiting_status b.free)
       where
         nobody : (v : ℕ) → next.hands v ≢ Some s.path
@@ -201,3 +201,7 @@ module _ (prog : Program) (workers : ℕ) (m next : Machine) (w : ℕ) where
                   let was : m.hands v ≡ Some s.path = sym (ap (λ q. q v) s.hands ∙ ap (λ t. cond t (next_hand workers m (apply s.change m.core) s.path s.frame (action_of prog s.path s.frame m.core.memory)) (m.hands v)) h.0) ∙ has in
                   h.1 (man.alone w v s.path s.hand was)
             ]
+
+        unheld : (o : Option ℕ) → holder workers next.hands s.path ≡ o → holder workers next.hands s.path ≡ None
+        unheld None is = is
+        unheld (Some v) is = absurd (nobody v (holder_some workers next.hands s.path v is))

@@ -17,12 +17,10 @@ use Rattle.program.specs.declared.function.Program.{Program}
 use Rattle.verifier.specs.Accepted.{IsAccepted}
 use Rattle.verifier.specs.Budgets.{budget_of}
 use Rattle.schedule_theorem.proofs.Bounds.{budget_bounded}
-use Rattle.worker_promise.specs.Promise.{KeepsItsSchedule}
-use Rattle.worker_steps.specs.declared.run.Run.{Run}
-use Rattle.worker_steps.specs.Seen.{seen}
 use Rattle.schedule_core.specs.declared.event.Event.{Event}
-use Rattle.schedule_core.specs.Replaying.{event_of}
-use Rattle.shared_run.specs.Story.{Origin, AreEnabled, IsLegal, first_of}
+use Rattle.schedule_core.specs.declared.stage.Stage.{Stage}
+use Rattle.schedule_core.specs.Replaying.{event_of, KeepsItsSchedule}
+use Rattle.shared_run.specs.Story.{Origin, AreEnabled, IsLegal, first_of, reached}
 use Rattle.shared_run.proofs.Stories.{keeps}
 
 one_if : Option Path → ℕ
@@ -158,19 +156,18 @@ module _ (prog : Program) (workers : ℕ) where
 pub budget_small : (program : Program) → IsAccepted program → budget_of program < 2 ^ 62
 budget_small program accepted = let b = budget_bounded program (accepted.means.5).costs in omega (arith, b)
 
-module _ (o : Origin) (events : List Event) (run : Run) (legal : IsLegal o events run) where
+module _ (o : Origin) (events : List Event) (stage : Stage) (legal : IsLegal o events stage) where
   pub few : length events ≤ 2 * budget_of o.program + 63
   few =
-      let k : KeepsItsSchedule o.program o.arguments o.memory o.workers run = keeps o events run legal in
+      let k : KeepsItsSchedule o.program o.arguments o.memory o.workers events = keeps o events stage legal in
       let all = all_count o.program o.workers (map event_of events) (first_of o) legal.enabled in
-      let last : busy (replay o.program o.workers (map event_of events) (first_of o)).hands o.workers ≤ o.workers = busy_at_most (replay o.program o.workers (map event_of events) (first_of o)).hands o.workers in
+      let last : busy (reached o events).hands o.workers ≤ o.workers = busy_at_most (reached o events).hands o.workers in
       let first : 1 ≤ busy (first_of o).hands o.workers = busy_some (first_of o).hands 0 [] refl o.workers legal.manned.0 in
       let many : length (map event_of events) ≡ length events = length-map events event_of in
-      let done : (seen run).core.done ≡ (replay o.program o.workers (map event_of events) (first_of o)).core.done = ap (λ (m : Machine). m.core.done) legal.replays.reads in
-      let within : (seen run).core.done ≤ k.serial.count = k.schedule.within_budget in
+      let within : (reached o events).core.done ≤ k.serial.count = k.schedule.within_budget in
       let budget : k.serial.count ≤ budget_of o.program = k.within_budget in
       let crew : o.workers ≤ 64 = legal.manned.1 in
-      omega (arith, all, last, first, many, done, within, budget, crew)
+      omega (arith, all, last, first, many, within, budget, crew)
 
   -- so there is room for one more
   pub room : length events + 1 < 2 ^ 64

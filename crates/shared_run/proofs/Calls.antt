@@ -13,29 +13,28 @@ use Rattle.program.specs.declared.function.Program.{Program}
 use Rattle.frame.specs.declared.path.Path.{Path}
 use Rattle.cactus.specs.declared.node.Node.{Node}
 use Rattle.cactus.specs.Frames.{HasPath, node_of_use}
-use Rattle.worker_steps.specs.declared.activation.Activation.{Activation}
-use Rattle.worker_steps.specs.declared.run.Run.{Run}
-use Rattle.frame.specs.Reading.{frame_of}
-use Rattle.worker_steps.specs.Seen.{place_of, seen}
-use Rattle.worker_steps.specs.Stepping.{IsRun}
-use Rattle.worker_steps.proofs.Reached.{reached_manned}
-use Rattle.worker_steps.proofs.Views.{frame_seen, hand_found}
+use Rattle.crew.specs.declared.activation.Activation.{Activation}
 use Rattle.schedule_core.specs.Parents.{HasNoReadyParent, IsReadyParent}
+use Rattle.schedule_core.specs.Replaying.{GrowsOnly, LeavesAsBefore}
+use Rattle.schedule_core.specs.Stages.{workers_of}
 use Rattle.schedule_core.specs.Viewed.{place_in, status_in, IsFirstReady}
 use Rattle.schedule_core.specs.declared.event.Event.{Event}
 use Rattle.schedule_core.specs.declared.event.Event.TheVariants.{Step, Steal}
+use Rattle.schedule_core.specs.declared.stage.Stage.{Stage}
+use Rattle.schedule_core.proofs.Unchanged.{as_it_was}
 use Rattle.shared_run.specs.declared.ticket.Ticket.{Ticket}
 use Rattle.shared_run.specs.declared.answers.Stepped.TheVariants as stepped
 use Rattle.shared_run.specs.declared.answers.Claimed.{Claimed}
 use Rattle.shared_run.specs.declared.answers.Claimed.TheVariants as claimed
-use Rattle.shared_run.specs.Calls.{Appends, CanTake, Claims, ClaimsFirst, IsDetach, IsOneBelow, IsParents, Steps, Takes, Tries, depth_in}
-use Rattle.shared_run.specs.Story.{IsLegal, Origin, Place, Story, named_by, story}
+use Rattle.shared_run.specs.Calls.{Appends, CanTake, Claims, ClaimsFirst, IsDetach, IsOneBelow, IsParents, Leaves, Same, Stays, Steps, Takes, Tries, depth_in}
+use Rattle.shared_run.specs.Story.{IsLegal, Origin, Place, Story, named_by, state_of, story}
 use Rattle.shared_run.proofs.Begun.{IsStepOf, step_of, begins_or_none, parent_ready}
+use Rattle.shared_run.proofs.Stories.{manned_here, untrapped}
 use Rattle.running.proofs.Steps.{some_same}
 
 -- the use of a slot that has the path names it
-named : (run : Run) (ticket : Ticket) (path : Path) → HasPath run.cactus ticket.slot ticket.generation path → named_by run ticket ≡ Some path
-named run ticket path has = from (node_of_use run.cactus ticket.slot ticket.generation) has
+named : (stage : Stage) (ticket : Ticket) (path : Path) → HasPath stage.run.cactus ticket.slot ticket.generation path → named_by stage ticket ≡ Some path
+named stage ticket path has = from (node_of_use stage.run.cactus ticket.slot ticket.generation) has
   where
     from : (o : Option (Node Activation)) → IsSomeAnd o (λ node. node.path ≡ path) → option_map (λ (node : Node Activation). node.path) o ≡ Some path
     from None h = absurd h
@@ -43,61 +42,61 @@ named run ticket path has = from (node_of_use run.cactus ticket.slot ticket.gene
 
 -- ---- a step
 
-module _ (prog : Program) (workers : ℕ) (s t : Story) (w : ℕ) (man : Manned workers (seen s.run).core (seen s.run).hands) (is : event prog workers (running.Step w) (seen s.run) ≡ Some (seen t.run)) (many : length t.run.hands.items ≡ workers) where
-  step : IsStepOf prog workers (seen s.run) (seen t.run) w
-  step = step_of prog workers (seen s.run) (seen t.run) w is refl refl
+module _ (prog : Program) (workers : ℕ) (s t : Story) (w : ℕ) (man : Manned workers (state_of s).core (state_of s).hands) (is : event prog workers (running.Step w) (state_of s) ≡ Some (state_of t)) (sound : (state_of s).trapped ≡ None) (fine : (state_of t).trapped ≡ None) (as_many : workers_of t.stage ≡ t.start.workers) (crew : t.start.workers ≡ workers) where
+  step : IsStepOf prog workers (state_of s) (state_of t) w
+  step = step_of prog workers (state_of s) (state_of t) w is sound fine
 
-  before_is : depth_in s.run w ≡ Some (length step.path)
+  before_is : depth_in (state_of s) w ≡ Some (length step.path)
   unfolding step
   before_is = ap (λ o. option_map (λ (p : RunningPath). length p) o) step.hand
 
-  shows : (ticket : Ticket) → IsReadyParent t.run w ticket.slot ticket.generation → IsOneBelow (depth_in s.run w) (depth_in t.run w) → IsDetach prog (seen s.run) w × IsParents s t w ticket
-  shows ticket r below = elim (begins_or_none prog workers (seen s.run) (seen t.run) w step) [
+  ready_here : (path : Path) → status_in (workers_of t.stage) (state_of t) path ≡ Some running.Ready → status_in t.start.workers (state_of t) path ≡ Some running.Ready
+  ready_here path ready = subst (λ n. status_in n (state_of t) path ≡ Some running.Ready) as_many ready
+
+  shows : (ticket : Ticket) → IsReadyParent t.stage.run (state_of t) w ticket.slot ticket.generation → IsOneBelow (depth_in (state_of s) w) (depth_in (state_of t) w) → IsDetach prog (state_of s) w × IsParents s t w ticket
+  shows ticket r below = elim (begins_or_none prog workers (state_of s) (state_of t) w step) [
     | inl b ↦
-        let same : step.path ≡ running.top_of (seen t.run).core (place_in r.path) = (let e : Some (b.number ∷ step.path) ≡ Some (r.number ∷ running.top_of (seen t.run).core (place_in r.path)) = sym b.hand ∙ r.hand in cc) in
-        (b.detach, record { path = r.path; named = named t.run ticket r.path r.named; ready = r.ready; top = step.hand ∙ ap Some same })
+        let same : step.path ≡ running.top_of (state_of t).core (place_in r.path) = (let e : Some (b.number ∷ step.path) ≡ Some (r.number ∷ running.top_of (state_of t).core (place_in r.path)) = sym b.hand ∙ r.hand in cc) in
+        (b.detach, record { path = r.path; named = named t.stage ticket r.path r.named; ready = ready_here r.path r.ready; top = step.hand ∙ ap Some same })
     | inr n ↦
         let (depth, was, now) = below in
         let first : length step.path ≡ depth = (let e : Some (length step.path) ≡ Some depth = sym before_is ∙ was in cc) in
-        let last : suc (length (running.top_of (seen t.run).core (place_in r.path))) ≡ depth + 1 =
-        (let e : Some (suc (length (running.top_of (seen t.run).core (place_in r.path)))) ≡ Some (depth + 1) = sym (ap (λ o. option_map (λ (p : RunningPath). length p) o) r.hand) ∙ now in cc) in
-        let no : running.is_child r.child.role ≡ false = n.no_child r.number (running.top_of (seen t.run).core (place_in r.path)) r.child r.hand (omega (arith, first, last)) r.stands in
+        let last : suc (length (running.top_of (state_of t).core (place_in r.path))) ≡ depth + 1 =
+        (let e : Some (suc (length (running.top_of (state_of t).core (place_in r.path)))) ≡ Some (depth + 1) = sym (ap (λ o. option_map (λ (p : RunningPath). length p) o) r.hand) ∙ now in cc) in
+        let no : running.is_child r.child.role ≡ false = n.no_child r.number (running.top_of (state_of t).core (place_in r.path)) r.child r.hand (omega (arith, first, last)) r.stands in
         absurd (let e : true ≡ false = sym r.is_child ∙ no in cc)
   ]
 
-  hides : (IsOneBelow (depth_in s.run w) (depth_in t.run w) → HasNoReadyParent t.run w) → ¬ IsDetach prog (seen s.run) w
-  hides none d = elim (begins_or_none prog workers (seen s.run) (seen t.run) w step) [
+  hides : (IsOneBelow (depth_in (state_of s) w) (depth_in (state_of t) w) → HasNoReadyParent (workers_of t.stage) (state_of t) w) → ¬ IsDetach prog (state_of s) w
+  hides none d = elim (begins_or_none prog workers (state_of s) (state_of t) w step) [
     | inr n ↦ n.no_detach d
     | inl b ↦
-        let now : depth_in t.run w ≡ Some (length step.path + 1) = ap (λ o. option_map (λ (p : RunningPath). length p) o) b.hand ∙ ap Some (omega arith) in
-        let ready : running.top_status workers (seen t.run) step.path ≡ Some running.Ready = parent_ready prog workers (seen s.run) (seen t.run) w step man b in
+        let now : depth_in (state_of t) w ≡ Some (length step.path + 1) = ap (λ o. option_map (λ (p : RunningPath). length p) o) b.hand ∙ ap Some (omega arith) in
+        let ready : running.top_status workers (state_of t) step.path ≡ Some running.Ready = parent_ready prog workers (state_of s) (state_of t) w step man b in
         none (length step.path, before_is, now) b.number step.path b.child b.hand b.child_stands b.is_child
-        (subst (λ n. running.top_status n (seen t.run) step.path ≡ Some running.Ready) (sym many) ready)
+        (subst (λ n. running.top_status n (state_of t) step.path ≡ Some running.Ready) (sym (as_many ∙ crew)) ready)
   ]
 
   -- a ticket is given exactly by a detach
-  pub ready_exact : (o : Option Ticket) → IfSome o (λ ticket. IsReadyParent t.run w ticket.slot ticket.generation) → IfSome o (λ ticket. IsOneBelow (depth_in s.run w) (depth_in t.run w)) →
-      IfNone o (IsOneBelow (depth_in s.run w) (depth_in t.run w) → HasNoReadyParent t.run w) → (IsSome o ↔ IsDetach prog (seen s.run) w) × IfSome o (IsParents s t w)
+  pub ready_exact : (o : Option Ticket) → IfSome o (λ ticket. IsReadyParent t.stage.run (state_of t) w ticket.slot ticket.generation) → IfSome o (λ ticket. IsOneBelow (depth_in (state_of s) w) (depth_in (state_of t) w)) →
+      IfNone o (IsOneBelow (depth_in (state_of s) w) (depth_in (state_of t) w) → HasNoReadyParent (workers_of t.stage) (state_of t) w) → (IsSome o ↔ IsDetach prog (state_of s) w) × IfSome o (IsParents s t w)
   ready_exact None shown below none = ((λ some. absurd (cc), λ d. absurd (hides none d)), tt)
   ready_exact (Some ticket) shown below none = let h = shows ticket shown below in ((λ some. h.0, λ d. refl), h.1)
 
 -- ---- what is not enabled
 
 -- a worker whose step is not enabled is idle
-module _ (prog : Program) (workers : ℕ) (m : Run) (k : IsRun prog m) (w : ℕ) where
-  held_goes : (p : RunningPath) (o : Option Frame) → (seen m).core.frames p ≡ o → (seen m).hands w ≡ Some p → running.by_frame prog workers (seen m) w p o ≡ None → ⊥
+module _ (prog : Program) (workers : ℕ) (m : Machine) (sound : m.trapped ≡ None) (man : Manned workers m.core m.hands) (w : ℕ) where
+  held_goes : (p : RunningPath) (o : Option Frame) → m.core.frames p ≡ o → m.hands w ≡ Some p → running.by_frame prog workers m w p o ≡ None → ⊥
   held_goes p (Some f) at hand is = cc
-  held_goes p None at hand is =
-      let (slot, node, has, there, place) = hand_found m.cactus m.hands.items w p hand in
-      let e : Some (frame_of (place_of node) node.frame.frame) ≡ None = sym (frame_seen m.cactus k.agrees.tree slot node there) ∙ (ap (seen m).core.frames place ∙ at) in
-      cc
+  held_goes p None at hand is = let g = man.goers w p hand in let there : Some g.frame ≡ None = sym g.is ∙ at in cc
 
-  pub idle_by : event prog workers (running.Step w) (seen m) ≡ None → (seen m).hands w ≡ None
-  idle_by is = from ((seen m).hands w) refl is
+  pub idle_by : event prog workers (running.Step w) m ≡ None → m.hands w ≡ None
+  idle_by is = from (m.hands w) refl (sym (ap (λ o. running.unless_trapped o (running.sound_event prog workers (running.Step w) m)) sound) ∙ is)
     where
-      from : (o : Option RunningPath) → (seen m).hands w ≡ o → running.by_hand prog workers (seen m) w o ≡ None → (seen m).hands w ≡ None
+      from : (o : Option RunningPath) → m.hands w ≡ o → running.by_hand prog workers m w o ≡ None → m.hands w ≡ None
       from None at e = at
-      from (Some p) at e = absurd (held_goes p ((seen m).core.frames p) refl at e)
+      from (Some p) at e = absurd (held_goes p (m.core.frames p) refl at e)
 
 -- ---- a steal
 
@@ -128,13 +127,23 @@ would_take prog workers m w t sound lt is (idle, ready) =
 
 -- ---- the answers, from what was appended
 
--- a story with the same parts
-pub same_story : (o : Origin) (es fs : List Event) (m n : Run) → fs ≡ es → n ≡ m → story o fs n ≡ story o es m
-same_story o es fs m n is same = ap (λ (l : List Event). story o l n) is ∙ ap (λ (x : Run). story o es x) same
+pub true_is : (b : Bool) (o : Option ℤ) → IsTrue b ↔ IsSome o → b ≡ is_some o
+true_is true None e = absurd (let f : IsSome {T = ℤ} None = e.0 refl in cc)
+true_is true (Some z) e = refl
+true_is false None e = refl
+true_is false (Some z) e = absurd (let f : IsTrue false = e.1 refl in cc)
 
-module _ (s t : Story) (p q : Place) (legal : IsLegal s.start s.events s.run) (w : ℕ) (mine : w ≡ p.worker) where
-  status_here : (path : Path) → status_in s.run path ≡ status_of s.start.workers (seen s.run) (place_in path)
-  status_here path = ap (λ n. status_of n (seen s.run) (place_in path)) legal.workers
+none_is : (o : Option RunningPath) → is_none (option_map (λ (x : RunningPath). length x) o) ≡ is_none o
+none_is None = refl
+none_is (Some x) = refl
+
+-- a story with the same parts
+pub same_story : (o : Origin) (es fs : List Event) (m n : Stage) → fs ≡ es → n ≡ m → story o fs n ≡ story o es m
+same_story o es fs m n is same = ap (λ (l : List Event). story o l n) is ∙ ap (λ (x : Stage). story o es x) same
+
+module _ (s t : Story) (p q : Place) (legal : IsLegal s.start s.events s.stage) (w : ℕ) (mine : w ≡ p.worker) where
+  sound : (state_of s).trapped ≡ None
+  sound = untrapped s.start s.events s.stage legal
 
   -- ---- a steal
 
@@ -143,54 +152,41 @@ module _ (s t : Story) (p q : Place) (legal : IsLegal s.start s.events s.run) (w
     where
       from : Tries (Steal w path) s t p q true → Takes path s t p q claimed.Taken
       from (appends, done) =
-          let could = could_take s.start.program s.start.workers (seen s.run) w (place_in path) (seen t.run) refl done in
-          (subst (λ v. Appends (Steal v path ∷ []) s t p q) mine appends, (subst (λ v. (seen s.run).hands v ≡ None) mine could.0, status_here path ∙ could.1))
+          let could = could_take s.start.program s.start.workers (state_of s) w (place_in path) (state_of t) sound done in
+          (subst (λ v. Appends (Steal v path ∷ []) s t p q) mine appends, (subst (λ v. (state_of s).hands v ≡ None) mine could.0, could.1))
 
   pub takes_false : (path : Path) (b : Bool) → b ≡ false → w < s.start.workers → Tries (Steal w path) s t p q b → Takes path s t p q claimed.Gone
   takes_false path b is within tries = from (subst (λ x. Tries (Steal w path) s t p q x) is tries)
     where
       from : Tries (Steal w path) s t p q false → Takes path s t p q claimed.Gone
       from (same, none) =
-          (same, λ can. would_take s.start.program s.start.workers (seen s.run) w (place_in path) refl within none (subst (λ v. (seen s.run).hands v ≡ None) (sym mine) can.0, sym (status_here path) ∙ can.1))
+          (same, λ can. would_take s.start.program s.start.workers (state_of s) w (place_in path) sound within none (subst (λ v. (state_of s).hands v ≡ None) (sym mine) can.0, can.1))
 
   -- ---- a step
 
-  true_is : (b : Bool) (o : Option ℤ) → IsTrue b ↔ IsSome o → b ≡ is_some o
-  true_is true None e = absurd (let f : IsSome {T = ℤ} None = e.0 refl in cc)
-  true_is true (Some z) e = refl
-  true_is false None e = refl
-  true_is false (Some z) e = absurd (let f : IsTrue false = e.1 refl in cc)
-
-  none_is : (o : Option RunningPath) → is_none (option_map (λ (x : RunningPath). length x) o) ≡ is_none o
-  none_is None = refl
-  none_is (Some x) = refl
-
-  pub steps_done : (b : Bool) → b ≡ true → Tries (Step w) s t p q b → IsLegal t.start t.events t.run → (before : Option ℕ) → before ≡ depth_in s.run w → (ready : Option Ticket) → IfSome ready (λ ticket. IsReadyParent t.run w ticket.slot ticket.generation) →
-      IfSome ready (λ ticket. IsOneBelow before (depth_in t.run w)) → IfNone ready (IsOneBelow before (depth_in t.run w) → HasNoReadyParent t.run w) →
-      (idle : Bool) → idle ≡ is_none (depth_in t.run w) → (ended : Bool) → IsTrue ended ↔ IsSome (seen t.run).core.result → Steps s t p q (stepped.Done ready idle ended)
+  pub steps_done : (b : Bool) → b ≡ true → Tries (Step w) s t p q b → IsLegal t.start t.events t.stage → (before : Option ℕ) → before ≡ depth_in (state_of s) w → (ready : Option Ticket) →
+      IfSome ready (λ ticket. IsReadyParent t.stage.run (state_of t) w ticket.slot ticket.generation) → IfSome ready (λ ticket. IsOneBelow before (depth_in (state_of t) w)) →
+      IfNone ready (IsOneBelow before (depth_in (state_of t) w) → HasNoReadyParent (workers_of t.stage) (state_of t) w) →
+      (idle : Bool) → idle ≡ is_none (depth_in (state_of t) w) → (ended : Bool) → IsTrue ended ↔ IsSome (state_of t).core.result → Steps s t p q (stepped.Done ready idle ended)
   steps_done b is tries after before depth ready shown below none idle idle_is ended ended_is = from (subst (λ x. Tries (Step w) s t p q x) is tries)
     where
-      man : Manned s.start.workers (seen s.run).core (seen s.run).hands
-      man = subst (λ n. Manned n (seen s.run).core (seen s.run).hands) legal.workers
-          (reached_manned s.start.program (length s.run.hands.items) (seen s.run) legal.replays.run.manned legal.replays.run.reached refl)
-
       from : Tries (Step w) s t p q true → Steps s t p q (stepped.Done ready idle ended)
       from (appends, done) =
-          let many : length t.run.hands.items ≡ s.start.workers = after.workers ∙ ap (λ (o : Origin). o.workers) appends.start in
-          let exact = ready_exact s.start.program s.start.workers s t w man done many ready shown
-          (subst (λ d. IfSome ready (λ ticket. IsOneBelow d (depth_in t.run w))) depth below) (subst (λ d. IfNone ready (IsOneBelow d (depth_in t.run w) → HasNoReadyParent t.run w)) depth none) in (
+          let crew : t.start.workers ≡ s.start.workers = ap (λ (o : Origin). o.workers) appends.start in
+          let exact = ready_exact s.start.program s.start.workers s t w (manned_here s.start s.events s.stage legal) done sound (untrapped t.start t.events t.stage after) after.replays.as_many crew ready shown
+          (subst (λ d. IfSome ready (λ ticket. IsOneBelow d (depth_in (state_of t) w))) depth below) (subst (λ d. IfNone ready (IsOneBelow d (depth_in (state_of t) w) → HasNoReadyParent (workers_of t.stage) (state_of t) w)) depth none) in (
             subst (λ v. Appends (Step v ∷ []) s t p q) mine appends,
-            subst (λ v. IsSome ready ↔ IsDetach s.start.program (seen s.run) v) mine exact.0,
+            subst (λ v. IsSome ready ↔ IsDetach s.start.program (state_of s) v) mine exact.0,
             subst (λ v. IfSome ready (IsParents s t v)) mine exact.1,
-            idle_is ∙ (none_is ((seen t.run).hands w) ∙ ap (λ v. is_none ((seen t.run).hands v)) mine),
-            true_is ended (seen t.run).core.result ended_is,
+            idle_is ∙ (none_is ((state_of t).hands w) ∙ ap (λ v. is_none ((state_of t).hands v)) mine),
+            true_is ended (state_of t).core.result ended_is,
           )
 
   pub steps_idle : (b : Bool) → b ≡ false → Tries (Step w) s t p q b → Steps s t p q stepped.Idle
   steps_idle b is tries = from (subst (λ x. Tries (Step w) s t p q x) is tries)
     where
       from : Tries (Step w) s t p q false → Steps s t p q stepped.Idle
-      from (same, none) = (same, subst (λ v. (seen s.run).hands v ≡ None) mine (idle_by s.start.program s.start.workers s.run legal.replays.run w none))
+      from (same, none) = (same, subst (λ v. (state_of s).hands v ≡ None) mine (idle_by s.start.program s.start.workers (state_of s) sound (manned_here s.start s.events s.stage legal) w none))
 
 -- a test for nothing
 pub is_none_by : (o : Option ℕ) (b : Bool) → is_some o ≡ not b → b ≡ is_none o
@@ -202,13 +198,34 @@ is_none_by (Some n) false e = refl
 -- ---- a claim
 
 module _ (s t : Story) (p q : Place) where
-  pub claims_of : (ticket : Ticket) (path : Path) (r : Claimed) → named_by s.run ticket ≡ Some path → Takes path s t p q r → Claims ticket s t p q r
+  pub claims_of : (ticket : Ticket) (path : Path) (r : Claimed) → named_by s.stage ticket ≡ Some path → Takes path s t p q r → Claims ticket s t p q r
   claims_of ticket path claimed.Taken is takes = (path, is, takes)
   claims_of ticket path claimed.Gone is (same, off) =
       (same, λ other names can. off (subst (λ x. CanTake s p x) (some_same other path (sym names ∙ is)) can))
   claims_of ticket path claimed.OutOfMemory is takes = takes
 
-  pub firsts_of : (path : Path) (r : Claimed) → IsFirstReady s.run path → Takes path s t p q r → ClaimsFirst s t p q r
+  pub firsts_of : (path : Path) (r : Claimed) → IsFirstReady s.start.workers (state_of s) path → Takes path s t p q r → ClaimsFirst s t p q r
   firsts_of path claimed.Taken first takes = (path, first, takes)
   firsts_of path claimed.Gone first (same, off) = (same, λ other can. off (can.0, first.ready))
   firsts_of path claimed.OutOfMemory first takes = takes
+
+-- ---- want of memory
+
+pub stays_same : (s t : Story) (p q : Place) → Same s t p q → Stays s t p q
+stays_same s t p q (same, seat) =
+    record {
+      start = ap (λ (x : Story). x.start) same;
+      events = ap (λ (x : Story). x.events) same;
+      stage = subst (λ (x : Stage). LeavesAsBefore s.stage x) (ap (λ (x : Story). x.stage) (sym same)) (as_it_was s.stage);
+      seat = seat;
+    }
+
+-- before the event was tried
+pub leaves_same : (e : Event) (s t : Story) (p q : Place) → Same s t p q → Leaves e s t p q
+leaves_same (Step worker) s t p q same = stays_same s t p q same
+leaves_same (Steal worker path) s t p q same = same
+
+-- no steal is refused memory
+pub leaves_grown : (program : Program) (m : Machine) (e : Event) (s t : Story) (p q : Place) → GrowsOnly program m e → Stays s t p q → Leaves e s t p q
+leaves_grown program m (Step worker) s t p q grows stays = stays
+leaves_grown program m (Steal worker path) s t p q grows stays = absurd grows

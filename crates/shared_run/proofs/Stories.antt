@@ -1,119 +1,147 @@
--- What a legal history says of its run, and an event more.
-use Rattle.std.proofs.Common.{◌≡◌, ℕ, ℤ, ◌≤◌, List, [], ◌∷◌, ◌++◌, map, length, Some, None, true, refl, sym, ap, ◌∙◌, subst}
-use Rattle.std.specs.Prelude.{IsSome, is_none}
-use Rattle.std.proofs.lemmas.List.{map-append}
+-- What a legal history says of its machine, and an event more.
+use Rattle.std.proofs.Common.{◌≡◌, ℕ, ℤ, ◌≤◌, List, [], ◌∷◌, ◌++◌, map, length, reverse, Option, Some, None, Bool, true, false, refl, sym, ap, ◌∙◌, subst, arith}
+use Rattle.std.specs.Prelude.{IsSome, IfSome, is_none}
+use Rattle.std.proofs.lemmas.List.{map-append, reverse-reverse}
+use Rattle.running.specs.Frames.{Frame}
 use Rattle.running.specs.Events as running
 use Rattle.running.specs.Events.{Machine, event}
-use Rattle.running.specs.Replay.{or_unchanged, replay, has_ended}
+use Rattle.running.specs.Replay.{NeverTraps, or_unchanged, replay, has_ended}
 use Rattle.running.specs.SerialMeaning.{Gave}
 use Rattle.running.specs.Cells.{Shared}
+use Rattle.running.proofs.Workers.{Manned}
 use Rattle.program.specs.declared.function.Program.{Program}
 use Rattle.verifier.specs.Accepted.{IsAccepted}
 use Rattle.store.specs.Cells.{cell_at}
-use Rattle.store.specs.Made.{HasGlobalCells}
+use Rattle.store.specs.Made.{IsMadeFor}
 use Rattle.outcome.specs.Requirements.{unmet_in}
 use Rattle.outcome.specs.declared.outcome.Finished.{Finished}
-use Rattle.worker_promise.specs.Promise.{IsScheduled, KeepsItsSchedule}
-use Rattle.worker_promise.proofs.Steps.{runs_keep_their_schedules}
-use Rattle.worker_steps.specs.declared.run.Run.{Run}
-use Rattle.worker_steps.specs.declared.run.Phase.{Phase}
-use Rattle.worker_steps.specs.declared.run.Phase.TheVariants.{Going, Ended, Trapped}
-use Rattle.worker_steps.specs.Running.{IsNumberOfWorkers, result_of}
-use Rattle.worker_steps.specs.Seen.{seen}
-use Rattle.worker_steps.specs.Slots.{HasSlots}
-use Rattle.worker_steps.specs.Stepping.{IsEvent, IsRun, StartsAs}
-use Rattle.schedule_core.proofs.Replaying.{replays_next, replays_start}
+use Rattle.crew_promise.proofs.Results.{IsOpen, always_open}
+use Rattle.schedule_core.proofs.Grounds.{laws}
+use Rattle.schedule_core.proofs.Reached.{reached_manned, replay_more}
 use Rattle.schedule_core.specs.declared.event.Event.{Event}
-use Rattle.schedule_core.specs.Replaying.{event_of, Happens, Replays}
+use Rattle.schedule_core.specs.declared.event.Event.TheVariants.{Step, Steal}
+use Rattle.schedule_core.specs.declared.stage.Stage.{Stage}
+use Rattle.schedule_core.specs.Replaying.{Becomes, event_of, Happens, IsNumberOfWorkers, KeepsItsSchedule, Replays, ReplaysOneMore, ReplaysTheSame}
+use Rattle.schedule_core.specs.Stages.{given, HoldsGlobals, IsState, program_of, workers_of}
 use Rattle.shared_run.specs.Answer.{IsSerialAnswer}
-use Rattle.shared_run.specs.Story.{Origin, AreEnabled, IsLegal, first_of}
+use Rattle.shared_run.specs.Story.{Origin, AreEnabled, IsLegal, first_of, reached}
 
 pub enabled_more : (program : Program) (workers : ℕ) (events : List running.Event) (e : running.Event) (m : Machine) →
     AreEnabled program workers events m → IsSome (event program workers e (replay program workers events m)) → AreEnabled program workers (events ++ e ∷ []) m
 enabled_more program workers [] e m all is = (is, tt)
 enabled_more program workers (d ∷ events) e m all is = (all.0, enabled_more program workers events e (or_unchanged (event program workers d m) m) all.1 is)
 
+-- the definitions' events are all events of schedules
+back : running.Event → Event
+back (running.Step worker) = Step worker
+back (running.Steal worker task) = Steal worker (record { numbers = reverse task })
+
+back_is : (e : running.Event) → event_of (back e) ≡ e
+unfolding back
+back_is (running.Step worker) = refl
+back_is (running.Steal worker task) = ap (λ t. running.Steal worker t) (reverse-reverse task)
+
+all_back : (es : List running.Event) → map event_of (map back es) ≡ es
+all_back [] = refl
+all_back (e ∷ es) = ap (λ d. d ∷ map event_of (map back es)) (back_is e) ∙ ap (λ l. e ∷ l) (all_back es)
+
 -- no event yet
-pub legal_start : (o : Origin) (run : Run) → StartsAs o.program o.arguments o.memory run → HasSlots o.program run → length run.hands.items ≡ o.workers → IsNumberOfWorkers o.workers → IsAccepted o.program →
-    unmet_in o.program o.arguments ≡ None → HasGlobalCells o.program o.memory → IsLegal o [] run
-legal_start o run s slots many manned accepted taken made =
-    record {
-      replays = replays_start o.program o.arguments o.memory o.workers run s slots many;
-      enabled = tt;
-      program = s.program;
-      workers = many;
-      manned = manned;
-      accepted = accepted;
-      taken = taken;
-      made = made;
-    }
+pub legal_start : (o : Origin) (stage : Stage) → Replays o.program o.arguments o.memory o.workers [] stage → IsNumberOfWorkers o.workers → IsAccepted o.program →
+    unmet_in o.program o.arguments ≡ None → IsMadeFor o.program o.memory → IsLegal o [] stage
+legal_start o stage r manned accepted taken made = record { replays = r; enabled = tt; manned = manned; accepted = accepted; taken = taken; made = made }
 
-pub legal_begin : (o begun : Origin) (events : List Event) (run : Run) → begun ≡ o → events ≡ [] → IsLegal o [] run → IsLegal begun events run
-legal_begin o begun events run same none legal = subst (λ (l : List Event). IsLegal begun l run) (sym none) (subst (λ (x : Origin). IsLegal x [] run) (sym same) legal)
+pub legal_begin : (o begun : Origin) (events : List Event) (stage : Stage) → begun ≡ o → events ≡ [] → IsLegal o [] stage → IsLegal begun events stage
+legal_begin o begun events stage same none legal = subst (λ (l : List Event). IsLegal begun l stage) (sym none) (subst (λ (x : Origin). IsLegal x [] stage) (sym same) legal)
 
-module _ (o : Origin) (events : List Event) (run : Run) (legal : IsLegal o events run) where
-  -- the run that is seen, by the start's module and workers
-  pub event_here : (e : running.Event) → event run.verified.now (length run.hands.items) e (seen run) ≡ event o.program o.workers e (seen run)
-  event_here e = ap (λ (p : Program). event p (length run.hands.items) e (seen run)) legal.program ∙ ap (λ n. event o.program n e (seen run)) legal.workers
+module _ (o : Origin) (events : List Event) (stage : Stage) (legal : IsLegal o events stage) where
+  -- the stage's module and workers are the start's
+  pub event_here : (e : running.Event) (m : Machine) → event (program_of stage) (workers_of stage) e m ≡ event o.program o.workers e m
+  event_here e m = ap (λ (p : Program). event p (workers_of stage) e m) legal.replays.program ∙ ap (λ n. event o.program n e m) legal.replays.as_many
 
-  -- the run is one to which a schedule leads
-  pub run_here : IsRun run.verified.now run
-  run_here = subst (λ (p : Program). IsRun p run) (sym legal.program) legal.replays.run
-
-  pub legal_same : (es : List Event) (new : Run) → es ≡ events → new ≡ run → IsLegal o es new
-  legal_same es new is same = subst (λ (l : List Event). IsLegal o l new) (sym is) (subst (λ (m : Run). IsLegal o events m) (sym same) legal)
-
-  pub scheduled : IsScheduled o.program run
-  scheduled =
-      record {
-        arguments = o.arguments;
-        taken = legal.taken;
-        globals = o.memory;
-        made = legal.made;
-        manned = subst (λ n. 1 ≤ n) (sym legal.workers) legal.manned.0;
-        events = map event_of events;
-        reads = subst (λ n. seen run ≡ replay o.program n (map event_of events) (first_of o)) (sym legal.workers) legal.replays.reads;
-      }
+  some : 1 ≤ o.workers
+  some = let m = legal.manned.0 in omega (arith, m)
 
   -- the schedule theorem
-  pub keeps : KeepsItsSchedule o.program o.arguments o.memory o.workers run
-  unfolding scheduled
-  keeps = subst (λ n. KeepsItsSchedule o.program o.arguments o.memory n run) legal.workers (runs_keep_their_schedules o.program legal.accepted run scheduled)
+  schedule_of : (es : List Event) → KeepsItsSchedule o.program o.arguments o.memory o.workers es
+  schedule_of es = (laws.from_start o.program legal.accepted o.arguments legal.taken o.memory legal.made o.workers some).keeps es
 
-  ended_by : (z : ℤ) (x : Phase) → run.phase ≡ x → result_of x ≡ Some z → has_ended (seen run) ≡ true
-  ended_by z Going at is = absurd (cc)
-  ended_by z Trapped at is = absurd (cc)
-  ended_by z (Ended y) at is = ap (λ f. is_none f) (legal.replays.run.over y at)
+  pub keeps : KeepsItsSchedule o.program o.arguments o.memory o.workers events
+  keeps = schedule_of events
+
+  pub untrapped : (reached o events).trapped ≡ None
+  untrapped = keeps.schedule.no_trap.0
+
+  pub manned_here : Manned o.workers (reached o events).core (reached o events).hands
+  manned_here = reached_manned o.program o.workers (reached o events) some (record { arguments = o.arguments; memory = given o.memory; events = map event_of events; after = refl }) untrapped
+
+  -- what stands as this stage stands as the state that the events lead to
+  pub state_at : (x : Stage) → x ≡ stage → IsState x (reached o events)
+  state_at x is = subst (λ (y : Stage). IsState y (reached o events)) (sym is) legal.replays.state
+
+  -- where there is a result the root has returned
+  ended_by : (z : ℤ) → (reached o events).core.result ≡ Some z → has_ended (reached o events) ≡ true
+  ended_by z is = from ((reached o events).core.frames []) refl
+    where
+      never : NeverTraps o.program o.workers (first_of o)
+      never more = subst (λ l. (replay o.program o.workers l (first_of o)).trapped ≡ None) (all_back more) (schedule_of (map back more)).schedule.no_trap.0
+
+      unended : IsOpen (reached o events).core
+      unended = always_open o.program o.arguments (given o.memory) o.workers never (map event_of events)
+
+      from : (root : Option Frame) → (reached o events).core.frames [] ≡ root → is_none root ≡ true
+      from None at = refl
+      from (Some f) at = absurd (let none : None ≡ Some z = sym (unended.none_yet f at) ∙ is in cc)
 
   -- a run that has ended has the serial answer
-  pub answer : (z : ℤ) (done : Finished) → result_of run.phase ≡ Some z → done.result ≡ z → done.memory ≡ run.memory → done.instructions ≡ run.instructions → done.peak ≡ run.peak → IsSerialAnswer o done
+  pub answer : (z : ℤ) (done : Finished) → (reached o events).core.result ≡ Some z → done.result ≡ z → HoldsGlobals (reached o events) stage.memory done.memory → done.instructions ≡ (reached o events).core.done →
+      done.peak ≡ (reached o events).core.peak → IsSerialAnswer o done
   answer z done is result memory instructions peak =
-      let k : KeepsItsSchedule o.program o.arguments o.memory o.workers run = keeps in
-      let over : has_ended (seen run) ≡ true = ended_by z run.phase refl is in
+      let k : KeepsItsSchedule o.program o.arguments o.memory o.workers events = keeps in
+      let over : has_ended (reached o events) ≡ true = ended_by z is in
       record {
         serial = k.serial;
         is_serial = k.is_serial;
         result = k.schedule.same_result over ∙ ap (λ x. Gave x) (is ∙ ap Some (sym result));
-        memory = λ global index. ap (λ m. m (record { object = Shared global; index = index })) (sym (k.schedule.same_memory over)) ∙ ap (λ m. cell_at m global index) (sym memory);
+        memory = λ global index. ap (λ m. m (record { object = Shared global; index = index })) (sym (k.schedule.same_memory over)) ∙ sym (memory.cells global index);
         count = instructions ∙ k.schedule.same_count over;
         peak = peak ∙ k.schedule.same_peak over;
       }
 
   -- with an event that was done
-  pub legal_more : (e : Event) (more : List Event) (new : Run) → Happens run new (event_of e) true → more ≡ events ++ e ∷ [] → IsLegal o more new
-  legal_more e more new ev is =
-      let exact : event o.program o.workers (event_of e) (seen run) ≡ Some (seen new) = sym (event_here (event_of e)) ∙ ev.exact in
-      let all : map event_of more ≡ map event_of events ++ event_of e ∷ [] = ap (λ l. map event_of l) is ∙ map-append event_of events (e ∷ []) in
-      record {
-        replays = subst (λ (l : List Event). Replays o.program o.arguments o.memory o.workers l new) (sym is)
-            (replays_next o.program o.arguments o.memory o.workers events run new e true (subst (λ (p : Program). IsEvent p run new (event_of e) true) legal.program ev) (λ off. absurd (cc)) legal.replays);
-        enabled = subst (λ l. AreEnabled o.program o.workers l (first_of o)) (sym all)
-            (enabled_more o.program o.workers (map event_of events) (event_of e) (first_of o) legal.enabled
-            (subst (λ x. IsSome (event o.program o.workers (event_of e) x)) legal.replays.reads (subst (λ x. IsSome x) (sym exact) refl)));
-        program = ap (λ v. v.now) ev.program ∙ legal.program;
-        workers = ev.workers ∙ legal.workers;
-        manned = legal.manned;
-        accepted = legal.accepted;
-        taken = legal.taken;
-        made = legal.made;
-      }
+  module _ (e : Event) (more : List Event) (new : Stage) (is : more ≡ events ++ e ∷ []) where
+    all_more : map event_of more ≡ map event_of events ++ event_of e ∷ []
+    all_more = ap (λ l. map event_of l) is ∙ map-append event_of events (e ∷ [])
+
+    state_more : (next : Machine) → event o.program o.workers (event_of e) (reached o events) ≡ Some next → reached o more ≡ next
+    state_more next done =
+        ap (λ l. replay o.program o.workers l (first_of o)) all_more
+        ∙ (replay_more o.program o.workers (map event_of events) (event_of e) (first_of o)
+        ∙ ap (λ x. or_unchanged x (reached o events)) done)
+
+    pub done_here : Happens stage new (event_of e) true → event o.program o.workers (event_of e) (reached o events) ≡ Some (reached o more)
+    done_here happened =
+        let (next, done, stands) = happened (reached o events) legal.replays.state in
+        let exact : event o.program o.workers (event_of e) (reached o events) ≡ Some next = sym (event_here (event_of e) (reached o events)) ∙ done in
+        exact ∙ ap Some (sym (state_more next exact))
+
+    pub legal_more : Happens stage new (event_of e) true → ReplaysOneMore stage new e → IsLegal o more new
+    legal_more happened next =
+        record {
+          replays = subst (λ (l : List Event). Replays o.program o.arguments o.memory o.workers l new) (sym is) (next o.program o.arguments o.memory o.workers events legal.replays);
+          enabled = subst (λ l. AreEnabled o.program o.workers l (first_of o)) (sym all_more)
+              (enabled_more o.program o.workers (map event_of events) (event_of e) (first_of o) legal.enabled (subst (λ x. IsSome x) (sym (done_here happened)) refl));
+          manned = legal.manned;
+          accepted = legal.accepted;
+          taken = legal.taken;
+          made = legal.made;
+        }
+
+  -- one that was not
+  pub not_here : (e : Event) (new : Stage) → Happens stage new (event_of e) false → event o.program o.workers (event_of e) (reached o events) ≡ None
+  not_here e new happened = sym (event_here (event_of e) (reached o events)) ∙ happened (reached o events) legal.replays.state
+
+  -- where nothing was appended
+  pub legal_same : (es : List Event) (new : Stage) → es ≡ events → ReplaysTheSame stage new → IsLegal o es new
+  legal_same es new is same =
+      subst (λ (l : List Event). IsLegal o l new) (sym is)
+      (record { replays = same o.program o.arguments o.memory o.workers events legal.replays; enabled = legal.enabled; manned = legal.manned; accepted = legal.accepted; taken = legal.taken; made = legal.made })

@@ -4,7 +4,7 @@ use Rattle.running.specs.Cells.{Shared}
 use Rattle.running.specs.SerialMeaning.{Gave, Outcome, IsSerialMeaning}
 use Rattle.store.specs.Cells.{cell_at}
 use Rattle.outcome.specs.declared.outcome.Finished.{Finished}
-use Rattle.worker_steps.specs.Seen.{given}
+use Rattle.schedule_core.specs.Stages.{given}
 use Rattle.shared_run.specs.Story.{Origin}
 
 -- the serial meaning's result, memory, count and depth

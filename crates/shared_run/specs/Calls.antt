@@ -8,29 +8,38 @@ use Rattle.running.specs.Events as running
 use Rattle.running.specs.Events.{Machine, event, top_of}
 use Rattle.program.specs.declared.function.Program.{Program}
 use Rattle.frame.specs.declared.path.Path.{Path}
-use Rattle.worker_steps.specs.declared.run.Run.{Run}
-use Rattle.worker_steps.specs.Seen.{seen}
-use Rattle.worker_steps.specs.Stepping.{StartsAs}
 use Rattle.schedule_core.specs.declared.event.Event.{Event}
 use Rattle.schedule_core.specs.declared.event.Event.TheVariants.{Step, Steal}
-use Rattle.schedule_core.specs.Replaying.{event_of}
+use Rattle.schedule_core.specs.Replaying.{event_of, LeavesAsBefore, Replays}
 use Rattle.schedule_core.specs.Viewed.{place_in, status_in, IsFirstReady}
 use Rattle.shared_run.specs.declared.ticket.Ticket.{Ticket}
 use Rattle.shared_run.specs.declared.answers.Stepped.{Stepped}
 use Rattle.shared_run.specs.declared.answers.Stepped.TheVariants as stepped
 use Rattle.shared_run.specs.declared.answers.Claimed.{Claimed}
 use Rattle.shared_run.specs.declared.answers.Claimed.TheVariants as claimed
-use Rattle.shared_run.specs.Story.{Origin, Story, Place, place, named_by}
+use Rattle.shared_run.specs.Story.{Origin, Story, Place, place, named_by, state_of}
 
 -- nothing has happened yet
 pub record Begins (o : Origin) (s : Story) : Type 0 where
   pub start : s.start ≡ o
   pub events : s.events ≡ []
-  pub run : StartsAs o.program o.arguments o.memory s.run
+  pub stage : Replays o.program o.arguments o.memory o.workers [] s.stage
 
 -- board and seat are as they were
 abbrev pub Same : Story → Story → Place → Place → Type 0
 Same s t p q = (t ≡ s) × (q ≡ p)
+
+-- start, history and seat are as they were, and the machine stands as it did
+pub record Stays (s t : Story) (p q : Place) : Type 0 where
+  pub start : t.start ≡ s.start
+  pub events : t.events ≡ s.events
+  pub stage : LeavesAsBefore s.stage t.stage
+  pub seat : q ≡ p
+
+-- memory was refused for the event
+abbrev pub Leaves : Event → Story → Story → Place → Place → Type 0
+Leaves (Step worker) s t p q = Stays s t p q
+Leaves (Steal worker path) s t p q = Same s t p q
 
 -- just these events were appended, and counted in the seat's share
 pub record Appends (more : List Event) (s t : Story) (p q : Place) : Type 0 where
@@ -38,13 +47,13 @@ pub record Appends (more : List Event) (s t : Story) (p q : Place) : Type 0 wher
   pub events : t.events ≡ s.events ++ more
   pub share : q ≡ place p.worker (p.share + length more)
 
--- what the event makes of the run, where it is enabled
+-- what the event makes of the state, where it is enabled
 abbrev pub outcome : Story → Event → Option Machine
-outcome s e = event s.start.program s.start.workers (event_of e) (seen s.run)
+outcome s e = event s.start.program s.start.workers (event_of e) (state_of s)
 
 -- the event was enabled and is done; or it was not, and nothing was done
 abbrev pub Tries : Event → Story → Story → Place → Place → Bool → Type 0
-Tries e s t p q true = Appends (e ∷ []) s t p q × (outcome s e ≡ Some (seen t.run))
+Tries e s t p q true = Appends (e ∷ []) s t p q × (outcome s e ≡ Some (state_of t))
 Tries e s t p q false = Same s t p q × (outcome s e ≡ None)
 
 -- ---- a step
@@ -63,13 +72,13 @@ pub record IsDetach (program : Program) (m : Machine) (worker : ℕ) : Type 0 wh
 -- the ticket names the task, ready now, whose top the worker ran before
 pub record IsParents (s t : Story) (worker : ℕ) (ticket : Ticket) : Type 0 where
   pub path : Path
-  pub named : named_by t.run ticket ≡ Some path
-  pub ready : status_in t.run path ≡ Some running.Ready
-  pub top : (seen s.run).hands worker ≡ Some (top_of (seen t.run).core (place_in path))
+  pub named : named_by t.stage ticket ≡ Some path
+  pub ready : status_in t.start.workers (state_of t) path ≡ Some running.Ready
+  pub top : (state_of s).hands worker ≡ Some (top_of (state_of t).core (place_in path))
 
 -- how many frames stand below the one that the worker runs next
-abbrev pub depth_in : Run → ℕ → Option ℕ
-depth_in run worker = option_map (λ (p : RunningPath). length p) ((seen run).hands worker)
+abbrev pub depth_in : Machine → ℕ → Option ℕ
+depth_in m worker = option_map (λ (p : RunningPath). length p) (m.hands worker)
 
 -- the second depth is one more than the first
 abbrev pub IsOneBelow : Option ℕ → Option ℕ → Type 0
@@ -79,18 +88,18 @@ IsOneBelow before now = (depth : ℕ) × (before ≡ Some depth) × (now ≡ Som
 abbrev pub Steps : Story → Story → Place → Place → Stepped → Type 0
 Steps s t p q (stepped.Done ready idle ended) =
     Appends (Step p.worker ∷ []) s t p q
-    × (IsSome ready ↔ IsDetach s.start.program (seen s.run) p.worker)
+    × (IsSome ready ↔ IsDetach s.start.program (state_of s) p.worker)
     × IfSome ready (IsParents s t p.worker)
-    × (idle ≡ is_none ((seen t.run).hands p.worker))
-    × (ended ≡ is_some (seen t.run).core.result)
-Steps s t p q stepped.Idle = Same s t p q × ((seen s.run).hands p.worker ≡ None)
-Steps s t p q stepped.OutOfMemory = Same s t p q
+    × (idle ≡ is_none ((state_of t).hands p.worker))
+    × (ended ≡ is_some (state_of t).core.result)
+Steps s t p q stepped.Idle = Same s t p q × ((state_of s).hands p.worker ≡ None)
+Steps s t p q stepped.OutOfMemory = Stays s t p q
 
 -- ---- a claim
 
 -- the worker is idle, and the task of the path is ready
 abbrev pub CanTake : Story → Place → Path → Type 0
-CanTake s p path = ((seen s.run).hands p.worker ≡ None) × (status_in s.run path ≡ Some running.Ready)
+CanTake s p path = ((state_of s).hands p.worker ≡ None) × (status_in s.start.workers (state_of s) path ≡ Some running.Ready)
 
 -- one steal of the task of the path by the seat's worker, or nothing
 abbrev pub Takes : Path → Story → Story → Place → Place → Claimed → Type 0
@@ -100,12 +109,12 @@ Takes path s t p q claimed.OutOfMemory = Same s t p q
 
 -- the same for the ticket's task
 abbrev pub Claims : Ticket → Story → Story → Place → Place → Claimed → Type 0
-Claims ticket s t p q claimed.Taken = (path : Path) × (named_by s.run ticket ≡ Some path) × Takes path s t p q claimed.Taken
-Claims ticket s t p q claimed.Gone = Same s t p q × ((path : Path) → named_by s.run ticket ≡ Some path → ¬ CanTake s p path)
+Claims ticket s t p q claimed.Taken = (path : Path) × (named_by s.stage ticket ≡ Some path) × Takes path s t p q claimed.Taken
+Claims ticket s t p q claimed.Gone = Same s t p q × ((path : Path) → named_by s.stage ticket ≡ Some path → ¬ CanTake s p path)
 Claims ticket s t p q claimed.OutOfMemory = Same s t p q
 
 -- the same for the ready task of least path
 abbrev pub ClaimsFirst : Story → Story → Place → Place → Claimed → Type 0
-ClaimsFirst s t p q claimed.Taken = (path : Path) × IsFirstReady s.run path × Takes path s t p q claimed.Taken
+ClaimsFirst s t p q claimed.Taken = (path : Path) × IsFirstReady s.start.workers (state_of s) path × Takes path s t p q claimed.Taken
 ClaimsFirst s t p q claimed.Gone = Same s t p q × ((path : Path) → ¬ CanTake s p path)
 ClaimsFirst s t p q claimed.OutOfMemory = Same s t p q

@@ -1,16 +1,15 @@
 ghost use Rattle.std.specs.Prelude.{◌≡◌, ◌≢◌, ◌⊎◌, ℕ, ◌+◌, ◌*◌, ◌<◌, ◌≤◌, None, Some, Err, is_some, length, vec_len, sum_by, IfOk, IfErr, IfNone};
 ghost use Rattle.std.specs.Prelude.{IfSome, OnErr, OnOk};
 ghost use Rattle.outcome.specs.Requirements.{unmet_in};
-ghost use Rattle.store.specs.Made.{HasGlobalCells};
+ghost use Rattle.store.specs.Made.{IsMadeFor};
 ghost use Rattle.store.specs.declared.memory.Memory.{Memory};
 ghost use Rattle.verifier.specs.Budgets.{budget_of};
-ghost use Rattle.worker_promise.specs.Promise.{KeepsItsSchedule};
-ghost use Rattle.worker_steps.specs.Running.{IsNumberOfWorkers};
-ghost use Rattle.worker_steps.specs.Seen.{seen};
 ghost use Rattle.schedule_core.specs.Parents.{HasNoReadyParent, IsReadyParent};
+ghost use Rattle.schedule_core.specs.Replaying.{IsNumberOfWorkers, KeepsItsSchedule};
+ghost use Rattle.schedule_core.specs.Stages.{workers_of};
 ghost use Rattle.shared_run.specs.Answer.{IsSerialAnswer};
-ghost use Rattle.shared_run.specs.Calls.{Begins, Claims, ClaimsFirst, IsOneBelow, Same, Steps, Takes, Tries, depth_in};
-ghost use Rattle.shared_run.specs.Story.{AreSeats, IsLegal, origin};
+ghost use Rattle.shared_run.specs.Calls.{Begins, Claims, ClaimsFirst, IsOneBelow, Leaves, Steps, Takes, Tries, depth_in};
+ghost use Rattle.shared_run.specs.Story.{AreSeats, IsLegal, origin, state_of};
 
 use crate::answers::{Claimed, Stepped};
 use crate::bench::Bench;
@@ -28,7 +27,7 @@ use std::sync::ledger::{Blank, Book, Share};
 use store::Memory;
 use verifier::Verified;
 
-/// A machine with the history of its events. Contracts see the start, the events since then, and the run that they led to.
+/// A machine with the history of its events. Contracts see the start, the events since then, and the stage that they led to.
 #[derive(Drop)]
 pub struct Board<'a, L: Bench> {
     alloc: Global,
@@ -44,9 +43,9 @@ impl<'a, L: Bench> Model for Board<'a, L> {
 
     ghost Value = { Story };
 
-    ghost view = { λ b. record { start = b.start; events = b.history.events; run = b.machine.run } };
+    ghost view = { λ b. record { start = b.start; events = b.history.events; stage = b.machine.stage } };
 
-    ghost invariant = { λ b. IsLegal b.start b.history.events b.machine.run × (b.book.total ≡ length b.history.events) × (b.start.program ≡ L.code) ×
+    ghost invariant = { λ b. IsLegal b.start b.history.events b.machine.stage × (b.book.total ≡ length b.history.events) × (b.start.program ≡ L.code) ×
         (b.start.workers ≡ L.crew) };
 }
 
@@ -66,7 +65,7 @@ impl<'a, L: Bench> Board<'a, L> {
         workers: usize,
         blank: Blank,
     ) -> Result<(Board<'a, L>, Vec<Seat<L>>), RunFault>
-        requires made { HasGlobalCells verified.now memory }
+        requires made { IsMadeFor verified.now memory }
         requires code { verified.now ≡ L.code }
         requires crew { workers ≡ L.crew }
         requires name { blank.name ≡ L.name }
@@ -80,7 +79,6 @@ impl<'a, L: Bench> Board<'a, L> {
         ensures bad_arguments { (requirement : ℕ) (m : Memory) → result ≡ Err (RunFault.BadArguments requirement m) → m ≡ memory }
         ensures unmet { (requirement : ℕ) (m : Memory) → result ≡ Err (RunFault.BadArguments requirement m) →
             unmet_in verified.now arguments.now ≡ Some requirement }
-        ensures no_trap { result ≢ Err RunFault.Trapped }
     {
         // for what it says of the module: that it is accepted
         let _accepted = verified.program();
@@ -109,7 +107,7 @@ impl<'a, L: Bench> Board<'a, L> {
     /// Does the event in the seat's name where it is enabled, and answers whether it was.
     fn append(&mut self, seat: &mut Seat<L>, event: Event) -> Result<bool, OutOfMemory>
         ensures done { IfOk result (Tries event self.old self.new seat.old seat.new) }
-        ensures refused { OnErr result (Same self.old self.new seat.old seat.new) }
+        ensures refused { OnErr result (Leaves event self.old self.new seat.old seat.new) }
     {
         self.history.reserve()?;
         match self.machine.apply(&event) {
@@ -180,7 +178,7 @@ impl<'a, L: Bench> Board<'a, L> {
     fn take(&mut self, seat: &mut Seat<L>, path: Path) -> Claimed
         ensures { Takes path self.old self.new seat.old seat.new result }
     {
-        // for what it says of the run before
+        // for what it says of the machine before
         let _before = self.machine();
         let worker = seat.worker();
         match self.append(seat, Event::Steal(worker, path)) {
@@ -192,17 +190,17 @@ impl<'a, L: Bench> Board<'a, L> {
 
     /// Whether `main` has returned.
     pub fn end(&self) -> bool
-        ensures { result ≡ is_some (seen self.now.run).core.result }
+        ensures { result ≡ is_some (state_of self.now).core.result }
     {
         self.machine.ended()
     }
 
     /// The machine: the replay of the history. Each event was enabled where it stands, and the schedule theorem holds.
     pub fn machine(&self) -> &Machine<'a>
-        ensures run { result.now.run ≡ self.now.run }
+        ensures stage { result.now.stage ≡ self.now.stage }
         ensures crew { self.now.start.workers ≡ L.crew }
-        ensures legal { IsLegal self.now.start self.now.events self.now.run }
-        ensures keeps { KeepsItsSchedule self.now.start.program self.now.start.arguments self.now.start.memory self.now.start.workers self.now.run }
+        ensures legal { IsLegal self.now.start self.now.events self.now.stage }
+        ensures keeps { KeepsItsSchedule self.now.start.program self.now.start.arguments self.now.start.memory self.now.start.workers self.now.events }
     {
         &self.machine
     }
@@ -236,7 +234,7 @@ impl<'a, L: Bench> Board<'a, L> {
         ensures count { IfOk result (λ done. done.1 ≡ length self.entry.events) }
         ensures shares { IfOk result (λ done. done.1 ≡ sum_by (λ seat. seat.share) seats.items) }
         ensures same { IfErr result (λ back. (back.0 ≡ self.entry) × (back.1 ≡ seats)) }
-        ensures refused { OnErr result (((seen self.entry.run).core.result ≡ None) ⊎ (self.entry.start ≢ start.now)) }
+        ensures refused { OnErr result (((state_of self.entry).core.result ≡ None) ⊎ (self.entry.start ≢ start.now)) }
     {
         if !self.start.same(start) {
             return Err((self, seats));
@@ -271,9 +269,9 @@ impl<'a, L: Bench> Board<'a, L> {
 impl<L: Bench> Board<'_, L> {
     /// The ticket of the ready task whose top detached the child that the worker runs, where the child stands one below this depth.
     fn parent_ticket(&self, worker: u8, before: Option<usize>) -> Option<Ticket>
-        ensures shown { IfSome result (λ ticket. IsReadyParent self.now.run worker ticket.slot ticket.generation) }
-        ensures below { IfSome result (λ ticket. IsOneBelow before (depth_in self.now.run worker)) }
-        ensures none { IfNone result (IsOneBelow before (depth_in self.now.run worker) → HasNoReadyParent self.now.run worker) }
+        ensures shown { IfSome result (λ ticket. IsReadyParent self.now.stage.run (state_of self.now) worker ticket.slot ticket.generation) }
+        ensures below { IfSome result (λ ticket. IsOneBelow before (depth_in (state_of self.now) worker)) }
+        ensures none { IfNone result (IsOneBelow before (depth_in (state_of self.now) worker) → HasNoReadyParent (workers_of self.now.stage) (state_of self.now) worker) }
     {
         let machine = self.machine();
         if machine.depth_of(worker)?.checked_sub(1)? != before? {

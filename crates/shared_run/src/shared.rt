@@ -1,8 +1,8 @@
-ghost use Rattle.std.specs.Prelude.{◌≡◌, ◌≢◌, ℕ, ◌<◌, None, Some, Err, vec_len, sum_by, IfOk, IfErr, OnOk};
+ghost use Rattle.std.specs.Prelude.{◌≡◌, ℕ, ◌<◌, None, Some, Err, vec_len, sum_by, IfOk, IfErr, OnOk};
 ghost use Rattle.outcome.specs.Requirements.{unmet_in};
-ghost use Rattle.store.specs.Made.{HasGlobalCells};
+ghost use Rattle.store.specs.Made.{IsMadeFor};
 ghost use Rattle.store.specs.declared.memory.Memory.{Memory};
-ghost use Rattle.worker_steps.specs.Running.{IsNumberOfWorkers};
+ghost use Rattle.schedule_core.specs.Replaying.{IsNumberOfWorkers};
 ghost use Rattle.shared_run.specs.Answer.{IsSerialAnswer};
 ghost use Rattle.shared_run.specs.Story.{AreSeats, origin};
 
@@ -51,7 +51,7 @@ impl<'a, L: Bench> Shared<'a, L> {
         workers: usize,
         blank: Blank,
     ) -> Result<(Shared<'a, L>, Vec<Seat<L>>), RunFault>
-        requires made { HasGlobalCells verified.now memory }
+        requires made { IsMadeFor verified.now memory }
         requires code { verified.now ≡ L.code }
         requires crew { workers ≡ L.crew }
         requires name { blank.name ≡ L.name }
@@ -65,7 +65,6 @@ impl<'a, L: Bench> Shared<'a, L> {
         ensures bad_arguments { (requirement : ℕ) (m : Memory) → result ≡ Err (RunFault.BadArguments requirement m) → m ≡ memory }
         ensures unmet { (requirement : ℕ) (m : Memory) → result ≡ Err (RunFault.BadArguments requirement m) →
             unmet_in verified.now arguments.now ≡ Some requirement }
-        ensures no_trap { result ≢ Err RunFault.Trapped }
     {
         let memory = admitted(verified, arguments, memory, workers)?;
         let Ok(start) = Start::new(alloc, verified, arguments, &memory, workers) else {

@@ -1,6 +1,6 @@
 //! Schedules at random.
 
-ghost use Rattle.store.specs.Made.{HasGlobalCells};
+ghost use Rattle.store.specs.Made.{IsMadeFor};
 ghost use Rattle.std.specs.Prelude.{◌<◌, ◌≤◌};
 
 use crate::dice::Dice;
@@ -128,7 +128,7 @@ pub fn random_schedule(
     workers: usize,
     seed: u64,
 ) -> Result<String, RunFault>
-    requires { HasGlobalCells verified.now memory }
+    requires { IsMadeFor verified.now memory }
 {
     let machine = Machine::start(alloc, verified, arguments, memory, workers)?;
     let mut draw = Draw {

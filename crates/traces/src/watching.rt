@@ -1,6 +1,6 @@
 //! A run by a schedule, event for event.
 
-ghost use Rattle.store.specs.Made.{HasGlobalCells};
+ghost use Rattle.store.specs.Made.{IsMadeFor};
 
 use crate::moment::{Hindrance, Moment, Outcome, Place};
 use frame::Path;
@@ -159,7 +159,7 @@ pub fn watch(
     workers: usize,
     events: &[Event],
 ) -> Result<Vec<Moment>, RunFault>
-    requires { HasGlobalCells verified.now memory }
+    requires { IsMadeFor verified.now memory }
 {
     let mut machine = Machine::start(alloc, verified, arguments, memory, workers)?;
     let mut moments = Vec::new(alloc);

@@ -8,8 +8,8 @@ loop-position-init c = record { marks = λ s e at are. are; at = λ s e at. at }
 
 pub loop-position-preserved : goal.loop-position-preserved
 loop-position-preserved c =
-    let next : (s : Session) → s.events ≡ c.args.events.now → IsAt s c.args.from c.args.machine.now.run → IsAt s (c.loop-position.position + 1) c.apply.new.self.run = λ s e at.
-    at_next s c.args.events.now e c.loop-position.position c.loop-position.machine.run c.apply.new.self.run c.index-events-position.result c.in_ok-_enabled._enabled (omega arith) c.index-events-position.is c.in_ok-_enabled.ensures.does (λ off. c.in_ok-_enabled.ensures.not_enabled (rw off refl)) c.in_ok-_enabled.ensures.never_stops (c.loop-position.invariant.at s e at) in
+    let next : (s : Session) → s.events ≡ c.args.events.now → IsAt s c.args.from c.args.machine.now.stage → IsAt s (c.loop-position.position + 1) c.apply.new.self.stage = λ s e at.
+    at_next s c.args.events.now e c.loop-position.position c.loop-position.machine.stage c.apply.new.self.stage c.index-events-position.result (omega arith) c.index-events-position.is c.in_ok-_enabled.ensures.keeps (c.loop-position.invariant.at s e at) in
     record {
       marks = λ s e at are. c.keep.ensures s (c.loop-position.invariant.marks s e at are) (next s e at);
       at = next;
@@ -18,4 +18,4 @@ loop-position-preserved c =
 pub returns-clause-at : goal.returns-clause-at
 returns-clause-at c s e le at =
     let all : c.loop-position.position ≡ c.args.to = omega arith in
-    subst (λ n. IsAt s n c.loop-position.machine.run) all (c.loop-position.invariant.at s e at)
+    subst (λ n. IsAt s n c.loop-position.machine.stage) all (c.loop-position.invariant.at s e at)

@@ -6,5 +6,5 @@ abbrev pub invariant-loop-mark : goal.invariant-loop-mark
 invariant-loop-mark l =
     record {
       before : l.last ≤ l.position;
-      state : (s : Session) → AreMarks s l.self → IsAt s l.last l.machine.run;
+      state : (s : Session) → AreMarks s l.self → IsAt s l.last l.machine.stage;
     }

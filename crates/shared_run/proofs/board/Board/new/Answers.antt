@@ -1,19 +1,18 @@
-use Rattle.std.proofs.Common.{rules, ◌≡◌, sym, ap, ◌∙◌, length, subst}
-use Rattle.store.specs.Made.{HasGlobalCells}
+use Rattle.std.proofs.Common.{◌≡◌, sym, ap, ◌∙◌, length, subst}
+use Rattle.store.specs.Made.{IsMadeFor}
 use Rattle.shared_run.specs.Story.{Origin, origin}
 use Rattle.shared_run.proofs.Stories.{legal_begin, legal_start}
 use Rattle.shared_run.proofs.board.Board.new.Goals as goal
 
 pub invariant_of-result : goal.invariant_of-result
 invariant_of-result g c =
-    let run = c.in_ok-machine.machine.run in
+    let stage = c.in_ok-machine.machine.stage in
     let memory = c.in_ok-memory.memory in
     let o : Origin = origin c.args.verified.now c.args.arguments.now memory c.args.workers in
-    let many : length c.in_ok-machine.machine.run.hands.items ≡ c.args.workers = search rules in
     let started = c.in_ok-machine.ensures in
-    let made : HasGlobalCells c.args.verified.now memory = subst (λ m. HasGlobalCells c.args.verified.now m) (sym c.in_ok-memory.ensures.same) c.requires.made in (
-      legal_begin o c.in-Ok.start c.new-history.result.events run c.in-Ok.ensures c.new-history.ensures
-          (legal_start o run started.state started.slots many started.in_range c.program-accepted.ensures.accepted started.met made),
+    let made : IsMadeFor c.args.verified.now memory = subst (λ m. IsMadeFor c.args.verified.now m) (sym c.in_ok-memory.ensures.same) c.requires.made in (
+      legal_begin o c.in-Ok.start c.new-history.result.events stage c.in-Ok.ensures c.new-history.ensures
+          (legal_start o stage started.replays started.in_range c.program-accepted.ensures.accepted started.met made),
       c.open-book.ensures.total ∙ sym (ap length c.new-history.ensures),
       ap (λ (x : Origin). x.program) {y = o} c.in-Ok.ensures ∙ c.requires.code,
       ap (λ (x : Origin). x.workers) {y = o} c.in-Ok.ensures ∙ c.requires.crew,
