@@ -5,7 +5,7 @@ use Rattle.std.proofs.lemmas.List.{take_more}
 use Rattle.std.specs.Prelude.{IfNone, IfSome, IsTrue}
 use Rattle.running.specs.Events.{Machine}
 use Rattle.frame.specs.declared.path.Path.{Path}
-use Rattle.store.specs.Cells.{NamedCells}
+use Rattle.schedule_core.specs.store.Cells.{NamedCells}
 use Rattle.schedule_core.specs.declared.event.Event.{Event}
 use Rattle.schedule_core.specs.declared.stage.Stage.{Stage}
 use Rattle.schedule_core.specs.Lines.{StandsAt}

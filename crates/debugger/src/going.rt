@@ -1,9 +1,9 @@
 //! Forwards and backwards through a schedule.
 
 ghost use Rattle.std.specs.Prelude.{◌≡◌, ◌≤◌, ◌-◌, ◌+◌, ℕ, Some, None, IfOk, IfSome, IfNone, OnOk, OnErr, length, min, vec_len};
-ghost use Rattle.store.specs.Made.{IsMadeFor};
-ghost use Rattle.store.specs.declared.memory.Memory.{Memory};
-ghost use Rattle.outcome.specs.Requirements.{unmet_in};
+ghost use Rattle.schedule_core.specs.store.Made.{IsMadeFor};
+ghost use Rattle.schedule_core.specs.store.declared.memory.Memory.{Memory};
+ghost use Rattle.schedule_core.specs.outcome.Requirements.{unmet_in};
 ghost use Rattle.schedule_core.specs.Replaying.{IsNumberOfWorkers};
 ghost use Rattle.schedule_core.specs.Stages.{global_named};
 ghost use Rattle.schedule_core.specs.Viewed.{IsTask, status_in};
@@ -13,11 +13,8 @@ use crate::debugger::Debugger;
 use crate::marks::Marks;
 use frame::Path;
 use lists::OutOfMemory;
-use outcome::RunFault;
-use schedule_core::{Event, Machine, TaskView};
+use schedule_core::{Event, Machine, Memory, RunFault, TaskView, Verified};
 use std::alloc::Global;
-use store::Memory;
-use verifier::Verified;
 
 /// Does the events from one position up to another, and keeps marks on the way.
 fn walk<'v>(

@@ -5,3 +5,9 @@ pub mod Replaying
 pub mod Parents
 pub mod Spots
 pub mod Over
+-- for the crates above
+pub use Rattle.crew_promise.specs.conditions as conditions
+pub use Rattle.crew_promise.specs.outcome as outcome
+pub use Rattle.crew_promise.specs.schedule_theorem as schedule_theorem
+pub use Rattle.crew_promise.specs.store as store
+pub use Rattle.crew_promise.specs.verifier as verifier

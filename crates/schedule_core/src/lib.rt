@@ -18,6 +18,7 @@ mod view;
 pub use event::Event;
 pub use laws::ended_enables_nothing;
 pub use machine::Machine;
+pub use outcome::{Finished, Memory, RunFault, Verified, unmet_requirement};
 pub use schedule::replay;
 pub use stage::Stage;
 pub use task::{Status, TaskView};

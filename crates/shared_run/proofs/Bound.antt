@@ -14,9 +14,9 @@ use Rattle.running.specs.Events.{Machine, Step, Steal, Status, Running, Ready, S
 use Rattle.running.specs.Replay.{or_unchanged, replay}
 use Rattle.running.proofs.Machines.{is_none_true}
 use Rattle.program.specs.declared.function.Program.{Program}
-use Rattle.verifier.specs.Accepted.{IsAccepted}
-use Rattle.verifier.specs.Budgets.{budget_of}
-use Rattle.schedule_theorem.proofs.Bounds.{budget_bounded}
+use Rattle.schedule_core.specs.verifier.Accepted.{IsAccepted}
+use Rattle.schedule_core.specs.verifier.Budgets.{budget_of}
+use Rattle.schedule_core.proofs.schedule_theorem.Bounds.{budget_bounded}
 use Rattle.schedule_core.specs.declared.event.Event.{Event}
 use Rattle.schedule_core.specs.declared.stage.Stage.{Stage}
 use Rattle.schedule_core.specs.Replaying.{event_of, KeepsItsSchedule}

@@ -1,7 +1,7 @@
 -- Starts by their parts.
 use Rattle.std.proofs.Common.{◌≡◌, ℕ, ℤ, List, ap, ◌∙◌}
 use Rattle.program.specs.declared.function.Program.{Program}
-use Rattle.store.specs.Cells.{NamedCells}
+use Rattle.schedule_core.specs.store.Cells.{NamedCells}
 use Rattle.shared_run.specs.Story.{origin}
 
 pub same_origin : (p q : Program) (a b : List ℤ) (m n : List NamedCells) (v w : ℕ) → p ≡ q → a ≡ b → m ≡ n → v ≡ w → origin p a m v ≡ origin q b n w

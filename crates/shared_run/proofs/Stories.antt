@@ -10,12 +10,12 @@ use Rattle.running.specs.SerialMeaning.{Gave}
 use Rattle.running.specs.Cells.{Shared}
 use Rattle.running.proofs.Workers.{Manned}
 use Rattle.program.specs.declared.function.Program.{Program}
-use Rattle.verifier.specs.Accepted.{IsAccepted}
-use Rattle.store.specs.Cells.{cell_at}
-use Rattle.store.specs.Made.{IsMadeFor}
-use Rattle.outcome.specs.Requirements.{unmet_in}
-use Rattle.outcome.specs.declared.outcome.Finished.{Finished}
-use Rattle.crew_promise.proofs.Results.{IsOpen, always_open}
+use Rattle.schedule_core.specs.verifier.Accepted.{IsAccepted}
+use Rattle.schedule_core.specs.store.Cells.{cell_at}
+use Rattle.schedule_core.specs.store.Made.{IsMadeFor}
+use Rattle.schedule_core.specs.outcome.Requirements.{unmet_in}
+use Rattle.schedule_core.specs.outcome.declared.outcome.Finished.{Finished}
+use Rattle.schedule_core.proofs.crew_promise.Results.{IsOpen, always_open}
 use Rattle.schedule_core.proofs.Grounds.{laws}
 use Rattle.schedule_core.proofs.Reached.{reached_manned, replay_more}
 use Rattle.schedule_core.specs.declared.event.Event.{Event}

@@ -2,8 +2,8 @@
 use Rattle.std.specs.Prelude.{◌≡◌, ℕ, Some}
 use Rattle.running.specs.Cells.{Shared}
 use Rattle.running.specs.SerialMeaning.{Gave, Outcome, IsSerialMeaning}
-use Rattle.store.specs.Cells.{cell_at}
-use Rattle.outcome.specs.declared.outcome.Finished.{Finished}
+use Rattle.schedule_core.specs.store.Cells.{cell_at}
+use Rattle.schedule_core.specs.outcome.declared.outcome.Finished.{Finished}
 use Rattle.schedule_core.specs.Stages.{given}
 use Rattle.shared_run.specs.Story.{Origin}
 

@@ -4,11 +4,11 @@ use Rattle.running.specs.Events as running
 use Rattle.running.specs.Events.{Machine, event}
 use Rattle.running.specs.Replay.{or_unchanged}
 use Rattle.program.specs.declared.function.Program.{Program}
-use Rattle.verifier.specs.Accepted.{IsAccepted}
-use Rattle.store.specs.Cells.{NamedCells}
-use Rattle.store.specs.Made.{IsMadeFor}
+use Rattle.schedule_core.specs.verifier.Accepted.{IsAccepted}
+use Rattle.schedule_core.specs.store.Cells.{NamedCells}
+use Rattle.schedule_core.specs.store.Made.{IsMadeFor}
 use Rattle.frame.specs.declared.path.Path.{Path}
-use Rattle.outcome.specs.Requirements.{unmet_in}
+use Rattle.schedule_core.specs.outcome.Requirements.{unmet_in}
 use Rattle.schedule_core.specs.declared.event.Event.{Event}
 use Rattle.schedule_core.specs.declared.stage.Stage.{Stage}
 use Rattle.schedule_core.specs.Replaying.{event_of, first_state, state_after, IsNumberOfWorkers, Replays}

@@ -1,9 +1,9 @@
 ghost use Rattle.std.specs.Prelude.{◌≡◌, ◌≢◌, ◌⊎◌, ℕ, ◌+◌, ◌*◌, ◌<◌, ◌≤◌, None, Some, Err, is_some, length, vec_len, sum_by, IfOk, IfErr, IfNone};
 ghost use Rattle.std.specs.Prelude.{IfSome, OnErr, OnOk};
-ghost use Rattle.outcome.specs.Requirements.{unmet_in};
-ghost use Rattle.store.specs.Made.{IsMadeFor};
-ghost use Rattle.store.specs.declared.memory.Memory.{Memory};
-ghost use Rattle.verifier.specs.Budgets.{budget_of};
+ghost use Rattle.schedule_core.specs.outcome.Requirements.{unmet_in};
+ghost use Rattle.schedule_core.specs.store.Made.{IsMadeFor};
+ghost use Rattle.schedule_core.specs.store.declared.memory.Memory.{Memory};
+ghost use Rattle.schedule_core.specs.verifier.Budgets.{budget_of};
 ghost use Rattle.schedule_core.specs.Parents.{HasNoReadyParent, IsReadyParent};
 ghost use Rattle.schedule_core.specs.Replaying.{IsNumberOfWorkers, KeepsItsSchedule};
 ghost use Rattle.schedule_core.specs.Stages.{workers_of};
@@ -19,13 +19,10 @@ use crate::start::{Start, admitted};
 use crate::ticket::Ticket;
 use frame::Path;
 use lists::OutOfMemory;
-use outcome::{Finished, RunFault};
-use schedule_core::{Event, Machine};
+use schedule_core::{Event, Finished, Machine, Memory, RunFault, Verified};
 use std::alloc::Global;
 use std::marker::Model;
 use std::sync::ledger::{Blank, Book, Share};
-use store::Memory;
-use verifier::Verified;
 
 /// A machine with the history of its events. Contracts see the start, the events since then, and the stage that they led to.
 #[derive(Drop)]

@@ -1,7 +1,7 @@
 ghost use Rattle.std.specs.Prelude.{◌≡◌, ℕ, ◌<◌, None, Some, Err, vec_len, sum_by, IfOk, IfErr, OnOk};
-ghost use Rattle.outcome.specs.Requirements.{unmet_in};
-ghost use Rattle.store.specs.Made.{IsMadeFor};
-ghost use Rattle.store.specs.declared.memory.Memory.{Memory};
+ghost use Rattle.schedule_core.specs.outcome.Requirements.{unmet_in};
+ghost use Rattle.schedule_core.specs.store.Made.{IsMadeFor};
+ghost use Rattle.schedule_core.specs.store.declared.memory.Memory.{Memory};
 ghost use Rattle.schedule_core.specs.Replaying.{IsNumberOfWorkers};
 ghost use Rattle.shared_run.specs.Answer.{IsSerialAnswer};
 ghost use Rattle.shared_run.specs.Story.{AreSeats, origin};
@@ -10,13 +10,11 @@ use crate::bench::Bench;
 use crate::board::Board;
 use crate::seat::Seat;
 use crate::start::{Start, admitted};
-use outcome::{Finished, RunFault};
+use schedule_core::{Finished, Memory, RunFault, Verified};
 use std::alloc::Global;
 use std::marker::Model;
 use std::sync::Mutex;
 use std::sync::ledger::Blank;
-use store::Memory;
-use verifier::Verified;
 
 /// A board in a lock, with a copy of its start beside it. Contracts see the start.
 #[derive(Drop)]

@@ -1,15 +1,13 @@
 ghost use Rattle.std.specs.Prelude.{◌≡◌, ◌↔◌, ℕ, Some, None, Err, IfOk, IsTrue, OnOk};
-ghost use Rattle.outcome.specs.Requirements.{unmet_in};
-ghost use Rattle.store.specs.declared.memory.Memory.{Memory};
+ghost use Rattle.schedule_core.specs.outcome.Requirements.{unmet_in};
+ghost use Rattle.schedule_core.specs.store.declared.memory.Memory.{Memory};
 ghost use Rattle.schedule_core.specs.Replaying.{IsNumberOfWorkers};
 ghost use Rattle.shared_run.specs.Story.{origin};
 
 use lists::OutOfMemory;
-use outcome::{RunFault, unmet_requirement};
+use schedule_core::{Memory, RunFault, Verified, unmet_requirement};
 use std::alloc::Global;
 use std::marker::Model;
-use store::Memory;
-use verifier::Verified;
 
 /// Where a run begins: its module, the arguments of `main`, its memory and the number of its workers.
 #[derive(Drop)]

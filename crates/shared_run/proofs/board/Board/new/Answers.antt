@@ -1,5 +1,5 @@
 use Rattle.std.proofs.Common.{◌≡◌, sym, ap, ◌∙◌, length, subst}
-use Rattle.store.specs.Made.{IsMadeFor}
+use Rattle.schedule_core.specs.store.Made.{IsMadeFor}
 use Rattle.shared_run.specs.Story.{Origin, origin}
 use Rattle.shared_run.proofs.Stories.{legal_begin, legal_start}
 use Rattle.shared_run.proofs.board.Board.new.Goals as goal
