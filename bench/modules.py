@@ -77,6 +77,90 @@ def apart(count):
     """Each line has a coefficient of its own, and the oldest fact alone shows it."""
     return shown(count, lambda k: f"{k + 1}*%n >= {-k}")
 
+def pairs(count):
+    """Each line has coefficients of its own, and the two oldest facts alone show it, which are the last that a search by values comes to."""
+    head = f"define i64 @main(i64 %n, i64 %m) {{\n;! requires %n <= 9\n;! requires %m <= 9\n;! budget 0 {count // 32 + 2}\nentry:\n;! left 0 {count // 32 + 2}\n"
+    lines = [f";! shows {k + 1}*%n+{k + 2}*%m <= {9 * (2 * k + 3)}\n" + (f"%x{k} = add i64 %n, 0\n" if k % 32 == 0 else "") for k in range(1, count + 1)]
+    return head + "".join(lines) + "ret i64 0\n}\n"
+
+def strands(rounds):
+    """As many children as @main's argument says, up to 64, each of which calls a loop of so many rounds and stores what it gives."""
+    work = 5 * rounds + 2
+    each = work + 9
+    return f"""@a = global [64 x i64] zeroinitializer
+define i64 @work(i64 %seed) {{
+;! budget 0 {work}
+entry:
+;! left 0 {work}
+br label %head
+head:
+;! keeps %i >= 0
+;! keeps %i <= {rounds - 1}
+;! left 0 {work - 1}-5*%i
+%i = phi i64 [ 0, %entry ], [ %k, %head ]
+%sum = phi i64 [ %seed, %entry ], [ %next, %head ]
+%m = mul i64 %sum, 6364136223846793005
+%next = add i64 %m, 1442695040888963407
+%k = add nsw i64 %i, 1
+%c = icmp slt i64 %k, {rounds}
+br i1 %c, label %head, label %out
+out:
+;! left 0 1
+ret i64 %next
+}}
+define i64 @main(i64 %n) {{
+;! requires %n >= 0
+;! requires %n <= 64
+;! writes @a 0 64
+;! budget 0 {64 * each + 6}
+entry:
+;! left 0 {each}*%n+6
+%s = call token @llvm.syncregion.start()
+br label %head
+head:
+;! keeps %i >= 0
+;! keeps %i <= %n
+;! keeps %n <= 64
+;! pending %s writes @a 0 %i
+;! left 0 {each}*%n-{each}*%i+4
+%i = phi i64 [ 0, %entry ], [ %k, %next ]
+%c = icmp slt i64 %i, %n
+br i1 %c, label %fork, label %done
+fork:
+;! keeps %i >= 0
+;! keeps %i <= 63
+;! keeps %i+1 <= %n
+;! keeps %n <= 64
+;! pending %s writes @a 0 %i
+;! left 0 {each}*%n-{each}*%i+2
+detach within %s, label %body, label %next
+body:
+;! keeps %i >= 0
+;! keeps %i <= 63
+;! left 0 {work + 4}
+;! foot writes @a %i %i+1
+%v = call i64 @work(i64 %i)
+%p = getelementptr inbounds i64, ptr @a, i64 %i
+store i64 %v, ptr %p
+reattach within %s, label %next
+next:
+;! keeps %i >= 0
+;! keeps %i+1 <= %n
+;! keeps %n <= 64
+;! pending %s writes @a 0 %i+1
+;! left 0 {each}*%n-{each}*%i-{each - 6}
+%k = add nsw i64 %i, 1
+br label %head
+done:
+;! pending %s writes @a 0 %i
+;! left 0 2
+sync within %s, label %out
+out:
+;! left 0 1
+ret i64 %n
+}}
+"""
+
 def pending(blocks):
     """A child that may run beside so many blocks, each with 32 `pending` lines."""
     out = ["@a = global [99 x i64] zeroinitializer\n"]

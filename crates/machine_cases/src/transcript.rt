@@ -1,9 +1,10 @@
-//! Transcripts. `==== TITLE` begins some cases that belong together. `of FILE` takes a module, `of nothing` one that cannot be read, `of blanks 9`
-//! so many blanks, `of bytes 59 255` these bytes; each forgets the schedule and the input. Then the module is changed: `line 8 TEXT` puts a text in place of
+//! Transcripts. `==== TITLE` begins some cases that belong together. `of FILE` takes a module, `of nothing` one that cannot be read, `of blanks 9` so
+//! many blanks, `of bytes 59 255` these bytes; each forgets the schedule and the input. Then the module is changed: `line 8 TEXT` puts a text in place of
 //! its line 8 (` || ` ends a line in it), `return 7` a carriage return at the end of a line, `without 9` takes a line away. `events EVENT; EVENT ..`, or
-//! `events none`, is the schedule; `input LINE; LINE ..` standard input, without an LF at its end. Command lines follow, after `$`, what each of
-//! them writes, lines of standard error after `!`, and the `status`, which ends the case. In place of all that is written may stand `has 2 TEXT`: how often a text
-//! stands in it. `beginnings STATUS` ends a case over each beginning of the module in place of it. `m.ll` and `s.txt` are the module and the schedule.
+//! `events none`, is the schedule; `input LINE; LINE ..` standard input, without an LF at its end. Command lines follow, after `$`, what each of them
+//! writes, lines of standard error after `!`, and the `status`, which ends the case. In place of all that is written may stand `has 2 TEXT`: how often a
+//! text stands in it. `beginnings STATUS NUMBER ..` ends a case over each beginning of the module in place of it, which one of these rules refuses.
+//! `m.ll` and `s.txt` are the module and the schedule.
 
 use crate::answered::{Answer, Asked, Program, answered};
 use anyhow::Context;
@@ -85,6 +86,20 @@ fn has_parts(output: &[u8], rows: &str) -> bool {
         Some((count, part)) => count.parse().ok() == Some(text.matches(part).count()),
         None => false,
     })
+}
+
+/// Whether the output says that one of these rules refuses the module; a blank parts their numbers.
+fn is_refused_by(output: &[u8], rules: &str) -> bool {
+    let Ok(text) = str::from_utf8(output) else {
+        return false;
+    };
+    match text.split_once(" ") {
+        Some(("refused", rest)) => match rest.split_once(" ") {
+            Some((number, _line)) => rules.split(' ').any(|rule| rule == number),
+            None => false,
+        },
+        _ => false,
+    }
 }
 
 impl Case {
@@ -196,13 +211,14 @@ impl Case {
         Ok(())
     }
 
-    /// How many beginnings of the module, each at least two bytes shorter, are answered by this status.
+    /// How many beginnings of the module, each at least two bytes shorter, are answered by this status and refused by one of the rules.
     fn beginnings<T: Threads + Wait + Clock + Sync>(
         &self,
         alloc: Global,
         program: &Program<'_, T>,
         line: &str,
         status: u8,
+        rules: &str,
     ) -> io::Result<u64> {
         let mut count: u64 = 0;
         let module = self
@@ -212,7 +228,7 @@ impl Case {
         for end in 0..module.len().saturating_sub(1) {
             let asked = self.asked(line, module.get(..end));
             let answer = answered(alloc, program, asked, self.input.as_bytes())?;
-            if answer.status == status {
+            if answer.status == status && is_refused_by(answer.output.as_slice(), rules) {
                 count = count.saturating_add(1);
             }
         }
@@ -225,12 +241,13 @@ impl Case {
         alloc: Global,
         program: &Program<'_, T>,
         status: u8,
+        rules: &str,
         report: &mut Report<W>,
     ) -> anyhow::Result<()> {
         let length = self.module.as_ref().map_or(0, |bytes| bytes.len());
         let wanted = length.saturating_sub(1) as u64;
         for line in self.commands.lines() {
-            let count = self.beginnings(alloc, program, line, status)?;
+            let count = self.beginnings(alloc, program, line, status, rules)?;
             report.count(line, wanted, count)?;
         }
         self.forget();
@@ -286,9 +303,10 @@ pub fn answer<T: Threads + Wait + Clock + Sync, W: Write + Drop>(
                 let status = status.parse().ok().context("no status")?;
                 case.check(alloc, program, status, report)?;
             }
-            Some(("beginnings", status)) => {
+            Some(("beginnings", words)) => {
+                let (status, rules) = words.split_once(" ").context("no rules")?;
                 let status = status.parse().ok().context("no status")?;
-                case.check_beginnings(alloc, program, status, report)?;
+                case.check_beginnings(alloc, program, status, rules, report)?;
             }
             _ => case.read(rt, line)?,
         }

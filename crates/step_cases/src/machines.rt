@@ -111,15 +111,14 @@ fn keeps_to_the_bounds(alloc: Global, parallel_for: &Verified, seed: u64) -> any
     Ok(most <= 8 && machine.instructions() <= 518 && machine.result().unwrap_or(8) == 8)
 }
 
-/// How many seeds of these keep to the bounds.
-fn seeds_within_bounds(alloc: Global, parallel_for: &Verified, seeds: u64) -> anyhow::Result<u64> {
-    let mut count: u64 = 0;
+/// The first of these seeds whose events do not keep to the bounds, as a text; an empty one where all do.
+fn seed_past_bounds(alloc: Global, parallel_for: &Verified, seeds: u64) -> anyhow::Result<String> {
     for seed in 0..seeds {
-        if keeps_to_the_bounds(alloc, parallel_for, seed)? {
-            count = count.saturating_add(1);
+        if !keeps_to_the_bounds(alloc, parallel_for, seed)? {
+            return Ok(format!(in alloc; "seed {seed} does not")?);
         }
     }
-    Ok(count)
+    Ok(String::new(alloc))
 }
 
 /// Looks into machines between two events.
@@ -134,7 +133,11 @@ pub fn answer<W: Write + Drop>(
     answer_slots(alloc, parallel_for, report)?;
     answer_copies(alloc, pair, report)?;
     report.title("runs of 2,000 random events")?;
-    let found = seeds_within_bounds(alloc, parallel_for, 200)?;
-    report.count("200 keep to the bounds of the serial run", 200, found)?;
+    let found = seed_past_bounds(alloc, parallel_for, 200)?;
+    report.compare(
+        "200 keep to the bounds of the serial run",
+        "",
+        found.as_str(),
+    )?;
     Ok(())
 }
