@@ -1,3 +1,4 @@
 pub mod Meanings
 pub mod Phases
 pub mod Verdicts
+pub mod Depths
