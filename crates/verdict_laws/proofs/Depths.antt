@@ -19,7 +19,7 @@ use Rattle.region_match.specs.declared.task.Task.{Task}
 use Rattle.region_match.specs.declared.task.Task.TheVariants.{Unreached, Body, Child}
 use Rattle.region_match.specs.declared.tables.FunctionTasks.{FunctionTasks}
 use Rattle.region_match.specs.declared.tables.Regions.{Regions}
-use Rattle.region_match.specs.Tasks.{task_at, tasks_in, AreAllTasks}
+use Rattle.region_match.specs.Tasks.{task_at, tasks_in, AreTasks, AreAllTasks}
 use Rattle.cost_table.specs.Depth.{detaches_within, detaches_around, greatest, greatest_block, callee_depth, block_depth, self_depth, self_call_depth, flat_depth, self_calls_depth, depth_from, tasks_of, whole_depth_of, first_depths, depth}
 use Rattle.cost_table.specs.Tables.{as_u64}
 use Rattle.ir_reader.specs.Kept.{IsKeptModule}
@@ -139,11 +139,19 @@ module _ (program : Program) (regions : Regions) (small : IsSmall program region
 
 -- ---- what the limits of the text give
 
-table_long : (graphs : List FunctionGraph) (tables : List FunctionTasks) → AreAllTasks graphs tables → (f : ℕ) (g : FunctionGraph) → slice_get graphs f ≡ Some g → length (tasks_in (slice_get tables f)) ≡ length g.blocks
-table_long [] ts all f g e = absurd (cc)
-table_long (x ∷ gs) [] all f g e = absurd all
-table_long (x ∷ gs) (t ∷ ts) all zero g e = let same : x ≡ g = cc in all.0.size ∙ ap (λ (y : FunctionGraph). length y.blocks) same
-table_long (x ∷ gs) (t ∷ ts) all (suc f) g e = table_long gs ts all.1 f g e
+-- the table of a function's blocks
+pub table_at : (graphs : List FunctionGraph) (tables : List FunctionTasks) → AreAllTasks graphs tables → (f : ℕ) (g : FunctionGraph) → slice_get graphs f ≡ Some g → AreTasks g.blocks (tasks_in (slice_get tables f))
+table_at [] ts all f g e = absurd (cc)
+table_at (x ∷ gs) [] all f g e = absurd all
+table_at (x ∷ gs) (t ∷ ts) all zero g e = let same : x ≡ g = cc in subst (λ (y : FunctionGraph). AreTasks y.blocks t.tasks) same all.0
+table_at (x ∷ gs) (t ∷ ts) all (suc f) g e = table_at gs ts all.1 f g e
+
+pub tasks_at : (program : Program) (regions : Regions) → AreTasksOf program regions → (f : ℕ) (function : Function) → slice_get program.functions f ≡ Some function → AreTasks (graph_of function).blocks (tasks_of regions f)
+tasks_at program regions table f function e =
+    table_at (graphs_of program) regions.functions table f (graph_of function) (slice_get-map graph_of program.functions f ∙ ap (option_map graph_of) e)
+
+pub graph_long : (function : Function) → length (graph_of function).blocks ≡ length function.blocks
+graph_long function = length-edges_from function.blocks 0 function.blocks
 
 module _ (whole : Module) (kept : IsKeptModule whole) (program : Program) (m : Means whole (Ok program)) (regions : Regions) (table : AreTasksOf program regions) where
   blocks_few : (f : ℕ) (function : Function) → slice_get program.functions f ≡ Some function → length function.blocks ≤ 1024
@@ -155,9 +163,8 @@ module _ (whole : Module) (kept : IsKeptModule whole) (program : Program) (m : M
 
   tasks_few : (f : ℕ) (function : Function) → slice_get program.functions f ≡ Some function → length (tasks_of regions f) ≤ 1024
   tasks_few f function e =
-      let there : slice_get (graphs_of program) f ≡ Some (graph_of function) = slice_get-map graph_of program.functions f ∙ ap (option_map graph_of) e in
-      let long = table_long (graphs_of program) regions.functions table f (graph_of function) there in
-      let size : length (graph_of function).blocks ≡ length function.blocks = length-edges_from function.blocks 0 function.blocks in
+      let long = (tasks_at program regions table f function e).size in
+      let size = graph_long function in
       let few = blocks_few f function e in
       omega (arith, long, size, few)
 

@@ -2,3 +2,4 @@ pub mod Meanings
 pub mod Phases
 pub mod Verdicts
 pub mod Depths
+pub mod sure
