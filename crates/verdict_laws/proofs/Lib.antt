@@ -3,3 +3,4 @@ pub mod Phases
 pub mod Verdicts
 pub mod Depths
 pub mod sure
+pub mod Sums
