@@ -3,19 +3,27 @@ use Rattle.std.proofs.Common.{◌≡◌, ◌≢◌, ◌↔◌, inl, inr, ℕ, �
 use Rattle.std.proofs.lemmas.Bool.Decides.{eqb_tells}
 use Rattle.std.proofs.lemmas.List.{take_more}
 use Rattle.std.specs.Prelude.{IfNone, IfSome, IsTrue}
-use Rattle.running.specs.Events.{Machine}
+use Rattle.running.specs.Events as running
 use Rattle.frame.specs.declared.path.Path.{Path}
 use Rattle.schedule_core.specs.store.Cells.{NamedCells}
 use Rattle.schedule_core.specs.declared.event.Event.{Event}
 use Rattle.schedule_core.specs.declared.stage.Stage.{Stage}
 use Rattle.schedule_core.specs.Lines.{StandsAt}
 use Rattle.schedule_core.specs.declared.task.TaskView.{TaskView}
-use Rattle.schedule_core.specs.Replaying.{HasLine, Replays, ReplaysOneMore}
+use Rattle.schedule_core.specs.declared.machine.Machine.{Machine}
+use Rattle.schedule_core.specs.Replaying.{HasLine, LeavesAsBefore, Replays, ReplaysOneMore}
 use Rattle.schedule_core.specs.Stages.{IsState, global_named, program_of, workers_of}
 use Rattle.schedule_core.specs.Viewed.{place_in, status_in}
+use Rattle.schedule_core.proofs.Unchanged.{as_it_was}
+use Rattle.debugger.specs.declared.debugger.Debugger.{Debugger}
 use Rattle.debugger.specs.declared.marks.Mark.{Mark}
 use Rattle.debugger.specs.declared.marks.Marks.{Marks}
-use Rattle.debugger.specs.Sessions.{Session, HasLineAt, IsAt, AreMarks, IsMark, IsFirstStop, state_at}
+use Rattle.debugger.specs.Sessions.{Session, HasLineAt, IsAt, AreMarks, IsMark, IsFirstStop, Stays, state_at}
+
+-- position and machine are the same
+pub stays_so : (old new : Debugger) → new.position ≡ old.position → new.machine ≡ old.machine → Stays old new
+stays_so old new position machine =
+    record { position = position; state = subst (λ (x : Machine). LeavesAsBefore old.machine.stage x.stage) (sym machine) (as_it_was old.machine.stage) }
 
 module _ (s : Session) where
   -- the next event
@@ -38,7 +46,7 @@ module _ (s : Session) where
   line_shown n path stage at (Some view) shown = shown s.program s.arguments s.globals s.workers (take n s.events) at
 
   -- a test for a worker on the line tells of the definitions' state
-  pub stands_there : (n line : ℕ) (stage : Stage) (b : Bool) → IsAt s n stage → ((m : Machine) → IsState stage m → IsTrue b ↔ StandsAt (program_of stage) m line) → IsTrue b ↔ StandsAt s.program (state_at s n) line
+  pub stands_there : (n line : ℕ) (stage : Stage) (b : Bool) → IsAt s n stage → ((m : running.Machine) → IsState stage m → IsTrue b ↔ StandsAt (program_of stage) m line) → IsTrue b ↔ StandsAt s.program (state_at s n) line
   stands_there n line stage b at tells = subst (λ q. IsTrue b ↔ StandsAt q (state_at s n) line) at.program (tells (state_at s n) at.state)
 
   -- no task of the path, where the stage's machine has none
