@@ -4,3 +4,4 @@ pub mod Verdicts
 pub mod Depths
 pub mod sure
 pub mod Sums
+pub mod Limited

@@ -1,6 +1,6 @@
 -- Sums within the bounds of a form.
-use Rattle.std.proofs.Common.{◌≡◌, ◌∙◌, ℕ, zero, suc, ◌+◌, ◌*◌, ◌^◌, ◌<◌, ◌≤◌, ℤ, pos, negsuc, ◌+ℤ◌, ◌*ℤ◌, inl, inr, Bool, true, false, List, [], ◌∷◌, Option, Some, None, insert, refl, sym, ap, subst, get_or, arith}
-use Rattle.std.specs.Prelude.{◌==◌, IsSome, nat_lt, if◌then◌else◌, slice_get, slice_set, sum_by, unsigned_abs}
+use Rattle.std.proofs.Common.{◌≡◌, ◌∙◌, ℕ, zero, suc, ◌+◌, ◌*◌, ◌^◌, ◌<◌, ◌≤◌, ℤ, pos, ◌+ℤ◌, ◌*ℤ◌, Bool, true, false, List, [], ◌∷◌, Option, Some, None, insert, refl, sym, ap, subst, arith}
+use Rattle.std.specs.Prelude.{◌==◌, IsSome, nat_lt, if◌then◌else◌, slice_set, sum_by, unsigned_abs}
 use Rattle.std.specs.List.{All, prefix_len}
 use Rattle.std.proofs.Math.Nat.{mul-le-mul_left}
 use Rattle.std.proofs.lemmas.Bool.{lt-ltb}
@@ -10,13 +10,12 @@ use Rattle.std.proofs.lemmas.List.Sums.{sum_by-cons}
 use Rattle.linear.specs.declared.form.RegisterId.{RegisterId}
 use Rattle.linear.specs.declared.form.Term.{Term}
 use Rattle.linear.specs.Forms.{Combination, constant_form}
-use Rattle.linear.specs.Made.{is_bounded, is_below, own_coefficient, coefficient_at, placed_at, placed, with_terms, with_term, with_constant}
+use Rattle.linear.specs.Made.{is_bounded, is_below, coefficient_at, placed_at, placed, with_terms, with_term, with_constant}
 use Rattle.program.specs.declared.instruction.Operand.{Operand}
 use Rattle.program.specs.declared.instruction.Operand.TheVariants.{Number, Register}
 use Rattle.ranges.specs.declared.sum.Part.{Part}
-use Rattle.ranges.specs.declared.sum.Sum.{Sum}
 use Rattle.ranges.specs.Sums.{with_operand, with_parts, start_of, sum_form}
-use Rattle.verdict_laws.specs.Sums.{IsWord, IsModest, ModestSumsHaveForms}
+use Rattle.verdict_laws.specs.Sums.{IsWord, ModestSumsHaveForms}
 
 -- ---- sizes
 

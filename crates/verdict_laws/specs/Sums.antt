@@ -1,5 +1,5 @@
 -- The law: a sum of operands has a form, far beyond what annotations within their limits ask.
-use Rattle.std.specs.Prelude.{◌≡◌, ℕ, ◌<◌, ◌≤◌, ◌^◌, All, IsSome, unsigned_abs, sum_by}
+use Rattle.std.specs.Prelude.{◌<◌, ◌≤◌, ◌^◌, All, IsSome, unsigned_abs, sum_by}
 use Rattle.program.specs.declared.instruction.Operand.{Operand}
 use Rattle.program.specs.declared.instruction.Operand.TheVariants.{Number, Register}
 use Rattle.ranges.specs.declared.sum.Part.{Part}

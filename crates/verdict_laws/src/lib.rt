@@ -4,10 +4,12 @@
 //! - `Depths`: the depths of an accepted program are small, so that of `main` is answered whole (`depths_fit`).
 //! - `Sure`: one labelling has each alloca for sure wherever it is read (`reads_are_sure`).
 //! - `Sums`: a sum of operands has a form, far beyond what annotations within their limits ask (`modest_sums_have_forms`).
+//! - `Limited`: and they ask modest sums alone (`limited_forms_ask_little`).
 #![tactic(auto)]
 
 ghost use Rattle.verdict_laws.specs.Depths.{DepthsFit};
 ghost use Rattle.verdict_laws.specs.Sure.{ReadsAreSure};
+ghost use Rattle.verdict_laws.specs.Limited.{LimitedFormsAskLittle};
 ghost use Rattle.verdict_laws.specs.Sums.{ModestSumsHaveForms};
 ghost use Rattle.verdict_laws.specs.Verdicts.{VerdictsAreOne};
 
@@ -30,4 +32,10 @@ pub fn reads_are_sure()
 /// A sum of operands whose factors are below 2^24 in all passes no bound of a form, so that it is a fact, or may be shown.
 pub fn modest_sums_have_forms()
     ensures { ModestSumsHaveForms }
+{}
+
+/// Of forms with four registers, each at most a million times, and a number of 64 bits, the rules ask such sums alone: a difference of two forms
+/// with operands put in, and what is left less what is done and what is left at two targets.
+pub fn limited_forms_ask_little()
+    ensures { LimitedFormsAskLittle }
 {}
