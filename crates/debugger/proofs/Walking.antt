@@ -10,20 +10,12 @@ use Rattle.schedule_core.specs.declared.event.Event.{Event}
 use Rattle.schedule_core.specs.declared.stage.Stage.{Stage}
 use Rattle.schedule_core.specs.Lines.{StandsAt}
 use Rattle.schedule_core.specs.declared.task.TaskView.{TaskView}
-use Rattle.schedule_core.specs.declared.machine.Machine.{Machine}
-use Rattle.schedule_core.specs.Replaying.{HasLine, LeavesAsBefore, Replays, ReplaysOneMore}
+use Rattle.schedule_core.specs.Replaying.{HasLine, Replays, ReplaysOneMore}
 use Rattle.schedule_core.specs.Stages.{IsState, global_named, program_of, workers_of}
 use Rattle.schedule_core.specs.Viewed.{place_in, status_in}
-use Rattle.schedule_core.proofs.Unchanged.{as_it_was}
-use Rattle.debugger.specs.declared.debugger.Debugger.{Debugger}
 use Rattle.debugger.specs.declared.marks.Mark.{Mark}
 use Rattle.debugger.specs.declared.marks.Marks.{Marks}
-use Rattle.debugger.specs.Sessions.{Session, HasLineAt, IsAt, AreMarks, IsMark, IsFirstStop, Stays, state_at}
-
--- position and machine are the same
-pub stays_so : (old new : Debugger) → new.position ≡ old.position → new.machine ≡ old.machine → Stays old new
-stays_so old new position machine =
-    record { position = position; state = subst (λ (x : Machine). LeavesAsBefore old.machine.stage x.stage) (sym machine) (as_it_was old.machine.stage) }
+use Rattle.debugger.specs.Sessions.{Session, HasLineAt, IsAt, AreMarks, IsMark, IsFirstStop, state_at}
 
 module _ (s : Session) where
   -- the next event
