@@ -1,8 +1,0 @@
-//! A strand's instructions, done at once as steps of the worker whose frame it was loaded from.
-#![tactic(auto)]
-
-mod cells;
-mod fitting;
-
-pub use cells::put_writes;
-pub use fitting::fitting_slot;
