@@ -33,7 +33,7 @@ at_all P (y ∷ xs) zero x e all = subst P (same_Some y x e) (All-head P y xs al
 at_all P (y ∷ xs) (suc i) x e all = at_all P xs i x e (All-tail P y xs all)
 
 -- a cell that is written is one of those that were
-written_in : (l : Layout) (x : Cell) (u : Write) (ws : List (Cell × Write)) → All (λ (w : Cell × Write). IsIn l w.0) ws → lookup (same_cell x) ws ≡ Some u → IsIn l x
+pub written_in : (l : Layout) (x : Cell) (u : Write) (ws : List (Cell × Write)) → All (λ (w : Cell × Write). IsIn l w.0) ws → lookup (same_cell x) ws ≡ Some u → IsIn l x
 written_in l x u [] all e = absurd cc
 written_in l x u (w ∷ ws) all e = from (same_cell x w.0) refl e (written_in l x u ws (All-tail (λ (y : Cell × Write). IsIn l y.0) w ws all))
   where

@@ -114,7 +114,8 @@ impl StrandCells {
 
     /// The cells that were written, in the order of their first writes.
     pub fn writes(&self) -> &[Written]
-        ensures { result.now ≡ self.now.writes }
+        ensures is { result.now ≡ self.now.writes }
+        ensures differ { AreDifferent (map (λ (w : Written). w.at) self.now.writes) }
     {
         self.writes.as_slice()
     }

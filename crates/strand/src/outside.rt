@@ -1,6 +1,7 @@
-ghost use Rattle.std.specs.Prelude.{◌≡◌, ◌≢◌, ◌≤◌, [], ◌++◌, ◌∷◌, ℕ, ℤ, IfOk, None, Some, length, vec_capacity};
+ghost use Rattle.std.specs.Prelude.{◌≡◌, ◌≢◌, ◌≤◌, [], map, ◌++◌, ◌∷◌, ℕ, ℤ, IfOk, None, Some, length, vec_capacity};
 ghost use Rattle.engine.specs.Activation.{FrameFits, ProgramFits};
 ghost use Rattle.strand.specs.Along.{HasRegisters, IsGoing, IsKept, MayBegin};
+ghost use Rattle.strand.specs.Keeping.{AreDifferent};
 ghost use Rattle.strand.specs.Standing.{IsCopy};
 
 use crate::cells::{Read, Written};
@@ -177,7 +178,8 @@ impl<'p> Strand<'p> {
 
     /// The cells that were written, in the order of their first writes.
     pub fn writes(&self) -> &[Written]
-        ensures { result.now ≡ self.now.course.cells.writes }
+        ensures is { result.now ≡ self.now.course.cells.writes }
+        ensures differ { AreDifferent (map (λ (w : Written). w.at) self.now.course.cells.writes) }
     {
         self.course.cells.writes()
     }
