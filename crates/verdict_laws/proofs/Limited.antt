@@ -1,5 +1,5 @@
 -- Of forms within their limits modest sums are asked.
-use Rattle.std.proofs.Common.{◌≡◌, ◌∙◌, ℕ, ◌+◌, ◌*◌, ◌^◌, ◌<◌, ◌≤◌, ℤ, pos, negsuc, ◌*ℤ◌, ◌-ℤ◌, Bool, true, false, List, [], ◌∷◌, ◌++◌, length, refl, sym, ap, arith}
+use Rattle.std.proofs.Common.{◌≡◌, ℕ, ◌+◌, ◌*◌, ◌≤◌, ℤ, pos, negsuc, ◌*ℤ◌, ◌-ℤ◌, Bool, true, false, List, [], ◌∷◌, ◌++◌, length, refl, arith}
 use Rattle.std.specs.Prelude.{◌==◌, if◌then◌else◌, sum_by, unsigned_abs}
 use Rattle.std.specs.List.{All}
 use Rattle.std.proofs.lemmas.Int.{ints, unsigned_abs-mul}
@@ -12,7 +12,7 @@ use Rattle.program.specs.declared.instruction.Operand.{Operand}
 use Rattle.cfg.specs.declared.structure.Move.{Move}
 use Rattle.ranges.specs.declared.sum.Part.{Part}
 use Rattle.ranges.specs.Inequalities.{operand_for, part_of, parts_of}
-use Rattle.verdict_laws.specs.Sums.{IsWord, IsModest}
+use Rattle.verdict_laws.specs.Sums.{IsWord}
 use Rattle.verdict_laws.specs.Limited.{IsLimited, AreWords, LimitedFormsAskLittle}
 
 abs_less : (a b : ℤ) → unsigned_abs (a -ℤ b) ≤ unsigned_abs a + unsigned_abs b

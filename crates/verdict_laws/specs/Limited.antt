@@ -1,5 +1,5 @@
 -- The law: of forms within their limits the rules on numbers, zones and costs ask modest sums.
-use Rattle.std.specs.Prelude.{◌≡◌, ℕ, ◌<◌, ◌≤◌, ◌^◌, List, [], length, All, unsigned_abs}
+use Rattle.std.specs.Prelude.{ℕ, ◌<◌, ◌≤◌, ◌^◌, List, [], length, All, unsigned_abs}
 use Rattle.linear.specs.Forms.{Combination}
 use Rattle.linear.specs.declared.form.Term.{Term}
 use Rattle.ranges.specs.cfg.declared.structure.Move.{Move}
