@@ -22,6 +22,7 @@ pub use answers::{Claimed, Stepped};
 pub use bench::Bench;
 pub use board::Board;
 pub use history::{Entry, History};
+pub use schedule_core::{Finished, Memory, RunFault, Verified};
 pub use seat::Seat;
 pub use shared::Shared;
 pub use start::Start;
