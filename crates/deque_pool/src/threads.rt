@@ -7,9 +7,9 @@ ghost use Rattle.shared_run.specs.schedule_core.Replaying.{IsNumberOfWorkers};
 ghost use Rattle.shared_run.specs.Answer.{IsSerialAnswer};
 ghost use Rattle.shared_run.specs.Story.{origin};
 
-use crate::crew::{Worker, crew_of, seats_of};
 use crate::gate::Gate;
 use crate::work::work;
+use crate::workers::{Worker, crew_of, seats_of};
 use crossbeam_utils::CachePadded;
 use shared_run::{Bench, Finished, Memory, RunFault, Shared, Verified};
 use std::alloc::Global;
