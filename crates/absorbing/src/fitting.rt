@@ -40,6 +40,12 @@ fn same_words(one: &[i64], other: &[i64]) -> bool
     one == other
 }
 
+fn same_numbers(one: &[u64], other: &[u64]) -> bool
+    ensures { IsTrue result ↔ (one.now ≡ other.now) }
+{
+    one == other
+}
+
 /// Whether the frames are equal, word for word.
 fn is_same(one: &Frame, other: &Frame) -> bool
     ensures { IsTrue result ↔ IsCopy other.now one.now }
@@ -86,7 +92,7 @@ pub fn fitting_slot(run: &Run, worker: u8, strand: &Strand) -> Option<usize>
     let held = run.hands.get(worker as usize)?;
     let slot = (*held)?;
     let node = run.cactus.node(slot)?;
-    if node.path.numbers.as_slice() == strand.path()
+    if same_numbers(node.path.numbers.as_slice(), strand.path())
         && is_same(&node.frame.frame, strand.loaded())
         && hold_reads(strand.reads(), run.cells.cells.as_slice())
     {
