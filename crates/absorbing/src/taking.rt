@@ -16,7 +16,7 @@ use strand::{Pause, Strand};
 /// Puts a place and registers into a frame, which waits for this from here on.
 fn write_frame(target: &mut Frame, source: &Frame, waits: Wait)
     requires { length source.now.registers.items ≡ length target.old.registers.items }
-    ensures { target.new ≡ record target.old { place = source.now.place; registers = target.new.registers; waits = waits } }
+    ensures only { target.new ≡ record target.old { place = source.now.place; registers = target.new.registers; waits = waits } }
     ensures registers { target.new.registers.items ≡ source.now.registers.items }
 {
     target.place = Place {
