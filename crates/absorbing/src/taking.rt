@@ -1,4 +1,4 @@
-ghost use Rattle.std.specs.Prelude.{◌≡◌, ◌≢◌, ◌↔◌, ℕ, IfOk, IsTrue, Ok, OnErr, Some, length};
+ghost use Rattle.std.specs.Prelude.{◌≡◌, ◌≢◌, ◌↔◌, ℕ, false, true, IfOk, IsTrue, Ok, OnErr, Some, length};
 ghost use Rattle.crew.specs.Going.{KeepsShown, TextFits};
 ghost use Rattle.strand.specs.declared.standing.Pause.TheVariants.{Blank};
 ghost use Rattle.absorbing.specs.Absorbing.{DoesStrand, StandsAlone};

@@ -15,5 +15,5 @@ returns-then-hold_reads-clause-fits c =
       stands = sym c.node.ensures ∙ ap option_copied c.in_ok-node.was;
       path = sym c.as_slice.ensures ∙ (c.same_numbers.ensures).0 c.if-same_numbers.true ∙ c.path.ensures;
       frame = subst (λ (f : Frame). IsCopy f node.frame.frame) c.loaded.ensures ((c.is_same.ensures).0 c.if-is_same.true);
-      reads = subst (λ (rs : List Read). HoldReads rs c.args.run.now.cells.cells.items) c.reads.ensures.is (subst (λ (row : List ℤ). HoldReads c.reads.result.now row) c.as_slice-then-is_same.ensures.value ((c.hold_reads.ensures).0 c.if-hold_reads.true));
+      reads = subst (λ (rs : List Read). HoldReads rs c.args.run.now.cells.cells.items) c.reads.ensures (subst (λ (row : List ℤ). HoldReads c.reads.result.now row) c.as_slice-then-is_same.ensures.value ((c.hold_reads.ensures).0 c.if-hold_reads.true));
     }
