@@ -1,5 +1,5 @@
 -- One change after another is put into a row.
-use Rattle.std.proofs.Common.{◌≡◌, ◌≢◌, ℕ, zero, suc, ◌<◌, List, [], ◌∷◌, ◌++◌, length, map, take, Bool, true, false, cond, Option, Some, None, inl, inr, refl, sym, ap, ◌∙◌, subst, arith, ℤ}
+use Rattle.std.proofs.Common.{◌≡◌, ◌≢◌, ℕ, zero, suc, ◌+◌, ◌<◌, List, [], ◌∷◌, ◌++◌, length, map, take, Bool, true, false, cond, Option, Some, None, inl, inr, refl, sym, ap, ◌∙◌, subst, arith, ℤ}
 use Rattle.std.specs.Prelude.{IsTrue, find, nat_lt, negsuc, pos, slice_get}
 use Rattle.std.specs.Option.{option_map}
 use Rattle.std.specs.Ordering.{int_eq}
@@ -66,3 +66,11 @@ fresh_next ws n w differ at = change_absent (take n ws) w.at (λ j e.
     let r = taken ws n j w.at e in
     let same : j ≡ n = differ j n w.at r.1 (slice_mapped ws n w at) in
     let lt = r.0 in omega (arith, same, lt))
+
+pub take_more : (ws : List Written) (n : ℕ) (w : Written) → slice_get ws n ≡ Some w → take (n + 1) ws ≡ take n ws ++ w ∷ []
+take_more ws n w at = let same : suc n ≡ n + 1 = omega arith in subst (λ (k : ℕ). take k ws ≡ take n ws ++ w ∷ []) same (taken_more ws n at)
+  where
+    taken_more : (ws : List Written) (n : ℕ) → slice_get ws n ≡ Some w → take (suc n) ws ≡ take n ws ++ w ∷ []
+    taken_more [] n e = absurd cc
+    taken_more (x ∷ ws) zero e = let same : x ≡ w = cc in ap (λ (y : Written). y ∷ []) same
+    taken_more (x ∷ ws) (suc n) e = ap (λ ys. x ∷ ys) (taken_more ws n e)

@@ -20,5 +20,5 @@ pub record FitsRun (k : Run) (worker : ℕ) (x : Strand) (slot : ℕ) : Type 0 w
   pub hand : hand_of k.hands.items worker ≡ Some slot
   pub stands : node_at k.cactus slot ≡ Some node
   pub path : node.path.numbers ≡ x.course.path.items
-  pub frame : IsCopy node.frame.frame x.course.loaded
+  pub frame : IsCopy x.course.loaded node.frame.frame
   pub reads : HoldReads x.course.cells.reads k.cells.cells.items

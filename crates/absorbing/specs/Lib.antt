@@ -1,2 +1,3 @@
+pub mod Absorbing
 pub mod Fitting
 pub mod Putting

@@ -61,3 +61,10 @@ pub fn put_writes(row: &mut [i64], writes: &[Written])
         put(row, written);
     }
 }
+
+/// Puts back what the cells held that a strand wrote.
+pub(crate) fn restore(row: &mut [i64], writes: &[Written], before: &[i64]) {
+    for (written, number) in writes.iter().zip(before) {
+        set(row, written.at, *number);
+    }
+}

@@ -1,26 +1,75 @@
 ghost use Rattle.std.specs.Prelude.{◌≡◌, ◌↔◌, ℕ, IsTrue, IfNone, IfSome, Some};
+ghost use Rattle.engine.specs.Flat.{cell_in};
 ghost use Rattle.strand.specs.Standing.{IsCopy};
 ghost use Rattle.absorbing.specs.Fitting.{FitsRun, HoldReads};
 
 use crate::cells::cell;
 use crew::Run;
-use engine::Frame;
+use engine::{Frame, Place};
+use frame::{Role, Wait};
+use program::FunctionId;
 use strand::{Read, Strand};
+
+fn same_function(one: FunctionId, other: FunctionId) -> bool
+    ensures { IsTrue result ↔ (one ≡ other) }
+{
+    one == other
+}
+
+fn same_place(one: Place, other: Place) -> bool
+    ensures { IsTrue result ↔ (one ≡ other) }
+{
+    one == other
+}
+
+fn same_wait(one: Wait, other: Wait) -> bool
+    ensures { IsTrue result ↔ (one ≡ other) }
+{
+    one == other
+}
+
+fn same_role(one: Role, other: Role) -> bool
+    ensures { IsTrue result ↔ (one ≡ other) }
+{
+    one == other
+}
+
+fn same_words(one: &[i64], other: &[i64]) -> bool
+    ensures { IsTrue result ↔ (one.now ≡ other.now) }
+{
+    one == other
+}
+
+fn same_numbers(one: &[u64], other: &[u64]) -> bool
+    ensures { IsTrue result ↔ (one.now ≡ other.now) }
+{
+    one == other
+}
 
 /// Whether the frames are equal, word for word.
 fn is_same(one: &Frame, other: &Frame) -> bool
-    ensures { IsTrue result ↔ IsCopy one.now other.now }
+    ensures { IsTrue result ↔ IsCopy other.now one.now }
 {
-    if one.function != other.function || one.place != other.place {
+    if !same_function(one.function, other.function) || !same_place(one.place, other.place) {
         return false;
     }
-    if one.waits != other.waits || one.role != other.role {
+    if !same_wait(one.waits, other.waits) || !same_role(one.role, other.role) {
         return false;
     }
     if one.home != other.home || one.made != other.made || one.depth != other.depth {
         return false;
     }
-    one.registers.as_slice() == other.registers.as_slice()
+    same_words(one.registers.as_slice(), other.registers.as_slice())
+}
+
+/// Whether the cell holds what was read.
+fn holds(row: &[i64], read: &Read) -> bool
+    ensures { IsTrue result ↔ (cell_in row.now read.now.at ≡ Some read.now.value) }
+{
+    match cell(row, read.at) {
+        Some(number) => number == read.value,
+        None => false,
+    }
 }
 
 /// Whether each cell that was read holds what was read.
@@ -28,7 +77,7 @@ fn hold_reads(reads: &[Read], row: &[i64]) -> bool
     ensures { IsTrue result ↔ HoldReads reads.now row.now }
 {
     for read in reads {
-        if cell(row, read.at) != Some(read.value) {
+        if !holds(row, read) {
             return false;
         }
     }
@@ -43,7 +92,7 @@ pub fn fitting_slot(run: &Run, worker: u8, strand: &Strand) -> Option<usize>
     let held = run.hands.get(worker as usize)?;
     let slot = (*held)?;
     let node = run.cactus.node(slot)?;
-    if node.path.numbers.as_slice() == strand.path()
+    if same_numbers(node.path.numbers.as_slice(), strand.path())
         && is_same(&node.frame.frame, strand.loaded())
         && hold_reads(strand.reads(), run.cells.cells.as_slice())
     {

@@ -3,6 +3,8 @@
 
 mod cells;
 mod fitting;
+mod taking;
 
 pub use cells::put_writes;
 pub use fitting::fitting_slot;
+pub use taking::absorb;
