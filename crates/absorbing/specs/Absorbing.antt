@@ -4,6 +4,7 @@ use Rattle.running.specs.Paths.{Path}
 use Rattle.running.specs.Cells.{Object}
 use Rattle.running.specs.Frames as frames
 use Rattle.running.specs.Events.{Machine}
+use Rattle.running.specs.Replay.{replay}
 use Rattle.program.specs.declared.function.Program.{Program}
 use Rattle.std.specs.Prelude.{◌≡◌, ℤ}
 use Rattle.strands.specs.Law.{Happen, steps_by}
@@ -16,6 +17,7 @@ use Rattle.crew.specs.declared.run.Run.{Run}
 use Rattle.crew.specs.Going.{RunsSafely}
 use Rattle.crew.specs.Layouts.{living}
 use Rattle.crew.specs.Shown.{IsShown}
+use Rattle.crew.specs.Stalls.{Blocks, StallsAgree, last_blocks}
 
 -- whatever a worker's frame does by itself is safe, with other numbers in the cells of living objects at each step
 abbrev pub GoesAloneIn : Program → Machine → Type 0
@@ -44,3 +46,16 @@ abbrev pub DoesStrand : Program → Places → Run → Run → ℕ → Strand �
 DoesStrand prog places old new worker x =
     (m : Machine) → IsShown prog places m old → RunsSafely prog (length old.hands.items) m → GoesAloneIn prog m →
     (after : Machine) × Happen prog (length old.hands.items) (steps_by worker (steps_in x.pause x.course.done)) m after × IsShown prog places after new
+
+-- whatever machine is shown, the worker runs the same frame after the strand's instructions, before the border's
+abbrev pub KeepsHand : Program → Places → Run → ℕ → Strand → Type 0
+KeepsHand prog places old worker x =
+    (m : Machine) → IsShown prog places m old → RunsSafely prog (length old.hands.items) m → GoesAloneIn prog m →
+    (replay prog (length old.hands.items) (steps_by worker x.course.done) m).hands worker ≡ m.hands worker
+
+-- whatever machine is shown, frames that are stalled are so at their last instructions, after so many steps of the worker
+abbrev pub LeavesStallsBy : Program → Places → Run → Run → ℕ → ℕ → Type 0
+LeavesStallsBy prog places old new worker steps =
+    (m : Machine) → IsShown prog places m old → RunsSafely prog (length old.hands.items) m → GoesAloneIn prog m →
+    (last : Blocks) → StallsAgree last old.cactus →
+    StallsAgree (last_blocks prog (length old.hands.items) (steps_by worker steps) m last) new.cactus

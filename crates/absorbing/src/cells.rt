@@ -8,7 +8,7 @@ use engine::sum;
 use strand::{Change, Written};
 
 /// What the row's cell at an address holds; none where there is no such cell.
-pub(crate) fn cell(row: &[i64], at: i64) -> Option<i64>
+pub fn cell(row: &[i64], at: i64) -> Option<i64>
     ensures { result ≡ cell_in row.now at }
 {
     if at < 0 {

@@ -89,8 +89,7 @@ pub fn fitting_slot(run: &Run, worker: u8, strand: &Strand) -> Option<usize>
     ensures fits { IfSome result (FitsRun run.now worker strand.now) }
     ensures only { IfNone result ((slot : ℕ) → FitsRun run.now worker strand.now slot → ⊥) }
 {
-    let held = run.hands.get(worker as usize)?;
-    let slot = (*held)?;
+    let slot = run.hand(worker)?;
     let node = run.cactus.node(slot)?;
     if same_numbers(node.path.numbers.as_slice(), strand.path())
         && is_same(&node.frame.frame, strand.loaded())

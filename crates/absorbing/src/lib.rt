@@ -5,6 +5,7 @@ mod cells;
 mod fitting;
 mod taking;
 
-pub use cells::put_writes;
+pub use cells::{cell, put_writes};
 pub use fitting::fitting_slot;
+pub use strand::{Pause, Strand};
 pub use taking::absorb;

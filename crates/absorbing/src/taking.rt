@@ -1,7 +1,9 @@
-ghost use Rattle.std.specs.Prelude.{◌≡◌, ◌≢◌, ◌↔◌, ℕ, IfOk, IsTrue, Ok, OnErr, Some, length};
-ghost use Rattle.crew.specs.Going.{KeepsShown, TextFits};
+ghost use Rattle.std.specs.Prelude.{◌≡◌, ◌≢◌, ◌↔◌, ℕ, false, true, IfOk, IsTrue, Ok, OnErr, Some, length};
+ghost use Rattle.crew.specs.Follows.{Follows};
+ghost use Rattle.crew.specs.Going.{TextFits};
+ghost use Rattle.crew.specs.Left.{LeavesAsShown};
 ghost use Rattle.strand.specs.declared.standing.Pause.TheVariants.{Blank};
-ghost use Rattle.absorbing.specs.Absorbing.{DoesStrand, StandsAlone};
+ghost use Rattle.absorbing.specs.Absorbing.{DoesStrand, KeepsHand, LeavesStallsBy, StandsAlone, steps_in};
 ghost use Rattle.absorbing.specs.Fitting.{FitsRun};
 
 use crate::cells::{cell, put_writes, restore};
@@ -16,7 +18,7 @@ use strand::{Pause, Strand};
 /// Puts a place and registers into a frame, which waits for this from here on.
 fn write_frame(target: &mut Frame, source: &Frame, waits: Wait)
     requires { length source.now.registers.items ≡ length target.old.registers.items }
-    ensures { target.new ≡ record target.old { place = source.now.place; registers = target.new.registers; waits = waits } }
+    ensures only { target.new ≡ record target.old { place = source.now.place; registers = target.new.registers; waits = waits } }
     ensures registers { target.new.registers.items ≡ source.now.registers.items }
 {
     target.place = Place {
@@ -81,7 +83,12 @@ pub fn absorb(
         ↔ ((strand.now.pause ≢ Some Blank) × ((slot : ℕ) × FitsRun run.old worker strand.now slot))) }
     ensures does { result ≡ Ok true → ∥ DoesStrand program.now places.now run.old run.new worker strand.now ∥₁ }
     ensures left { result ≡ Ok false → run.new ≡ run.old }
-    ensures refused { OnErr result (KeepsShown program.now places.now run.old run.new) }
+    ensures hand { result ≡ Ok true → KeepsHand program.now places.now run.old worker strand.now }
+    ensures stalls { result ≡ Ok true →
+        LeavesStallsBy program.now places.now run.old run.new worker (steps_in strand.now.pause strand.now.course.done) }
+    ensures refused { OnErr result (LeavesAsShown program.now places.now run.old run.new) }
+    ensures follows { Follows run.old.cactus run.new.cactus }
+    ensures workers { length run.new.hands.items ≡ length run.old.hands.items }
     ensures moves { length run.new.moves.items ≡ length run.old.moves.items }
 {
     if strand.pause() == Some(Pause::Blank) {

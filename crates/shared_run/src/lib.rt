@@ -18,11 +18,12 @@ mod shared;
 mod start;
 mod ticket;
 
-pub use answers::{Claimed, Stepped};
+pub use answers::{Claimed, Committed, Fetched, Stepped};
 pub use bench::Bench;
 pub use board::Board;
 pub use history::{Entry, History};
 pub use seat::Seat;
 pub use shared::Shared;
 pub use start::Start;
+pub use schedule_core::{Pause, Places, Strand, blank_strand, places_of};
 pub use ticket::Ticket;
