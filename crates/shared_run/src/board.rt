@@ -8,7 +8,7 @@ ghost use Rattle.schedule_core.specs.Parents.{HasNoReadyParent, IsReadyParent};
 ghost use Rattle.schedule_core.specs.Replaying.{IsNumberOfWorkers, KeepsItsSchedule};
 ghost use Rattle.schedule_core.specs.Stages.{workers_of};
 ghost use Rattle.schedule_core.specs.Strands.{IsMadeOf};
-ghost use Rattle.schedule_core.specs.strand.declared.standing.Pause.TheVariants.{Blank, Need};
+ghost use Rattle.schedule_core.specs.strand.declared.standing.Pause.TheVariants as pause;
 ghost use Rattle.shared_run.specs.Answer.{IsSerialAnswer};
 ghost use Rattle.shared_run.specs.Calls.{Absorbing, Begins, Claims, ClaimsFirst, Commits, Fetches, IsOneBelow, Leaves, Stays, Steps, Takes, Tries, depth_in};
 ghost use Rattle.shared_run.specs.Story.{AreSeats, IsLegal, Place, origin, state_of};
@@ -178,9 +178,10 @@ impl<'a, L: Bench> Board<'a, L> {
         let depth = self.machine().depth_of(worker);
         match self.absorb(seat, strand) {
             Ok(true) => {
+                let ready = self.parent_ticket(worker, depth);
                 let machine = self.machine();
                 Committed::After {
-                    ready: self.parent_ticket(worker, depth),
+                    ready,
                     idle: machine.depth_of(worker).is_none(),
                     ended: machine.ended(),
                 }
@@ -207,7 +208,7 @@ impl<'a, L: Bench> Board<'a, L> {
     /// Gives a blank strand the frame that the seat's worker runs next.
     fn fetch_frame(&self, seat: &Seat<L>, strand: &mut Strand<'_>) -> Fetched
         requires made { IsMadeOf L.code strand.old }
-        requires blank { strand.old.pause ≡ Some Blank }
+        requires blank { strand.old.pause ≡ Some pause.Blank }
         ensures made { IsMadeOf L.code strand.new }
         ensures fetches { Fetches self.now seat.now strand.old strand.new result }
     {
@@ -226,7 +227,7 @@ impl<'a, L: Bench> Board<'a, L> {
     /// Gives a strand the cell at the address, which it needs.
     fn fetch_cell(&self, strand: &mut Strand<'_>, at: i64) -> Fetched
         requires made { IsMadeOf L.code strand.old }
-        requires needs { strand.old.pause ≡ Some (Need at) }
+        requires needs { strand.old.pause ≡ Some (pause.Need at) }
         ensures made { IsMadeOf L.code strand.new }
         ensures fetches { (p : Place) → Fetches self.now p strand.old strand.new result }
     {
@@ -290,6 +291,7 @@ impl<'a, L: Bench> Board<'a, L> {
     /// The machine: the replay of the history. Each event was enabled where it stands, and the schedule theorem holds.
     pub fn machine(&self) -> &Machine<'a>
         ensures stage { result.now.stage ≡ self.now.stage }
+        ensures code { self.now.start.program ≡ L.code }
         ensures crew { self.now.start.workers ≡ L.crew }
         ensures legal { IsLegal self.now.start self.now.events self.now.stage }
         ensures keeps { KeepsItsSchedule self.now.start.program self.now.start.arguments self.now.start.memory self.now.start.workers self.now.events }

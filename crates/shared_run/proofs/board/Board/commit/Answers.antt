@@ -14,7 +14,7 @@ returns-in-Ok-true g c =
     let before : IsState c.machine.result.now.stage (state_of s) = state_at s.start s.events s.stage c.machine.ensures.legal c.machine.result.now.stage c.machine.ensures.stage in
     let after : IsState c.machine-machine.result.now.stage (state_of t) = state_at t.start t.events t.stage c.machine-machine.ensures.legal c.machine-machine.result.now.stage c.machine-machine.ensures.stage in
     commits_done s t c.args.seat.now c.absorb.new.seat c.machine.ensures.legal c.args.strand.now c.worker-worker.result c.worker-worker.ensures.value c.in-Ok-true.field-0 c.in-Ok-true.field-0-test
-    c.in-Ok-true.ensures.done c.machine-machine.ensures.legal c.depth_of-depth.result (c.depth_of-depth.ensures (state_of s) before) c.parent_ticket.result
-    c.parent_ticket.ensures.shown c.parent_ticket.ensures.below c.parent_ticket.ensures.none
+    c.in-Ok-true.ensures.done c.machine-machine.ensures.legal c.depth_of-depth.result (c.depth_of-depth.ensures (state_of s) before) c.parent_ticket-ready.result
+    c.parent_ticket-ready.ensures.shown c.parent_ticket-ready.ensures.below c.parent_ticket-ready.ensures.none
     c.is_none.result (is_none_by c.depth_of.result c.is_none.result c.is_none.ensures ∙ ap is_none (c.depth_of.ensures (state_of t) after))
     c.ended.result (c.ended.ensures (state_of t) after)
