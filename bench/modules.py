@@ -161,6 +161,22 @@ ret i64 %n
 }}
 """
 
+def clear(facts):
+    """A detach beside a child: 32 zones of one against 32 of the other, which the oldest of so many facts keep apart."""
+    adds = facts // 32 + 1
+    head = f"@a = global [99 x i64] zeroinitializer\ndefine i64 @main(i64 %n, i64 %m) {{\n;! requires %m >= 31\n;! requires %m <= 40\n;! requires %n >= 41\n;! requires %n <= 50\n"
+    head += f";! reads @a 0 99\n;! writes @a 0 99\n;! budget 0 {adds + 7}\nentry:\n;! left 0 {adds + 7}\n%s = call token @llvm.syncregion.start()\ndetach within %s, label %d, label %c\n"
+    reads = "".join(f"reads @a {k} %m\n" for k in range(32)).splitlines()
+    writes = [f"writes @a %n %n+{k}" for k in range(1, 33)]
+    bounds = ";! keeps %m >= 31\n;! keeps %m <= 40\n;! keeps %n >= 41\n;! keeps %n <= 50\n"
+    first = "d:\n" + bounds + ";! left 0 1\n" + "".join(f";! foot {zone}\n" for zone in reads) + "reattach within %s, label %c\n"
+    middle = "c:\n" + bounds + "".join(f";! pending %s {zone}\n" for zone in reads) + f";! left 0 {adds + 4}\n"
+    middle += "".join(f";! shows {k + 1}*%n >= {-k}\n" + (f"%x{k} = add i64 %n, 0\n" if k % 32 == 0 else "") for k in range(1, facts + 1))
+    middle += "%x = add i64 %n, 0\n" + "detach within %s, label %e, label %f\n"
+    second = "e:\n" + bounds + ";! left 0 1\n" + "".join(f";! foot {zone}\n" for zone in writes) + "reattach within %s, label %f\n"
+    last = "f:\n" + bounds + ";! pending %s reads @a 0 %m\n;! pending %s writes @a %n %n+32\n;! left 0 2\nsync within %s, label %g\ng:\n;! left 0 1\nret i64 0\n}\n"
+    return head + first + middle + second + last
+
 def pending(blocks):
     """A child that may run beside so many blocks, each with 32 `pending` lines."""
     out = ["@a = global [99 x i64] zeroinitializer\n"]

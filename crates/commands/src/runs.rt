@@ -255,11 +255,11 @@ fn has_cells(memory: &Memory, cells: &[CellWord]) -> bool {
 }
 
 /// What a run with this result came to.
-fn finished(machine: Machine<'_>, result: i64) -> Finished {
+fn finished(machine: Machine<'_>, returned: i64) -> Finished {
     let instructions = machine.instructions();
     let peak = machine.peak();
     Finished {
-        result,
+        result: returned,
         memory: machine.into_memory(),
         instructions,
         peak,

@@ -4,7 +4,7 @@ use crate::beside::Beside;
 use crate::job::{Job, stop_for_memory};
 use crate::runs::{prepared, run_schedule};
 use crate::status::Status;
-use debugger::{Event, RunFault, read_schedule};
+use debugger::{Event, RunFault, ScheduleFault, read_schedule};
 use std::io;
 use std::io::Write;
 use traces::{Moment, picture, watch, write_trace};
@@ -36,11 +36,15 @@ fn tell_events<W: Write>(
     output: &mut W,
     beside: &mut Beside,
 ) -> io::Result<Status> {
-    let Ok(events) = read_schedule(job.alloc, schedule) else {
-        return Ok(Status::Done);
+    let events = match read_schedule(job.alloc, schedule) {
+        Ok(events) => events,
+        Err(ScheduleFault::Memory) => return stop_for_memory(output),
+        Err(_) => return Ok(Status::Done),
     };
-    let Ok(memory) = prepared(job) else {
-        return Ok(Status::Done);
+    let memory = match prepared(job) {
+        Ok(memory) => memory,
+        Err(Status::Stopped) => return stop_for_memory(output),
+        Err(_) => return Ok(Status::Done),
     };
     let args = job.request.args.as_slice();
     let workers = job.request.workers;

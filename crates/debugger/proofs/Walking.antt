@@ -3,7 +3,7 @@ use Rattle.std.proofs.Common.{◌≡◌, ◌≢◌, ◌↔◌, inl, inr, ℕ, �
 use Rattle.std.proofs.lemmas.Bool.Decides.{eqb_tells}
 use Rattle.std.proofs.lemmas.List.{take_more}
 use Rattle.std.specs.Prelude.{IfNone, IfSome, IsTrue}
-use Rattle.running.specs.Events.{Machine}
+use Rattle.running.specs.Events as running
 use Rattle.frame.specs.declared.path.Path.{Path}
 use Rattle.schedule_core.specs.store.Cells.{NamedCells}
 use Rattle.schedule_core.specs.declared.event.Event.{Event}
@@ -38,7 +38,7 @@ module _ (s : Session) where
   line_shown n path stage at (Some view) shown = shown s.program s.arguments s.globals s.workers (take n s.events) at
 
   -- a test for a worker on the line tells of the definitions' state
-  pub stands_there : (n line : ℕ) (stage : Stage) (b : Bool) → IsAt s n stage → ((m : Machine) → IsState stage m → IsTrue b ↔ StandsAt (program_of stage) m line) → IsTrue b ↔ StandsAt s.program (state_at s n) line
+  pub stands_there : (n line : ℕ) (stage : Stage) (b : Bool) → IsAt s n stage → ((m : running.Machine) → IsState stage m → IsTrue b ↔ StandsAt (program_of stage) m line) → IsTrue b ↔ StandsAt s.program (state_at s n) line
   stands_there n line stage b at tells = subst (λ q. IsTrue b ↔ StandsAt q (state_at s n) line) at.program (tells (state_at s n) at.state)
 
   -- no task of the path, where the stage's machine has none

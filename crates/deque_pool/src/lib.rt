@@ -5,7 +5,6 @@
 //! thief's taking of the oldest. `specs/TicketList.antt` says what is known of it at each moment, however the threads run.
 #![tactic(auto)]
 
-mod crew;
 mod gate;
 mod hands;
 mod law;
@@ -16,6 +15,7 @@ mod threads;
 mod ticket_list;
 mod turns;
 mod work;
+mod workers;
 
 pub use gate::{Gate, OpenGate};
 pub use hands::{Hands, Thief};

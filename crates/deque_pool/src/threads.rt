@@ -1,18 +1,17 @@
 //! A run on threads of its own.
 ghost use Rattle.std.specs.Prelude.{◌≡◌, ℕ, None, Some, Err, IfOk, OnOk};
-ghost use Rattle.outcome.specs.Requirements.{unmet_in};
-ghost use Rattle.store.specs.Made.{IsMadeFor};
-ghost use Rattle.store.specs.declared.memory.Memory.{Memory};
-ghost use Rattle.schedule_core.specs.Replaying.{IsNumberOfWorkers};
+ghost use Rattle.shared_run.specs.outcome.Requirements.{unmet_in};
+ghost use Rattle.shared_run.specs.store.Made.{IsMadeFor};
+ghost use Rattle.shared_run.specs.store.declared.memory.Memory.{Memory};
+ghost use Rattle.shared_run.specs.schedule_core.Replaying.{IsNumberOfWorkers};
 ghost use Rattle.shared_run.specs.Answer.{IsSerialAnswer};
 ghost use Rattle.shared_run.specs.Story.{origin};
 
-use crate::crew::{Worker, crew_of, seats_of};
 use crate::gate::Gate;
 use crate::work::work;
+use crate::workers::{Worker, crew_of, seats_of};
 use crossbeam_utils::CachePadded;
-use outcome::{Finished, RunFault};
-use shared_run::{Bench, Shared};
+use shared_run::{Bench, Finished, Memory, RunFault, Shared, Verified};
 use std::alloc::Global;
 use std::marker::Brand;
 use std::sync::atomic::AtomicBool;
@@ -21,8 +20,6 @@ use std::sync::{Mutex, Wait};
 use std::thread;
 use std::thread::Threads;
 use std::time::Clock;
-use store::Memory;
-use verifier::Verified;
 
 /// Runs a module on so many workers, each on a thread of its own: worker 0 on the calling thread, and the others on threads that have
 /// ended when this returns. Where a thread cannot be started the run goes on with fewer. Whatever the threads do, the answer is that

@@ -1,8 +1,8 @@
 //! The loop of a worker on its thread.
 
-use crate::crew::Worker;
 use crate::gate::Gate;
 use crate::turns::{TurnEnd, take_turn};
+use crate::workers::Worker;
 use shared_run::{Bench, Claimed, Shared};
 use std::sync::Wait;
 use std::sync::atomic::{AtomicBool, Ordering};

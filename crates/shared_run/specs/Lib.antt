@@ -2,3 +2,7 @@ pub mod Spelled
 pub mod Story
 pub mod Calls
 pub mod Answer
+-- for the crates above
+pub use Rattle.schedule_core.specs.outcome as outcome
+pub use Rattle.schedule_core.specs.store as store
+pub use Rattle.schedule_core.specs as schedule_core

@@ -22,8 +22,10 @@ pub use answers::{Claimed, Committed, Fetched, Stepped};
 pub use bench::Bench;
 pub use board::Board;
 pub use history::{Entry, History};
+pub use schedule_core::{
+    Finished, Memory, Pause, Places, RunFault, Strand, Verified, blank_strand, places_of,
+};
 pub use seat::Seat;
 pub use shared::Shared;
 pub use start::Start;
-pub use schedule_core::{Pause, Places, Strand, blank_strand, places_of};
 pub use ticket::Ticket;

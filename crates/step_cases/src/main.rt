@@ -1,12 +1,11 @@
-//! Cases of the machine below the program: counts of children, traps, machines between two events, and the debugger against replays. It prints a
-//! line of each case, and fails where one is not as it is to be. What is expected is worked by hand.
+//! Cases of the machine below the program: counts of children, machines between two events, and the debugger against replays. It prints a line of
+//! each case, and fails where one is not as it is to be. What is expected is worked by hand.
 #![tactic(auto)]
 
 mod counts;
 mod debugging;
 mod events;
 mod machines;
-mod traps;
 
 use anyhow::Context;
 use cases::Report;
@@ -29,17 +28,6 @@ fn verified_file(
         .context("a module that is refused")
 }
 
-fn answer_traps<W: Write + Drop>(
-    rt: &(impl AllocGlobal + Files),
-    state: RandomState,
-    parallel_for: &Verified,
-    report: &mut Report<W>,
-) -> anyhow::Result<()> {
-    let fib = verified_file(rt, state, "examples/fib.ll")?;
-    let rows = fs::read_to_string(rt, "traps.txt")?;
-    traps::answer(rt.alloc(), rows.as_str(), parallel_for, &fib, report)
-}
-
 fn answer_machines<W: Write + Drop>(
     rt: &(impl AllocGlobal + Files),
     state: RandomState,
@@ -57,7 +45,6 @@ fn answer<W: Write + Drop>(
 ) -> anyhow::Result<()> {
     counts::answer(report)?;
     let parallel_for = verified_file(rt, state, "examples/parallel-for.ll")?;
-    answer_traps(rt, state, &parallel_for, report)?;
     answer_machines(rt, state, &parallel_for, report)?;
     debugging::answer(rt.alloc(), &parallel_for, report)
 }

@@ -1,17 +1,14 @@
 //! Schedules at random.
 
-ghost use Rattle.store.specs.Made.{IsMadeFor};
+ghost use Rattle.schedule_core.specs.store.Made.{IsMadeFor};
 ghost use Rattle.std.specs.Prelude.{◌<◌, ◌≤◌};
 
 use crate::dice::Dice;
 use crate::script::Script;
 use frame::Path;
 use lists::OutOfMemory;
-use outcome::RunFault;
-use schedule_core::{Event, Machine};
+use schedule_core::{Event, Machine, Memory, RunFault, Verified};
 use std::alloc::Global;
-use store::Memory;
-use verifier::Verified;
 
 /// The events that a schedule has at most.
 const MOST_EVENTS: usize = 1_048_576;

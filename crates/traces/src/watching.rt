@@ -1,15 +1,12 @@
 //! A run by a schedule, event for event.
 
-ghost use Rattle.store.specs.Made.{IsMadeFor};
+ghost use Rattle.schedule_core.specs.store.Made.{IsMadeFor};
 
 use crate::moment::{Hindrance, Moment, Outcome, Place};
 use frame::Path;
 use lists::OutOfMemory;
-use outcome::RunFault;
-use schedule_core::{Event, Machine, Status, TaskView};
+use schedule_core::{Event, Machine, Memory, RunFault, Status, TaskView, Verified};
 use std::alloc::Global;
-use store::Memory;
-use verifier::Verified;
 
 fn place_of(alloc: Global, view: &TaskView<'_>) -> Result<Place, OutOfMemory> {
     Ok(Place {

@@ -1,4 +1,4 @@
-use Rattle.std.proofs.Common.{◌≡◌, ◌+◌, refl, subst, arith}
+use Rattle.std.proofs.Common.{◌≡◌, ◌+◌, subst, arith}
 use Rattle.debugger.specs.Sessions.{IsAt, Session}
 use Rattle.debugger.proofs.Walking.{at_next}
 use Rattle.debugger.proofs.going.walk.Goals as goal

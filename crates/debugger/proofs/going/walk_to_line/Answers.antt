@@ -1,4 +1,4 @@
-use Rattle.std.proofs.Common.{◌≡◌, ◌≤◌, ◌<◌, ◌+◌, ℕ, length, sym, refl, ap, subst, arith}
+use Rattle.std.proofs.Common.{◌≡◌, ◌≤◌, ◌<◌, ◌+◌, ℕ, length, sym, ap, subst, arith}
 use Rattle.debugger.specs.Sessions.{IsAt, Session, state_at}
 use Rattle.schedule_core.specs.Lines.{StandsAt}
 use Rattle.debugger.proofs.Walking.{at_next, past_more, stands_there, stop_here, stop_end}

@@ -1,5 +1,5 @@
 use Rattle.std.specs.Prelude.{◌≡◌, ◌+◌, vec_len}
-use Rattle.deque_pool.proofs.crew.crew_of.Given as goal
+use Rattle.deque_pool.proofs.workers.crew_of.Given as goal
 
 abbrev pub invariant-loop-seat : goal.invariant-loop-seat
 invariant-loop-seat g l = vec_len l.crew + vec_len l.seats ≡ vec_len l.fn.seats

@@ -1,0 +1,5 @@
+pub mod Verdicts
+pub mod Depths
+pub mod Sure
+pub mod Sums
+pub mod Limited

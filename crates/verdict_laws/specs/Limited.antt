@@ -1,0 +1,25 @@
+-- The law: of forms within their limits the rules on numbers, zones and costs ask modest sums.
+use Rattle.std.specs.Prelude.{ℕ, ◌<◌, ◌≤◌, ◌^◌, List, [], length, All, unsigned_abs}
+use Rattle.linear.specs.Forms.{Combination}
+use Rattle.linear.specs.declared.form.Term.{Term}
+use Rattle.ranges.specs.cfg.declared.structure.Move.{Move}
+use Rattle.footprints.specs.Zones.{between}
+use Rattle.cost_table.specs.Rules.{left_behind, less_form}
+use Rattle.verdict_laws.specs.Sums.{IsWord, IsModest}
+
+-- four registers, each at most a million times, and a number of 64 bits: what 206 leaves of an annotation's form
+pub record IsLimited (f : Combination) : Type 0 where
+  pub few : length f.terms ≤ 4
+  pub small : All (λ (t : Term). unsigned_abs t.coefficient ≤ 1000000) f.terms
+  pub constant : unsigned_abs f.constant ≤ 2 ^ 63
+
+abbrev pub AreWords : List Move → Type 0
+AreWords moves = All (λ (m : Move). IsWord m.value) moves
+
+pub record LimitedFormsAskLittle : Type 0 where
+  -- one end of a zone against another, or one side of an inequality, with operands put in for registers
+  pub differences : (for_high for_low : List Move) (high low : Combination) → AreWords for_high → AreWords for_low → IsLimited high → IsLimited low
+      → IsModest (between for_high high for_low low)
+  -- what is left, less what is done and what is left at one target or at two
+  pub rests : (moves : List Move) (left next other : Combination) (done : ℕ) → AreWords moves → IsLimited left → IsLimited next → IsLimited other
+      → done < 2 ^ 98 → IsModest (less_form (less_form (left_behind left done) moves next) [] other)
