@@ -15,3 +15,5 @@ pub use Rattle.crew_promise.specs.verifier as verifier
 pub use Rattle.absorbing.specs as absorbing
 pub use Rattle.absorbing.specs.strand as strand
 pub use Rattle.engine.specs as engine
+pub use Rattle.crew.specs as crew
+pub use Rattle.program.specs as program

@@ -1,13 +1,12 @@
 -- What a commit answers, from what the machine says of the strand.
-use Rattle.std.proofs.Common.{◌≡◌, ◌↔◌, ℕ, ℤ, zero, suc, ◌+◌, ◌<◌, List, [], ◌∷◌, ◌++◌, append_assoc, length, map, replicate, Option, Some, None, Bool, true, false, refl, sym, ap, ◌∙◌, subst, arith}
-use Rattle.std.specs.Prelude.{IsSome, IsTrue, IfSome, IfNone, is_none, is_some}
+use Rattle.std.proofs.Common.{◌≡◌, ◌↔◌, ℕ, zero, suc, ◌+◌, List, [], ◌∷◌, ◌++◌, length, map, replicate, Option, Some, None, Bool, true, refl, sym, ap, ◌∙◌, subst, arith}
+use Rattle.std.specs.Prelude.{IsSome, IsTrue, IfSome, IfNone, is_none}
 use Rattle.std.specs.Option.{option_map}
 use Rattle.std.proofs.lemmas.List.{map-append}
 use Rattle.running.specs.Paths.{Path as RunningPath}
 use Rattle.running.specs.Events as running
 use Rattle.running.specs.Events.{Machine, event}
 use Rattle.running.specs.Replay.{or_unchanged, replay}
-use Rattle.running.proofs.Workers.{Manned}
 use Rattle.program.specs.declared.function.Program.{Program}
 use Rattle.schedule_core.specs.absorbing.Absorbing.{steps_in}
 use Rattle.schedule_core.specs.absorbing.strands.Law.{steps_by}
@@ -16,15 +15,15 @@ use Rattle.schedule_core.specs.strand.declared.standing.Pause.{Pause}
 use Rattle.schedule_core.specs.strand.declared.standing.Pause.TheVariants.{Blank, Border, Limit, Full, Need}
 use Rattle.schedule_core.specs.Parents.{HasNoReadyParent, IsReadyParent}
 use Rattle.schedule_core.specs.Replaying.{AreEnabled, event_of}
-use Rattle.schedule_core.specs.Stages.{IsState, program_of, workers_of}
-use Rattle.schedule_core.specs.Strands.{Absorbs, FitsStage}
+use Rattle.schedule_core.specs.Stages.{program_of, workers_of}
+use Rattle.schedule_core.specs.Strands.{Absorbs}
 use Rattle.schedule_core.specs.declared.event.Event.{Event}
 use Rattle.schedule_core.specs.declared.event.Event.TheVariants.{Step}
 use Rattle.schedule_core.specs.declared.stage.Stage.{Stage}
 use Rattle.schedule_core.proofs.Commits.{map_steps, replay_all}
 use Rattle.shared_run.specs.declared.ticket.Ticket.{Ticket}
 use Rattle.shared_run.specs.declared.answers.Committed.TheVariants as committed
-use Rattle.shared_run.specs.Calls.{Absorbing, Appends, Commits, EndsInDetach, IsDetach, IsOneBelow, IsParents, before_border, depth_in}
+use Rattle.shared_run.specs.Calls.{Absorbing, Appends, Commits, EndsInDetach, IsOneBelow, IsParents, before_border, depth_in}
 use Rattle.shared_run.specs.Story.{IsLegal, Origin, Place, Story, first_of, reached, state_of}
 use Rattle.shared_run.proofs.Calls.{none_is, ready_exact, true_is}
 use Rattle.shared_run.proofs.Stories.{manned_after, untrapped_after}

@@ -1,4 +1,4 @@
-use Rattle.std.proofs.Common.{◌≡◌, ap, ◌∙◌}
+use Rattle.std.proofs.Common.{ap, ◌∙◌}
 use Rattle.std.specs.Prelude.{is_none}
 use Rattle.schedule_core.specs.Stages.{IsState}
 use Rattle.shared_run.specs.Story.{Story, state_of}

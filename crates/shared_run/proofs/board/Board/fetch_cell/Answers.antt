@@ -1,9 +1,8 @@
-use Rattle.std.proofs.Common.{rules, of_z, to_z, ◌≡◌, ◌∷◌, ◌++◌, [], List, Some, sym, ap, ◌∙◌, ℤ}
+use Rattle.std.proofs.Common.{rules, ◌≡◌, ◌∷◌, ◌++◌, [], Some, sym, ap, ◌∙◌, ℤ}
 use Rattle.std.specs.Int.{w64}
 use Rattle.std.specs.Prelude.{FitsSigned}
 use Rattle.std.proofs.lemmas.Int.{to_z-of_z}
 use Rattle.schedule_core.specs.engine.Flat.{cell_in}
-use Rattle.schedule_core.specs.strand.declared.cells.Read.{Read}
 use Rattle.schedule_core.specs.declared.stage.Stage.{Stage}
 use Rattle.shared_run.proofs.board.Board.fetch_cell.Goals as goal
 
