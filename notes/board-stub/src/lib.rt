@@ -1,0 +1,9 @@
+//! A strand's instructions, done at once as steps of the worker whose frame it was loaded from.
+#![tactic(auto)]
+
+mod cells;
+mod taking;
+
+pub use cells::{cell, put_writes};
+pub use strand::{Pause, Strand};
+pub use taking::absorb;
