@@ -1,12 +1,12 @@
-/// Is called by each worker before each of its turns, while no lock is held. A test may hold a worker there.
+/// Is called by each worker before each of its strands, while no lock is held. A test may hold a worker there.
 pub trait Gate {
-    /// `turn` counts the worker's turns from 0.
-    fn pass(&self, worker: u8, turn: u64);
+    /// `strand` counts the worker's strands from 0; at 2^64 - 1 it stays.
+    fn pass(&self, worker: u8, strand: u64);
 }
 
 /// A gate that holds nobody.
 pub struct OpenGate;
 
 impl Gate for OpenGate {
-    fn pass(&self, _worker: u8, _turn: u64) {}
+    fn pass(&self, _worker: u8, _strand: u64) {}
 }

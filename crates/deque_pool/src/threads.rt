@@ -11,7 +11,7 @@ use crate::gate::Gate;
 use crate::work::work;
 use crate::workers::{Worker, crew_of, seats_of};
 use crossbeam_utils::CachePadded;
-use shared_run::{Bench, Finished, Memory, RunFault, Shared, Verified};
+use shared_run::{Bench, Finished, Memory, RunFault, Shared, Verified, places_of};
 use std::alloc::Global;
 use std::marker::Brand;
 use std::sync::atomic::AtomicBool;
@@ -23,7 +23,7 @@ use std::time::Clock;
 
 /// Runs a module on so many workers, each on a thread of its own: worker 0 on the calling thread, and the others on threads that have
 /// ended when this returns. Where a thread cannot be started the run goes on with fewer. Whatever the threads do, the answer is that
-/// of the serial meaning. The gate is passed before each turn of a worker.
+/// of the serial meaning. The gate is passed before each strand of a worker.
 ///
 /// # Errors
 ///
@@ -86,11 +86,15 @@ fn run_by<L: Bench + Send + Sync, G: Gate + Sync, R: Threads + Wait + Clock + Sy
     let Ok(room) = Vec::with_capacity(alloc, seats.len()) else {
         return Err(RunFault::OutOfMemory);
     };
-    let Ok(crew) = crew_of(alloc, seats) else {
+    let Ok(places) = places_of(alloc, verified) else {
+        return Err(RunFault::OutOfMemory);
+    };
+    let Ok(crew) = crew_of(alloc, seats, verified, &places) else {
         return Err(RunFault::OutOfMemory);
     };
     work_together(rt, &shared, gate, crew.as_slice());
-    match shared.finish(seats_of(crew, room)) {
+    let seats = seats_of(crew, room);
+    match shared.finish(seats) {
         Ok((finished, _)) => Ok(finished),
         Err(_) => Err(RunFault::OutOfMemory),
     }
@@ -101,7 +105,7 @@ fn work_together<'x, L: Bench + Send + Sync, G: Gate + Sync, R: Threads + Wait +
     rt: &'x R,
     shared: &'x Shared<'_, L>,
     gate: &'x G,
-    crew: &'x [Mutex<Worker<L>>],
+    crew: &'x [Mutex<Worker<'_, L>>],
 ) {
     let word = CachePadded::new(AtomicBool::new(false));
     let over: &AtomicBool = &word;
@@ -120,7 +124,7 @@ fn work_as<L: Bench, G: Gate, R: Wait + Clock>(
     shared: &Shared<'_, L>,
     over: &AtomicBool,
     gate: &G,
-    crew: &[Mutex<Worker<L>>],
+    crew: &[Mutex<Worker<'_, L>>],
     number: usize,
 ) {
     if let Some(worker) = crew.get(number) {

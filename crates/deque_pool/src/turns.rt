@@ -1,37 +1,71 @@
-//! What a worker does while it holds the board.
-use shared_run::{Bench, Board, Seat, Stepped, Ticket};
+//! A strand: what a worker does outside of the board on a copy of its frame. The board is locked only to load it, to fill it and to commit it.
 
-/// The most steps of a turn: so many instructions a worker does each time that it holds the lock.
-const STEPS: u32 = 256;
+ghost use Rattle.shared_run.specs.schedule_core.Strands.{IsMadeOf};
 
-/// How a turn ended.
-#[derive(Clone, Copy)]
-pub(crate) enum TurnEnd {
-    /// After the most steps of a turn: the worker runs its task on.
-    Full,
-    /// The worker runs a child now, and the task that this ticket names may be stolen.
-    Detached(Ticket),
-    /// The worker runs no task now.
-    Idle,
-    /// `main` has returned.
-    Ended,
-    /// Memory was refused.
-    Starved,
+use crate::workers::Worker;
+use shared_run::{Bench, Committed, Fetched, Pause, Shared, Strand};
+use std::sync::Wait;
+
+/// The most cells that a strand reads.
+const MOST_CELLS: u32 = 256;
+
+/// The strand is blank from here on.
+#[tactic(auto, using(crate::proofs::Made::made_still))]
+fn clear<L: Bench>(strand: &mut Strand<'_>)
+    requires { IsMadeOf L.code strand.old }
+    ensures { IsMadeOf L.code strand.new }
+{
+    strand.clear();
 }
 
-/// Steps of the seat's worker up to the first that leaves a task ready or the worker idle, and no more than those of a turn.
-pub(crate) fn take_turn<L: Bench>(board: &mut Board<'_, L>, seat: &mut Seat<L>) -> TurnEnd {
-    for _ in 0..STEPS {
-        match board.step(seat) {
-            Stepped::Done { ended: true, .. } => return TurnEnd::Ended,
-            Stepped::Done {
-                ready: Some(ticket),
-                ..
-            } => return TurnEnd::Detached(ticket),
-            Stepped::Done { idle: true, .. } | Stepped::Idle => return TurnEnd::Idle,
-            Stepped::Done { .. } => {}
-            Stepped::OutOfMemory => return TurnEnd::Starved,
+/// Goes on with the strand to a pause.
+#[tactic(auto, using(crate::proofs::Made::made_still))]
+fn advance<L: Bench>(strand: &mut Strand<'_>) -> Pause
+    requires { IsMadeOf L.code strand.old }
+    ensures { IsMadeOf L.code strand.new }
+{
+    strand.advance()
+}
+
+/// Gives the worker's strand what it waits for.
+fn fetch<L: Bench, R: Wait>(rt: &R, shared: &Shared<'_, L>, worker: &mut Worker<'_, L>) -> Fetched {
+    let board = shared.board.lock(rt);
+    board.fetch(&worker.seat, &mut worker.strand)
+}
+
+/// Loads the frame that the worker runs next, and goes on with it outside of the board; the cells that it needs are fetched. The answer is
+/// what the load came to.
+pub(crate) fn go<L: Bench, R: Wait>(
+    rt: &R,
+    shared: &Shared<'_, L>,
+    worker: &mut Worker<'_, L>,
+) -> Fetched {
+    clear::<L>(&mut worker.strand);
+    let loaded = fetch(rt, shared, worker);
+    if loaded == Fetched::Frame {
+        go_on(rt, shared, worker);
+    }
+    loaded
+}
+
+/// Goes on with a strand up to a pause at which it has all cells that it needs, or no such cell is there.
+fn go_on<L: Bench, R: Wait>(rt: &R, shared: &Shared<'_, L>, worker: &mut Worker<'_, L>) {
+    for _ in 0..=MOST_CELLS {
+        let Pause::Need { .. } = advance::<L>(&mut worker.strand) else {
+            return;
+        };
+        if fetch(rt, shared, worker) != Fetched::Cell {
+            return;
         }
     }
-    TurnEnd::Full
+}
+
+/// Commits the worker's strand.
+pub(crate) fn commit<L: Bench, R: Wait>(
+    rt: &R,
+    shared: &Shared<'_, L>,
+    worker: &mut Worker<'_, L>,
+) -> Committed {
+    let mut board = shared.board.lock(rt);
+    board.commit(&mut worker.seat, &worker.strand)
 }

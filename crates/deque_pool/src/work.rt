@@ -1,9 +1,9 @@
 //! The loop of a worker on its thread.
 
 use crate::gate::Gate;
-use crate::turns::{TurnEnd, take_turn};
+use crate::turns::{commit, go};
 use crate::workers::Worker;
-use shared_run::{Bench, Claimed, Shared};
+use shared_run::{Bench, Claimed, Committed, Fetched, Shared};
 use std::sync::Wait;
 use std::sync::atomic::{AtomicBool, Ordering};
 use std::thread;
@@ -20,7 +20,7 @@ const DOUBLINGS: u32 = 4;
 /// What a worker does next.
 #[derive(Clone, Copy)]
 enum Next {
-    Turn,
+    Strand,
     Search,
     Rest,
     Leave,
@@ -32,22 +32,22 @@ pub(crate) fn work<L: Bench, G: Gate, R: Wait + Clock>(
     shared: &Shared<'_, L>,
     over: &AtomicBool,
     gate: &G,
-    worker: &mut Worker<L>,
+    worker: &mut Worker<'_, L>,
 ) {
     let me = worker.seat.worker();
     let mut next = begin(rt, shared, worker);
-    let mut turn: u64 = 0;
+    let mut strand: u64 = 0;
     let mut rests: u32 = 0;
     for _ in rt.forever() {
         if over.load(Ordering::SeqCst) {
             return;
         }
         match next {
-            Next::Turn => {
-                gate.pass(me, turn);
-                turn = turn.saturating_add(1);
+            Next::Strand => {
+                gate.pass(me, strand);
+                strand = strand.saturating_add(1);
                 rests = 0;
-                next = make_turn(rt, shared, worker);
+                next = do_strand(rt, shared, worker);
             }
             Next::Search => next = search(rt, shared, worker),
             Next::Rest => {
@@ -61,33 +61,43 @@ pub(crate) fn work<L: Bench, G: Gate, R: Wait + Clock>(
 }
 
 /// Worker 0 begins with `root`, and the others have no task.
-fn begin<L: Bench, R: Wait>(rt: &R, shared: &Shared<'_, L>, worker: &Worker<L>) -> Next {
+fn begin<L: Bench, R: Wait>(rt: &R, shared: &Shared<'_, L>, worker: &Worker<'_, L>) -> Next {
     let board = shared.board.lock(rt);
     match board.machine().depth_of(worker.seat.worker()) {
-        Some(_) => Next::Turn,
+        Some(_) => Next::Strand,
         None => Next::Search,
     }
 }
 
-/// One turn at the board; a task that it leaves ready is offered.
-fn make_turn<L: Bench, R: Wait>(rt: &R, shared: &Shared<'_, L>, worker: &mut Worker<L>) -> Next {
-    let mut board = shared.board.lock(rt);
-    let end = take_turn(&mut board, &mut worker.seat);
-    drop(board);
-    match end {
-        TurnEnd::Full => Next::Turn,
-        TurnEnd::Detached(ticket) => {
+/// One strand of the worker's task; a task that it leaves ready is offered.
+fn do_strand<L: Bench, R: Wait>(
+    rt: &R,
+    shared: &Shared<'_, L>,
+    worker: &mut Worker<'_, L>,
+) -> Next {
+    match go(rt, shared, worker) {
+        Fetched::Idle => return Next::Search,
+        // It has no room for the frame's path: as where memory was refused.
+        Fetched::Stranger => return Next::Leave,
+        Fetched::Frame | Fetched::Cell => {}
+    }
+    match commit(rt, shared, worker) {
+        Committed::After { ended: true, .. } | Committed::OutOfMemory => Next::Leave,
+        Committed::After {
+            ready: Some(ticket),
+            ..
+        } => {
             // A task whose ticket is refused is still found at the board.
             let _ = worker.hands.offer(ticket);
-            Next::Turn
+            Next::Strand
         }
-        TurnEnd::Idle => Next::Search,
-        TurnEnd::Ended | TurnEnd::Starved => Next::Leave,
+        Committed::After { idle: true, .. } => Next::Search,
+        Committed::After { .. } | Committed::Stranger => Next::Strand,
     }
 }
 
 /// Claims a task by a ticket, or, where there is none, the first that is ready.
-fn search<L: Bench, R: Wait>(rt: &R, shared: &Shared<'_, L>, worker: &mut Worker<L>) -> Next {
+fn search<L: Bench, R: Wait>(rt: &R, shared: &Shared<'_, L>, worker: &mut Worker<'_, L>) -> Next {
     let ticket = worker.next_ticket();
     let mut board = shared.board.lock(rt);
     let claimed = match ticket {
@@ -96,7 +106,7 @@ fn search<L: Bench, R: Wait>(rt: &R, shared: &Shared<'_, L>, worker: &mut Worker
     };
     drop(board);
     match claimed {
-        Claimed::Taken => Next::Turn,
+        Claimed::Taken => Next::Strand,
         Claimed::Gone if ticket.is_some() => Next::Search,
         Claimed::Gone => Next::Rest,
         Claimed::OutOfMemory => Next::Leave,

@@ -1,22 +1,26 @@
 //! The workers of a run.
 ghost use Rattle.std.specs.Prelude.{◌≡◌, vec_len, vec_capacity, ◌≤◌, IfOk};
+ghost use Rattle.shared_run.specs.crew.Starts.{ArePlaces};
+ghost use Rattle.shared_run.specs.schedule_core.Strands.{IsMadeOf};
 
 use crate::hands::{Hands, Thief};
 use crate::taken::Taken;
 use lists::OutOfMemory;
-use shared_run::{Bench, Seat, Ticket};
+use shared_run::{Bench, Places, Seat, Strand, Ticket, Verified, blank_strand};
 use std::alloc::Global;
 use std::sync::Mutex;
 
-/// A worker: its seat, its tickets, and its ends of the others' tickets, from the next worker on.
+/// A worker: its seat, its strand, its tickets, and its ends of the others' tickets, from the next worker on.
 #[derive(Drop)]
-pub(crate) struct Worker<L: Bench> {
+pub(crate) struct Worker<'p, L: Bench> {
     pub(crate) seat: Seat<L>,
+    pub(crate) strand: Strand<'p>,
     pub(crate) hands: Hands,
     pub(crate) thieves: Vec<Thief>,
+    ghost made: { IsMadeOf L.code strand },
 }
 
-impl<L: Bench> Worker<L> {
+impl<L: Bench> Worker<'_, L> {
     /// A ticket that is to be claimed: the worker's own newest, or else the oldest of another.
     pub(crate) fn next_ticket(&mut self) -> Option<Ticket> {
         if let Some(own) = self.hands.take_newest() {
@@ -32,10 +36,14 @@ impl<L: Bench> Worker<L> {
 }
 
 /// A worker for each seat, each in a lock for its thread, and in the opposite order, so that worker 0 is the last.
-pub(crate) fn crew_of<L: Bench>(
+pub(crate) fn crew_of<'p, L: Bench>(
     alloc: Global,
     mut seats: Vec<Seat<L>>,
-) -> Result<Vec<Mutex<Worker<L>>>, OutOfMemory>
+    verified: &'p Verified,
+    places: &'p Places,
+) -> Result<Vec<Mutex<Worker<'p, L>>>, OutOfMemory>
+    requires code { verified.now ≡ L.code }
+    requires places { ArePlaces verified.now places.now }
     ensures { IfOk result (λ crew. vec_len crew ≡ vec_len seats) }
 {
     let count = seats.len();
@@ -45,9 +53,11 @@ pub(crate) fn crew_of<L: Bench>(
         let Some(hands) = own.pop() else {
             return Err(OutOfMemory);
         };
+        let strand = blank_strand(alloc, verified, places)?;
         let thieves = thieves_from(alloc, &mut ends, seats.len())?;
         crew.push(Mutex::new(Worker {
             seat,
+            strand,
             hands,
             thieves,
         }))?;
@@ -88,11 +98,11 @@ fn thieves_from(
 
 /// The seats of all workers, in `room`, which is empty.
 pub(crate) fn seats_of<L: Bench>(
-    mut crew: Vec<Mutex<Worker<L>>>,
+    mut crew: Vec<Mutex<Worker<'_, L>>>,
     mut room: Vec<Seat<L>>,
 ) -> Vec<Seat<L>>
     requires { (vec_len room ≡ 0) × (vec_len crew ≤ vec_capacity room) }
-    ensures { vec_len result ≡ vec_len crew }
+    ensures { vec_len result ≡ vec_len crew.entry }
 {
     while let Some(worker) = crew.pop() {
         room.push_reserved(worker.into_inner().seat);

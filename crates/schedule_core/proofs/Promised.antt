@@ -65,7 +65,7 @@ given_on old new f given slot node stands = elim (f.uses slot node stands) [
 ]
 
 module _ (old : Stage) (k : Run) (many : length k.hands.items ≡ length old.run.hands.items) (moves : length k.moves.items ≡ length old.run.moves.items) (follows : Follows old.run.cactus k.cactus) (e : Event) where
-  machine_of : (m : IsMachine old) (events : List Event) → Replays (program_of old) m.arguments old.memory (workers_of old) events (with_run old k) → IsMachine (with_run old k)
+  pub machine_of : (m : IsMachine old) (events : List Event) → Replays (program_of old) m.arguments old.memory (workers_of old) events (with_run old k) → IsMachine (with_run old k)
   machine_of m events r = record {
     accepted = m.accepted;
     moves = subst (λ n. HasMoves (program_of old) n) (sym moves) m.moves;
@@ -82,7 +82,7 @@ module _ (old : Stage) (k : Run) (many : length k.hands.items ≡ length old.run
   machine_next : ReplaysOneMore old (with_run old k) e → IsMachine old → IsMachine (with_run old k)
   machine_next next m = machine_of m (m.events ++ e ∷ []) (next (program_of old) m.arguments old.memory (workers_of old) m.events m.replays)
 
-  machine_same : LeavesAsBefore old (with_run old k) → IsMachine old → IsMachine (with_run old k)
+  pub machine_same : LeavesAsBefore old (with_run old k) → IsMachine old → IsMachine (with_run old k)
   machine_same left m = machine_of m m.events (left.replays (program_of old) m.arguments old.memory (workers_of old) m.events m.replays)
 
   pub machine_after : (r : Result Bool OutOfMemory) → OnErr r (LeavesAsBefore old (with_run old k)) → OnOk r (ReplaysOneMore old (with_run old k) e) → ∥ IsMachine old ∥₁ → ∥ IsMachine (with_run old k) ∥₁

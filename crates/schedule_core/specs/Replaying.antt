@@ -1,8 +1,8 @@
 -- What events do to a stage, one and many.
-use Rattle.std.specs.Prelude.{◌≡◌, ℕ, ◌≤◌, ◌<◌, List, [], ◌∷◌, ◌++◌, length, reverse, map, sum, Bool, true, false, Some, None, ℤ}
+use Rattle.std.specs.Prelude.{◌≡◌, ⊤, ℕ, ◌≤◌, ◌<◌, List, [], ◌∷◌, ◌++◌, length, reverse, map, sum, Bool, true, false, Some, None, IsSome, ℤ}
 use Rattle.running.specs.Paths.{Path as RunningPath}
 use Rattle.running.specs.Events as running
-use Rattle.running.specs.Replay.{replay}
+use Rattle.running.specs.Replay.{or_unchanged, replay}
 use Rattle.running.specs.SerialMeaning.{Outcome, IsSerialMeaning}
 use Rattle.crew_promise.specs.conditions.theorem.Schedules.{KeepsSchedule}
 use Rattle.crew_promise.specs.verifier.Accepted.{IsAccepted}
@@ -48,6 +48,12 @@ GrowsOnly prog m (Step worker) = GrowsAtStep prog m worker
 GrowsOnly prog m (Steal worker path) = ⊥
 
 -- ---- many
+
+-- each event is enabled where it stands
+abbrev pub AreEnabled : Program → ℕ → List running.Event → running.Machine → Type 0
+AreEnabled prog workers [] m = ⊤
+AreEnabled prog workers (e ∷ events) m =
+    IsSome (running.event prog workers e m) × AreEnabled prog workers events (or_unchanged (running.event prog workers e m) m)
 
 -- the definitions' state before the first event
 abbrev pub first_state : Program → List ℤ → List NamedCells → running.Machine

@@ -3,6 +3,7 @@
 //! schedule, and a run is a function of it.
 #![tactic(auto)]
 
+mod absorb;
 mod event;
 mod events;
 mod globals;
@@ -15,6 +16,9 @@ mod stands;
 mod task;
 mod view;
 
+pub use absorb::{blank_strand, places_of, steps_of};
+pub use absorbing::{Pause, Strand};
+pub use engine::Places;
 pub use event::Event;
 pub use laws::ended_enables_nothing;
 pub use machine::Machine;

@@ -19,8 +19,8 @@ use Rattle.schedule_core.specs.verifier.Budgets.{budget_of}
 use Rattle.schedule_core.proofs.schedule_theorem.Bounds.{budget_bounded}
 use Rattle.schedule_core.specs.declared.event.Event.{Event}
 use Rattle.schedule_core.specs.declared.stage.Stage.{Stage}
-use Rattle.schedule_core.specs.Replaying.{event_of, KeepsItsSchedule}
-use Rattle.shared_run.specs.Story.{Origin, AreEnabled, IsLegal, first_of, reached}
+use Rattle.schedule_core.specs.Replaying.{AreEnabled, event_of, KeepsItsSchedule}
+use Rattle.shared_run.specs.Story.{Origin, IsLegal, first_of, reached}
 use Rattle.shared_run.proofs.Stories.{keeps}
 
 one_if : Option Path → ℕ

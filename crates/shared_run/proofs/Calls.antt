@@ -133,7 +133,7 @@ true_is true (Some z) e = refl
 true_is false None e = refl
 true_is false (Some z) e = absurd (let f : IsTrue false = e.1 refl in cc)
 
-none_is : (o : Option RunningPath) → is_none (option_map (λ (x : RunningPath). length x) o) ≡ is_none o
+pub none_is : (o : Option RunningPath) → is_none (option_map (λ (x : RunningPath). length x) o) ≡ is_none o
 none_is None = refl
 none_is (Some x) = refl
 

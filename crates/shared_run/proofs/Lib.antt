@@ -4,3 +4,4 @@ pub mod Stories
 pub mod Bound
 pub mod Begun
 pub mod Calls
+pub mod Commits

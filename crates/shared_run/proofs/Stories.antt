@@ -1,6 +1,6 @@
 -- What a legal history says of its machine, and an event more.
-use Rattle.std.proofs.Common.{◌≡◌, ℕ, ℤ, ◌≤◌, List, [], ◌∷◌, ◌++◌, map, length, reverse, Option, Some, None, Bool, true, false, refl, sym, ap, ◌∙◌, subst, arith}
-use Rattle.std.specs.Prelude.{IsSome, IfSome, is_none}
+use Rattle.std.proofs.Common.{◌≡◌, ℕ, ℤ, ◌≤◌, List, [], ◌∷◌, ◌++◌, map, reverse, Option, Some, None, true, false, refl, sym, ap, ◌∙◌, subst, arith}
+use Rattle.std.specs.Prelude.{IsSome, is_none}
 use Rattle.std.proofs.lemmas.List.{map-append, reverse-reverse}
 use Rattle.running.specs.Frames.{Frame}
 use Rattle.running.specs.Events as running
@@ -11,7 +11,6 @@ use Rattle.running.specs.Cells.{Shared}
 use Rattle.running.proofs.Workers.{Manned}
 use Rattle.program.specs.declared.function.Program.{Program}
 use Rattle.schedule_core.specs.verifier.Accepted.{IsAccepted}
-use Rattle.schedule_core.specs.store.Cells.{cell_at}
 use Rattle.schedule_core.specs.store.Made.{IsMadeFor}
 use Rattle.schedule_core.specs.outcome.Requirements.{unmet_in}
 use Rattle.schedule_core.specs.outcome.declared.outcome.Finished.{Finished}
@@ -21,10 +20,10 @@ use Rattle.schedule_core.proofs.Reached.{reached_manned, replay_more}
 use Rattle.schedule_core.specs.declared.event.Event.{Event}
 use Rattle.schedule_core.specs.declared.event.Event.TheVariants.{Step, Steal}
 use Rattle.schedule_core.specs.declared.stage.Stage.{Stage}
-use Rattle.schedule_core.specs.Replaying.{Becomes, event_of, Happens, IsNumberOfWorkers, KeepsItsSchedule, Replays, ReplaysOneMore, ReplaysTheSame}
+use Rattle.schedule_core.specs.Replaying.{AreEnabled, event_of, Happens, IsNumberOfWorkers, KeepsItsSchedule, Replays, ReplaysOneMore, ReplaysTheSame}
 use Rattle.schedule_core.specs.Stages.{given, HoldsGlobals, IsState, program_of, workers_of}
 use Rattle.shared_run.specs.Answer.{IsSerialAnswer}
-use Rattle.shared_run.specs.Story.{Origin, AreEnabled, IsLegal, first_of, reached}
+use Rattle.shared_run.specs.Story.{Origin, IsLegal, first_of, reached}
 
 pub enabled_more : (program : Program) (workers : ℕ) (events : List running.Event) (e : running.Event) (m : Machine) →
     AreEnabled program workers events m → IsSome (event program workers e (replay program workers events m)) → AreEnabled program workers (events ++ e ∷ []) m
@@ -70,6 +69,14 @@ module _ (o : Origin) (events : List Event) (stage : Stage) (legal : IsLegal o e
 
   pub untrapped : (reached o events).trapped ≡ None
   untrapped = keeps.schedule.no_trap.0
+
+  -- after whatever events
+  pub untrapped_after : (es : List Event) → (reached o es).trapped ≡ None
+  untrapped_after es = (schedule_of es).schedule.no_trap.0
+
+  pub manned_after : (es : List Event) → Manned o.workers (reached o es).core (reached o es).hands
+  manned_after es =
+      reached_manned o.program o.workers (reached o es) some (record { arguments = o.arguments; memory = given o.memory; events = map event_of es; after = refl }) (untrapped_after es)
 
   pub manned_here : Manned o.workers (reached o events).core (reached o events).hands
   manned_here = reached_manned o.program o.workers (reached o events) some (record { arguments = o.arguments; memory = given o.memory; events = map event_of events; after = refl }) untrapped

@@ -1,5 +1,5 @@
 -- What the calls of a board do.
-use Rattle.std.specs.Prelude.{◌≡◌, ◌↔◌, ℕ, ◌+◌, List, [], ◌∷◌, ◌++◌, length, Option, Some, None, Bool, true, false, is_none, is_some, IsSome, IfSome}
+use Rattle.std.specs.Prelude.{◌≡◌, ◌↔◌, ℕ, ℤ, ◌+◌, List, [], ◌∷◌, ◌++◌, length, replicate, Option, Some, None, Bool, true, false, is_none, is_some, IsSome, IfSome}
 use Rattle.std.specs.Option.{option_map}
 use Rattle.running.specs.Paths.{Path as RunningPath}
 use Rattle.running.specs.Frames.{Frame}
@@ -10,14 +10,23 @@ use Rattle.program.specs.declared.function.Program.{Program}
 use Rattle.frame.specs.declared.path.Path.{Path}
 use Rattle.schedule_core.specs.declared.event.Event.{Event}
 use Rattle.schedule_core.specs.declared.event.Event.TheVariants.{Step, Steal}
+use Rattle.schedule_core.specs.Strands.{Absorbs, FitsStage, IsLoaded, LacksRoom}
+use Rattle.schedule_core.specs.absorbing.Absorbing.{steps_in}
+use Rattle.schedule_core.specs.strand.declared.outside.Strand.{Strand}
+use Rattle.schedule_core.specs.strand.declared.standing.Pause.TheVariants.{Blank, Border, Need}
+use Rattle.schedule_core.specs.engine.Flat.{cell_in}
 use Rattle.schedule_core.specs.Replaying.{event_of, LeavesAsBefore, Replays}
 use Rattle.schedule_core.specs.Viewed.{place_in, status_in, IsFirstReady}
 use Rattle.shared_run.specs.declared.ticket.Ticket.{Ticket}
 use Rattle.shared_run.specs.declared.answers.Stepped.{Stepped}
 use Rattle.shared_run.specs.declared.answers.Stepped.TheVariants as stepped
+use Rattle.shared_run.specs.declared.answers.Fetched.{Fetched}
+use Rattle.shared_run.specs.declared.answers.Fetched.TheVariants as fetched
+use Rattle.shared_run.specs.declared.answers.Committed.{Committed}
+use Rattle.shared_run.specs.declared.answers.Committed.TheVariants as committed
 use Rattle.shared_run.specs.declared.answers.Claimed.{Claimed}
 use Rattle.shared_run.specs.declared.answers.Claimed.TheVariants as claimed
-use Rattle.shared_run.specs.Story.{Origin, Story, Place, place, named_by, state_of}
+use Rattle.shared_run.specs.Story.{Origin, Story, Place, place, named_by, state_of, story}
 
 -- nothing has happened yet
 pub record Begins (o : Origin) (s : Story) : Type 0 where
@@ -46,6 +55,20 @@ pub record Appends (more : List Event) (s t : Story) (p q : Place) : Type 0 wher
   pub start : t.start ≡ s.start
   pub events : t.events ≡ s.events ++ more
   pub share : q ≡ place p.worker (p.share + length more)
+
+-- the strand has one cell more that it read, and goes on
+pub record IsFilled (x y : Strand) (at z : ℤ) : Type 0 where
+  pub reads : y.course.cells.reads ≡ x.course.cells.reads ++ record { at = at; value = z } ∷ []
+  pub loaded : y.course.loaded ≡ x.course.loaded
+  pub path : y.course.path ≡ x.course.path
+  pub present : y.course.present ≡ x.course.present
+  pub done : y.course.done ≡ x.course.done
+  pub pause : y.pause ≡ None
+
+-- why a strand gets nothing: no cell stands at the address that it needs, it needs none and holds a frame, or the frame's path is too long
+abbrev pub IsStranger : Story → Place → Strand → Type 0
+IsStranger s p x =
+    ((at : ℤ) → x.pause ≡ Some (Need at) → cell_in s.stage.run.cells.cells.items at ≡ None) × (x.pause ≡ Some Blank → LacksRoom s.stage p.worker x)
 
 -- what the event makes of the state, where it is enabled
 abbrev pub outcome : Story → Event → Option Machine
@@ -94,6 +117,41 @@ Steps s t p q (stepped.Done ready idle ended) =
     × (ended ≡ is_some (state_of t).core.result)
 Steps s t p q stepped.Idle = Same s t p q × ((state_of s).hands p.worker ≡ None)
 Steps s t p q stepped.OutOfMemory = Stays s t p q
+
+-- ---- a strand
+
+-- what a strand gets
+abbrev pub Fetches : Story → Place → Strand → Strand → Fetched → Type 0
+Fetches s p x y fetched.Frame = (x.pause ≡ Some Blank) × IsLoaded s.stage p.worker y
+Fetches s p x y fetched.Cell = (at z : ℤ) × (x.pause ≡ Some (Need at)) × (cell_in s.stage.run.cells.cells.items at ≡ Some z) × IsFilled x y at z
+Fetches s p x y fetched.Idle = (y ≡ x) × (x.pause ≡ Some Blank) × ((state_of s).hands p.worker ≡ None)
+Fetches s p x y fetched.Stranger = (y ≡ x) × IsStranger s p x
+
+-- as many steps of the worker as a strand did instructions, up to its border's
+abbrev pub before_border : Story → Place → Strand → Story
+before_border s p x = story s.start (s.events ++ replicate x.course.done (Step p.worker)) s.stage
+
+-- it stands at a detach
+abbrev pub EndsInDetach : Story → Place → Strand → Type 0
+EndsInDetach s p x = (x.pause ≡ Some Border) × IsDetach s.start.program (state_of (before_border s p x)) p.worker
+
+-- the strand's instructions and its border's as steps of the seat's worker, or nothing
+abbrev pub Commits : Strand → Story → Story → Place → Place → Committed → Type 0
+Commits x s t p q (committed.After ready idle ended) =
+    FitsStage s.stage p.worker x
+    × Appends (replicate (steps_in x.pause x.course.done) (Step p.worker)) s t p q
+    × (IsSome ready ↔ EndsInDetach s p x)
+    × IfSome ready (IsParents (before_border s p x) t p.worker)
+    × (idle ≡ is_none ((state_of t).hands p.worker))
+    × (ended ≡ is_some (state_of t).core.result)
+Commits x s t p q committed.Stranger = Same s t p q × ¬ FitsStage s.stage p.worker x
+Commits x s t p q committed.OutOfMemory = Stays s t p q
+
+-- the strand fits, and its steps were appended; or it does not, and nothing was
+abbrev pub Absorbing : Strand → Story → Story → Place → Place → Bool → Type 0
+Absorbing x s t p q true =
+    FitsStage s.stage p.worker x × Appends (replicate (steps_in x.pause x.course.done) (Step p.worker)) s t p q × Absorbs s.stage t.stage p.worker x
+Absorbing x s t p q false = Same s t p q × ¬ FitsStage s.stage p.worker x
 
 -- ---- a claim
 

@@ -1,8 +1,6 @@
 -- What a board has done since its start.
-use Rattle.std.specs.Prelude.{◌≡◌, ℕ, ℤ, ◌<◌, List, [], ◌∷◌, length, map, Option, Some, None, IsSome, slice_get}
-use Rattle.running.specs.Events as running
-use Rattle.running.specs.Events.{Machine, event}
-use Rattle.running.specs.Replay.{or_unchanged}
+use Rattle.std.specs.Prelude.{◌≡◌, ℕ, ℤ, ◌<◌, List, length, map, Option, Some, None, slice_get}
+use Rattle.running.specs.Events.{Machine}
 use Rattle.program.specs.declared.function.Program.{Program}
 use Rattle.schedule_core.specs.verifier.Accepted.{IsAccepted}
 use Rattle.schedule_core.specs.store.Cells.{NamedCells}
@@ -11,7 +9,7 @@ use Rattle.frame.specs.declared.path.Path.{Path}
 use Rattle.schedule_core.specs.outcome.Requirements.{unmet_in}
 use Rattle.schedule_core.specs.declared.event.Event.{Event}
 use Rattle.schedule_core.specs.declared.stage.Stage.{Stage}
-use Rattle.schedule_core.specs.Replaying.{event_of, first_state, state_after, IsNumberOfWorkers, Replays}
+use Rattle.schedule_core.specs.Replaying.{AreEnabled, event_of, first_state, state_after, IsNumberOfWorkers, Replays}
 use Rattle.schedule_core.specs.Spots.{path_of_use}
 use Rattle.shared_run.specs.declared.ticket.Ticket.{Ticket}
 
@@ -52,11 +50,6 @@ reached o events = state_after o.program o.arguments o.memory o.workers events
 
 abbrev pub state_of : Story → Machine
 state_of s = reached s.start s.events
-
--- each event is enabled where it stands
-abbrev pub AreEnabled : Program → ℕ → List running.Event → Machine → Type 0
-AreEnabled program workers [] m = Unit {0}
-AreEnabled program workers (e ∷ events) m = IsSome (event program workers e m) × AreEnabled program workers events (or_unchanged (event program workers e m) m)
 
 -- the stage is the replay of the events, each of which was enabled; it is one of an accepted module, from arguments that `main` takes and memory
 -- that was made for the module

@@ -18,6 +18,37 @@ pub enum Stepped {
     OutOfMemory,
 }
 
+/// What a strand was given.
+#[derive(Clone, Copy, Debug, PartialEq, Eq)]
+pub enum Fetched {
+    /// The frame that the seat's worker runs next.
+    Frame,
+    /// The cell that it needs.
+    Cell,
+    /// Nothing: the worker runs no task.
+    Idle,
+    /// Nothing: the cell is gone, the strand is neither blank nor in need, or it has no room for the frame's path.
+    Stranger,
+}
+
+/// What a commit came to.
+#[derive(Clone, Copy)]
+pub enum Committed {
+    /// The strand's instructions were done, and its border's where it stands at one.
+    After {
+        /// Where the last one was a detach: the ticket of the task whose top detached the child.
+        ready: Option<Ticket>,
+        /// Whether the worker runs no task now.
+        idle: bool,
+        /// Whether `main` has returned.
+        ended: bool,
+    },
+    /// The worker runs no task, its frame or that frame's path is not the one that was loaded, or a cell that was read holds something else.
+    Stranger,
+    /// Memory was refused.
+    OutOfMemory,
+}
+
 /// What a claim came to.
 #[derive(Clone, Copy)]
 pub enum Claimed {

@@ -7,11 +7,13 @@ ghost use Rattle.schedule_core.specs.verifier.Budgets.{budget_of};
 ghost use Rattle.schedule_core.specs.Parents.{HasNoReadyParent, IsReadyParent};
 ghost use Rattle.schedule_core.specs.Replaying.{IsNumberOfWorkers, KeepsItsSchedule};
 ghost use Rattle.schedule_core.specs.Stages.{workers_of};
+ghost use Rattle.schedule_core.specs.Strands.{IsMadeOf};
+ghost use Rattle.schedule_core.specs.strand.declared.standing.Pause.TheVariants as pause;
 ghost use Rattle.shared_run.specs.Answer.{IsSerialAnswer};
-ghost use Rattle.shared_run.specs.Calls.{Begins, Claims, ClaimsFirst, IsOneBelow, Leaves, Steps, Takes, Tries, depth_in};
-ghost use Rattle.shared_run.specs.Story.{AreSeats, IsLegal, origin, state_of};
+ghost use Rattle.shared_run.specs.Calls.{Absorbing, Begins, Claims, ClaimsFirst, Commits, Fetches, IsOneBelow, Leaves, Stays, Steps, Takes, Tries, depth_in};
+ghost use Rattle.shared_run.specs.Story.{AreSeats, IsLegal, Place, origin, state_of};
 
-use crate::answers::{Claimed, Stepped};
+use crate::answers::{Claimed, Committed, Fetched, Stepped};
 use crate::bench::Bench;
 use crate::history::History;
 use crate::seat::Seat;
@@ -19,7 +21,9 @@ use crate::start::{Start, admitted};
 use crate::ticket::Ticket;
 use frame::Path;
 use lists::OutOfMemory;
-use schedule_core::{Event, Finished, Machine, Memory, RunFault, Verified};
+use schedule_core::{
+    Event, Finished, Machine, Memory, Pause, RunFault, Strand, Verified, steps_of,
+};
 use std::alloc::Global;
 use std::marker::Model;
 use std::sync::ledger::{Blank, Book, Share};
@@ -144,6 +148,98 @@ impl<'a, L: Bench> Board<'a, L> {
         }
     }
 
+    /// Does a strand's steps in the seat's name where the strand fits, and answers whether it does.
+    fn absorb(&mut self, seat: &mut Seat<L>, strand: &Strand<'_>) -> Result<bool, OutOfMemory>
+        requires made { IsMadeOf L.code strand.now }
+        ensures done { IfOk result (Absorbing strand.now self.old self.new seat.old seat.new) }
+        ensures refused { OnErr result (Stays self.old self.new seat.old seat.new) }
+    {
+        self.history.reserve()?;
+        match self.machine.absorb(seat.worker, strand) {
+            Ok(true) => {
+                let count = steps_of(strand);
+                self.history.push_steps(seat.worker, count);
+                self.book.add(&mut seat.share, count);
+                Ok(true)
+            }
+            Ok(false) => Ok(false),
+            Err(refused) => Err(refused),
+        }
+    }
+
+    /// What a strand of this module did outside of the board, as steps of the seat's worker: its instructions, and the border's where it
+    /// stands at one. So it is where the worker runs the frame that was loaded, at its path, and each cell that was read holds what was
+    /// read. Whatever others committed meanwhile, nothing else is compared.
+    pub fn commit(&mut self, seat: &mut Seat<L>, strand: &Strand<'_>) -> Committed
+        requires made { IsMadeOf L.code strand.now }
+        ensures { Commits strand.now self.old self.new seat.old seat.new result }
+    {
+        let worker = seat.worker();
+        let depth = self.machine().depth_of(worker);
+        match self.absorb(seat, strand) {
+            Ok(true) => {
+                let ready = self.parent_ticket(worker, depth);
+                let machine = self.machine();
+                Committed::After {
+                    ready,
+                    idle: machine.depth_of(worker).is_none(),
+                    ended: machine.ended(),
+                }
+            }
+            Ok(false) => Committed::Stranger,
+            Err(OutOfMemory) => Committed::OutOfMemory,
+        }
+    }
+
+    /// Gives a strand of this module what it waits for: a blank one the frame that the seat's worker runs next, and one in need its cell. It
+    /// takes no memory.
+    pub fn fetch(&self, seat: &Seat<L>, strand: &mut Strand<'_>) -> Fetched
+        requires made { IsMadeOf L.code strand.old }
+        ensures made { IsMadeOf L.code strand.new }
+        ensures fetches { Fetches self.now seat.now strand.old strand.new result }
+    {
+        match strand.pause() {
+            Some(Pause::Blank) => self.fetch_frame(seat, strand),
+            Some(Pause::Need { at }) => self.fetch_cell(strand, at),
+            _ => Fetched::Stranger,
+        }
+    }
+
+    /// Gives a blank strand the frame that the seat's worker runs next.
+    fn fetch_frame(&self, seat: &Seat<L>, strand: &mut Strand<'_>) -> Fetched
+        requires made { IsMadeOf L.code strand.old }
+        requires blank { strand.old.pause ≡ Some pause.Blank }
+        ensures made { IsMadeOf L.code strand.new }
+        ensures fetches { Fetches self.now seat.now strand.old strand.new result }
+    {
+        let worker = seat.worker();
+        let machine = self.machine();
+        if machine.depth_of(worker).is_none() {
+            return Fetched::Idle;
+        }
+        if machine.load_strand(worker, strand) {
+            Fetched::Frame
+        } else {
+            Fetched::Stranger
+        }
+    }
+
+    /// Gives a strand the cell at the address, which it needs.
+    fn fetch_cell(&self, strand: &mut Strand<'_>, at: i64) -> Fetched
+        requires made { IsMadeOf L.code strand.old }
+        requires needs { strand.old.pause ≡ Some (pause.Need at) }
+        ensures made { IsMadeOf L.code strand.new }
+        ensures fetches { (p : Place) → Fetches self.now p strand.old strand.new result }
+    {
+        match self.machine().cell_at(at) {
+            Some(value) => {
+                strand.fill(value);
+                Fetched::Cell
+            }
+            None => Fetched::Stranger,
+        }
+    }
+
     /// One steal of the ticket's task by the seat's worker.
     pub fn claim(&mut self, seat: &mut Seat<L>, ticket: Ticket) -> Claimed
         ensures { Claims ticket self.old self.new seat.old seat.new result }
@@ -195,6 +291,7 @@ impl<'a, L: Bench> Board<'a, L> {
     /// The machine: the replay of the history. Each event was enabled where it stands, and the schedule theorem holds.
     pub fn machine(&self) -> &Machine<'a>
         ensures stage { result.now.stage ≡ self.now.stage }
+        ensures code { self.now.start.program ≡ L.code }
         ensures crew { self.now.start.workers ≡ L.crew }
         ensures legal { IsLegal self.now.start self.now.events self.now.stage }
         ensures keeps { KeepsItsSchedule self.now.start.program self.now.start.arguments self.now.start.memory self.now.start.workers self.now.events }

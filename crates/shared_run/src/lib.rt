@@ -18,11 +18,13 @@ mod shared;
 mod start;
 mod ticket;
 
-pub use answers::{Claimed, Stepped};
+pub use answers::{Claimed, Committed, Fetched, Stepped};
 pub use bench::Bench;
 pub use board::Board;
 pub use history::{Entry, History};
-pub use schedule_core::{Finished, Memory, RunFault, Verified};
+pub use schedule_core::{
+    Finished, Memory, Pause, Places, RunFault, Strand, Verified, blank_strand, places_of,
+};
 pub use seat::Seat;
 pub use shared::Shared;
 pub use start::Start;

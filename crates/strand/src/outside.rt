@@ -141,6 +141,13 @@ impl<'p> Strand<'p> {
         self.pause
     }
 
+    /// For how many numbers of a path it has room.
+    pub fn room(&self) -> usize
+        ensures { result ≡ vec_capacity self.now.course.path }
+    {
+        self.course.path.capacity()
+    }
+
     /// The frame as it was loaded.
     pub fn loaded(&self) -> &Frame
         ensures { result.now ≡ self.now.course.loaded }

@@ -1,4 +1,4 @@
-use Rattle.std.proofs.Common.{Bool, refl, sym, ap, ◌∙◌, ◌∷◌, ◌++◌, [], subst, length, length-append, arith}
+use Rattle.std.proofs.Common.{Bool, refl, ap, ◌∙◌, ◌∷◌, ◌++◌, [], subst, length, length-append, arith}
 use Rattle.std.specs.Prelude.{Ok}
 use Rattle.crew.proofs.Growing.{on_err}
 use Rattle.schedule_core.specs.Replaying.{Happens, event_of}

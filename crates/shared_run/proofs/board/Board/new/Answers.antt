@@ -1,4 +1,4 @@
-use Rattle.std.proofs.Common.{◌≡◌, sym, ap, ◌∙◌, length, subst}
+use Rattle.std.proofs.Common.{sym, ap, ◌∙◌, length, subst}
 use Rattle.schedule_core.specs.store.Made.{IsMadeFor}
 use Rattle.shared_run.specs.Story.{Origin, origin}
 use Rattle.shared_run.proofs.Stories.{legal_begin, legal_start}

@@ -1,6 +1,5 @@
-use Rattle.std.proofs.Common.{◌≡◌, ap, ◌∙◌}
+use Rattle.std.proofs.Common.{ap, ◌∙◌}
 use Rattle.std.specs.Prelude.{is_none}
-use Rattle.running.specs.Events.{Machine}
 use Rattle.schedule_core.specs.Stages.{IsState}
 use Rattle.shared_run.specs.Story.{Story, state_of}
 use Rattle.shared_run.proofs.Calls.{is_none_by, steps_done, steps_idle}

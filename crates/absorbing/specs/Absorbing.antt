@@ -1,0 +1,61 @@
+-- What a run comes to that takes over a strand.
+use Rattle.std.specs.Prelude.{ℕ, suc, length, Option, Some, None}
+use Rattle.running.specs.Paths.{Path}
+use Rattle.running.specs.Cells.{Object}
+use Rattle.running.specs.Frames as frames
+use Rattle.running.specs.Events.{Machine}
+use Rattle.running.specs.Replay.{replay}
+use Rattle.program.specs.declared.function.Program.{Program}
+use Rattle.std.specs.Prelude.{◌≡◌, ℤ}
+use Rattle.strands.specs.Law.{Happen, steps_by}
+use Rattle.engine.specs.declared.activation.Places.{Places}
+use Rattle.strand.specs.Alone.{StaysSafeAlone}
+use Rattle.strand.specs.declared.outside.Strand.{Strand}
+use Rattle.strand.specs.declared.standing.Pause.{Pause}
+use Rattle.strand.specs.declared.standing.Pause.TheVariants.{Blank, Border, Limit, Full, Need}
+use Rattle.crew.specs.declared.run.Run.{Run}
+use Rattle.crew.specs.Going.{RunsSafely}
+use Rattle.crew.specs.Layouts.{living}
+use Rattle.crew.specs.Shown.{IsShown}
+use Rattle.crew.specs.Stalls.{Blocks, StallsAgree, last_blocks}
+
+-- whatever a worker's frame does by itself is safe, with other numbers in the cells of living objects at each step
+abbrev pub GoesAloneIn : Program → Machine → Type 0
+GoesAloneIn prog m =
+    (worker : ℕ) (p : Path) (f : frames.Frame) → m.hands worker ≡ Some p → m.core.frames p ≡ Some f → (at : Object → ℤ) →
+    StaysSafeAlone prog (record { at = at; cells = living prog m.core }) p f
+
+-- some machine is shown, from which each schedule is safe, and whose workers' frames may go on alone
+pub record StandsAlone (prog : Program) (places : Places) (k : Run) : Type 0 where
+  pub machine : Machine
+  pub shown : IsShown prog places machine k
+  pub safe : RunsSafely prog (length k.hands.items) machine
+  pub alone : GoesAloneIn prog machine
+
+-- its instructions, and the border's where it stands at one
+abbrev pub steps_in : Option Pause → ℕ → ℕ
+steps_in None done = done
+steps_in (Some Blank) done = done
+steps_in (Some Border) done = suc done
+steps_in (Some Limit) done = done
+steps_in (Some Full) done = done
+steps_in (Some (Need at)) done = done
+
+-- whatever machine is shown, as many steps of the worker happen, and the machine after them is shown
+abbrev pub DoesStrand : Program → Places → Run → Run → ℕ → Strand → Type 0
+DoesStrand prog places old new worker x =
+    (m : Machine) → IsShown prog places m old → RunsSafely prog (length old.hands.items) m → GoesAloneIn prog m →
+    (after : Machine) × Happen prog (length old.hands.items) (steps_by worker (steps_in x.pause x.course.done)) m after × IsShown prog places after new
+
+-- whatever machine is shown, the worker runs the same frame after the strand's instructions, before the border's
+abbrev pub KeepsHand : Program → Places → Run → ℕ → Strand → Type 0
+KeepsHand prog places old worker x =
+    (m : Machine) → IsShown prog places m old → RunsSafely prog (length old.hands.items) m → GoesAloneIn prog m →
+    (replay prog (length old.hands.items) (steps_by worker x.course.done) m).hands worker ≡ m.hands worker
+
+-- whatever machine is shown, frames that are stalled are so at their last instructions, after so many steps of the worker
+abbrev pub LeavesStallsBy : Program → Places → Run → Run → ℕ → ℕ → Type 0
+LeavesStallsBy prog places old new worker steps =
+    (m : Machine) → IsShown prog places m old → RunsSafely prog (length old.hands.items) m → GoesAloneIn prog m →
+    (last : Blocks) → StallsAgree last old.cactus →
+    StallsAgree (last_blocks prog (length old.hands.items) (steps_by worker steps) m last) new.cactus

@@ -1,0 +1,6 @@
+pub mod Absorbing
+pub mod Fitting
+pub mod Putting
+-- for the crates above
+pub use Rattle.strand.specs as strand
+pub use Rattle.strands.specs as strands

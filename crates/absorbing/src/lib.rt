@@ -1,0 +1,11 @@
+//! A strand's instructions, done at once as steps of the worker whose frame it was loaded from.
+#![tactic(auto)]
+
+mod cells;
+mod fitting;
+mod taking;
+
+pub use cells::{cell, put_writes};
+pub use fitting::fitting_slot;
+pub use strand::{Pause, Strand};
+pub use taking::absorb;

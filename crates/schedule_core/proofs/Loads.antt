@@ -1,0 +1,120 @@
+-- A worker's frame as a strand is loaded with it.
+use Rattle.std.proofs.Common.{◌≡◌, ◌≢◌, ℕ, ℤ, List, [], Option, Some, None, Bool, true, false, cond, refl, sym, ap, ◌∙◌, slice_get}
+use Rattle.std.specs.Option.{option_map}
+use Rattle.std.proofs.Math.Logic.{∥∥₁_elim, ∥∥₁_map}
+use Rattle.std.proofs.Props.{props}
+use Rattle.std.proofs.Math.Nat.{ℕ_set}
+use Rattle.std.proofs.Math.IntN.{ℤ_set}
+use mathlib.Core.Sum.{⊎_set}
+use Rattle.program.specs.declared.function.Program.{Program}
+use Rattle.cactus.specs.declared.node.Node.{Node}
+use Rattle.cactus.specs.Frames.{node_at}
+use Rattle.engine.specs.Activation.{FrameFits}
+use Rattle.engine.specs.Shows.{Layout}
+use Rattle.engine.specs.declared.activation.Places.{Places}
+use Rattle.absorbing.specs.Fitting.{FitsRun, HoldReads}
+use Rattle.absorbing.specs.strand.Along.{IsGoing, MayBegin, MayGo, pause_in}
+use Rattle.absorbing.specs.strand.Standing.{IsCopy}
+use Rattle.absorbing.specs.strand.declared.cells.Read.{Read}
+use Rattle.absorbing.specs.strand.declared.outside.Strand.{Strand}
+use Rattle.absorbing.specs.strand.declared.standing.Course.{Course}
+use Rattle.absorbing.specs.strand.declared.standing.Pause.{Pause}
+use Rattle.absorbing.specs.strand.declared.standing.Pause.TheVariants.{Blank}
+use Rattle.absorbing.specs.strands.Footprint.{Footprint, held}
+use Rattle.absorbing.specs.strands.Strands as strands
+use Rattle.absorbing.specs.strands.Strands.{Access, Nowhere, Loads, Stores, Adds, access_of, is_border, is_full, most_done, need, next_of, pause_of}
+use Rattle.std.specs.Prelude.{is_some, nat_le}
+use Rattle.crew.specs.declared.activation.Activation.{Activation}
+use Rattle.crew.specs.Layouts.{layout_of, object_at}
+use Rattle.crew.specs.Scheduling.{hand_of}
+use Rattle.crew.specs.Shown.{place_of}
+use Rattle.crew.proofs.Onward.{fits_prop, seen}
+use Rattle.schedule_core.specs.declared.stage.Stage.{Stage}
+use Rattle.schedule_core.specs.Replaying.{IsMachine, state_after}
+use Rattle.schedule_core.specs.Stages.{program_of, workers_of}
+use Rattle.schedule_core.specs.Strands.{IsLoaded}
+use Rattle.schedule_core.proofs.Views.{hand_is}
+
+module _ (stage : Stage) (kept : ∥ IsMachine stage ∥₁) (worker slot : ℕ) (node : Node Activation) (hand : hand_of stage.run.hands.items worker ≡ Some slot) (stands : node_at stage.run.cactus slot ≡ Some node) where
+  pub frame_fits : FrameFits (program_of stage) node.frame.frame
+  frame_fits = ∥∥₁_elim kept (fits_prop (program_of stage) node.frame.frame) (λ k. (k.replays.state.shown.agrees.nodes slot node stands).fits)
+
+  pub may_begin : ∥ MayBegin (program_of stage) stage.places node.path.numbers node.frame.frame ∥₁
+  may_begin =
+      ∥∥₁_map kept (λ k.
+      let m = state_after (program_of stage) k.arguments stage.memory (workers_of stage) k.events in
+      let s = k.replays.state in
+      let g = seen (program_of stage) stage.places stage.run slot node node.frame stands m s.shown in
+      record {
+        layout = layout_of (program_of stage) stage.places stage.run.cactus m.core;
+        frame = g.frame;
+        goes = record {
+          shown = g.shows.shown;
+          apart = s.shown.shows.cells.apart;
+          stays = s.well.alone [] worker (place_of node) g.frame (hand_is stage m s worker slot node hand stands) g.is (object_at stage.places stage.run.cactus);
+        };
+      })
+
+-- ---- a loaded strand is not blank
+
+blank_never : (l : Layout) (o : Option strands.Pause) → o ≢ Some strands.Blank → option_map (pause_in l) o ≡ Some Blank → ⊥
+blank_never l None off e = absurd (cc)
+blank_never l (Some strands.Blank) off e = off refl
+blank_never l (Some strands.Border) off e = absurd (cc)
+blank_never l (Some strands.Limit) off e = absurd (cc)
+blank_never l (Some strands.Full) off e = absurd (cc)
+blank_never l (Some (strands.Need c)) off e = absurd (cc)
+
+need_never : (f : Footprint) (a : Access) → need f a ≡ Some strands.Blank → ⊥
+need_never f Nowhere e = absurd (cc)
+need_never f (Stores c) e = absurd (cc)
+need_never f (Adds c) e = absurd (cc)
+need_never f (Loads c) e = by (is_some (held f c)) e
+  where
+    by : (b : Bool) → cond b None (Some (strands.Need c)) ≡ Some strands.Blank → ⊥
+    by true e = cc
+    by false e = cc
+
+pause_never : (prog : Program) (s : strands.Strand) → pause_of prog s ≡ Some strands.Blank → ⊥
+pause_never prog s = by (is_border (next_of prog s.present)) (nat_le most_done s.done) (is_full s.footprint (access_of prog s.present))
+  where
+    by : (a b c : Bool) → cond a (Some strands.Border) (cond b (Some strands.Limit) (cond c (Some strands.Full) (need s.footprint (access_of prog s.present)))) ≡ Some strands.Blank → ⊥
+    by true b c e = cc
+    by false true c e = cc
+    by false false true e = cc
+    by false false false e = need_never s.footprint (access_of prog s.present) e
+
+pub going_not_blank : (prog : Program) (places : Places) (x : Course) (pause : Option Pause) → ∥ IsGoing prog places x pause ∥₁ → pause ≢ Some Blank
+going_not_blank prog places x pause going blank =
+    ∥∥₁_elim going (Prim.hlevel (props, ⊎_set, ℕ_set, ℤ_set)) (λ g.
+    let start : MayGo prog places x = g.way.started in
+    let strand = (g.way.along start.layout start.frame start.goes).strand in
+    blank_never start.layout (pause_of prog strand) (pause_never prog strand) ((g.pauses start.layout start.frame start.goes).is ∙ blank))
+
+-- ---- what is loaded fits
+
+none_read : (reads : List Read) (row : List ℤ) → reads ≡ [] → HoldReads reads row
+none_read reads row none i r e = absurd (let f : None ≡ Some r = sym (ap (λ (l : List Read). slice_get l i) none) ∙ e in cc)
+
+pub is_loaded : (stage : Stage) (worker slot : ℕ) (node : Node Activation) (x : Strand) → hand_of stage.run.hands.items worker ≡ Some slot → node_at stage.run.cactus slot ≡ Some node →
+    x.course.path.items ≡ node.path.numbers → IsCopy node.frame.frame x.course.loaded → x.course.done ≡ 0 → x.course.cells.reads ≡ [] → x.pause ≢ Some Blank → IsLoaded stage worker x
+is_loaded stage worker slot node x hand stands path copy done reads going = record { fits = (going, (slot, fits)); done = done; reads = reads }
+  where
+    fits : FitsRun stage.run worker x slot
+    fits = record {
+      node = node;
+      hand = hand;
+      stands = stands;
+      path = sym path;
+      frame = record {
+        function = sym copy.function;
+        place = sym copy.place;
+        registers = sym copy.registers;
+        home = sym copy.home;
+        made = sym copy.made;
+        waits = sym copy.waits;
+        role = sym copy.role;
+        depth = sym copy.depth;
+      };
+      reads = none_read x.course.cells.reads stage.run.cells.cells.items reads;
+    }

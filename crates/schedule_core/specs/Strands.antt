@@ -1,0 +1,45 @@
+-- What strands are to a stage: copies of a worker's frame that went on apart.
+use Rattle.std.specs.Prelude.{◌≡◌, ◌≢◌, ℕ, ◌<◌, [], length, replicate, Some, vec_capacity}
+use Rattle.running.specs.Paths.{Path}
+use Rattle.running.specs.Events as running
+use Rattle.running.specs.Replay.{replay}
+use Rattle.program.specs.declared.function.Program.{Program}
+use Rattle.absorbing.specs.Absorbing.{steps_in}
+use Rattle.absorbing.specs.Fitting.{FitsRun}
+use Rattle.absorbing.specs.strand.declared.outside.Strand.{Strand}
+use Rattle.absorbing.specs.strand.declared.standing.Pause.TheVariants.{Blank}
+use Rattle.absorbing.specs.strands.Law.{steps_by}
+use Rattle.crew.specs.Starts.{ArePlaces}
+use Rattle.schedule_core.specs.declared.event.Event.TheVariants.{Step}
+use Rattle.schedule_core.specs.declared.stage.Stage.{Stage}
+use Rattle.schedule_core.specs.Replaying.{AreEnabled, ReplaysMore}
+use Rattle.schedule_core.specs.Stages.{IsState, program_of, workers_of}
+
+-- the strand was made for the module
+pub record IsMadeOf (program : Program) (x : Strand) : Type 0 where
+  pub module_is : x.program.now ≡ program
+  pub places_are : ArePlaces program x.places.now
+
+-- the worker runs the frame that was loaded, word for word, at its path, and each cell that was read holds what was read
+abbrev pub FitsStage : Stage → ℕ → Strand → Type 0
+FitsStage stage worker x = (x.pause ≢ Some Blank) × ((slot : ℕ) × FitsRun stage.run worker x slot)
+
+-- the strand is of the worker's frame, before its first instruction
+pub record IsLoaded (stage : Stage) (worker : ℕ) (x : Strand) : Type 0 where
+  pub fits : FitsStage stage worker x
+  pub done : x.course.done ≡ 0
+  pub reads : x.course.cells.reads ≡ []
+
+-- the worker runs no frame, or one at a longer path than the strand has room for
+abbrev pub LacksRoom : Stage → ℕ → Strand → Type 0
+LacksRoom stage worker x =
+    (m : running.Machine) → IsState stage m → (p : Path) → m.hands worker ≡ Some p → vec_capacity x.course.path < length p
+
+-- How many instructions of the worker a strand is: its own, and the border's where it stands at one. Each of these steps is enabled, after them
+-- the stage is the other, and up to the border the worker runs the same frame.
+pub record Absorbs (old new : Stage) (worker : ℕ) (x : Strand) : Type 0 where
+  pub replays : ReplaysMore old new (replicate (steps_in x.pause x.course.done) (Step worker))
+  pub enabled : (m : running.Machine) → IsState old m →
+      AreEnabled (program_of old) (workers_of old) (steps_by worker (steps_in x.pause x.course.done)) m
+  pub hand : (m : running.Machine) → IsState old m →
+      (replay (program_of old) (workers_of old) (steps_by worker x.course.done) m).hands worker ≡ m.hands worker

@@ -1,0 +1,135 @@
+//! Strands: what a worker did outside of the machine on a copy of its frame, done at once.
+ghost use Rattle.std.specs.Prelude.{◌≡◌, ◌↔◌, ℤ, IfOk, IsTrue, Ok, OnErr, Some, false, true};
+ghost use Rattle.running.specs.Cells.{Cell};
+ghost use Rattle.running.specs.Events.{Machine as RunningMachine};
+ghost use Rattle.engine.specs.Flat.{cell_in};
+ghost use Rattle.engine.specs.Shows.{address};
+ghost use Rattle.absorbing.specs.Absorbing.{steps_in};
+ghost use Rattle.absorbing.specs.strand.declared.standing.Pause.TheVariants.{Blank};
+ghost use Rattle.crew.specs.Follows.{Follows};
+ghost use Rattle.crew.specs.Layouts.{layout_of};
+ghost use Rattle.crew.specs.Starts.{ArePlaces};
+ghost use Rattle.schedule_core.specs.Replaying.{IsMachine, LeavesAsBefore};
+ghost use Rattle.schedule_core.specs.Spots.{KeepsSpots};
+ghost use Rattle.schedule_core.specs.Stages.{IsState, program_of};
+ghost use Rattle.schedule_core.specs.Strands.{Absorbs, FitsStage, IsLoaded, IsMadeOf, LacksRoom};
+
+use crate::machine::Machine;
+use crate::stage::Stage;
+use absorbing::{Pause, Strand, absorb, cell};
+use engine::Places;
+use lists::OutOfMemory;
+use outcome::Verified;
+use std::alloc::Global;
+
+/// Where the objects of a module begin: what its strands are made with.
+///
+/// # Errors
+///
+/// Memory was refused.
+pub fn places_of(alloc: Global, verified: &Verified) -> Result<Places, OutOfMemory>
+    ensures { IfOk result (ArePlaces verified.now) }
+{
+    Places::of_program(alloc, verified.program())
+}
+
+/// A blank strand of the module, with room for the frames of its runs.
+///
+/// # Errors
+///
+/// Memory was refused.
+pub fn blank_strand<'p>(
+    alloc: Global,
+    verified: &'p Verified,
+    places: &'p Places,
+) -> Result<Strand<'p>, OutOfMemory>
+    requires { ArePlaces verified.now places.now }
+    ensures made { IfOk result (IsMadeOf verified.now) }
+    ensures blank { IfOk result (λ strand. strand.pause ≡ Some Blank) }
+{
+    Strand::new(alloc, verified.program(), places, verified.depth() as usize)
+}
+
+/// How many steps of its worker a strand is: its instructions, and the border's where it stands at one.
+pub fn steps_of(strand: &Strand<'_>) -> u64
+    ensures { result ≡ steps_in strand.now.pause strand.now.course.done }
+{
+    match strand.pause() {
+        Some(Pause::Border) => strand.done() + 1,
+        _ => strand.done(),
+    }
+}
+
+/// A strand's steps, if the strand fits. The answer is whether it does; where it does not, nothing changes.
+fn absorb_into(
+    stage: &mut Stage<'_>,
+    worker: u8,
+    strand: &Strand<'_>,
+) -> Result<bool, OutOfMemory>
+    requires machine { ∥ IsMachine stage.old ∥₁ }
+    requires made { IsMadeOf (program_of stage.old) strand.now }
+    ensures exactly { IfOk result (λ done. IsTrue done ↔ FitsStage stage.old worker strand.now) }
+    ensures does { result ≡ Ok true → Absorbs stage.old stage.new worker strand.now }
+    ensures left { result ≡ Ok false → stage.new ≡ stage.old }
+    ensures refused { OnErr result (LeavesAsBefore stage.old stage.new) }
+    ensures machine { ∥ IsMachine stage.new ∥₁ }
+    ensures follows { Follows stage.old.run.cactus stage.new.run.cactus }
+    ensures memory { stage.new.memory ≡ stage.old.memory }
+{
+    let program = stage.verified.program();
+    absorb(&mut stage.run, program, &stage.places, worker, strand)
+}
+
+impl Machine<'_> {
+    /// Does what a strand did as steps of the worker, and the border's with them where the strand stands at one, if the worker runs the
+    /// loaded frame at its path and each cell that was read holds what was read. The answer is whether that is so; if not, nothing changes.
+    ///
+    /// # Errors
+    ///
+    /// Memory was refused: nothing has changed that is seen of the machine.
+    pub fn absorb(&mut self, worker: u8, strand: &Strand<'_>) -> Result<bool, OutOfMemory>
+        requires made { IsMadeOf (program_of self.old.stage) strand.now }
+        ensures exactly { IfOk result (λ done. IsTrue done ↔ FitsStage self.old.stage worker strand.now) }
+        ensures does { result ≡ Ok true → Absorbs self.old.stage self.new.stage worker strand.now }
+        ensures left { result ≡ Ok false → self.new.stage ≡ self.old.stage }
+        ensures refused { OnErr result (LeavesAsBefore self.old.stage self.new.stage) }
+        ensures spots { KeepsSpots self.old.stage.run.cactus self.new.stage.run.cactus }
+        ensures names { self.new.stage.memory ≡ self.old.stage.memory }
+    {
+        absorb_into(&mut self.stage, worker, strand)
+    }
+
+    /// Loads the frame that the worker runs next into a blank strand; it takes no memory. The answer is whether there is such a frame, and
+    /// the strand has room for its path; if not, the strand is as it was.
+    pub fn load_strand(&self, worker: u8, strand: &mut Strand<'_>) -> bool
+        requires made { IsMadeOf (program_of self.now.stage) strand.old }
+        requires blank { strand.old.pause ≡ Some Blank }
+        ensures made { IsMadeOf (program_of self.now.stage) strand.new }
+        ensures loaded { IsTrue result → IsLoaded self.now.stage worker strand.new }
+        ensures not_loaded { result ≡ false → strand.new ≡ strand.old }
+        ensures lacks { result ≡ false → LacksRoom self.now.stage worker strand.old }
+    {
+        let Some(slot) = self.stage.run.hand(worker) else {
+            return false;
+        };
+        let Some(node) = self.stage.run.cactus.node(slot) else {
+            return false;
+        };
+        let path = node.path.numbers.as_slice();
+        if path.len() <= strand.room() {
+            strand.load(&node.frame.frame, path);
+            true
+        } else {
+            false
+        }
+    }
+
+    /// What the cell at an address holds; none where there is no such cell.
+    pub fn cell_at(&self, at: i64) -> Option<i64>
+        ensures value { result ≡ cell_in self.now.stage.run.cells.cells.items at }
+        ensures shown { (m : RunningMachine) → IsState self.now.stage m → (c : Cell) (z : ℤ) → m.core.memory c ≡ Some z →
+            at ≡ address (layout_of (program_of self.now.stage) self.now.stage.places self.now.stage.run.cactus m.core) c → result ≡ Some z }
+    {
+        cell(self.stage.run.cells.cells.as_slice(), at)
+    }
+}

@@ -1,0 +1,88 @@
+use Rattle.std.proofs.Common.{◌≡◌, ◌+◌, false, refl, sym, ap, ◌∙◌, ◌++◌, replicate, subst, length, length-append, arith}
+use Rattle.std.proofs.lemmas.List.{length-replicate}
+use Rattle.std.specs.Prelude.{IsTrue, Ok}
+use Rattle.crew.proofs.Growing.{on_err}
+use Rattle.program.specs.declared.function.Program.{Program}
+use Rattle.schedule_core.specs.absorbing.Absorbing.{steps_in}
+use Rattle.schedule_core.specs.declared.event.Event.TheVariants.{Step}
+use Rattle.schedule_core.specs.Strands.{FitsStage, IsMadeOf}
+use Rattle.shared_run.specs.Story.{IsLegal, place, story}
+use Rattle.shared_run.proofs.Bound.{room}
+use Rattle.shared_run.proofs.Calls.{same_story, stays_same}
+use Rattle.shared_run.proofs.Commits.{legal_absorbed}
+use Rattle.shared_run.proofs.board.Board.absorb.Goals as goal
+
+pub absorb-requires-clause-made : goal.absorb-requires-clause-made
+absorb-requires-clause-made g c = subst (λ (q : Program). IsMadeOf q c.args.strand.now) (sym (c.self.invariant.0.replays.program ∙ c.self.invariant.2)) c.requires.made
+
+pub push_steps-requires-clause-count : goal.push_steps-requires-clause-count
+push_steps-requires-clause-count g c =
+    let o = c.self.inside.start in
+    let events = c.self.inside.history.events in
+    let w = c.seat.inside.worker in
+    let x = c.args.strand.now in
+    let more = events ++ replicate (steps_in x.pause x.course.done) (Step w) in
+    let absorbs = c.in-Ok-true.ensures.does (ap Ok c.in-Ok-true.field-0-test) in
+    let legal : IsLegal o more c.absorb.new.self.stage = legal_absorbed o events c.self.inside.machine.stage c.self.invariant.0 c.absorb.new.self.stage w x absorbs more refl in
+    let small = room o more c.absorb.new.self.stage legal in
+    let long = length-append events (replicate (steps_in x.pause x.course.done) (Step w)) in
+    let steps = length-replicate (steps_in x.pause x.course.done) (Step w) in
+    let same = ap length c.reserve.ensures.events in
+    omega (arith, small, long, steps, same, c.steps_of-count.ensures)
+
+pub invariant_of-self-in-Ok-true : goal.invariant_of-self-in-Ok-true
+invariant_of-self-in-Ok-true g c =
+    let o = c.self.inside.start in
+    let events = c.self.inside.history.events in
+    let w = c.seat.inside.worker in
+    let x = c.args.strand.now in
+    let n = steps_in x.pause x.course.done in
+    let absorbs = c.in-Ok-true.ensures.does (ap Ok c.in-Ok-true.field-0-test) in
+    let more : c.push_steps.new.self.events ≡ events ++ replicate n (Step w) =
+    c.push_steps.ensures ∙ (ap (λ xs. xs ++ replicate c.steps_of-count.result (Step w)) c.reserve.ensures.events ∙ ap (λ k. events ++ replicate k (Step w)) c.steps_of-count.ensures) in
+    let count = ap length more in (
+      legal_absorbed o events c.self.inside.machine.stage c.self.invariant.0 c.absorb.new.self.stage w x absorbs c.push_steps.new.self.events more,
+      omega (arith, count, length-append events (replicate n (Step w)), length-replicate n (Step w), c.add.ensures.total, c.self.invariant.1, c.steps_of-count.ensures),
+      c.self.invariant.2,
+      c.self.invariant.3,
+    )
+
+pub returns-in-Ok-true-clause-done : goal.returns-in-Ok-true-clause-done
+returns-in-Ok-true-clause-done g c =
+    let events = c.self.inside.history.events in
+    let w = c.seat.inside.worker in
+    let x = c.args.strand.now in
+    let n = steps_in x.pause x.course.done in
+    let more : c.push_steps.new.self.events ≡ events ++ replicate n (Step w) =
+    c.push_steps.ensures ∙ (ap (λ xs. xs ++ replicate c.steps_of-count.result (Step w)) c.reserve.ensures.events ∙ ap (λ k. events ++ replicate k (Step w)) c.steps_of-count.ensures) in
+    rw (← c.self.view_is, ← c.seat.view_is) (
+      (c.in-Ok-true.ensures.exactly).0 c.in-Ok-true.field-0-test,
+      record {
+        start = refl;
+        events = more;
+        share = ap (place w) (c.add.ensures.amount ∙ ap (λ k. c.seat.inside.share.amount + k) (c.steps_of-count.ensures ∙ sym (length-replicate n (Step w))));
+      },
+      c.in-Ok-true.ensures.does (ap Ok c.in-Ok-true.field-0-test),
+    )
+
+pub returns-in-Ok-false-clause-done : goal.returns-in-Ok-false-clause-done
+returns-in-Ok-false-clause-done g c =
+    let o = c.self.inside.start in
+    let events = c.self.inside.history.events in
+    let stage = c.self.inside.machine.stage in
+    rw (← c.self.view_is, ← c.seat.view_is) (
+      (same_story o events c.reserve.new.self.events stage c.absorb.new.self.stage c.reserve.ensures.events (c.in-Ok-false.ensures.left (ap Ok c.in-Ok-false.field-0-test)), refl),
+      λ (fits : FitsStage stage c.seat.inside.worker c.args.strand.now). (let here : IsTrue c.in-Ok-false.field-0 = (c.in-Ok-false.ensures.exactly).1 fits in let off : c.in-Ok-false.field-0 ≡ false = c.in-Ok-false.field-0-test in cc),
+    )
+
+pub returns-in_err-reserve-clause-refused : goal.returns-in_err-reserve-clause-refused
+returns-in_err-reserve-clause-refused g c =
+    let o = c.self.inside.start in
+    let stage = c.self.inside.machine.stage in
+    let events = c.self.inside.history.events in
+    rw (← c.self.view_is)
+    (on_err c.from_residual.result
+    (stays_same (story o events stage) (story o c.reserve.new.self.events stage) c.args.seat.now c.args.seat.now (same_story o events c.reserve.new.self.events stage stage c.reserve.ensures.events refl, refl)))
+
+pub returns-in-Err-clause-refused : goal.returns-in-Err-clause-refused
+returns-in-Err-clause-refused g c = rw (← c.self.view_is) (record { start = refl; events = c.reserve.ensures.events; stage = c.in-Err.ensures.refused; seat = refl })
