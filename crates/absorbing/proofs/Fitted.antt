@@ -92,7 +92,7 @@ module _ (prog : Program) (places : Places) (k : Run) (worker slot : ℕ) (x : S
   abbrev pub l : Layout
   l = layout_of prog places k.cactus m.core
 
-  abbrev g : frames.Frame
+  abbrev pub g : frames.Frame
   g = (seen prog places k slot node node.frame fits.stands m shown).frame
 
   pub hand : m.hands worker ≡ Some p

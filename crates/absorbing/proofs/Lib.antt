@@ -5,3 +5,4 @@ pub mod Noting
 pub mod Fitted
 pub mod Put
 pub mod Goes
+pub mod Taken

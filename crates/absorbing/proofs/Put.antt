@@ -20,7 +20,7 @@ use Rattle.engine.specs.declared.activation.Frame.{Frame}
 use Rattle.engine.specs.declared.turning.Place.{Place}
 use Rattle.engine.specs.declared.activation.Places.{Places}
 use Rattle.engine.specs.declared.flat.Flat.{Flat}
-use Rattle.strand.specs.Along.{IsGoing}
+use Rattle.strand.specs.Along.{IsAlong, IsGoing}
 use Rattle.strand.specs.declared.outside.Strand.{Strand}
 use Rattle.crew.specs.declared.activation.Activation.{Activation}
 use Rattle.crew.specs.declared.run.Run.{Run}
@@ -35,7 +35,7 @@ use Rattle.absorbing.specs.Absorbing.{GoesAloneIn}
 use Rattle.absorbing.specs.Fitting.{FitsRun}
 use Rattle.absorbing.specs.Putting.{IsPut, IsPutInto}
 use Rattle.absorbing.proofs.Absorbed.{IsWritten, cells_later, counts, lives, now, off, same_frame, waits_free, written_shows}
-use Rattle.absorbing.proofs.Fitted.{along, callee_none, fits_at, fits_machine, frame_is, l, never, path_is, s, steps}
+use Rattle.absorbing.proofs.Fitted.{along, callee_none, fits_at, fits_machine, frame_is, g, l, never, path_is, s, steps}
 use Rattle.absorbing.proofs.Noting.{last_off}
 
 module _ (prog : Program) (places : Places) (k : Run) (worker slot : ℕ) (x : Strand) (fits : FitsRun k worker x slot) (going : IsGoing prog places x.course x.pause)
@@ -46,7 +46,7 @@ module _ (prog : Program) (places : Places) (k : Run) (worker slot : ℕ) (x : S
   abbrev t : strands.Strand
   t = s prog places k worker slot x fits going m shown safe alone
 
-  abbrev is_along : _
+  abbrev is_along : IsAlong prog places (l prog places k worker slot x fits going m shown safe alone) (reverse x.course.path.items) (g prog places k worker slot x fits going m shown safe alone) x.course
   is_along = along prog places k worker slot x fits going m shown safe alone
 
   path : t.path ≡ place_of node

@@ -1,4 +1,5 @@
 ghost use Rattle.std.specs.Prelude.{◌≡◌, ◌≢◌, ◌↔◌, ◌+◌, ◌<◌, ℕ, suc, false, true, IfOk, IsTrue, Ok, OnErr, OnOk, Some, length, slice_get};
+ghost use Rattle.std.specs.Vec.{with_items};
 ghost use Rattle.cactus.specs.Frames.{Lives, node_at};
 ghost use Rattle.cactus.specs.declared.node.Node.{Node};
 ghost use Rattle.engine.specs.Flat.{is_cell};
@@ -12,8 +13,9 @@ ghost use Rattle.absorbing.specs.Absorbing.{DoesSteps, DoesStrand, KeepsHand, Le
 ghost use Rattle.absorbing.specs.Fitting.{FitsRun};
 ghost use Rattle.absorbing.specs.Putting.{IsPut};
 
-use crate::cells::{cell, put_writes, restore};
+use crate::cells::put_writes;
 use crate::fitting::fitting_slot;
+use crate::taking_back::{numbers_before, take_back};
 use crew::Run;
 use engine::{Frame, Place, Places};
 use frame::Wait;
@@ -22,10 +24,11 @@ use program::Program;
 use strand::{Pause, Strand};
 
 /// Puts a place and registers into a frame, which waits for this from here on.
-fn write_frame(target: &mut Frame, source: &Frame, waits: Wait)
+pub(crate) fn write_frame(target: &mut Frame, source: &Frame, waits: Wait)
     requires { length source.now.registers.items ≡ length target.old.registers.items }
     ensures only { target.new ≡ record target.old { place = source.now.place; registers = target.new.registers; waits = waits } }
     ensures registers { target.new.registers.items ≡ source.now.registers.items }
+    ensures room { target.new.registers ≡ with_items target.old.registers source.now.registers.items }
 {
     target.place = Place {
         block: source.place.block,
@@ -67,26 +70,6 @@ fn go_on(run: &mut Run, slot: usize, strand: &Strand)
     if strand.done() > 0 {
         put_strand(run, slot, strand);
     }
-}
-
-/// Puts the loaded frame and what the written cells held back into the run.
-fn take_back(run: &mut Run, slot: usize, strand: &Strand, before: &[i64]) {
-    restore(run.cells.cells.as_mut_slice(), strand.writes(), before);
-    let Some(activation) = run.cactus.frame_mut(slot) else {
-        unreachable!()
-    };
-    let loaded = strand.loaded();
-    write_frame(&mut activation.frame, loaded, loaded.waits);
-    run.instructions -= strand.done();
-}
-
-/// What the cells hold that the strand wrote.
-fn numbers_before(run: &Run, strand: &Strand) -> Result<Vec<i64>, OutOfMemory> {
-    let mut before = Vec::with_capacity(run.alloc, strand.writes().len())?;
-    for written in strand.writes() {
-        before.push(cell(run.cells.cells.as_slice(), written.at).unwrap_or(0))?;
-    }
-    Ok(before)
 }
 
 /// Does the strand's instructions and the border's after them as steps of the worker.
