@@ -8,13 +8,16 @@ use Rattle.std.proofs.lemmas.Option.{same_Some}
 use Rattle.running.specs.Paths.{Path}
 use Rattle.running.specs.Cells.{Cell, Memory}
 use Rattle.running.specs.Frames as frames
+use Rattle.running.specs.Frames.{item_at}
 use Rattle.running.specs.State.{may_go}
 use Rattle.running.specs.Events.{Machine}
 use Rattle.running.specs.Replay.{NeverTraps, replay}
 use Rattle.program.specs.declared.function.Program.{Program}
+use Rattle.program.specs.declared.identifier.FunctionId.{FunctionId}
 use Rattle.strands.specs.Footprint.{Write}
 use Rattle.strands.specs.Law.{Fits, Happen, ReadsAgree, absorbed, steps_by}
 use Rattle.strands.specs.Strands as strands
+use Rattle.strands.specs.Strands.{is_border, next_of}
 use Rattle.strands.proofs.Law.{reads_are_there, strands_are_steps}
 use Rattle.cactus.specs.declared.node.Node.{Node}
 use Rattle.cactus.specs.Frames.{node_at}
@@ -24,23 +27,26 @@ use Rattle.engine.specs.Flat.{cell_in, is_cell}
 use Rattle.engine.specs.Shows.{Layout, IsIn, ShowsCells, address}
 use Rattle.engine.specs.declared.activation.Frame.{Frame}
 use Rattle.engine.specs.declared.activation.Places.{Places}
+use Rattle.engine.specs.declared.turning.Place.{Place}
 use Rattle.strand.specs.Alone.{GoesAlone}
-use Rattle.strand.specs.Along.{IsAlong, IsGoing}
+use Rattle.strand.specs.Along.{IsAlong, IsGoing, PausesAt}
 use Rattle.strand.specs.Showing.{read_of, written_of}
 use Rattle.strand.specs.declared.cells.Written.{Written}
 use Rattle.strand.specs.declared.outside.Strand.{Strand}
+use Rattle.strand.specs.declared.standing.Pause.TheVariants.{Border}
 use Rattle.strand.proofs.Beginning.{copy_back, copy_shows}
 use Rattle.crew.specs.declared.activation.Activation.{Activation}
 use Rattle.crew.specs.declared.run.Run.{Run}
 use Rattle.crew.specs.Going.{RunsSafely}
 use Rattle.crew.specs.Layouts.{layout_of, object_at}
-use Rattle.crew.specs.Shown.{IsShown, place_of}
+use Rattle.crew.specs.Shown.{IsShown, item_here, place_of}
 use Rattle.crew.proofs.Onward.{free_callee, seen, standing}
 use Rattle.crew.proofs.Standing.{can_step, may_go_on}
 use Rattle.crew.proofs.Views.{hand_seen}
 use Rattle.absorbing.specs.Absorbing.{GoesAloneIn}
 use Rattle.absorbing.specs.Fitting.{FitsRun, HoldReads}
 use Rattle.absorbing.proofs.Absorbed.{same_frame}
+use Rattle.absorbing.proofs.Bordering.{border_next}
 use Rattle.absorbing.proofs.Noting.{happen_replay}
 use Rattle.absorbing.proofs.Sound.{never_traps}
 
@@ -164,3 +170,15 @@ module _ (prog : Program) (places : Places) (k : Run) (worker slot : ℕ) (x : S
       let st = standing prog places k slot node node.frame fits.stands m shown worker fits.hand safe in
       let go = may_go_on prog (length k.hands.items) worker p m g v.is (can_step prog (length k.hands.items) worker p m g m.core.memory st).goes in
       free_callee m.core p g.made k.cactus node node.frame.frame.waits (ap (may_go m.core p g.made) (sym v.shows.waits) ∙ go) (shown.agrees.nodes slot node fits.stands).callee
+
+  -- ---- at a border
+
+  pub border_ahead : x.pause ≡ Some Border → is_border (next_of prog s.present) ≡ true
+  border_ahead border = border_next prog l s (subst (λ o. PausesAt prog l s o) border (going.pauses l g goes))
+
+  -- what stands ahead of the loaded frame
+  pub loaded_item : item_here prog node.frame.frame ≡ next_of prog s.loaded
+  loaded_item =
+      let a = along.shown.loaded in
+      let f = fits.frame in
+      λ i. item_at prog ((ap (λ (y : FunctionId). y.0) f.function ∙ sym a.function) i) ((ap (λ (y : Place). y.block.0) f.place ∙ sym a.block) i) ((ap (λ (y : Place). y.index) f.place ∙ sym a.index) i)

@@ -4,10 +4,11 @@ use Rattle.std.specs.Prelude.{slice_get}
 use Rattle.std.proofs.lemmas.List.{reverse-reverse}
 use Rattle.running.specs.Paths.{Path}
 use Rattle.running.specs.Events.{Machine}
-use Rattle.running.specs.Frames as frames
+use Rattle.running.specs.Frames.{item_at}
 use Rattle.program.specs.declared.function.Program.{Program}
 use Rattle.strands.specs.Law.{Happen, absorbed, steps_by}
 use Rattle.strands.specs.Strands as strands
+use Rattle.strands.specs.Strands.{next_of}
 use Rattle.frame.specs.declared.frame.Wait.{Wait}
 use Rattle.frame.specs.declared.frame.Wait.TheVariants.{Nothing}
 use Rattle.frame.specs.Reading.{wait_of}
@@ -25,7 +26,7 @@ use Rattle.strand.specs.declared.outside.Strand.{Strand}
 use Rattle.crew.specs.declared.activation.Activation.{Activation}
 use Rattle.crew.specs.declared.run.Run.{Run}
 use Rattle.crew.specs.Going.{RunsSafely}
-use Rattle.crew.specs.Shown.{CalleeStands, HasTaker, IsShown, place_of}
+use Rattle.crew.specs.Shown.{CalleeStands, HasTaker, IsShown, item_here, place_of}
 use Rattle.crew.specs.Stalls.{Blocks, IsStalledIn, StallsAgree, last_blocks}
 use Rattle.crew.proofs.Noted.{ready_free}
 use Rattle.crew.proofs.Onward.{hands_agree}
@@ -90,6 +91,12 @@ module _ (prog : Program) (places : Places) (k : Run) (worker slot : ℕ) (x : S
         ap (λ (y : Frame). y.function.0) only
         ∙ (ap (λ y. y.0) fits.frame.function ∙ (sym is_along.shown.loaded.function ∙ (sym (same_frame prog t is_along.is).function ∙ is_along.shown.present.function)))
 
+    -- what stands ahead of the frame
+    pub put_item : item_here prog f ≡ next_of prog t.present
+    put_item =
+        let a = is_along.shown.present in
+        λ i. item_at prog ((function ∙ sym a.function) i) ((ap (λ (y : Place). y.block.0) place ∙ sym a.block) i) ((ap (λ (y : Place). y.index) place ∙ sym a.index) i)
+
     went : FrameWent prog places m next k slot node t.present changed
     went = record {
       only = only ∙ (λ i. record node.frame.frame { place = sym place i; registers = f.registers; waits = sym waits i });
@@ -118,7 +125,7 @@ module _ (prog : Program) (places : Places) (k : Run) (worker slot : ℕ) (x : S
     abbrev put_run : Flat → Run
     put_run cells = gone_on prog places m next k slot node t.present changed cells (k.instructions + x.course.done) k.moves k.hands
 
-    shown_put : (cells : Flat) → IsPutInto x.course.cells.writes k.cells.cells.items cells.cells.items → IsShown prog places next (put_run cells)
+    pub shown_put : (cells : Flat) → IsPutInto x.course.cells.writes k.cells.cells.items cells.cells.items → IsShown prog places next (put_run cells)
     shown_put cells puts =
         let done : t.done + m.core.done ≡ k.instructions + x.course.done = (let a = is_along.shown.done in let b = shown.shows.done in omega (arith, a, b)) in
         goes_on_shown prog places m next k slot node t.present changed shown fits.stands went has cells (k.instructions + x.course.done) k.moves k.hands
@@ -126,7 +133,7 @@ module _ (prog : Program) (places : Places) (k : Run) (worker slot : ℕ) (x : S
         done (omega arith) shows_frame
         (cells_later (l prog places k worker slot x fits going m shown safe alone) t.footprint x.course.cells is_along.shown.footprint m.core.memory k.cells.cells.items cells.cells.items shown.shows.cells puts)
 
-    stalls_put : (last : Blocks) → StallsAgree last k.cactus → StallsAgree (last_blocks prog (length k.hands.items) (steps_by worker x.course.done) m last) (with_frame k.cactus slot changed)
+    pub stalls_put : (last : Blocks) → StallsAgree last k.cactus → StallsAgree (last_blocks prog (length k.hands.items) (steps_by worker x.course.done) m last) (with_frame k.cactus slot changed)
     stalls_put last agree s n here =
         elim (stood k.cactus shown.agrees.tree slot node fits.stands changed s n here) [
           | inl h ↦

@@ -1,11 +1,12 @@
 -- What taking a strand over asks for and keeps, from what its type and its caller say.
-use Rattle.std.proofs.Common.{◌≡◌, ◌≢◌, ℕ, suc, ◌+◌, ◌<◌, length, Option, Some, None, Bool, refl, subst}
+use Rattle.std.proofs.Common.{◌≡◌, ◌≢◌, ℕ, suc, ◌+◌, ◌<◌, length, Option, Some, None, true, refl, subst}
 use Rattle.std.specs.Prelude.{IsTrue, slice_get}
 use Rattle.std.proofs.Math.Logic.{∥∥₁_elim, ∥∥₁_map, ∥∥₁_map₂}
 use Rattle.std.proofs.Props.{props}
 use Rattle.program.specs.declared.function.Program.{Program}
 use Rattle.cactus.specs.declared.node.Node.{Node}
 use Rattle.cactus.specs.Frames.{Lives, node_at}
+use Rattle.engine.specs.Border.{IsBorderItem}
 use Rattle.engine.specs.Flat.{is_cell}
 use Rattle.engine.specs.declared.activation.Places.{Places}
 use Rattle.strand.specs.Along.{IsGoing}
@@ -16,13 +17,15 @@ use Rattle.strand.specs.declared.standing.Pause.TheVariants.{Blank, Border, Full
 use Rattle.crew.specs.declared.activation.Activation.{Activation}
 use Rattle.crew.specs.declared.run.Run.{Run}
 use Rattle.running.specs.Events.{Step}
-use Rattle.crew.specs.Events.{DoesEvent, LeavesStalls}
-use Rattle.crew.specs.Going.{StandsSafely}
+use Rattle.crew.specs.Events.{LeavesStalls}
+use Rattle.crew.specs.Going.{DoesStep, StandsSafely}
+use Rattle.crew.specs.Shown.{item_here}
 use Rattle.absorbing.specs.Absorbing.{DoesSteps, KeepsHand, LeavesStallsBy, StandsAlone, steps_in}
 use Rattle.absorbing.specs.Fitting.{FitsRun}
 use Rattle.absorbing.specs.Putting.{IsPut}
 use Rattle.absorbing.proofs.Fitted.{as_many, fits_at, room, within}
-use Rattle.absorbing.proofs.Goes.{does_more, does_steps, hands_stay, keeps_hand, leaves_stalls, stalls_more, stands_then}
+use Rattle.absorbing.proofs.Bordering.{item_border}
+use Rattle.absorbing.proofs.Goes.{border_stands, does_more, does_steps, hands_stay, keeps_hand, leaves_stalls, stalls_more, stands_then}
 
 -- short of a border the strand's instructions are all
 pub steps_before : (pause : Option Pause) (done : ℕ) → pause ≢ Some Border → steps_in pause done ≡ done
@@ -80,10 +83,16 @@ module _ (prog : Program) (places : Places) (k : Run) (worker slot : ℕ) (x : S
     pub went_stands : ∥ StandsAlone prog places k ∥₁ → StandsSafely prog places new
     went_stands safe = ∥∥₁_map₂ went_does safe (λ does s. stands_then prog places k new worker x.course.done does hands s)
 
-    module _ (later : Run) (done : Bool) (step : DoesEvent prog places new later (Step worker) done) where
-      pub over_does : ∥ DoesSteps prog places k later worker (suc x.course.done) ∥₁
-      over_does = ∥∥₁_map went_does (λ does. does_more prog places k new worker x.course.done does hands later slot fits.hand done step)
+    pub went_border : ∥ StandsAlone prog places k ∥₁ → x.pause ≡ Some Border → (n : Node Activation) → node_at new.cactus slot ≡ Some n → IsBorderItem (item_here prog n.frame.frame)
+    went_border safe border n stands =
+        item_border (item_here prog n.frame.frame)
+        (∥∥₁_elim going (hlevel props) (λ goes. ∥∥₁_elim safe (hlevel props) (λ s.
+            border_stands prog places k new worker slot x left put fits goes border s.machine s.shown s.safe s.alone n stands)))
 
-      pub over_stalls : LeavesStalls prog places new later (Step worker) done → LeavesStallsBy prog places k later worker (suc x.course.done)
+    module _ (later : Run) (step : DoesStep prog places new later worker) where
+      pub over_does : ∥ DoesSteps prog places k later worker (suc x.course.done) ∥₁
+      over_does = ∥∥₁_map went_does (λ does. does_more prog places k new worker x.course.done does hands later step)
+
+      pub over_stalls : LeavesStalls prog places new later (Step worker) true → LeavesStallsBy prog places k later worker (suc x.course.done)
       over_stalls stalls = ∥∥₁_elim went_does (stalls_prop prog places k later worker (suc x.course.done)) (λ does.
-          stalls_more prog places k new worker x.course.done does hands later slot fits.hand done step went_stalls stalls)
+          stalls_more prog places k new worker x.course.done does hands later step went_stalls stalls)

@@ -100,8 +100,8 @@ fn go_over(
 {
     let before = numbers_before(run, strand)?;
     go_on(run, slot, strand);
-    match run.step(program, places, worker) {
-        Ok(_) => Ok(()),
+    match run.border(program, places, worker, slot) {
+        Ok(()) => Ok(()),
         Err(refused) => {
             if strand.done() > 0 {
                 take_back(run, slot, strand, before.as_slice());
