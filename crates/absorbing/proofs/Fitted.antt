@@ -1,5 +1,5 @@
 -- A strand that fits a run, as one of the definitions that fits the machine that the run shows.
-use Rattle.std.proofs.Common.{◌≡◌, ◌≢◌, ◌∙◌, ℕ, zero, suc, ◌+◌, ◌<◌, ◌≤◌, List, [], ◌∷◌, length, map, reverse, Option, Some, None, inl, inr, refl, sym, ap, subst, arith, ℤ}
+use Rattle.std.proofs.Common.{◌≡◌, ◌≢◌, ◌∙◌, ℕ, zero, suc, ◌+◌, ◌<◌, ◌≤◌, List, [], ◌∷◌, length, map, reverse, Option, Some, None, true, refl, sym, ap, subst, arith, ℤ}
 use Rattle.std.specs.Prelude.{IsTrue, slice_get}
 use Rattle.std.specs.List.{All}
 use Rattle.std.proofs.lemmas.List.{reverse-reverse}
@@ -51,7 +51,7 @@ use Rattle.absorbing.proofs.Noting.{happen_replay}
 use Rattle.absorbing.proofs.Sound.{never_traps}
 
 -- a slot has one node
-pub fits_at : (k : Run) (worker slot : ℕ) (x : Strand) → FitsRun k worker x slot → (n : Node Activation) → node_at k.cactus slot ≡ Some n → FitsRun k worker x slot
+abbrev pub fits_at : (k : Run) (worker slot : ℕ) (x : Strand) → FitsRun k worker x slot → (n : Node Activation) → node_at k.cactus slot ≡ Some n → FitsRun k worker x slot
 fits_at k worker slot x fits n stands =
     let same : fits.node ≡ n = same_Some fits.node n (sym fits.stands ∙ stands) in
     record {
@@ -104,7 +104,7 @@ module _ (prog : Program) (places : Places) (k : Run) (worker slot : ℕ) (x : S
   pub hand : m.hands worker ≡ Some p
   hand = shown.shows.hands worker ∙ hand_seen k.cactus k.hands.items worker slot node fits.hand fits.stands
 
-  goes : GoesAlone prog places l (reverse x.course.path.items) g x.course.loaded
+  pub goes : GoesAlone prog places l (reverse x.course.path.items) g x.course.loaded
   goes =
       let s = seen prog places k slot node node.frame fits.stands m shown in
       subst (λ q. GoesAlone prog places l q g x.course.loaded) (ap reverse fits.path)
@@ -114,7 +114,7 @@ module _ (prog : Program) (places : Places) (k : Run) (worker slot : ℕ) (x : S
         stays = alone worker p g hand s.is (object_at places k.cactus);
       })
 
-  pub along : IsAlong prog places l (reverse x.course.path.items) g x.course
+  abbrev pub along : IsAlong prog places l (reverse x.course.path.items) g x.course
   along = going.way.along l g goes
 
   abbrev pub s : strands.Strand
@@ -149,7 +149,7 @@ module _ (prog : Program) (places : Places) (k : Run) (worker slot : ℕ) (x : S
 
   pub function_is : x.course.present.function.0 ≡ node.frame.frame.function.0
   function_is =
-      sym along.shown.present.function ∙ ((same_frame prog s along.is).function ∙ (along.shown.loaded.function ∙ sym (ap (λ f. f.0) fits.frame.function)))
+      sym along.shown.present.function ∙ ((same_frame prog s along.is).function ∙ (along.shown.loaded.function ∙ sym (ap (λ (y : FunctionId). y.0) fits.frame.function)))
 
   pub as_many : length x.course.present.registers.items ≡ length node.frame.frame.registers.items
   as_many =

@@ -6,6 +6,7 @@ use Rattle.running.specs.Paths.{Path}
 use Rattle.running.specs.Events.{Machine}
 use Rattle.running.specs.Frames.{item_at}
 use Rattle.program.specs.declared.function.Program.{Program}
+use Rattle.program.specs.declared.identifier.FunctionId.{FunctionId}
 use Rattle.strands.specs.Law.{Happen, absorbed, steps_by}
 use Rattle.strands.specs.Strands as strands
 use Rattle.strands.specs.Strands.{next_of}
@@ -89,7 +90,7 @@ module _ (prog : Program) (places : Places) (k : Run) (worker slot : ℕ) (x : S
     function : f.function.0 ≡ x.course.present.function.0
     function =
         ap (λ (y : Frame). y.function.0) only
-        ∙ (ap (λ y. y.0) fits.frame.function ∙ (sym is_along.shown.loaded.function ∙ (sym (same_frame prog t is_along.is).function ∙ is_along.shown.present.function)))
+        ∙ (ap (λ (y : FunctionId). y.0) fits.frame.function ∙ (sym is_along.shown.loaded.function ∙ (sym (same_frame prog t is_along.is).function ∙ is_along.shown.present.function)))
 
     -- what stands ahead of the frame
     pub put_item : item_here prog f ≡ next_of prog t.present

@@ -59,6 +59,13 @@ fn put_strand(run: &mut Run, slot: usize, strand: &Strand)
     run.instructions += strand.done();
 }
 
+/// Whether the strand stands at the pause.
+fn is_at(strand: &Strand, pause: Pause) -> bool
+    ensures { IsTrue result ↔ (strand.now.pause ≡ Some pause) }
+{
+    strand.pause() == Some(pause)
+}
+
 /// Does the strand's instructions as steps of a worker whose frame it fits.
 fn go_on(run: &mut Run, slot: usize, strand: &Strand)
     requires fits { (worker : ℕ) × FitsRun run.old worker strand.now slot }
@@ -140,13 +147,13 @@ pub fn absorb(
     ensures workers { length run.new.hands.items ≡ length run.old.hands.items }
     ensures moves { length run.new.moves.items ≡ length run.old.moves.items }
 {
-    if strand.pause() == Some(Pause::Blank) {
+    if is_at(strand, Pause::Blank) {
         return Ok(false);
     }
     let Some(slot) = fitting_slot(run, worker, strand) else {
         return Ok(false);
     };
-    if strand.pause() == Some(Pause::Border) {
+    if is_at(strand, Pause::Border) {
         go_over(run, program, places, worker, slot, strand)?;
     } else {
         go_on(run, slot, strand);
