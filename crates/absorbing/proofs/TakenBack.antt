@@ -6,17 +6,21 @@ use Rattle.std.specs.Option.{option_map}
 use Rattle.std.specs.Vec.{with_items}
 use Rattle.std.proofs.Props.{props}
 use Rattle.std.proofs.lemmas.List.{length-append, set-set, set-get_or, with_items_is}
+use Rattle.std.proofs.lemmas.Option.{same_Some}
 use Rattle.cactus.specs.declared.node.Node.{Node}
 use Rattle.cactus.specs.Frames.{Frames, frame_at, node_at}
 use Rattle.cactus.specs.Lending.{with_frame, written}
 use Rattle.cactus.proofs.FramesLemmas.{node_at-with_frame}
 use Rattle.engine.specs.declared.activation.Frame.{Frame}
 use Rattle.engine.specs.declared.flat.Flat.{Flat}
+use Rattle.strand.specs.Standing.{IsCopy}
 use Rattle.strand.specs.declared.outside.Strand.{Strand}
 use Rattle.crew.specs.declared.activation.Activation.{Activation}
 use Rattle.crew.specs.declared.run.Run.{Run}
 use Rattle.crew.specs.Rooms.{IsRoomier, empty_at}
-use Rattle.absorbing.specs.TakingBack.{IsRestored, WasPut}
+use Rattle.absorbing.specs.Fitting.{FitsRun}
+use Rattle.absorbing.specs.Putting.{IsPut}
+use Rattle.absorbing.specs.TakingBack.{AreNumbersOf, IsRestored, WasPut}
 use Rattle.absorbing.proofs.Restored.{row_back}
 
 -- ---- registers that hold again what they held
@@ -50,6 +54,17 @@ frame_again frames slot node a stands =
         ∙ ap (λ ns. record frames { nodes = ns }) nodes
 
 -- ---- the run
+
+-- a strand that fits was put, and a border's refusal left more room at most
+pub was_put : (before between late : Run) (worker slot : ℕ) (x : Strand) (numbers : List ℤ) → FitsRun before worker x slot → IsPut before between slot x →
+    IsRoomier between late → AreNumbersOf before.cells.cells.items x.course.cells.writes numbers → WasPut before late slot x numbers
+was_put before between late worker slot x numbers fits put roomier are = record {
+  between = between;
+  put = put;
+  copy = subst (λ (n : Node Activation). IsCopy x.course.loaded n.frame.frame) (same_Some fits.node put.node (sym fits.stands ∙ put.stood)) fits.frame;
+  roomier = roomier;
+  numbers_are = are;
+}
 
 module _ (before late : Run) (slot : ℕ) (x : Strand) (numbers : List ℤ) (was : WasPut before late slot x numbers) where
   abbrev node : Node Activation
@@ -86,7 +101,7 @@ module _ (before late : Run) (slot : ℕ) (x : Strand) (numbers : List ℤ) (was
       let a = ap (λ (xs : List ℤ). length xs) was.copy.registers in
       let b = old.ok.0 in
       let c = now.ok.0 in
-      let d = ap (λ (v : Vec ℤ Global). length v.items) was.registers in
+      let d = ap (λ (v : Vec ℤ Global). length v.items) was.put.room in
       sym a ∙ sym b ∙ c ∙ sym d
 
   module _ (cells : Flat) (restored : IsRestored x.course.cells.writes numbers late.cells.cells.items cells.cells.items) where
@@ -97,7 +112,7 @@ module _ (before late : Run) (slot : ℕ) (x : Strand) (numbers : List ℤ) (was
     frame_back =
         let copy = was.copy in
         let words : with_items was.put.frame.registers x.course.loaded.registers.items ≡ node.frame.frame.registers =
-            ap (λ (v : Vec ℤ Global). with_items v x.course.loaded.registers.items) was.registers
+            ap (λ (v : Vec ℤ Global). with_items v x.course.loaded.registers.items) was.put.room
             ∙ written_again node.frame.frame.registers x.course.present.registers.items x.course.loaded.registers.items (sym copy.registers) in
         ap (λ (f : Frame). record f { place = x.course.loaded.place; registers = with_items was.put.frame.registers x.course.loaded.registers.items; waits = x.course.loaded.waits }) was.put.only
         ∙ (λ i. record node.frame.frame { place = sym copy.place i; registers = words i; waits = sym copy.waits i })
