@@ -1,6 +1,6 @@
 -- A run into which a strand was put is what it was, once the strand is taken back.
 use mathlib.Core.HLevel.{is_prop→PathP}
-use Rattle.std.proofs.Common.{Vec, Global, ◌≡◌, ℕ, ◌+◌, ◌-◌, ◌≤◌, List, ◌++◌, length, replicate, ◌^◌, Some, None, refl, sym, ap, ◌∙◌, subst, arith, ℤ, pos}
+use Rattle.std.proofs.Common.{Vec, Global, ◌≡◌, ℕ, ◌+◌, ◌-◌, ◌<◌, ◌≤◌, List, ◌++◌, length, replicate, Some, None, refl, sym, ap, ◌∙◌, subst, arith, ℤ, pos}
 use Rattle.std.specs.Prelude.{slice_set}
 use Rattle.std.specs.Option.{option_map}
 use Rattle.std.specs.Vec.{with_items}
@@ -26,14 +26,14 @@ use Rattle.absorbing.proofs.Restored.{row_back}
 -- ---- registers that hold again what they held
 
 same_vec : (u v : Vec ℤ Global) → u.ptr ≡ v.ptr → u.len ≡ v.len → u.cap ≡ v.cap → u.alloc ≡ v.alloc → u.items ≡ v.items → u ≡ v
-same_vec u v ptr len cap alloc items = λ i. record {
-  ptr = ptr i;
-  len = len i;
-  cap = cap i;
-  alloc = alloc i;
+same_vec u v at long room heap items = λ i. record {
+  ptr = at i;
+  len = long i;
+  cap = room i;
+  alloc = heap i;
   items = items i;
-  ok = is_prop→PathP (λ j. (len j ≡ length (items j)) × (len j ≤ cap j)) (λ j. hlevel props) u.ok v.ok i;
-  small = is_prop→PathP (λ j. cap j + 1 ≤ 2 ^ 63) (λ j. hlevel props) u.small v.small i;
+  ok = is_prop→PathP (λ j. (long j ≡ length (items j)) × (long j ≤ room j)) (λ j. hlevel props) u.ok v.ok i;
+  small = is_prop→PathP (λ j. room j < 9223372036854775808) (λ j. hlevel props) u.small v.small i;
 }
 
 pub written_again : (v : Vec ℤ Global) (now was : List ℤ) → was ≡ v.items → with_items (with_items v now) was ≡ v
@@ -138,3 +138,16 @@ module _ (before late : Run) (slot : ℕ) (x : Strand) (numbers : List ℤ) (was
       );
       blocks = (was.roomier.blocks.0, subst (λ (k : Run). late.blocks.items ≡ k.blocks.items ++ replicate was.roomier.blocks.0 (empty_at k.end)) was.put.is was.roomier.blocks.1);
     }
+
+  -- what a function that puts all of it back has made
+  pub goes_back : (row : List ℤ) → length row ≡ late.cells.cells.len → IsRestored x.course.cells.writes numbers late.cells.cells.items row →
+      (a : Activation) → a ≡ present → (f : Frame) → f ≡ record a.frame { place = x.course.loaded.place; registers = with_items a.frame.registers x.course.loaded.registers.items; waits = x.course.loaded.waits } →
+      IsRoomier before (record late { cells = record { cells = with_items late.cells.cells row }; cactus = with_frame late.cactus slot (record a { frame = f }); instructions = late.instructions - x.course.done })
+  goes_back row long restored a here f is =
+      let cells : Flat = record { cells = with_items late.cells.cells row } in
+      let now : IsRestored x.course.cells.writes numbers late.cells.cells.items cells.cells.items =
+          subst (λ (r : List ℤ). IsRestored x.course.cells.writes numbers late.cells.cells.items r) (sym (with_items_is late.cells.cells row long)) restored in
+      let written : record a { frame = f } ≡ record present { frame = put_back cells now was.put.frame } =
+          ap (λ (g : Frame). record a { frame = g }) is ∙ ap (λ (b : Activation). record b { frame = put_back cells now b.frame }) here in
+      subst (λ (b : Activation). IsRoomier before (record late { cells = cells; cactus = with_frame late.cactus slot b; instructions = late.instructions - x.course.done }))
+      (sym written) (taken_back cells now)
