@@ -10,7 +10,8 @@ use Rattle.crew.proofs.Uses.{follows_same, kept_follows}
 use Rattle.absorbing.specs.TakingBack.{AreNumbersOf}
 use Rattle.absorbing.proofs.Goes.{uses_stay}
 use Rattle.absorbing.proofs.Taken.{going_at, over_does, over_stalls, put_within, went_border, went_stands}
-use Rattle.absorbing.proofs.Undone.{roomier_after, was_put}
+use Rattle.absorbing.proofs.TakenBack.{was_put}
+use Rattle.absorbing.proofs.Undone.{roomier_after}
 use Rattle.absorbing.proofs.taking.go_over.Goals as goal
 
 pub numbers_before-requires : goal.numbers_before-requires
@@ -62,22 +63,20 @@ returns-in-Ok-clause-follows c =
 
 pub undo-requires : goal.undo-requires
 undo-requires c =
+    let k = c.args.run.now in
     let x = c.args.strand.now in
-    let are = subst (λ (ns : List ℤ). AreNumbersOf c.args.run.now.cells.cells.items x.course.cells.writes ns) (sym c.as_slice.ensures.value) c.in_ok-before.ensures in
-    record {
-      put = λ more. (
-        c.args.run.now,
-        was_put c.args.run.now c.go_on.new.run c.border.new.self c.args.worker c.args.slot x c.as_slice.result.now c.go_on.ensures.put c.in-Err.ensures.refused are c.requires.fits more,
-      );
-    }
+    let are = subst (λ (ns : List ℤ). AreNumbersOf k.cells.cells.items x.course.cells.writes ns) (sym c.as_slice.ensures.value) c.in_ok-before.ensures in
+    record { put = λ more. (k, was_put k c.go_on.new.run c.border.new.self c.args.worker c.args.slot x c.as_slice.result.now c.requires.fits (c.go_on.ensures.put more) c.in-Err.ensures.refused are) }
 
 -- the run has more room at most
 after : (c : goal.After-drop-before-2) → IsRoomier c.args.run.now c.undo.new.run
 after c =
+    let k = c.args.run.now in
     let x = c.args.strand.now in
-    let are = subst (λ (ns : List ℤ). AreNumbersOf c.args.run.now.cells.cells.items x.course.cells.writes ns) (sym c.as_slice.ensures.value) c.in_ok-before.ensures in
-    roomier_after c.args.run.now c.go_on.new.run c.border.new.self c.args.worker c.args.slot x c.as_slice.result.now c.go_on.ensures.put c.in-Err.ensures.refused are c.requires.fits
-    c.go_on.ensures.left c.undo.new.run c.undo.ensures.left c.undo.ensures.back
+    let are = subst (λ (ns : List ℤ). AreNumbersOf k.cells.cells.items x.course.cells.writes ns) (sym c.as_slice.ensures.value) c.in_ok-before.ensures in
+    roomier_after k c.go_on.new.run c.border.new.self c.undo.new.run c.args.slot x c.as_slice.result.now c.go_on.ensures.left c.in-Err.ensures.refused
+    (λ more. was_put k c.go_on.new.run c.border.new.self c.args.worker c.args.slot x c.as_slice.result.now c.requires.fits (c.go_on.ensures.put more) c.in-Err.ensures.refused are)
+    c.undo.ensures.left c.undo.ensures.back
 
 pub returns-clause-refused : goal.returns-clause-refused
 returns-clause-refused c = roomier_leaves c.args.program.now c.args.places.now c.args.run.now c.undo.new.run (after c)
