@@ -1,7 +1,6 @@
 -- A strand that stands at a border stands before what is no plain step.
-use Rattle.std.proofs.Common.{◌≡◌, ℕ, Option, Some, None, Bool, true, false, cond, refl, is_some, nat_le}
+use Rattle.std.proofs.Common.{◌≡◌, Option, Some, None, Bool, true, false, cond, refl, is_some, nat_le}
 use Rattle.std.specs.Option.{option_map}
-use Rattle.running.specs.Cells.{Cell}
 use Rattle.running.specs.Frames.{Item, Does, Ends}
 use Rattle.program.specs.declared.function.Program.{Program}
 use Rattle.program.specs.declared.instruction.Instruction.{Instruction}

@@ -1,8 +1,7 @@
 -- A strand that fits a run, as one of the definitions that fits the machine that the run shows.
-use Rattle.std.proofs.Common.{◌≡◌, ◌≢◌, ◌∙◌, ℕ, zero, suc, ◌+◌, ◌<◌, ◌≤◌, List, [], ◌∷◌, length, map, reverse, Option, Some, None, true, refl, sym, ap, subst, arith, ℤ}
+use Rattle.std.proofs.Common.{◌≡◌, ◌∙◌, ℕ, zero, suc, ◌+◌, ◌<◌, List, [], ◌∷◌, length, map, reverse, Some, None, true, refl, sym, ap, subst, arith, ℤ}
 use Rattle.std.specs.Prelude.{IsTrue, slice_get}
 use Rattle.std.specs.List.{All}
-use Rattle.std.proofs.lemmas.List.{reverse-reverse}
 use Rattle.std.proofs.lemmas.List.Elements.{All-cons, All-head, All-nil, All-tail}
 use Rattle.std.proofs.lemmas.Option.{same_Some}
 use Rattle.running.specs.Paths.{Path}
@@ -15,7 +14,7 @@ use Rattle.running.specs.Replay.{NeverTraps, replay}
 use Rattle.program.specs.declared.function.Program.{Program}
 use Rattle.program.specs.declared.identifier.FunctionId.{FunctionId}
 use Rattle.strands.specs.Footprint.{Write}
-use Rattle.strands.specs.Law.{Fits, Happen, ReadsAgree, absorbed, steps_by}
+use Rattle.strands.specs.Law.{Fits, Happen, absorbed, steps_by}
 use Rattle.strands.specs.Strands as strands
 use Rattle.strands.specs.Strands.{is_border, next_of}
 use Rattle.strands.proofs.Law.{reads_are_there, strands_are_steps}
@@ -24,8 +23,7 @@ use Rattle.cactus.specs.Frames.{node_at}
 use Rattle.engine.specs.Activation.{FrameFits}
 use Rattle.engine.proofs.Turns.{there_is}
 use Rattle.engine.specs.Flat.{cell_in, is_cell}
-use Rattle.engine.specs.Shows.{Layout, IsIn, ShowsCells, address}
-use Rattle.engine.specs.declared.activation.Frame.{Frame}
+use Rattle.engine.specs.Shows.{Layout, IsIn, ShowsCells}
 use Rattle.engine.specs.declared.activation.Places.{Places}
 use Rattle.engine.specs.declared.turning.Place.{Place}
 use Rattle.strand.specs.Alone.{GoesAlone}

@@ -1,9 +1,9 @@
 -- A machine from which each schedule is safe never traps.
-use Rattle.std.proofs.Common.{◌≡◌, ◌∙◌, ℕ, List, [], ◌∷◌, Option, Some, None, Bool, true, false, cond, refl, sym, ap, subst, ℤ, pos, ltb, is_none, ◌&&◌}
+use Rattle.std.proofs.Common.{◌≡◌, ◌∙◌, ℕ, [], ◌∷◌, Option, Some, None, Bool, true, false, cond, refl, sym, ap, subst, pos, ltb, is_none, ◌&&◌}
 use Rattle.std.specs.Prelude.{IsSome}
 use Rattle.running.specs.Paths.{Path}
 use Rattle.running.specs.Frames.{Frame}
-use Rattle.running.specs.Effect.{Action, action_of}
+use Rattle.running.specs.Effect.{action_of}
 use Rattle.running.specs.State.{State, Change, change_of}
 use Rattle.running.specs.Events as running
 use Rattle.running.specs.Events.{Machine, Event, Step, Steal, Status, Running, Ready, Stalled, event}

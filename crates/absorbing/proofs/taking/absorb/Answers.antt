@@ -1,4 +1,4 @@
-use Rattle.std.proofs.Common.{◌≡◌, ◌≢◌, Option, Some, false, true, ℕ, suc, sym, subst}
+use Rattle.std.proofs.Common.{◌≡◌, ◌≢◌, Option, Some, false, true, sym, subst}
 use Rattle.strand.specs.declared.standing.Pause.{Pause}
 use Rattle.strand.specs.declared.standing.Pause.TheVariants.{Blank, Border}
 use Rattle.crew.proofs.Uses.{follows_same, keeps_follows}

@@ -1,6 +1,4 @@
-use Rattle.std.proofs.Common.{◌≡◌, ◌≢◌, Some, List, ℤ, length, refl, sym, ap, ◌∙◌, subst}
-use Rattle.strand.specs.declared.outside.Strand.{Strand}
-use Rattle.strand.specs.declared.standing.Pause.TheVariants.{Blank, Border}
+use Rattle.std.proofs.Common.{List, ℤ, length, sym, ap, subst}
 use Rattle.crew.specs.declared.run.Run.{Run}
 use Rattle.crew.specs.Follows.{Follows}
 use Rattle.crew.specs.Rooms.{IsRoomier}

@@ -1,10 +1,7 @@
-use Rattle.std.proofs.Common.{FitsSigned, rules, w64, ◌≡◌, ◌∙◌, ◌+◌, ◌∷◌, ◌++◌, [], List, ℤ, Some, length, arith, ap, refl, sym, subst}
-use Rattle.std.specs.Prelude.{slice_get}
+use Rattle.std.proofs.Common.{FitsSigned, rules, w64, ◌∙◌, ◌+◌, ◌∷◌, ◌++◌, [], List, ℤ, ap, sym, subst}
 use Rattle.std.proofs.lemmas.Int.{to_z-of_z}
 use Rattle.std.proofs.lemmas.Option.{slice_get-get_or}
-use Rattle.absorbing.proofs.Restored.{AreNumbersTo, numbers_all, numbers_more, numbers_none}
-use Rattle.absorbing.specs.TakingBack.{AreNumbersOf}
-use Rattle.strand.specs.declared.cells.Written.{Written}
+use Rattle.absorbing.proofs.Restored.{AreNumbersTo, numbers_more, numbers_none}
 use Rattle.absorbing.proofs.taking_back.numbers_before.Goals as goal
 
 pub loop-written-init : goal.loop-written-init
