@@ -213,6 +213,7 @@ const TIMES: u64 = 20;
 const TURNS: u32 = 10_000;
 
 // A module with the argument of its `main`, and what its serial run comes to.
+#[derive(Drop)]
 struct Row {
     module: &'static str,
     argument: i64,

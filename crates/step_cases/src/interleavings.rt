@@ -14,7 +14,7 @@ use shared_run::{
     Bench, Board, Claimed, Committed, Fetched, Memory, Pause, Shared, Stepped, Ticket, Verified,
     places_of,
 };
-use std::alloc::Global;
+use std::alloc::{AllocError, Global};
 use std::hash::RandomState;
 use std::io::Write;
 use std::marker::Brand;
@@ -28,6 +28,7 @@ const DRAWN: usize = 120;
 const TURNS: usize = 2000;
 
 /// A module with the argument of its `main`, if it has one, what its serial run comes to, and how many seeds draw calls.
+#[derive(Drop)]
 struct Subject {
     file: &'static str,
     argument: Option<i64>,
@@ -36,7 +37,7 @@ struct Subject {
     seeds: u64,
 }
 
-fn subject(
+fn subject_of(
     file: &'static str,
     argument: Option<i64>,
     answer: i64,
@@ -54,17 +55,18 @@ fn subject(
 
 fn subjects() -> [Subject; 7] {
     [
-        subject("examples/parallel-for.ll", Some(8), 8, 70, 500),
-        subject("examples/adding.ll", Some(8), 8, 70, 500),
-        subject("examples/fib.ll", Some(5), 5, 147, 500),
-        subject("examples/pair.ll", Some(7), 14, 14, 200),
-        subject("examples/switch.ll", Some(7), 7, 5, 100),
-        subject("examples/add-one.ll", Some(7), 8, 2, 100),
-        subject("examples/load.ll", None, 0, 2, 100),
+        subject_of("examples/parallel-for.ll", Some(8), 8, 70, 500),
+        subject_of("examples/adding.ll", Some(8), 8, 70, 500),
+        subject_of("examples/fib.ll", Some(5), 5, 147, 500),
+        subject_of("examples/pair.ll", Some(7), 14, 14, 200),
+        subject_of("examples/switch.ll", Some(7), 7, 5, 100),
+        subject_of("examples/add-one.ll", Some(7), 8, 2, 100),
+        subject_of("examples/load.ll", None, 0, 2, 100),
     ]
 }
 
 /// What is known of a run while its calls are drawn.
+#[derive(Drop)]
 struct Play<'v> {
     workers: u8,
     state: u64,
@@ -273,6 +275,15 @@ impl Play<'_> {
     }
 }
 
+/// The arguments of the subject's `main`.
+fn arguments_of(alloc: Global, subject: &Subject) -> Result<Vec<i64>, AllocError> {
+    let mut arguments = Vec::new(alloc);
+    if let Some(argument) = subject.argument {
+        arguments.push(argument)?;
+    }
+    Ok(arguments)
+}
+
 /// The machine of the subject after events.
 fn machine_of<'v>(
     alloc: Global,
@@ -282,8 +293,8 @@ fn machine_of<'v>(
     events: &[Event],
 ) -> anyhow::Result<Machine<'v>> {
     let memory = Memory::zeroed(alloc, verified)?;
-    let arguments = subject.argument.as_slice();
-    let machine = replay(alloc, verified, arguments, memory, workers, events);
+    let arguments = arguments_of(alloc, subject)?;
+    let machine = replay(alloc, verified, arguments.as_slice(), memory, workers, events);
     Ok(machine.ok().context("a run that stops")?)
 }
 
@@ -304,7 +315,8 @@ fn is_as_it_is_to_be<L: Bench>(
     requires parts { blank.parts ≡ L.parts }
     requires one_each { blank.parts ≡ workers }
 {
-    let arguments = subject.argument.as_slice();
+    let arguments = arguments_of(alloc, subject)?;
+    let arguments = arguments.as_slice();
     let made = Shared::<L>::new(alloc, verified, arguments, memory, workers, blank);
     let (mut shared, seats) = made.ok().context("a run that does not begin")?;
     let room = Vec::with_capacity(alloc, seats.len())?;
