@@ -225,14 +225,14 @@ struct Row {
 
 fn rows() -> [Row; 4] {
     [
-        row(PAIR, 7, TIMES, (14, 14, 2)),
-        row(PARALLEL_FOR, 64, TIMES, (64, 518, 2)),
-        row(ADDING, 64, TIMES, (64, 518, 2)),
-        row(FIB, 10, 1, (55, 1767, 20)),
+        row_of(PAIR, 7, TIMES, (14, 14, 2)),
+        row_of(PARALLEL_FOR, 64, TIMES, (64, 518, 2)),
+        row_of(ADDING, 64, TIMES, (64, 518, 2)),
+        row_of(FIB, 10, 1, (55, 1767, 20)),
     ]
 }
 
-fn row(module: &'static str, argument: i64, times: u64, answer: (i64, u64, u64)) -> Row {
+fn row_of(module: &'static str, argument: i64, times: u64, answer: (i64, u64, u64)) -> Row {
     Row {
         module,
         argument,
@@ -243,32 +243,34 @@ fn row(module: &'static str, argument: i64, times: u64, answer: (i64, u64, u64))
     }
 }
 
-fn verified(rt: &HostRuntime, text: &str) -> Result<Verified, Fail> {
-    let state = RandomState::new(rt)?;
-    let verdict = verify(rt.alloc(), state, text.as_bytes());
+fn verified(alloc: Global, state: RandomState, text: &str) -> Result<Verified, Fail> {
+    let verdict = verify(alloc, state, text.as_bytes());
     Ok(verdict.ok().ok_or("a module that is refused")?)
 }
 
 // A run of the module on so many workers under a gate.
-fn answer<G: Gate + Sync>(
-    rt: &HostRuntime,
+fn answer<G: Gate + Sync, R: Threads + Wait + Clock + Sync>(
+    rt: &R,
+    alloc: Global,
     verified: &Verified,
     arguments: &[i64],
     workers: usize,
     gate: &G,
 ) -> Result<Finished, Fail> {
-    let memory = Memory::zeroed(rt.alloc(), verified)?;
-    let run = run(rt, rt.alloc(), verified, arguments, memory, workers, gate);
+    let memory = Memory::zeroed(alloc, verified)?;
+    let run = run(rt, alloc, verified, arguments, memory, workers, gate);
     Ok(run.ok().ok_or("a run that stops")?)
 }
 
 #[test]
 fn each_number_of_workers_gives_the_serial_answer(rt: HostRuntime) -> Result<(), Fail> {
+    let alloc = rt.alloc();
+    let state = RandomState::new(&rt)?;
     for row in &rows() {
-        let verified = verified(&rt, row.module)?;
+        let verified = verified(alloc, state, row.module)?;
         for workers in [1usize, 2, 3, 4, 8, 64] {
             for _time in 0..row.times {
-                let done = answer(&rt, &verified, &[row.argument], workers, &OpenGate)?;
+                let done = answer(&rt, alloc, &verified, &[row.argument], workers, &OpenGate)?;
                 assert_eq!(rt; done.result, row.result, "on {workers}");
                 assert_eq!(rt; done.instructions, row.instructions, "on {workers}");
                 assert_eq!(rt; done.peak, row.peak, "on {workers}");
@@ -279,6 +281,7 @@ fn each_number_of_workers_gives_the_serial_answer(rt: HostRuntime) -> Result<(),
 }
 
 // Holds worker 0 before its strand 1, and worker 1 before its strand 0, until the other is held there too.
+#[derive(Drop)]
 struct Meeting<'r, R: Clock> {
     rt: &'r R,
     first: AtomicBool,
@@ -313,6 +316,7 @@ impl<R: Clock> Gate for Meeting<'_, R> {
 }
 
 // Counts how often it is passed before the strands 0 and 1 of worker 0, and before any other.
+#[derive(Drop)]
 struct Counting {
     first: AtomicU64,
     second: AtomicU64,
@@ -346,13 +350,15 @@ fn stores(alloc: Global) -> Result<String, Fail> {
 
 #[test]
 fn gates_are_passed_before_strands(rt: HostRuntime) -> Result<(), Fail> {
+    let alloc = rt.alloc();
+    let state = RandomState::new(&rt)?;
     let meeting = Meeting {
         rt: &rt,
         first: AtomicBool::new(false),
         second: AtomicBool::new(false),
     };
-    let pair = verified(&rt, PAIR)?;
-    let done = answer(&rt, &pair, &[7], 2, &meeting)?;
+    let pair = verified(alloc, state, PAIR)?;
+    let done = answer(&rt, alloc, &pair, &[7], 2, &meeting)?;
     assert_eq!(rt; done.result, 14);
     assert!(rt;
         meeting.first.load(Ordering::SeqCst) && meeting.second.load(Ordering::SeqCst),
@@ -363,9 +369,9 @@ fn gates_are_passed_before_strands(rt: HostRuntime) -> Result<(), Fail> {
         second: AtomicU64::new(0),
         other: AtomicU64::new(0),
     };
-    let text = stores(rt.alloc())?;
-    let stores = verified(&rt, text.as_str())?;
-    let done = answer(&rt, &stores, &[], 1, &counting)?;
+    let text = stores(alloc)?;
+    let stores = verified(alloc, state, text.as_str())?;
+    let done = answer(&rt, alloc, &stores, &[], 1, &counting)?;
     assert_eq!(rt; done.instructions, 515);
     assert_eq!(rt; counting.first.load(Ordering::SeqCst), 1);
     assert_eq!(rt; counting.second.load(Ordering::SeqCst), 1);
@@ -468,12 +474,12 @@ fn two_seats<L: Bench + Send + Sync, R: Threads + Wait + Clock + Sync>(
 
 #[test]
 fn two_threads_play_at_their_seats(rt: HostRuntime) -> Result<(), Fail> {
-    let verified = verified(&rt, PARALLEL_FOR)?;
-    let memory = Memory::zeroed(rt.alloc(), &verified)?;
     let alloc = rt.alloc();
+    let verified = verified(alloc, RandomState::new(&rt)?, PARALLEL_FOR)?;
+    let memory = Memory::zeroed(alloc, &verified)?;
     let blank = Blank::new(2);
     let (done, events, reported) =
-        two_seats::<Brand, HostRuntime>(&rt, alloc, &verified, memory, blank)?;
+        two_seats::<Brand, _>(&rt, alloc, &verified, memory, blank)?;
     assert_eq!(rt; done.result, 64);
     assert_eq!(rt; done.instructions, 518);
     assert_eq!(rt; done.peak, 2);
