@@ -11,6 +11,8 @@ mod law;
 mod taken;
 #[cfg(test)]
 mod tests;
+#[cfg(test)]
+mod thread_tests;
 mod threads;
 mod ticket_list;
 mod turns;

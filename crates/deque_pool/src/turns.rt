@@ -1,31 +1,11 @@
 //! A strand: what a worker does outside of the board on a copy of its frame. The board is locked only to load it, to fill it and to commit it.
 
-ghost use Rattle.shared_run.specs.schedule_core.Strands.{IsMadeOf};
-
 use crate::workers::Worker;
-use shared_run::{Bench, Committed, Fetched, Pause, Shared, Strand};
+use shared_run::{Bench, Committed, Fetched, Pause, Shared, advance, clear};
 use std::sync::Wait;
 
 /// The most cells that a strand reads.
 const MOST_CELLS: u32 = 256;
-
-/// The strand is blank from here on.
-#[tactic(auto, using(crate::proofs::Made::made_still))]
-fn clear<L: Bench>(strand: &mut Strand<'_>)
-    requires { IsMadeOf L.code strand.old }
-    ensures { IsMadeOf L.code strand.new }
-{
-    strand.clear();
-}
-
-/// Goes on with the strand to a pause.
-#[tactic(auto, using(crate::proofs::Made::made_still))]
-fn advance<L: Bench>(strand: &mut Strand<'_>) -> Pause
-    requires { IsMadeOf L.code strand.old }
-    ensures { IsMadeOf L.code strand.new }
-{
-    strand.advance()
-}
 
 /// Gives the worker's strand what it waits for.
 fn fetch<L: Bench, R: Wait>(rt: &R, shared: &Shared<'_, L>, worker: &mut Worker<'_, L>) -> Fetched {

@@ -5,3 +5,4 @@ pub mod Bound
 pub mod Begun
 pub mod Calls
 pub mod Commits
+pub mod Made

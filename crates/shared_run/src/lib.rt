@@ -13,6 +13,7 @@ mod answers;
 mod bench;
 mod board;
 mod history;
+mod outside;
 mod seat;
 mod shared;
 mod start;
@@ -22,6 +23,7 @@ pub use answers::{Claimed, Committed, Fetched, Stepped};
 pub use bench::Bench;
 pub use board::Board;
 pub use history::{Entry, History};
+pub use outside::{advance, clear};
 pub use schedule_core::{
     Finished, Memory, Pause, Places, RunFault, Strand, Verified, blank_strand, places_of,
 };

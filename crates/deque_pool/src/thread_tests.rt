@@ -1,0 +1,488 @@
+//! Runs on threads: the serial answer for each number of workers, two workers inside at once, and two threads that each play at a seat.
+ghost use Rattle.std.specs.Prelude.{◌≡◌, ◌≤◌, vec_len, vec_capacity, IfOk};
+ghost use Rattle.shared_run.specs.store.Made.{IsMadeFor};
+
+use crate::{Gate, OpenGate, run};
+use shared_run::{Bench, Claimed, Finished, Memory, Seat, Shared, Stepped, Verified};
+use std::alloc::Global;
+use std::hash::RandomState;
+use std::marker::Brand;
+use std::sync::Wait;
+use std::sync::atomic::{AtomicBool, AtomicU64, Ordering};
+use std::sync::ledger::Blank;
+use std::test::*;
+use std::thread;
+use std::thread::Threads;
+use std::time::{Clock, Duration};
+use verifier::verify;
+
+const PAIR: &str = "@a = global [2 x i64] zeroinitializer
+define i64 @main(i64 %n) {
+;! writes @a 0 2
+;! budget 0 14
+entry:
+;! left 0 14
+%s = call token @llvm.syncregion.start()
+detach within %s, label %d, label %c
+d:
+;! left 0 3
+;! foot writes @a 0 1
+%p = getelementptr inbounds i64, ptr @a, i64 0
+store i64 %n, ptr %p
+reattach within %s, label %c
+c:
+;! pending %s writes @a 0 1
+;! left 0 9
+%q = getelementptr inbounds i64, ptr @a, i64 1
+store i64 %n, ptr %q
+sync within %s, label %j
+j:
+;! left 0 6
+%u = getelementptr inbounds i64, ptr @a, i64 0
+%x = load i64, ptr %u
+%v = getelementptr inbounds i64, ptr @a, i64 1
+%y = load i64, ptr %v
+%t = add i64 %x, %y
+ret i64 %t
+}
+";
+
+const ADDING: &str = "@a = global [64 x i64] zeroinitializer
+define i64 @main(i64 %n) {
+;! requires %n >= 0
+;! requires %n <= 64
+;! writes @a 0 64
+;! budget 0 518
+entry:
+;! left 0 8*%n+6
+%s = call token @llvm.syncregion.start()
+br label %head
+head:
+;! keeps %i >= 0
+;! keeps %i <= %n
+;! keeps %n <= 64
+;! pending %s adds @a 0 1
+;! left 0 8*%n-8*%i+4
+%i = phi i64 [ 0, %entry ], [ %k, %next ]
+%c = icmp slt i64 %i, %n
+br i1 %c, label %fork, label %done
+fork:
+;! keeps %i >= 0
+;! keeps %i <= 63
+;! keeps %i+1 <= %n
+;! keeps %n <= 64
+;! pending %s adds @a 0 1
+;! left 0 8*%n-8*%i+2
+detach within %s, label %body, label %next
+body:
+;! keeps %i >= 0
+;! keeps %i <= 63
+;! left 0 3
+;! foot adds @a 0 1
+%p = getelementptr inbounds i64, ptr @a, i64 0
+atomicrmw add ptr %p, i64 %i seq_cst
+reattach within %s, label %next
+next:
+;! keeps %i >= 0
+;! keeps %i+1 <= %n
+;! keeps %n <= 64
+;! pending %s adds @a 0 1
+;! left 0 8*%n-8*%i-2
+%k = add nsw i64 %i, 1
+br label %head
+done:
+;! pending %s adds @a 0 1
+;! left 0 2
+sync within %s, label %out
+out:
+;! left 0 1
+ret i64 %n
+}
+";
+
+const FIB: &str = "define i64 @fib(i64 %n) {
+;! requires %n >= 0
+;! requires %n <= 20
+;! measure %n max 20
+;! budget 2 15
+entry:
+;! left 2 15
+%x = alloca i64
+%s = call token @llvm.syncregion.start()
+%c = icmp slt i64 %n, 2
+br i1 %c, label %small, label %big
+small:
+;! left 0 1
+ret i64 %n
+big:
+;! keeps %n >= 2
+;! keeps %n <= 20
+;! left 2 11
+%m = sub nsw i64 %n, 1
+detach within %s, label %kid, label %rest
+kid:
+;! keeps %m >= 0
+;! keeps %m <= 20
+;! keeps %m+1 <= %n
+;! left 1 3
+;! foot writes %x 0 1
+%r = call i64 @fib(i64 %m)
+store i64 %r, ptr %x
+reattach within %s, label %rest
+rest:
+;! keeps %n >= 2
+;! keeps %n <= 20
+;! pending %s writes %x 0 1
+;! left 1 6
+%l = sub nsw i64 %n, 2
+%y = call i64 @fib(i64 %l)
+sync within %s, label %join
+join:
+;! left 0 3
+%z = load i64, ptr %x
+%t = add i64 %z, %y
+ret i64 %t
+}
+define i64 @main(i64 %n) {
+;! requires %n >= 0
+;! requires %n <= 20
+;! budget 0 31457267
+entry:
+;! left 0 31457267
+%r = call i64 @fib(i64 %n)
+ret i64 %r
+}
+";
+
+const PARALLEL_FOR: &str = "@a = global [64 x i64] zeroinitializer
+define i64 @main(i64 %n) {
+;! requires %n >= 0
+;! requires %n <= 64
+;! writes @a 0 64
+;! budget 0 518
+entry:
+;! left 0 8*%n+6
+%s = call token @llvm.syncregion.start()
+br label %head
+head:
+;! keeps %i >= 0
+;! keeps %i <= %n
+;! keeps %n <= 64
+;! pending %s writes @a 0 %i
+;! left 0 8*%n-8*%i+4
+%i = phi i64 [ 0, %entry ], [ %k, %next ]
+%c = icmp slt i64 %i, %n
+br i1 %c, label %fork, label %done
+fork:
+;! keeps %i >= 0
+;! keeps %i <= 63
+;! keeps %i+1 <= %n
+;! keeps %n <= 64
+;! pending %s writes @a 0 %i
+;! left 0 8*%n-8*%i+2
+detach within %s, label %body, label %next
+body:
+;! keeps %i >= 0
+;! keeps %i <= 63
+;! left 0 3
+;! foot writes @a %i %i+1
+%p = getelementptr inbounds i64, ptr @a, i64 %i
+store i64 %i, ptr %p
+reattach within %s, label %next
+next:
+;! keeps %i >= 0
+;! keeps %i+1 <= %n
+;! keeps %n <= 64
+;! pending %s writes @a 0 %i+1
+;! left 0 8*%n-8*%i-2
+%k = add nsw i64 %i, 1
+br label %head
+done:
+;! pending %s writes @a 0 %i
+;! left 0 2
+sync within %s, label %out
+out:
+;! left 0 1
+ret i64 %n
+}
+";
+
+// How often each small run is made on each number of workers.
+const TIMES: u64 = 20;
+
+const TURNS: u32 = 10_000;
+
+// A module with the argument of its `main`, and what its serial run comes to.
+#[derive(Drop)]
+struct Row {
+    module: &'static str,
+    argument: i64,
+    times: u64,
+    result: i64,
+    instructions: u64,
+    peak: u64,
+}
+
+fn rows() -> [Row; 4] {
+    [
+        row_of(PAIR, 7, TIMES, (14, 14, 2)),
+        row_of(PARALLEL_FOR, 64, TIMES, (64, 518, 2)),
+        row_of(ADDING, 64, TIMES, (64, 518, 2)),
+        row_of(FIB, 10, 1, (55, 1767, 20)),
+    ]
+}
+
+fn row_of(module: &'static str, argument: i64, times: u64, answer: (i64, u64, u64)) -> Row {
+    Row {
+        module,
+        argument,
+        times,
+        result: answer.0,
+        instructions: answer.1,
+        peak: answer.2,
+    }
+}
+
+fn verified(alloc: Global, state: RandomState, text: &str) -> Result<Verified, Fail> {
+    let verdict = verify(alloc, state, text.as_bytes());
+    Ok(verdict.ok().ok_or("a module that is refused")?)
+}
+
+// A run of the module on so many workers under a gate.
+fn answer<G: Gate + Sync, R: Threads + Wait + Clock + Sync>(
+    rt: &R,
+    alloc: Global,
+    verified: &Verified,
+    arguments: &[i64],
+    workers: usize,
+    gate: &G,
+) -> Result<Finished, Fail> {
+    let memory = Memory::zeroed(alloc, verified)?;
+    let run = run(rt, alloc, verified, arguments, memory, workers, gate);
+    Ok(run.ok().ok_or("a run that stops")?)
+}
+
+#[test]
+fn each_number_of_workers_gives_the_serial_answer(rt: HostRuntime) -> Result<(), Fail> {
+    let alloc = rt.alloc();
+    let state = RandomState::new(&rt)?;
+    for row in &rows() {
+        let verified = verified(alloc, state, row.module)?;
+        for workers in [1usize, 2, 3, 4, 8, 64] {
+            for _time in 0..row.times {
+                let done = answer(&rt, alloc, &verified, &[row.argument], workers, &OpenGate)?;
+                assert_eq!(rt; done.result, row.result, "on {workers}");
+                assert_eq!(rt; done.instructions, row.instructions, "on {workers}");
+                assert_eq!(rt; done.peak, row.peak, "on {workers}");
+            }
+        }
+    }
+    Ok(())
+}
+
+// Holds worker 0 before its strand 1, and worker 1 before its strand 0, until the other is held there too.
+#[derive(Drop)]
+struct Meeting<'r, R: Clock> {
+    rt: &'r R,
+    first: AtomicBool,
+    second: AtomicBool,
+}
+
+impl<R: Clock> Meeting<'_, R> {
+    fn wait_for(&self, other: &AtomicBool) {
+        for _turn in 0..TURNS {
+            if other.load(Ordering::SeqCst) {
+                return;
+            }
+            thread::sleep(self.rt, Duration::from_millis(1));
+        }
+    }
+}
+
+impl<R: Clock> Gate for Meeting<'_, R> {
+    fn pass(&self, worker: u8, strand: u64) {
+        match (worker, strand) {
+            (0, 1) => {
+                self.first.store(true, Ordering::SeqCst);
+                self.wait_for(&self.second);
+            }
+            (1, 0) => {
+                self.second.store(true, Ordering::SeqCst);
+                self.wait_for(&self.first);
+            }
+            _ => {}
+        }
+    }
+}
+
+// Counts how often it is passed before the strands 0 and 1 of worker 0, and before any other.
+#[derive(Drop)]
+struct Counting {
+    first: AtomicU64,
+    second: AtomicU64,
+    other: AtomicU64,
+}
+
+impl Gate for Counting {
+    fn pass(&self, worker: u8, strand: u64) {
+        let count = match (worker, strand) {
+            (0, 0) => &self.first,
+            (0, 1) => &self.second,
+            _ => &self.other,
+        };
+        let _before = count.fetch_add(1, Ordering::SeqCst);
+    }
+}
+
+// A block that stores to 257 cells: one more than a strand has room for.
+fn stores(alloc: Global) -> Result<String, Fail> {
+    let mut text = String::from_str(
+        alloc,
+        "@a = global [257 x i64] zeroinitializer\ndefine i64 @main() {\n;! writes @a 0 257\n;! budget 0 515\nentry:\n;! left 0 515\n",
+    )?;
+    for cell in 0..257u32 {
+        writeln!(text, "%p{cell} = getelementptr inbounds i64, ptr @a, i64 {cell}")?;
+        writeln!(text, "store i64 1, ptr %p{cell}")?;
+    }
+    text.push_str("ret i64 0\n}\n")?;
+    Ok(text)
+}
+
+#[test]
+fn gates_are_passed_before_strands(rt: HostRuntime) -> Result<(), Fail> {
+    let alloc = rt.alloc();
+    let state = RandomState::new(&rt)?;
+    let meeting = Meeting {
+        rt: &rt,
+        first: AtomicBool::new(false),
+        second: AtomicBool::new(false),
+    };
+    let pair = verified(alloc, state, PAIR)?;
+    let done = answer(&rt, alloc, &pair, &[7], 2, &meeting)?;
+    assert_eq!(rt; done.result, 14);
+    assert!(rt;
+        meeting.first.load(Ordering::SeqCst) && meeting.second.load(Ordering::SeqCst),
+        "two workers were not inside at once"
+    );
+    let counting = Counting {
+        first: AtomicU64::new(0),
+        second: AtomicU64::new(0),
+        other: AtomicU64::new(0),
+    };
+    let text = stores(alloc)?;
+    let stores = verified(alloc, state, text.as_str())?;
+    let done = answer(&rt, alloc, &stores, &[], 1, &counting)?;
+    assert_eq!(rt; done.instructions, 515);
+    assert_eq!(rt; counting.first.load(Ordering::SeqCst), 1);
+    assert_eq!(rt; counting.second.load(Ordering::SeqCst), 1);
+    assert_eq!(rt; counting.other.load(Ordering::SeqCst), 0);
+    Ok(())
+}
+
+// A seat with the number of events that were reported there.
+#[derive(Drop)]
+struct Chair<L: Bench> {
+    seat: Seat<L>,
+    events: u64,
+}
+
+// One step, or else a claim; the answers are whether there was an event, and whether the run has ended.
+fn turn<L: Bench, R: Wait>(rt: &R, shared: &Shared<'_, L>, chair: &mut Chair<L>) -> (bool, bool) {
+    let mut board = shared.board.lock(rt);
+    let happened = match board.step(&mut chair.seat) {
+        Stepped::Done { .. } => true,
+        _ => matches!(board.claim_first(&mut chair.seat), Claimed::Taken),
+    };
+    (happened, board.end())
+}
+
+fn play<L: Bench, R: Wait + Clock>(rt: &R, shared: &Shared<'_, L>, chair: &mut Chair<L>) {
+    let mut idle: u32 = 0;
+    for _turn in rt.forever() {
+        let (happened, ended) = turn(rt, shared, chair);
+        if happened {
+            chair.events = chair.events.saturating_add(1);
+            continue;
+        }
+        idle = idle.saturating_add(1);
+        if ended || idle > TURNS {
+            return;
+        }
+        thread::sleep(rt, Duration::from_millis(1));
+    }
+}
+
+// A chair for each seat.
+fn chairs_of<L: Bench>(alloc: Global, mut seats: Vec<Seat<L>>) -> Result<Vec<Chair<L>>, Fail>
+    ensures { IfOk result (λ chairs. vec_len chairs ≡ vec_len seats) }
+{
+    let mut chairs = Vec::with_capacity(alloc, seats.len())?;
+    while let Some(seat) = seats.pop() {
+        chairs.push(Chair { seat, events: 0 })?;
+    }
+    Ok(chairs)
+}
+
+// The seats of all chairs, in `room`, which is empty.
+fn seats_of<L: Bench>(mut chairs: Vec<Chair<L>>, mut room: Vec<Seat<L>>) -> Vec<Seat<L>>
+    requires { (vec_len room ≡ 0) × (vec_len chairs ≤ vec_capacity room) }
+    ensures { vec_len result ≡ vec_len chairs.entry }
+{
+    while let Some(chair) = chairs.pop() {
+        room.push_reserved(chair.seat);
+    }
+    room
+}
+
+fn play_both<L: Bench + Send + Sync, R: Threads + Wait + Clock + Sync>(
+    rt: &R,
+    shared: &Shared<'_, L>,
+    chairs: &mut [Chair<L>],
+) {
+    thread::for_each_mut(rt, chairs, 2, &|_, chair| play(rt, shared, chair));
+}
+
+// A run of two seats, each on a thread: its answer, its events, and those that were reported.
+fn two_seats<L: Bench + Send + Sync, R: Threads + Wait + Clock + Sync>(
+    rt: &R,
+    alloc: Global,
+    verified: &Verified,
+    memory: Memory,
+    blank: Blank,
+) -> Result<(Finished, u64, u64), Fail>
+    requires made { IsMadeFor verified.now memory }
+    requires code { verified.now ≡ L.code }
+    requires crew { 2 ≡ L.crew }
+    requires name { blank.name ≡ L.name }
+    requires parts { blank.parts ≡ L.parts }
+    requires one_each { blank.parts ≡ 2 }
+{
+    let made = Shared::<L>::new(alloc, verified, [64].as_slice(), memory, 2, blank);
+    let (shared, seats) = made.ok().ok_or("a run that does not begin")?;
+    let room = Vec::with_capacity(alloc, seats.len())?;
+    let mut chairs = chairs_of(alloc, seats)?;
+    play_both(rt, &shared, chairs.as_mut_slice());
+    let mut reported: u64 = 0;
+    for chair in &chairs {
+        reported = reported.saturating_add(chair.events);
+    }
+    match shared.finish(seats_of(chairs, room)) {
+        Ok((finished, events)) => Ok((finished, events, reported)),
+        Err(_) => Err(Fail::from("a run that goes on")),
+    }
+}
+
+#[test]
+fn two_threads_play_at_their_seats(rt: HostRuntime) -> Result<(), Fail> {
+    let alloc = rt.alloc();
+    let verified = verified(alloc, RandomState::new(&rt)?, PARALLEL_FOR)?;
+    let memory = Memory::zeroed(alloc, &verified)?;
+    let blank = Blank::new(2);
+    let (done, events, reported) =
+        two_seats::<Brand, _>(&rt, alloc, &verified, memory, blank)?;
+    assert_eq!(rt; done.result, 64);
+    assert_eq!(rt; done.instructions, 518);
+    assert_eq!(rt; done.peak, 2);
+    assert_eq!(rt; events, reported);
+    Ok(())
+}
