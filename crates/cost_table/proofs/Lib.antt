@@ -1,4 +1,5 @@
 pub mod Capped
+pub mod Climbing
 pub mod Levels
 pub mod Greatest
 pub mod Deeper

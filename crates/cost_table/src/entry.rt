@@ -1,4 +1,5 @@
 ghost use Rattle.std.specs.Prelude.{◌≡◌, ◌+◌, suc};
+ghost use Rattle.program.specs.declared.annotation.Budget.{Budget};
 ghost use Rattle.cost_table.specs.Cost.{cost_below};
 ghost use Rattle.cost_table.specs.Depth.{flat_depth, self_calls_depth};
 ghost use Rattle.cost_table.specs.Tables.{as_u64, as_u128, above_self_call, bounded, climbed, within};
@@ -28,17 +29,33 @@ fn above_self_call(rise: u64, depth: u64) -> u64
     }
 }
 
+/// The same where it may be made of two self calls and more: it doubles with the measure, so that it soon is past all bounds.
+fn climbing_cost(calls: u128, instructions: u128, measure: u64) -> u128
+    ensures { (budget : Budget) → budget.self_calls ≡ calls → budget.instructions ≡ instructions → result ≡ as_u128 (cost_below budget (suc measure)) }
+{
+    let mut cost = instructions;
+    for _step in 0..measure {
+        if cost == u128::MAX {
+            return cost;
+        }
+        cost = instructions.saturating_add(calls.saturating_mul(cost));
+    }
+    cost
+}
+
 /// What a call of this measure costs at most.
 pub fn cost_of(budget: &Budget, measure: u64) -> u128
     ensures { result ≡ as_u128 (cost_below budget.now (suc measure)) }
 {
     let calls = u128::from(budget.self_calls);
     let instructions = u128::from(budget.instructions);
-    let mut cost = instructions;
-    for _step in 0..measure {
-        cost = instructions.saturating_add(calls.saturating_mul(cost));
+    if calls <= 1 {
+        return instructions.saturating_mul(1 + calls * u128::from(measure));
     }
-    cost
+    if instructions == 0 {
+        return 0;
+    }
+    climbing_cost(calls, instructions, measure)
 }
 
 /// A number of 64 bits; the greatest stands for all beyond.

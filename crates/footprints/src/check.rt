@@ -11,11 +11,11 @@ ghost use Rattle.footprints.specs.Rules.{IsBlockBrokenBy, IsBlockBroken, IsFunct
 
 use crate::ZoneFault;
 use crate::judge::{edges_fault, step_fault, use_fault};
-use crate::place::Place;
+use crate::place::{Place, index_for};
 use crate::touch::{child_foot, end_use};
-use linear::Fact;
+use linear::{Fact, FactCursor, Known};
 use lists::OutOfMemory;
-use program::{Block, BlockId, Ending, Function, Program, Step, Zone};
+use program::{Block, BlockId, Ending, Function, Instruction, Program, Step, Zone};
 use ranges::{BlockFacts, EdgeFacts, Facts, FunctionFacts, Graph, Regions, Task};
 use refusal::{Broken, lower};
 use std::alloc::Global;
@@ -78,7 +78,7 @@ fn place_in<'a>(
     function: &'a Function,
     task: Task,
     block: &'a Block,
-    facts: &'a [Fact],
+    facts: &'a Known<'a>,
 ) -> Place<'a>
     ensures { place_of result.facts.now result.covering.now result.own result.pending.now ≡ place_in function.now task block.now facts.now }
 {
@@ -97,7 +97,7 @@ fn step_in_block(
     function: &Function,
     task: Task,
     block: &Block,
-    facts: &[Fact],
+    facts: &Known<'_>,
     step: &Step,
 ) -> Result<Option<Broken>, OutOfMemory>
     ensures { IfOk result (IsEarliest (IsStepBroken functions.now function.now task block.now facts.now step.now)) }
@@ -105,6 +105,23 @@ fn step_in_block(
     let place = place_in(function, task, block, facts);
     let steps = block.steps.as_slice();
     step_fault(alloc, &place, functions, steps, step)
+}
+
+/// Whether an instruction may touch cells.
+fn has_zones(instruction: &Instruction) -> bool {
+    match instruction {
+        Instruction::Load { .. }
+        | Instruction::Store { .. }
+        | Instruction::StoreZeros { .. }
+        | Instruction::AtomicAdd { .. }
+        | Instruction::Call { .. } => true,
+        Instruction::Binary { .. }
+        | Instruction::Compare { .. }
+        | Instruction::Convert { .. }
+        | Instruction::Alloca { .. }
+        | Instruction::ElementPointer { .. }
+        | Instruction::StartRegion { .. } => false,
+    }
 }
 
 /// What is broken at the steps of a block.
@@ -119,10 +136,13 @@ fn steps_fault(
     ensures { IfOk result (IsEarliest (AreStepsBroken functions.now function.now task block.now (facts_in_table table.now))) }
 {
     let mut named: Option<Broken> = None;
+    let mut cursor = FactCursor::new(alloc, table.facts.as_slice());
     let steps = block.steps.as_slice();
     for (index, step) in steps.iter().enumerate() {
-        let facts = table.at_step(index);
-        let broken = step_in_block(alloc, functions, function, task, block, facts, step)?;
+        cursor.seek(table.count_at(index));
+        index_for(&mut cursor, has_zones(&step.instruction))?;
+        let facts = cursor.known();
+        let broken = step_in_block(alloc, functions, function, task, block, &facts, step)?;
         named = lower(named, broken);
     }
     Ok(named)
@@ -134,7 +154,7 @@ fn ending_fault(
     function: &Function,
     task: Task,
     block: &Block,
-    facts: &[Fact],
+    facts: &Known<'_>,
     edges: &[EdgeFacts],
     ending: &Ending,
 ) -> Result<Option<Broken>, OutOfMemory>
@@ -160,7 +180,13 @@ fn end_fault(
     ensures { IfOk result (IsEarliest (IsEndBroken function.now task block.now facts.now edges.now block.now.ending)) }
 {
     match &block.ending {
-        Some(ending) => ending_fault(alloc, function, task, block, facts, edges, ending),
+        Some(ending) => {
+            let mut cursor = FactCursor::new(alloc, facts);
+            let foot = child_foot(function.blocks.as_slice(), &ending.terminator);
+            index_for(&mut cursor, !foot.is_empty())?;
+            let facts = cursor.known();
+            ending_fault(alloc, function, task, block, &facts, edges, ending)
+        }
         None => Ok(None),
     }
 }

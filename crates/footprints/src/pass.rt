@@ -1,9 +1,10 @@
 ghost use Rattle.std.specs.Prelude.{◌≡◌, IfOk, slice_get};
 ghost use Rattle.footprints.specs.Footprints.{hands_on, pending_of, is_passed, are_passed, foot_passed, child_passed_on, passes_on};
 
-use crate::place::as_written;
+use crate::place::{as_written, index_for};
 use crate::touch::child_foot;
 use crate::zone::{PlacedZone, covers, is_empty};
+use linear::{FactCursor, Known};
 use lists::OutOfMemory;
 use program::{Block, BlockId, Pending, RegisterId, Terminator, Zone};
 use ranges::{EdgeFacts, Way};
@@ -33,14 +34,15 @@ fn pending_of(blocks: &[Block], block: BlockId) -> &[Pending]
 #[tactic(auto, unfolding(crate::specs::Footprints::is_passed))]
 fn is_passed(
     alloc: Global,
+    facts: &Known<'_>,
     edge: &EdgeFacts,
     waiting: &[Pending],
     region: RegisterId,
     zone: &Zone,
 ) -> Result<bool, OutOfMemory>
+    requires { facts.now ≡ edge.now.facts }
     ensures { IfOk result (λ b. b ≡ is_passed edge.now waiting.now region zone.now) }
 {
-    let facts = edge.facts.as_slice();
     let y = as_written(zone);
     if is_empty(alloc, facts, &y)? {
         return Ok(true);
@@ -61,15 +63,17 @@ fn is_passed(
 /// Whether each pending zone of the source that goes on along the edge is covered at the target.
 fn are_passed(
     alloc: Global,
+    facts: &Known<'_>,
     edge: &EdgeFacts,
     waiting: &[Pending],
     pending: &[Pending],
 ) -> Result<bool, OutOfMemory>
+    requires { facts.now ≡ edge.now.facts }
     ensures { IfOk result (λ b. b ≡ are_passed edge.now waiting.now pending.now) }
 {
     for item in pending {
         if hands_on(edge.way, item.region)
-            && !is_passed(alloc, edge, waiting, item.region, &item.zone)?
+            && !is_passed(alloc, facts, edge, waiting, item.region, &item.zone)?
         {
             return Ok(false);
         }
@@ -80,15 +84,17 @@ fn are_passed(
 /// Whether each zone of a new child's foot is covered at the continuation.
 fn foot_passed(
     alloc: Global,
+    facts: &Known<'_>,
     edge: &EdgeFacts,
     waiting: &[Pending],
     region: RegisterId,
     foot: &[Zone],
 ) -> Result<bool, OutOfMemory>
+    requires { facts.now ≡ edge.now.facts }
     ensures { IfOk result (λ b. b ≡ foot_passed edge.now waiting.now region foot.now) }
 {
     for zone in foot {
-        if !is_passed(alloc, edge, waiting, region, zone)? {
+        if !is_passed(alloc, facts, edge, waiting, region, zone)? {
             return Ok(false);
         }
     }
@@ -98,18 +104,20 @@ fn foot_passed(
 /// Whether a new child's foot is covered at the continuation; other edges owe nothing of it.
 fn child_passed_on(
     alloc: Global,
+    facts: &Known<'_>,
     blocks: &[Block],
     edge: &EdgeFacts,
     waiting: &[Pending],
     terminator: &Terminator,
 ) -> Result<bool, OutOfMemory>
+    requires { facts.now ≡ edge.now.facts }
     ensures { IfOk result (λ b. b ≡ child_passed_on blocks.now edge.now waiting.now edge.now.way terminator.now) }
 {
     match edge.way {
         Way::Continued => match terminator {
             Terminator::Detach { region, .. } => {
                 let foot = child_foot(blocks, terminator);
-                foot_passed(alloc, edge, waiting, *region, foot)
+                foot_passed(alloc, facts, edge, waiting, *region, foot)
             }
             Terminator::Jump { .. }
             | Terminator::Branch { .. }
@@ -133,8 +141,11 @@ pub fn passes_on(
     ensures { IfOk result (λ b. b ≡ passes_on blocks.now pending.now terminator.now edge.now) }
 {
     let waiting = pending_of(blocks, edge.to);
-    if !are_passed(alloc, edge, waiting, pending)? {
+    let mut cursor = FactCursor::new(alloc, edge.facts.as_slice());
+    index_for(&mut cursor, !waiting.is_empty())?;
+    let facts = cursor.known();
+    if !are_passed(alloc, &facts, edge, waiting, pending)? {
         return Ok(false);
     }
-    child_passed_on(alloc, blocks, edge, waiting, terminator)
+    child_passed_on(alloc, &facts, blocks, edge, waiting, terminator)
 }

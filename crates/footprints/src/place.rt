@@ -3,7 +3,7 @@ ghost use Rattle.footprints.specs.Zones.{span};
 ghost use Rattle.footprints.specs.Footprints.{place_of, is_own, is_allowed, is_clear};
 
 use crate::zone::{PlacedZone, conflict, is_covered};
-use linear::Fact;
+use linear::{FactCursor, Known};
 use lists::OutOfMemory;
 use program::{ObjectName, Pending, Zone};
 use std::alloc::Global;
@@ -12,10 +12,20 @@ use std::alloc::Global;
 /// the function's own allocas need no cover, and what is pending.
 #[derive(Clone, Copy)]
 pub struct Place<'a> {
-    pub facts: &'a [Fact],
+    pub facts: &'a Known<'a>,
     pub covering: &'a [Zone],
     pub own: bool,
     pub pending: &'a [Pending],
+}
+
+/// Brings the index of what is known up to date, where questions are to come.
+pub fn index_for(cursor: &mut FactCursor<'_>, is_asked: bool) -> Result<(), OutOfMemory>
+    ensures { cursor.new ≡ cursor.old }
+{
+    if is_asked {
+        cursor.index()?;
+    }
+    Ok(())
 }
 
 /// A zone in its own function.

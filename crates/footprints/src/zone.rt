@@ -1,10 +1,10 @@
 ghost use Rattle.std.specs.Prelude.{◌≡◌, ◌<◌, IfOk};
 ghost use Rattle.footprints.specs.Zones.{span, same_object, mode_covers, modes_agree, between, shows_order, is_empty, covers, is_apart, conflict, is_covered};
 
-use linear::{Fact, Form, side_of};
+use linear::{Form, Known, side_of};
 use lists::{OutOfMemory, Seq};
 use program::{Mode, ObjectName, Zone};
-use ranges::{Move, Sum, push_parts, shows};
+use ranges::{Move, Sum, push_parts, shows_at};
 use std::alloc::Global;
 
 /// A zone at a place: the object that it is of there, and the operands that stand for its registers there.
@@ -78,7 +78,7 @@ fn between(
 #[tactic(auto, unfolding(crate::specs::Zones::shows_order))]
 fn shows_order(
     alloc: Global,
-    facts: &[Fact],
+    facts: &Known<'_>,
     for_high: &[Move],
     high: &Form,
     for_low: &[Move],
@@ -87,12 +87,12 @@ fn shows_order(
     ensures { IfOk result (λ b. b ≡ shows_order facts.now for_high.now high.now for_low.now low.now) }
 {
     let sum = between(alloc, for_high, high, for_low, low)?;
-    shows(alloc, facts, &sum)
+    shows_at(alloc, facts, &sum)
 }
 
 /// Whether a zone is shown to have no cell.
 #[tactic(auto, unfolding(crate::specs::Zones::is_empty))]
-pub fn is_empty(alloc: Global, facts: &[Fact], z: &PlacedZone<'_>) -> Result<bool, OutOfMemory>
+pub fn is_empty(alloc: Global, facts: &Known<'_>, z: &PlacedZone<'_>) -> Result<bool, OutOfMemory>
     ensures { IfOk result (λ b. b ≡ is_empty facts.now (span z.now.object z.now.moves.now z.now.zone.now)) }
 {
     shows_order(alloc, facts, z.moves, &z.zone.low, z.moves, &z.zone.high)
@@ -102,7 +102,7 @@ pub fn is_empty(alloc: Global, facts: &[Fact], z: &PlacedZone<'_>) -> Result<boo
 #[tactic(auto, unfolding(crate::specs::Zones::covers))]
 pub fn covers(
     alloc: Global,
-    facts: &[Fact],
+    facts: &Known<'_>,
     z: &PlacedZone<'_>,
     y: &PlacedZone<'_>,
 ) -> Result<bool, OutOfMemory>
@@ -124,7 +124,7 @@ pub fn covers(
 #[tactic(auto, unfolding(crate::specs::Zones::is_apart))]
 pub fn is_apart(
     alloc: Global,
-    facts: &[Fact],
+    facts: &Known<'_>,
     z: &PlacedZone<'_>,
     y: &PlacedZone<'_>,
 ) -> Result<bool, OutOfMemory>
@@ -133,23 +133,23 @@ pub fn is_apart(
     if !same_object(z.object, y.object) {
         return Ok(true);
     }
-    if is_empty(alloc, facts, z)? {
-        return Ok(true);
-    }
-    if is_empty(alloc, facts, y)? {
-        return Ok(true);
-    }
     if shows_order(alloc, facts, z.moves, &z.zone.low, y.moves, &y.zone.high)? {
         return Ok(true);
     }
-    shows_order(alloc, facts, y.moves, &y.zone.low, z.moves, &z.zone.high)
+    if shows_order(alloc, facts, y.moves, &y.zone.low, z.moves, &z.zone.high)? {
+        return Ok(true);
+    }
+    if is_empty(alloc, facts, z)? {
+        return Ok(true);
+    }
+    is_empty(alloc, facts, y)
 }
 
 /// Whether two zones may have a cell in common, and the order of its uses may matter.
 #[tactic(auto, unfolding(crate::specs::Zones::conflict))]
 pub fn conflict(
     alloc: Global,
-    facts: &[Fact],
+    facts: &Known<'_>,
     z: &PlacedZone<'_>,
     y: &PlacedZone<'_>,
 ) -> Result<bool, OutOfMemory>
@@ -165,7 +165,7 @@ pub fn conflict(
 #[tactic(auto, unfolding(crate::specs::Zones::is_covered))]
 pub fn is_covered(
     alloc: Global,
-    facts: &[Fact],
+    facts: &Known<'_>,
     zones: &[Zone],
     y: &PlacedZone<'_>,
 ) -> Result<bool, OutOfMemory>

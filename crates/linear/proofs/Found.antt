@@ -22,7 +22,7 @@ some_term = record { register = record { 0 = 0 }; coefficient = pos 0 }
 factor_at : (ts : List Term) (k a : ℕ) → k < length ts → get_or (factors ts) (suc k) a ≡ unsigned_abs (get_or ts k some_term).coefficient
 factor_at ts k a within = get_or-map (λ (t : Term). unsigned_abs t.coefficient) ts k some_term a within
 
-is_factor : (e : Combination) (a : ℕ) → IsRising e.terms → Contains (factors e.terms) a → IsFactor e a
+pub is_factor : (e : Combination) (a : ℕ) → IsRising e.terms → Contains (factors e.terms) a → IsFactor e a
 is_factor e a rising (zero, within, is) = inl (sym is)
 is_factor e a rising (suc k, within, is) =
     let below : k < length e.terms = omega (arith, within, length-map e.terms (λ (t : Term). unsigned_abs t.coefficient)) in

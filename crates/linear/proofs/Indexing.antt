@@ -1,11 +1,12 @@
 -- What stands for the facts in an index, and what it makes up.
-use Rattle.std.proofs.Common.{◌≡◌, ◌∙◌, ℕ, zero, suc, ◌<◌, ◌≤◌, ◌+◌, ◌*◌, ◌^◌, ℤ, pos, ◌+ℤ◌, ◌*ℤ◌, ◌-ℤ◌, ◌≤ℤ◌, true, List, [], ◌∷◌, length, get_or, insert, set, map, drop, Option, None, Some, inl, inr, sym, ap, refl, subst, arith}
+use Rattle.std.proofs.Common.{◌≡◌, ◌∙◌, ℕ, zero, suc, ◌<◌, ◌≤◌, ◌+◌, ◌*◌, ◌^◌, ℤ, pos, ◌+ℤ◌, ◌*ℤ◌, ◌-ℤ◌, ◌≤ℤ◌, true, List, [], ◌∷◌, ◌++◌, length, get_or, insert, set, map, take, drop, Option, None, Some, inl, inr, sym, ap, refl, subst, arith}
 use Rattle.std.specs.List.{All, Contains}
 use Rattle.std.specs.List.Sorted.{IsNonDecreasingBy}
 use Rattle.std.specs.Option.{IfSome}
+use Rattle.std.proofs.Math.ListN.{get_or-append}
 use Rattle.std.proofs.lemmas.Int.{ints}
-use Rattle.std.proofs.lemmas.Bool.{cases_eq}
-use Rattle.std.proofs.lemmas.List.{length-map, length-set, get_or_default, get_or-set_same, get_or-set_other}
+use Rattle.std.proofs.lemmas.Bool.{cases_eq, cases_lt}
+use Rattle.std.proofs.lemmas.List.{length-map, length-append, map-append, take-append-drop, length-set, get_or_default, get_or-set_same, get_or-set_other}
 use Rattle.std.proofs.lemmas.List.Edits.{length-insert, get_or-insert_at}
 use Rattle.std.proofs.lemmas.List.Elements.{All-contains, All-cons, Contains-get_or, Contains-append_right}
 use Rattle.std.proofs.lemmas.List.Sorted.{IsNonDecreasingBy-insert, IsNonDecreasingBy-short, IsPermutation-insert, All-permutation, Contains-permutation}
@@ -14,11 +15,11 @@ use Rattle.linear.specs.declared.form.Fact.{Fact}
 use Rattle.linear.specs.declared.index.Entry.{Entry}
 use Rattle.linear.specs.Forms.{Combination, coefficient_of, constant_form, IsRising}
 use Rattle.linear.specs.Shown.{IsSum, IsShown, sides}
-use Rattle.linear.specs.Search.{has_some, IsLeft, IsFound}
-use Rattle.linear.specs.Index.{weight, weigh, IsKeyOf, place_at, IsEntry, IsAsStrong, IsIndexed, IsIndex, IsMadeUp, IsMadeUpByFirst}
+use Rattle.linear.specs.Search.{factors, has_some, IsLeft, IsFound}
+use Rattle.linear.specs.Index.{weight, weigh, IsKeyOf, place_at, IsEntry, IsAsStrong, IsIndexed, IsIndex, IsBegun, IsMadeUp, IsMadeUpByA}
 use Rattle.linear.proofs.Values.{distributes, keeps_sign, value_combines}
 use Rattle.linear.proofs.Newest.{in_newest, in_sides}
-use Rattle.linear.proofs.Found.{found_shown, shown_found}
+use Rattle.linear.proofs.Found.{is_factor, found_shown, shown_found}
 
 -- ---- strength
 
@@ -184,17 +185,46 @@ made_up_by_entry facts es index e a first b key is entry (g, c, sum) =
     let own = All-contains (IsEntry facts) es k.0 index.own k.1 in
     (k.0, k.1, key_of_sum e a (place_at facts first.place) b (place_at facts k.0.place) key first.key k.0.key is entry.key own.key s, s)
 
-pub shown_by_index : (facts : List Fact) (es : List Entry) → IsIndex facts (suc (length facts)) es → (e : Combination) (lead : Option RegisterId) → IsRising e.terms → IsMadeUpByFirst facts e lead es → IsShown facts e
-shown_by_index facts es index e lead rising (entry, c, (leads, (a, in_a, (b, in_b, (g, in_g, sum))))) =
+-- it is in a run of the first entries, which holds all of the wanted key, where the other entries are past it
+pub second_in_run : (facts : List Fact) (es run : List Entry) (e : Combination) (a : ℕ) (first : Entry) (b key wanted upto : ℕ) → IsIndex facts (suc (length facts)) es → IsKeyOf e.terms key → IsEntry facts first →
+    wanted + a * first.key + 2 ^ 61 ≡ (a + b) * 2 ^ 61 + key → ((k : ℕ) (d : Entry) → upto ≤ k → k < length es → wanted < b * (get_or es k d).key) →
+    ((k : ℕ) (d : Entry) → k < upto → b * (get_or es k d).key ≡ wanted → Contains run (get_or es k d)) → IsMadeUp facts e (place_at facts first.place) a b →
+    (second : Entry) × Contains run second × IsSum e a (place_at facts first.place) b (place_at facts second.place)
+second_in_run facts es run e a first b key wanted upto index is entry want past all made =
+    let s = made_up_by_entry facts es index e a first b key is entry made in
+    let at_is : get_or es s.1.0 s.0 ≡ s.0 = s.1.2 in
+    let key_is : b * s.0.key ≡ wanted = omega (arith, s.2, want) in
+    let same : b * (get_or es s.1.0 s.0).key ≡ b * s.0.key = ap (λ (x : Entry). b * x.key) at_is in
+    elim (cases_lt s.1.0 upto) [
+      | inl less ↦ (s.0, subst (λ (x : Entry). Contains run x) at_is (all s.1.0 s.0 less (same ∙ key_is)), s.3)
+      | inr more ↦ absurd (omega (arith, past s.1.0 s.0 more s.1.1, same, key_is))
+    ]
+
+-- one fact alone shows a form
+pub alone_shown : (facts : List Fact) (e : Combination) (b : ℕ) → IsRising e.terms → Contains (factors e.terms) b → IsMadeUp facts e (place_at facts 0) 1 b → IsShown facts e
+alone_shown facts e b rising in_b (g, in_g, sum) = record {
+  f = place_at facts 0;
+  g = g;
+  a = 1;
+  b = b;
+  f_is = (0, omega arith, refl);
+  g_is = in_g;
+  a_is = inl refl;
+  b_is = is_factor e b rising in_b;
+  sum = sum;
+}
+
+pub shown_by_index : (facts : List Fact) (es : List Entry) → IsIndex facts (suc (length facts)) es → (e : Combination) (lead : Option RegisterId) → IsRising e.terms → IsMadeUpByA facts e lead es → IsShown facts e
+shown_by_index facts es index e lead rising (a, in_a, (b, in_b, (entry, c, (leads, (g, in_g, sum))))) =
     let own = All-contains (IsEntry facts) es entry index.own c in
     found_shown facts e lead rising (place_at facts entry.place, in_newest facts (place_at facts entry.place) (side_of_entry facts entry own), (leads, (a, in_a, (g, in_newest facts g in_g, (b, in_b, sum)))))
 
-by_index : (facts : List Fact) (es : List Entry) → IsIndex facts (suc (length facts)) es → (e : Combination) (lead : Option RegisterId) → IsFound facts e lead → IsMadeUpByFirst facts e lead es
+by_index : (facts : List Fact) (es : List Entry) → IsIndex facts (suc (length facts)) es → (e : Combination) (lead : Option RegisterId) → IsFound facts e lead → IsMadeUpByA facts e lead es
 by_index facts es index e lead (f, in_f, (leads, (a, in_a, (g, in_g, (b, in_b, sum))))) =
     let k = kept_side facts es index f (in_sides facts f in_f) in
-    (k.0, k.1, (same_some (place_at facts k.0.place) f lead k.2 leads, (a, in_a, (b, in_b, (g, in_sides facts g in_g, stronger_first e a f (place_at facts k.0.place) b g k.2 sum)))))
+    (a, in_a, (b, in_b, (k.0, k.1, (same_some (place_at facts k.0.place) f lead k.2 leads, (g, in_sides facts g in_g, stronger_first e a f (place_at facts k.0.place) b g k.2 sum)))))
 
-pub index_shows : (facts : List Fact) (es : List Entry) → IsIndex facts (suc (length facts)) es → (e : Combination) (lead : Option RegisterId) → IfSome lead (IsLeft e.terms 1 []) → IsRising e.terms → IsShown facts e → IsMadeUpByFirst facts e lead es
+pub index_shows : (facts : List Fact) (es : List Entry) → IsIndex facts (suc (length facts)) es → (e : Combination) (lead : Option RegisterId) → IfSome lead (IsLeft e.terms 1 []) → IsRising e.terms → IsShown facts e → IsMadeUpByA facts e lead es
 index_shows facts es index e lead leads rising s = by_index facts es index e lead (shown_found facts e lead leads rising s)
 
 -- ---- some of the facts
@@ -224,3 +254,51 @@ shown_by_more n facts e s = record {
   b_is = s.b_is;
   sum = s.sum;
 }
+
+-- ---- facts join
+
+place_more : (facts more : List Fact) (p : ℕ) → p ≤ length facts → place_at (facts ++ more) p ≡ place_at facts p
+place_more facts more zero l = refl
+place_more facts more (suc p) l =
+    rw (map-append (λ (f : Fact). f.form) facts more) (get_or-append (map (λ (f : Fact). f.form) facts) (map (λ (f : Fact). f.form) more) (constant_form (pos 0)) p (rw (length-map facts (λ (f : Fact). f.form)) (omega (arith, l))))
+
+entry_more : (facts more : List Fact) (e : Entry) → IsEntry facts e → IsEntry (facts ++ more) e
+entry_more facts more e is = record {
+  within = rw (length-append facts more) (omega (arith, is.within));
+  key = rw (place_more facts more e.place is.within) is.key;
+}
+
+pub begun_more : (facts more : List Fact) (n : ℕ) (es : List Entry) → IsBegun facts n es → IsBegun (facts ++ more) n es
+begun_more facts more n es begun = record {
+  within = rw (length-append facts more) (omega (arith, begun.within));
+  index = record {
+    sorted = begun.index.sorted;
+    own = λ k d l. entry_more facts more (get_or es k d) (begun.index.own k d l);
+    kept = λ place l.
+        let k = begun.index.kept place l in
+        let own = All-contains (IsEntry facts) es k.0 begun.index.own k.1 in
+        (k.0, k.1, rw (place_more facts more k.0.place own.within, place_more facts more place (omega (arith, begun.within, l))) k.2);
+  };
+}
+
+pub begun_none : (facts : List Fact) → IsBegun facts 0 []
+begun_none facts = record { within = omega arith; index = index_none facts }
+
+-- the first facts, and more of them
+pub begun_later : (facts : List Fact) (count later : ℕ) (n : ℕ) (es : List Entry) → count ≤ later → IsBegun (take count facts) n es → IsBegun (take later facts) n es
+begun_later facts count later n es le begun =
+    let first : take count (take later facts) ≡ take count facts = take-take-le count later facts le in
+    let whole : take count facts ++ drop count (take later facts) ≡ take later facts = ap (λ xs. xs ++ drop count (take later facts)) (sym first) ∙ take-append-drop count (take later facts) in
+    rw whole at (begun_more (take count facts) (drop count (take later facts)) n es begun)
+  where
+    take-take-le : (n m : ℕ) (xs : List Fact) → n ≤ m → take n (take m xs) ≡ take n xs
+    take-take-le zero m xs l = refl
+    take-take-le (suc n) zero xs l = absurd (omega (arith, l))
+    take-take-le (suc n) (suc m) [] l = refl
+    take-take-le (suc n) (suc m) (x ∷ xs) l = ap (λ ys. x ∷ ys) (take-take-le n m xs (omega (arith, l)))
+
+-- an index of all the facts
+pub begun_whole : (facts : List Fact) (n : ℕ) (es : List Entry) → length facts < n → IsBegun facts n es → IsIndex facts (suc (length facts)) es
+begun_whole facts n es all begun =
+    let e : n ≡ suc (length facts) = omega (arith, all, begun.within) in
+    rw e at begun.index

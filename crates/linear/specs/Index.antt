@@ -1,5 +1,5 @@
 -- Facts by the values of their terms: of those with the same coefficients the strongest alone is kept.
-use Rattle.std.specs.Prelude.{◌≡◌, ℕ, ◌<◌, ◌≤◌, ◌+◌, ◌*◌, ◌%◌, ◌^◌, ℤ, pos, ◌+ℤ◌, ◌≤ℤ◌, true, List, length, All, Contains, Option, slice_index_or}
+use Rattle.std.specs.Prelude.{◌≡◌, ℕ, suc, ◌<◌, ◌≤◌, ◌+◌, ◌*◌, ◌%◌, ◌^◌, ℤ, pos, ◌+ℤ◌, ◌≤ℤ◌, true, List, length, All, Contains, Option, slice_index_or}
 use Rattle.std.specs.List.Sorted.{IsNonDecreasingBy}
 use Rattle.linear.specs.declared.form.RegisterId.{RegisterId}
 use Rattle.linear.specs.declared.form.Term.{Term}
@@ -44,19 +44,30 @@ pub record IsIndex (facts : List Fact) (count : ℕ) (entries : List Entry) : Ty
   pub own : All (IsEntry facts) entries
   pub kept : (place : ℕ) → place < count → IsIndexed facts entries place
 
--- ---- the search: some second fact, some second factor, some first factor, some first fact that has some of a register
+-- an index of the first places, which more may join
+pub record IsBegun (facts : List Fact) (count : ℕ) (entries : List Entry) : Type 0 where
+  pub within : count ≤ suc (length facts)
+  pub index : IsIndex facts count entries
+
+-- ---- the search: some first factor, some second factor, some first fact that has some of a register, some second fact
 
 abbrev pub IsMadeUp : List Fact → Combination → Combination → ℕ → ℕ → Type 0
 IsMadeUp facts e f a b = (g : Combination) × Contains (sides facts) g × IsSum e a f b g
 
-abbrev pub IsMadeUpByB : List Fact → Combination → Combination → ℕ → Type 0
-IsMadeUpByB facts e f a = (b : ℕ) × Contains (factors e.terms) b × IsMadeUp facts e f a b
+abbrev pub IsMadeUpFirst : List Fact → Combination → Option RegisterId → ℕ → ℕ → Entry → Type 0
+IsMadeUpFirst facts e lead a b first =
+    (has_some (place_at facts first.place).terms lead ≡ true) × IsMadeUp facts e (place_at facts first.place) a b
 
-abbrev pub IsMadeUpByA : List Fact → Combination → Combination → Type 0
-IsMadeUpByA facts e f = (a : ℕ) × Contains (factors e.terms) a × IsMadeUpByB facts e f a
+abbrev pub IsMadeUpWith : List Fact → Combination → Option RegisterId → List Entry → ℕ → ℕ → Type 0
+IsMadeUpWith facts e lead entries a b = (first : Entry) × Contains entries first × IsMadeUpFirst facts e lead a b first
 
-abbrev pub IsMadeUpFrom : List Fact → Combination → Option RegisterId → Combination → Type 0
-IsMadeUpFrom facts e lead f = (has_some f.terms lead ≡ true) × IsMadeUpByA facts e f
+abbrev pub IsMadeUpByB : List Fact → Combination → Option RegisterId → List Entry → ℕ → Type 0
+IsMadeUpByB facts e lead entries a = (b : ℕ) × Contains (factors e.terms) b × IsMadeUpWith facts e lead entries a b
 
-abbrev pub IsMadeUpByFirst : List Fact → Combination → Option RegisterId → List Entry → Type 0
-IsMadeUpByFirst facts e lead entries = (entry : Entry) × Contains entries entry × IsMadeUpFrom facts e lead (place_at facts entry.place)
+abbrev pub IsMadeUpByA : List Fact → Combination → Option RegisterId → List Entry → Type 0
+IsMadeUpByA facts e lead entries = (a : ℕ) × Contains (factors e.terms) a × IsMadeUpByB facts e lead entries a
+
+-- from a place on the keys are too great for what a form of this key lacks beside a times a first key
+abbrev pub ArePast : List Entry → ℕ → ℕ → ℕ → ℕ → ℕ → Type 0
+ArePast entries key a b first upto = (k : ℕ) (d : Entry) → upto ≤ k → k < length entries
+    → (a + b) * 2 ^ 61 + key < b * (slice_index_or entries k d).key + a * first + 2 ^ 61

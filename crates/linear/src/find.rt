@@ -1,12 +1,12 @@
 //! What many facts show.
 
-ghost use Rattle.std.specs.Prelude.{◌≡◌, ◌-◌, suc, IfOk, IfSome, drop, length};
+ghost use Rattle.std.specs.Prelude.{◌≡◌, ◌-◌, suc, true, IfOk, IfSome, IsTrue, drop, length};
 ghost use Rattle.linear.specs.Index.{IsKeyOf, IsIndex};
 ghost use Rattle.linear.specs.Tested.{is_shown};
 
 use crate::form::{Fact, Form};
 use crate::index::{Entry, index_of};
-use crate::lookup::{Search, made_up};
+use crate::lookup::{Search, made_up, made_up_alone};
 use crate::show::{left_over, shown};
 use crate::side::side_of;
 use crate::weight::key_of;
@@ -30,30 +30,69 @@ fn key_of_form(form: &Form) -> Option<u64>
     key_of(side_of(form).terms)
 }
 
-/// Whether the facts show the form, by their index.
-fn shown_by_index(facts: &[Fact], entries: &[Entry], form: &Form, key: u64) -> bool
-    requires index { IsIndex facts.now (suc (length facts.now)) entries.now }
-    requires key { IsKeyOf form.now.terms key }
-    ensures { result ≡ is_shown facts.now form.now }
+/// Whether one of the facts shows the form.
+fn shown_by_one(search: &Search<'_>) -> bool
+    requires index { IsIndex search.now.facts.now (suc (length search.now.facts.now)) search.now.entries.now }
+    ensures { IsTrue result → is_shown search.now.facts.now search.now.form.now ≡ true }
 {
-    let lead = left_over(side_of(form).terms, 1, &[]);
-    let search = Search {
-        facts,
-        entries,
-        form,
-        key,
-    };
-    made_up(&search, lead)
+    made_up_alone(search)
 }
 
-/// Whether the facts show the form, by an index where each fact and the form have keys.
+/// Whether two of the newest facts show the form.
+fn shown_by_newest(search: &Search<'_>) -> bool
+    ensures { IsTrue result → is_shown search.now.facts.now search.now.form.now ≡ true }
+{
+    shown(newest(search.facts), search.form)
+}
+
+/// Whether the facts show the form.
+fn shown_by_two(search: &Search<'_>) -> bool
+    requires index { IsIndex search.now.facts.now (suc (length search.now.facts.now)) search.now.entries.now }
+    requires key { IsKeyOf search.now.form.now.terms search.now.key }
+    ensures { result ≡ is_shown search.now.facts.now search.now.form.now }
+{
+    let lead = left_over(side_of(search.form).terms, 1, &[]);
+    made_up(search, lead)
+}
+
+/// Whether the facts show the form, by their index. Most forms are shown by one fact, or by two of the newest.
+fn shown_by_search(search: &Search<'_>) -> bool
+    requires index { IsIndex search.now.facts.now (suc (length search.now.facts.now)) search.now.entries.now }
+    requires key { IsKeyOf search.now.form.now.terms search.now.key }
+    ensures { result ≡ is_shown search.now.facts.now search.now.form.now }
+{
+    if shown_by_one(search) {
+        return true;
+    }
+    if shown_by_newest(search) {
+        return true;
+    }
+    shown_by_two(search)
+}
+
+/// Whether the facts show the form, by the index of them all.
+pub fn shown_by_index(facts: &[Fact], entries: &[Entry], form: &Form) -> bool
+    requires { IsIndex facts.now (suc (length facts.now)) entries.now }
+    ensures { result ≡ is_shown facts.now form.now }
+{
+    match key_of_form(form) {
+        Some(key) => shown_by_search(&Search {
+            facts,
+            entries,
+            form,
+            key,
+        }),
+        None => shown(facts, form),
+    }
+}
+
+/// Whether the facts show the form, by an index where each fact has a key.
 fn shown_by_many(alloc: Global, facts: &[Fact], form: &Form) -> Result<bool, AllocError>
     ensures { IfOk result (λ b. b ≡ is_shown facts.now form.now) }
 {
-    let index = index_of(alloc, facts)?;
-    match (key_of_form(form), index) {
-        (Some(key), Some(entries)) => Ok(shown_by_index(facts, entries.as_slice(), form, key)),
-        (None, _) | (_, None) => Ok(shown(facts, form)),
+    match index_of(alloc, facts)? {
+        Some(entries) => Ok(shown_by_index(facts, entries.as_slice(), form)),
+        None => Ok(shown(facts, form)),
     }
 }
 

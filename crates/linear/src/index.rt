@@ -4,7 +4,7 @@ ghost use Rattle.std.specs.Prelude.{◌≡◌, ◌<◌, ◌≤◌, ◌+◌, ◌*
 ghost use Rattle.std.specs.Prelude.{unsigned_abs, ◌≤ℤ◌, false, slice_index_or};
 ghost use Rattle.std.specs.List.Sorted.{IsNonDecreasingBy};
 ghost use Rattle.linear.specs.Forms.{AreSmall, IsRising, coefficient_of};
-ghost use Rattle.linear.specs.Index.{place_at, IsKeyOf, IsEntry, IsIndex, IsAsStrong};
+ghost use Rattle.linear.specs.Index.{place_at, IsKeyOf, IsEntry, IsIndex, IsBegun, IsAsStrong};
 ghost use Rattle.linear.specs.declared.index.Entry.{Entry};
 
 use crate::form::Fact;
@@ -12,6 +12,9 @@ use crate::show::agree;
 use crate::side::{Side, side_of};
 use crate::weight::key_of;
 use std::alloc::{AllocError, Global};
+
+/// Up to so many facts are tried two by two, without an index.
+pub const FEW: usize = 16;
 
 /// A fact by its place: 0 stands for an absent one, 1 for the first.
 #[derive(Clone, Copy)]
@@ -111,17 +114,34 @@ fn enter(facts: &[Fact], entries: &mut Vec<Entry>, entry: Entry) -> Result<(), A
     Ok(())
 }
 
+/// Enters the facts from a place on, and answers up to where: one past the range of keys stops it.
+pub fn enter_from(
+    facts: &[Fact],
+    entries: &mut Vec<Entry>,
+    from: usize,
+) -> Result<usize, AllocError>
+    requires { IsBegun facts.now from entries.old.items }
+    ensures { IfOk result (λ count. IsBegun facts.now count entries.new.items) }
+{
+    let count = facts.len() + 1;
+    for place in from..count {
+        match entry_at(facts, place) {
+            Some(entry) => enter(facts, entries, entry)?,
+            None => return Ok(place),
+        }
+    }
+    Ok(count)
+}
+
 /// The strongest facts by their keys; none where one is past the range of keys.
 pub fn index_of(alloc: Global, facts: &[Fact]) -> Result<Option<Vec<Entry>>, AllocError>
     ensures { IfOk result (λ index. IfSome index (λ entries. IsIndex facts.now (suc (length facts.now)) entries.items)) }
 {
     let mut entries: Vec<Entry> = Vec::new(alloc);
-    let count = facts.len() + 1;
-    for place in 0..count {
-        match entry_at(facts, place) {
-            Some(entry) => enter(facts, &mut entries, entry)?,
-            None => return Ok(None),
-        }
+    let count = enter_from(facts, &mut entries, 0)?;
+    if count > facts.len() {
+        Ok(Some(entries))
+    } else {
+        Ok(None)
     }
-    Ok(Some(entries))
 }

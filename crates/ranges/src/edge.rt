@@ -9,7 +9,7 @@ ghost use Rattle.ranges.specs.Edges.{keeps_of, edge_facts, all_edge_facts};
 use crate::know::push_facts;
 use crate::sum::Sum;
 use crate::table::EdgeFacts;
-use linear::Fact;
+use linear::{Fact, FactList};
 use lists::{OutOfMemory, Seq};
 use program::{
     Block, BlockId, Case, Instruction, Operand, Predicate, RegisterId, Step, Terminator,
@@ -295,7 +295,7 @@ fn edge_facts(
 ) -> Result<EdgeFacts, OutOfMemory>
     ensures { IfOk result (λ e. e ≡ edge_facts blocks.now from known.now edge.now) }
 {
-    let mut facts = copy_facts(alloc, known)?;
+    let mut facts = FactList::from_vec(alloc, copy_facts(alloc, known)?);
     push_facts(alloc, &mut facts, edge.sums.as_slice())?;
     let moves = match blocks.get(edge.to.0) {
         Some(target) => make_moves(alloc, target.phis.as_slice(), from)?,
@@ -305,7 +305,7 @@ fn edge_facts(
         to: edge.to,
         way: edge.way,
         moves,
-        facts: Seq::from_vec(facts),
+        facts: Seq::from_vec(facts.into_vec()),
     })
 }
 

@@ -8,11 +8,11 @@ ghost use Rattle.ranges.specs.Edges.{edge_owed, keeps_of};
 ghost use Rattle.refusal.specs.declared.broken.Broken.{Broken};
 
 use crate::inequality::difference_of;
-use crate::know::{is_met, push_fact, shows};
+use crate::know::{is_met_at, push_fact, shows_at};
 use crate::owe::inequalities_owed;
 use crate::sum::Obligation;
 use crate::table::EdgeFacts;
-use linear::Fact;
+use linear::{FactCursor, FactList, Known};
 use lists::OutOfMemory;
 use program::{Block, BlockId, Inequality};
 use refusal::{Broken, lower};
@@ -21,13 +21,13 @@ use std::alloc::Global;
 /// An obligation that the facts do not meet.
 fn obligation_fault(
     alloc: Global,
-    known: &[Fact],
+    known: &Known<'_>,
     line: u32,
     obligation: &Obligation,
 ) -> Result<Option<Broken>, OutOfMemory>
     ensures { IfOk result (IsEarliest (λ (b : Broken). (b.number ≡ obligation.now.number) × (b.line ≡ line) × (is_met known.now obligation.now ≡ false))) }
 {
-    let broken = if is_met(alloc, known, obligation)? {
+    let broken = if is_met_at(alloc, known, obligation)? {
         None
     } else {
         Some(Broken {
@@ -41,7 +41,7 @@ fn obligation_fault(
 /// What the facts do not meet.
 pub fn unmet_fault(
     alloc: Global,
-    known: &[Fact],
+    known: &Known<'_>,
     line: u32,
     obligations: &[Obligation],
 ) -> Result<Option<Broken>, OutOfMemory>
@@ -58,15 +58,16 @@ pub fn unmet_fault(
 /// Adds what a `shows` line says, and names it where it is not shown.
 fn push_shown(
     alloc: Global,
-    facts: &mut Vec<Fact>,
+    facts: &mut FactList,
     inequality: &Inequality,
 ) -> Result<Option<Broken>, OutOfMemory>
-    ensures known { OnOk result (facts.new.items ≡ with_shows facts.old.items (inequality.now ∷ [])) }
+    ensures known { OnOk result (facts.new ≡ with_shows facts.old (inequality.now ∷ [])) }
     ensures named { IfOk result (IsEarliest
-        (λ (b : Broken). (b.number ≡ 508) × (b.line ≡ inequality.now.line) × (shows facts.old.items (difference_of [] inequality.now) ≡ false))) }
+        (λ (b : Broken). (b.number ≡ 508) × (b.line ≡ inequality.now.line) × (shows facts.old (difference_of [] inequality.now) ≡ false))) }
 {
     let sum = difference_of(alloc, &[], inequality)?;
-    let broken = if shows(alloc, facts.as_slice(), &sum)? {
+    facts.index()?;
+    let broken = if shows_at(alloc, &facts.known(), &sum)? {
         None
     } else {
         Some(Broken {
@@ -81,11 +82,11 @@ fn push_shown(
 /// Adds what `shows` lines say, and names what is not shown.
 pub fn push_shows(
     alloc: Global,
-    facts: &mut Vec<Fact>,
+    facts: &mut FactList,
     lines: &[Inequality],
 ) -> Result<Option<Broken>, OutOfMemory>
-    ensures known { OnOk result (facts.new.items ≡ with_shows facts.old.items lines.now) }
-    ensures named { IfOk result (IsEarliest (AreUnshown facts.old.items lines.now)) }
+    ensures known { OnOk result (facts.new ≡ with_shows facts.old lines.now) }
+    ensures named { IfOk result (IsEarliest (AreUnshown facts.old lines.now)) }
 {
     let mut named: Option<Broken> = None;
     for inequality in lines {
@@ -116,7 +117,9 @@ fn edge_fault(
 {
     let keeps = keeps_of(blocks, edge.to);
     let owed = inequalities_owed(alloc, 505, edge.moves.as_slice(), keeps)?;
-    unmet_fault(alloc, edge.facts.as_slice(), line, &owed)
+    let mut facts = FactCursor::new(alloc, edge.facts.as_slice());
+    facts.index()?;
+    unmet_fault(alloc, &facts.known(), line, &owed)
 }
 
 /// What is not shown on one of the edges.

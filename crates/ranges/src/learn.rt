@@ -4,9 +4,9 @@ ghost use Rattle.ranges.specs.Learned.{is_scale, scale_number, scale_of, is_mult
 ghost use Rattle.ranges.specs.Learned.{remainder_by, masked_by, binary_sums, is_32_bits, conversion_sums, call_sums, learned};
 
 use crate::inequality::{call_moves, differences_of};
-use crate::know::shows;
+use crate::know::shows_at;
 use crate::sum::{Part, Sum, opposite};
-use linear::{Fact, RegisterId};
+use linear::{Known, RegisterId};
 use lists::OutOfMemory;
 use program::{Argument, BinaryOperator, Conversion, Function, FunctionId, Instruction, Operand};
 use std::alloc::Global;
@@ -113,13 +113,13 @@ fn product_sums(alloc: Global, d: Operand, x: Operand, y: Operand) -> Result<Vec
 }
 
 /// Whether a number may divide an operand: it lies from 1 to a million, and the operand is shown to be at least 0.
-fn is_divisor(alloc: Global, known: &[Fact], x: Operand, divisor: i64) -> Result<bool, OutOfMemory>
+fn is_divisor(alloc: Global, known: &Known<'_>, x: Operand, divisor: i64) -> Result<bool, OutOfMemory>
     ensures value { IfOk result (λ b. b ≡ is_divisor known.now x divisor) }
     ensures positive { IfOk result (λ b. b ≡ true → pos 1 ≤ℤ divisor) }
     ensures scale { IfOk result (λ b. b ≡ true → is_scale divisor ≡ true) }
 {
     if 1 <= divisor && divisor <= 1_000_000 {
-        shows(alloc, known, &Sum::one(alloc, 0, 1, x)?)
+        shows_at(alloc, known, &Sum::one(alloc, 0, 1, x)?)
     } else {
         Ok(false)
     }
@@ -152,7 +152,7 @@ fn push_quotient(
 /// d = x / divisor, rounded down
 fn quotient_sums(
     alloc: Global,
-    known: &[Fact],
+    known: &Known<'_>,
     d: Operand,
     x: Operand,
     y: Operand,
@@ -171,7 +171,7 @@ fn quotient_sums(
 /// d = x % divisor
 fn remainder_sums(
     alloc: Global,
-    known: &[Fact],
+    known: &Known<'_>,
     d: Operand,
     x: Operand,
     y: Operand,
@@ -202,7 +202,7 @@ fn masked_sums(alloc: Global, d: Operand, y: Operand) -> Result<Vec<Sum>, OutOfM
 
 fn binary_sums(
     alloc: Global,
-    known: &[Fact],
+    known: &Known<'_>,
     operator: BinaryOperator,
     d: Operand,
     x: Operand,
@@ -231,11 +231,11 @@ fn binary_sums(
 }
 
 /// Whether x is shown to fit 32 bits.
-fn is_32_bits(alloc: Global, known: &[Fact], x: Operand) -> Result<bool, OutOfMemory>
+fn is_32_bits(alloc: Global, known: &Known<'_>, x: Operand) -> Result<bool, OutOfMemory>
     ensures { IfOk result (λ b. b ≡ is_32_bits known.now x) }
 {
-    if shows(alloc, known, &Sum::one(alloc, 2_147_483_648, 1, x)?)? {
-        shows(alloc, known, &Sum::one(alloc, 2_147_483_647, -1, x)?)
+    if shows_at(alloc, known, &Sum::one(alloc, 2_147_483_648, 1, x)?)? {
+        shows_at(alloc, known, &Sum::one(alloc, 2_147_483_647, -1, x)?)
     } else {
         Ok(false)
     }
@@ -243,7 +243,7 @@ fn is_32_bits(alloc: Global, known: &[Fact], x: Operand) -> Result<bool, OutOfMe
 
 fn conversion_sums(
     alloc: Global,
-    known: &[Fact],
+    known: &Known<'_>,
     conversion: Conversion,
     d: Operand,
     x: Operand,
@@ -262,7 +262,7 @@ fn conversion_sums(
         }
         Conversion::ZeroExtend => {
             push_between(alloc, &mut sums, 0, 4_294_967_295, d)?;
-            shows(alloc, known, &Sum::one(alloc, 0, 1, x)?)?
+            shows_at(alloc, known, &Sum::one(alloc, 0, 1, x)?)?
         }
     };
     if is_kept {
@@ -294,7 +294,7 @@ fn call_sums(
 pub fn learned(
     alloc: Global,
     functions: &[Function],
-    known: &[Fact],
+    known: &Known<'_>,
     instruction: &Instruction,
 ) -> Result<Vec<Sum>, OutOfMemory>
     ensures { IfOk result (λ sums. sums.items ≡ learned functions.now known.now instruction.now) }

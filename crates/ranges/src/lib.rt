@@ -27,7 +27,7 @@ mod walk;
 pub use check::check_ranges;
 pub use edge::{Comparison, EdgeSums, edges_out};
 pub use inequality::{argument_moves, call_moves, difference_of, push_parts, result_moves};
-pub use know::{is_met, shows};
+pub use know::{is_met, is_met_at, shows, shows_at};
 pub use owe::{inequalities_owed, owed, owed_at_end};
 pub use refusal::Refused as RangeFault;
 pub use region_match::{Graph, Move, Regions, Task, Way};

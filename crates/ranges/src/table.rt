@@ -24,12 +24,19 @@ pub struct BlockFacts {
 }
 
 impl BlockFacts {
+    /// How many of the facts are known at a step, behind the `shows` lines before it.
+    pub fn count_at(&self, step: usize) -> usize
+        ensures { result ≡ slice_index_or self.now.counts step 0 }
+    {
+        self.counts.as_slice().get(step).copied().unwrap_or(0)
+    }
+
     /// What is known at a step, behind the `shows` lines before it.
     pub fn at_step(&self, step: usize) -> &[Fact]
         ensures { result.now ≡ take (slice_index_or self.now.counts step 0) self.now.facts }
     {
         let facts = self.facts.as_slice();
-        let count = self.counts.as_slice().get(step).copied().unwrap_or(0);
+        let count = self.count_at(step);
         if count < facts.len() {
             &facts[..count]
         } else {

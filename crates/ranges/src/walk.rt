@@ -14,7 +14,7 @@ use crate::know::push_facts;
 use crate::learn::learned;
 use crate::owe::{owed, owed_at_end};
 use crate::table::{BlockFacts, EdgeFacts};
-use linear::Fact;
+use linear::{Fact, FactList};
 use lists::{OutOfMemory, Seq};
 use program::{Block, Ending, Function, Inequality, Program, Step};
 use refusal::{Broken, lower};
@@ -25,9 +25,9 @@ pub fn stated(alloc: Global, inequalities: &[Inequality]) -> Result<Vec<Fact>, O
     ensures { IfOk result (λ facts. facts.items ≡ stated inequalities.now) }
 {
     let sums = differences_of(alloc, &[], inequalities)?;
-    let mut facts = Vec::new(alloc);
+    let mut facts = FactList::new(alloc);
     push_facts(alloc, &mut facts, &sums)?;
-    Ok(facts)
+    Ok(facts.into_vec())
 }
 
 /// The facts at a block's start.
@@ -52,20 +52,22 @@ fn walk_step(
     alloc: Global,
     program: &Program,
     function: &Function,
-    facts: &mut Vec<Fact>,
+    facts: &mut FactList,
     counts: &mut Vec<usize>,
     step: &Step,
 ) -> Result<Option<Broken>, OutOfMemory>
-    ensures known { OnOk result (facts.new.items ≡ after_step program.now.functions facts.old.items step.now) }
-    ensures count { OnOk result (counts.new.items ≡ counts.old.items ++ length (with_shows facts.old.items step.now.shows) ∷ []) }
-    ensures named { IfOk result (IsEarliest (IsStepBroken program.now function.now facts.old.items step.now)) }
+    ensures known { OnOk result (facts.new ≡ after_step program.now.functions facts.old step.now) }
+    ensures count { OnOk result (counts.new.items ≡ counts.old.items ++ length (with_shows facts.old step.now.shows) ∷ []) }
+    ensures named { IfOk result (IsEarliest (IsStepBroken program.now function.now facts.old step.now)) }
 {
     let unshown = push_shows(alloc, facts, step.shows.as_slice())?;
     counts.push(facts.len())?;
     let owed = owed(alloc, program, function, &step.instruction)?;
-    let unmet = unmet_fault(alloc, facts.as_slice(), step.line, &owed)?;
+    facts.index()?;
+    let known = facts.known();
+    let unmet = unmet_fault(alloc, &known, step.line, &owed)?;
     let functions = program.functions.as_slice();
-    let learned = learned(alloc, functions, facts.as_slice(), &step.instruction)?;
+    let learned = learned(alloc, functions, &known, &step.instruction)?;
     push_facts(alloc, facts, &learned)?;
     Ok(lower(unshown, unmet))
 }
@@ -75,13 +77,13 @@ fn walk_steps(
     alloc: Global,
     program: &Program,
     function: &Function,
-    facts: &mut Vec<Fact>,
+    facts: &mut FactList,
     steps: &[Step],
 ) -> Result<(Vec<usize>, Option<Broken>), OutOfMemory>
-    ensures walked { IfOk result (λ r. IsWalked program.now.functions facts.old.items steps.now r.0.items facts.new.items) }
+    ensures walked { IfOk result (λ r. IsWalked program.now.functions facts.old steps.now r.0.items facts.new) }
     ensures named { IfOk result (λ r. IsEarliest
         (λ (b : Broken). (i : ℕ) × (step : Step) × (slice_get steps.now i ≡ Some step)
-        × IsStepBroken program.now function.now (facts_before program.now.functions facts.old.items steps.now i) step b) r.1) }
+        × IsStepBroken program.now function.now (facts_before program.now.functions facts.old steps.now i) step b) r.1) }
 {
     let mut counts: Vec<usize> = Vec::new(alloc);
     let mut named: Option<Broken> = None;
@@ -99,15 +101,16 @@ fn walk_ending(
     index: usize,
     block: &Block,
     ending: &Ending,
-    facts: &mut Vec<Fact>,
+    facts: &mut FactList,
 ) -> Result<(Vec<EdgeFacts>, Option<Broken>), OutOfMemory>
-    ensures known { OnOk result (facts.new.items ≡ with_shows facts.old.items ending.now.shows) }
-    ensures edges { IfOk result (λ r. r.0.items ≡ edges_behind function.now index block.now facts.new.items (Some ending.now)) }
-    ensures named { IfOk result (λ r. IsEarliest (IsEndUnmetAt function.now facts.old.items r.0.items (Some ending.now)) r.1) }
+    ensures known { OnOk result (facts.new ≡ with_shows facts.old ending.now.shows) }
+    ensures edges { IfOk result (λ r. r.0.items ≡ edges_behind function.now index block.now facts.new (Some ending.now)) }
+    ensures named { IfOk result (λ r. IsEarliest (IsEndUnmetAt function.now facts.old r.0.items (Some ending.now)) r.1) }
 {
     let unshown = push_shows(alloc, facts, ending.shows.as_slice())?;
     let owed = owed_at_end(alloc, function, &ending.terminator)?;
-    let unmet = unmet_fault(alloc, facts.as_slice(), ending.line, &owed)?;
+    facts.index()?;
+    let unmet = unmet_fault(alloc, &facts.known(), ending.line, &owed)?;
     let sums = edges_out(alloc, block.steps.as_slice(), &ending.terminator)?;
     let blocks = function.blocks.as_slice();
     let edges = all_edge_facts(alloc, blocks, index, facts.as_slice(), &sums)?;
@@ -121,11 +124,11 @@ fn walk_end(
     function: &Function,
     index: usize,
     block: &Block,
-    facts: &mut Vec<Fact>,
+    facts: &mut FactList,
 ) -> Result<(Vec<EdgeFacts>, Option<Broken>), OutOfMemory>
-    ensures known { OnOk result (facts.new.items ≡ with_shows facts.old.items (ending_shows block.now.ending)) }
-    ensures edges { IfOk result (λ r. r.0.items ≡ edges_behind function.now index block.now facts.new.items block.now.ending) }
-    ensures named { IfOk result (λ r. IsEarliest (IsEndUnmetAt function.now facts.old.items r.0.items block.now.ending) r.1) }
+    ensures known { OnOk result (facts.new ≡ with_shows facts.old (ending_shows block.now.ending)) }
+    ensures edges { IfOk result (λ r. r.0.items ≡ edges_behind function.now index block.now facts.new block.now.ending) }
+    ensures named { IfOk result (λ r. IsEarliest (IsEndUnmetAt function.now facts.old r.0.items block.now.ending) r.1) }
 {
     match &block.ending {
         Some(ending) => walk_ending(alloc, function, index, block, ending, facts),
@@ -144,12 +147,12 @@ pub fn block_facts(
     ensures table { IfOk result (λ r. IsBlockTable program.now.functions function.now index block.now r.0) }
     ensures named { IfOk result (λ r. IsEarliest (IsBlockBroken program.now function.now index block.now) r.1) }
 {
-    let mut facts = start_facts(alloc, function, index, block)?;
+    let mut facts = FactList::from_vec(alloc, start_facts(alloc, function, index, block)?);
     let steps = block.steps.as_slice();
     let (counts, at_steps) = walk_steps(alloc, program, function, &mut facts, steps)?;
     let (edges, at_end) = walk_end(alloc, function, index, block, &mut facts)?;
     let table = BlockFacts {
-        facts: Seq::from_vec(facts),
+        facts: Seq::from_vec(facts.into_vec()),
         counts: Seq::from_vec(counts),
         edges: Seq::from_vec(edges),
     };

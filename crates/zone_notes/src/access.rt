@@ -7,7 +7,7 @@ use footprints::{
     Cell, Place, PlacedZone, address_cell, cells_zone, conflict, covers, end_use, is_allowed,
     is_clear, is_empty, passes_on, step_use,
 };
-use linear::RegisterId;
+use linear::{FactCursor, Known as KnownFacts, RegisterId};
 use lists::OutOfMemory;
 use program::{
     Address, Argument, Block, Ending, Function, Instruction, Mode, ObjectName, Operand, Pending,
@@ -100,7 +100,7 @@ impl Spot<'_, '_> {
         out.push_str("\n")?;
         for item in self.place.pending {
             let z = as_written(&item.zone);
-            if conflict(alloc, self.known.facts, &z, y)? {
+            if conflict(alloc, self.place.facts, &z, y)? {
                 push_why_beside(alloc, self.source.text, self.known, &z, y, out)?;
             }
         }
@@ -313,9 +313,11 @@ impl Spot<'_, '_> {
         zone: &Zone,
         out: &mut String,
     ) -> Result<(), OutOfMemory> {
-        let facts = edge.facts.as_slice();
+        let mut cursor = FactCursor::new(alloc, edge.facts.as_slice());
+        cursor.index()?;
+        let facts = cursor.known();
         let y = as_written(zone);
-        if is_empty(alloc, facts, &y)? {
+        if is_empty(alloc, &facts, &y)? {
             return Ok(());
         }
         for item in pending_at(self.known.scene.function, edge) {
@@ -324,7 +326,7 @@ impl Spot<'_, '_> {
                 moves: edge.moves.as_slice(),
                 zone: &item.zone,
             };
-            if item.region.0 == region.0 && covers(alloc, facts, &z, &y)? {
+            if item.region.0 == region.0 && covers(alloc, &facts, &z, &y)? {
                 return Ok(());
             }
         }
@@ -431,27 +433,32 @@ fn push_block<'a>(
 ) -> Result<(), OutOfMemory> {
     let (table, _) = block_facts(alloc, scene.program, scene.function, index, block)?;
     let lines = fact_lines(alloc, scene.function, index, block, &table)?;
+    let mut cursor = FactCursor::new(alloc, table.facts.as_slice());
     for (place, step) in block.steps.as_slice().iter().enumerate() {
-        let facts = table.at_step(place);
+        cursor.seek(table.count_at(place));
+        cursor.index()?;
+        let known = cursor.known();
         let spot = spot_at(
             source,
             &*scene,
             task,
             &*block,
-            facts,
+            &known,
             lines.as_slice(),
             step.line,
         );
         spot.push_step(alloc, step, findings)?;
     }
     if let Some(ending) = &block.ending {
-        let facts = table.facts.as_slice();
+        cursor.seek(table.facts.len());
+        cursor.index()?;
+        let known = cursor.known();
         let spot = spot_at(
             source,
             &*scene,
             task,
             &*block,
-            facts,
+            &known,
             lines.as_slice(),
             ending.line,
         );
@@ -465,10 +472,11 @@ fn spot_at<'s, 'a>(
     scene: &'a Scene<'a>,
     task: Task,
     block: &'a Block,
-    facts: &'a [program::Fact],
+    known: &'a KnownFacts<'a>,
     lines: &'a [u32],
     line: u32,
 ) -> Spot<'s, 'a> {
+    let facts = known.facts();
     Spot {
         source,
         known: Known {
@@ -479,7 +487,7 @@ fn spot_at<'s, 'a>(
             line,
         },
         place: Place {
-            facts,
+            facts: known,
             covering: covering_of(scene.function, task),
             own: is_own_block(task),
             pending: block.pending.as_slice(),

@@ -1,3 +1,4 @@
+use Rattle.std.proofs.Common.{◌≡◌}
 use Rattle.refusal.specs.Earliest.{IsEarliest}
 use Rattle.refusal.proofs.Places.{Below}
 use Rattle.ranges.specs.Places.{facts_in_table}
@@ -5,4 +6,6 @@ use Rattle.footprints.specs.Rules.{IsStepBroken}
 use Rattle.footprints.proofs.check.steps_fault.Given as goal
 
 abbrev pub invariant-loop-index : goal.invariant-loop-index
-invariant-loop-index l = IsEarliest (Below (λ i step. IsStepBroken l.functions l.function l.task l.block (facts_in_table l.table i) step) l.steps l.index) l.named
+invariant-loop-index l =
+    IsEarliest (Below (λ i step. IsStepBroken l.functions l.function l.task l.block (facts_in_table l.table i) step) l.steps l.index) l.named
+    × (l.cursor.0 ≡ l.table.facts)

@@ -1,8 +1,8 @@
 use Rattle.std.proofs.Common.{take}
 use Rattle.std.specs.List.{All}
-use Rattle.linear.specs.declared.index.Entry.{Entry}
-use Rattle.linear.specs.Index.{place_at, IsMadeUpFrom}
+use Rattle.linear.specs.Search.{factors}
+use Rattle.linear.specs.Index.{IsMadeUpByB}
 use Rattle.linear.proofs.lookup.made_up.Given as goal
 
-abbrev pub invariant-loop-entry : goal.invariant-loop-entry
-invariant-loop-entry l = All (λ (e : Entry). IsMadeUpFrom l.search.facts.now l.search.form.now l.lead (place_at l.search.facts.now e.place) → ⊥) (take l.entry-index l.entry-items)
+abbrev pub invariant-loop-index : goal.invariant-loop-index
+invariant-loop-index l = All (λ a. IsMadeUpByB l.search.facts.now l.search.form.now l.lead l.search.entries.now a → ⊥) (take l.index (factors l.search.form.now.terms))

@@ -7,5 +7,5 @@ use Rattle.ranges.proofs.judge.push_shows.Given as goal
 
 abbrev pub invariant-loop-inequality : goal.invariant-loop-inequality
 invariant-loop-inequality l =
-    (l.facts.items ≡ with_shows l.initial.facts.items (take l.inequality-index l.lines))
-    × IsEarliest (Below (IsUnshown l.initial.facts.items l.lines) l.lines l.inequality-index) l.named
+    (l.facts ≡ with_shows l.initial.facts (take l.inequality-index l.lines))
+    × IsEarliest (Below (IsUnshown l.initial.facts l.lines) l.lines l.inequality-index) l.named

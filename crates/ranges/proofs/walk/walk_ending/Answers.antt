@@ -1,4 +1,4 @@
-use Rattle.std.proofs.Common.{◌⊎◌}
+use Rattle.std.proofs.Common.{◌≡◌, ◌∙◌, ◌⊎◌, ap}
 use Rattle.std.specs.List.{Any}
 use Rattle.refusal.specs.declared.broken.Broken.{Broken}
 use Rattle.refusal.proofs.Elements.{earliest_both}
@@ -13,12 +13,13 @@ pub returns-clause-named : goal.returns-clause-named
 returns-clause-named c =
     let function = c.args.function.now in
     let ending = c.args.ending.now in
-    let before = c.args.facts.now.items in
+    let before = c.args.facts.now in
+    let known : c.known.result ≡ with_shows before ending.shows = c.known.ensures ∙ c.index.ensures ∙ c.in_ok-unshown.ensures.known ∙ ap (with_shows before) c.as_slice.ensures in
     let edges = c.in_ok-edges.edges.items in
     earliest_both (AreUnshown before ending.shows) (λ (x : Broken). AreUnmet (with_shows before ending.shows) ending.line (owed_at_end function ending.terminator) x ⊎ Any (λ (e : EdgeFacts). AreUnmet e.facts ending.line (edge_owed function.blocks e) x) edges) _ _ _
     (rw c.as_slice.ensures at c.in_ok-unshown.ensures.named)
     (earliest_both (AreUnmet (with_shows before ending.shows) ending.line (owed_at_end function ending.terminator)) (λ (x : Broken). Any (λ (e : EdgeFacts). AreUnmet e.facts ending.line (edge_owed function.blocks e) x) edges) _ _ _
-    (rw (c.as_slice-2.ensures.value, c.in_ok-unshown.ensures.known, c.as_slice.ensures, c.deref.ensures.value, c.in_ok-owed.ensures) at c.in_ok-unmet.ensures)
+    (rw (known, c.deref.ensures.value, c.in_ok-owed.ensures) at c.in_ok-unmet.ensures)
     (rw (c.as_slice-blocks.ensures, c.deref-3.ensures.value) at c.in_ok-unkept.ensures)
     c.lower.ensures)
     c.lower-2.ensures

@@ -8,19 +8,19 @@ use Rattle.ranges.proofs.walk.walk_steps.Goals as goal
 
 pub loop-step-init : goal.loop-step-init
 loop-step-init c = (
-  walked_start c.args.program.now.functions c.args.facts.now.items c.args.steps.now _ c.new-counts.ensures.items,
-  below_nothing (λ i (step : Step). IsStepBroken c.args.program.now c.args.function.now (facts_before c.args.program.now.functions c.args.facts.now.items c.args.steps.now i) step) c.args.steps.now,
+  walked_start c.args.program.now.functions c.args.facts.now c.args.steps.now _ c.new-counts.ensures.items,
+  below_nothing (λ i (step : Step). IsStepBroken c.args.program.now c.args.function.now (facts_before c.args.program.now.functions c.args.facts.now c.args.steps.now i) step) c.args.steps.now,
 )
 
 pub loop-step-preserved : goal.loop-step-preserved
 loop-step-preserved c =
     let steps = c.args.steps.now in
     let functions = c.args.program.now.functions in
-    let start = c.args.facts.now.items in
+    let start = c.args.facts.now in
     let i = c.loop-step.step-index in
     let step = c.step-item.result in
     let w = c.loop-step.invariant.0 in (
-      walked_next functions start steps i step c.loop-step.counts.items _ c.loop-step.facts.items _ c.loop-step-test.true c.step-item.is w c.in_ok-broken.ensures.count c.in_ok-broken.ensures.known,
+      walked_next functions start steps i step c.loop-step.counts.items _ c.loop-step.facts _ c.loop-step-test.true c.step-item.is w c.in_ok-broken.ensures.count c.in_ok-broken.ensures.known,
       below_next (λ i (step : Step). IsStepBroken c.args.program.now c.args.function.now (facts_before functions start steps i) step) steps i step _ _ _ c.loop-step-test.true c.step-item.is c.loop-step.invariant.1
           (rw (← w.facts_are) c.in_ok-broken.ensures.named)
           c.lower-named.ensures,
@@ -29,7 +29,7 @@ loop-step-preserved c =
 pub returns-clause-walked : goal.returns-clause-walked
 returns-clause-walked c =
     let end : c.loop-step.step-index ≡ length c.args.steps.now = omega (arith, c.loop-step-test.false, c.loop-step.auto.step-index-end) in
-    walked_all c.args.program.now.functions c.args.facts.now.items c.args.steps.now _ _ _ end c.loop-step.invariant.0
+    walked_all c.args.program.now.functions c.args.facts.now c.args.steps.now _ _ _ end c.loop-step.invariant.0
 
 pub returns-clause-named : goal.returns-clause-named
-returns-clause-named c = below_all (λ i (step : Step). IsStepBroken c.args.program.now c.args.function.now (facts_before c.args.program.now.functions c.args.facts.now.items c.args.steps.now i) step) c.args.steps.now _ _ c.loop-step-test.false c.loop-step.invariant.1
+returns-clause-named c = below_all (λ i (step : Step). IsStepBroken c.args.program.now c.args.function.now (facts_before c.args.program.now.functions c.args.facts.now c.args.steps.now i) step) c.args.steps.now _ _ c.loop-step-test.false c.loop-step.invariant.1

@@ -8,5 +8,5 @@ use Rattle.ranges.proofs.walk.walk_steps.Given as goal
 
 abbrev pub invariant-loop-step : goal.invariant-loop-step
 invariant-loop-step l =
-    IsWalkedTo l.program.functions l.initial.facts.items l.steps l.step-index l.counts.items l.facts.items
-    × IsEarliest (Below (λ i (step : Step). IsStepBroken l.program l.function (facts_before l.program.functions l.initial.facts.items l.steps i) step) l.steps l.step-index) l.named
+    IsWalkedTo l.program.functions l.initial.facts l.steps l.step-index l.counts.items l.facts
+    × IsEarliest (Below (λ i (step : Step). IsStepBroken l.program l.function (facts_before l.program.functions l.initial.facts l.steps i) step) l.steps l.step-index) l.named

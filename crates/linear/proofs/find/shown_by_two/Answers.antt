@@ -5,13 +5,13 @@ use Rattle.linear.specs.Forms.{IsRising}
 use Rattle.linear.specs.Search.{IsLeft}
 use Rattle.linear.proofs.Indexing.{shown_by_index, index_shows}
 use Rattle.linear.proofs.Tested.{decides_shown}
-use Rattle.linear.proofs.find.shown_by_index.Goals as goal
+use Rattle.linear.proofs.find.shown_by_two.Goals as goal
 
 pub returns : goal.returns
 returns c =
-    let facts = c.args.facts.now in
-    let entries = c.args.entries.now in
-    let e = c.args.form.now in
+    let facts = c.args.search.now.facts.now in
+    let entries = c.args.search.now.entries.now in
+    let e = c.args.search.now.form.now in
     let rises : IsRising e.terms = rw c.side_of.ensures.terms at c.side_of.ensures.rising in
     let leads : IfSome c.left_over-lead.result (IsLeft e.terms 1 []) = rw c.side_of.ensures.terms at c.left_over-lead.ensures in
     same_from_decides _ _ (

@@ -1,8 +1,0 @@
-use Rattle.std.proofs.Common.{take}
-use Rattle.std.specs.List.{All}
-use Rattle.linear.specs.Search.{factors}
-use Rattle.linear.specs.Index.{place_at, IsMadeUpByB}
-use Rattle.linear.proofs.lookup.made_up_by_a.Given as goal
-
-abbrev pub invariant-loop-index : goal.invariant-loop-index
-invariant-loop-index l = All (λ a. IsMadeUpByB l.search.facts.now l.search.form.now (place_at l.search.facts.now l.first.place) a → ⊥) (take l.index (factors l.search.form.now.terms))
