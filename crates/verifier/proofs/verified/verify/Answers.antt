@@ -12,7 +12,7 @@ invariant_of-result c =
       is_accepted = record { text = c.args.text.now; means = program_of _ _ _ _ c.in_ok-graph.ensures.same c.in_ok-module.ensures.exact c.in_ok-typed.ensures.judged c.in_ok-graph.ensures.right c.in_ok-regions.ensures.right c.in_ok-defined.ensures.right c.in_ok-facts.ensures.right (c.in_ok-regions.regions, by_tasks c.in_ok-graph.graph.typed.program c.in_ok-graph.graph.functions c.in_ok-regions.regions c.in_ok-graph.graph.edges c.in_ok-regions.ensures.tasks, c.in_ok-check_zones.ensures.right) c.in_ok-table.ensures.right };
       is_table = (c.in_ok-regions.regions, tasks, c.in_ok-table.ensures.table);
       is_budget = c.budget_of-budget.ensures;
-      is_depth = (c.in_ok-regions.regions, tasks, c.depth_of-depth.ensures c.in_ok-regions.regions c.in_ok-table.ensures.table);
+      is_depth = (c.in_ok-regions.regions, tasks, c.depth_of-depth.ensures c.in_ok-regions.regions tasks c.in_ok-table.ensures.table);
     }
 
 pub returns-clause-accepted : goal.returns-clause-accepted
