@@ -1,9 +1,12 @@
 use Rattle.std.proofs.Common.{refl, inl, inr}
-use Rattle.verifier.proofs.Verdicts.{refused_by_text, refused_by_types, refused_after, by_tasks, err_from, program_of}
+use Rattle.verifier.proofs.Verdicts.{refused_by_text, refused_by_types, refused_after, by_tasks, err_from, program_of, limits_of}
 use Rattle.verifier.proofs.verified.verify.Goals as goal
 
 pub budget_of-budget-requires : goal.budget_of-budget-requires
 budget_of-budget-requires c = record { table = (c.in_ok-regions.regions, c.in_ok-table.ensures.table); costs = c.in_ok-table.ensures.right }
+
+pub depth_of-depth-requires : goal.depth_of-depth-requires
+depth_of-depth-requires c = record { limits = limits_of _ _ _ _ c.in_ok-graph.ensures.same c.in_ok-module.ensures.exact c.in_ok-typed.ensures.judged }
 
 pub invariant_of-result : goal.invariant_of-result
 invariant_of-result c =
