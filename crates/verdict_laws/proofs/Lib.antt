@@ -1,7 +1,9 @@
 pub mod Meanings
 pub mod Phases
 pub mod Verdicts
-pub mod Depths
 pub mod sure
+pub mod limits
 pub mod Sums
 pub mod Limited
+pub mod Formed
+pub mod FormedPlaces

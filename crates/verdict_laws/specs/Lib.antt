@@ -1,5 +1,6 @@
 pub mod Verdicts
-pub mod Depths
 pub mod Sure
 pub mod Sums
 pub mod Limited
+pub mod Written
+pub mod Formed
