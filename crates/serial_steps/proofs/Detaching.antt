@@ -1,7 +1,7 @@
 -- A detach keeps the stack shown.
-use Rattle.std.proofs.Common.{◌≡◌, ℕ, suc, ◌+◌, ◌<◌, List, [], ◌∷◌, ◌++◌, length, reverse, ap, sym, ◌∙◌, subst, Some}
+use Rattle.std.proofs.Common.{◌≡◌, ℕ, suc, ◌+◌, ◌<◌, List, [], ◌∷◌, ◌++◌, length, reverse, ap, sym, ◌∙◌, subst, Some, Box, Global}
 use Rattle.std.specs.Prelude.{slice_get}
-use Rattle.std.proofs.lemmas.List.{reverse-append}
+use Rattle.std.proofs.lemmas.List.{map-append, reverse-append}
 use Rattle.linear.specs.declared.form.RegisterId.{RegisterId}
 use Rattle.running.specs.Paths.{Path}
 use Rattle.running.specs.Frames as frames
@@ -23,13 +23,16 @@ use Rattle.engine.specs.declared.flat.Flat.{Flat}
 use Rattle.engine.specs.Shows.{Layout, ShowsCells}
 use Rattle.serial_steps.specs.Layouts.{end_of, frames_of, layout_of}
 use Rattle.serial_steps.specs.Steps.{Placed, Run, Goes, detach}
-use Rattle.serial_steps.specs.Shown.{BeginsAt, CanGo, HasTaker, ShowsBelow, ShowsOn, ShowsRun, TextFits, place_of}
+use Rattle.serial_steps.specs.Shown.{BeginsAt, CanGo, HasTaker, ShowsBelow, ShowsOn, ShowsRun, TextFits, place_of, unboxed}
 use Rattle.serial_steps.specs.declared.stack.Stack.{Stack}
 use Rattle.serial_steps.proofs.Places.{detach_here}
 use Rattle.serial_steps.proofs.Texts.{Located, ends_fit, frame_stands, located, starts_block}
 
 pub reverse_push : (l : List Frame) (f : Frame) → reverse (l ++ (f ∷ [])) ≡ f ∷ reverse l
 reverse_push l f = reverse-append l (f ∷ [])
+
+pub unboxed_push : (xs ys : List (Box Frame Global)) (b : Box Frame Global) → ys ≡ xs ++ b ∷ [] → unboxed ys ≡ unboxed xs ++ b.value ∷ []
+unboxed_push xs ys b e = ap unboxed e ∙ map-append (λ (x : Box Frame Global). x.value) xs (b ∷ [])
 
 -- spare frames are not shown
 pub spared : (globals : List ℕ) (prog : Program) (places : Places) (s : Run) (k j : Stack) → j ≡ record k { spare = j.spare } → ShowsRun globals prog places s k → ShowsRun globals prog places s j
@@ -43,14 +46,14 @@ record Waits (globals : List ℕ) (prog : Program) (places : Places) (g : Placed
 
 module _ (globals : List ℕ) (prog : Program) (places : Places) (moves : ℕ) (s : Run) (k : Stack) (text : TextFits prog places moves) (h : ShowsRun globals prog places s k) (can : CanGo globals prog s) where
   -- the function of the frame on top
-  function_of : (f : Function) → slice_get prog.functions s.frame.function ≡ Some f → slice_get prog.functions k.top.function.0 ≡ Some f
+  function_of : (f : Function) → slice_get prog.functions s.frame.function ≡ Some f → slice_get prog.functions k.top.value.function.0 ≡ Some f
   function_of f is = ap (slice_get prog.functions) (sym h.top.shown.function) ∙ is
 
   module _ (r : RegisterId) (b c : BlockId) (place : place_of prog s ≡ Some (Ends (terminator.Detach r b c))) (child : Frame)
-      (words : child.registers.items ≡ k.top.registers.items) (same : child.function ≡ k.top.function)
-      (child_shown : (l : Layout) (at : Places) (p : Path) (g : frames.Frame) → ShowsFrame l at p g k.top → ShowsFrame l at (g.made ∷ p) (detached g r.0 b.0 c.0) child)
-      (parent : Frame) (parent_is : parent ≡ record k.top { place = record { block = c; index = 0 }; made = k.top.made + 1; waits = wait.Nothing })
-      (parent_shown : (l : Layout) (at : Places) (p : Path) (g : frames.Frame) → ShowsFrame l at p g k.top → ShowsFrame l at p (continued g c.0) parent)
+      (words : child.registers.items ≡ k.top.value.registers.items) (same : child.function ≡ k.top.value.function)
+      (child_shown : (l : Layout) (at : Places) (p : Path) (g : frames.Frame) → ShowsFrame l at p g k.top.value → ShowsFrame l at (g.made ∷ p) (detached g r.0 b.0 c.0) child)
+      (parent : Frame) (parent_is : parent ≡ record k.top.value { place = record { block = c; index = 0 }; made = k.top.value.made + 1; waits = wait.Nothing })
+      (parent_shown : (l : Layout) (at : Places) (p : Path) (g : frames.Frame) → ShowsFrame l at p g k.top.value → ShowsFrame l at p (continued g c.0) parent)
     where
       at : Located prog s.frame.function s.frame.block s.frame.index (Ends (terminator.Detach r b c))
       at = located prog s.frame.function s.frame.block s.frame.index (Ends (terminator.Detach r b c)) place
@@ -84,10 +87,10 @@ module _ (globals : List ℕ) (prog : Program) (places : Places) (moves : ℕ) (
             taker = subst (λ (x : Frame). HasTaker x x.waits) (sym parent_is) tt;
           }
 
-      pub detach_shown : (j : Stack) → j.top ≡ child → j.below.items ≡ k.below.items ++ parent ∷ [] → j.cells ≡ k.cells → j.end ≡ k.end → (t : Run) × Goes prog s t × ShowsRun globals prog places t j
+      pub detach_shown : (j : Stack) → j.top.value ≡ child → unboxed j.below.items ≡ unboxed k.below.items ++ parent ∷ [] → j.cells ≡ k.cells → j.end ≡ k.end → (t : Run) × Goes prog s t × ShowsRun globals prog places t j
       detach_shown j top pushed cells end =
           let act : action_of prog s.path s.frame s.memory ≡ Detach r.0 b.0 c.0 = detach_here prog s can.goes r b c place in
-          let now : reverse j.below.items ≡ parent ∷ reverse k.below.items = ap reverse pushed ∙ reverse_push k.below.items parent in
+          let now : reverse (unboxed j.below.items) ≡ parent ∷ reverse (unboxed k.below.items) = ap reverse pushed ∙ reverse_push (unboxed k.below.items) parent in
           let t : Run = record { path = s.frame.made ∷ s.path; frame = detached s.frame r.0 b.0 c.0; below = record { path = s.path; frame = continued s.frame c.0 } ∷ s.below; memory = s.memory } in
           let on : ShowsOn globals prog places (record { path = t.path; frame = t.frame }) t.below child = record {
             shown = child_shown layout places s.path s.frame h.top.shown;

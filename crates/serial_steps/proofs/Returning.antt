@@ -34,7 +34,7 @@ use Rattle.engine.specs.Names.{HasResult, Sizes, sizes}
 use Rattle.engine.specs.Shows.{IsIn, Layout, ShowsCells, address}
 use Rattle.serial_steps.specs.Layouts.{alloca_sizes, end_of, for_body, layout_of, with_allocas}
 use Rattle.serial_steps.specs.Steps.{Placed, Run, Goes, ret}
-use Rattle.serial_steps.specs.Shown.{BeginsAt, CanGo, HasTaker, Ends as EndsRun, ShowsBelow, ShowsOn, ShowsRun, TextFits, item_here, taker_of}
+use Rattle.serial_steps.specs.Shown.{BeginsAt, CanGo, HasTaker, Ends as EndsRun, ShowsBelow, ShowsOn, ShowsRun, TextFits, item_here, taker_of, unboxed}
 use Rattle.serial_steps.specs.declared.stack.Stack.{Stack}
 use Rattle.serial_steps.proofs.Calling.{tall_below}
 use Rattle.serial_steps.proofs.Joining.{below_is, nothing_left, popped}
@@ -68,11 +68,11 @@ taken f (wait.Region region) h = tt
 taken f (wait.Call child register) h = h
 
 module _ (globals : List ℕ) (prog : Program) (places : Places) (s : Run) (k : Stack) (h : ShowsRun globals prog places s k) (can : CanGo globals prog s)
-    (value : Option Operand) (item : item_here prog k.top ≡ Some (Ends (terminator.Return value))) (caller : Frame) (rest : List Frame) (items : k.below.items ≡ rest ++ caller ∷ [])
+    (value : Option Operand) (item : item_here prog k.top.value ≡ Some (Ends (terminator.Return value))) (caller : Frame) (rest : List Frame) (items : unboxed k.below.items ≡ rest ++ caller ∷ [])
   where
     -- the frame that is popped is the caller's
     pub under : (g : Placed) (below : List Placed) → s.below ≡ g ∷ below → ShowsBelow globals prog places (g ∷ below) (caller ∷ reverse rest)
-    under g below e = subst (ShowsBelow globals prog places (g ∷ below)) (popped k.below.items rest caller items) (below_is globals prog places g below s.below (reverse k.below.items) e h.below)
+    under g below e = subst (ShowsBelow globals prog places (g ∷ below)) (popped (unboxed k.below.items) rest caller items) (below_is globals prog places g below s.below (reverse (unboxed k.below.items)) e h.below)
 
     pub record Caller : Type 0 where
       pub placed_at : Placed
@@ -86,22 +86,22 @@ module _ (globals : List ℕ) (prog : Program) (places : Places) (s : Run) (k : 
       pub gives : terminator_action prog s.path s.frame (terminator.Return value) ≡ Return result
       pub act : action_of prog s.path s.frame s.memory ≡ Return result
 
-    nothing_under : ShowsBelow globals prog places [] (reverse k.below.items) → ⊥
-    nothing_under b = subst (ShowsBelow globals prog places []) (popped k.below.items rest caller items) b
+    nothing_under : ShowsBelow globals prog places [] (reverse (unboxed k.below.items)) → ⊥
+    nothing_under b = subst (ShowsBelow globals prog places []) (popped (unboxed k.below.items) rest caller items) b
 
     pub caller_of : Caller
     caller_of =
         let here = return_here prog s can.goes value (placed globals prog places s k (Ends (terminator.Return value)) h item) in
         elim here.4 [
           | inl t ↦ record { placed_at = t.0; others = t.1; number = t.2; register = t.3; result = here.0; is = t.4; waits = t.5; role = here.1; gives = here.2; act = here.3 }
-          | inr t ↦ absurd (nothing_under (subst (λ (b : List Placed). ShowsBelow globals prog places b (reverse k.below.items)) t.1 h.below))
+          | inr t ↦ absurd (nothing_under (subst (λ (b : List Placed). ShowsBelow globals prog places b (reverse (unboxed k.below.items))) t.1 h.below))
         ]
 
     pub caller_takes : HasResult (length caller.registers.items) (taker_of caller.waits)
     caller_takes = let c = caller_of in taken caller caller.waits (under c.placed_at c.others c.is).2
 
-    pub home_is : k.top.home ≡ pos (end_of globals prog s.below)
-    home_is = let c = caller_of in subst (λ (r : Role). BeginsAt r k.top.home (end_of globals prog s.below)) c.role h.top.home
+    pub home_is : k.top.value.home ≡ pos (end_of globals prog s.below)
+    home_is = let c = caller_of in subst (λ (r : Role). BeginsAt r k.top.value.home (end_of globals prog s.below)) c.role h.top.home
 
     -- ---- the cells
 
@@ -117,7 +117,7 @@ module _ (globals : List ℕ) (prog : Program) (places : Places) (s : Run) (k : 
         subst (λ (r : Role). ShowsCells (for_body r high low) (is_cell k.cells.cells.items) (λ a z. cell_in k.cells.cells.items a ≡ Some z) s.memory) c.role h.cells
 
     apart : (c : Cell) → IsIn low c → IsApart s.path c.object
-    apart c within = young_apart s.path (length s.below) c.object h.top.tall (young globals prog s.below (tall_below globals prog places s.below (reverse k.below.items) h.below) c.object c.index within)
+    apart c within = young_apart s.path (length s.below) c.object h.top.tall (young globals prog s.below (tall_below globals prog places s.below (reverse (unboxed k.below.items)) h.below) c.object c.index within)
 
     up : (c : Cell) → IsIn low c → IsIn high c
     up c within = in_apart s.path (alloca_sizes prog s.frame.function) (end_of globals prog s.below) low c (apart c within) within
@@ -138,7 +138,7 @@ module _ (globals : List ℕ) (prog : Program) (places : Places) (s : Run) (k : 
     pub return_shown : (back : Frame) (number : Option ℤ) (register : Option RegisterId) (j : Stack) → register ≡ taker_of caller.waits → back ≡ record caller { registers = back.registers; waits = wait.Nothing } → length back.registers.items ≡ length caller.registers.items →
         ((l : Layout) (at : Places) (p : Path) (g : frames.Frame) → ShowsFrame l at p g caller → ShowsFrame l at p (resumed g register number) back) →
         ((v : Option ℤ) → terminator_action prog s.path s.frame (terminator.Return value) ≡ Return v → number ≡ v) →
-        j.top ≡ back → j.below.items ≡ rest → j.cells ≡ k.cells → pos j.end ≡ k.top.home → (t : Run) × Goes prog s t × ShowsRun globals prog places t j
+        j.top.value ≡ back → unboxed j.below.items ≡ rest → j.cells ≡ k.cells → pos j.end ≡ k.top.value.home → (t : Run) × Goes prog s t × ShowsRun globals prog places t j
     return_shown back number register j reg only words shows gives top below cells end =
         let c = caller_of in
         let g = c.placed_at in
@@ -175,12 +175,12 @@ module _ (globals : List ℕ) (prog : Program) (places : Places) (s : Run) (k : 
 
 -- ---- the end of the run
 
-pub run_ends : (globals : List ℕ) (prog : Program) (places : Places) (s : Run) (k : Stack) (value : Option Operand) (number : Option ℤ) → ShowsRun globals prog places s k → CanGo globals prog s → item_here prog k.top ≡ Some (Ends (terminator.Return value)) → k.below.items ≡ [] →
+pub run_ends : (globals : List ℕ) (prog : Program) (places : Places) (s : Run) (k : Stack) (value : Option Operand) (number : Option ℤ) → ShowsRun globals prog places s k → CanGo globals prog s → item_here prog k.top.value ≡ Some (Ends (terminator.Return value)) → unboxed k.below.items ≡ [] →
     ((v : Option ℤ) → terminator_action prog s.path s.frame (terminator.Return value) ≡ Return v → number ≡ v) → EndsRun prog s number
 run_ends globals prog places s k value number h can item none gives =
     let here = return_here prog s can.goes value (placed globals prog places s k (Ends (terminator.Return value)) h item) in
     elim here.4 [
-      | inl t ↦ absurd (nothing_left globals prog places t.0 t.1 k.below.items none (below_is globals prog places t.0 t.1 s.below (reverse k.below.items) t.4 h.below))
+      | inl t ↦ absurd (nothing_left globals prog places t.0 t.1 (unboxed k.below.items) none (below_is globals prog places t.0 t.1 s.below (reverse (unboxed k.below.items)) t.4 h.below))
       | inr t ↦ record { number = t.0; is = gives here.0 here.2 ∙ t.2; ends = record { root = t.1; returns = here.3 ∙ ap Return t.2 } }
     ]
 

@@ -40,16 +40,16 @@ impl Stack {
         body: BlockId,
         continuation: BlockId,
     ) -> Result<(), OutOfMemory>
-        requires stands { FrameFits program.now self.old.top }
+        requires stands { FrameFits program.now self.old.top.value }
         requires text { TextFits program.now places.now (length self.old.moves.items) }
-        requires item { item_here program.now self.old.top ≡ Some (Ends (terminator.Detach region body continuation)) }
-        requires numbers { HasNumbers self.old.top }
+        requires item { item_here program.now self.old.top.value ≡ Some (Ends (terminator.Detach region body continuation)) }
+        requires numbers { HasNumbers self.old.top.value }
         ensures goes { OnOk result (GoesOn program.now places.now self.old self.new) }
         ensures moves { OnOk result (self.new.moves ≡ self.old.moves) }
     {
-        let mut child = self.fresh();
+        let mut child = self.fresh()?;
         self.top
-            .detach_into(&mut child, region, body, continuation)?;
+            .detach_into(child.as_mut(), region, body, continuation)?;
         self.top.continue_at(continuation);
         self.push(child)?;
         Ok(())
@@ -63,7 +63,7 @@ impl Stack {
         region: RegisterId,
         continuation: BlockId,
     ) -> Result<(), OutOfMemory>
-        requires item { item_here program.now self.old.top ≡ Some (Ends (terminator.Reattach region continuation)) }
+        requires item { item_here program.now self.old.top.value ≡ Some (Ends (terminator.Reattach region continuation)) }
         requires safe { StandsSafely program.now places.now self.old }
         ensures goes { OnOk result (GoesOn program.now places.now self.old self.new) }
         ensures moves { OnOk result (self.new.moves ≡ self.old.moves) }
@@ -85,9 +85,9 @@ impl Stack {
         region: RegisterId,
         target: BlockId,
     )
-        requires stands { FrameFits program.now self.old.top }
+        requires stands { FrameFits program.now self.old.top.value }
         requires text { TextFits program.now places.now (length self.old.moves.items) }
-        requires item { item_here program.now self.old.top ≡ Some (Ends (terminator.Sync region target)) }
+        requires item { item_here program.now self.old.top.value ≡ Some (Ends (terminator.Sync region target)) }
         requires safe { StandsSafely program.now places.now self.old }
         ensures goes { GoesOn program.now places.now self.old self.new }
         ensures moves { length self.new.moves.items ≡ length self.old.moves.items }
@@ -104,10 +104,10 @@ impl Stack {
         object: ObjectName,
         count: u64,
     )
-        requires stands { FrameFits program.now self.old.top }
+        requires stands { FrameFits program.now self.old.top.value }
         requires text { TextFits program.now places.now (length self.old.moves.items) }
-        requires numbers { HasNumbers self.old.top }
-        requires item { item_here program.now self.old.top ≡ Some (Does (instruction.StoreZeros count object)) }
+        requires numbers { HasNumbers self.old.top.value }
+        requires item { item_here program.now self.old.top.value ≡ Some (Does (instruction.StoreZeros count object)) }
         requires safe { StandsSafely program.now places.now self.old }
         ensures goes { GoesOn program.now places.now self.old self.new }
         ensures moves { self.new.moves ≡ self.old.moves }
@@ -127,10 +127,10 @@ impl Stack {
         callee: FunctionId,
         arguments: &[Argument],
     ) -> Result<(), OutOfMemory>
-        requires stands { FrameFits program.now self.old.top }
+        requires stands { FrameFits program.now self.old.top.value }
         requires text { TextFits program.now places.now (length self.old.moves.items) }
-        requires numbers { HasNumbers self.old.top }
-        requires item { item_here program.now self.old.top ≡ Some (Does (instruction.Call register callee arguments.now)) }
+        requires numbers { HasNumbers self.old.top.value }
+        requires item { item_here program.now self.old.top.value ≡ Some (Does (instruction.Call register callee arguments.now)) }
         requires safe { StandsSafely program.now places.now self.old }
         ensures goes { OnOk result (GoesOn program.now places.now self.old self.new) }
         ensures moves { OnOk result (self.new.moves ≡ self.old.moves) }
@@ -144,10 +144,10 @@ impl Stack {
         };
         let missing = end.saturating_sub(self.cells.cells.len());
         self.cells.grow(missing)?;
-        let mut frame = self.fresh();
+        let mut frame = self.fresh()?;
         self.top.call_into(
             places,
-            &mut frame,
+            frame.as_mut(),
             callee,
             called.registers.len(),
             arguments,
@@ -166,9 +166,9 @@ impl Stack {
         places: &Places,
         value: Option<Operand>,
     ) -> Result<Option<i64>, OutOfMemory>
-        requires stands { FrameFits program.now self.old.top }
+        requires stands { FrameFits program.now self.old.top.value }
         requires text { TextFits program.now places.now (length self.old.moves.items) }
-        requires item { item_here program.now self.old.top ≡ Some (Ends (terminator.Return value)) }
+        requires item { item_here program.now self.old.top.value ≡ Some (Ends (terminator.Return value)) }
         requires safe { StandsSafely program.now places.now self.old }
         ensures goes { IfOk result (λ r. Returns program.now places.now self.old self.new r) }
         ensures moves { OnOk result (self.new.moves ≡ self.old.moves) }

@@ -22,14 +22,14 @@ impl Stack {
         done: &mut u64,
         limit: u64,
     ) -> Pause<Infallible>
-        requires stands { FrameFits program.now self.old.top }
+        requires stands { FrameFits program.now self.old.top.value }
         requires text { TextFits program.now places.now (length self.old.moves.items) }
         requires room { done.old ≤ limit }
         requires safe { StaysSafely program.now places.now self.old }
-        ensures stands { FrameFits program.now self.new.top }
+        ensures stands { FrameFits program.now self.new.top.value }
         ensures moves { length self.new.moves.items ≡ length self.old.moves.items }
         ensures room { done.new ≤ limit }
-        ensures border { IfBorder result (IsBorderItem (item_here program.now self.new.top)) }
+        ensures border { IfBorder result (IsBorderItem (item_here program.now self.new.top.value)) }
         ensures limit { IfLimit result (done.new ≡ limit) }
         ensures led { Advances program.now places.now self.old self.new done.old done.new }
     {
@@ -50,11 +50,11 @@ impl Stack {
         places: &Places,
         instruction: &Instruction,
     ) -> Result<(), OutOfMemory>
-        requires stands { FrameFits program.now self.old.top }
+        requires stands { FrameFits program.now self.old.top.value }
         requires text { TextFits program.now places.now (length self.old.moves.items) }
-        requires item { item_here program.now self.old.top ≡ Some (Does instruction.now) }
+        requires item { item_here program.now self.old.top.value ≡ Some (Does instruction.now) }
         requires border { IsBorder instruction.now }
-        requires numbers { HasNumbers self.old.top }
+        requires numbers { HasNumbers self.old.top.value }
         requires safe { StandsSafely program.now places.now self.old }
         ensures goes { OnOk result (GoesOn program.now places.now self.old self.new) }
         ensures moves { OnOk result (length self.new.moves.items ≡ length self.old.moves.items) }
@@ -80,11 +80,11 @@ impl Stack {
         places: &Places,
         terminator: &Terminator,
     ) -> Result<Option<i64>, OutOfMemory>
-        requires stands { FrameFits program.now self.old.top }
+        requires stands { FrameFits program.now self.old.top.value }
         requires text { TextFits program.now places.now (length self.old.moves.items) }
-        requires item { item_here program.now self.old.top ≡ Some (Ends terminator.now) }
+        requires item { item_here program.now self.old.top.value ≡ Some (Ends terminator.now) }
         requires border { IsBorderEnding terminator.now }
-        requires numbers { HasNumbers self.old.top }
+        requires numbers { HasNumbers self.old.top.value }
         requires safe { StandsSafely program.now places.now self.old }
         ensures goes { IfOk result (λ r. Returns program.now places.now self.old self.new r) }
         ensures moves { OnOk result (length self.new.moves.items ≡ length self.old.moves.items) }
@@ -129,10 +129,10 @@ pub struct Ended {
 impl Stack {
     /// Does what stands at its place, which is no plain step; the run's result where it has ended.
     fn border(&mut self, program: &Program, places: &Places) -> Result<Option<i64>, OutOfMemory>
-        requires stands { FrameFits program.now self.old.top }
+        requires stands { FrameFits program.now self.old.top.value }
         requires text { TextFits program.now places.now (length self.old.moves.items) }
-        requires border { IsBorderItem (item_here program.now self.old.top) }
-        requires numbers { HasNumbers self.old.top }
+        requires border { IsBorderItem (item_here program.now self.old.top.value) }
+        requires numbers { HasNumbers self.old.top.value }
         requires safe { StandsSafely program.now places.now self.old }
         ensures goes { IfOk result (λ r. Returns program.now places.now self.old self.new r) }
         ensures moves { OnOk result (length self.new.moves.items ≡ length self.old.moves.items) }

@@ -8,13 +8,13 @@ use std::alloc::Global;
 use std::mem;
 
 /// A run between two instructions: the frame that goes on, the frames below it, each of which made the one above it, and their
-/// cells. Frames that are over are used again.
+/// cells. Frames that are over are used again; each stands in a box, so that none is moved when another one goes on.
 #[derive(Drop)]
 pub struct Stack {
     pub alloc: Global,
-    pub top: Frame,
-    pub below: Vec<Frame>,
-    pub spare: Vec<Frame>,
+    pub top: Box<Frame>,
+    pub below: Vec<Box<Frame>>,
+    pub spare: Vec<Box<Frame>>,
     pub cells: Flat,
     /// Cells from here on belong to no frame, and are used again.
     pub end: usize,
@@ -41,17 +41,17 @@ pub(crate) fn blank(alloc: Global) -> Frame {
 
 impl Stack {
     /// A frame that is over, or a new one.
-    pub(crate) fn fresh(&mut self) -> Frame
-        ensures only { self.new ≡ record self.old { spare = self.new.spare } }
+    pub(crate) fn fresh(&mut self) -> Result<Box<Frame>, OutOfMemory>
+        ensures only { OnOk result (self.new ≡ record self.old { spare = self.new.spare }) }
     {
         match self.spare.pop() {
-            Some(frame) => frame,
-            None => blank(self.alloc),
+            Some(frame) => Ok(frame),
+            None => Ok(Box::new(self.alloc, blank(self.alloc))?),
         }
     }
 
     /// The frame goes on, on top of the one that made it.
-    pub(crate) fn push(&mut self, frame: Frame) -> Result<(), OutOfMemory>
+    pub(crate) fn push(&mut self, frame: Box<Frame>) -> Result<(), OutOfMemory>
         ensures below { OnOk result (self.new.below.items ≡ self.old.below.items ++ self.old.top ∷ []) }
         ensures only { OnOk result (self.new ≡ record self.old { top = frame; below = self.new.below }) }
     {
@@ -61,7 +61,7 @@ impl Stack {
     }
 
     /// The frame, which stood below the one on top, goes on.
-    pub(crate) fn go_back_to(&mut self, frame: Frame) -> Result<(), OutOfMemory>
+    pub(crate) fn go_back_to(&mut self, frame: Box<Frame>) -> Result<(), OutOfMemory>
         ensures only { OnOk result (self.new ≡ record self.old { top = frame; spare = self.new.spare }) }
     {
         let over = mem::replace(&mut self.top, frame);

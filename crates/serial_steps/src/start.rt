@@ -53,21 +53,22 @@ impl Stack {
         cells.grow(room)?;
         let registers = first_registers(alloc, arguments, main.registers.len())?;
         let words = vec![in alloc; 0; moves]?;
+        let top = Frame {
+            function: program.main,
+            place: Place {
+                block: BlockId(0),
+                index: 0,
+            },
+            registers,
+            home: (home as u64).cast_signed(),
+            made: 0,
+            waits: Wait::Nothing,
+            role: Role::Body,
+            depth: 0,
+        };
         Ok(Stack {
             alloc,
-            top: Frame {
-                function: program.main,
-                place: Place {
-                    block: BlockId(0),
-                    index: 0,
-                },
-                registers,
-                home: (home as u64).cast_signed(),
-                made: 0,
-                waits: Wait::Nothing,
-                role: Role::Body,
-                depth: 0,
-            },
+            top: Box::new(alloc, top)?,
             below: Vec::new(alloc),
             spare: Vec::new(alloc),
             cells,

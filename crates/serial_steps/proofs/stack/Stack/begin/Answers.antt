@@ -9,6 +9,7 @@ use Rattle.serial_steps.specs.Layouts.{alloca_sizes}
 use Rattle.serial_steps.proofs.Calling.{end_address, vec_small}
 use Rattle.serial_steps.proofs.Owners.{get_more, sizes_are}
 use Rattle.serial_steps.proofs.Starting.{begin_shown}
+use Rattle.serial_steps.specs.Shown.{unboxed}
 use Rattle.serial_steps.proofs.stack.Stack.begin.Goals as goal
 
 pub returns-clause-begins : goal.returns-clause-begins
@@ -43,4 +44,4 @@ returns-clause-begins c = λ globals places memory at stands.
     (let made : length registers.items ≡ length c.args.arguments.now + (c.len.result - length c.args.arguments.now) = ap (λ (xs : List ℤ). length xs) words ∙ length-append c.args.arguments.now (replicate (c.len.result - length c.args.arguments.now) (pos 0)) ∙ ap (λ (k : ℕ). length c.args.arguments.now + k) (length-replicate (c.len.result - length c.args.arguments.now) (pos 0)) in omega (arith, made, most, count)) in
     begin_shown globals prog places memory at numbers.items stands c.args.arguments.now items n grown enough (vec_small c.grow.new.self.cells) f is (c.requires.entry f is) registers _ at_home as_many
     (λ x z e. ap (λ (xs : List ℤ). slice_get xs x) words ∙ get_more c.args.arguments.now (replicate (c.len.result - length c.args.arguments.now) (pos 0)) x z e)
-    _ refl c.new.ensures.items refl ends
+    _ c.in_ok-new.ensures.ok (ap unboxed c.new-2.ensures.items) refl ends

@@ -1,4 +1,4 @@
-use Rattle.std.proofs.Common.{rules, ℕ, FitsSigned, ◌≡◌, ◌+◌, ◌-◌, ◌∙◌, ap, arith, pos, List, Some, length, ◌≤◌, ◌++◌, replicate}
+use Rattle.std.proofs.Common.{rules, ℕ, FitsSigned, ◌≡◌, ◌+◌, ◌-◌, ◌∙◌, ap, arith, pos, List, Some, length, ◌≤◌, ◌++◌, replicate, subst, sym, slice_get}
 use Rattle.std.specs.Prelude.{map, sum}
 use Rattle.std.specs.Int.{w64}
 use mir.Val.{to_z, of_z}
@@ -10,16 +10,23 @@ use Rattle.program.specs.declared.instruction.Instruction.TheVariants as instruc
 use Rattle.serial_steps.specs.Shown.{item_here}
 use Rattle.serial_steps.specs.declared.stack.Stack.{Stack}
 use Rattle.serial_steps.proofs.Calling.{begins, call_names, call_shown, callee_within, end_address, grown_long, layout, more, place}
-use Rattle.serial_steps.proofs.Detaching.{spared}
+use Rattle.serial_steps.proofs.Detaching.{spared, unboxed_push}
+use Rattle.engine.specs.declared.activation.Frame.{Frame}
+use Rattle.engine.specs.Activation.{ShowsFrame, allocas_of}
+use Rattle.engine.specs.Names.{HasArgument, sizes}
+use Rattle.program.specs.declared.instruction.Argument.{Argument}
+use Rattle.frame.specs.declared.frame.Wait.TheVariants as wait
 use Rattle.serial_steps.proofs.stack.Stack.call.Goals as goal
 
 pub function_at-called-requires : goal.function_at-called-requires
-function_at-called-requires c = callee_within c.args.program.now c.args.places.now _ c.args.self.now.top c.args.register c.args.callee c.args.arguments.now c.requires.text c.requires.item
+function_at-called-requires c = callee_within c.args.program.now c.args.places.now _ c.args.self.now.top.value c.args.register c.args.callee c.args.arguments.now c.requires.text c.requires.item
 
 pub call_into-requires-clause-names : goal.call_into-requires-clause-names
 call_into-requires-clause-names c =
-    let same : c.fresh-frame.new.self.top ≡ c.args.self.now.top = ap (λ (x : Stack). x.top) c.fresh-frame.ensures.only in
-    rw same (call_names c.args.program.now c.args.places.now _ c.args.self.now.top c.args.register c.args.callee c.args.arguments.now c.requires.text c.requires.stands c.requires.item).1
+    let places = c.args.places.now in
+    let same : c.deref.result.now ≡ c.args.self.now.top.value = c.deref.ensures ∙ ap (λ (x : Stack). x.top.value) c.in_ok-frame.ensures.only in
+    subst (λ (f : Frame). (k : ℕ) (a : Argument) → slice_get c.args.arguments.now k ≡ Some a → HasArgument (sizes (length f.registers.items) (length places.globals) (length (allocas_of places f.function.0))) a) (sym same)
+    (call_names c.args.program.now places _ c.args.self.now.top.value c.args.register c.args.callee c.args.arguments.now c.requires.text c.requires.stands c.requires.item).1
 
 pub returns-clause-goes : goal.returns-clause-goes
 returns-clause-goes c = λ globals s h can.
@@ -29,12 +36,13 @@ returns-clause-goes c = λ globals s h can.
     let g = c.args.callee in
     let xs = c.args.arguments.now in
     let k = c.args.self.now in
-    let fresh = c.fresh-frame.new.self in
-    let only = c.fresh-frame.ensures.only in
+    let fresh = c.fresh.new.self in
+    let only = c.in_ok-frame.ensures.only in
+    let caller = c.wait_for_call.new.self in
     let k2 : Stack = record fresh { cells = k.cells } in
     let like : k2 ≡ record k { spare = fresh.spare } = ap (λ (x : Stack). record x { cells = k.cells }) only in
     let h2 = spared globals prog places s k k2 like h in
-    let item : item_here prog k2.top ≡ Some (Does (instruction.Call d g xs)) = ap (λ (x : Stack). item_here prog x.top) only ∙ c.requires.item in
+    let item : item_here prog k2.top.value ≡ Some (Does (instruction.Call d g xs)) = ap (λ (x : Stack). item_here prog x.top.value) only ∙ c.requires.item in
     let f = c.function_at-called.result.now in
     let is = c.function_at-called.ensures in
     let j = c.push.new.self in
@@ -56,11 +64,12 @@ returns-clause-goes c = λ globals s h can.
     let low : k2.end ≤ j.end = omega (arith, ends) in
     let at_home : to_z w64 (of_z w64 c.cast_signed.result) ≡ pos (end_of globals prog (frames_of s)) = to_z-of_z w64 c.cast_signed.result fit ∙ c.cast_signed.ensures ∙ end_address k2.end j.end j.cells.cells low long ∙ ap (λ (m : ℕ). pos m) h2.end in
     call_shown globals prog places _ s k2 c.requires.text h2 can d g xs item f is
-    c.call_into.new.callee c.wait_for_call.new.self
+    c.call_into.new.callee caller
     (c.in_ok-call_into.ensures.registers ∙ c.len-2.ensures)
     c.in_ok-call_into.ensures.function
     (c.in_ok-call_into.ensures.home ∙ at_home)
-    (λ vs e alike. c.in_ok-call_into.ensures.shown (layout globals prog places _ s k2 c.requires.text h2 can d g xs item f is) (more globals prog places _ s k2 c.requires.text h2 can d g xs item f is) s.path s.frame vs h2.top.shown (can.whole d g xs (place globals prog places _ s k2 c.requires.text h2 can d g xs item f is)) e alike
+    (λ vs e alike. c.in_ok-call_into.ensures.shown (layout globals prog places _ s k2 c.requires.text h2 can d g xs item f is) (more globals prog places _ s k2 c.requires.text h2 can d g xs item f is) s.path s.frame vs (subst (ShowsFrame _ places s.path s.frame) (sym c.deref.ensures) h2.top.shown) (can.whole d g xs (place globals prog places _ s k2 c.requires.text h2 can d g xs item f is)) e alike
     (begins globals prog places _ s k2 c.requires.text h2 can d g xs item f is _ at_home))
-    c.wait_for_call.ensures.is c.wait_for_call.ensures.shown
-    j n (ap (λ (x : Stack). x.top) pushed) c.in_ok-push.ensures.below grown missing ends
+    (subst (λ (f : Frame). caller ≡ record f { place = record { block = f.place.block; index = f.place.index + 1 }; made = f.made + 1; waits = wait.Call f.made d }) c.deref_mut.ensures.value c.wait_for_call.ensures.is)
+    (λ l at p g shown. c.wait_for_call.ensures.shown l at p g (subst (ShowsFrame l at p g) (sym c.deref_mut.ensures.value) shown))
+    j n (ap (λ (x : Stack). x.top.value) pushed) (unboxed_push _ _ _ c.in_ok-push.ensures.below) grown missing ends
