@@ -306,8 +306,8 @@ fn seed_option<'a>(alloc: Global) -> Arg<'a> {
 }
 
 fn drawn_option<'a>(alloc: Global) -> Result<Arg<'a>, AllocError> {
-    Arg::new(alloc, "schedule")
-        .long("schedule")
+    Arg::new(alloc, "save")
+        .long("save")
         .value_name("OUT")
         .action(ArgAction::Set)
         .help("writes the events to a file, as replay takes them")
@@ -499,7 +499,7 @@ fn run_request(alloc: Global, matches: &ArgMatches<'_>) -> Result<Request, Words
     let telling = Telling {
         trace: false,
         seed: seed_of(alloc, matches)?,
-        file: written_file(alloc, matches, "schedule")?,
+        file: written_file(alloc, matches, "save")?,
     };
     Ok(Request { telling, ..request })
 }
