@@ -19,8 +19,8 @@ impl RandomSource for Seed {
     fn fill_bytes(&self, buf: &mut [u8]) -> io::Result<()> {
         let (low, high) = (self.low.to_le_bytes(), self.high.to_le_bytes());
         for (place, byte) in buf.iter_mut().enumerate() {
-            let source = if place & 8 == 0 { &low } else { &high };
-            *byte = source[place & 7];
+            let source = if place % 16 < 8 { &low } else { &high };
+            *byte = source[place % 8];
         }
         Ok(())
     }

@@ -1,6 +1,6 @@
 -- The globals of memory and a row of their numbers are one memory.
 use Rattle.std.proofs.Common.{◌≡◌, ℕ, zero, suc, ◌+◌, ◌<◌, ◌≤◌, List, [], ◌∷◌, ◌++◌, length, take, drop, Option, Some, None, Bool, true, false, cond, refl, ap, sym, ◌∙◌, arith, slice_get, ℤ}
-use Rattle.std.specs.Prelude.{IsSome, nat_lt, sum}
+use Rattle.std.specs.Prelude.{IsSome, map, nat_lt, sum}
 use Rattle.std.proofs.lemmas.Bool.{le-ltb, ltb-false, ltb-true}
 use Rattle.std.proofs.lemmas.List.{drop_at, length-append, length-drop, length-map, length-take-le, take_at}
 use Rattle.running.specs.Cells.{Object, Shared, Local}
@@ -10,7 +10,7 @@ use Rattle.program.specs.declared.function.Program.{Program}
 use Rattle.outcome.specs.verifier.Accepted.{IsProgramOf}
 use Rattle.engine.specs.Starts.{starts_from}
 use Rattle.outcome.specs.store.Cells.{NamedCells, cell_at}
-use Rattle.outcome.specs.store.Made.{HasGlobalCells}
+use Rattle.outcome.specs.store.Made.{HasGlobalCells, IsMadeFor}
 use Rattle.outcome.specs.store.Rows.{refilled, row_of, sizes_of}
 use Rattle.outcome.specs.Serially.{global_cell, memory_of_globals, names_of}
 use Rattle.serial_steps.specs.Layouts.{size_in, start_in}
@@ -142,6 +142,27 @@ covers program m has g = by (slice_get program.globals g) refl
     by : (o : Option Global) → slice_get program.globals g ≡ o → global_cells o ≤ size_in (sizes_of m) g
     by None is = omega arith
     by (Some global) is = at_most global.cells (size_in (sizes_of m) g) (λ i low. cell_low m g i (has g i global is low))
+
+there : (xs : List ℤ) (i : ℕ) → i < length xs → IsSome (slice_get xs i)
+there [] i low = absurd (omega (arith, low))
+there (x ∷ xs) zero low = refl
+there (x ∷ xs) (suc i) low = there xs i (omega (arith, low))
+
+cells_there : (m : List NamedCells) (globals : List Global) → sizes_of m ≡ map (λ (g : Global). g.cells) globals →
+    (g i : ℕ) (global : Global) → slice_get globals g ≡ Some global → i < global.cells → IsSome (cell_at m g i)
+cells_there m [] made g i global is low = absurd (cc)
+cells_there [] (d ∷ globals) made g i global is low = absurd (cc)
+cells_there (x ∷ m) (d ∷ globals) made zero i global is low =
+    let same : length x.cells ≡ d.cells = (let both : length x.cells ∷ sizes_of m ≡ d.cells ∷ map (λ (g : Global). g.cells) globals = made in cc) in
+    let one : d.cells ≡ global.cells = (let e : Some d ≡ Some global = is in let f : d ≡ global = cc in ap (λ (g : Global). g.cells) f) in
+    there x.cells i (omega (arith, same, one, low))
+cells_there (x ∷ m) (d ∷ globals) made (suc g) i global is low =
+    let rest : sizes_of m ≡ map (λ (g : Global). g.cells) globals = (let both : length x.cells ∷ sizes_of m ≡ d.cells ∷ map (λ (g : Global). g.cells) globals = made in cc) in
+    cells_there m globals rest g i global is low
+
+-- memory with as many cells of each global as the program declares has them all
+pub made_cells : (program : Program) (m : List NamedCells) → IsMadeFor program m → HasGlobalCells program m
+made_cells program m made g i global is low = cells_there m program.globals made g i global is low
 
 pub as_many : (text : List ℕ) (program : Program) → IsProgramOf text program → (m : List NamedCells) → HasGlobalCells program m → length program.globals ≤ length (starts_from 0 (sizes_of m))
 as_many text program accepted m has =
