@@ -302,7 +302,7 @@ fn seed_option<'a>(alloc: Global) -> Arg<'a> {
         .long("seed")
         .value_name("S")
         .action(ArgAction::Set)
-        .help("draws the events at random by this number; at most 1048576")
+        .help("draws the events, at most 1048576, at random by this number")
 }
 
 fn drawn_option<'a>(alloc: Global) -> Result<Arg<'a>, AllocError> {
