@@ -3,12 +3,12 @@ use Rattle.std.specs.Prelude.{◌≡◌, ◌≢◌, ◌⊎◌, ℕ, ◌^◌, ◌
 use Rattle.program.specs.declared.function.Global.{Global}
 use Rattle.program.specs.declared.function.Program.{Program}
 use Rattle.refusal.specs.declared.refused.Refused.TheVariants.{Fault}
-use Rattle.serial_machine.specs.verifier.Accepted.{IsProgramOf, IsRefused}
-use Rattle.serial_machine.specs.verifier.Budgets.{IsDepthOf, budget_of}
-use Rattle.serial_machine.specs.store.Cells.{NamedCells, zeros}
-use Rattle.serial_machine.specs.store.Rows.{refilled, row_of}
-use Rattle.serial_machine.specs.outcome.Requirements.{unmet_in}
-use Rattle.serial_machine.specs.outcome.declared.outcome.Finished.{Finished}
+use Rattle.verifier.specs.Accepted.{IsProgramOf, IsRefused}
+use Rattle.verifier.specs.Budgets.{IsDepthOf, budget_of}
+use Rattle.outcome.specs.store.Cells.{NamedCells, zeros}
+use Rattle.outcome.specs.store.Rows.{refilled, row_of}
+use Rattle.outcome.specs.Requirements.{unmet_in}
+use Rattle.outcome.specs.declared.outcome.Finished.{Finished}
 use Rattle.serial_machine.specs.Promise.{EndsWithinBudget}
 use Rattle.kernel_c.specs.declared.told.Outcome.{Outcome}
 use Rattle.kernel_c.specs.declared.told.Verdict.{Verdict}

@@ -2,7 +2,7 @@
 
 ghost use Rattle.std.specs.Prelude.{◌≡◌};
 ghost use Rattle.kernel_c.specs.Told.{Accepts, Refuses, IsVerdictStatus, cells_in, done, refused};
-ghost use Rattle.serial_machine.specs.verifier.Budgets.{IsDepthOf, budget_of};
+ghost use Rattle.verifier.specs.Budgets.{IsDepthOf, budget_of};
 
 use crate::cells::count_cells;
 use crate::seed::{Seed, verify_seeded};

@@ -1,7 +1,7 @@
 //! Where the verifier's tables get their random numbers from: from the host.
 
 ghost use Rattle.std.specs.Prelude.{IfErr, IfOk};
-ghost use Rattle.serial_machine.specs.verifier.Accepted.{IsProgramOf, IsRefused};
+ghost use Rattle.verifier.specs.Accepted.{IsProgramOf, IsRefused};
 
 use std::alloc::Global;
 use std::hash::RandomState;

@@ -6,7 +6,6 @@ use Rattle.outcome.specs.verifier.Accepted.{IsProgramOf}
 use Rattle.outcome.specs.verifier.Budgets.{budget_of}
 use Rattle.outcome.specs.store.Cells.{NamedCells}
 use Rattle.outcome.specs.store.Made.{HasGlobalCells}
-use Rattle.outcome.specs.store.Rows.{sizes_of}
 use Rattle.schedule_theorem.specs.Promise.{KeepsItsPromise}
 use Rattle.schedule_theorem.proofs.Promise.{accepted_programs_keep_their_promise}
 use Rattle.outcome.specs.Requirements.{unmet_in}
@@ -22,13 +21,12 @@ module _ (text : List ℕ) (program : Program) (accepted : IsProgramOf text prog
     promise : KeepsItsPromise program arguments (memory_of_globals memory)
     promise = accepted_programs_keep_their_promise text program accepted arguments (memory_of_globals memory) (are_taken program arguments none) (globals_given program memory globals)
 
-    pub within_budget : (done : Finished) → IsMeant program arguments memory done → sizes_of done.memory ≡ sizes_of memory → EndsWithinBudget program arguments memory done
-    within_budget done m sizes =
+    pub within_budget : (done : Finished) → IsMeant program arguments memory done → EndsWithinBudget program arguments memory done
+    within_budget done m =
         let o : Outcome = record { ending = Gave (Some done.result); memory = memory_of_globals done.memory; count = done.instructions; depth = done.peak } in
         let same : promise.serial ≡ o = sym (promise.only_one o m.meant) in
         record {
           meant = m;
           budget = subst (λ (x : Outcome). x.count ≤ budget_of program) same promise.within_budget;
           depth = λ depth is. subst (λ (x : Outcome). x.depth ≤ depth) same (promise.within_depth depth is);
-          sizes = sizes;
         }

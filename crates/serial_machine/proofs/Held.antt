@@ -1,8 +1,8 @@
 -- The globals of memory and a row of their numbers are one memory.
 use Rattle.std.proofs.Common.{◌≡◌, ℕ, zero, suc, ◌+◌, ◌<◌, ◌≤◌, List, [], ◌∷◌, ◌++◌, length, take, drop, Option, Some, None, Bool, true, false, cond, refl, ap, sym, ◌∙◌, arith, slice_get, ℤ}
-use Rattle.std.specs.Prelude.{IsSome, map, nat_lt, sum}
+use Rattle.std.specs.Prelude.{IsSome, nat_lt, sum}
 use Rattle.std.proofs.lemmas.Bool.{le-ltb, ltb-false, ltb-true}
-use Rattle.std.proofs.lemmas.List.{drop_at, length-append, length-drop, length-map, length-take-le, take_at}
+use Rattle.std.proofs.lemmas.List.{drop_at, length-append, length-map, take_at}
 use Rattle.running.specs.Cells.{Object, Shared, Local}
 use Rattle.running.specs.Frames.{global_cells}
 use Rattle.program.specs.declared.function.Global.{Global}
@@ -10,7 +10,7 @@ use Rattle.program.specs.declared.function.Program.{Program}
 use Rattle.outcome.specs.verifier.Accepted.{IsProgramOf}
 use Rattle.engine.specs.Starts.{starts_from}
 use Rattle.outcome.specs.store.Cells.{NamedCells, cell_at}
-use Rattle.outcome.specs.store.Made.{HasGlobalCells, IsMadeFor}
+use Rattle.outcome.specs.store.Made.{HasGlobalCells}
 use Rattle.outcome.specs.store.Rows.{refilled, row_of, sizes_of}
 use Rattle.outcome.specs.Serially.{global_cell, memory_of_globals, names_of}
 use Rattle.serial_steps.specs.Layouts.{size_in, start_in}
@@ -86,22 +86,6 @@ pub names_kept : (m : List NamedCells) (row : List ℤ) → names_of (refilled m
 names_kept [] row = refl
 names_kept (g ∷ m) row = ap (λ (more : List (List ℕ)). g.name ∷ more) (names_kept m (drop (length g.cells) row))
 
-at_most : (n k : ℕ) → ((i : ℕ) → i < n → i < k) → n ≤ k
-at_most zero k low = omega arith
-at_most (suc n) k low = let last = low n (omega arith) in omega (arith, last)
-
--- a row that has each global's cells gives as many to each
-pub sizes_kept : (m : List NamedCells) (row : List ℤ) → ((g i : ℕ) → i < size_in (sizes_of m) g → start_in (sizes_of m) g + i < length row) → sizes_of (refilled m row) ≡ sizes_of m
-sizes_kept [] row there = refl
-sizes_kept (x ∷ m) row there =
-    let n = length x.cells in
-    let first : length (take n row) ≡ n = length-take-le n row (at_most n (length row) (λ i low. let is = there 0 i low in omega (arith, is))) in
-    let rest : (g i : ℕ) → i < size_in (sizes_of m) g → start_in (sizes_of m) g + i < length (drop n row) = λ g i low.
-        let is = there (suc g) i low in
-        let long = length-drop n row in
-        omega (arith, is, long) in
-    λ i. first i ∷ sizes_kept m (drop n row) rest i
-
 -- ---- the row at the start
 
 pub row_long : (m : List NamedCells) → length (row_of m) ≡ sum (sizes_of m)
@@ -139,30 +123,13 @@ global_low (x ∷ m) (suc g) i h = let k = global_low m g i h in omega (arith, k
 pub covers : (program : Program) (m : List NamedCells) → HasGlobalCells program m → HasCellsOf program (sizes_of m)
 covers program m has g = by (slice_get program.globals g) refl
   where
+    all : (n : ℕ) → ((i : ℕ) → i < n → i < size_in (sizes_of m) g) → n ≤ size_in (sizes_of m) g
+    all zero low = omega arith
+    all (suc n) low = let last = low n (omega arith) in omega (arith, last)
+
     by : (o : Option Global) → slice_get program.globals g ≡ o → global_cells o ≤ size_in (sizes_of m) g
     by None is = omega arith
-    by (Some global) is = at_most global.cells (size_in (sizes_of m) g) (λ i low. cell_low m g i (has g i global is low))
-
-there : (xs : List ℤ) (i : ℕ) → i < length xs → IsSome (slice_get xs i)
-there [] i low = absurd (omega (arith, low))
-there (x ∷ xs) zero low = refl
-there (x ∷ xs) (suc i) low = there xs i (omega (arith, low))
-
-cells_there : (m : List NamedCells) (globals : List Global) → sizes_of m ≡ map (λ (g : Global). g.cells) globals →
-    (g i : ℕ) (global : Global) → slice_get globals g ≡ Some global → i < global.cells → IsSome (cell_at m g i)
-cells_there m [] made g i global is low = absurd (cc)
-cells_there [] (d ∷ globals) made g i global is low = absurd (cc)
-cells_there (x ∷ m) (d ∷ globals) made zero i global is low =
-    let same : length x.cells ≡ d.cells = (let both : length x.cells ∷ sizes_of m ≡ d.cells ∷ map (λ (g : Global). g.cells) globals = made in cc) in
-    let one : d.cells ≡ global.cells = (let e : Some d ≡ Some global = is in let f : d ≡ global = cc in ap (λ (g : Global). g.cells) f) in
-    there x.cells i (omega (arith, same, one, low))
-cells_there (x ∷ m) (d ∷ globals) made (suc g) i global is low =
-    let rest : sizes_of m ≡ map (λ (g : Global). g.cells) globals = (let both : length x.cells ∷ sizes_of m ≡ d.cells ∷ map (λ (g : Global). g.cells) globals = made in cc) in
-    cells_there m globals rest g i global is low
-
--- memory with as many cells of each global as the program declares has them all
-pub made_cells : (program : Program) (m : List NamedCells) → IsMadeFor program m → HasGlobalCells program m
-made_cells program m made g i global is low = cells_there m program.globals made g i global is low
+    by (Some global) is = all global.cells (λ i low. cell_low m g i (has g i global is low))
 
 pub as_many : (text : List ℕ) (program : Program) → IsProgramOf text program → (m : List NamedCells) → HasGlobalCells program m → length program.globals ≤ length (starts_from 0 (sizes_of m))
 as_many text program accepted m has =

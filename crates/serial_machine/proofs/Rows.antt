@@ -3,7 +3,6 @@ use Rattle.std.proofs.Common.{◌≡◌, ℕ, zero, suc, ◌+◌, ◌<◌, List,
 use Rattle.std.specs.Prelude.{nat_lt, sum}
 use Rattle.std.proofs.lemmas.Bool.{ltb-true, lt-ltb}
 use Rattle.std.proofs.lemmas.Int.{ints}
-use Rattle.std.proofs.lemmas.Option.{slice_get_within}
 use Rattle.running.specs.Arithmetic.{wrapped}
 use Rattle.running.specs.Paths.{Path, same_path}
 use Rattle.syntax.specs.declared.operator.Width.TheVariants.{Bits64}
@@ -120,23 +119,13 @@ module _ (prog : Program) (places : Places) (globals : List ℕ) (arguments row 
         let at : cell_in items (pos lies.place) ≡ Some z = ap (λ (a : ℤ). cell_in items a) (sym same) ∙ h.shown.cells.values c z e in
         subst (λ (x : ℕ). slice_get items x ≡ Some z) place at
 
-    valued_at_end : (g i : ℕ) → i < size_in globals g → (z : ℤ) × (s.memory (global_cell g i) ≡ Some z)
-    valued_at_end g i low =
-        some_of (s.memory (global_cell g i)) (walk_keeps prog (starting prog arguments (row_memory globals row)) h.before peak s h.walk g i (full globals row long g i low))
-
-    pub row_at_end : (g i : ℕ) → i < size_in globals g → start_in globals g + i < length k.cells.cells.items
-    row_at_end g i low =
-        let some = valued_at_end g i low in
-        let within : start_in globals g + i < length items = slice_get_within items (start_in globals g + i) some.0 (number_there g i some.0 low some.1) in
-        subst (λ (x : Flat). start_in globals g + i < length x.cells.items) (sym h.cells) within
-
     global_at_end : (g i : ℕ) → s.memory (global_cell g i) ≡ in_row globals items (Shared g) i
     global_at_end g i = by (nat_lt i (size_in globals g)) refl
       where
         by : (b : Bool) → nat_lt i (size_in globals g) ≡ b → s.memory (global_cell g i) ≡ cond b (slice_get items (start_in globals g + i)) None
         by true e =
             let low : i < size_in globals g = ltb-true i (size_in globals g) e in
-            let some = valued_at_end g i low in
+            let some = some_of (s.memory (global_cell g i)) (walk_keeps prog (starting prog arguments (row_memory globals row)) h.before peak s h.walk g i (full globals row long g i low)) in
             some.1 ∙ sym (number_there g i some.0 low some.1)
         by false e = none_of (s.memory (global_cell g i)) (λ z some.
             let within : i < size_in globals g = subst (λ (x : ℕ). i < x) (size_is g) (h.shown.cells.inside (global_cell g i) z some) in
@@ -174,9 +163,3 @@ module _ (prog : Program) (places : Places) (globals : List ℕ) (arguments row 
 
 pub rows_mean : RowsMean
 rows_mean prog places globals arguments row long small done peak k result h = means prog places globals arguments row long small done peak k result h
-
--- and all cells of the globals are still there
-pub rows_stay : (prog : Program) (places : Places) (globals : List ℕ) (arguments row : List ℤ) → length row ≡ sum globals → sum globals < 9223372036854775808 →
-    (done peak : ℕ) (k : Stack) (result : ℤ) → HasEnded globals prog places (starting prog arguments (row_memory globals row)) done peak k result →
-    (g i : ℕ) → i < size_in globals g → start_in globals g + i < length k.cells.cells.items
-rows_stay prog places globals arguments row long small done peak k result h = row_at_end prog places globals arguments row long small done peak k result h

@@ -1,9 +1,8 @@
 -- What the serial run of a program that the verifier took comes to.
-use Rattle.std.specs.Prelude.{◌≡◌, ⊤, ℕ, ◌≤◌, List, ℤ, Result, Ok, Err}
+use Rattle.std.specs.Prelude.{⊤, ℕ, ◌≤◌, List, ℤ, Result, Ok, Err}
 use Rattle.program.specs.declared.function.Program.{Program}
 use Rattle.outcome.specs.verifier.Budgets.{budget_of, IsDepthOf}
 use Rattle.outcome.specs.store.Cells.{NamedCells}
-use Rattle.outcome.specs.store.Rows.{sizes_of}
 use Rattle.outcome.specs.Serially.{IsMeant}
 use Rattle.outcome.specs.declared.outcome.Finished.{Finished}
 use Rattle.outcome.specs.declared.outcome.RunFault.{RunFault}
@@ -14,8 +13,6 @@ pub record EndsWithinBudget (program : Program) (arguments : List ℤ) (memory :
   pub meant : IsMeant program arguments memory done
   pub budget : done.instructions ≤ budget_of program
   pub depth : (depth : ℕ) → IsDepthOf program depth → done.peak ≤ depth
-  -- each global has as many cells as before
-  pub sizes : sizes_of done.memory ≡ sizes_of memory
 
 -- 803 is the only fault: neither 801 nor 802
 abbrev pub EndsOrLacksMemory : Program → List ℤ → List NamedCells → Result Finished RunFault → Type 0

@@ -18,5 +18,4 @@ mod run;
 pub use law::{
     operands_fit, rows_mean, runs_are_safe, texts_fit, walks_count, walks_go_on, walks_keep,
 };
-pub use outcome::{Finished, Memory, RunFault};
 pub use run::serial_run;
