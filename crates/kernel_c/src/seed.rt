@@ -10,6 +10,7 @@ use std::random::RandomSource;
 use verifier::{Refused, Verified, verify};
 
 /// Numbers that whoever wrote the text does not know.
+#[derive(Drop)]
 pub struct Seed {
     pub low: u64,
     pub high: u64,
