@@ -1,1 +1,1 @@
-mod Cells
+mod Counting
