@@ -70,7 +70,7 @@ pub record Shows (finished : Finished) (row : List ℤ) (outcome : Outcome) : Ty
   pub result : outcome.result ≡ finished.result
   pub instructions : outcome.instructions ≡ finished.instructions
   pub peak : outcome.peak ≡ finished.peak
-  pub row : row ≡ row_of finished.memory
+  pub numbers : row ≡ row_of finished.memory
 
 -- the program's serial run, from the numbers before, comes to the outcome and to the numbers after
 pub record RunsProgram (program : Program) (arguments before after : List ℤ) (outcome : Outcome) : Type 0 where

@@ -1,5 +1,7 @@
 //! What a host is told. The header has the same structs and statuses.
 
+ghost use Rattle.std.specs.Prelude.{◌≡◌};
+
 /// The module is accepted, or the run has ended.
 pub const DONE: u32 = 0;
 
