@@ -302,12 +302,12 @@ fn seed_option<'a>(alloc: Global) -> Arg<'a> {
         .long("seed")
         .value_name("S")
         .action(ArgAction::Set)
-        .help("draws the events at random by this number; at most 1048576")
+        .help("draws the events, at most 1048576, at random by this number")
 }
 
 fn drawn_option<'a>(alloc: Global) -> Result<Arg<'a>, AllocError> {
-    Arg::new(alloc, "schedule")
-        .long("schedule")
+    Arg::new(alloc, "save")
+        .long("save")
         .value_name("OUT")
         .action(ArgAction::Set)
         .help("writes the events to a file, as replay takes them")
@@ -499,7 +499,7 @@ fn run_request(alloc: Global, matches: &ArgMatches<'_>) -> Result<Request, Words
     let telling = Telling {
         trace: false,
         seed: seed_of(alloc, matches)?,
-        file: written_file(alloc, matches, "schedule")?,
+        file: written_file(alloc, matches, "save")?,
     };
     Ok(Request { telling, ..request })
 }

@@ -42,9 +42,7 @@ fn is_as_serial<T: Threads + Wait + Clock + Sync>(
     serial: &[u8],
     seed: u64,
 ) -> io::Result<bool> {
-    let drawn = format!(in alloc;
-        "tapirvm run m.ll --workers 4 --arg 3 --seed {seed} --schedule o"
-    )?;
+    let drawn = format!(in alloc; "tapirvm run m.ll --workers 4 --arg 3 --seed {seed} --save o")?;
     let Some(output) = written(alloc, program, drawn.as_str(), module, None)? else {
         return Ok(false);
     };
