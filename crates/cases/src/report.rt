@@ -37,22 +37,27 @@ impl<W: Write + Drop> Report<W> {
         self.title.push_str(title)
     }
 
-    /// A case is told by its title and its place below it. Of one that is not as expected what was found is told.
-    pub fn case(&mut self, asked: &str, found: &str, is_expected: bool) -> io::Result<()> {
+    /// A case is told by its title and its place below it. Of one that is not as expected more is told.
+    pub fn case(&mut self, told: &str, more: &str, is_expected: bool) -> io::Result<()> {
         self.below = self.below.saturating_add(1);
         self.cases = self.cases.saturating_add(1);
-        writeln!(self.output, "{}, {}: {asked}", self.title, self.below)?;
+        writeln!(self.output, "{}, {}: {told}", self.title, self.below)?;
         if is_expected {
             self.as_expected = self.as_expected.saturating_add(1);
             Ok(())
         } else {
-            writeln!(self.output, "NOT AS EXPECTED: {found}")
+            writeln!(self.output, "NOT AS EXPECTED: {more}")
         }
     }
 
     /// What was found is to be this text.
     pub fn compare(&mut self, asked: &str, wanted: &str, found: &str) -> io::Result<()> {
         self.case(asked, found, found == wanted)
+    }
+
+    /// The answer that was found is to be this one.
+    pub fn answer(&mut self, wanted: &str, found: &str) -> io::Result<()> {
+        self.case(found, wanted, found == wanted)
     }
 
     /// What was found is to be this number.

@@ -14,14 +14,13 @@ mod escapes;
 mod lines;
 mod marks;
 mod prints;
-mod report;
 mod rows;
 mod samples;
 mod texts;
 mod verdicts;
 
 use anyhow::Context;
-use report::Report;
+use cases::Report;
 use rows::Question;
 use std::hash::RandomState;
 use std::io::{BufWriter, Write};

@@ -2,8 +2,8 @@
 //! text, `---- and again`.
 
 use crate::marks::Line;
-use crate::report::Report;
 use crate::texts::printed;
+use cases::Report;
 use std::alloc::Global;
 use std::hash::RandomState;
 use std::io;
@@ -39,7 +39,7 @@ pub fn answer<W: Write + Drop>(
                 let again = printed(alloc, state, text.as_bytes())?;
                 let is_canonical = order == "and again" && first == text && again == text;
                 let found = if is_canonical { "so" } else { first.as_str() };
-                report.case("so", found, is_canonical)?;
+                report.case(found, "so", is_canonical)?;
                 text.clear();
             }
         }

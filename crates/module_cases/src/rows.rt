@@ -3,8 +3,8 @@
 
 use crate::escapes::unescaped;
 use crate::marks::Line;
-use crate::report::Report;
 use crate::{lines, texts};
+use cases::Report;
 use std::alloc::{AllocError, Global};
 use std::hash::RandomState;
 use std::io;
@@ -87,7 +87,7 @@ pub fn answer<W: Write + Drop>(
             Line::Text(row) => {
                 let (wanted, text) = parted(row);
                 let found = question.answer(alloc, state, head.as_str(), text)?;
-                report.compare(wanted, found.as_str())?;
+                report.answer(wanted, found.as_str())?;
             }
         }
     }

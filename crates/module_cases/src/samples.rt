@@ -3,10 +3,10 @@
 //! and depths of its first function.
 
 use crate::marks::Line;
-use crate::report::Report;
 use crate::rows::parted;
 use crate::texts::{fault_of, printed, reading};
 use crate::verdicts::table;
+use cases::Report;
 use std::alloc::Global;
 use std::hash::RandomState;
 use std::io::Write;
@@ -65,7 +65,7 @@ pub fn answer<W: Write + Drop>(
                 let (question, name) = asked.split_once(" ").unwrap_or((asked, ""));
                 let text = fs::read_to_string(rt, name)?;
                 let found = answer_to(rt.alloc(), state, question, text.as_str())?;
-                report.compare(wanted, found.as_str())?;
+                report.answer(wanted, found.as_str())?;
             }
         }
     }

@@ -7,7 +7,7 @@
 
 use crate::escapes::unescaped;
 use crate::marks::Line;
-use crate::report::Report;
+use cases::Report;
 use std::alloc::{AllocError, Global};
 use std::hash::RandomState;
 use std::io::Write;
@@ -156,14 +156,14 @@ fn answer_case<W: Write + Drop>(
     report: &mut Report<W>,
 ) -> io::Result<()> {
     let Some(module) = base.module(alloc, lines)? else {
-        return report.case(wanted, "no such line", false);
+        return report.case("no such line", wanted, false);
     };
     let bytes = unescaped(alloc, module.as_str())?;
     let (found, number) = verdict(alloc, state, bytes.as_slice())?;
     let bound = wanted.strip_prefix("no fault below ");
     match bound.and_then(|bound| bound.parse::<u16>().ok()) {
-        Some(bound) => report.case(wanted, found.as_str(), number == 0 || number >= bound),
-        None => report.compare(wanted, found.as_str()),
+        Some(bound) => report.case(found.as_str(), wanted, number == 0 || number >= bound),
+        None => report.answer(wanted, found.as_str()),
     }
 }
 
@@ -173,7 +173,7 @@ fn miss_answer<W: Write + Drop>(lines: &mut String, report: &mut Report<W>) -> i
         return Ok(());
     }
     lines.clear();
-    report.case("an answer", "lines alone", false)
+    report.case("lines alone", "an answer", false)
 }
 
 /// Answers the cases of a file.
