@@ -1,13 +1,24 @@
-ghost use Rattle.std.specs.Prelude.{◌≡◌, ◌≢◌, ◌↔◌, ℕ, false, true, IfOk, IsTrue, Ok, OnErr, Some, length};
+ghost use Rattle.std.specs.Prelude.{◌≡◌, ◌≢◌, ◌↔◌, ◌+◌, ◌<◌, ℕ, suc, false, true, IfOk, IsTrue, Ok, OnErr, OnOk, Some, length, slice_get};
+ghost use Rattle.std.specs.Vec.{with_items};
+ghost use Rattle.cactus.specs.Frames.{Lives, node_at};
+ghost use Rattle.cactus.specs.declared.node.Node.{Node};
+ghost use Rattle.engine.specs.Flat.{is_cell};
+ghost use Rattle.crew.specs.declared.activation.Activation.{Activation as Living};
 ghost use Rattle.crew.specs.Follows.{Follows};
 ghost use Rattle.crew.specs.Going.{TextFits};
 ghost use Rattle.crew.specs.Left.{LeavesAsShown};
-ghost use Rattle.strand.specs.declared.standing.Pause.TheVariants.{Blank};
-ghost use Rattle.absorbing.specs.Absorbing.{DoesStrand, KeepsHand, LeavesStallsBy, StandsAlone, steps_in};
+ghost use Rattle.crew.specs.Rooms.{IsRoomier};
+ghost use Rattle.crew.specs.declared.run.Run.{Run as ShownRun};
+ghost use Rattle.strand.specs.declared.cells.Written.{Written as ShownWritten};
+ghost use Rattle.strand.specs.declared.standing.Pause.TheVariants.{Blank, Border};
+ghost use Rattle.absorbing.specs.Absorbing.{DoesSteps, DoesStrand, KeepsHand, LeavesStallsBy, StandsAlone, steps_in};
 ghost use Rattle.absorbing.specs.Fitting.{FitsRun};
+ghost use Rattle.absorbing.specs.Putting.{IsPut};
+ghost use Rattle.absorbing.specs.TakingBack.{WasPut};
 
-use crate::cells::{cell, put_writes, restore};
+use crate::cells::put_writes;
 use crate::fitting::fitting_slot;
+use crate::taking_back::{numbers_before, take_back};
 use crew::Run;
 use engine::{Frame, Place, Places};
 use frame::Wait;
@@ -16,10 +27,11 @@ use program::Program;
 use strand::{Pause, Strand};
 
 /// Puts a place and registers into a frame, which waits for this from here on.
-fn write_frame(target: &mut Frame, source: &Frame, waits: Wait)
+pub(crate) fn write_frame(target: &mut Frame, source: &Frame, waits: Wait)
     requires { length source.now.registers.items ≡ length target.old.registers.items }
     ensures only { target.new ≡ record target.old { place = source.now.place; registers = target.new.registers; waits = waits } }
     ensures registers { target.new.registers.items ≡ source.now.registers.items }
+    ensures room { target.new.registers ≡ with_items target.old.registers source.now.registers.items }
 {
     target.place = Place {
         block: source.place.block,
@@ -32,8 +44,16 @@ fn write_frame(target: &mut Frame, source: &Frame, waits: Wait)
     target.waits = waits;
 }
 
-/// Puts a frame and a strand's writes into the run, and counts its instructions.
-fn put_strand(run: &mut Run, slot: usize, strand: &Strand) {
+/// Puts the strand's frame and writes into the run, and counts its instructions.
+fn put_strand(run: &mut Run, slot: usize, strand: &Strand)
+    requires lives { Lives run.old.cactus slot }
+    requires registers { (node : Node Living) → node_at run.old.cactus slot ≡ Some node →
+        length strand.now.course.present.registers.items ≡ length node.frame.frame.registers.items }
+    requires within { (i : ℕ) (w : ShownWritten) → slice_get strand.now.course.cells.writes i ≡ Some w →
+        IsTrue (is_cell run.old.cells.cells.items w.at) }
+    requires counted { run.old.instructions + strand.now.course.done < 18446744073709551616 }
+    ensures { IsPut run.old run.new slot strand.now }
+{
     put_writes(run.cells.cells.as_mut_slice(), strand.writes());
     let Some(activation) = run.cactus.frame_mut(slot) else {
         unreachable!()
@@ -42,24 +62,73 @@ fn put_strand(run: &mut Run, slot: usize, strand: &Strand) {
     run.instructions += strand.done();
 }
 
-/// Puts the loaded frame and what the written cells held back into the run.
-fn take_back(run: &mut Run, slot: usize, strand: &Strand, before: &[i64]) {
-    restore(run.cells.cells.as_mut_slice(), strand.writes(), before);
-    let Some(activation) = run.cactus.frame_mut(slot) else {
-        unreachable!()
-    };
-    let loaded = strand.loaded();
-    write_frame(&mut activation.frame, loaded, loaded.waits);
-    run.instructions -= strand.done();
+/// Whether the strand stands at the pause.
+fn is_at(strand: &Strand, pause: Pause) -> bool
+    ensures { IsTrue result ↔ (strand.now.pause ≡ Some pause) }
+{
+    strand.pause() == Some(pause)
 }
 
-/// What the cells hold that the strand wrote.
-fn numbers_before(run: &Run, strand: &Strand) -> Result<Vec<i64>, OutOfMemory> {
-    let mut before = Vec::with_capacity(run.alloc, strand.writes().len())?;
-    for written in strand.writes() {
-        before.push(cell(run.cells.cells.as_slice(), written.at).unwrap_or(0))?;
+/// Does the strand's instructions as steps of a worker whose frame it fits.
+fn go_on(run: &mut Run, slot: usize, strand: &Strand)
+    requires fits { (worker : ℕ) × FitsRun run.old worker strand.now slot }
+    requires going { strand.now.pause ≢ Some Blank }
+    requires safe { ∥ StandsAlone strand.now.program.now strand.now.places.now run.old ∥₁ }
+    ensures left { strand.now.course.done ≡ 0 → run.new ≡ run.old }
+    ensures put { strand.now.course.done ≢ 0 → IsPut run.old run.new slot strand.now }
+{
+    if strand.done() > 0 {
+        put_strand(run, slot, strand);
     }
-    Ok(before)
+}
+
+/// Takes back what `go_on` did, where the run got more room at most since then.
+fn undo(run: &mut Run, slot: usize, strand: &Strand, numbers: &[i64])
+    requires put { strand.now.course.done ≢ 0 → (before : ShownRun) × WasPut before run.old slot strand.now numbers.now }
+    ensures left { strand.now.course.done ≡ 0 → run.new ≡ run.old }
+    ensures back { strand.now.course.done ≢ 0 → (before : ShownRun) → WasPut before run.old slot strand.now numbers.now →
+        IsRoomier before run.new }
+{
+    if strand.done() > 0 {
+        take_back(run, slot, strand, numbers);
+    }
+}
+
+/// Does the strand's instructions and the border's after them as steps of the worker.
+///
+/// # Errors
+///
+/// Memory was refused: nothing has changed that is seen of the run.
+fn go_over(
+    run: &mut Run,
+    program: &Program,
+    places: &Places,
+    worker: u8,
+    slot: usize,
+    strand: &Strand,
+) -> Result<(), OutOfMemory>
+    requires text { TextFits program.now places.now (length run.old.moves.items) }
+    requires program { strand.now.program.now ≡ program.now }
+    requires places { strand.now.places.now ≡ places.now }
+    requires fits { FitsRun run.old worker strand.now slot }
+    requires border { strand.now.pause ≡ Some Border }
+    requires safe { ∥ StandsAlone program.now places.now run.old ∥₁ }
+    ensures does { OnOk result ∥ DoesSteps program.now places.now run.old run.new worker (suc strand.now.course.done) ∥₁ }
+    ensures stalls { OnOk result (LeavesStallsBy program.now places.now run.old run.new worker (suc strand.now.course.done)) }
+    ensures refused { OnErr result (LeavesAsShown program.now places.now run.old run.new) }
+    ensures follows { Follows run.old.cactus run.new.cactus }
+    ensures workers { length run.new.hands.items ≡ length run.old.hands.items }
+    ensures moves { length run.new.moves.items ≡ length run.old.moves.items }
+{
+    let before = numbers_before(run, strand)?;
+    go_on(run, slot, strand);
+    match run.border(program, places, worker, slot) {
+        Ok(()) => Ok(()),
+        Err(refused) => {
+            undo(run, slot, strand, before.as_slice());
+            Err(refused)
+        }
+    }
 }
 
 /// Does what a strand did as steps of the worker, and the border's with them where it stands at one, if the worker runs the loaded
@@ -91,26 +160,16 @@ pub fn absorb(
     ensures workers { length run.new.hands.items ≡ length run.old.hands.items }
     ensures moves { length run.new.moves.items ≡ length run.old.moves.items }
 {
-    if strand.pause() == Some(Pause::Blank) {
+    if is_at(strand, Pause::Blank) {
         return Ok(false);
     }
     let Some(slot) = fitting_slot(run, worker, strand) else {
         return Ok(false);
     };
-    let before = numbers_before(run, strand)?;
-    if strand.done() > 0 {
-        put_strand(run, slot, strand);
+    if is_at(strand, Pause::Border) {
+        go_over(run, program, places, worker, slot, strand)?;
+    } else {
+        go_on(run, slot, strand);
     }
-    if strand.pause() != Some(Pause::Border) {
-        return Ok(true);
-    }
-    match run.step(program, places, worker) {
-        Ok(_) => Ok(true),
-        Err(refused) => {
-            if strand.done() > 0 {
-                take_back(run, slot, strand, before.as_slice());
-            }
-            Err(refused)
-        }
-    }
+    Ok(true)
 }

@@ -1,6 +1,7 @@
 -- A step of a worker: from the run that a look for a plain instruction leaves, and of an idle worker.
 use Rattle.std.proofs.Common.{Vec, Global, ◌≡◌, ℕ, length, Option, Some, None, Bool, false, refl, sym, ap, ◌∙◌, subst}
 use Rattle.std.specs.Prelude.{Result, Ok, Err, OnErr, option_and_then, slice_get}
+use Rattle.std.proofs.lemmas.List.{append-nil}
 use Rattle.std.specs.Option.{option_map}
 use Rattle.running.specs.Frames.{block_at}
 use Rattle.running.specs.Events as running
@@ -19,9 +20,11 @@ use Rattle.crew.specs.Events.{DoesEvent, Grows, LeavesStalls}
 use Rattle.crew.specs.Follows.{KeepsUses}
 use Rattle.crew.specs.Going.{DoesStep, KeepsShown, RunsSafely, Stands, TextFits}
 use Rattle.crew.specs.Left.{LeavesAsShown}
+use Rattle.crew.specs.Rooms.{IsRoomier}
 use Rattle.crew.specs.Scheduling.{hand_of}
 use Rattle.crew.specs.Shown.{place_of}
 use Rattle.crew.specs.Stalls.{KeepsStalls}
+use Rattle.crew.proofs.Roomy.{room_shown}
 use Rattle.crew.proofs.Uses.{kept_uses, same_uses}
 
 module _ (prog : Program) (places : Places) (old mid : Run) (hands : mid.hands ≡ old.hands) (keeps : KeepsShown prog places old mid) where
@@ -59,27 +62,25 @@ idle_stays prog places k w none m shown safe = (
   shown,
 )
 
--- a run in which nothing changed
-leaves_same : (prog : Program) (places : Places) (k : Run) → LeavesAsShown prog places k k
-leaves_same prog places k = record { shown = λ m shown safe. shown; hands = refl; uses = same_uses k.cactus; stalls = λ last agree. agree }
-
--- what is shown of a run, its hands and its slots stay
-leaves_slots : (prog : Program) (places : Places) (old new : Run) → KeepsShown prog places old new → new.hands ≡ old.hands → new.cactus ≡ old.cactus → LeavesAsShown prog places old new
-leaves_slots prog places old new keeps hands slots = record {
-  shown = keeps;
-  hands = hands;
+-- with more room, what was shown is shown
+pub roomier_leaves : (prog : Program) (places : Places) (old new : Run) → IsRoomier old new → LeavesAsShown prog places old new
+roomier_leaves prog places old new more = record {
+  shown = λ m shown safe. room_shown prog places old new more m shown;
+  hands = ap (λ (x : Run). x.hands) more.only;
   uses = subst (λ (x : Frames Activation). KeepsUses old.cactus x) (sym slots) (same_uses old.cactus);
   stalls = subst (λ (x : Frames Activation). KeepsStalls old.cactus x) (sym slots) (λ last agree. agree);
 }
+  where
+    slots : new.cactus ≡ old.cactus
+    slots = ap (λ (x : Run). x.cactus) more.only
 
--- what a call or a detach leaves where memory is refused
-pub call_leaves : {X E : Type 0} (prog : Program) (places : Places) (old new : Run) (r : Result X E) → OnErr r (KeepsShown prog places old new) → OnErr r (new.hands ≡ old.hands) → OnErr r (new.cactus ≡ old.cactus) → OnErr r (LeavesAsShown prog places old new)
-call_leaves prog places old new (Ok x) keeps hands slots = tt
-call_leaves prog places old new (Err e) keeps hands slots = leaves_slots prog places old new keeps hands slots
+-- the same room is no less
+pub same_room : (k : Run) → IsRoomier k k
+same_room k = record { only = refl; cells = (0, sym (append-nil k.cells.cells.items)); blocks = (0, sym (append-nil k.blocks.items)) }
 
-pub detach_leaves : {X E : Type 0} (prog : Program) (places : Places) (old new : Run) (r : Result X E) → OnErr r (new ≡ old) → OnErr r (LeavesAsShown prog places old new)
-detach_leaves prog places old new (Ok x) same = tt
-detach_leaves prog places old new (Err e) same = subst (λ (x : Run). LeavesAsShown prog places old x) (sym same) (leaves_same prog places old)
+pub same_leaves : {X E : Type 0} (old new : Run) (r : Result X E) → OnErr r (new ≡ old) → OnErr r (IsRoomier old new)
+same_leaves old new (Ok x) same = tt
+same_leaves old new (Err e) same = subst (λ (x : Run). IsRoomier old x) (sym same) (same_room old)
 
 -- each block has an ending
 pub has_ending : (prog : Program) (places : Places) (moves k b : ℕ) (block : Block) → TextFits prog places moves → block_at prog k b ≡ Some block → block.ending ≡ None → ⊥

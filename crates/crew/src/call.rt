@@ -16,9 +16,10 @@ ghost use Rattle.crew.specs.declared.activation.Activation.{Activation as Living
 ghost use Rattle.crew.specs.Calls.{IsCallee, waiting_on};
 ghost use Rattle.crew.specs.Events.{Grows, LeavesStalls};
 ghost use Rattle.crew.specs.Follows.{Follows};
+ghost use Rattle.crew.specs.Rooms.{IsRoomier};
 ghost use Rattle.crew.specs.Scheduling.{hand_of};
 ghost use Rattle.crew.specs.Shown.{item_here};
-ghost use Rattle.crew.specs.Going.{DoesStep, KeepsShown, StandsSafely, TextFits};
+ghost use Rattle.crew.specs.Going.{DoesStep, StandsSafely, TextFits};
 
 use crate::activation::Activation;
 use crate::room::{frame_cells, function_at};
@@ -107,7 +108,7 @@ impl Run {
     }
 
     /// The worker's frame, which is in the slot, calls the function, and the worker goes on with the callee. Where memory is refused the
-    /// run is as it was.
+    /// run is as it was, with more room at most.
     pub fn call(
         &mut self,
         program: &Program,
@@ -127,10 +128,8 @@ impl Run {
         ensures steps { OnOk result (DoesStep program.now places.now self.old self.new worker) }
         ensures stalls { OnOk result (LeavesStalls program.now places.now self.old self.new (Step worker) true) }
         ensures follows { Follows self.old.cactus self.new.cactus }
-        ensures left { OnErr result (KeepsShown program.now places.now self.old self.new) }
-        ensures slots { OnErr result (self.new.cactus ≡ self.old.cactus) }
+        ensures left { OnErr result (IsRoomier self.old self.new) }
         ensures grows { OnErr result (Grows program.now places.now self.old worker) }
-        ensures hands { OnErr result (self.new.hands ≡ self.old.hands) }
         ensures workers { length self.new.hands.items ≡ length self.old.hands.items }
         ensures moves { self.new.moves ≡ self.old.moves }
     {

@@ -9,6 +9,7 @@ ghost use Rattle.crew.specs.Events.{DoesEvent, Grows, LeavesStalls};
 ghost use Rattle.crew.specs.Follows.{Follows};
 ghost use Rattle.crew.specs.Going.{DoesStep, StandsSafely, TextFits};
 ghost use Rattle.crew.specs.Left.{LeavesAsShown};
+ghost use Rattle.crew.specs.Rooms.{IsRoomier};
 ghost use Rattle.crew.specs.Scheduling.{hand_of};
 ghost use Rattle.crew.specs.Shown.{item_here};
 
@@ -37,7 +38,7 @@ impl Run {
         ensures steps { OnOk result (DoesStep program.now places.now self.old self.new worker) }
         ensures stalls { OnOk result (LeavesStalls program.now places.now self.old self.new (Step worker) true) }
         ensures follows { Follows self.old.cactus self.new.cactus }
-        ensures refused { OnErr result (LeavesAsShown program.now places.now self.old self.new) }
+        ensures refused { OnErr result (IsRoomier self.old self.new) }
         ensures grows { OnErr result (Grows program.now places.now self.old worker) }
         ensures workers { length self.new.hands.items ≡ length self.old.hands.items }
         ensures moves { length self.new.moves.items ≡ length self.old.moves.items }
@@ -83,7 +84,7 @@ impl Run {
         ensures steps { OnOk result (DoesStep program.now places.now self.old self.new worker) }
         ensures stalls { OnOk result (LeavesStalls program.now places.now self.old self.new (Step worker) true) }
         ensures follows { Follows self.old.cactus self.new.cactus }
-        ensures refused { OnErr result (LeavesAsShown program.now places.now self.old self.new) }
+        ensures refused { OnErr result (IsRoomier self.old self.new) }
         ensures grows { OnErr result (Grows program.now places.now self.old worker) }
         ensures workers { length self.new.hands.items ≡ length self.old.hands.items }
         ensures moves { length self.new.moves.items ≡ length self.old.moves.items }
@@ -109,7 +110,11 @@ impl Run {
     }
 
     /// The worker's frame, which is in the slot, does what stands at its place, which is no plain step.
-    fn border(
+    ///
+    /// # Errors
+    ///
+    /// Memory was refused: the run is as it was, with more room at most.
+    pub fn border(
         &mut self,
         program: &Program,
         places: &Places,
@@ -125,7 +130,7 @@ impl Run {
         ensures steps { OnOk result (DoesStep program.now places.now self.old self.new worker) }
         ensures stalls { OnOk result (LeavesStalls program.now places.now self.old self.new (Step worker) true) }
         ensures follows { Follows self.old.cactus self.new.cactus }
-        ensures refused { OnErr result (LeavesAsShown program.now places.now self.old self.new) }
+        ensures refused { OnErr result (IsRoomier self.old self.new) }
         ensures grows { OnErr result (Grows program.now places.now self.old worker) }
         ensures workers { length self.new.hands.items ≡ length self.old.hands.items }
         ensures moves { length self.new.moves.items ≡ length self.old.moves.items }

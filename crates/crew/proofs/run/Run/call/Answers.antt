@@ -17,13 +17,13 @@ use Rattle.engine.specs.Shows.{Layout}
 use Rattle.engine.specs.Activation.{FrameFits, ShowsFrame}
 use Rattle.crew.specs.declared.activation.Activation.{Activation}
 use Rattle.crew.specs.Calls.{IsCallee, waiting_on}
-use Rattle.crew.specs.Rooms.{IsRoom}
+use Rattle.crew.specs.Rooms.{IsRoom, IsRoomier}
 use Rattle.crew.specs.declared.run.Run.{Run}
-use Rattle.crew.specs.Going.{DoesStep, KeepsShown}
+use Rattle.crew.specs.Going.{DoesStep}
 use Rattle.crew.proofs.Called.{allocas_there, arguments_fit, call_steps, callee_there, caller_kept, is_low}
 use Rattle.crew.proofs.Callee.{call_names}
 use Rattle.crew.proofs.Onward.{fits_prop}
-use Rattle.crew.proofs.Roomy.{room_shown}
+use Rattle.crew.proofs.Stepping.{same_room}
 use Rattle.crew.proofs.Views.{node_tells}
 use Rattle.crew.specs.Follows.{Follows}
 use Rattle.crew.specs.Stalls.{NotesStalls}
@@ -40,16 +40,20 @@ function_at-called-requires c = ∥∥₁_elim c.requires.safe (hlevel props) (�
     let (n, at) = node_tells c.args.self.now.cactus c.args.slot (s.shown.agrees.held c.args.worker c.args.slot c.requires.hand) in
     callee_there c.args.program.now c.args.places.now _ n.frame.frame c.args.register c.args.callee c.args.arguments.now c.requires.text (c.requires.item n at))
 
+pub returns-in_default-clause-left : goal.returns-in_default-clause-left
+returns-in_default-clause-left c = same_room c.args.self.now
+
 pub returns-in_err-block-clause-left : goal.returns-in_err-block-clause-left
-returns-in_err-block-clause-left c = on_err c.from_residual.result (λ m shown safe. room_shown c.args.program.now c.args.places.now c.args.self.now c.make_room.new.self c.make_room.ensures.roomier m shown)
+returns-in_err-block-clause-left c = on_err c.from_residual.result c.make_room.ensures.roomier
 
 pub returns-in_err-begun-clause-left : goal.returns-in_err-begun-clause-left
-returns-in_err-begun-clause-left c = on_err c.from_residual-in_err-begun.result (λ m shown safe. room_shown c.args.program.now c.args.places.now c.args.self.now c.make_room.new.self c.make_room.ensures.roomier m shown)
+returns-in_err-begun-clause-left c = on_err c.from_residual-in_err-begun.result c.make_room.ensures.roomier
 
 pub returns-in_err-push_call_in-clause-left : goal.returns-in_err-push_call_in-clause-left
-returns-in_err-push_call_in-clause-left c = on_err c.from_residual-in_err-push_call_in.result
-    (subst (λ x. KeepsShown c.args.program.now c.args.places.now c.args.self.now (record c.make_room.new.self { cactus = x })) (sym c.in_err-push_call_in.ensures.err)
-    (λ m shown safe. room_shown c.args.program.now c.args.places.now c.args.self.now c.make_room.new.self c.make_room.ensures.roomier m shown))
+returns-in_err-push_call_in-clause-left c =
+    let r = c.make_room.new.self in
+    on_err c.from_residual-in_err-push_call_in.result
+    (subst (λ (x : Frames Activation). IsRoomier c.args.self.now (record r { cactus = x })) (sym c.in_err-push_call_in.ensures.err) c.make_room.ensures.roomier)
 
 pub unreachable-requires : goal.unreachable-requires
 unreachable-requires c = ∥∥₁_elim c.requires.safe (hlevel props) (λ s.

@@ -2,7 +2,7 @@ use Rattle.std.proofs.Common.{true, sym, ◌∙◌}
 use Rattle.std.proofs.Math.Logic.{∥∥₁_map}
 use Rattle.running.specs.Events.{Step}
 use Rattle.crew.proofs.Growing.{on_err}
-use Rattle.crew.proofs.Stepping.{grows_then, idle_stays, leaves_then, stalls_then, stands_then, steps_then}
+use Rattle.crew.proofs.Stepping.{grows_then, idle_stays, leaves_then, roomier_leaves, stalls_then, stands_then, steps_then}
 use Rattle.crew.proofs.Uses.{follows_same, kept_follows}
 use Rattle.crew.proofs.run.Run.step.Goals as goal
 
@@ -17,8 +17,9 @@ border-requires-clause-safe c = ∥∥₁_map c.requires.safe (stands_then c.arg
 
 pub returns-in_err-border-clause-refused : goal.returns-in_err-border-clause-refused
 returns-in_err-border-clause-refused c =
+    let left = roomier_leaves c.args.program.now c.args.places.now c.plain.new.self c.border.new.self c.in_err-border.ensures.refused in
     on_err c.from_residual.result
-    (leaves_then c.args.program.now c.args.places.now c.args.self.now c.plain.new.self c.plain.ensures.hands c.if-not-plain.ensures.left c.border.new.self c.plain.ensures.uses c.if-not-plain.ensures.stalled c.in_err-border.ensures.refused)
+    (leaves_then c.args.program.now c.args.places.now c.args.self.now c.plain.new.self c.plain.ensures.hands c.if-not-plain.ensures.left c.border.new.self c.plain.ensures.uses c.if-not-plain.ensures.stalled left)
 
 pub returns-in_err-border-clause-grows : goal.returns-in_err-border-clause-grows
 returns-in_err-border-clause-grows c =
