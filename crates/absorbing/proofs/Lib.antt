@@ -1,2 +1,4 @@
 pub mod Puts
 pub mod Absorbed
+pub mod Restored
+pub mod TakenBack

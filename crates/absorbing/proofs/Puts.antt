@@ -15,7 +15,7 @@ pub kept_cell : (old new : List ℤ) → length new ≡ length old → (a : ℤ)
 kept_cell old new long (pos n) h = subst (λ (k : ℕ). IsTrue (nat_lt n k)) (sym long) h
 kept_cell old new long (negsuc n) h = h
 
-change_beside : (ws : List Written) (w : Written) (a : ℤ) → int_eq a w.at ≡ false → change_in (ws ++ w ∷ []) a ≡ change_in ws a
+pub change_beside : (ws : List Written) (w : Written) (a : ℤ) → int_eq a w.at ≡ false → change_in (ws ++ w ∷ []) a ≡ change_in ws a
 change_beside [] w a off = ap (λ (t : Bool). option_map (λ (x : Written). x.change) (cond t (Some w) None)) off
 change_beside (y ∷ ws) w a off = from (int_eq a y.at) (change_beside ws w a off)
   where
@@ -24,7 +24,7 @@ change_beside (y ∷ ws) w a off = from (int_eq a y.at) (change_beside ws w a of
     from true rest = refl
     from false rest = rest
 
-change_last : (ws : List Written) (w : Written) (a : ℤ) → int_eq a w.at ≡ true → change_in ws a ≡ None → change_in (ws ++ w ∷ []) a ≡ Some w.change
+pub change_last : (ws : List Written) (w : Written) (a : ℤ) → int_eq a w.at ≡ true → change_in ws a ≡ None → change_in (ws ++ w ∷ []) a ≡ Some w.change
 change_last [] w a on none = ap (λ (t : Bool). option_map (λ (x : Written). x.change) (cond t (Some w) None)) on
 change_last (y ∷ ws) w a on none = from (int_eq a y.at) none (change_last ws w a on)
   where
@@ -56,7 +56,7 @@ taken (w ∷ ws) zero j a e = absurd cc
 taken (w ∷ ws) (suc n) zero a e = (omega arith, e)
 taken (w ∷ ws) (suc n) (suc j) a e = let r = taken ws n j a e in let lt = r.0 in (omega (arith, lt), r.1)
 
-slice_mapped : (ws : List Written) (n : ℕ) (w : Written) → slice_get ws n ≡ Some w → slice_get (map (λ (x : Written). x.at) ws) n ≡ Some w.at
+pub slice_mapped : (ws : List Written) (n : ℕ) (w : Written) → slice_get ws n ≡ Some w → slice_get (map (λ (x : Written). x.at) ws) n ≡ Some w.at
 slice_mapped [] n w e = absurd cc
 slice_mapped (x ∷ ws) zero w e = let same : x ≡ w = cc in ap (λ (y : Written). Some y.at) same
 slice_mapped (x ∷ ws) (suc n) w e = slice_mapped ws n w e

@@ -18,7 +18,7 @@ pub fn cell(row: &[i64], at: i64) -> Option<i64>
 }
 
 /// What the row's cell at an address holds.
-fn number_in(row: &[i64], at: i64) -> i64
+pub(crate) fn number_in(row: &[i64], at: i64) -> i64
     requires { IsTrue (is_cell row.now at) }
     ensures { cell_in row.now at ≡ Some result }
 {
@@ -26,7 +26,7 @@ fn number_in(row: &[i64], at: i64) -> i64
 }
 
 /// Writes the cell at an address of the row.
-fn set(row: &mut [i64], at: i64, number: i64)
+pub(crate) fn set(row: &mut [i64], at: i64, number: i64)
     requires { IsTrue (is_cell row.old at) }
     ensures long { length row.new ≡ length row.old }
     ensures here { cell_in row.new at ≡ Some number }
@@ -59,12 +59,5 @@ pub fn put_writes(row: &mut [i64], writes: &[Written])
 {
     for written in writes {
         put(row, written);
-    }
-}
-
-/// Puts back what the cells held that a strand wrote.
-pub(crate) fn restore(row: &mut [i64], writes: &[Written], before: &[i64]) {
-    for (written, number) in writes.iter().zip(before) {
-        set(row, written.at, *number);
     }
 }

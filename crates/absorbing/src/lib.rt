@@ -4,6 +4,7 @@
 mod cells;
 mod fitting;
 mod taking;
+mod taking_back;
 
 pub use cells::{cell, put_writes};
 pub use fitting::fitting_slot;

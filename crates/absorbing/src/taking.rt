@@ -1,4 +1,5 @@
 ghost use Rattle.std.specs.Prelude.{◌≡◌, ◌≢◌, ◌↔◌, ℕ, false, true, IfOk, IsTrue, Ok, OnErr, Some, length};
+ghost use Rattle.std.specs.Vec.{with_items};
 ghost use Rattle.crew.specs.Follows.{Follows};
 ghost use Rattle.crew.specs.Going.{TextFits};
 ghost use Rattle.crew.specs.Left.{LeavesAsShown};
@@ -6,8 +7,9 @@ ghost use Rattle.strand.specs.declared.standing.Pause.TheVariants.{Blank};
 ghost use Rattle.absorbing.specs.Absorbing.{DoesStrand, KeepsHand, LeavesStallsBy, StandsAlone, steps_in};
 ghost use Rattle.absorbing.specs.Fitting.{FitsRun};
 
-use crate::cells::{cell, put_writes, restore};
+use crate::cells::put_writes;
 use crate::fitting::fitting_slot;
+use crate::taking_back::{numbers_before, take_back};
 use crew::Run;
 use engine::{Frame, Place, Places};
 use frame::Wait;
@@ -16,10 +18,11 @@ use program::Program;
 use strand::{Pause, Strand};
 
 /// Puts a place and registers into a frame, which waits for this from here on.
-fn write_frame(target: &mut Frame, source: &Frame, waits: Wait)
+pub(crate) fn write_frame(target: &mut Frame, source: &Frame, waits: Wait)
     requires { length source.now.registers.items ≡ length target.old.registers.items }
     ensures only { target.new ≡ record target.old { place = source.now.place; registers = target.new.registers; waits = waits } }
     ensures registers { target.new.registers.items ≡ source.now.registers.items }
+    ensures room { target.new.registers ≡ with_items target.old.registers source.now.registers.items }
 {
     target.place = Place {
         block: source.place.block,
@@ -40,26 +43,6 @@ fn put_strand(run: &mut Run, slot: usize, strand: &Strand) {
     };
     write_frame(&mut activation.frame, strand.present(), Wait::Nothing);
     run.instructions += strand.done();
-}
-
-/// Puts the loaded frame and what the written cells held back into the run.
-fn take_back(run: &mut Run, slot: usize, strand: &Strand, before: &[i64]) {
-    restore(run.cells.cells.as_mut_slice(), strand.writes(), before);
-    let Some(activation) = run.cactus.frame_mut(slot) else {
-        unreachable!()
-    };
-    let loaded = strand.loaded();
-    write_frame(&mut activation.frame, loaded, loaded.waits);
-    run.instructions -= strand.done();
-}
-
-/// What the cells hold that the strand wrote.
-fn numbers_before(run: &Run, strand: &Strand) -> Result<Vec<i64>, OutOfMemory> {
-    let mut before = Vec::with_capacity(run.alloc, strand.writes().len())?;
-    for written in strand.writes() {
-        before.push(cell(run.cells.cells.as_slice(), written.at).unwrap_or(0))?;
-    }
-    Ok(before)
 }
 
 /// Does what a strand did as steps of the worker, and the border's with them where it stands at one, if the worker runs the loaded

@@ -1,0 +1,57 @@
+ghost use Rattle.std.specs.Prelude.{◌≡◌, ℕ, IfOk, IsTrue, Some, length, map, slice_get};
+ghost use Rattle.engine.specs.Flat.{is_cell};
+ghost use Rattle.strand.specs.Keeping.{AreDifferent};
+ghost use Rattle.strand.specs.declared.cells.Written.{Written as ShownWritten};
+ghost use Rattle.crew.specs.Rooms.{IsRoomier};
+ghost use Rattle.crew.specs.declared.run.Run.{Run as ShownRun};
+ghost use Rattle.absorbing.specs.TakingBack.{AreNumbersOf, IsRestored, WasPut};
+
+use crate::cells::{number_in, set};
+use crate::taking::write_frame;
+use crew::Run;
+use lists::OutOfMemory;
+use strand::{Strand, Written};
+
+/// What the cells hold that the strand wrote.
+pub(crate) fn numbers_before(run: &Run, strand: &Strand) -> Result<Vec<i64>, OutOfMemory>
+    requires { (i : ℕ) (w : ShownWritten) → slice_get strand.now.course.cells.writes i ≡ Some w → IsTrue (is_cell run.now.cells.cells.items w.at) }
+    ensures { IfOk result (λ numbers. AreNumbersOf run.now.cells.cells.items strand.now.course.cells.writes numbers.items) }
+{
+    let row = run.cells.cells.as_slice();
+    let writes = strand.writes();
+    let mut numbers = Vec::with_capacity(run.alloc, writes.len())?;
+    for written in writes {
+        numbers.push(number_in(row, written.at))?;
+    }
+    Ok(numbers)
+}
+
+/// Puts numbers back into the cells that were written.
+fn restore(row: &mut [i64], writes: &[Written], numbers: &[i64])
+    requires within { (i : ℕ) (w : ShownWritten) → slice_get writes.now i ≡ Some w → IsTrue (is_cell row.old w.at) }
+    requires many { length numbers.now ≡ length writes.now }
+    requires differ { AreDifferent (map (λ (w : ShownWritten). w.at) writes.now) }
+    ensures { IsRestored writes.now numbers.now row.old row.new }
+{
+    for (index, written) in writes.iter().enumerate() {
+        set(row, written.at, numbers[index]);
+    }
+}
+
+/// Takes a strand back that was put into the run: the loaded frame and the numbers that the written cells held are there again.
+pub(crate) fn take_back(run: &mut Run, slot: usize, strand: &Strand, numbers: &[i64])
+    requires { (before : ShownRun) × WasPut before run.old slot strand.now numbers.now }
+    ensures { (before : ShownRun) → WasPut before run.old slot strand.now numbers.now → IsRoomier before run.new }
+{
+    restore(
+        run.cells.cells.as_mut_slice(),
+        strand.writes(),
+        numbers,
+    );
+    let Some(activation) = run.cactus.frame_mut(slot) else {
+        unreachable!()
+    };
+    let loaded = strand.loaded();
+    write_frame(&mut activation.frame, loaded, loaded.waits);
+    run.instructions -= strand.done();
+}
