@@ -52,6 +52,12 @@ waits_free prog _ (is_loaded p f) more = absurd (more refl)
 waits_free prog _ (is_filled s c v is paused) more = waits_free prog s is more
 waits_free prog _ (is_advanced s e is free act fine) more = ap wait_after fine
 
+-- one that did none stands where it was loaded
+pub unmoved : (prog : Program) (s : Strand) → IsStrand prog s → s.done ≡ 0 → s.present ≡ s.loaded
+unmoved prog _ (is_loaded p f) none = refl
+unmoved prog _ (is_filled s c v is paused) none = unmoved prog s is none
+unmoved prog _ (is_advanced s e is free act fine) none = absurd cc
+
 -- ---- children are counted as before
 
 module _ (s t : State) (r : ℕ) (told : (x : Path) → outside r (t.frames x) ≡ outside r (s.frames x)) where

@@ -2,3 +2,10 @@ pub mod Puts
 pub mod Absorbed
 pub mod Restored
 pub mod TakenBack
+pub mod Sound
+pub mod Noting
+pub mod Bordering
+pub mod Fitted
+pub mod Put
+pub mod Goes
+pub mod Taken

@@ -86,7 +86,7 @@ module _ (before late : Run) (slot : ℕ) (x : Strand) (numbers : List ℤ) (was
       let a = ap (λ (xs : List ℤ). length xs) was.copy.registers in
       let b = old.ok.0 in
       let c = now.ok.0 in
-      let d = ap (λ (v : Vec ℤ Global). length v.items) was.registers in
+      let d = ap (λ (v : Vec ℤ Global). length v.items) was.put.room in
       sym a ∙ sym b ∙ c ∙ sym d
 
   module _ (cells : Flat) (restored : IsRestored x.course.cells.writes numbers late.cells.cells.items cells.cells.items) where
@@ -97,7 +97,7 @@ module _ (before late : Run) (slot : ℕ) (x : Strand) (numbers : List ℤ) (was
     frame_back =
         let copy = was.copy in
         let words : with_items was.put.frame.registers x.course.loaded.registers.items ≡ node.frame.frame.registers =
-            ap (λ (v : Vec ℤ Global). with_items v x.course.loaded.registers.items) was.registers
+            ap (λ (v : Vec ℤ Global). with_items v x.course.loaded.registers.items) was.put.room
             ∙ written_again node.frame.frame.registers x.course.present.registers.items x.course.loaded.registers.items (sym copy.registers) in
         ap (λ (f : Frame). record f { place = x.course.loaded.place; registers = with_items was.put.frame.registers x.course.loaded.registers.items; waits = x.course.loaded.waits }) was.put.only
         ∙ (λ i. record node.frame.frame { place = sym copy.place i; registers = words i; waits = sym copy.waits i })

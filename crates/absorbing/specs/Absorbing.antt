@@ -41,11 +41,15 @@ steps_in (Some Limit) done = done
 steps_in (Some Full) done = done
 steps_in (Some (Need at)) done = done
 
--- whatever machine is shown, as many steps of the worker happen, and the machine after them is shown
-abbrev pub DoesStrand : Program → Places → Run → Run → ℕ → Strand → Type 0
-DoesStrand prog places old new worker x =
+-- whatever machine is shown, so many steps of the worker happen, and the machine after them is shown
+abbrev pub DoesSteps : Program → Places → Run → Run → ℕ → ℕ → Type 0
+DoesSteps prog places old new worker steps =
     (m : Machine) → IsShown prog places m old → RunsSafely prog (length old.hands.items) m → GoesAloneIn prog m →
-    (after : Machine) × Happen prog (length old.hands.items) (steps_by worker (steps_in x.pause x.course.done)) m after × IsShown prog places after new
+    (after : Machine) × Happen prog (length old.hands.items) (steps_by worker steps) m after × IsShown prog places after new
+
+-- the strand's steps are done
+abbrev pub DoesStrand : Program → Places → Run → Run → ℕ → Strand → Type 0
+DoesStrand prog places old new worker x = DoesSteps prog places old new worker (steps_in x.pause x.course.done)
 
 -- whatever machine is shown, the worker runs the same frame after the strand's instructions, before the border's
 abbrev pub KeepsHand : Program → Places → Run → ℕ → Strand → Type 0

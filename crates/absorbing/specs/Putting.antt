@@ -1,5 +1,6 @@
 -- What a strand's frame and writes make of a run.
 use Rattle.std.specs.Prelude.{◌≡◌, ℕ, ◌+◌, ℤ, List, Option, Some, None, length}
+use Rattle.std.specs.Vec.{with_items}
 use Rattle.running.specs.State.{sum_in}
 use Rattle.frame.specs.declared.frame.Wait.TheVariants.{Nothing}
 use Rattle.cactus.specs.declared.node.Node.{Node}
@@ -32,6 +33,7 @@ pub record IsPut (old new : Run) (slot : ℕ) (x : Strand) : Type 0 where
   pub frame : Frame
   pub only : frame ≡ record node.frame.frame { place = x.course.present.place; registers = frame.registers; waits = Nothing }
   pub registers : frame.registers.items ≡ x.course.present.registers.items
+  pub room : frame.registers ≡ with_items node.frame.frame.registers x.course.present.registers.items
   pub cells : IsPutInto x.course.cells.writes old.cells.cells.items new.cells.cells.items
   pub is : new ≡ record old {
     cactus = with_frame old.cactus slot (record node.frame { frame = frame });

@@ -1,6 +1,5 @@
 -- A strand that was put into a run, and is to be taken back.
 use Rattle.std.specs.Prelude.{◌≡◌, ℕ, ℤ, List, None, Some, length, slice_get}
-use Rattle.std.specs.Vec.{with_items}
 use Rattle.engine.specs.Flat.{cell_in}
 use Rattle.strand.specs.Buffers.{change_in}
 use Rattle.strand.specs.Standing.{IsCopy}
@@ -26,6 +25,5 @@ pub record WasPut (before late : Run) (slot : ℕ) (x : Strand) (numbers : List 
   pub between : Run
   pub put : IsPut before between slot x
   pub copy : IsCopy x.course.loaded put.node.frame.frame
-  pub registers : put.frame.registers ≡ with_items put.node.frame.frame.registers x.course.present.registers.items
   pub roomier : IsRoomier between late
   pub numbers_are : AreNumbersOf before.cells.cells.items x.course.cells.writes numbers

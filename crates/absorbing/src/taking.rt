@@ -1,11 +1,17 @@
-ghost use Rattle.std.specs.Prelude.{◌≡◌, ◌≢◌, ◌↔◌, ℕ, false, true, IfOk, IsTrue, Ok, OnErr, Some, length};
+ghost use Rattle.std.specs.Prelude.{◌≡◌, ◌≢◌, ◌↔◌, ◌+◌, ◌<◌, ℕ, suc, false, true, IfOk, IsTrue, Ok, OnErr, OnOk, Some, length, slice_get};
 ghost use Rattle.std.specs.Vec.{with_items};
+ghost use Rattle.cactus.specs.Frames.{Lives, node_at};
+ghost use Rattle.cactus.specs.declared.node.Node.{Node};
+ghost use Rattle.engine.specs.Flat.{is_cell};
+ghost use Rattle.crew.specs.declared.activation.Activation.{Activation as Living};
 ghost use Rattle.crew.specs.Follows.{Follows};
 ghost use Rattle.crew.specs.Going.{TextFits};
 ghost use Rattle.crew.specs.Left.{LeavesAsShown};
-ghost use Rattle.strand.specs.declared.standing.Pause.TheVariants.{Blank};
-ghost use Rattle.absorbing.specs.Absorbing.{DoesStrand, KeepsHand, LeavesStallsBy, StandsAlone, steps_in};
+ghost use Rattle.strand.specs.declared.cells.Written.{Written as ShownWritten};
+ghost use Rattle.strand.specs.declared.standing.Pause.TheVariants.{Blank, Border};
+ghost use Rattle.absorbing.specs.Absorbing.{DoesSteps, DoesStrand, KeepsHand, LeavesStallsBy, StandsAlone, steps_in};
 ghost use Rattle.absorbing.specs.Fitting.{FitsRun};
+ghost use Rattle.absorbing.specs.Putting.{IsPut};
 
 use crate::cells::put_writes;
 use crate::fitting::fitting_slot;
@@ -35,14 +41,74 @@ pub(crate) fn write_frame(target: &mut Frame, source: &Frame, waits: Wait)
     target.waits = waits;
 }
 
-/// Puts a frame and a strand's writes into the run, and counts its instructions.
-fn put_strand(run: &mut Run, slot: usize, strand: &Strand) {
+/// Puts the strand's frame and writes into the run, and counts its instructions.
+fn put_strand(run: &mut Run, slot: usize, strand: &Strand)
+    requires lives { Lives run.old.cactus slot }
+    requires registers { (node : Node Living) → node_at run.old.cactus slot ≡ Some node →
+        length strand.now.course.present.registers.items ≡ length node.frame.frame.registers.items }
+    requires within { (i : ℕ) (w : ShownWritten) → slice_get strand.now.course.cells.writes i ≡ Some w →
+        IsTrue (is_cell run.old.cells.cells.items w.at) }
+    requires counted { run.old.instructions + strand.now.course.done < 18446744073709551616 }
+    ensures { IsPut run.old run.new slot strand.now }
+{
     put_writes(run.cells.cells.as_mut_slice(), strand.writes());
     let Some(activation) = run.cactus.frame_mut(slot) else {
         unreachable!()
     };
     write_frame(&mut activation.frame, strand.present(), Wait::Nothing);
     run.instructions += strand.done();
+}
+
+/// Does the strand's instructions as steps of a worker whose frame it fits.
+fn go_on(run: &mut Run, slot: usize, strand: &Strand)
+    requires fits { (worker : ℕ) × FitsRun run.old worker strand.now slot }
+    requires going { strand.now.pause ≢ Some Blank }
+    requires safe { ∥ StandsAlone strand.now.program.now strand.now.places.now run.old ∥₁ }
+    ensures left { strand.now.course.done ≡ 0 → run.new ≡ run.old }
+    ensures put { strand.now.course.done ≢ 0 → IsPut run.old run.new slot strand.now }
+{
+    if strand.done() > 0 {
+        put_strand(run, slot, strand);
+    }
+}
+
+/// Does the strand's instructions and the border's after them as steps of the worker.
+///
+/// # Errors
+///
+/// Memory was refused: nothing has changed that is seen of the run.
+fn go_over(
+    run: &mut Run,
+    program: &Program,
+    places: &Places,
+    worker: u8,
+    slot: usize,
+    strand: &Strand,
+) -> Result<(), OutOfMemory>
+    requires text { TextFits program.now places.now (length run.old.moves.items) }
+    requires program { strand.now.program.now ≡ program.now }
+    requires places { strand.now.places.now ≡ places.now }
+    requires fits { FitsRun run.old worker strand.now slot }
+    requires border { strand.now.pause ≡ Some Border }
+    requires safe { ∥ StandsAlone program.now places.now run.old ∥₁ }
+    ensures does { OnOk result ∥ DoesSteps program.now places.now run.old run.new worker (suc strand.now.course.done) ∥₁ }
+    ensures stalls { OnOk result (LeavesStallsBy program.now places.now run.old run.new worker (suc strand.now.course.done)) }
+    ensures refused { OnErr result (LeavesAsShown program.now places.now run.old run.new) }
+    ensures follows { Follows run.old.cactus run.new.cactus }
+    ensures workers { length run.new.hands.items ≡ length run.old.hands.items }
+    ensures moves { length run.new.moves.items ≡ length run.old.moves.items }
+{
+    let before = numbers_before(run, strand)?;
+    go_on(run, slot, strand);
+    match run.border(program, places, worker, slot) {
+        Ok(()) => Ok(()),
+        Err(refused) => {
+            if strand.done() > 0 {
+                take_back(run, slot, strand, before.as_slice());
+            }
+            Err(refused)
+        }
+    }
 }
 
 /// Does what a strand did as steps of the worker, and the border's with them where it stands at one, if the worker runs the loaded
@@ -80,20 +146,10 @@ pub fn absorb(
     let Some(slot) = fitting_slot(run, worker, strand) else {
         return Ok(false);
     };
-    let before = numbers_before(run, strand)?;
-    if strand.done() > 0 {
-        put_strand(run, slot, strand);
+    if strand.pause() == Some(Pause::Border) {
+        go_over(run, program, places, worker, slot, strand)?;
+    } else {
+        go_on(run, slot, strand);
     }
-    if strand.pause() != Some(Pause::Border) {
-        return Ok(true);
-    }
-    match run.step(program, places, worker) {
-        Ok(_) => Ok(true),
-        Err(refused) => {
-            if strand.done() > 0 {
-                take_back(run, slot, strand, before.as_slice());
-            }
-            Err(refused)
-        }
-    }
+    Ok(true)
 }

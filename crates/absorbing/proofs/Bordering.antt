@@ -1,0 +1,81 @@
+-- A strand that stands at a border stands before what is no plain step.
+use Rattle.std.proofs.Common.{◌≡◌, ℕ, Option, Some, None, Bool, true, false, cond, refl, is_some, nat_le}
+use Rattle.std.specs.Option.{option_map}
+use Rattle.running.specs.Cells.{Cell}
+use Rattle.running.specs.Frames.{Item, Does, Ends}
+use Rattle.program.specs.declared.function.Program.{Program}
+use Rattle.program.specs.declared.instruction.Instruction.{Instruction}
+use Rattle.program.specs.declared.instruction.Instruction.TheVariants as instruction
+use Rattle.program.specs.declared.instruction.Terminator.{Terminator}
+use Rattle.program.specs.declared.instruction.Terminator.TheVariants as terminator
+use Rattle.strands.specs.Footprint.{Footprint, held}
+use Rattle.strands.specs.Strands as strands
+use Rattle.strands.specs.Strands.{Access, Nowhere, Loads, Stores, Adds, access_of, is_border, is_full, most_done, need, next_of, pause_of}
+use Rattle.engine.specs.Border.{IsBorder, IsBorderEnding, IsBorderItem}
+use Rattle.engine.specs.Shows.{Layout}
+use Rattle.strand.specs.Along.{PausesAt, pause_in}
+use Rattle.strand.specs.declared.standing.Pause.TheVariants.{Border}
+
+does_border : (i : Instruction) → is_border (Some (Does i)) ≡ true → IsBorder i
+does_border (instruction.Call r callee arguments) h = tt
+does_border (instruction.StoreZeros cells name) h = tt
+does_border (instruction.Binary r op w a b) h = absurd cc
+does_border (instruction.Compare r by w a b) h = absurd cc
+does_border (instruction.Convert r by a) h = absurd cc
+does_border (instruction.Alloca r a) h = absurd cc
+does_border (instruction.ElementPointer r name i) h = absurd cc
+does_border (instruction.Load r a) h = absurd cc
+does_border (instruction.Store v a) h = absurd cc
+does_border (instruction.AtomicAdd a v) h = absurd cc
+does_border (instruction.StartRegion r) h = absurd cc
+
+ends_border : (t : Terminator) → is_border (Some (Ends t)) ≡ true → IsBorderEnding t
+ends_border (terminator.Return v) h = tt
+ends_border (terminator.Detach r b c) h = tt
+ends_border (terminator.Reattach r c) h = tt
+ends_border (terminator.Sync r t) h = tt
+ends_border (terminator.Jump target) h = absurd cc
+ends_border (terminator.Branch test x y) h = absurd cc
+ends_border (terminator.Switch w a default cases) h = absurd cc
+
+pub item_border : (o : Option Item) → is_border o ≡ true → IsBorderItem o
+item_border None h = absurd cc
+item_border (Some (Does i)) h = does_border i h
+item_border (Some (Ends t)) h = ends_border t h
+
+-- no other pause is shown as a border
+is_it : (l : Layout) (o : Option strands.Pause) → option_map (pause_in l) o ≡ Some Border → o ≡ Some strands.Border
+is_it l None h = absurd cc
+is_it l (Some strands.Blank) h = absurd cc
+is_it l (Some strands.Border) h = refl
+is_it l (Some strands.Limit) h = absurd cc
+is_it l (Some strands.Full) h = absurd cc
+is_it l (Some (strands.Need c)) h = absurd cc
+
+needs_no_border : (f : Footprint) (a : Access) → need f a ≡ Some strands.Border → ⊥
+needs_no_border f Nowhere h = cc
+needs_no_border f (Stores c) h = cc
+needs_no_border f (Adds c) h = cc
+needs_no_border f (Loads c) h = from (is_some (held f c)) h
+  where
+    from : (b : Bool) → cond b None (Some (strands.Need c)) ≡ Some strands.Border → ⊥
+    from true e = cc
+    from false e = cc
+
+pub border_next : (prog : Program) (l : Layout) (s : strands.Strand) → PausesAt prog l s (Some Border) → is_border (next_of prog s.present) ≡ true
+border_next prog l s pauses = at_border (is_border (next_of prog s.present)) (is_it l (pause_of prog s) pauses.is)
+  where
+    abbrev access : Access
+    access = access_of prog s.present
+
+    at_full : (b : Bool) → cond b (Some strands.Full) (need s.footprint access) ≡ Some strands.Border → ⊥
+    at_full true h = cc
+    at_full false h = needs_no_border s.footprint access h
+
+    at_limit : (b : Bool) → cond b (Some strands.Limit) (cond (is_full s.footprint access) (Some strands.Full) (need s.footprint access)) ≡ Some strands.Border → ⊥
+    at_limit true h = cc
+    at_limit false h = at_full (is_full s.footprint access) h
+
+    at_border : (b : Bool) → cond b (Some strands.Border) (cond (nat_le most_done s.done) (Some strands.Limit) (cond (is_full s.footprint access) (Some strands.Full) (need s.footprint access))) ≡ Some strands.Border → b ≡ true
+    at_border true h = refl
+    at_border false h = absurd (at_limit (nat_le most_done s.done) h)
