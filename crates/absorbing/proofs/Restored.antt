@@ -6,7 +6,7 @@ use Rattle.std.specs.Ordering.{int_eq}
 use Rattle.std.proofs.lemmas.Bool.Decides.{nat_tests}
 use Rattle.std.proofs.lemmas.List.{length-append, take_all}
 use Rattle.std.proofs.lemmas.Option.{same_Some, slice_get_within}
-use Rattle.std.proofs.Math.Logic.{cases_eq}
+use Rattle.std.proofs.lemmas.Bool.{cases_eq}
 use Rattle.engine.specs.Flat.{cell_in, is_cell}
 use Rattle.strand.specs.Buffers.{change_in}
 use Rattle.strand.specs.Keeping.{AreDifferent}

@@ -1,35 +1,39 @@
 -- A run into which a strand was put is what it was, once the strand is taken back.
 use mathlib.Core.HLevel.{is_prop→PathP}
-use Rattle.std.proofs.Common.{Vec, Global, ◌≡◌, ℕ, ◌+◌, ◌-◌, ◌≤◌, List, ◌++◌, length, replicate, ◌^◌, Some, None, refl, sym, ap, ◌∙◌, subst, arith, ℤ, pos}
+use Rattle.std.proofs.Common.{Vec, Global, ◌≡◌, ℕ, ◌+◌, ◌-◌, ◌<◌, ◌≤◌, List, ◌++◌, length, replicate, Some, None, refl, sym, ap, ◌∙◌, subst, arith, ℤ, pos}
 use Rattle.std.specs.Prelude.{slice_set}
 use Rattle.std.specs.Option.{option_map}
 use Rattle.std.specs.Vec.{with_items}
 use Rattle.std.proofs.Props.{props}
 use Rattle.std.proofs.lemmas.List.{length-append, set-set, set-get_or, with_items_is}
+use Rattle.std.proofs.lemmas.Option.{same_Some}
 use Rattle.cactus.specs.declared.node.Node.{Node}
 use Rattle.cactus.specs.Frames.{Frames, frame_at, node_at}
 use Rattle.cactus.specs.Lending.{with_frame, written}
 use Rattle.cactus.proofs.FramesLemmas.{node_at-with_frame}
 use Rattle.engine.specs.declared.activation.Frame.{Frame}
 use Rattle.engine.specs.declared.flat.Flat.{Flat}
+use Rattle.strand.specs.Standing.{IsCopy}
 use Rattle.strand.specs.declared.outside.Strand.{Strand}
 use Rattle.crew.specs.declared.activation.Activation.{Activation}
 use Rattle.crew.specs.declared.run.Run.{Run}
 use Rattle.crew.specs.Rooms.{IsRoomier, empty_at}
-use Rattle.absorbing.specs.TakingBack.{IsRestored, WasPut}
+use Rattle.absorbing.specs.Fitting.{FitsRun}
+use Rattle.absorbing.specs.Putting.{IsPut}
+use Rattle.absorbing.specs.TakingBack.{AreNumbersOf, IsRestored, WasPut}
 use Rattle.absorbing.proofs.Restored.{row_back}
 
 -- ---- registers that hold again what they held
 
 same_vec : (u v : Vec ℤ Global) → u.ptr ≡ v.ptr → u.len ≡ v.len → u.cap ≡ v.cap → u.alloc ≡ v.alloc → u.items ≡ v.items → u ≡ v
-same_vec u v ptr len cap alloc items = λ i. record {
-  ptr = ptr i;
-  len = len i;
-  cap = cap i;
-  alloc = alloc i;
+same_vec u v at long room heap items = λ i. record {
+  ptr = at i;
+  len = long i;
+  cap = room i;
+  alloc = heap i;
   items = items i;
-  ok = is_prop→PathP (λ j. (len j ≡ length (items j)) × (len j ≤ cap j)) (λ j. hlevel props) u.ok v.ok i;
-  small = is_prop→PathP (λ j. cap j + 1 ≤ 2 ^ 63) (λ j. hlevel props) u.small v.small i;
+  ok = is_prop→PathP (λ j. (long j ≡ length (items j)) × (long j ≤ room j)) (λ j. hlevel props) u.ok v.ok i;
+  small = is_prop→PathP (λ j. room j < 9223372036854775808) (λ j. hlevel props) u.small v.small i;
 }
 
 pub written_again : (v : Vec ℤ Global) (now was : List ℤ) → was ≡ v.items → with_items (with_items v now) was ≡ v
@@ -50,6 +54,17 @@ frame_again frames slot node a stands =
         ∙ ap (λ ns. record frames { nodes = ns }) nodes
 
 -- ---- the run
+
+-- a strand that fits was put, and a border's refusal left more room at most
+pub was_put : (before between late : Run) (worker slot : ℕ) (x : Strand) (numbers : List ℤ) → FitsRun before worker x slot → IsPut before between slot x →
+    IsRoomier between late → AreNumbersOf before.cells.cells.items x.course.cells.writes numbers → WasPut before late slot x numbers
+was_put before between late worker slot x numbers fits put roomier are = record {
+  between = between;
+  put = put;
+  copy = subst (λ (n : Node Activation). IsCopy x.course.loaded n.frame.frame) (same_Some fits.node put.node (sym fits.stands ∙ put.stood)) fits.frame;
+  roomier = roomier;
+  numbers_are = are;
+}
 
 module _ (before late : Run) (slot : ℕ) (x : Strand) (numbers : List ℤ) (was : WasPut before late slot x numbers) where
   abbrev node : Node Activation
@@ -123,3 +138,16 @@ module _ (before late : Run) (slot : ℕ) (x : Strand) (numbers : List ℤ) (was
       );
       blocks = (was.roomier.blocks.0, subst (λ (k : Run). late.blocks.items ≡ k.blocks.items ++ replicate was.roomier.blocks.0 (empty_at k.end)) was.put.is was.roomier.blocks.1);
     }
+
+  -- what a function that puts all of it back has made
+  pub goes_back : (row : List ℤ) → length row ≡ late.cells.cells.len → IsRestored x.course.cells.writes numbers late.cells.cells.items row →
+      (a : Activation) → a ≡ present → (f : Frame) → f ≡ record a.frame { place = x.course.loaded.place; registers = with_items a.frame.registers x.course.loaded.registers.items; waits = x.course.loaded.waits } →
+      IsRoomier before (record late { cells = record { cells = with_items late.cells.cells row }; cactus = with_frame late.cactus slot (record a { frame = f }); instructions = late.instructions - x.course.done })
+  goes_back row long restored a here f is =
+      let cells : Flat = record { cells = with_items late.cells.cells row } in
+      let now : IsRestored x.course.cells.writes numbers late.cells.cells.items cells.cells.items =
+          subst (λ (r : List ℤ). IsRestored x.course.cells.writes numbers late.cells.cells.items r) (sym (with_items_is late.cells.cells row long)) restored in
+      let written : record a { frame = f } ≡ record present { frame = put_back cells now was.put.frame } =
+          ap (λ (g : Frame). record a { frame = g }) is ∙ ap (λ (b : Activation). record b { frame = put_back cells now b.frame }) here in
+      subst (λ (b : Activation). IsRoomier before (record late { cells = cells; cactus = with_frame late.cactus slot b; instructions = late.instructions - x.course.done }))
+      (sym written) (taken_back cells now)

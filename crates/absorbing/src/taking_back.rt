@@ -1,5 +1,5 @@
-ghost use Rattle.std.specs.Prelude.{◌≡◌, ℕ, IfOk, IsTrue, Some, length, map, slice_get};
-ghost use Rattle.engine.specs.Flat.{is_cell};
+ghost use Rattle.std.specs.Prelude.{◌≡◌, ◌≢◌, ℕ, ℤ, IfOk, IsTrue, Some, length, map, slice_get};
+ghost use Rattle.engine.specs.Flat.{cell_in, is_cell};
 ghost use Rattle.strand.specs.Keeping.{AreDifferent};
 ghost use Rattle.strand.specs.declared.cells.Written.{Written as ShownWritten};
 ghost use Rattle.crew.specs.Rooms.{IsRoomier};
@@ -12,6 +12,24 @@ use crew::Run;
 use lists::OutOfMemory;
 use strand::{Strand, Written};
 
+/// What the cell holds that was written.
+fn number_of(row: &[i64], written: &Written) -> i64
+    requires { IsTrue (is_cell row.now written.now.at) }
+    ensures { cell_in row.now written.now.at ≡ Some result }
+{
+    number_in(row, written.at)
+}
+
+/// The cell that was written holds the number from here on.
+fn put_number(row: &mut [i64], written: &Written, number: &i64)
+    requires { IsTrue (is_cell row.old written.now.at) }
+    ensures long { length row.new ≡ length row.old }
+    ensures here { cell_in row.new written.now.at ≡ Some number.now }
+    ensures others { (a : ℤ) → a ≢ written.now.at → cell_in row.new a ≡ cell_in row.old a }
+{
+    set(row, written.at, *number);
+}
+
 /// What the cells hold that the strand wrote.
 pub(crate) fn numbers_before(run: &Run, strand: &Strand) -> Result<Vec<i64>, OutOfMemory>
     requires { (i : ℕ) (w : ShownWritten) → slice_get strand.now.course.cells.writes i ≡ Some w → IsTrue (is_cell run.now.cells.cells.items w.at) }
@@ -21,7 +39,7 @@ pub(crate) fn numbers_before(run: &Run, strand: &Strand) -> Result<Vec<i64>, Out
     let writes = strand.writes();
     let mut numbers = Vec::with_capacity(run.alloc, writes.len())?;
     for written in writes {
-        numbers.push(number_in(row, written.at))?;
+        numbers.push(number_of(row, written))?;
     }
     Ok(numbers)
 }
@@ -34,7 +52,7 @@ fn restore(row: &mut [i64], writes: &[Written], numbers: &[i64])
     ensures { IsRestored writes.now numbers.now row.old row.new }
 {
     for (index, written) in writes.iter().enumerate() {
-        set(row, written.at, numbers[index]);
+        put_number(row, written, &numbers[index]);
     }
 }
 
