@@ -58,21 +58,21 @@ module _ (prog : Program) (places : Places) (k new : Run) (worker slot : ℕ) (x
         by_count (λ n. (after : Machine) × Happen prog (length k.hands.items) (steps_by worker x.course.done) m after × IsShown prog places after n)
         (λ none. (m, subst (λ j. Happen prog (length k.hands.items) (steps_by worker j) m m) (sym none) refl, shown))
         (λ more p.
-            let f = fits_at k worker slot x fits p.node p.stood in (
-              absorbed m (s prog places k worker slot x f going m shown safe alone),
-              steps prog places k worker slot x f going m shown safe alone,
-              subst (λ (n : Run). IsShown prog places (absorbed m (s prog places k worker slot x f going m shown safe alone)) n) (sym p.is)
-                  (shown_put prog places k worker slot x f going m shown safe alone more p.frame p.only p.registers new.cells p.cells),
-            ))
+        let f = fits_at k worker slot x fits p.node p.stood in (
+          absorbed m (s prog places k worker slot x f going m shown safe alone),
+          steps prog places k worker slot x f going m shown safe alone,
+          subst (λ (n : Run). IsShown prog places (absorbed m (s prog places k worker slot x f going m shown safe alone)) n) (sym p.is)
+              (shown_put prog places k worker slot x f going m shown safe alone more p.frame p.only p.registers new.cells p.cells),
+        ))
 
     pub leaves_stalls : LeavesStallsBy prog places k new worker x.course.done
     leaves_stalls m shown safe alone last agree =
         by_count (λ n. StallsAgree (last_blocks prog (length k.hands.items) (steps_by worker x.course.done) m last) n.cactus)
         (λ none. subst (λ j. StallsAgree (last_blocks prog (length k.hands.items) (steps_by worker j) m last) k.cactus) (sym none) agree)
         (λ more p.
-            let f = fits_at k worker slot x fits p.node p.stood in
-            subst (λ (n : Run). StallsAgree (last_blocks prog (length k.hands.items) (steps_by worker x.course.done) m last) n.cactus) (sym p.is)
-            (stalls_put prog places k worker slot x f going m shown safe alone more p.frame p.only p.registers last agree))
+        let f = fits_at k worker slot x fits p.node p.stood in
+        subst (λ (n : Run). StallsAgree (last_blocks prog (length k.hands.items) (steps_by worker x.course.done) m last) n.cactus) (sym p.is)
+        (stalls_put prog places k worker slot x f going m shown safe alone more p.frame p.only p.registers last agree))
 
     -- at a border what stands ahead of the worker's frame is one
     pub border_stands : x.pause ≡ Some Border → (m : Machine) → IsShown prog places m k → RunsSafely prog (length k.hands.items) m → GoesAloneIn prog m →
@@ -80,17 +80,17 @@ module _ (prog : Program) (places : Places) (k new : Run) (worker slot : ℕ) (x
     border_stands border m shown safe alone =
         by_count (λ r. (n : Node Activation) → node_at r.cactus slot ≡ Some n → is_border (item_here prog n.frame.frame) ≡ true)
         (λ none n stands.
-            let f = fits_at k worker slot x fits n stands in
-            let at = along prog places k worker slot x f going m shown safe alone in
-            let still = unmoved prog at.strand at.is (at.shown.done ∙ none) in
-            ap is_border (loaded_item prog places k worker slot x f going m shown safe alone ∙ ap (next_of prog) (sym still)) ∙ border_ahead prog places k worker slot x f going m shown safe alone border)
+        let f = fits_at k worker slot x fits n stands in
+        let at = along prog places k worker slot x f going m shown safe alone in
+        let still = unmoved prog at.strand at.is (at.shown.done ∙ none) in
+        ap is_border (loaded_item prog places k worker slot x f going m shown safe alone ∙ ap (next_of prog) (sym still)) ∙ border_ahead prog places k worker slot x f going m shown safe alone border)
         (λ more p n stands.
-            let f = fits_at k worker slot x fits p.node p.stood in
-            let changed : Activation = record p.node.frame { frame = p.frame } in
-            let there : node_at (with_frame k.cactus slot changed) slot ≡ Some n = subst (λ (r : Run). node_at r.cactus slot ≡ Some n) p.is stands in
-            let same : record p.node { frame = changed } ≡ n = same_Some (record p.node { frame = changed }) n (sym (node_at-with_frame k.cactus slot changed p.node p.stood) ∙ there) in
-            subst (λ (y : Node Activation). is_border (item_here prog y.frame.frame) ≡ true) same
-            (ap is_border (put_item prog places k worker slot x f going m shown safe alone more p.frame p.only p.registers) ∙ border_ahead prog places k worker slot x f going m shown safe alone border))
+        let f = fits_at k worker slot x fits p.node p.stood in
+        let changed : Activation = record p.node.frame { frame = p.frame } in
+        let there : node_at (with_frame k.cactus slot changed) slot ≡ Some n = subst (λ (r : Run). node_at r.cactus slot ≡ Some n) p.is stands in
+        let same : record p.node { frame = changed } ≡ n = same_Some (record p.node { frame = changed }) n (sym (node_at-with_frame k.cactus slot changed p.node p.stood) ∙ there) in
+        subst (λ (y : Node Activation). is_border (item_here prog y.frame.frame) ≡ true) same
+        (ap is_border (put_item prog places k worker slot x f going m shown safe alone more p.frame p.only p.registers) ∙ border_ahead prog places k worker slot x f going m shown safe alone border))
 
 pub keeps_hand : (prog : Program) (places : Places) (k : Run) (worker slot : ℕ) (x : Strand) → FitsRun k worker x slot → IsGoing prog places x.course x.pause → KeepsHand prog places k worker x
 keeps_hand prog places k worker slot x fits going m shown safe alone = hand_kept prog places k worker slot x fits going m shown safe alone

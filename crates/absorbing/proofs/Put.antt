@@ -142,8 +142,8 @@ module _ (prog : Program) (places : Places) (k : Run) (worker slot : ℕ) (x : S
           | inr h ↦
               let apart : place_of node ≢ place_of n = λ e. h.0 (sym (shown.agrees.tree.distinct slot s node n fits.stands h.1 (sym (reverse-reverse node.path.numbers) ∙ (ap reverse e ∙ reverse-reverse n.path.numbers)))) in
               let off : last_blocks prog (length k.hands.items) (steps_by worker x.course.done) m last (place_of n) ≡ last (place_of n) =
-                  ap (λ j. last_blocks prog (length k.hands.items) (steps_by worker j) m last (place_of n)) (sym is_along.shown.done)
-                  ∙ last_off prog (length k.hands.items) m worker (never prog places k worker slot x fits going m shown safe alone) last (place_of n) t is_along.is
-                  (fits_machine prog places k worker slot x fits going m shown safe alone) (λ e. apart (sym path ∙ e)) in
+              ap (λ j. last_blocks prog (length k.hands.items) (steps_by worker j) m last (place_of n)) (sym is_along.shown.done)
+              ∙ last_off prog (length k.hands.items) m worker (never prog places k worker slot x fits going m shown safe alone) last (place_of n) t is_along.is
+              (fits_machine prog places k worker slot x fits going m shown safe alone) (λ e. apart (sym path ∙ e)) in
               subst (λ o. IsStalledIn o n.frame) (sym off) (agree s n h.1)
         ]

@@ -1,12 +1,11 @@
 -- One change after another is put into a row.
-use Rattle.std.proofs.Common.{◌≡◌, ◌≢◌, ℕ, zero, suc, ◌+◌, ◌<◌, List, [], ◌∷◌, ◌++◌, length, map, take, Bool, true, false, cond, Option, Some, None, inl, inr, refl, sym, ap, ◌∙◌, subst, arith, ℤ}
+use Rattle.std.proofs.Common.{◌≡◌, ◌≢◌, ℕ, zero, suc, ◌+◌, ◌<◌, List, [], ◌∷◌, ◌++◌, length, map, take, Bool, true, false, cond, Some, None, inl, inr, refl, sym, ap, ◌∙◌, subst, arith, ℤ}
 use Rattle.std.specs.Prelude.{IsTrue, find, nat_lt, negsuc, pos, slice_get}
 use Rattle.std.specs.Option.{option_map}
 use Rattle.std.specs.Ordering.{int_eq}
 use Rattle.engine.specs.Flat.{cell_in, is_cell}
 use Rattle.strand.specs.Buffers.{change_in}
 use Rattle.strand.specs.Keeping.{AreDifferent}
-use Rattle.strand.specs.declared.cells.Change.{Change}
 use Rattle.strand.specs.declared.cells.Written.{Written}
 use Rattle.strand.proofs.Kept.{change_absent, int_tells}
 use Rattle.absorbing.specs.Putting.{IsPutInto, put_change}

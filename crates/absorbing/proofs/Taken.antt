@@ -87,7 +87,7 @@ module _ (prog : Program) (places : Places) (k : Run) (worker slot : ℕ) (x : S
     went_border safe border n stands =
         item_border (item_here prog n.frame.frame)
         (∥∥₁_elim going (hlevel props) (λ goes. ∥∥₁_elim safe (hlevel props) (λ s.
-            border_stands prog places k new worker slot x left put fits goes border s.machine s.shown s.safe s.alone n stands)))
+        border_stands prog places k new worker slot x left put fits goes border s.machine s.shown s.safe s.alone n stands)))
 
     module _ (later : Run) (step : DoesStep prog places new later worker) where
       pub over_does : ∥ DoesSteps prog places k later worker (suc x.course.done) ∥₁

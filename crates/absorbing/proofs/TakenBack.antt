@@ -48,10 +48,10 @@ frame_again frames slot node a stands =
     let there = node_at-with_frame frames slot a node stands in
     let first : with_frame frames slot a ≡ record frames { nodes = slice_set frames.nodes slot (Some (record node { frame = a })) } = ap (λ o. written frames slot o a) stands in
     let nodes : slice_set (slice_set frames.nodes slot (Some (record node { frame = a }))) slot (Some node) ≡ frames.nodes =
-        set-set frames.nodes slot (Some (record node { frame = a })) (Some node) ∙ ap (slice_set frames.nodes slot) (sym stands) ∙ set-get_or frames.nodes slot None in
+    set-set frames.nodes slot (Some (record node { frame = a })) (Some node) ∙ ap (slice_set frames.nodes slot) (sym stands) ∙ set-get_or frames.nodes slot None in
     ap (λ o. written (with_frame frames slot a) slot o node.frame) there
-        ∙ ap (λ (g : Frames Activation). record g { nodes = slice_set g.nodes slot (Some node) }) first
-        ∙ ap (λ ns. record frames { nodes = ns }) nodes
+    ∙ ap (λ (g : Frames Activation). record g { nodes = slice_set g.nodes slot (Some node) }) first
+    ∙ ap (λ ns. record frames { nodes = ns }) nodes
 
 -- ---- the run
 
@@ -112,8 +112,8 @@ module _ (before late : Run) (slot : ℕ) (x : Strand) (numbers : List ℤ) (was
     frame_back =
         let copy = was.copy in
         let words : with_items was.put.frame.registers x.course.loaded.registers.items ≡ node.frame.frame.registers =
-            ap (λ (v : Vec ℤ Global). with_items v x.course.loaded.registers.items) was.put.room
-            ∙ written_again node.frame.frame.registers x.course.present.registers.items x.course.loaded.registers.items (sym copy.registers) in
+        ap (λ (v : Vec ℤ Global). with_items v x.course.loaded.registers.items) was.put.room
+        ∙ written_again node.frame.frame.registers x.course.present.registers.items x.course.loaded.registers.items (sym copy.registers) in
         ap (λ (f : Frame). record f { place = x.course.loaded.place; registers = with_items was.put.frame.registers x.course.loaded.registers.items; waits = x.course.loaded.waits }) was.put.only
         ∙ (λ i. record node.frame.frame { place = sym copy.place i; registers = words i; waits = sym copy.waits i })
 
@@ -146,8 +146,8 @@ module _ (before late : Run) (slot : ℕ) (x : Strand) (numbers : List ℤ) (was
   goes_back row long restored a here f is =
       let cells : Flat = record { cells = with_items late.cells.cells row } in
       let now : IsRestored x.course.cells.writes numbers late.cells.cells.items cells.cells.items =
-          subst (λ (r : List ℤ). IsRestored x.course.cells.writes numbers late.cells.cells.items r) (sym (with_items_is late.cells.cells row long)) restored in
+      subst (λ (r : List ℤ). IsRestored x.course.cells.writes numbers late.cells.cells.items r) (sym (with_items_is late.cells.cells row long)) restored in
       let written : record a { frame = f } ≡ record present { frame = put_back cells now was.put.frame } =
-          ap (λ (g : Frame). record a { frame = g }) is ∙ ap (λ (b : Activation). record b { frame = put_back cells now b.frame }) here in
+      ap (λ (g : Frame). record a { frame = g }) is ∙ ap (λ (b : Activation). record b { frame = put_back cells now b.frame }) here in
       subst (λ (b : Activation). IsRoomier before (record late { cells = cells; cactus = with_frame late.cactus slot b; instructions = late.instructions - x.course.done }))
       (sym written) (taken_back cells now)

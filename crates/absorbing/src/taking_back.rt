@@ -61,11 +61,7 @@ pub(crate) fn take_back(run: &mut Run, slot: usize, strand: &Strand, numbers: &[
     requires { (before : ShownRun) × WasPut before run.old slot strand.now numbers.now }
     ensures { (before : ShownRun) → WasPut before run.old slot strand.now numbers.now → IsRoomier before run.new }
 {
-    restore(
-        run.cells.cells.as_mut_slice(),
-        strand.writes(),
-        numbers,
-    );
+    restore(run.cells.cells.as_mut_slice(), strand.writes(), numbers);
     let Some(activation) = run.cactus.frame_mut(slot) else {
         unreachable!()
     };

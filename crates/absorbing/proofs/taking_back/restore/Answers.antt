@@ -1,4 +1,4 @@
-use Rattle.std.proofs.Common.{◌≡◌, ◌<◌, ◌+◌, ◌∙◌, Some, length, ap, sym, arith}
+use Rattle.std.proofs.Common.{◌<◌, length, arith}
 use Rattle.std.proofs.lemmas.Option.{slice_get-get_or}
 use Rattle.absorbing.proofs.Puts.{kept_cell}
 use Rattle.absorbing.proofs.Restored.{restored_all, restored_more, restored_none}

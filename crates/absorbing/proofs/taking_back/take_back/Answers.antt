@@ -1,4 +1,4 @@
-use Rattle.std.proofs.Common.{Vec, Global, ◌≡◌, ◌∙◌, ◌-◌, List, ℕ, ℤ, None, Some, length, ap, arith, map, subst, sym}
+use Rattle.std.proofs.Common.{Vec, Global, ◌≡◌, ◌∙◌, ◌-◌, List, ℕ, ℤ, None, Some, length, ap, map, subst, sym}
 use Rattle.std.specs.Prelude.{IsTrue, slice_get}
 use Rattle.std.specs.Option.{option_copied_mut}
 use Rattle.std.specs.Vec.{with_items}
@@ -12,7 +12,7 @@ use Rattle.strand.specs.declared.cells.Written.{Written}
 use Rattle.crew.specs.Rooms.{IsRoomier}
 use Rattle.absorbing.specs.TakingBack.{IsRestored}
 use Rattle.absorbing.proofs.Restored.{cells_there}
-use Rattle.absorbing.proofs.TakenBack.{as_many, cells_late, counted, frame_late, goes_back, present}
+use Rattle.absorbing.proofs.TakenBack.{as_many, cells_late, frame_late, goes_back, present}
 use Rattle.absorbing.proofs.taking_back.take_back.Goals as goal
 
 pub restore-requires-clause-within : goal.restore-requires-clause-within
@@ -46,7 +46,7 @@ write_frame-requires c =
     let x = c.args.strand.now in
     let numbers = c.args.numbers.now in
     let here = same_Some c.in-Some.activation.now (present before late c.args.slot x numbers was)
-        (sym (ap option_copied_mut c.in-Some.is) ∙ c.frame_mut.ensures.value ∙ frame_late before late c.args.slot x numbers was) in
+    (sym (ap option_copied_mut c.in-Some.is) ∙ c.frame_mut.ensures.value ∙ frame_late before late c.args.slot x numbers was) in
     ap (λ (f : Frame). length f.registers.items) c.loaded-loaded.ensures ∙ as_many before late c.args.slot x numbers was ∙ ap (λ a. length a.frame.registers.items) (sym here)
 
 pub returns : goal.returns
@@ -57,13 +57,13 @@ returns c = λ before was.
     let numbers = c.args.numbers.now in
     let a = c.in-Some.activation.now in
     let here = same_Some a (present before late slot x numbers was)
-        (sym (ap option_copied_mut c.in-Some.is) ∙ c.frame_mut.ensures.value ∙ frame_late before late slot x numbers was) in
+    (sym (ap option_copied_mut c.in-Some.is) ∙ c.frame_mut.ensures.value ∙ frame_late before late slot x numbers was) in
     let restored = subst (λ (row : List ℤ). IsRestored x.course.cells.writes numbers row c.restore.new.row) c.as_mut_slice.ensures.value
-        (subst (λ (ws : List Written). IsRestored ws numbers c.as_mut_slice.result.now c.restore.new.row) c.writes.ensures.is c.restore.ensures) in
+    (subst (λ (ws : List Written). IsRestored ws numbers c.as_mut_slice.result.now c.restore.new.row) c.writes.ensures.is c.restore.ensures) in
     let loaded = c.loaded-loaded.result.now in
     let frame = c.write_frame.ensures.only
-        ∙ ap (λ (v : Vec ℤ Global). record a.frame { place = loaded.place; registers = v; waits = loaded.waits }) c.write_frame.ensures.room
-        ∙ ap (λ (f : Frame). record a.frame { place = f.place; registers = with_items a.frame.registers f.registers.items; waits = f.waits }) c.loaded-loaded.ensures in
+    ∙ ap (λ (v : Vec ℤ Global). record a.frame { place = loaded.place; registers = v; waits = loaded.waits }) c.write_frame.ensures.room
+    ∙ ap (λ (f : Frame). record a.frame { place = f.place; registers = with_items a.frame.registers f.registers.items; waits = f.waits }) c.loaded-loaded.ensures in
     let back = goes_back before late slot x numbers was c.restore.new.row (c.restore.ensures.long ∙ c.as_mut_slice.ensures.len) restored a here c.write_frame.new.target frame in
     subst (λ (n : ℕ). IsRoomier before (record late {
       cells = record { cells = with_items late.cells.cells c.restore.new.row };
