@@ -1,14 +1,13 @@
 -- A run in which a strand's frame and writes were put shows the machine that absorbed the strand.
-use Rattle.std.proofs.Common.{Vec, Global, ◌≡◌, ◌≢◌, ℕ, zero, suc, ◌+◌, ◌≤◌, ◌∷◌, List, length, Bool, true, false, cond, Option, Some, None, inl, inr, refl, sym, ap, ◌∙◌, subst, arith, ℤ}
-use Rattle.std.specs.Prelude.{IsTrue, nat_lt, negsuc, pos, slice_get}
+use Rattle.std.proofs.Common.{◌≡◌, ◌≢◌, ℕ, zero, suc, ◌∷◌, List, cond, Option, Some, None, inl, inr, refl, sym, ap, ◌∙◌, subst, ℤ}
+use Rattle.std.specs.Prelude.{IsTrue, nat_lt, negsuc, pos}
 use Rattle.std.specs.Option.{option_map}
 use Rattle.running.specs.Paths.{Path}
-use Rattle.running.specs.Arithmetic.{cell_sum}
 use Rattle.running.specs.Cells.{Cell, Memory, Object, Shared, Local}
 use Rattle.running.specs.Counts.{count_of}
 use Rattle.running.specs.Frames as frames
 use Rattle.running.specs.Frames.{Free}
-use Rattle.running.specs.State.{State, children_within, only, outside, override, sum_in, wait_after}
+use Rattle.running.specs.State.{State, children_within, outside, override, sum_in, wait_after}
 use Rattle.running.specs.Events.{Machine}
 use Rattle.running.proofs.ChildCounts.{count_at}
 use Rattle.running.proofs.Places.{only_here, only_off, same_path_tells}
@@ -24,7 +23,7 @@ use Rattle.engine.specs.Words.{bases}
 use Rattle.engine.specs.declared.activation.Frame.{Frame}
 use Rattle.engine.specs.declared.activation.Places.{Places}
 use Rattle.frame.specs.Reading.{role_of}
-use Rattle.strand.specs.Buffers.{Buffers, change_in}
+use Rattle.strand.specs.Buffers.{Buffers}
 use Rattle.strand.specs.Showing.{ShowsFootprint, change_of}
 use Rattle.strand.proofs.Seen.{written_in}
 use Rattle.strand.proofs.Showing.{change_is}

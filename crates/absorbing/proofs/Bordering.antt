@@ -1,7 +1,6 @@
 -- A strand that stands at a border stands before what is no plain step.
-use Rattle.std.proofs.Common.{◌≡◌, ℕ, Option, Some, None, Bool, true, false, cond, refl, is_some, nat_le}
+use Rattle.std.proofs.Common.{◌≡◌, Option, Some, None, Bool, true, false, cond, refl, is_some, nat_le}
 use Rattle.std.specs.Option.{option_map}
-use Rattle.running.specs.Cells.{Cell}
 use Rattle.running.specs.Frames.{Item, Does, Ends}
 use Rattle.program.specs.declared.function.Program.{Program}
 use Rattle.program.specs.declared.instruction.Instruction.{Instruction}
@@ -63,19 +62,16 @@ needs_no_border f (Loads c) h = from (is_some (held f c)) h
     from false e = cc
 
 pub border_next : (prog : Program) (l : Layout) (s : strands.Strand) → PausesAt prog l s (Some Border) → is_border (next_of prog s.present) ≡ true
-border_next prog l s pauses = at_border (is_border (next_of prog s.present)) (is_it l (pause_of prog s) pauses.is)
+border_next prog l s pauses = at_border (access_of prog s.present) (is_border (next_of prog s.present)) (is_it l (pause_of prog s) pauses.is)
   where
-    abbrev access : Access
-    access = access_of prog s.present
+    at_full : (access : Access) (b : Bool) → cond b (Some strands.Full) (need s.footprint access) ≡ Some strands.Border → ⊥
+    at_full access true h = cc
+    at_full access false h = needs_no_border s.footprint access h
 
-    at_full : (b : Bool) → cond b (Some strands.Full) (need s.footprint access) ≡ Some strands.Border → ⊥
-    at_full true h = cc
-    at_full false h = needs_no_border s.footprint access h
+    at_limit : (access : Access) (b : Bool) → cond b (Some strands.Limit) (cond (is_full s.footprint access) (Some strands.Full) (need s.footprint access)) ≡ Some strands.Border → ⊥
+    at_limit access true h = cc
+    at_limit access false h = at_full access (is_full s.footprint access) h
 
-    at_limit : (b : Bool) → cond b (Some strands.Limit) (cond (is_full s.footprint access) (Some strands.Full) (need s.footprint access)) ≡ Some strands.Border → ⊥
-    at_limit true h = cc
-    at_limit false h = at_full (is_full s.footprint access) h
-
-    at_border : (b : Bool) → cond b (Some strands.Border) (cond (nat_le most_done s.done) (Some strands.Limit) (cond (is_full s.footprint access) (Some strands.Full) (need s.footprint access))) ≡ Some strands.Border → b ≡ true
-    at_border true h = refl
-    at_border false h = absurd (at_limit (nat_le most_done s.done) h)
+    at_border : (access : Access) (b : Bool) → cond b (Some strands.Border) (cond (nat_le most_done s.done) (Some strands.Limit) (cond (is_full s.footprint access) (Some strands.Full) (need s.footprint access))) ≡ Some strands.Border → b ≡ true
+    at_border access true h = refl
+    at_border access false h = absurd (at_limit access (nat_le most_done s.done) h)

@@ -1,8 +1,7 @@
 -- A strand that fits a run, as one of the definitions that fits the machine that the run shows.
-use Rattle.std.proofs.Common.{◌≡◌, ◌≢◌, ◌∙◌, ℕ, zero, suc, ◌+◌, ◌<◌, ◌≤◌, List, [], ◌∷◌, length, map, reverse, Option, Some, None, inl, inr, refl, sym, ap, subst, arith, ℤ}
+use Rattle.std.proofs.Common.{◌≡◌, ◌∙◌, ℕ, zero, suc, ◌+◌, ◌<◌, List, [], ◌∷◌, length, map, reverse, Some, None, true, refl, sym, ap, subst, arith, ℤ}
 use Rattle.std.specs.Prelude.{IsTrue, slice_get}
 use Rattle.std.specs.List.{All}
-use Rattle.std.proofs.lemmas.List.{reverse-reverse}
 use Rattle.std.proofs.lemmas.List.Elements.{All-cons, All-head, All-nil, All-tail}
 use Rattle.std.proofs.lemmas.Option.{same_Some}
 use Rattle.running.specs.Paths.{Path}
@@ -15,7 +14,7 @@ use Rattle.running.specs.Replay.{NeverTraps, replay}
 use Rattle.program.specs.declared.function.Program.{Program}
 use Rattle.program.specs.declared.identifier.FunctionId.{FunctionId}
 use Rattle.strands.specs.Footprint.{Write}
-use Rattle.strands.specs.Law.{Fits, Happen, ReadsAgree, absorbed, steps_by}
+use Rattle.strands.specs.Law.{Fits, Happen, absorbed, steps_by}
 use Rattle.strands.specs.Strands as strands
 use Rattle.strands.specs.Strands.{is_border, next_of}
 use Rattle.strands.proofs.Law.{reads_are_there, strands_are_steps}
@@ -24,8 +23,7 @@ use Rattle.cactus.specs.Frames.{node_at}
 use Rattle.engine.specs.Activation.{FrameFits}
 use Rattle.engine.proofs.Turns.{there_is}
 use Rattle.engine.specs.Flat.{cell_in, is_cell}
-use Rattle.engine.specs.Shows.{Layout, IsIn, ShowsCells, address}
-use Rattle.engine.specs.declared.activation.Frame.{Frame}
+use Rattle.engine.specs.Shows.{Layout, IsIn, ShowsCells}
 use Rattle.engine.specs.declared.activation.Places.{Places}
 use Rattle.engine.specs.declared.turning.Place.{Place}
 use Rattle.strand.specs.Alone.{GoesAlone}
@@ -51,7 +49,7 @@ use Rattle.absorbing.proofs.Noting.{happen_replay}
 use Rattle.absorbing.proofs.Sound.{never_traps}
 
 -- a slot has one node
-pub fits_at : (k : Run) (worker slot : ℕ) (x : Strand) → FitsRun k worker x slot → (n : Node Activation) → node_at k.cactus slot ≡ Some n → FitsRun k worker x slot
+abbrev pub fits_at : (k : Run) (worker slot : ℕ) (x : Strand) → FitsRun k worker x slot → (n : Node Activation) → node_at k.cactus slot ≡ Some n → FitsRun k worker x slot
 fits_at k worker slot x fits n stands =
     let same : fits.node ≡ n = same_Some fits.node n (sym fits.stands ∙ stands) in
     record {
@@ -104,7 +102,7 @@ module _ (prog : Program) (places : Places) (k : Run) (worker slot : ℕ) (x : S
   pub hand : m.hands worker ≡ Some p
   hand = shown.shows.hands worker ∙ hand_seen k.cactus k.hands.items worker slot node fits.hand fits.stands
 
-  goes : GoesAlone prog places l (reverse x.course.path.items) g x.course.loaded
+  pub goes : GoesAlone prog places l (reverse x.course.path.items) g x.course.loaded
   goes =
       let s = seen prog places k slot node node.frame fits.stands m shown in
       subst (λ q. GoesAlone prog places l q g x.course.loaded) (ap reverse fits.path)
@@ -114,7 +112,7 @@ module _ (prog : Program) (places : Places) (k : Run) (worker slot : ℕ) (x : S
         stays = alone worker p g hand s.is (object_at places k.cactus);
       })
 
-  pub along : IsAlong prog places l (reverse x.course.path.items) g x.course
+  abbrev pub along : IsAlong prog places l (reverse x.course.path.items) g x.course
   along = going.way.along l g goes
 
   abbrev pub s : strands.Strand
@@ -149,7 +147,7 @@ module _ (prog : Program) (places : Places) (k : Run) (worker slot : ℕ) (x : S
 
   pub function_is : x.course.present.function.0 ≡ node.frame.frame.function.0
   function_is =
-      sym along.shown.present.function ∙ ((same_frame prog s along.is).function ∙ (along.shown.loaded.function ∙ sym (ap (λ f. f.0) fits.frame.function)))
+      sym along.shown.present.function ∙ ((same_frame prog s along.is).function ∙ (along.shown.loaded.function ∙ sym (ap (λ (y : FunctionId). y.0) fits.frame.function)))
 
   pub as_many : length x.course.present.registers.items ≡ length node.frame.frame.registers.items
   as_many =

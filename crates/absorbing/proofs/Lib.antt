@@ -9,3 +9,4 @@ pub mod Fitted
 pub mod Put
 pub mod Goes
 pub mod Taken
+pub mod Undone

@@ -1,5 +1,5 @@
 -- A strand's steps tell the blocks of its own frame alone.
-use Rattle.std.proofs.Common.{◌≡◌, ◌≢◌, ◌∙◌, ℕ, suc, List, [], ◌∷◌, ◌++◌, Option, Some, None, cond, refl, sym, ap, subst}
+use Rattle.std.proofs.Common.{◌≡◌, ◌≢◌, ◌∙◌, ℕ, suc, List, [], ◌∷◌, ◌++◌, Option, Some, None, cond, refl, sym, ap}
 use Rattle.std.proofs.lemmas.List.Elements.{All-pop}
 use Rattle.running.specs.Paths.{Path}
 use Rattle.running.specs.Events as running

@@ -1,21 +1,20 @@
 -- After a strand's frame and writes were put into it, the run shows the machine after the strand's steps.
-use Rattle.std.proofs.Common.{◌≡◌, ◌≢◌, ◌∙◌, ℕ, zero, suc, ◌+◌, ◌<◌, ◌≤◌, List, [], ◌∷◌, length, reverse, Option, Some, None, inl, inr, refl, sym, ap, subst, arith}
+use Rattle.std.proofs.Common.{◌≡◌, ◌≢◌, ◌∙◌, ℕ, ◌+◌, ◌<◌, length, reverse, Some, inl, inr, refl, sym, ap, subst, arith}
 use Rattle.std.specs.Prelude.{slice_get}
 use Rattle.std.proofs.lemmas.List.{reverse-reverse}
-use Rattle.running.specs.Paths.{Path}
 use Rattle.running.specs.Events.{Machine}
 use Rattle.running.specs.Frames.{item_at}
 use Rattle.program.specs.declared.function.Program.{Program}
-use Rattle.strands.specs.Law.{Happen, absorbed, steps_by}
+use Rattle.program.specs.declared.identifier.FunctionId.{FunctionId}
+use Rattle.strands.specs.Law.{absorbed, steps_by}
 use Rattle.strands.specs.Strands as strands
 use Rattle.strands.specs.Strands.{next_of}
 use Rattle.frame.specs.declared.frame.Wait.{Wait}
 use Rattle.frame.specs.declared.frame.Wait.TheVariants.{Nothing}
 use Rattle.frame.specs.Reading.{wait_of}
 use Rattle.cactus.specs.declared.node.Node.{Node}
-use Rattle.cactus.specs.Frames.{node_at}
 use Rattle.cactus.specs.Lending.{with_frame}
-use Rattle.engine.specs.Activation.{FrameFits, ShowsFrame}
+use Rattle.engine.specs.Activation.{ShowsFrame}
 use Rattle.engine.specs.Fits.{PlaceFits}
 use Rattle.engine.specs.declared.activation.Frame.{Frame}
 use Rattle.engine.specs.declared.turning.Place.{Place}
@@ -31,12 +30,12 @@ use Rattle.crew.specs.Stalls.{Blocks, IsStalledIn, StallsAgree, last_blocks}
 use Rattle.crew.proofs.Noted.{ready_free}
 use Rattle.crew.proofs.Onward.{hands_agree}
 use Rattle.crew.proofs.Views.{stood}
-use Rattle.crew.proofs.Written.{FrameWent, HandsAgree, HasGoneOn, gone_on, goes_on_shown}
+use Rattle.crew.proofs.Written.{FrameWent, HasGoneOn, gone_on, goes_on_shown}
 use Rattle.absorbing.specs.Absorbing.{GoesAloneIn}
 use Rattle.absorbing.specs.Fitting.{FitsRun}
-use Rattle.absorbing.specs.Putting.{IsPut, IsPutInto}
+use Rattle.absorbing.specs.Putting.{IsPutInto}
 use Rattle.absorbing.proofs.Absorbed.{IsWritten, cells_later, counts, lives, now, off, same_frame, waits_free, written_shows}
-use Rattle.absorbing.proofs.Fitted.{along, callee_none, fits_at, fits_machine, frame_is, g, l, never, path_is, s, steps}
+use Rattle.absorbing.proofs.Fitted.{along, callee_none, fits_machine, frame_is, g, l, never, path_is, s}
 use Rattle.absorbing.proofs.Noting.{last_off}
 
 module _ (prog : Program) (places : Places) (k : Run) (worker slot : ℕ) (x : Strand) (fits : FitsRun k worker x slot) (going : IsGoing prog places x.course x.pause)
@@ -89,7 +88,7 @@ module _ (prog : Program) (places : Places) (k : Run) (worker slot : ℕ) (x : S
     function : f.function.0 ≡ x.course.present.function.0
     function =
         ap (λ (y : Frame). y.function.0) only
-        ∙ (ap (λ y. y.0) fits.frame.function ∙ (sym is_along.shown.loaded.function ∙ (sym (same_frame prog t is_along.is).function ∙ is_along.shown.present.function)))
+        ∙ (ap (λ (y : FunctionId). y.0) fits.frame.function ∙ (sym is_along.shown.loaded.function ∙ (sym (same_frame prog t is_along.is).function ∙ is_along.shown.present.function)))
 
     -- what stands ahead of the frame
     pub put_item : item_here prog f ≡ next_of prog t.present

@@ -1,9 +1,9 @@
 -- A machine from which each schedule is safe never traps.
-use Rattle.std.proofs.Common.{◌≡◌, ◌∙◌, ℕ, List, [], ◌∷◌, Option, Some, None, Bool, true, false, cond, refl, sym, ap, subst, ℤ, pos, ltb, is_none, ◌&&◌}
+use Rattle.std.proofs.Common.{◌≡◌, ◌∙◌, ℕ, [], ◌∷◌, Option, Some, None, Bool, true, false, cond, refl, sym, ap, subst, pos, ltb, is_none, ◌&&◌}
 use Rattle.std.specs.Prelude.{IsSome}
 use Rattle.running.specs.Paths.{Path}
 use Rattle.running.specs.Frames.{Frame}
-use Rattle.running.specs.Effect.{Action, action_of}
+use Rattle.running.specs.Effect.{action_of}
 use Rattle.running.specs.State.{State, Change, change_of}
 use Rattle.running.specs.Events as running
 use Rattle.running.specs.Events.{Machine, Event, Step, Steal, Status, Running, Ready, Stalled, event}
@@ -26,6 +26,10 @@ quiet prog s p c (call g d callee vs is go at) f here free = refl
 quiet prog s p c (ret g v k above h j d is go at none role up over waits) f here free = refl
 quiet prog s p c (end g v is go at none role root) f here free = refl
 
+none_is_some : (o : Option Change) → o ≡ None → IsSome o → ⊥
+none_is_some None is some = cc
+none_is_some (Some c) is some = cc
+
 module _ (prog : Program) (workers : ℕ) where
   module _ (m next : Machine) (safe : RunsSafely prog workers m) (sound : m.trapped ≡ None) where
     module _ (w : ℕ) (p : Path) (hand : m.hands w ≡ Some p) (f : Frame) (stands : m.core.frames p ≡ Some f) where
@@ -33,7 +37,7 @@ module _ (prog : Program) (workers : ℕ) where
       can = (safe []).steps w p f hand stands
 
       by_change : (o : Option Change) → change_of prog m.core p ≡ o → running.by_change prog workers m w p f o ≡ next → next.trapped ≡ None
-      by_change None is h = absurd (let some : IsSome None = subst (λ (o : Option Change). IsSome o) is can.goes in cc)
+      by_change None is h = absurd (none_is_some (change_of prog m.core p) is can.goes)
       by_change (Some c) is h = sym (ap (λ (x : Machine). x.trapped) h) ∙ quiet prog m.core p c (does prog m.core p c is) f stands (can.safe (λ o. pos 0)).trap_free
 
     by_frame : (w : ℕ) (p : Path) → m.hands w ≡ Some p → (o : Option Frame) → m.core.frames p ≡ o → running.by_frame prog workers m w p o ≡ Some next → next.trapped ≡ None
@@ -63,8 +67,8 @@ module _ (prog : Program) (workers : ℕ) where
 
   pub never_traps : (m : Machine) → RunsSafely prog workers m → m.trapped ≡ None → NeverTraps prog workers m
   never_traps m safe sound [] = sound
-  never_traps m safe sound (e ∷ events) = from (event prog workers e m) refl
+  never_traps m safe sound (e ∷ events) = from (event prog workers e m) refl (λ n good fine. never_traps n good fine events)
     where
-      from : (o : Option Machine) → event prog workers e m ≡ o → (replay prog workers events (or_unchanged o m)).trapped ≡ None
-      from None is = never_traps m safe sound events
-      from (Some next) is = never_traps next (safe_next prog workers m next e is safe) (sound_after m next safe sound e is) events
+      from : (o : Option Machine) → event prog workers e m ≡ o → ((n : Machine) → RunsSafely prog workers n → n.trapped ≡ None → (replay prog workers events n).trapped ≡ None) → (replay prog workers events (or_unchanged o m)).trapped ≡ None
+      from None is later = later m safe sound
+      from (Some next) is later = later next (safe_next prog workers m next e is safe) (sound_after m next safe sound e is)

@@ -1,5 +1,5 @@
 -- What taking a strand over asks for and keeps, from what its type and its caller say.
-use Rattle.std.proofs.Common.{◌≡◌, ◌≢◌, ℕ, suc, ◌+◌, ◌<◌, length, Option, Some, None, true, refl, subst}
+use Rattle.std.proofs.Common.{◌≡◌, ◌≢◌, ℕ, suc, ◌+◌, ◌<◌, length, Option, Some, None, true, refl, sym, ◌∙◌, subst}
 use Rattle.std.specs.Prelude.{IsTrue, slice_get}
 use Rattle.std.proofs.Math.Logic.{∥∥₁_elim, ∥∥₁_map, ∥∥₁_map₂}
 use Rattle.std.proofs.Props.{props}
@@ -41,6 +41,10 @@ steps_before (Some (Need at)) done off = refl
 pub going_of : (x : Strand) (prog : Program) (places : Places) → x.program.now ≡ prog → x.places.now ≡ places → x.pause ≢ Some Blank → ∥ IsGoing prog places x.course x.pause ∥₁
 going_of x prog places same also off =
     ∥∥₁_map x.kept (λ h. subst (λ (p : Program). IsGoing p places x.course x.pause) same (subst (λ (q : Places). IsGoing x.program.now q x.course x.pause) also (h.going off)))
+
+-- one that stands at a border is not blank
+pub going_at : (x : Strand) (prog : Program) (places : Places) → x.program.now ≡ prog → x.places.now ≡ places → x.pause ≡ Some Border → ∥ IsGoing prog places x.course x.pause ∥₁
+going_at x prog places same also border = going_of x prog places same also (λ blank. (let e : Some Border ≡ Some Blank = sym border ∙ blank in cc))
 
 -- ---- what putting it asks for
 

@@ -7,11 +7,14 @@ ghost use Rattle.crew.specs.declared.activation.Activation.{Activation as Living
 ghost use Rattle.crew.specs.Follows.{Follows};
 ghost use Rattle.crew.specs.Going.{TextFits};
 ghost use Rattle.crew.specs.Left.{LeavesAsShown};
+ghost use Rattle.crew.specs.Rooms.{IsRoomier};
+ghost use Rattle.crew.specs.declared.run.Run.{Run as ShownRun};
 ghost use Rattle.strand.specs.declared.cells.Written.{Written as ShownWritten};
 ghost use Rattle.strand.specs.declared.standing.Pause.TheVariants.{Blank, Border};
 ghost use Rattle.absorbing.specs.Absorbing.{DoesSteps, DoesStrand, KeepsHand, LeavesStallsBy, StandsAlone, steps_in};
 ghost use Rattle.absorbing.specs.Fitting.{FitsRun};
 ghost use Rattle.absorbing.specs.Putting.{IsPut};
+ghost use Rattle.absorbing.specs.TakingBack.{WasPut};
 
 use crate::cells::put_writes;
 use crate::fitting::fitting_slot;
@@ -59,6 +62,13 @@ fn put_strand(run: &mut Run, slot: usize, strand: &Strand)
     run.instructions += strand.done();
 }
 
+/// Whether the strand stands at the pause.
+fn is_at(strand: &Strand, pause: Pause) -> bool
+    ensures { IsTrue result ↔ (strand.now.pause ≡ Some pause) }
+{
+    strand.pause() == Some(pause)
+}
+
 /// Does the strand's instructions as steps of a worker whose frame it fits.
 fn go_on(run: &mut Run, slot: usize, strand: &Strand)
     requires fits { (worker : ℕ) × FitsRun run.old worker strand.now slot }
@@ -69,6 +79,18 @@ fn go_on(run: &mut Run, slot: usize, strand: &Strand)
 {
     if strand.done() > 0 {
         put_strand(run, slot, strand);
+    }
+}
+
+/// Takes back what `go_on` did, where the run got more room at most since then.
+fn undo(run: &mut Run, slot: usize, strand: &Strand, numbers: &[i64])
+    requires put { strand.now.course.done ≢ 0 → (before : ShownRun) × WasPut before run.old slot strand.now numbers.now }
+    ensures left { strand.now.course.done ≡ 0 → run.new ≡ run.old }
+    ensures back { strand.now.course.done ≢ 0 → (before : ShownRun) → WasPut before run.old slot strand.now numbers.now →
+        IsRoomier before run.new }
+{
+    if strand.done() > 0 {
+        take_back(run, slot, strand, numbers);
     }
 }
 
@@ -103,9 +125,7 @@ fn go_over(
     match run.border(program, places, worker, slot) {
         Ok(()) => Ok(()),
         Err(refused) => {
-            if strand.done() > 0 {
-                take_back(run, slot, strand, before.as_slice());
-            }
+            undo(run, slot, strand, before.as_slice());
             Err(refused)
         }
     }
@@ -140,13 +160,13 @@ pub fn absorb(
     ensures workers { length run.new.hands.items ≡ length run.old.hands.items }
     ensures moves { length run.new.moves.items ≡ length run.old.moves.items }
 {
-    if strand.pause() == Some(Pause::Blank) {
+    if is_at(strand, Pause::Blank) {
         return Ok(false);
     }
     let Some(slot) = fitting_slot(run, worker, strand) else {
         return Ok(false);
     };
-    if strand.pause() == Some(Pause::Border) {
+    if is_at(strand, Pause::Border) {
         go_over(run, program, places, worker, slot, strand)?;
     } else {
         go_on(run, slot, strand);

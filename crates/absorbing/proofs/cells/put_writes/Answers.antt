@@ -1,7 +1,5 @@
-use Rattle.std.proofs.Common.{◌≡◌, ◌∙◌, ◌++◌, ◌∷◌, [], Some, take, refl, sym, subst}
-use Rattle.std.specs.Prelude.{slice_get}
+use Rattle.std.proofs.Common.{take, sym, subst}
 use Rattle.std.proofs.lemmas.Option.{slice_get-get_or}
-use Rattle.strand.specs.declared.cells.Written.{Written}
 use Rattle.absorbing.specs.Putting.{IsPutInto}
 use Rattle.absorbing.proofs.Puts.{fresh_next, kept_cell, puts_more, take_more}
 use Rattle.absorbing.proofs.cells.put_writes.Goals as goal

@@ -1,4 +1,4 @@
-use Rattle.std.proofs.Common.{◌≡◌, ◌∙◌, List, ℤ, None, Some, sym, ap, subst}
+use Rattle.std.proofs.Common.{◌∙◌, List, ℤ, sym, ap, subst}
 use Rattle.std.specs.Option.{option_copied}
 use Rattle.engine.specs.declared.activation.Frame.{Frame}
 use Rattle.strand.specs.Standing.{IsCopy}

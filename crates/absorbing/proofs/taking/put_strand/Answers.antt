@@ -2,6 +2,7 @@ use Rattle.std.proofs.Common.{◌≡◌, ◌∙◌, ◌+◌, List, ℤ, length, 
 use Rattle.std.specs.Option.{option_copied_mut}
 use Rattle.std.specs.Vec.{with_items}
 use Rattle.std.proofs.lemmas.List.{with_items_is}
+use Rattle.frame.specs.declared.frame.Wait.TheVariants.{Nothing}
 use Rattle.cactus.specs.Lending.{with_frame}
 use Rattle.engine.specs.declared.activation.Frame.{Frame}
 use Rattle.strand.specs.declared.cells.Written.{Written}
@@ -22,7 +23,7 @@ returns c =
       node = record n.0 { frame = a };
       stood = n.1;
       frame = f;
-      only = c.write_frame.ensures.only ∙ ap (λ (y : Frame). record a.frame { place = y.place; registers = f.registers; waits = f.waits }) c.present.ensures;
+      only = c.write_frame.ensures.only ∙ ap (λ (y : Frame). record a.frame { place = y.place; registers = f.registers; waits = Nothing }) c.present.ensures;
       registers = c.write_frame.ensures.registers ∙ ap (λ (y : Frame). y.registers.items) c.present.ensures;
       room = c.write_frame.ensures.room ∙ ap (λ (y : Frame). with_items a.frame.registers y.registers.items) c.present.ensures;
       cells = subst (λ xs. IsPutInto x.course.cells.writes k.cells.cells.items xs) (sym (with_items_is k.cells.cells row long))

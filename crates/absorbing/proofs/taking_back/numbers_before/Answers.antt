@@ -1,5 +1,4 @@
-use Rattle.std.proofs.Common.{rules, FitsSigned, ◌∙◌, ◌+◌, ◌∷◌, ◌++◌, [], List, ℤ, ap, sym, subst}
-use Rattle.std.specs.Int.{w64}
+use Rattle.std.proofs.Common.{FitsSigned, rules, w64, ◌∙◌, ◌+◌, ◌∷◌, ◌++◌, [], List, ℤ, ap, sym, subst}
 use Rattle.std.proofs.lemmas.Int.{to_z-of_z}
 use Rattle.std.proofs.lemmas.Option.{slice_get-get_or}
 use Rattle.absorbing.proofs.Restored.{AreNumbersTo, numbers_more, numbers_none}
@@ -13,8 +12,7 @@ loop-written-preserved c =
     let n = c.loop-written.written-index in
     let row = c.as_slice-row.result.now in
     let writes = c.writes-writes.result.now in
-    let numbers = c.loop-written.numbers.items in
-    let number = c.number_of.result in
-    let fit : FitsSigned w64 number = search rules in
-    let more = numbers_more row writes numbers n _ number c.loop-written.invariant (slice_get-get_or writes n _ c.loop-written-test.true) c.number_of.ensures in
-    subst (λ (xs : List ℤ). AreNumbersTo (n + 1) row writes xs) (sym (c.in_ok-push.ensures.items ∙ ap (λ (z : ℤ). numbers ++ z ∷ []) (to_z-of_z w64 number fit))) more
+    let fit : FitsSigned w64 c.number_of.result = search rules in
+    subst (λ (xs : List ℤ). AreNumbersTo (n + 1) row writes xs)
+    (sym (c.in_ok-push.ensures.items ∙ ap (λ z. c.loop-written.numbers.items ++ z ∷ []) (to_z-of_z w64 c.number_of.result fit)))
+    (numbers_more row writes c.loop-written.numbers.items n _ _ c.loop-written.invariant (slice_get-get_or writes n _ c.loop-written-test.true) c.number_of.ensures)
