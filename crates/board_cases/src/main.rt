@@ -49,10 +49,7 @@ fn answer_stalling<W: Write + Drop>(
     Ok(())
 }
 
-fn answer(
-    rt: &(impl AllocGlobal + Files + Print),
-    state: RandomState,
-) -> anyhow::Result<ExitCode> {
+fn answer(rt: &(impl AllocGlobal + Files + Print), state: RandomState) -> anyhow::Result<ExitCode> {
     let alloc = rt.alloc();
     let text = fs::read(rt, "examples/pair.ll")?;
     let pair = verify(alloc, state, text.as_slice())

@@ -38,7 +38,7 @@ in_run b w es from upto within le before k d l is = elim (cases_lt k from) [
       let rest : List Entry = drop from es in
       let size : length rest ≡ length es - from = length-drop from es in
       let here : get_or (take (upto - from) rest) (k - from) e ≡ e =
-        get_or-take (upto - from) rest (k - from) e (omega (arith, l, more)) ∙ get_or-drop from es (k - from) e ∙ ap (λ n. get_or es n e) (omega (arith, more)) ∙ get_or_default es k e d (omega (arith, l, within)) in
+      get_or-take (upto - from) rest (k - from) e (omega (arith, l, more)) ∙ get_or-drop from es (k - from) e ∙ ap (λ n. get_or es n e) (omega (arith, more)) ∙ get_or_default es k e d (omega (arith, l, within)) in
       (k - from, omega (arith, length-take (upto - from) rest, size, within, l, more, le), here)
 ]
 

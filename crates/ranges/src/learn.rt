@@ -113,7 +113,12 @@ fn product_sums(alloc: Global, d: Operand, x: Operand, y: Operand) -> Result<Vec
 }
 
 /// Whether a number may divide an operand: it lies from 1 to a million, and the operand is shown to be at least 0.
-fn is_divisor(alloc: Global, known: &Known<'_>, x: Operand, divisor: i64) -> Result<bool, OutOfMemory>
+fn is_divisor(
+    alloc: Global,
+    known: &Known<'_>,
+    x: Operand,
+    divisor: i64,
+) -> Result<bool, OutOfMemory>
     ensures value { IfOk result (λ b. b ≡ is_divisor known.now x divisor) }
     ensures positive { IfOk result (λ b. b ≡ true → pos 1 ≤ℤ divisor) }
     ensures scale { IfOk result (λ b. b ≡ true → is_scale divisor ≡ true) }

@@ -92,17 +92,16 @@ called_again : (nodes : Frames Activation) (node : Node Activation) (child : ℕ
     ∥ CalleeStands nodes node (wait.Call child register) (Some slot) ∥₁ → CalleeStands nodes node (wait.Call child register) (Some slot)
 called_again nodes node child register slot None is t =
     absurd_again (∥∥₁_map t (λ h. let same : h.0 ≡ slot = (let e : Some slot ≡ Some h.0 = h.2 in cc) in let e : None ≡ Some h.1 = sym is ∙ subst (λ n. node_at nodes n ≡ Some h.1) same h.3 in cc))
-called_again nodes node child register slot (Some called) is t =
-    (
-      slot,
-      called,
-      refl,
-      is,
-      ∥∥₁_elim t (Prim.hlevel (props, ⊎_set, ℕ_set, ℤ_set)) (λ h.
+called_again nodes node child register slot (Some called) is t = (
+  slot,
+  called,
+  refl,
+  is,
+  ∥∥₁_elim t (Prim.hlevel (props, ⊎_set, ℕ_set, ℤ_set)) (λ h.
       let same : h.0 ≡ slot = (let e : Some slot ≡ Some h.0 = h.2 in cc) in
       let one : h.1 ≡ called = same_some (node_at nodes slot) h.1 called (subst (λ n. node_at nodes n ≡ Some h.1) same h.3) is in
       ap (λ (n : Node Activation). n.path.numbers) (sym one) ∙ h.4),
-    )
+)
 
 callee_again : (nodes : Frames Activation) (node : Node Activation) (w : Wait) (callee : Option ℕ) → ∥ CalleeStands nodes node w callee ∥₁ → CalleeStands nodes node w callee
 callee_again nodes node wait.Nothing callee t = ∥∥₁_elim t (Prim.hlevel (props, ⊎_set, ℕ_set, ℤ_set)) (λ h. h)

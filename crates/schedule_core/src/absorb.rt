@@ -61,11 +61,7 @@ pub fn steps_of(strand: &Strand<'_>) -> u64
 }
 
 /// A strand's steps, if the strand fits. The answer is whether it does; where it does not, nothing changes.
-fn absorb_into(
-    stage: &mut Stage<'_>,
-    worker: u8,
-    strand: &Strand<'_>,
-) -> Result<bool, OutOfMemory>
+fn absorb_into(stage: &mut Stage<'_>, worker: u8, strand: &Strand<'_>) -> Result<bool, OutOfMemory>
     requires machine { ∥ IsMachine stage.old ∥₁ }
     requires made { IsMadeOf (program_of stage.old) strand.now }
     ensures exactly { IfOk result (λ done. IsTrue done ↔ FitsStage stage.old worker strand.now) }

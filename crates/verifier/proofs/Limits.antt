@@ -42,12 +42,12 @@ module _ (whole : Module) (kept : IsKeptModule whole) (program : Program) (m : M
       let back = (both_ok _ _ head.0 head.1).1 in
       let measure = made_ok _ _ head.0.1.1 (both_ok _ _ head.0.1 back).1 in
       let blocks : length function.blocks ≡ length text.blocks =
-          all_count _ text.blocks function.blocks (parts.1 ∙ ap (λ (g : Function). Ok g.blocks) made.2) in
+      all_count _ text.blocks function.blocks (parts.1 ∙ ap (λ (g : Function). Ok g.blocks) made.2) in
       let few = right.within.blocks in
       let bound = right.written.notes.measure.bound in
       let same : text.notes.measure.bound ≡ function.measure.bound =
-          ap (λ (x : Measure). x.bound) measure.2
-          ∙ ap (λ (g : Function). g.measure.bound) (ap (λ (g : List Block → Function). g made.0.1) (ap (function_with text (layout_of text)) head.2) ∙ made.2) in
+      ap (λ (x : Measure). x.bound) measure.2
+      ∙ ap (λ (g : Function). g.measure.bound) (ap (λ (g : List Block → Function). g made.0.1) (ap (function_with text (layout_of text)) head.2) ∙ made.2) in
       record { blocks = omega (arith, blocks, few); measure = omega (arith, same, bound) }
     where
       within : (xs : List FunctionText) (k : ℕ) (x : FunctionText) → slice_get xs k ≡ Some x → Contains xs x

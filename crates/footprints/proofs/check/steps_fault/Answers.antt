@@ -14,14 +14,15 @@ loop-index-preserved c =
     let table = c.args.table.now in
     let place = c.index_for.ensures ∙ c.seek.ensures in
     let known : c.known-facts.result ≡ facts_in_table table c.loop-index.index =
-      c.known-facts.ensures.some
-      ∙ ap (λ (x : List Fact × ℕ). take x.1 x.0) place
-      ∙ ap (λ (n : ℕ). take n c.loop-index.cursor.0) c.count_at.ensures
-      ∙ ap (take (slice_index_or table.counts c.loop-index.index 0)) c.loop-index.invariant.1 in (
-    below_next (λ (i : ℕ) (s : Step). IsStepBroken c.args.functions.now c.args.function.now c.args.task c.args.block.now (facts_in_table c.args.table.now i) s) c.as_slice-steps.result.now c.loop-index.index step _ _ _ c.loop-index-test.true c.index-steps-index.is c.loop-index.invariant.0
-    (subst (λ (fs : List Fact). IsEarliest (IsStepBroken c.args.functions.now c.args.function.now c.args.task c.args.block.now fs step) c.in_ok-broken.broken) known c.in_ok-broken.ensures)
-    c.lower-named.ensures,
-    ap (λ (x : List Fact × ℕ). x.0) place ∙ c.loop-index.invariant.1)
+    c.known-facts.ensures.some
+    ∙ ap (λ (x : List Fact × ℕ). take x.1 x.0) place
+    ∙ ap (λ (n : ℕ). take n c.loop-index.cursor.0) c.count_at.ensures
+    ∙ ap (take (slice_index_or table.counts c.loop-index.index 0)) c.loop-index.invariant.1 in (
+      below_next (λ (i : ℕ) (s : Step). IsStepBroken c.args.functions.now c.args.function.now c.args.task c.args.block.now (facts_in_table c.args.table.now i) s) c.as_slice-steps.result.now c.loop-index.index step _ _ _ c.loop-index-test.true c.index-steps-index.is c.loop-index.invariant.0
+          (subst (λ (fs : List Fact). IsEarliest (IsStepBroken c.args.functions.now c.args.function.now c.args.task c.args.block.now fs step) c.in_ok-broken.broken) known c.in_ok-broken.ensures)
+          c.lower-named.ensures,
+      ap (λ (x : List Fact × ℕ). x.0) place ∙ c.loop-index.invariant.1,
+    )
 
 pub returns : goal.returns
 returns c =
