@@ -341,7 +341,10 @@ fn stores(alloc: Global) -> Result<String, Fail> {
         "@a = global [257 x i64] zeroinitializer\ndefine i64 @main() {\n;! writes @a 0 257\n;! budget 0 515\nentry:\n;! left 0 515\n",
     )?;
     for cell in 0..257u32 {
-        writeln!(text, "%p{cell} = getelementptr inbounds i64, ptr @a, i64 {cell}")?;
+        writeln!(
+            text,
+            "%p{cell} = getelementptr inbounds i64, ptr @a, i64 {cell}"
+        )?;
         writeln!(text, "store i64 1, ptr %p{cell}")?;
     }
     text.push_str("ret i64 0\n}\n")?;
@@ -478,8 +481,7 @@ fn two_threads_play_at_their_seats(rt: HostRuntime) -> Result<(), Fail> {
     let verified = verified(alloc, RandomState::new(&rt)?, PARALLEL_FOR)?;
     let memory = Memory::zeroed(alloc, &verified)?;
     let blank = Blank::new(2);
-    let (done, events, reported) =
-        two_seats::<Brand, _>(&rt, alloc, &verified, memory, blank)?;
+    let (done, events, reported) = two_seats::<Brand, _>(&rt, alloc, &verified, memory, blank)?;
     assert_eq!(rt; done.result, 64);
     assert_eq!(rt; done.instructions, 518);
     assert_eq!(rt; done.peak, 2);

@@ -7,12 +7,12 @@ ghost use Rattle.std.specs.Prelude.{◌≡◌};
 ghost use Rattle.shared_run.specs.store.Made.{IsMadeFor};
 
 use crate::players::{Player, player_of, players_of, seats_of};
-use crate::verified_file;
-use crate::words;
+use crate::{verified_file, words};
 use anyhow::Context;
 use cases::Report;
 use shared_run::{
-    Bench, Board, Committed, Fetched, Finished, Memory, Shared, Stepped, Ticket, Verified, places_of,
+    Bench, Board, Committed, Fetched, Finished, Memory, Shared, Stepped, Ticket, Verified,
+    places_of,
 };
 use std::alloc::{AllocError, Global};
 use std::hash::RandomState;
@@ -161,7 +161,10 @@ fn called<L: Bench>(
 fn cell_text<L: Bench>(alloc: Global, board: &Board<'_, L>, cell: &str) -> anyhow::Result<String> {
     let (name, index) = cell.split_once(" ").context("no cell")?;
     let index: u64 = index.parse().ok().context("no index")?;
-    let held = board.machine().get_global(name, index).context("no such cell")?;
+    let held = board
+        .machine()
+        .get_global(name, index)
+        .context("no such cell")?;
     Ok(format!(in alloc; "{held}")?)
 }
 
@@ -237,7 +240,13 @@ fn played<L: Bench, W: Write + Drop>(
     let places = places_of(alloc, verified)?;
     let mut players = players_of(alloc, seats, verified, &places)?;
     let board = shared.board.get_mut();
-    play(alloc, board, players.as_mut_slice(), run.calls.as_slice(), report)?;
+    play(
+        alloc,
+        board,
+        players.as_mut_slice(),
+        run.calls.as_slice(),
+        report,
+    )?;
     match shared.finish(seats_of(players, room)) {
         Ok((finished, events)) => Ok(finished_text(alloc, &finished, events)?),
         Err(_) => Ok(String::from_str(alloc, "it goes on")?),

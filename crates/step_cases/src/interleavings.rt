@@ -186,8 +186,7 @@ impl Play<'_> {
         board: &mut Board<'_, L>,
         player: &mut Player<'_, L>,
     ) -> bool {
-        let is_due =
-            is_idle(&*board, player.worker()) && board.machine().first_ready().is_some();
+        let is_due = is_idle(&*board, player.worker()) && board.machine().first_ready().is_some();
         match player.claim_first(board) {
             Claimed::Taken => is_due,
             Claimed::Gone => !is_due,
@@ -294,7 +293,14 @@ fn machine_of<'v>(
 ) -> anyhow::Result<Machine<'v>> {
     let memory = Memory::zeroed(alloc, verified)?;
     let arguments = arguments_of(alloc, subject)?;
-    let machine = replay(alloc, verified, arguments.as_slice(), memory, workers, events);
+    let machine = replay(
+        alloc,
+        verified,
+        arguments.as_slice(),
+        memory,
+        workers,
+        events,
+    );
     Ok(machine.ok().context("a run that stops")?)
 }
 
@@ -338,10 +344,12 @@ fn is_as_it_is_to_be<L: Bench>(
     let again = machine_of(alloc, verified, subject, workers, events.as_slice())?;
     let is_so = is_same(board.machine(), &again, workers as u8);
     match shared.finish(seats_of(players, room)) {
-        Ok((finished, total)) => Ok(is_so
-            && finished.result == subject.answer
-            && finished.instructions == subject.instructions
-            && total == events.len() as u64),
+        Ok((finished, total)) => Ok(
+            is_so
+                && finished.result == subject.answer
+                && finished.instructions == subject.instructions
+                && total == events.len() as u64,
+        ),
         Err(_) => Ok(false),
     }
 }

@@ -118,10 +118,7 @@ pub fn players_of<'p, L: Bench>(
 }
 
 /// The seats of all players, in `room`, which is empty.
-pub fn seats_of<L: Bench>(
-    mut players: Vec<Player<'_, L>>,
-    mut room: Vec<Seat<L>>,
-) -> Vec<Seat<L>>
+pub fn seats_of<L: Bench>(mut players: Vec<Player<'_, L>>, mut room: Vec<Seat<L>>) -> Vec<Seat<L>>
     requires { (vec_len room ≡ 0) × (vec_len players ≤ vec_capacity room) }
     ensures { vec_len result ≡ vec_len players.entry }
 {

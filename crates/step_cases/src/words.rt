@@ -1,7 +1,9 @@
 //! What the calls of a board answer, in words.
 
 use frame::Path;
-use shared_run::{Bench, Board, Claimed, Committed, Entry, Fetched, History, Pause, Stepped, Ticket};
+use shared_run::{
+    Bench, Board, Claimed, Committed, Entry, Fetched, History, Pause, Stepped, Ticket,
+};
 use std::alloc::{AllocError, Global};
 
 /// A path as schedules write it.

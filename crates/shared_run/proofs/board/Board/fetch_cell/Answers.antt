@@ -17,8 +17,7 @@ returns-in-Some-clause-fetches g c p =
     ap (λ (stage : Stage). cell_in stage.run.cells.cells.items c.args.at) (sym c.machine.ensures.stage) ∙ (sym value ∙ c.in-Some.is) in
     let reads : c.fill.new.self.course.cells.reads ≡ c.args.strand.now.course.cells.reads ++ record { at = c.args.at; value = c.in-Some.value } ∷ [] =
     c.fill.ensures.reads c.args.at c.requires.needs
-    ∙ ap (λ (v : ℤ). c.args.strand.now.course.cells.reads ++ record { at = c.args.at; value = v } ∷ []) (to_z-of_z w64 c.in-Some.value fit_value) in
-    (
+    ∙ ap (λ (v : ℤ). c.args.strand.now.course.cells.reads ++ record { at = c.args.at; value = v } ∷ []) (to_z-of_z w64 c.in-Some.value fit_value) in (
       c.args.at,
       c.in-Some.value,
       c.requires.needs,
