@@ -1,7 +1,8 @@
 //! Runs by the calls of a board. `==== TITLE` begins a run: `of FILE ARGUMENT..` is its module with the arguments of `main`, and `workers 2` the number
-//! of its workers. Then come calls with their answers, as `commit 0 = done, root ready`: `clear`, `fetch`, `advance`, `commit` and `first` of a
-//! worker, `step 0 6`, which is six steps and answers the last, `go 0`, which clears, fetches, and advances with each cell that it needs, `claim 1 root`, by the last ticket that was got for that path, and
-//! `claim 1 7:9`, by one with this slot and generation. `cell a 0`, `history` and `ended` are looks at the board. `finish` ends the run.
+//! of its workers. Then come calls with their answers, as `commit 0 = done, root ready`: `clear`, `fetch`, `advance`, `commit` and `first` of a worker,
+//! `step 0 6`, which is six steps and answers the last, `go 0`, which clears, fetches, and advances with each cell that it needs, `claim 1 root`, by the
+//! last ticket that was got for that path, and `claim 1 7:9`, by one with this slot and generation. `cell a 0`, `history` and `ended` are looks at the
+//! board. `finish = ENDING` ends the run.
 
 ghost use Rattle.std.specs.Prelude.{◌≡◌};
 ghost use Rattle.shared_run.specs.store.Made.{IsMadeFor};
