@@ -13,7 +13,7 @@ use Rattle.shared_run.proofs.Commits.{legal_absorbed}
 use Rattle.shared_run.proofs.board.Board.absorb.Goals as goal
 
 pub absorb-requires : goal.absorb-requires
-absorb-requires g c = subst (λ (q : Program). IsMadeOf q c.args.strand.now) (sym (c.self.invariant.0.replays.program ∙ c.self.invariant.2)) c.requires.made
+absorb-requires g c = record { made = subst (λ (q : Program). IsMadeOf q c.args.strand.now) (sym (c.self.invariant.0.replays.program ∙ c.self.invariant.2)) c.requires.made }
 
 pub push_steps-requires-clause-count : goal.push_steps-requires-clause-count
 push_steps-requires-clause-count g c =
