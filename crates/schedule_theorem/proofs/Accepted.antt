@@ -21,7 +21,8 @@ use Rattle.schedule_theorem.specs.typing.Accepted.{HasNamesAndTypes}
 use Rattle.schedule_theorem.proofs.typing.Accepted.{accepted_programs_are_typed}
 use Rattle.schedule_theorem.proofs.typing.Laws.{measures_name_parameters}
 use Rattle.schedule_theorem.proofs.typing.Lists.{there}
-use Rattle.schedule_theorem.proofs.typing.Parts.{function_from, all_count}
+use Rattle.schedule_theorem.proofs.typing.Parts.{function_from}
+use Rattle.verifier.proofs.Lists.{all_count}
 use Rattle.schedule_theorem.proofs.typing.Registers.{kept_function}
 use Rattle.schedule_theorem.specs.zones.ByPhases.{NamesZones, IsJudged}
 use Rattle.schedule_theorem.proofs.zones.ByRules.{judged_by_rules}

@@ -1,5 +1,5 @@
 -- The budget and the depth that the verifier answers are those of the laws on cost.
-use Rattle.std.proofs.Common.{◌≡◌, ℕ, ◌-◌, ◌^◌, ◌≤◌, min, inl, inr, Option, Some, None, refl, arith, le_trans}
+use Rattle.std.proofs.Common.{◌≡◌, ℕ, ◌≤◌, inl, inr, Option, Some, None, refl, arith}
 use Rattle.std.specs.Prelude.{slice_get}
 use Rattle.std.proofs.lemmas.Bool.{cases_lt}
 use Rattle.program.specs.declared.function.Function.{Function}
@@ -32,16 +32,10 @@ module _ (program : Program) (costs : AreCostsRight program) where
       from None at = omega arith
       from (Some main) at = cost_bounded program.main.0 main at
 
-  capped : (d n c : ℕ) → d ≤ n → d ≤ c → c ≤ 1000000000000 → d ≤ min n (2 ^ 64 - 1)
-  capped d n c low less cost = omega arith
-
-  -- a run within its budget is no deeper than 64 bits say
-  pub depth_within : (regions : Regions) (d c : ℕ) → d ≤ depth_at program regions program.main.0 (bound_of program program.main.0) →
-      d ≤ c → c ≤ budget_of program → d ≤ depth_of program regions
-  depth_within regions d c = from (slice_get program.functions program.main.0) refl
-    where
-      from : (o : Option Function) → slice_get program.functions program.main.0 ≡ o →
-          d ≤ depth_over (first_depths program regions program.main.0) program.main.0 (tasks_of regions program.main.0) o
-          (bound_in o) → d ≤ c → c ≤ whole_cost_of o → d ≤ depth_in program regions o
-      from None at low less within = low
-      from (Some main) at low less within = capped d _ c low less (le_trans within (cost_bounded program.main.0 main at))
+-- the depth that the verifier answers is that of the laws on cost
+pub depth_within : (program : Program) (regions : Regions) (d : ℕ) → d ≤ depth_at program regions program.main.0 (bound_of program program.main.0) → d ≤ depth_of program regions
+depth_within program regions d = from (slice_get program.functions program.main.0)
+  where
+    from : (o : Option Function) → d ≤ depth_over (first_depths program regions program.main.0) program.main.0 (tasks_of regions program.main.0) o (bound_in o) → d ≤ depth_in program regions o
+    from None low = low
+    from (Some main) low = low

@@ -50,30 +50,6 @@ module _ (prog : Program) (good : Says) (post : Finds) (kept : KeptSerially prog
   found zero p f m o g is = absurd (cc)
   found (suc n) p f m o g is = by_found n (found n) p f m g o (action_of prog p f m) refl is
 
--- the serial run stands no deeper than it does instructions: each frame does one
-abbrev Shallow : Finds
-Shallow p f m o = o.depth ≤ o.count
-
-deeper : (a b c d : ℕ) → a ≤ b → c ≤ d → max (suc a) c ≤ suc (b + d)
-deeper a b c d h k = omega arith
-
-shallow_kept : (prog : Program) → KeptSerially prog Nothing Nothing Shallow
-shallow_kept prog = record {
-  plain_kept = λ p f m e b g at fine nb. record { next = tt; finds = λ o h. omega (arith, h) };
-  sync_kept = λ p f m r t rs b g at nb. record { next = tt; finds = λ o h. omega (arith, h) };
-  child_kept = λ p f m r body next b g at nb. tt;
-  continued_kept = λ p f m r body next b g at nc o gone h nb.
-      record { next = tt; finds = λ u k. deeper o.depth o.count u.depth u.count h k };
-  callee_kept = λ p f m d c vs b g at nb. tt;
-  resumed_kept = λ p f m d c vs b g at nc o v gave h nb. record { next = tt; finds = λ u k. deeper o.depth o.count u.depth u.count h k };
-  reattach_finds = λ p f m r b g at. omega arith;
-  return_finds = λ p f m v b g at. omega arith;
-}
-
-pub no_deeper : (prog : Program) (p : Path) (f : Frame) (m : Memory) (n : ℕ) (o : Outcome) → meaning prog n p f m ≡ Some o →
-    o.depth ≤ o.count
-no_deeper prog p f m n o is = found prog Nothing Shallow (shallow_kept prog) n p f m o tt is
-
 -- a function's frame gives a result, and a child leaves
 abbrev Suited : Finds
 Suited p f m o = Suits f.role o.ending

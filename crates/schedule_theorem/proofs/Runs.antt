@@ -27,7 +27,7 @@ use Rattle.schedule_theorem.specs.zones.ByPhases.{IsKeptBySteps}
 use Rattle.schedule_theorem.specs.Promise.{AreTaken, HasGlobals}
 use Rattle.schedule_theorem.proofs.Accepted.{IsTaken, rules_right}
 use Rattle.schedule_theorem.proofs.Bounds.{depth_within}
-use Rattle.schedule_theorem.proofs.Findings.{found, no_deeper, gives_result}
+use Rattle.schedule_theorem.proofs.Findings.{found, gives_result}
 use Rattle.schedule_theorem.proofs.Serially.{free_goes, Runs, Found, runs_kept}
 use Rattle.schedule_theorem.proofs.Starting.{met_at_root, as_many}
 
@@ -87,7 +87,4 @@ module _ (program : Program) (t : IsTaken program) (kinded : Path → Frame → 
 
         pub within_depth : (regions : Regions) (table : AreTasksOf program regions) →
             (ends regions table).outcome.depth ≤ depth_of program regions
-        within_depth regions table =
-            let e = ends regions table in
-            let flat = no_deeper program [] (root_frame program arguments) (globals_of memory) e.serial.within e.outcome e.serial.meets in
-            depth_within program t.right.costs regions e.outcome.depth e.outcome.count e.depth_is flat (within_budget regions table)
+        within_depth regions table = depth_within program regions (ends regions table).outcome.depth (ends regions table).depth_is

@@ -1,7 +1,6 @@
 pub mod Meanings
 pub mod Phases
 pub mod Verdicts
-pub mod Depths
 pub mod sure
 pub mod Sums
 pub mod Limited

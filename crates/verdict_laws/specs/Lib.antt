@@ -1,5 +1,4 @@
 pub mod Verdicts
-pub mod Depths
 pub mod Sure
 pub mod Sums
 pub mod Limited

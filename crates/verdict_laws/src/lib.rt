@@ -1,13 +1,11 @@
 //! Laws about the verdict of `verify` as it is defined, which no phase alone can state. There is no code to run here.
 //!
 //! - `Verdicts`: a text has one verdict (`one_verdict`).
-//! - `Depths`: the depths of an accepted program are small, so that of `main` is answered whole (`depths_fit`).
 //! - `Sure`: one labelling has each alloca for sure wherever it is read (`reads_are_sure`).
 //! - `Sums`: a sum of operands has a form, far beyond what annotations within their limits ask (`modest_sums_have_forms`).
 //! - `Limited`: and they ask modest sums alone (`limited_forms_ask_little`).
 #![tactic(auto)]
 
-ghost use Rattle.verdict_laws.specs.Depths.{DepthsFit};
 ghost use Rattle.verdict_laws.specs.Sure.{ReadsAreSure};
 ghost use Rattle.verdict_laws.specs.Limited.{LimitedFormsAskLittle};
 ghost use Rattle.verdict_laws.specs.Sums.{ModestSumsHaveForms};
@@ -16,11 +14,6 @@ ghost use Rattle.verdict_laws.specs.Verdicts.{VerdictsAreOne};
 /// Want of memory aside, a text has one verdict: the program that it means, or the number and the line of its fault.
 pub fn one_verdict()
     ensures { VerdictsAreOne }
-{}
-
-/// Within the limits of a text depths are small, so the depth that `verify` answers is never cut at 64 bits.
-pub fn depths_fit()
-    ensures { DepthsFit }
 {}
 
 /// In an accepted program there is a labelling of the allocas, by what is sure and what is due at the start of each block, that respects each

@@ -17,6 +17,8 @@ use Rattle.region_match.specs.Matched.{AreRegionsRight}
 use Rattle.ranges.specs.Rules.{AreRangesRight}
 use Rattle.cost_table.specs.Rules.{AreCostsRight}
 use Rattle.verifier.specs.Accepted.{IsDefined, AreTasksOf, AreZonesRight, IsProgramOf, IsFaulty, IsRefused}
+use Rattle.verifier.specs.Limits.{IsWithinLimits}
+use Rattle.verifier.proofs.Limits.{within_limits}
 
 pub refused_by_text : (text : List ℕ) (refused : Refused) → IsFaultOfText text refused → IsRefused text refused
 refused_by_text text (Fault number line) h = inl h
@@ -38,6 +40,9 @@ by_tasks program graphs regions e h = subst (λ (gs : List FunctionGraph). AreAl
 
 pub program_of : (text : List ℕ) (whole : Module) (typed kept : Typed) → kept ≡ typed → Answers text (Ok whole) → Judges whole (Ok typed) → IsGraphRight typed.program → AreRegionsRight kept.program → IsDefined kept.program → AreRangesRight kept.program → AreZonesRight kept.program → AreCostsRight kept.program → IsProgramOf text kept.program
 program_of text whole typed kept same a j right regions defined ranges zones costs = (whole, a, typed, j, ap (λ (t : Typed). t.program) (sym same), record { graph = rw same right; regions = regions; definedness = defined; ranges = ranges; zones = zones; costs = costs })
+
+pub limits_of : (text : List ℕ) (whole : Module) (typed kept : Typed) → kept ≡ typed → Answers text (Ok whole) → Judges whole (Ok typed) → IsWithinLimits kept.program
+limits_of text whole typed kept same a j = subst (λ (t : Typed). IsWithinLimits t.program) (sym same) (within_limits text whole a typed.program j)
 
 -- an error that a call hands on
 pub err_from : {T E : Type 0} (Q : E → Type 0) (r : Result T E) (e : E) → IsErrAnd r (λ y. y ≡ e) → Q e → IfErr r Q

@@ -6,7 +6,7 @@ use Rattle.region_match.specs.declared.tables.Regions.{Regions}
 use Rattle.cost_table.specs.declared.table.Table.{Table}
 pub use Rattle.cost_table.specs.Cost.{whole_cost_of}
 use Rattle.cost_table.specs.Depth.{depth}
-use Rattle.cost_table.specs.Tables.{IsTable, as_u64}
+use Rattle.cost_table.specs.Tables.{IsTable}
 use Rattle.verifier.specs.Accepted.{AreTasksOf, IsAccepted}
 
 -- what a call of `main` costs at most
@@ -15,7 +15,7 @@ budget_of program = whole_cost_of (slice_get program.functions program.main.0)
 
 abbrev pub depth_in : Program → Regions → Option Function → ℕ
 depth_in program regions None = 0
-depth_in program regions (Some main) = as_u64 (depth program regions program.main.0 main main.measure.bound)
+depth_in program regions (Some main) = depth program regions program.main.0 main main.measure.bound
 
 -- how many frames a call of `main` stands on one another at most, where this is the table of the blocks' tasks
 abbrev pub depth_of : Program → Regions → ℕ

@@ -3,7 +3,9 @@ ghost use Rattle.std.specs.Option.{option_copied};
 ghost use Rattle.region_match.specs.declared.tables.Regions.{Regions};
 ghost use Rattle.cost_table.specs.Tables.{IsTable};
 ghost use Rattle.cost_table.specs.Rules.{AreCostsRight};
+ghost use Rattle.verifier.specs.Accepted.{AreTasksOf};
 ghost use Rattle.verifier.specs.Budgets.{budget_of, depth_of};
+ghost use Rattle.verifier.specs.Limits.{IsWithinLimits};
 
 use cost_table::Table;
 use program::{Function, Program};
@@ -27,9 +29,10 @@ pub fn budget_of(program: &Program, table: &Table) -> u64
     }
 }
 
-/// How many frames a call of `main` stands on one another at most.
+/// How many frames a call of `main` stands on one another at most. Within the limits of a text they are few, so the table has them whole.
 pub fn depth_of(program: &Program, table: &Table) -> u64
-    ensures { (regions : Regions) → IsTable program.now regions table.now → result ≡ depth_of program.now regions }
+    requires limits { IsWithinLimits program.now }
+    ensures { (regions : Regions) → AreTasksOf program.now regions → IsTable program.now regions table.now → result ≡ depth_of program.now regions }
 {
     match main_of(program) {
         Some(main) => table.depth(program.main.0, main.measure.bound).unwrap_or(0),

@@ -28,7 +28,8 @@ use Rattle.program.specs.Calls.{parameters_in}
 use Rattle.conditions.specs.rules.Registers.{is_number, gives_number, returns_number}
 use Rattle.phase_laws.specs.defined.Leads.{IsBlock}
 use Rattle.phase_laws.proofs.defined.Items.{stands, step_there}
-use Rattle.schedule_theorem.proofs.typing.Parts.{FunctionOf, FunctionFrom, BlockFrom, function_to, function_from, block_from, step_from, all_count}
+use Rattle.schedule_theorem.proofs.typing.Parts.{FunctionOf, FunctionFrom, BlockFrom, function_to, function_from, block_from, step_from}
+use Rattle.verifier.proofs.Lists.{all_count}
 use Rattle.schedule_theorem.proofs.typing.Instructions.{CallOf, Meant, is_meant}
 
 gives_as : (has_result : Bool) (result : ResultType) → fits_result has_result result ≡ true → is_number result ≡ has_result

@@ -37,7 +37,8 @@ use Rattle.phase_laws.specs.defined.Leads.{LeadsTo}
 use Rattle.phase_laws.proofs.defined.Items.{stands, end_there}
 use Rattle.phase_laws.proofs.defined.Lists.{within_at}
 use Rattle.schedule_theorem.proofs.typing.Lists.{there}
-use Rattle.schedule_theorem.proofs.typing.Parts.{function_from, block_from, ending_from, all_count}
+use Rattle.schedule_theorem.proofs.typing.Parts.{function_from, block_from, ending_from}
+use Rattle.verifier.proofs.Lists.{all_count}
 use Rattle.schedule_theorem.proofs.typing.Scoping.{IsNamedRight, layout_right, named_found}
 
 label_found : (scope : Scope) (line : ℕ) (name : List ℕ) (block : BlockId) → label_of scope line name ≡ Ok block → look_up scope name ≡ Some (named.Label block)

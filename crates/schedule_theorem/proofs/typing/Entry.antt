@@ -46,7 +46,8 @@ use Rattle.phase_laws.specs.defined.Leads.{LeadsTo, IsBlock}
 use Rattle.phase_laws.proofs.defined.Items.{Along, stands, end_there, edge_behind, is_block, block_is}
 use Rattle.phase_laws.proofs.defined.Lists.{at_within}
 use Rattle.phase_laws.proofs.defined.Paths.{phi_refused}
-use Rattle.schedule_theorem.proofs.typing.Parts.{FunctionFrom, function_from, block_from, phi_from, all_count}
+use Rattle.schedule_theorem.proofs.typing.Parts.{FunctionFrom, function_from, block_from, phi_from}
+use Rattle.verifier.proofs.Lists.{all_count}
 use Rattle.schedule_theorem.proofs.typing.Ends.{targets}
 use Rattle.schedule_theorem.proofs.typing.Lists.{all_each}
 use Rattle.schedule_theorem.proofs.typing.Registers.{kept_function}

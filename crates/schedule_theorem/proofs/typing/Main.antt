@@ -20,7 +20,8 @@ use Rattle.scopes.specs.Table.{look_up}
 use Rattle.scopes.proofs.Inversion.{made_ok, both_ok, unless_ok, err_not_ok}
 use Rattle.types.specs.Meaning.{main_form, as_main, found_main, Means, is_number as takes_number}
 use Rattle.conditions.specs.rules.Registers.{is_number, gives_number, returns_number}
-use Rattle.schedule_theorem.proofs.typing.Parts.{function_to, all_count}
+use Rattle.schedule_theorem.proofs.typing.Parts.{function_to}
+use Rattle.verifier.proofs.Lists.{all_count}
 use Rattle.schedule_theorem.proofs.typing.Lists.{there}
 use Rattle.schedule_theorem.proofs.typing.Registers.{kept_function}
 

@@ -17,7 +17,8 @@ use Rattle.types.specs.Meaning.{Means}
 use Rattle.phase_laws.specs.defined.Leads.{IsBlock}
 use Rattle.phase_laws.specs.defined.Names.{IsNamed}
 use Rattle.schedule_theorem.proofs.typing.Lists.{there}
-use Rattle.schedule_theorem.proofs.typing.Parts.{function_from, all_count}
+use Rattle.schedule_theorem.proofs.typing.Parts.{function_from}
+use Rattle.verifier.proofs.Lists.{all_count}
 use Rattle.schedule_theorem.proofs.typing.Ends.{targets, returns}
 use Rattle.schedule_theorem.proofs.typing.Calls.{call_at, arguments, calls}
 use Rattle.schedule_theorem.proofs.typing.Registers.{kept_function, once, phis_of_block_once}

@@ -25,21 +25,16 @@ use Rattle.scopes.specs.Item.{items_of}
 use Rattle.scopes.specs.Layout.{layout_of}
 use Rattle.scopes.specs.Note.{measure_of}
 use Rattle.scopes.specs.Scope.{Scope}
-use Rattle.scopes.proofs.Inversion.{made_ok, both_ok, same_ok, Each, all_from_ok, all_at}
+use Rattle.scopes.proofs.Inversion.{made_ok, both_ok, same_ok, Each, all_at}
 use Rattle.types.specs.Block.{block_with, block_of, blocks_of}
 use Rattle.types.specs.Call.{Named, parameter_of}
 use Rattle.types.specs.Function.{result_register, function_with, function_of, functions_of}
 use Rattle.types.specs.Instruction.{phi_of, phis_of, instruction_of, step_of, steps_of}
 use Rattle.types.specs.Meaning.{Means}
 use Rattle.types.specs.Terminator.{terminator_of, ending_of}
+use Rattle.verifier.proofs.Lists.{each_of}
 
 -- ---- lists that are meant element by element
-
-each_count : {A B : Type 0} (f : ℕ → A → Result B TypeFault) (n : ℕ) (xs : List A) (ys : List B) → Each f n xs ys → length ys ≡ length xs
-each_count f n [] [] e = refl
-each_count f n [] (y ∷ ys) e = absurd e
-each_count f n (x ∷ xs) [] e = absurd e
-each_count f n (x ∷ xs) (y ∷ ys) e = let r : length ys ≡ length xs = each_count f (n + 1) xs ys e.1 in omega arith
 
 each_to : {A B : Type 0} (f : ℕ → A → Result B TypeFault) (n : ℕ) (xs : List A) (ys : List B) (i : ℕ) (x : A) → Each f n xs ys → slice_get xs i ≡ Some x → (y : B) × (slice_get ys i ≡ Some y) × (f (n + i) x ≡ Ok y)
 each_to f n [] ys i x each e = absurd (cc)
@@ -50,17 +45,6 @@ each_to {A} {B} f n (z ∷ xs) (y ∷ ys) zero x each e =
 each_to f n (z ∷ xs) (y ∷ ys) (suc i) x each e =
     let found = each_to f (n + 1) xs ys i x each.1 e in
     (found.0, found.1, ap (λ k. f k x) (omega arith) ∙ found.2)
-
-each_of : {A B : Type 0} (f : ℕ → A → Result B TypeFault) (xs : List A) (ys : List B) → all_of f xs ≡ Ok ys → Each f 0 xs ys
-each_of {A} {B} f xs ys e =
-    let whole = all_from_ok f 0 (Ok []) xs ys e in
-    let none : [] ≡ whole.0 = same_ok [] whole.0 whole.2 in
-    let same : whole.1 ≡ ys = sym (whole.3 ∙ ap (λ (zs : List B). zs ++ whole.1) (sym none)) in
-    let P : List B → Type 0 = λ l. Each f 0 xs l in
-    subst P same whole.4
-
-pub all_count : {A B : Type 0} (f : ℕ → A → Result B TypeFault) (xs : List A) (ys : List B) → all_of f xs ≡ Ok ys → length ys ≡ length xs
-all_count f xs ys e = each_count f 0 xs ys (each_of f xs ys e)
 
 -- the element at a place means the part there
 pub all_to : {A B : Type 0} (f : ℕ → A → Result B TypeFault) (xs : List A) (ys : List B) (i : ℕ) (x : A) → all_of f xs ≡ Ok ys → slice_get xs i ≡ Some x → (y : B) × (slice_get ys i ≡ Some y) × (f i x ≡ Ok y)

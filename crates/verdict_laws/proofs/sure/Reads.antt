@@ -21,7 +21,7 @@ use Rattle.definedness.specs.Needs.{gives, given_of, numbers_at}
 use Rattle.definedness.specs.Sure.{IsStored, IsFork, IsEndOf, IsNeverSure}
 use Rattle.cost_table.specs.Depth.{tasks_of}
 use Rattle.verdict_laws.specs.Sure.{AreReadsSure, ReadsAreSure}
-use Rattle.verdict_laws.proofs.Depths.{tasks_at, graph_long}
+use Rattle.verifier.proofs.Depths.{tasks_at, graph_long}
 use Rattle.verdict_laws.proofs.sure.Decided.{contained, forked, ended, end_within}
 use Rattle.verdict_laws.proofs.sure.Labelling.{Best, best_labelling}
 

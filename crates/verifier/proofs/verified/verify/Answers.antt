@@ -1,9 +1,12 @@
 use Rattle.std.proofs.Common.{refl, inl, inr}
-use Rattle.verifier.proofs.Verdicts.{refused_by_text, refused_by_types, refused_after, by_tasks, err_from, program_of}
+use Rattle.verifier.proofs.Verdicts.{refused_by_text, refused_by_types, refused_after, by_tasks, err_from, program_of, limits_of}
 use Rattle.verifier.proofs.verified.verify.Goals as goal
 
 pub budget_of-budget-requires : goal.budget_of-budget-requires
 budget_of-budget-requires c = record { table = (c.in_ok-regions.regions, c.in_ok-table.ensures.table); costs = c.in_ok-table.ensures.right }
+
+pub depth_of-depth-requires : goal.depth_of-depth-requires
+depth_of-depth-requires c = record { limits = limits_of _ _ _ _ c.in_ok-graph.ensures.same c.in_ok-module.ensures.exact c.in_ok-typed.ensures.judged }
 
 pub invariant_of-result : goal.invariant_of-result
 invariant_of-result c =
@@ -12,7 +15,7 @@ invariant_of-result c =
       is_accepted = record { text = c.args.text.now; means = program_of _ _ _ _ c.in_ok-graph.ensures.same c.in_ok-module.ensures.exact c.in_ok-typed.ensures.judged c.in_ok-graph.ensures.right c.in_ok-regions.ensures.right c.in_ok-defined.ensures.right c.in_ok-facts.ensures.right (c.in_ok-regions.regions, by_tasks c.in_ok-graph.graph.typed.program c.in_ok-graph.graph.functions c.in_ok-regions.regions c.in_ok-graph.graph.edges c.in_ok-regions.ensures.tasks, c.in_ok-check_zones.ensures.right) c.in_ok-table.ensures.right };
       is_table = (c.in_ok-regions.regions, tasks, c.in_ok-table.ensures.table);
       is_budget = c.budget_of-budget.ensures;
-      is_depth = (c.in_ok-regions.regions, tasks, c.depth_of-depth.ensures c.in_ok-regions.regions c.in_ok-table.ensures.table);
+      is_depth = (c.in_ok-regions.regions, tasks, c.depth_of-depth.ensures c.in_ok-regions.regions tasks c.in_ok-table.ensures.table);
     }
 
 pub returns-clause-accepted : goal.returns-clause-accepted

@@ -1,17 +1,15 @@
--- Depths within the limits of a text.
-use Rattle.std.proofs.Common.{◌≡◌, ◌∙◌, ℕ, zero, suc, ◌+◌, ◌*◌, ◌≤◌, inl, inr, Bool, true, false, List, [], ◌∷◌, ◌++◌, length, Option, Some, None, Ok, refl, sym, ap, subst, get_or, arith}
+-- Within the limits of a text depths are small: 256 functions, each with 4,097 measures, at each of which a block stands within at most 1,024 detaches.
+use Rattle.std.proofs.Common.{◌≡◌, ◌∙◌, ℕ, zero, suc, ◌+◌, ◌*◌, ◌≤◌, inl, inr, Bool, true, false, List, [], ◌∷◌, ◌++◌, length, Option, Some, None, refl, sym, ap, subst, get_or, arith}
 use Rattle.std.specs.Prelude.{◌==◌, if◌then◌else◌, slice_get}
 use Rattle.std.specs.Option.{option_map}
 use Rattle.std.proofs.lemmas.Bool.{cases_eq, cases_lt}
 use Rattle.std.proofs.lemmas.List.{length_push, get_or_append_left, get_or_push, get_or_past}
 use Rattle.std.proofs.lemmas.Option.{slice_get_within, slice_get-map}
-use Rattle.program.specs.declared.annotation.Measure.{Measure}
 use Rattle.program.specs.declared.function.Block.{Block}
 use Rattle.program.specs.declared.function.Function.{Function}
 use Rattle.program.specs.declared.function.Program.{Program}
 use Rattle.program.specs.declared.instruction.Step.{Step}
 use Rattle.program.specs.Calls.{callee_of}
-use Rattle.syntax.specs.declared.module.Module.{Module}
 use Rattle.cfg.specs.declared.structure.FunctionGraph.{FunctionGraph}
 use Rattle.cfg.specs.Edges.{graph_of, graphs_of}
 use Rattle.cfg.proofs.EdgeLists.{length-edges_from}
@@ -22,17 +20,8 @@ use Rattle.region_match.specs.declared.tables.Regions.{Regions}
 use Rattle.region_match.specs.Tasks.{task_at, tasks_in, AreTasks, AreAllTasks}
 use Rattle.cost_table.specs.Depth.{detaches_within, detaches_around, greatest, greatest_block, callee_depth, block_depth, self_depth, self_call_depth, flat_depth, self_calls_depth, depth_from, tasks_of, whole_depth_of, first_depths, depth}
 use Rattle.cost_table.specs.Tables.{as_u64}
-use Rattle.ir_reader.specs.Kept.{IsKeptModule}
-use Rattle.ir_reader.proofs.Keeping.{answers_kept}
-use Rattle.types.specs.Meaning.{Means}
-use Rattle.schedule_theorem.proofs.typing.Parts.{function_from, all_count}
-use Rattle.schedule_theorem.proofs.typing.Registers.{kept_function}
-use Rattle.scopes.specs.Item.{items_of}
-use Rattle.types.specs.Function.{functions_of}
-use Rattle.scopes.proofs.Inversion.{made_ok, both_ok}
 use Rattle.verifier.specs.Accepted.{AreTasksOf}
-use Rattle.verifier.specs.Budgets.{depth_in, depth_of}
-use Rattle.verdict_laws.specs.Depths.{DepthsFit}
+use Rattle.verifier.specs.Limits.{IsWithinLimits}
 
 -- ---- of one function
 
@@ -100,47 +89,9 @@ pushed_within xs y c low here k = elim (cases_lt k (length xs)) [
   ]
 ]
 
--- each function has at most so many blocks, and a measure within its bound
-pub record IsSmall (program : Program) (regions : Regions) : Type 0 where
-  pub tasks : (f : ℕ) (function : Function) → slice_get program.functions f ≡ Some function → length (tasks_of regions f) ≤ 1024
-  pub bound : (f : ℕ) (function : Function) → slice_get program.functions f ≡ Some function → function.measure.bound ≤ 4096
-  pub count : length program.functions ≤ 256
+-- ---- of a program with a table of its blocks' tasks
 
-module _ (program : Program) (regions : Regions) (small : IsSmall program regions) where
-  next_within : (f : ℕ) → ((k : ℕ) → get_or (first_depths program regions f) k 0 ≤ f * 4199425) → (o : Option Function) → slice_get program.functions f ≡ o →
-      whole_depth_of (first_depths program regions f) f (tasks_of regions f) o ≤ suc f * 4199425
-  next_within f low None e = omega arith
-  next_within f low (Some function) e =
-      let most = depth_within (first_depths program regions f) f (tasks_of regions f) function.blocks (small.tasks f function e) (f * 4199425) low function.measure.bound in
-      let bound = small.bound f function e in
-      omega (arith, most, bound)
-
-  first_within : (f k : ℕ) → get_or (first_depths program regions f) k 0 ≤ f * 4199425
-  first_within zero k = omega arith
-  first_within (suc f) k =
-      let low : (j : ℕ) → get_or (first_depths program regions f) j 0 ≤ f * 4199425 = λ j. first_within f j in
-      pushed_within (first_depths program regions f) _ (suc f * 4199425) (λ j. let l = low j in omega (arith, l)) (next_within f low (slice_get program.functions f) refl) k
-
-  pub depth_small : (f : ℕ) (function : Function) (m : ℕ) → slice_get program.functions f ≡ Some function → m ≤ function.measure.bound → depth program regions f function m ≤ 1075052800
-  depth_small f function m e l =
-      let most = depth_within (first_depths program regions f) f (tasks_of regions f) function.blocks (small.tasks f function e) (f * 4199425) (first_within f) m in
-      let bound = small.bound f function e in
-      let place = slice_get_within program.functions f function e in
-      let count = small.count in
-      omega (arith, most, bound, place, count, l)
-
-  pub depth_whole : (main : Function) → slice_get program.functions program.main.0 ≡ Some main → depth_of program regions ≡ depth program regions program.main.0 main main.measure.bound
-  depth_whole main e =
-      let most = depth_small program.main.0 main main.measure.bound e (omega arith) in
-      ap (λ (o : Option Function). depth_in program regions o) e ∙ uncut (depth program regions program.main.0 main main.measure.bound) most
-    where
-      uncut : (n : ℕ) → n ≤ 1075052800 → as_u64 n ≡ n
-      uncut n l = omega (arith, l)
-
--- ---- what the limits of the text give
-
--- the table of a function's blocks
-pub table_at : (graphs : List FunctionGraph) (tables : List FunctionTasks) → AreAllTasks graphs tables → (f : ℕ) (g : FunctionGraph) → slice_get graphs f ≡ Some g → AreTasks g.blocks (tasks_in (slice_get tables f))
+table_at : (graphs : List FunctionGraph) (tables : List FunctionTasks) → AreAllTasks graphs tables → (f : ℕ) (g : FunctionGraph) → slice_get graphs f ≡ Some g → AreTasks g.blocks (tasks_in (slice_get tables f))
 table_at [] ts all f g e = absurd (cc)
 table_at (x ∷ gs) [] all f g e = absurd all
 table_at (x ∷ gs) (t ∷ ts) all zero g e = let same : x ≡ g = cc in subst (λ (y : FunctionGraph). AreTasks y.blocks t.tasks) same all.0
@@ -153,43 +104,39 @@ tasks_at program regions table f function e =
 pub graph_long : (function : Function) → length (graph_of function).blocks ≡ length function.blocks
 graph_long function = length-edges_from function.blocks 0 function.blocks
 
-module _ (whole : Module) (kept : IsKeptModule whole) (program : Program) (m : Means whole (Ok program)) (regions : Regions) (table : AreTasksOf program regions) where
-  blocks_few : (f : ℕ) (function : Function) → slice_get program.functions f ≡ Some function → length function.blocks ≤ 1024
-  blocks_few f function e =
-      let from = function_from whole program m f function e in
-      let l = (kept_function whole kept f from.text from.at_text).within.blocks in
-      let n : length function.blocks ≡ length from.text.blocks = all_count _ from.text.blocks function.blocks from.is.blocks_are in
-      omega (arith, l, n)
-
+module _ (program : Program) (regions : Regions) (table : AreTasksOf program regions) (limits : IsWithinLimits program) where
   tasks_few : (f : ℕ) (function : Function) → slice_get program.functions f ≡ Some function → length (tasks_of regions f) ≤ 1024
   tasks_few f function e =
       let long = (tasks_at program regions table f function e).size in
       let size = graph_long function in
-      let few = blocks_few f function e in
+      let few = limits.blocks f function e in
       omega (arith, long, size, few)
 
-  bound_few : (f : ℕ) (function : Function) → slice_get program.functions f ≡ Some function → function.measure.bound ≤ 4096
-  bound_few f function e =
-      let from = function_from whole program m f function e in
-      let l = (kept_function whole kept f from.text from.at_text).written.notes.measure.bound in
-      let made = made_ok _ _ function.measure from.is.measure_is in
-      let same : from.text.notes.measure.bound ≡ function.measure.bound = ap (λ (x : Measure). x.bound) made.2 in
-      omega (arith, l, same)
+  next_within : (f : ℕ) → ((k : ℕ) → get_or (first_depths program regions f) k 0 ≤ f * 4199425) → (o : Option Function) → slice_get program.functions f ≡ o →
+      whole_depth_of (first_depths program regions f) f (tasks_of regions f) o ≤ suc f * 4199425
+  next_within f low None e = omega arith
+  next_within f low (Some function) e =
+      let most = depth_within (first_depths program regions f) f (tasks_of regions f) function.blocks (tasks_few f function e) (f * 4199425) low function.measure.bound in
+      let bound = limits.measures f function e in
+      omega (arith, most, bound)
 
-  count_few : length program.functions ≤ 256
-  count_few =
-      let made = made_ok _ _ program m.2 in
-      let are : functions_of (items_of whole) whole.functions m.0 ≡ Ok program.functions = (both_ok _ _ made.0 made.1).1 ∙ ap (λ (p : Program). Ok p.functions) made.2 in
-      let n : length program.functions ≡ length whole.functions = all_count _ whole.functions program.functions are in
-      let l = kept.function_count in
-      omega (arith, n, l)
+  first_within : (f k : ℕ) → get_or (first_depths program regions f) k 0 ≤ f * 4199425
+  first_within zero k = omega arith
+  first_within (suc f) k =
+      let low : (j : ℕ) → get_or (first_depths program regions f) j 0 ≤ f * 4199425 = λ j. first_within f j in
+      pushed_within (first_depths program regions f) _ (suc f * 4199425) (λ j. let l = low j in omega (arith, l)) (next_within f low (slice_get program.functions f) refl) k
 
-  pub is_small : IsSmall program regions
-  is_small = record { tasks = tasks_few; bound = bound_few; count = count_few }
+  depth_small : (f : ℕ) (function : Function) → slice_get program.functions f ≡ Some function → depth program regions f function function.measure.bound ≤ 1075052800
+  depth_small f function e =
+      let most = depth_within (first_depths program regions f) f (tasks_of regions f) function.blocks (tasks_few f function e) (f * 4199425) (first_within f) function.measure.bound in
+      let bound = limits.measures f function e in
+      let place = slice_get_within program.functions f function e in
+      let count = limits.functions in
+      omega (arith, most, bound, place, count)
 
-pub depths_fit : DepthsFit
-depths_fit program accepted regions table =
-    let means = accepted.means in
-    let P : Program → Type 0 = λ p. Means means.0 (Ok p) in
-    let small = is_small means.0 (answers_kept accepted.text means.0 means.1) program (subst P means.4 means.3) regions table in
-    record { small = depth_small program regions small; whole = depth_whole program regions small }
+  -- 64 bits hold it
+  pub depth_whole : (f : ℕ) (function : Function) → slice_get program.functions f ≡ Some function → as_u64 (depth program regions f function function.measure.bound) ≡ depth program regions f function function.measure.bound
+  depth_whole f function e = uncut (depth program regions f function function.measure.bound) (depth_small f function e)
+    where
+      uncut : (n : ℕ) → n ≤ 1075052800 → as_u64 n ≡ n
+      uncut n l = omega (arith, l)
