@@ -2,5 +2,8 @@ pub mod Meanings
 pub mod Phases
 pub mod Verdicts
 pub mod sure
+pub mod limits
 pub mod Sums
 pub mod Limited
+pub mod Formed
+pub mod FormedPlaces

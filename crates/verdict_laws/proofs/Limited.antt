@@ -1,5 +1,5 @@
 -- Of forms within their limits modest sums are asked.
-use Rattle.std.proofs.Common.{◌≡◌, ℕ, ◌+◌, ◌*◌, ◌≤◌, ℤ, pos, negsuc, ◌*ℤ◌, ◌-ℤ◌, Bool, true, false, List, [], ◌∷◌, ◌++◌, length, refl, arith}
+use Rattle.std.proofs.Common.{◌≡◌, ◌∙◌, ℕ, ◌+◌, ◌*◌, ◌≤◌, ℤ, pos, negsuc, ◌*ℤ◌, ◌-ℤ◌, Bool, true, false, List, [], ◌∷◌, ◌++◌, refl, ap, arith}
 use Rattle.std.specs.Prelude.{◌==◌, if◌then◌else◌, sum_by, unsigned_abs}
 use Rattle.std.specs.List.{All}
 use Rattle.std.proofs.lemmas.Int.{ints, unsigned_abs-mul}
@@ -13,7 +13,7 @@ use Rattle.cfg.specs.declared.structure.Move.{Move}
 use Rattle.ranges.specs.declared.sum.Part.{Part}
 use Rattle.ranges.specs.Inequalities.{operand_for, part_of, parts_of}
 use Rattle.verdict_laws.specs.Sums.{IsWord}
-use Rattle.verdict_laws.specs.Limited.{IsLimited, AreWords, LimitedFormsAskLittle}
+use Rattle.verdict_laws.specs.Limited.{weight, IsLimited, AreWords, LimitedFormsAskLittle}
 
 abs_less : (a b : ℤ) → unsigned_abs (a -ℤ b) ≤ unsigned_abs a + unsigned_abs b
 abs_less a b = omega (arith, ints)
@@ -26,21 +26,20 @@ AreAllWords ps = All (λ (p : Part). IsWord p.operand) ps
 
 -- ---- of one form
 
-part_size : (sign c : ℤ) → unsigned_abs sign ≡ 1 → unsigned_abs c ≤ 1000000 → unsigned_abs (sign *ℤ c) ≤ 1000000
-part_size sign c e l = rw (unsigned_abs-mul sign c, e) (omega (arith, l))
-
-form_size : (moves : List Move) (sign : ℤ) → unsigned_abs sign ≡ 1 → (ts : List Term) → All (λ (t : Term). unsigned_abs t.coefficient ≤ 1000000) ts → factors (parts_of moves sign ts) ≤ 1000000 * length ts
-form_size moves sign e [] small = omega arith
-form_size moves sign e (t ∷ ts) small =
-    let here = part_size sign t.coefficient e (small 0 t (omega arith)) in
-    let rest = form_size moves sign e ts (All-rest (λ (u : Term). unsigned_abs u.coefficient ≤ 1000000) t ts (t ∷ ts) refl small) in
+form_size : (moves : List Move) (sign : ℤ) → unsigned_abs sign ≡ 1 → (ts : List Term) → factors (parts_of moves sign ts) ≡ weight ts
+form_size moves sign e [] = refl
+form_size moves sign e (t ∷ ts) =
+    let product : unsigned_abs (sign *ℤ t.coefficient) ≡ unsigned_abs sign * unsigned_abs t.coefficient = unsigned_abs-mul sign t.coefficient in
+    let here : unsigned_abs (sign *ℤ t.coefficient) ≡ unsigned_abs t.coefficient = product ∙ ap (λ (n : ℕ). n * unsigned_abs t.coefficient) e ∙ omega arith in
+    let rest = form_size moves sign e ts in
     let split : factors (parts_of moves sign (t ∷ ts)) ≡ unsigned_abs (sign *ℤ t.coefficient) + factors (parts_of moves sign ts) = sum_by-cons (λ (p : Part). unsigned_abs p.factor) (part_of moves sign t) (parts_of moves sign ts) in
-    omega (arith, here, rest, split)
+    let parted : weight (t ∷ ts) ≡ unsigned_abs t.coefficient + weight ts = sum_by-cons (λ (u : Term). unsigned_abs u.coefficient) t ts in
+    omega (arith, here, rest, split, parted)
 
 limited_size : (moves : List Move) (sign : ℤ) → unsigned_abs sign ≡ 1 → (f : Combination) → IsLimited f → factors (parts_of moves sign f.terms) ≤ 4000000
 limited_size moves sign e f limited =
-    let size = form_size moves sign e f.terms limited.small in
-    let few = limited.few in
+    let size = form_size moves sign e f.terms in
+    let few = limited.weight in
     omega (arith, size, few)
 
 chosen : (b : Bool) (x y : Operand) → IsWord x → IsWord y → IsWord (if b then x else y)
@@ -64,7 +63,7 @@ joined_size xs ys = sum_by-append (λ (p : Part). unsigned_abs p.factor) xs ys
 joined_words : (xs ys : List Part) → AreAllWords xs → AreAllWords ys → AreAllWords (xs ++ ys)
 joined_words xs ys h k = All-append (λ (p : Part). IsWord p.operand) xs ys h k
 
-none_moved : AreWords []
+pub none_moved : AreWords []
 none_moved = All-nil (λ (m : Move). IsWord m.value)
 
 pub limited_forms_ask_little : LimitedFormsAskLittle

@@ -2,3 +2,5 @@ pub mod Verdicts
 pub mod Sure
 pub mod Sums
 pub mod Limited
+pub mod Written
+pub mod Formed

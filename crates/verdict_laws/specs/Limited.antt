@@ -1,5 +1,5 @@
 -- The law: of forms within their limits the rules on numbers, zones and costs ask modest sums.
-use Rattle.std.specs.Prelude.{ℕ, ◌<◌, ◌≤◌, ◌^◌, List, [], length, All, unsigned_abs}
+use Rattle.std.specs.Prelude.{ℕ, ◌<◌, ◌≤◌, ◌^◌, List, [], All, sum_by, unsigned_abs}
 use Rattle.linear.specs.Forms.{Combination}
 use Rattle.linear.specs.declared.form.Term.{Term}
 use Rattle.ranges.specs.cfg.declared.structure.Move.{Move}
@@ -7,11 +7,14 @@ use Rattle.footprints.specs.Zones.{between}
 use Rattle.cost_table.specs.Rules.{left_behind, less_form}
 use Rattle.verdict_laws.specs.Sums.{IsWord, IsModest}
 
--- four registers, each at most a million times, and a number of 64 bits: what 206 leaves of an annotation's form
+-- how many times registers, all together
+abbrev pub weight : List Term → ℕ
+weight terms = sum_by (λ (t : Term). unsigned_abs t.coefficient) terms
+
+-- four registers, each at most a million times, and a number of 64 bits: what 206 leaves of an annotation's form. An end of an access is one more.
 pub record IsLimited (f : Combination) : Type 0 where
-  pub few : length f.terms ≤ 4
-  pub small : All (λ (t : Term). unsigned_abs t.coefficient ≤ 1000000) f.terms
-  pub constant : unsigned_abs f.constant ≤ 2 ^ 63
+  pub weight : weight f.terms ≤ 4000000
+  pub constant : unsigned_abs f.constant ≤ 2 ^ 64
 
 abbrev pub AreWords : List Move → Type 0
 AreWords moves = All (λ (m : Move). IsWord m.value) moves

@@ -2,14 +2,18 @@
 //!
 //! - `Verdicts`: a text has one verdict (`one_verdict`).
 //! - `Sure`: one labelling has each alloca for sure wherever it is read (`reads_are_sure`).
-//! - `Sums`: a sum of operands has a form, far beyond what annotations within their limits ask (`modest_sums_have_forms`).
-//! - `Limited`: and they ask modest sums alone (`limited_forms_ask_little`).
+//! - `Sums`: a sum of operands with modest factors has a form (`modest_sums_have_forms`).
+//! - `Limited`: limited forms ask modest sums alone (`limited_forms_ask_little`).
+//! - `Written`: the forms of an accepted program are limited, and its numbers are of 64 bits (`forms_are_limited`).
+//! - `Formed`: so each sum that it asks of numbers and zones has a form (`sums_have_forms`).
 #![tactic(auto)]
 
 ghost use Rattle.verdict_laws.specs.Sure.{ReadsAreSure};
+ghost use Rattle.verdict_laws.specs.Formed.{SumsHaveForms};
 ghost use Rattle.verdict_laws.specs.Limited.{LimitedFormsAskLittle};
 ghost use Rattle.verdict_laws.specs.Sums.{ModestSumsHaveForms};
 ghost use Rattle.verdict_laws.specs.Verdicts.{VerdictsAreOne};
+ghost use Rattle.verdict_laws.specs.Written.{FormsAreLimited};
 
 /// Want of memory aside, a text has one verdict: the program that it means, or the number and the line of its fault.
 pub fn one_verdict()
@@ -31,4 +35,16 @@ pub fn modest_sums_have_forms()
 /// with operands put in, and what is left less what is done and what is left at two targets.
 pub fn limited_forms_ask_little()
     ensures { LimitedFormsAskLittle }
+{}
+
+/// In an accepted program each form of an annotation has registers four million times at most, all together, and a number of 64 bits; each number
+/// that stands in a register's place is of 64 bits too.
+pub fn forms_are_limited()
+    ensures { FormsAreLimited }
+{}
+
+/// So each sum that makes a fact of an accepted program known, and each that a rule on numbers or zones asks there, has a form: none is unknown or
+/// not shown because it passes the bounds of one.
+pub fn sums_have_forms()
+    ensures { SumsHaveForms }
 {}
