@@ -265,8 +265,8 @@ case_formed : (value : Operand) (number : ℤ) → unsigned_abs number ≤ 2 ^ 6
 case_formed (Number z) number low = none_formed
 case_formed (Register r) number low =
     let turned = opposite number in
-    pair_formed (one (negsuc 0 *ℤ number) (pos 1) (Register r)) (one number (negsuc 0) (Register r)) (one_formed (negsuc 0 *ℤ number) (pos 1) (Register r) (omega (arith, turned, low)) (plus_one {Register r} tt))
-    (one_formed number (negsuc 0) (Register r) (omega (arith, low)) (minus_one {Register r} tt))
+    pair_formed (one (negsuc 0 *ℤ number) (pos 1) (Register r)) (one number (negsuc 0) (Register r)) (one_formed (negsuc 0 *ℤ number) (pos 1) (Register r) (omega (arith, turned, low)) (plus_one {x = Register r} tt))
+    (one_formed number (negsuc 0) (Register r) (omega (arith, low)) (minus_one {x = Register r} tt))
 
 abbrev KnowsForms : EdgeSums → Type 0
 KnowsForms e = HaveForms e.sums

@@ -45,7 +45,6 @@ use Rattle.scopes.specs.Layout.{layout_of}
 use Rattle.scopes.specs.Note.{zone_of, zones_of, more_zones, pending_of, left_of}
 use Rattle.scopes.specs.Scope.{Scope}
 use Rattle.scopes.proofs.Inversion.{made_ok, then_ok, both_ok, same_ok, all_from_ok}
-use Rattle.types.specs.declared.block.Body.{Body}
 use Rattle.types.specs.Block.{block_with, block_of}
 use Rattle.types.specs.Call.{Named}
 use Rattle.types.specs.Function.{result_register, head_zones_of, function_with, function_of, functions_of}
@@ -104,6 +103,9 @@ of_mode mode texts h = All-weaker (IsZoneOf mode) IsZone (λ x k. k.zone) texts 
 
 -- ---- blocks
 
+abbrev ArePendingLimited : Pending → Type 0
+ArePendingLimited p = AreEndsLimited p.zone
+
 module _ (items : Items) (functions : List FunctionText) (named : Named) (scope : Scope) (f b : ℕ) (result : ResultType) where
   pending_limited : (text : PendingText) (p : Pending) → IsPending text → pending_of items scope b text ≡ Ok p → AreEndsLimited p.zone
   pending_limited text p kept e =
@@ -157,18 +159,21 @@ module _ (items : Items) (functions : List FunctionText) (named : Named) (scope 
       let p : ℕ → PendingText → Result Pending Refused = λ _. pending_of items scope b in
       let q : ℕ → PhiText → Result Phi Refused = λ _. phi_of scope in
       let s : ℕ → StepText → Result Step Refused = λ _. step_of items functions named scope f b in
-      let whole : Body = record { phis = body.0.0; steps = body.0.1.0; ending = body.0.1.1 } in
-      subst IsBlockLimited (ap (λ h. block_with text.line h whole) head.2 ∙ ap (block_with text.line made.0.0) body.2 ∙ made.2)
-      (record {
-        keeps = inequalities_limited scope (place.Start b) text.notes.keeps head.0.0.0 kept.notes.keeps front.0;
-        pending = meant_from p IsPending (λ (x : Pending). AreEndsLimited x.zone) (λ n x y h k. pending_limited x y h k) 0 text.notes.pending head.0.0.1 kept.notes.pending (each_of p text.notes.pending head.0.0.1 front.1);
-        calls = left.calls;
-        instructions = left.instructions;
-        foot = zones_limited scope place.Body items text.notes.foot head.0.1.1 kept.notes.foot back.1;
-        phis = meant_from q IsPhiWritten TakesWords (λ n x y h k. phi_words scope x y h k) 0 text.phis body.0.0 kept.phis (each_of q text.phis body.0.0 bodies.0);
-        steps = meant_from s IsStepWritten IsStepLimited (λ n x y h k. step_limited x y h k) 0 text.steps body.0.1.0 kept.steps (each_of s text.steps body.0.1.0 rest.0);
-        ending = ending_limited text.ending body.0.1.1 kept.ending rest.1;
-      })
+      let by_head = ap (λ h. block_with text.line h made.0.1) head.2 ∙ made.2 in
+      let by_body = ap (block_with text.line made.0.0) body.2 ∙ made.2 in
+      record {
+        keeps = subst (λ (x : Block). All AreSidesLimited x.keeps) by_head (inequalities_limited scope (place.Start b) text.notes.keeps head.0.0.0 kept.notes.keeps front.0);
+        pending = subst (λ (x : Block). All ArePendingLimited x.pending) by_head
+            (meant_from p IsPending ArePendingLimited (λ n x y h k. pending_limited x y h k) 0 text.notes.pending head.0.0.1 kept.notes.pending (each_of p text.notes.pending head.0.0.1 front.1));
+        calls = subst (λ (x : Block). IsLimited x.left.self_calls) by_head left.calls;
+        instructions = subst (λ (x : Block). IsLimited x.left.instructions) by_head left.instructions;
+        foot = subst (λ (x : Block). All AreEndsLimited x.foot) by_head (zones_limited scope place.Body items text.notes.foot head.0.1.1 kept.notes.foot back.1);
+        phis = subst (λ (x : Block). All TakesWords x.phis) by_body
+            (meant_from q IsPhiWritten TakesWords (λ n x y h k. phi_words scope x y h k) 0 text.phis body.0.0 kept.phis (each_of q text.phis body.0.0 bodies.0));
+        steps = subst (λ (x : Block). All IsStepLimited x.steps) by_body
+            (meant_from s IsStepWritten IsStepLimited (λ n x y h k. step_limited x y h k) 0 text.steps body.0.1.0 kept.steps (each_of s text.steps body.0.1.0 rest.0));
+        ending = subst (λ (x : Block). IsEndLimitedIfAny x.ending) by_body (ending_limited text.ending body.0.1.1 kept.ending rest.1);
+      }
 
 -- ---- functions
 
@@ -191,7 +196,7 @@ module _ (items : Items) (functions : List FunctionText) (named : Named) where
       let layout : Layout = layout_of text in
       let notes = kept.written.notes in
       let g : ℕ → BlockText → Result Block Refused = block_of items functions named layout.scope f text.result_type in
-      subst IsFunctionLimited (ap (λ h. function_with text layout h made.0.1) head.2 ∙ made.2)
+      subst IsFunctionLimited (ap (λ (g : List Block → Function). g made.0.1) (ap (function_with text layout) head.2) ∙ made.2)
       (record {
         requirements = inequalities_limited layout.scope place.Head text.notes.requirements head.0.0.0 notes.requirements front.0;
         guarantees = inequalities_limited layout.scope (place.Guarantee (result_register text.result_type (length layout.registers))) text.notes.guarantees head.0.0.1 notes.guarantees front.1;

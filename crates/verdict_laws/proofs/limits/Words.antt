@@ -1,6 +1,6 @@
 -- The numbers of instructions, phis and terminators are of 64 bits.
-use Rattle.std.proofs.Common.{◌≡◌, ◌∙◌, ℕ, Bool, true, List, [], ◌∷◌, ◌++◌, Option, Some, None, refl, ap, subst, Result, Ok, Err, nat_eq}
-use Rattle.std.specs.Prelude.{pos, slice_get, is_some}
+use Rattle.std.proofs.Common.{◌≡◌, ◌∙◌, ℕ, ◌+◌, Bool, true, List, [], ◌∷◌, ◌++◌, Option, Some, None, refl, ap, subst, Result, Ok, Err, nat_eq}
+use Rattle.std.specs.Prelude.{not, pos, nat_le, slice_get, is_some}
 use Rattle.std.specs.List.{All}
 use Rattle.std.proofs.lemmas.List.Elements.{All-nil, All-cons, All-head, All-tail}
 use Rattle.linear.specs.declared.form.RegisterId.{RegisterId}
@@ -11,6 +11,7 @@ use Rattle.program.specs.declared.instruction.Argument.TheVariants as argument
 use Rattle.program.specs.declared.instruction.Case.{Case}
 use Rattle.program.specs.declared.instruction.Instruction.{Instruction}
 use Rattle.program.specs.declared.instruction.Instruction.TheVariants as instruction
+use Rattle.program.specs.declared.instruction.Operand.{Operand}
 use Rattle.program.specs.declared.instruction.Phi.{Phi}
 use Rattle.program.specs.declared.instruction.PhiEntry.{PhiEntry}
 use Rattle.program.specs.declared.instruction.Terminator.{Terminator}
@@ -42,13 +43,13 @@ use Rattle.ir_item.specs.Symbols.{fits_i64}
 use Rattle.ir_item.specs.Grammar.{binary_shape}
 use Rattle.scopes.specs.declared.address.WholeObject.{WholeObject}
 use Rattle.scopes.specs.Address.{Items, object_of}
-use Rattle.scopes.specs.Fault.{both_of, made_of, unless_of}
+use Rattle.scopes.specs.Fault.{and_then, both_of, made_of, unless_of}
 use Rattle.scopes.specs.Operand.{fits_width, operand_of}
 use Rattle.scopes.specs.Scope.{Scope}
 use Rattle.scopes.specs.Table.{look_up}
 use Rattle.scopes.proofs.Inversion.{Each, made_ok, then_ok, both_ok, same_ok, unless_ok, err_not_ok}
 use Rattle.types.specs.declared.call.ResolvedCall.{ResolvedCall}
-use Rattle.types.specs.Call.{Named, as_function, expected, takes_number, argument_of, arguments_of, passed_call, fitting_arguments, known_call, found_call, called, call_of}
+use Rattle.types.specs.Call.{Named, are_distinct, as_function, expected, fits_extent, is_any_named, takes_number, takes_object, argument_of, arguments_of, passed_call, fitting_arguments, known_call, found_call, called, call_of}
 use Rattle.types.specs.Instruction.{defined_of, alloca_id_of, instruction_of, entry_of, phi_of}
 use Rattle.types.specs.Terminator.{case_of, return_of, terminator_of}
 use Rattle.verifier.proofs.Lists.{each_of}
@@ -62,19 +63,22 @@ module _ {A B : Type 0} (f : ℕ → A → Result B Refused) (P : A → Type 0) 
   meant_from n [] [] all e = All-nil Q
   meant_from n [] (y ∷ ys) all e = absurd e
   meant_from n (x ∷ xs) [] all e = absurd e
-  meant_from n (x ∷ xs) (y ∷ ys) all e = All-cons Q y ys (each n x y (All-head P x xs all) e.0) (meant_from _ xs ys (All-tail P x xs all) e.1)
+  meant_from n (x ∷ xs) (y ∷ ys) all e = All-cons Q y ys (each n x y (All-head P x xs all) e.0) (meant_from (n + 1) xs ys (All-tail P x xs all) e.1)
 
 -- ---- instructions
 
 module _ (items : Items) (functions : List FunctionText) (named : Named) (scope : Scope) where
   argument_word : (line n : ℕ) (parameters : List ParameterText) (x : ArgumentText) (y : Argument) → IsArgumentSpelled x → argument_of items scope line (expected parameters n) x ≡ Ok y → IsArgumentWord y
   argument_word line n parameters (argument_text.Number value) y h e =
-      let part = then_ok _ (operand_of scope line Bits64 value) y e in
-      let made = made_ok (λ (u : Unit {0}). argument.Number part.0) (unless_of (takes_number (expected parameters n)) (Fault 202 line)) y part.2 in
+      let fits : Result (Unit {0}) Refused = unless_of (takes_number (expected parameters n)) (Fault 202 line) in
+      let part = then_ok (λ (v : Operand). made_of (λ (u : Unit {0}). argument.Number v) fits) (operand_of scope line Bits64 value) y e in
+      let made = made_ok (λ (u : Unit {0}). argument.Number part.0) fits y part.2 in
       subst IsArgumentWord made.2 (word_of scope line Bits64 value part.0 h part.1)
   argument_word line n parameters (argument_text.Pointer address) y h e =
-      let part = then_ok _ _ y e in
-      let made = made_ok (λ (u : Unit {0}). argument.Object part.0.0.name) _ y part.2 in
+      let extent : WholeObject → Result (Unit {0}) Refused = λ found. unless_of (fits_extent found.cells (expected parameters n)) (Fault 204 line) in
+      let part = then_ok (λ (p : WholeObject × Unit {0}). made_of (λ (u : Unit {0}). argument.Object p.0.name) (extent p.0))
+      (both_of (object_of items scope line address) (unless_of (takes_object (expected parameters n)) (Fault 202 line))) y e in
+      let made = made_ok (λ (u : Unit {0}). argument.Object part.0.0.name) (extent part.0.0) y part.2 in
       subst IsArgumentWord made.2 tt
 
   arguments_words : (line : ℕ) (parameters : List ParameterText) (xs : List ArgumentText) (ys : List Argument) → All IsArgumentSpelled xs → arguments_of items scope line parameters xs ≡ Ok ys → All IsArgumentWord ys
@@ -84,9 +88,12 @@ module _ (items : Items) (functions : List FunctionText) (named : Named) (scope 
 
   passed_same : (caller line : ℕ) (id : FunctionId) (arguments : List Argument) (call : ResolvedCall) → passed_call named caller line id arguments ≡ Ok call → arguments ≡ call.arguments
   passed_same caller line id arguments call e =
-      let first = then_ok _ _ call e in
-      let second = then_ok _ _ call first.2 in
-      let made = made_ok _ _ call second.2 in
+      let upward : Result (Unit {0}) Refused = unless_of (nat_le id.0 caller) (Fault 205 line) in
+      let made_so : Result ResolvedCall Refused = made_of (λ (u : Unit {0}). record { callee = id; arguments = arguments }) upward in
+      let apart : Result (Unit {0}) Refused = unless_of (not (is_any_named (slice_get named id.0) arguments)) (Fault 204 line) in
+      let first = then_ok (λ (u : Unit {0}). and_then apart (λ (v : Unit {0}). made_so)) (unless_of (are_distinct arguments) (Fault 204 line)) call e in
+      let second = then_ok (λ (u : Unit {0}). made_so) apart call first.2 in
+      let made = made_ok (λ (u : Unit {0}). record { callee = id; arguments = arguments }) upward call second.2 in
       ap (λ (c : ResolvedCall). c.arguments) made.2
 
   known_words : (caller line : ℕ) (has : Bool) (id : FunctionId) (callee : FunctionText) (xs : List ArgumentText) (call : ResolvedCall) → All IsArgumentSpelled xs → known_call items named scope caller line has id callee xs ≡ Ok call → All IsArgumentWord call.arguments
@@ -98,7 +105,10 @@ module _ (items : Items) (functions : List FunctionText) (named : Named) (scope 
       subst (All IsArgumentWord) same words
 
   called_words : (caller line : ℕ) (has : Bool) (r : Result FunctionId Refused) (xs : List ArgumentText) (call : ResolvedCall) → All IsArgumentSpelled xs → called items functions named scope caller line has r xs ≡ Ok call → All IsArgumentWord call.arguments
-  called_words caller line has (Err fault) xs call all e = let part = then_ok _ _ call e in absurd (err_not_ok fault call part.2)
+  called_words caller line has (Err fault) xs call all e =
+      let refused : Result (Unit {0}) Refused = Err fault in
+      let none : Result ResolvedCall Refused = Err fault in
+      absurd (err_not_ok fault call (then_ok (λ (p : List Argument × Unit {0}). none) (both_of (arguments_of items scope line [] xs) refused) call e).2)
   called_words caller line has (Ok id) xs call all e = from (slice_get functions id.0) e
     where
       from : (o : Option FunctionText) → found_call items named scope caller line has id o xs ≡ Ok call → All IsArgumentWord call.arguments
@@ -189,7 +199,9 @@ module _ (scope : Scope) where
   return_word line Number (Some value) t h e =
       let made = made_ok (λ v. terminator.Return (Some v)) (operand_of scope line Bits64 value) t e in
       subst EndsInWords made.2 (word_of scope line Bits64 value made.0 h.1.1.0 made.1)
-  return_word line Void (Some value) t h e = let part = then_ok _ _ t e in absurd (err_not_ok (Fault 202 line) t part.2)
+  return_word line Void (Some value) t h e =
+      let none : Result Terminator Refused = Err (Fault 202 line) in
+      absurd (err_not_ok (Fault 202 line) t (then_ok (λ (v : Operand). none) (operand_of scope line Bits64 value) t e).2)
 
   pub end_words : (line : ℕ) (result : ResultType) (written : TerminatorText) (t : Terminator) → IsKeptItem (item.Terminator written) → terminator_of scope line result written ≡ Ok t → EndsInWords t
   end_words line result (end.Jump l) t kept e = let made = made_ok _ _ t e in subst EndsInWords made.2 tt
