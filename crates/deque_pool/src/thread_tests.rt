@@ -429,7 +429,7 @@ fn chairs_of<L: Bench>(alloc: Global, mut seats: Vec<Seat<L>>) -> Result<Vec<Cha
 // The seats of all chairs, in `room`, which is empty.
 fn seats_of<L: Bench>(mut chairs: Vec<Chair<L>>, mut room: Vec<Seat<L>>) -> Vec<Seat<L>>
     requires { (vec_len room ≡ 0) × (vec_len chairs ≤ vec_capacity room) }
-    ensures { vec_len result ≡ vec_len chairs.entry }
+    ensures { vec_len result ≡ vec_len chairs }
 {
     while let Some(chair) = chairs.pop() {
         room.push_reserved(chair.seat);
