@@ -351,34 +351,59 @@ fn stores(alloc: Global) -> Result<String, Fail> {
     Ok(text)
 }
 
-#[test]
-fn gates_are_passed_before_strands(rt: HostRuntime) -> Result<(), Fail> {
-    let alloc = rt.alloc();
-    let state = RandomState::new(&rt)?;
+// What `pair` comes to on two workers that wait for each other in their gates, and whether both came.
+fn meet<R: Threads + Wait + Clock + Sync>(
+    rt: &R,
+    alloc: Global,
+    state: RandomState,
+) -> Result<(i64, bool), Fail> {
     let meeting = Meeting {
-        rt: &rt,
+        rt,
         first: AtomicBool::new(false),
         second: AtomicBool::new(false),
     };
     let pair = verified(alloc, state, PAIR)?;
-    let done = answer(&rt, alloc, &pair, &[7], 2, &meeting)?;
-    assert_eq!(rt; done.result, 14);
-    assert!(rt;
-        meeting.first.load(Ordering::SeqCst) && meeting.second.load(Ordering::SeqCst),
-        "two workers were not inside at once"
-    );
+    let done = answer(rt, alloc, &pair, &[7], 2, &meeting)?;
+    let met = meeting.first.load(Ordering::SeqCst) && meeting.second.load(Ordering::SeqCst);
+    Ok((done.result, met))
+}
+
+// The instructions of a block that fills two strands, and how often its gates were passed.
+fn count<R: Threads + Wait + Clock + Sync>(
+    rt: &R,
+    alloc: Global,
+    state: RandomState,
+    text: &str,
+) -> Result<(u64, [u64; 3]), Fail> {
     let counting = Counting {
         first: AtomicU64::new(0),
         second: AtomicU64::new(0),
         other: AtomicU64::new(0),
     };
-    let text = stores(alloc)?;
-    let stores = verified(alloc, state, text.as_str())?;
-    let done = answer(&rt, alloc, &stores, &[], 1, &counting)?;
-    assert_eq!(rt; done.instructions, 515);
-    assert_eq!(rt; counting.first.load(Ordering::SeqCst), 1);
-    assert_eq!(rt; counting.second.load(Ordering::SeqCst), 1);
-    assert_eq!(rt; counting.other.load(Ordering::SeqCst), 0);
+    let stores = verified(alloc, state, text)?;
+    let done = answer(rt, alloc, &stores, &[], 1, &counting)?;
+    let passed = [
+        counting.first.load(Ordering::SeqCst),
+        counting.second.load(Ordering::SeqCst),
+        counting.other.load(Ordering::SeqCst),
+    ];
+    Ok((done.instructions, passed))
+}
+
+#[test]
+fn two_workers_are_inside_at_once(rt: HostRuntime) -> Result<(), Fail> {
+    let (found, met) = meet(&rt, rt.alloc(), RandomState::new(&rt)?)?;
+    assert_eq!(rt; found, 14);
+    assert!(rt; met, "two workers were not inside at once");
+    Ok(())
+}
+
+#[test]
+fn gates_are_passed_before_strands(rt: HostRuntime) -> Result<(), Fail> {
+    let text = stores(rt.alloc())?;
+    let (instructions, passed) = count(&rt, rt.alloc(), RandomState::new(&rt)?, text.as_str())?;
+    assert_eq!(rt; instructions, 515);
+    assert_eq!(rt; passed, [1, 1, 0]);
     Ok(())
 }
 
