@@ -2,7 +2,6 @@
 use Rattle.std.proofs.Common.{◌≡◌, ◌∙◌, ℕ, ◌+◌, ◌^◌, ◌<◌, ◌≤◌, ℤ, pos, negsuc, ◌*ℤ◌, ◌-ℤ◌, Bool, true, false, List, [], ◌∷◌, ◌++◌, map, Option, Some, None, refl, sym, ap, subst, arith}
 use Rattle.std.specs.Prelude.{◌==◌, ◌||◌, if◌then◌else◌, slice_get, unsigned_abs, IsSome}
 use Rattle.std.specs.List.{All, Contains}
-use Rattle.std.specs.Option.{or_else}
 use Rattle.std.proofs.Math.Bool.{or-false}
 use Rattle.std.proofs.lemmas.Int.{ints}
 use Rattle.std.proofs.lemmas.List.Elements.{All-cons, All-contains, All-head, All-nil, All-tail}
@@ -15,6 +14,7 @@ use Rattle.syntax.specs.declared.operator.Predicate.{Predicate}
 use Rattle.syntax.specs.declared.operator.Predicate.TheVariants as predicate
 use Rattle.syntax.specs.declared.operator.Width.{Width}
 use Rattle.syntax.specs.declared.operator.Width.TheVariants.{Bits64, Bits32}
+use Rattle.program.specs.Blocks.{block_phis}
 use Rattle.program.specs.Cells.{object_cells}
 use Rattle.program.specs.declared.annotation.Inequality.{Inequality}
 use Rattle.program.specs.declared.function.Block.{Block}
@@ -30,9 +30,10 @@ use Rattle.program.specs.declared.instruction.Operand.TheVariants.{Number, Regis
 use Rattle.program.specs.declared.instruction.Step.{Step}
 use Rattle.program.specs.declared.instruction.Terminator.{Terminator}
 use Rattle.program.specs.declared.instruction.Terminator.TheVariants as terminator
-use Rattle.program.specs.Steps.{first_said}
+use Rattle.program.specs.Steps.{first_said, or_else}
 use Rattle.cfg.specs.declared.structure.Move.{Move}
 use Rattle.cfg.specs.declared.structure.Way.TheVariants.{Branch}
+use Rattle.cfg.specs.Edges.{moves_from}
 use Rattle.ranges.specs.declared.edge.Comparison.{Comparison}
 use Rattle.ranges.specs.declared.edge.EdgeSums.{EdgeSums}
 use Rattle.ranges.specs.declared.sum.Obligation.{Obligation}
@@ -48,7 +49,8 @@ use Rattle.footprints.specs.Footprints.{form_at}
 use Rattle.footprints.specs.Zones.{Span}
 use Rattle.verifier.specs.Accepted.{IsAccepted}
 use Rattle.phase_laws.proofs.defined.Lists.{at_within}
-use Rattle.phase_laws.proofs.facts.Places.{BlockOf, known_at_place, step_met, end_met, edge_met}
+use Rattle.phase_laws.specs.facts.Known.{known_at_place}
+use Rattle.phase_laws.proofs.facts.Places.{BlockOf, step_met, end_met, edge_met}
 use Rattle.verdict_laws.specs.Sums.{IsWord}
 use Rattle.verdict_laws.specs.Limited.{IsLimited}
 use Rattle.verdict_laws.specs.Written.{AreSidesLimited, AreEndsLimited, HasWords, EndsInWords, IsCaseNumber, IsStepLimited, IsEndLimited, IsEndLimitedIfAny, IsBlockLimited, IsFunctionLimited}
@@ -319,7 +321,7 @@ module _ (program : Program) (all : All IsFunctionLimited program.functions) (ri
         shows = differences_formed [] none_moved ending.shows limited.shows;
         owed = end_owed_formed _ o.function ending.terminator (end_met program right f b o ending is);
         known = λ e c. All-contains KnowsForms (edges_out o.block.steps ending.terminator) e (edges_formed o.block.steps ending.terminator limits.steps limited.words) c;
-        edges = λ known e c. inequalities_formed _ 505 _ _ (edge_met program right f b o ending is e c);
+        edges = λ known e c. inequalities_formed _ 505 (moves_from b (block_phis (slice_get o.function.blocks e.to.0))) (keeps_of (slice_get o.function.blocks e.to.0)) (edge_met program right f b o ending is e c);
       }
 
   block_formed : IsBlockFormed program o.function b o.block

@@ -59,7 +59,7 @@ use Rattle.verdict_laws.proofs.limits.Numbers.{AreSpelled, spelled, front, back,
 
 -- each element of a list that is meant by parts that are all so
 module _ {A B : Type 0} (f : ℕ → A → Result B Refused) (P : A → Type 0) (Q : B → Type 0) (each : (n : ℕ) (x : A) (y : B) → P x → f n x ≡ Ok y → Q y) where
-  meant_from : (n : ℕ) (xs : List A) (ys : List B) → All P xs → Each f n xs ys → All Q ys
+  pub meant_from : (n : ℕ) (xs : List A) (ys : List B) → All P xs → Each f n xs ys → All Q ys
   meant_from n [] [] all e = All-nil Q
   meant_from n [] (y ∷ ys) all e = absurd e
   meant_from n (x ∷ xs) [] all e = absurd e
