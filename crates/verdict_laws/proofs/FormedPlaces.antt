@@ -32,7 +32,7 @@ use Rattle.program.specs.declared.instruction.Terminator.{Terminator}
 use Rattle.program.specs.declared.instruction.Terminator.TheVariants as terminator
 use Rattle.program.specs.Steps.{first_said, or_else}
 use Rattle.cfg.specs.declared.structure.Move.{Move}
-use Rattle.cfg.specs.declared.structure.Way.TheVariants.{Branch}
+use Rattle.cfg.specs.declared.structure.Way.TheVariants.{Branch, Detached, Continued, Synced}
 use Rattle.cfg.specs.Edges.{moves_from}
 use Rattle.ranges.specs.declared.edge.Comparison.{Comparison}
 use Rattle.ranges.specs.declared.edge.EdgeSums.{EdgeSums}
@@ -278,15 +278,20 @@ cases_formed value [] h = All-nil KnowsForms
 cases_formed value (c ∷ cases) h = All-cons KnowsForms _ _ (case_formed value c.number (All-head IsCaseNumber c cases h)) (cases_formed value cases (All-tail IsCaseNumber c cases h))
 
 edges_formed : (steps : List Step) (t : Terminator) → All IsStepLimited steps → EndsInWords t → All KnowsForms (edges_out steps t)
-edges_formed steps (terminator.Jump target) h words = All-cons KnowsForms _ [] none_formed (All-nil KnowsForms)
+edges_formed steps (terminator.Jump target) h words = All-cons KnowsForms (edge_to target Branch []) [] none_formed (All-nil KnowsForms)
 edges_formed steps (terminator.Branch condition when_true when_false) h words =
     let c : Option Comparison = compared condition steps in
-    All-cons KnowsForms _ _ (branch_formed c true (compared_words condition steps h)) (All-cons KnowsForms _ [] (branch_formed c false (compared_words condition steps h)) (All-nil KnowsForms))
-edges_formed steps (terminator.Switch width value default cases) h words = All-cons KnowsForms _ _ none_formed (cases_formed value cases words)
+    let otherwise : EdgeSums = edge_to when_false Branch (branch_sums c false) in
+    All-cons KnowsForms (edge_to when_true Branch (branch_sums c true)) (otherwise ∷ []) (branch_formed c true (compared_words condition steps h))
+    (All-cons KnowsForms otherwise [] (branch_formed c false (compared_words condition steps h)) (All-nil KnowsForms))
+edges_formed steps (terminator.Switch width value default cases) h words =
+    All-cons KnowsForms (edge_to default Branch []) (map (λ c. edge_to c.target Branch (case_sums value c.number)) cases) none_formed (cases_formed value cases words)
 edges_formed steps (terminator.Return value) h words = All-nil KnowsForms
-edges_formed steps (terminator.Detach region body continuation) h words = All-cons KnowsForms _ _ none_formed (All-cons KnowsForms _ [] none_formed (All-nil KnowsForms))
+edges_formed steps (terminator.Detach region body continuation) h words =
+    All-cons KnowsForms (edge_to body Detached []) (edge_to continuation Continued [] ∷ []) none_formed
+    (All-cons KnowsForms (edge_to continuation Continued []) [] none_formed (All-nil KnowsForms))
 edges_formed steps (terminator.Reattach region continuation) h words = All-nil KnowsForms
-edges_formed steps (terminator.Sync region target) h words = All-cons KnowsForms _ [] none_formed (All-nil KnowsForms)
+edges_formed steps (terminator.Sync region target) h words = All-cons KnowsForms (edge_to target (Synced region) []) [] none_formed (All-nil KnowsForms)
 
 -- ---- the zone of an access
 
