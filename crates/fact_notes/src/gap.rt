@@ -1,6 +1,6 @@
 //! By how much facts fall short of a form, and which of them come nearest. All is asked of `shown`.
 
-use linear::{Fact, Form, FormFault, shown};
+use linear::{Fact, FactCursor, Form, FormFault, Known, find_shown, shown};
 use lists::OutOfMemory;
 use std::alloc::Global;
 
@@ -22,21 +22,25 @@ pub fn raised(alloc: Global, form: &Form, amount: i128) -> Result<Option<Form>, 
 /// Whether the facts show a form and so many more.
 fn is_shown_with(
     alloc: Global,
-    facts: &[Fact],
+    known: &Known<'_>,
     form: &Form,
     amount: i128,
 ) -> Result<bool, OutOfMemory> {
     match raised(alloc, form, amount)? {
-        Some(form) => Ok(shown(facts, &form)),
+        Some(form) => Ok(known.shows(&form)),
         None => Ok(false),
     }
 }
 
 /// A power of 2 with which the form is shown.
-fn amount_enough(alloc: Global, facts: &[Fact], form: &Form) -> Result<Option<i128>, OutOfMemory> {
+fn amount_enough(
+    alloc: Global,
+    known: &Known<'_>,
+    form: &Form,
+) -> Result<Option<i128>, OutOfMemory> {
     let mut amount: i128 = 1;
     for _step in 0..101 {
-        if is_shown_with(alloc, facts, form, amount)? {
+        if is_shown_with(alloc, known, form, amount)? {
             return Ok(Some(amount));
         }
         amount = amount.saturating_mul(2);
@@ -46,13 +50,16 @@ fn amount_enough(alloc: Global, facts: &[Fact], form: &Form) -> Result<Option<i1
 
 /// The least amount with which the form is shown, where there is one; the form itself is not.
 pub fn shortfall(alloc: Global, facts: &[Fact], form: &Form) -> Result<Option<i128>, OutOfMemory> {
-    let Some(mut least) = amount_enough(alloc, facts, form)? else {
+    let mut cursor = FactCursor::new(alloc, facts);
+    cursor.index()?;
+    let known = cursor.known();
+    let Some(mut least) = amount_enough(alloc, &known, form)? else {
         return Ok(None);
     };
     let mut step = least / 2;
     for _half in 0..101 {
         let trial = least.saturating_sub(step);
-        if step > 0 && is_shown_with(alloc, facts, form, trial)? {
+        if step > 0 && is_shown_with(alloc, &known, form, trial)? {
             least = trial;
         }
         step = step / 2;
@@ -69,14 +76,21 @@ pub fn first_facts(facts: &[Fact], count: usize) -> &[Fact] {
     }
 }
 
-/// How many of the first facts are enough to show the form.
-fn count_enough(facts: &[Fact], form: &Form) -> usize {
-    for count in 0..facts.len() {
-        if shown(first_facts(facts, count), form) {
-            return count;
+/// How many of the first facts are enough to show the form: more of them show no less.
+fn count_enough(alloc: Global, facts: &[Fact], form: &Form) -> Result<usize, OutOfMemory> {
+    let mut few = 0;
+    let mut enough = facts.len();
+    for _half in 0..65 {
+        if few < enough {
+            let middle = few + (enough - few) / 2;
+            if find_shown(alloc, first_facts(facts, middle), form)? {
+                enough = middle;
+            } else {
+                few = middle + 1;
+            }
         }
     }
-    facts.len()
+    Ok(enough)
 }
 
 /// Adds the fact at a place once more.
@@ -127,7 +141,7 @@ pub fn facts_used(
     facts: &[Fact],
     form: &Form,
 ) -> Result<Option<(usize, usize)>, OutOfMemory> {
-    match count_enough(facts, form).checked_sub(1) {
+    match count_enough(alloc, facts, form)?.checked_sub(1) {
         Some(last) => Ok(Some((partner(alloc, facts, last, form)?, last))),
         None => Ok(None),
     }
@@ -157,34 +171,22 @@ fn facts_and(alloc: Global, facts: &[Fact], form: &Form) -> Result<Vec<Fact>, Ou
 /// Whether the facts show that a form is below 0: from the two all would follow.
 pub fn is_against(alloc: Global, facts: &[Fact], form: &Form) -> Result<bool, OutOfMemory> {
     let more = facts_and(alloc, facts, form)?;
-    Ok(shown(&more, &Form::from_constant(alloc, -1)))
+    Ok(find_shown(alloc, &more, &Form::from_constant(alloc, -1))?)
 }
 
-/// Whether the facts show a rest, and the form where the rest is a fact too.
-fn is_step(
-    alloc: Global,
-    stated: &[Fact],
-    facts: &[Fact],
-    rest: &Form,
-    form: &Form,
-) -> Result<bool, OutOfMemory> {
-    if !shown(stated, rest) {
-        return Ok(false);
-    }
-    let more = facts_and(alloc, facts, rest)?;
-    Ok(shown(&more, form))
-}
-
-/// What the facts that are `stated` show and what makes all facts show the form: a line to write before it.
+/// What the facts that are `stated` show and what makes all facts show the form, as the rest beside one of them: a line to write before it.
 pub fn step_between(
     alloc: Global,
     stated: &[Fact],
     facts: &[Fact],
     form: &Form,
 ) -> Result<Option<Form>, OutOfMemory> {
+    let mut cursor = FactCursor::new(alloc, stated);
+    cursor.index()?;
+    let known = cursor.known();
     for fact in facts {
         if let Some(rest) = rest_of(alloc, form, fact)? {
-            if is_step(alloc, stated, facts, &rest, form)? {
+            if known.shows(&rest) {
                 return Ok(Some(rest));
             }
         }
