@@ -1,11 +1,11 @@
 //! What a program owes of its numbers and what is known there does not show.
 
-use fact_notes::{Matched, first_facts};
-use linear::Fact;
+use fact_notes::Matched;
+use linear::{FactCursor, Known};
 use lists::{OutOfMemory, Seq};
 use program::{Block, Ending, Function, Inequality, Program, Step};
 use ranges::{
-    BlockFacts, EdgeFacts, Obligation, Sum, block_facts, inequalities_owed, is_met, owed,
+    BlockFacts, EdgeFacts, Obligation, Sum, block_facts, inequalities_owed, is_met_at, owed,
     owed_at_end,
 };
 use std::alloc::Global;
@@ -49,14 +49,14 @@ fn line_of(inequalities: &[Inequality], place: usize) -> Option<u32> {
 fn push_unmet(
     alloc: Global,
     site: Site,
-    facts: &[Fact],
+    facts: &Known<'_>,
     obligations: Vec<Obligation>,
     asking: &[Inequality],
     unmet: &mut Vec<Unmet>,
 ) -> Result<(), OutOfMemory> {
     let mut place: usize = 0;
     for obligation in obligations {
-        if !is_met(alloc, facts, &obligation)? {
+        if !is_met_at(alloc, facts, &obligation)? {
             unmet.push(Unmet {
                 site,
                 number: obligation.number,
@@ -72,12 +72,11 @@ fn push_unmet(
 /// Adds the `shows` lines that are not shown; each is a fact for those after it. `count` facts are known at the last of them.
 fn push_shows(
     alloc: Global,
-    judged: Judged<'_>,
     site: Site,
+    facts: &mut FactCursor<'_>,
     shows: &[Inequality],
     unmet: &mut Vec<Unmet>,
 ) -> Result<(), OutOfMemory> {
-    let facts = judged.table.facts.as_slice();
     let before = site.count.saturating_sub(shows.len());
     for (place, line) in shows.iter().enumerate() {
         let count = before.saturating_add(place);
@@ -87,7 +86,9 @@ fn push_shows(
             ..site
         };
         let owed = inequalities_owed(alloc, 508, &[], shows)?;
-        push_one(alloc, at, first_facts(facts, count), owed, place, unmet)?;
+        facts.seek(count);
+        facts.index()?;
+        push_one(alloc, at, &facts.known(), owed, place, unmet)?;
     }
     Ok(())
 }
@@ -96,14 +97,14 @@ fn push_shows(
 fn push_one(
     alloc: Global,
     site: Site,
-    facts: &[Fact],
+    facts: &Known<'_>,
     obligations: Vec<Obligation>,
     place: usize,
     unmet: &mut Vec<Unmet>,
 ) -> Result<(), OutOfMemory> {
     let mut at: usize = 0;
     for obligation in obligations {
-        if at == place && !is_met(alloc, facts, &obligation)? {
+        if at == place && !is_met_at(alloc, facts, &obligation)? {
             unmet.push(Unmet {
                 site,
                 number: obligation.number,
@@ -133,14 +134,16 @@ fn push_step(
     alloc: Global,
     judged: Judged<'_>,
     site: Site,
+    facts: &mut FactCursor<'_>,
     step: &Step,
     unmet: &mut Vec<Unmet>,
 ) -> Result<(), OutOfMemory> {
-    push_shows(alloc, judged, site, step.shows.as_slice(), unmet)?;
-    let facts = first_facts(judged.table.facts.as_slice(), site.count);
+    push_shows(alloc, site, facts, step.shows.as_slice(), unmet)?;
+    facts.seek(site.count);
+    facts.index()?;
     let owed = owed(alloc, judged.program, judged.function, &step.instruction)?;
     let asking = asking_of(judged.program, step);
-    push_unmet(alloc, site, facts, owed, asking, unmet)
+    push_unmet(alloc, site, &facts.known(), owed, asking, unmet)
 }
 
 fn push_edge(
@@ -155,21 +158,25 @@ fn push_edge(
     };
     let keeps = target.keeps.as_slice();
     let owed = inequalities_owed(alloc, 505, edge.moves.as_slice(), keeps)?;
-    push_unmet(alloc, site, edge.facts.as_slice(), owed, keeps, unmet)
+    let mut facts = FactCursor::new(alloc, edge.facts.as_slice());
+    facts.index()?;
+    push_unmet(alloc, site, &facts.known(), owed, keeps, unmet)
 }
 
 fn push_end(
     alloc: Global,
     judged: Judged<'_>,
     site: Site,
+    facts: &mut FactCursor<'_>,
     ending: &Ending,
     unmet: &mut Vec<Unmet>,
 ) -> Result<(), OutOfMemory> {
-    push_shows(alloc, judged, site, ending.shows.as_slice(), unmet)?;
-    let facts = judged.table.facts.as_slice();
+    push_shows(alloc, site, facts, ending.shows.as_slice(), unmet)?;
+    facts.seek(site.count);
+    facts.index()?;
     let owed = owed_at_end(alloc, judged.function, &ending.terminator)?;
     let asking = judged.function.guarantees.as_slice();
-    push_unmet(alloc, site, facts, owed, asking, unmet)?;
+    push_unmet(alloc, site, &facts.known(), owed, asking, unmet)?;
     for (place, edge) in judged.table.edges.as_slice().iter().enumerate() {
         let at = Site {
             edge: Some(place),
@@ -187,13 +194,14 @@ fn push_block(
     site: Site,
     unmet: &mut Vec<Unmet>,
 ) -> Result<(), OutOfMemory> {
+    let mut facts = FactCursor::new(alloc, judged.table.facts.as_slice());
     for (place, step) in judged.block.steps.as_slice().iter().enumerate() {
         let at = Site {
             line: step.line,
-            count: judged.table.at_step(place).len(),
+            count: judged.table.count_at(place),
             ..site
         };
-        push_step(alloc, judged, at, step, unmet)?;
+        push_step(alloc, judged, at, &mut facts, step, unmet)?;
     }
     match &judged.block.ending {
         Some(ending) => {
@@ -202,7 +210,7 @@ fn push_block(
                 count: judged.table.facts.len(),
                 ..site
             };
-            push_end(alloc, judged, at, ending, unmet)
+            push_end(alloc, judged, at, &mut facts, ending, unmet)
         }
         None => Ok(()),
     }
