@@ -1,8 +1,8 @@
 -- A row with as many numbers as a program's globals have cells.
-use Rattle.std.proofs.Common.{◌≡◌, ◌∙◌, ℕ, zero, suc, ◌+◌, ◌-◌, ◌^◌, ◌<◌, ◌≤◌, List, [], ◌∷◌, length, take, drop, get_or, Option, Some, refl, ap, sym, arith, slice_get, ℤ}
+use Rattle.std.proofs.Common.{◌≡◌, ◌∙◌, ℕ, zero, suc, ◌-◌, ◌^◌, ◌<◌, ◌≤◌, List, [], ◌∷◌, length, take, drop, Some, refl, ap, sym, arith, slice_get, ℤ}
 use Rattle.std.specs.Prelude.{IsSome, map, min, sum, sum_by}
 use Rattle.std.proofs.lemmas.List.{length-drop, length-take-le}
-use Rattle.std.proofs.lemmas.List.Sums.{sum-map, sum_by-cons, sum_by_more}
+use Rattle.std.proofs.lemmas.List.Sums.{sum-map, sum_by-cons}
 use Rattle.program.specs.declared.function.Global.{Global}
 use Rattle.program.specs.declared.function.Program.{Program}
 use Rattle.outcome.specs.store.Cells.{NamedCells, cell_at}
@@ -10,33 +10,20 @@ use Rattle.outcome.specs.store.Made.{HasGlobalCells, IsMadeFor}
 use Rattle.outcome.specs.store.Rows.{refilled, sizes_of}
 use Rattle.kernel_c.specs.Told.{cells_in, sizes_in}
 
--- ---- counting them
-
-capped_more : (s x m : ℕ) → min (min s m + x) m ≡ min (s + x) m
-capped_more s x m = grind arith
-
-pub count_more : (globals : List Global) (i : ℕ) (d : Global) → i < length globals → (count : ℕ) → count ≡ min (sum_by (λ (g : Global). g.cells) (take i globals)) (2 ^ 64 - 1) →
-    min (count + (get_or globals i d).cells) (2 ^ 64 - 1) ≡ min (sum_by (λ (g : Global). g.cells) (take (i + 1) globals)) (2 ^ 64 - 1)
-count_more globals i d low count is =
-    let f : Global → ℕ = λ g. g.cells in
-    ap (λ (n : ℕ). min (n + (get_or globals i d).cells) (2 ^ 64 - 1)) is ∙ capped_more (sum_by f (take i globals)) ((get_or globals i d).cells) (2 ^ 64 - 1)
-    ∙ sym (ap (λ (n : ℕ). min n (2 ^ 64 - 1)) (sum_by_more f globals i d low))
-
-pub counted : (program : Program) (n : ℕ) → n ≡ min (sum_by (λ (g : Global). g.cells) program.globals) (2 ^ 64 - 1) → n ≡ cells_in program
-counted program n is = is ∙ sym (ap (λ (s : ℕ). min s (2 ^ 64 - 1)) (sum-map (λ (g : Global). g.cells) program.globals))
-
 -- ---- as many
 
 below_cap : (s n m : ℕ) → min s m ≡ n → n < m → n ≡ s
 below_cap s n m is low = grind arith
 
 -- a row is shorter than 2^63, so where the counts agree the sum was not cut
-pub as_many : (program : Program) (row : List ℤ) → cells_in program ≡ length row → length row < 9223372036854775808 → length row ≡ sum (sizes_in program)
+pub as_many : (program : Program) (row : List ℤ) → cells_in program ≡ length row → length row < 9223372036854775808 →
+    length row ≡ sum (sizes_in program)
 as_many program row same small = below_cap (sum (sizes_in program)) (length row) (2 ^ 64 - 1) same (omega (arith, small))
 
 -- ---- numbers for all cells
 
-sizes_kept : (m : List NamedCells) (row : List ℤ) → sum_by (λ (g : NamedCells). length g.cells) m ≤ length row → sizes_of (refilled m row) ≡ sizes_of m
+sizes_kept : (m : List NamedCells) (row : List ℤ) → sum_by (λ (g : NamedCells). length g.cells) m ≤ length row →
+    sizes_of (refilled m row) ≡ sizes_of m
 sizes_kept [] row room = refl
 sizes_kept (x ∷ m) row room =
     let n = length x.cells in
@@ -56,19 +43,18 @@ cells_there : (m : List NamedCells) (globals : List Global) → sizes_of m ≡ m
 cells_there m [] made g i global is low = absurd (cc)
 cells_there [] (d ∷ globals) made g i global is low = absurd (cc)
 cells_there (x ∷ m) (d ∷ globals) made zero i global is low =
-    let same : length x.cells ≡ d.cells = (let both : length x.cells ∷ sizes_of m ≡ d.cells ∷ map (λ (g : Global). g.cells) globals = made in cc) in
+    let both : length x.cells ∷ sizes_of m ≡ d.cells ∷ map (λ (g : Global). g.cells) globals = made in
+    let same : length x.cells ≡ d.cells = cc in
     let one : d.cells ≡ global.cells = (let e : Some d ≡ Some global = is in let f : d ≡ global = cc in ap (λ (g : Global). g.cells) f) in
     there x.cells i (omega (arith, same, one, low))
 cells_there (x ∷ m) (d ∷ globals) made (suc g) i global is low =
-    let rest : sizes_of m ≡ map (λ (g : Global). g.cells) globals = (let both : length x.cells ∷ sizes_of m ≡ d.cells ∷ map (λ (g : Global). g.cells) globals = made in cc) in
+    let both : length x.cells ∷ sizes_of m ≡ d.cells ∷ map (λ (g : Global). g.cells) globals = made in
+    let rest : sizes_of m ≡ map (λ (g : Global). g.cells) globals = cc in
     cells_there m globals rest g i global is low
 
 module _ (program : Program) (zeroed : List NamedCells) (made : IsMadeFor program zeroed) (row : List ℤ) (long : length row ≡ sum (sizes_in program)) where
   total : sum (sizes_of zeroed) ≡ length row
   total = ap (λ (l : List ℕ). sum l) made ∙ sym long
-
-  pub room : sum (sizes_of zeroed) ≤ length row
-  room = omega (arith, total)
 
   pub filled_cells : HasGlobalCells program (refilled zeroed row)
   filled_cells g i global is low =

@@ -13,6 +13,5 @@ serial_run-requires c =
     let same : cells_in program ≡ length row = omega (arith, counted, c.if-count_cells-cells.false) in
     let small : length row < 9223372036854775808 = search rules in
     let long = as_many program row same small in
-    record {
-      cells = subst (λ (m : List NamedCells). HasGlobalCells program m) (sym c.refill.ensures) (filled_cells program c.in-Ok.memory c.in-Ok.ensures.made row long);
-    }
+    let filled = filled_cells program c.in-Ok.memory c.in-Ok.ensures.made row long in
+    record { cells = subst (λ (m : List NamedCells). HasGlobalCells program m) (sym c.refill.ensures) filled }
