@@ -1,18 +1,11 @@
-//! Cases of the machine below the program: counts of children, machines between two events, the debugger against replays, and boards with the strands of
-//! several workers. It prints a line of
+//! Cases of the machine below the program: counts of children, machines between two events, and the debugger against replays. It prints a line of
 //! each case, and fails where one is not as it is to be. What is expected is worked by hand.
 #![tactic(auto)]
 
-mod boards;
 mod counts;
 mod debugging;
 mod events;
-mod interleavings;
 mod machines;
-mod mirrors;
-mod players;
-mod two_boards;
-mod words;
 
 use anyhow::Context;
 use cases::Report;
@@ -24,7 +17,7 @@ use std::rt::Files;
 use std::{fs, io};
 
 /// The module of a file.
-pub(crate) fn verified_file(
+fn verified_file(
     rt: &(impl AllocGlobal + Files),
     state: RandomState,
     file: &str,
@@ -53,12 +46,7 @@ fn answer<W: Write + Drop>(
     counts::answer(report)?;
     let parallel_for = verified_file(rt, state, "examples/parallel-for.ll")?;
     answer_machines(rt, state, &parallel_for, report)?;
-    debugging::answer(rt.alloc(), &parallel_for, report)?;
-    let rows = fs::read_to_string(rt, "boards/rows.txt")?;
-    boards::answer(rt, state, rows.as_str(), report)?;
-    let load = verified_file(rt, state, "examples/load.ll")?;
-    two_boards::answer(rt.alloc(), &load, report)?;
-    interleavings::answer(rt, state, report)
+    debugging::answer(rt.alloc(), &parallel_for, report)
 }
 
 fn main(rt: HostRuntime) -> anyhow::Result<ExitCode> {

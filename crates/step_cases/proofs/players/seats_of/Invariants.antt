@@ -1,8 +1,0 @@
-use Rattle.std.specs.Prelude.{◌≡◌, ◌+◌, ◌≤◌, vec_len, vec_capacity}
-use Rattle.step_cases.proofs.players.seats_of.Given as goal
-
-abbrev pub invariant-loop-player : goal.invariant-loop-player
-invariant-loop-player g l = (vec_len l.room + vec_len l.players ≡ vec_len l.fn.players) × (vec_len l.fn.players ≤ vec_capacity l.room)
-
-abbrev pub decreases-loop-player : goal.decreases-loop-player
-decreases-loop-player g l = vec_len l.players
