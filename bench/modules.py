@@ -177,41 +177,6 @@ def clear(facts):
     last = "f:\n" + bounds + ";! pending %s reads @a 0 %m\n;! pending %s writes @a %n %n+32\n;! left 0 2\nsync within %s, label %g\ng:\n;! left 0 1\nret i64 0\n}\n"
     return head + first + middle + second + last
 
-def stores(count):
-    """So many facts, and then as many stores of a cell whose index the two oldest facts bound."""
-    adds = count // 32
-    head = f"@a = global [99 x i64] zeroinitializer\ndefine i64 @main(i64 %n, i64 %m) {{\n;! requires %n >= 0\n;! requires %n <= 9\n;! requires %m <= 9\n;! writes @a 0 99\n"
-    head += f";! budget 0 {adds + count + 2}\nentry:\n;! left 0 {adds + count + 2}\n"
-    facts = [f";! shows {k + 1}*%m <= {9 * k + 10}\n" + (f"%x{k} = add i64 %n, 0\n" if k % 32 == 0 else "") for k in range(1, count + 1)]
-    return head + "".join(facts) + "%p = getelementptr inbounds i64, ptr @a, i64 %n\n" + "store i64 0, ptr %p\n" * count + "ret i64 0\n}\n"
-
-def promises(count):
-    """So many calls of a function with 32 `requires` and 32 `ensures` lines, each of which the two oldest facts show."""
-    lines = [f"{k + 1}*%n+{k + 2}*%m <= {18 * k + 27}" for k in range(32)]
-    callee = "define void @f(i64 %n, i64 %m) {\n" + "".join(f";! requires {line}\n" for line in lines) + "".join(f";! ensures {line}\n" for line in lines)
-    callee += ";! budget 0 1\nentry:\n;! left 0 1\nret void\n}\n"
-    total = 2 * count + 1
-    head = f"define i64 @main(i64 %n, i64 %m) {{\n;! requires %n <= 9\n;! requires %m <= 9\n;! budget 0 {total}\nentry:\n;! left 0 {total}\n"
-    return callee + head + "call void @f(i64 %n, i64 %m)\n" * count + "ret i64 0\n}\n"
-
-def covers(count):
-    """So many calls of a function with 32 zones of each mode, each of which the last of the caller's 32 zones alone covers."""
-    modes = [("reads", 0), ("writes", 32), ("adds", 64)]
-    callee = "@a = global [999 x i64] zeroinitializer\ndefine void @f() {\n"
-    callee += "".join(f";! {mode} @a {start + k} {start + k + 1}\n" for mode, start in modes for k in range(32)) + ";! budget 0 1\nentry:\n;! left 0 1\nret void\n}\n"
-    total = 2 * count + 1
-    head = "define i64 @main(i64 %n) {\n" + "".join(f";! writes @a {k + 200} {k + 201}\n" for k in range(31)) + f";! writes @a 0 99\n;! budget 0 {total}\nentry:\n;! left 0 {total}\n"
-    return callee + head + "call void @f()\n" * count + "ret i64 0\n}\n"
-
-def cases(count):
-    """So many facts at the end of a block, and a switch behind it to 64 blocks with 32 `keeps` lines each, which the two oldest facts show."""
-    adds = count // 32
-    head = f"define i64 @main(i64 %n, i64 %m) {{\n;! requires %n <= 9\n;! requires %m <= 9\n;! budget 0 {adds + 3}\nentry:\n;! left 0 {adds + 3}\n"
-    facts = [f";! shows {k + 1}*%n <= {9 * k + 10}\n" + (f"%x{k} = add i64 %n, 0\n" if k % 32 == 0 else "") for k in range(1, count + 1)]
-    ways = "%y = add i64 %n, 0\nswitch i64 %m, label %a64 [\n" + "".join(f"i64 {k}, label %a{k}\n" for k in range(64)) + "]\n"
-    keeps = "".join(f";! keeps {k + 1}*%n+{k + 2}*%m <= {18 * k + 27}\n" for k in range(32))
-    return head + "".join(facts) + ways + "".join(f"a{k}:\n{keeps};! left 0 1\nret i64 0\n" for k in range(65)) + "}\n"
-
 def pending(blocks):
     """A child that may run beside so many blocks, each with 32 `pending` lines."""
     out = ["@a = global [99 x i64] zeroinitializer\n"]
