@@ -63,7 +63,11 @@ impl Activation {
         requires room { counted_in self.old region.0 + 1 < 2 ^ 64 }
         requires made { self.old.frame.made + 1 < 2 ^ 64 }
         ensures only { self.new ≡ record self.old { frame = self.new.frame; counts = self.new.counts; runner = None } }
-        ensures frame { self.new.frame ≡ record self.old.frame { place = record { block = continuation; index = 0 }; made = self.old.frame.made + 1; waits = Nothing } }
+        ensures frame { self.new.frame ≡ record self.old.frame {
+          place = record { block = continuation; index = 0 };
+          made = self.old.frame.made + 1;
+          waits = Nothing;
+        } }
         ensures shown { (l : Layout) (places : Places) (p : Path) (g : frames.Frame) → ShowsFrame l places p g self.old.frame
             → ShowsFrame l places p (continued g continuation.0) self.new.frame }
         ensures as_many { length self.new.counts.items ≡ length self.old.counts.items }

@@ -44,7 +44,8 @@ pub fn run<G: Gate + Sync, R: Threads + Wait + Clock + Sync>(
     ensures met { OnOk result (unmet_in verified.now arguments.now ≡ None) }
     ensures bad_workers { (m : Memory) → result ≡ Err (RunFault.BadWorkers m) → (m ≡ memory) × ¬ IsNumberOfWorkers workers }
     ensures bad_arguments { (requirement : ℕ) (m : Memory) → result ≡ Err (RunFault.BadArguments requirement m) → m ≡ memory }
-    ensures unmet { (requirement : ℕ) (m : Memory) → result ≡ Err (RunFault.BadArguments requirement m) → unmet_in verified.now arguments.now ≡ Some requirement }
+    ensures unmet { (requirement : ℕ) (m : Memory) → result ≡ Err (RunFault.BadArguments requirement m)
+        → unmet_in verified.now arguments.now ≡ Some requirement }
 {
     run_by::<Brand, G, R>(
         rt,
@@ -80,7 +81,8 @@ fn run_by<L: Bench + Send + Sync, G: Gate + Sync, R: Threads + Wait + Clock + Sy
     ensures met { OnOk result (unmet_in verified.now arguments.now ≡ None) }
     ensures bad_workers { (m : Memory) → result ≡ Err (RunFault.BadWorkers m) → (m ≡ memory) × ¬ IsNumberOfWorkers workers }
     ensures bad_arguments { (requirement : ℕ) (m : Memory) → result ≡ Err (RunFault.BadArguments requirement m) → m ≡ memory }
-    ensures unmet { (requirement : ℕ) (m : Memory) → result ≡ Err (RunFault.BadArguments requirement m) → unmet_in verified.now arguments.now ≡ Some requirement }
+    ensures unmet { (requirement : ℕ) (m : Memory) → result ≡ Err (RunFault.BadArguments requirement m)
+        → unmet_in verified.now arguments.now ≡ Some requirement }
 {
     let (shared, seats) = Shared::<L>::new(alloc, verified, arguments, memory, workers, blank)?;
     let Ok(room) = Vec::with_capacity(alloc, seats.len()) else {

@@ -365,7 +365,8 @@ impl<L: Bench> Board<'_, L> {
     fn parent_ticket(&self, worker: u8, before: Option<usize>) -> Option<Ticket>
         ensures shown { IfSome result (λ ticket. IsReadyParent self.now.stage.run (state_of self.now) worker ticket.slot ticket.generation) }
         ensures below { IfSome result (λ ticket. IsOneBelow before (depth_in (state_of self.now) worker)) }
-        ensures none { IfNone result (IsOneBelow before (depth_in (state_of self.now) worker) → HasNoReadyParent (workers_of self.now.stage) (state_of self.now) worker) }
+        ensures none { IfNone result (IsOneBelow before (depth_in (state_of self.now) worker)
+            → HasNoReadyParent (workers_of self.now.stage) (state_of self.now) worker) }
     {
         let machine = self.machine();
         if machine.depth_of(worker)?.checked_sub(1)? != before? {

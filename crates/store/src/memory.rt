@@ -109,7 +109,8 @@ impl Memory {
 
     /// The number of the global of this name, and how many cells it has; none where there is no such global.
     pub fn place_of(&self, name: &str) -> Option<(usize, u64)>
-        ensures there { IfSome result (λ place. (number_of self.now name.now ≡ Some place.0) × (option_map size_of (slice_get self.now place.0) ≡ Some place.1)) }
+        ensures there { IfSome result (λ place. (number_of self.now name.now ≡ Some place.0)
+            × (option_map size_of (slice_get self.now place.0) ≡ Some place.1)) }
         ensures not_there { IfNone result ((index : ℕ) → cell_named self.now name.now index ≡ None) }
     {
         let found = self.find(name)?;
