@@ -2,6 +2,7 @@
 
 ghost use Rattle.std.specs.Prelude.{◌≡◌, ◌≢◌, ◌⊎◌, Some, length, sum};
 ghost use Rattle.outcome.specs.Requirements.{unmet_in};
+ghost use Rattle.refusal.specs.declared.refused.Refused.TheVariants.{Fault};
 ghost use Rattle.kernel_c.specs.Told.{HasOtherCells, IsOutcomeStatus, IsRunStatus, Lacks, Refuses, Runs, RunsProgram, Shows};
 ghost use Rattle.kernel_c.specs.Told.{bad_arguments, done, other_cells, out_of_memory, refused, sizes_in};
 
@@ -62,6 +63,21 @@ fn run_over(alloc: Global, kernel: &Verified, arguments: &[i64], cells: &mut [i6
     }
 }
 
+/// The outcome of a text that is refused.
+fn refusal(why: Refused) -> Outcome
+    ensures fault { result.status ≡ refused → why ≡ Fault result.rule result.line }
+    ensures statuses { (result.status ≡ refused) ⊎ (result.status ≡ out_of_memory) }
+{
+    match why {
+        Refused::Fault { number, line } => Outcome {
+            rule: number,
+            line,
+            ..plain_outcome(REFUSED)
+        },
+        Refused::Memory => plain_outcome(OUT_OF_MEMORY),
+    }
+}
+
 /// Verifies a text, and runs its module.
 fn run_text(
     alloc: Global,
@@ -79,12 +95,7 @@ fn run_text(
 {
     match verify_seeded(alloc, seed, text) {
         Ok(kernel) => run_over(alloc, &kernel, arguments, cells),
-        Err(Refused::Fault { number, line }) => Outcome {
-            rule: number,
-            line,
-            ..plain_outcome(REFUSED)
-        },
-        Err(Refused::Memory) => plain_outcome(OUT_OF_MEMORY),
+        Err(why) => refusal(why),
     }
 }
 
