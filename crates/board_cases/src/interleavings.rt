@@ -21,6 +21,7 @@ use std::rt::Files;
 use std::sync::ledger::Blank;
 
 /// A module with arguments of its `main`, and what its serial run comes to, in words.
+#[derive(Drop)]
 struct Subject<'s> {
     verified: &'s Verified,
     places: &'s Places,

@@ -127,13 +127,13 @@ impl<'v> Play<'v> {
     fn fetch<L: Bench>(&mut self, board: &Board<'_, L>, player: &mut Player<'_, L>) -> bool {
         let pause = player.pause();
         let is_blank = pause == Some(Pause::Blank);
-        let is_idle = is_idle(board, player.worker());
+        let idle = is_idle(board, player.worker());
         match player.fetch(board) {
             Fetched::Frame => {
                 self.note_loaded(player.worker());
-                is_blank && !is_idle
+                is_blank && !idle
             }
-            Fetched::Idle => is_blank && is_idle,
+            Fetched::Idle => is_blank && idle,
             Fetched::Cell => matches!(pause, Some(Pause::Need { .. })),
             Fetched::Stranger => !is_blank,
         }

@@ -162,7 +162,7 @@ fn found_by<L: Bench>(
     taken(alloc, verified, other, &mut board, player)
 }
 
-fn found(
+fn found_of(
     alloc: Global,
     verified: &Verified,
     first: &Begin<'_>,
@@ -200,12 +200,13 @@ fn answer_load<W: Write + Drop>(
     report: &mut Report<W>,
 ) -> anyhow::Result<()> {
     report.title("a strand of a load at another board")?;
+    let none: [i64; 0] = [];
     let first = Begin {
-        arguments: &[],
+        arguments: none.as_slice(),
         cell: 5,
     };
     let other = Begin {
-        arguments: &[],
+        arguments: none.as_slice(),
         cell: 6,
     };
     let wanted = Wanted {
@@ -213,7 +214,8 @@ fn answer_load<W: Write + Drop>(
         other: "stranger, 0 events",
         own: "done, idle, ended, 2 events, result 5",
     };
-    compare(&found(alloc, load, &first, &other)?, &wanted, report)
+    let found = found_of(alloc, load, &first, &other)?;
+    compare(&found, &wanted, report)
 }
 
 /// The first board began with 7, the other with 8.
@@ -223,12 +225,14 @@ fn answer_pair<W: Write + Drop>(
     report: &mut Report<W>,
 ) -> anyhow::Result<()> {
     report.title("a strand of a pair at another board")?;
+    let seven = [7];
+    let eight = [8];
     let first = Begin {
-        arguments: [7].as_slice(),
+        arguments: seven.as_slice(),
         cell: 0,
     };
     let other = Begin {
-        arguments: [8].as_slice(),
+        arguments: eight.as_slice(),
         cell: 0,
     };
     let wanted = Wanted {
@@ -236,7 +240,8 @@ fn answer_pair<W: Write + Drop>(
         other: "stranger, 0 events",
         own: "done, root ready, 2 events",
     };
-    compare(&found(alloc, pair, &first, &other)?, &wanted, report)
+    let found = found_of(alloc, pair, &first, &other)?;
+    compare(&found, &wanted, report)
 }
 
 /// Takes strands to other boards.

@@ -1,4 +1,4 @@
-use Rattle.board_cases.proofs.strangers.found.Given as goal
+use Rattle.board_cases.proofs.strangers.found_of.Given as goal
 
 abbrev pub ghosts-found_by-L-Ledger : goal.ghosts-found_by-L-Ledger
 ghosts-found_by-L-Ledger g a = record { name = a.blank.name; parts = a.blank.parts }
