@@ -100,10 +100,10 @@ fn ending_text(alloc: Global, end: Option<(Finished, u64)>) -> Result<String, Al
 }
 
 /// Plays a run at a board in a lock. The answer is how it ends.
-fn played_shared<L: Bench, W: Write + Drop>(
+fn played_shared<'a, L: Bench, W: Write + Drop>(
     alloc: Global,
-    verified: &Verified,
-    places: &Places,
+    verified: &'a Verified,
+    places: &'a Places,
     arguments: &[i64],
     run: &Run<'_>,
     memory: Memory,
@@ -134,10 +134,10 @@ fn played_shared<L: Bench, W: Write + Drop>(
 }
 
 /// Plays a run at a board. The answer is how it ends.
-fn played_alone<L: Bench, W: Write + Drop>(
+fn played_alone<'a, L: Bench, W: Write + Drop>(
     alloc: Global,
-    verified: &Verified,
-    places: &Places,
+    verified: &'a Verified,
+    places: &'a Places,
     arguments: &[i64],
     run: &Run<'_>,
     memory: Memory,
@@ -168,10 +168,10 @@ fn played_alone<L: Bench, W: Write + Drop>(
 }
 
 /// How a run at a board in a lock ends.
-fn shared_ending<W: Write + Drop>(
+fn shared_ending<'a, W: Write + Drop>(
     alloc: Global,
-    verified: &Verified,
-    places: &Places,
+    verified: &'a Verified,
+    places: &'a Places,
     arguments: &[i64],
     run: &Run<'_>,
     report: &mut Report<W>,
@@ -186,10 +186,10 @@ fn shared_ending<W: Write + Drop>(
 }
 
 /// How a run at a board ends.
-fn lone_ending<W: Write + Drop>(
+fn lone_ending<'a, W: Write + Drop>(
     alloc: Global,
-    verified: &Verified,
-    places: &Places,
+    verified: &'a Verified,
+    places: &'a Places,
     arguments: &[i64],
     run: &Run<'_>,
     report: &mut Report<W>,

@@ -139,10 +139,10 @@ fn taken<L: Bench>(
 }
 
 /// What is found of a strand of a board with this memory.
-fn found_by<L: Bench>(
+fn found_by<'a, L: Bench>(
     alloc: Global,
-    verified: &Verified,
-    places: &Places,
+    verified: &'a Verified,
+    places: &'a Places,
     arguments: &[i64],
     memory: Memory,
     blank: Blank,

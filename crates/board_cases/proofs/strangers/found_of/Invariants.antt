@@ -1,7 +1,7 @@
 use Rattle.board_cases.proofs.strangers.found_of.Given as goal
 
 abbrev pub ghosts-found_by-L-Ledger : goal.ghosts-found_by-L-Ledger
-ghosts-found_by-L-Ledger g a = record { name = a.blank.name; parts = a.blank.parts }
+ghosts-found_by-L-Ledger a = record { name = a.blank.name; parts = a.blank.parts }
 
 abbrev pub ghosts-found_by-L-Bench : goal.ghosts-found_by-L-Bench
-ghosts-found_by-L-Bench g a = record { code = a.verified.now; crew = 1 }
+ghosts-found_by-L-Bench a = record { code = a.verified.now; crew = 1 }
