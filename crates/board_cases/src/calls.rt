@@ -2,7 +2,7 @@
 //! answers the last; `go 0`, which clears, fetches, and advances with each cell that it needs; `claim 1 2`, by the second ticket that was got, and
 //! `claim 1 7:9`, by one with this slot and generation. `cell a 0`, `history` and `ended` are looks at the board.
 
-use crate::players::{Player, player_of};
+use crate::players::{Player, place_of};
 use crate::words;
 use shared_run::{Bench, Board, Committed, Fetched, Stepped, Ticket};
 use std::alloc::AllocError;
@@ -162,7 +162,8 @@ fn played<L: Bench>(
     text: &mut String,
 ) -> Result<(), AllocError> {
     let (worker, rest) = asked.split_once(" ").unwrap_or((asked, ""));
-    match player_of(players, worker.parse().unwrap_or(u8::MAX)) {
+    let place = place_of(players.len(), worker.parse().unwrap_or(u8::MAX));
+    match players.get_mut(place) {
         Some(player) => called(board, player, tickets, call, rest, text),
         None => text.push_str("no such worker"),
     }

@@ -124,12 +124,8 @@ pub fn seats_of<L: Bench>(
     Ok(seats)
 }
 
-/// The player of this worker.
-pub fn player_of<'t, 'p, L: Bench>(
-    players: &'t mut [Player<'p, L>],
-    worker: u8,
-) -> Option<&'t mut Player<'p, L>> {
-    let below = (worker as usize).checked_add(1)?;
-    let place = players.len().checked_sub(below)?;
-    players.get_mut(place)
+/// Where the player of this worker stands among so many; no player stands there where there is none.
+pub fn place_of(count: usize, worker: u8) -> usize {
+    let below = worker as usize + 1;
+    count.checked_sub(below).unwrap_or(usize::MAX)
 }

@@ -3,7 +3,7 @@
 
 use crate::draws::Draws;
 use crate::mirrors::{MOST_WORKERS, Mirror};
-use crate::players::{Player, player_of};
+use crate::players::{Player, place_of};
 use lists::OutOfMemory;
 use schedule_core::{Machine, Status};
 use shared_run::{Bench, Board, Claimed, Committed, Fetched, Pause, Stepped, Ticket};
@@ -192,7 +192,8 @@ impl<'v> Play<'v> {
         board: &mut Board<'_, L>,
         players: &mut [Player<'_, L>],
     ) -> Result<bool, OutOfMemory> {
-        let Some(player) = player_of(players, self.drawn_worker()) else {
+        let place = place_of(players.len(), self.drawn_worker());
+        let Some(player) = players.get_mut(place) else {
             return Ok(false);
         };
         let is_right = self.call(board, player);
@@ -232,7 +233,8 @@ impl<'v> Play<'v> {
         turn: u64,
     ) -> Result<bool, OutOfMemory> {
         let worker = turn.checked_rem(u64::from(self.workers)).unwrap_or(0) % 256;
-        let Some(player) = player_of(players, worker as u8) else {
+        let place = place_of(players.len(), worker as u8);
+        let Some(player) = players.get_mut(place) else {
             return Ok(false);
         };
         let is_right = self.go(board, player);

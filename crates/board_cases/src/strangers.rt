@@ -4,7 +4,7 @@ ghost use Rattle.shared_run.specs.crew.Starts.{ArePlaces};
 ghost use Rattle.shared_run.specs.schedule_core.Strands.{IsMadeOf};
 ghost use Rattle.shared_run.specs.store.Made.{IsMadeFor};
 
-use crate::players::{Player, player_of};
+use crate::players::Player;
 use crate::tables::lone_table;
 use crate::{verified_file, words};
 use anyhow::Context;
@@ -158,7 +158,7 @@ fn found_by<'a, L: Bench>(
 {
     let table = lone_table::<L>(alloc, verified, places, arguments, memory, 1, blank);
     let (mut board, mut players) = table?;
-    let player = player_of(players.as_mut_slice(), 0).context("no player")?;
+    let player = players.as_mut_slice().get_mut(0).context("no player")?;
     taken(alloc, verified, other, &mut board, player)
 }
 
