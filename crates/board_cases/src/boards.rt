@@ -127,10 +127,12 @@ fn played_shared<'a, L: Bench, W: Write + Drop>(
         run.workers,
         blank,
     );
-    let (mut shared, mut players) = table?;
+    let Some((mut shared, mut players)) = table else {
+        return Ok(String::from_str(alloc, "it does not begin")?);
+    };
     let board = shared.board.get_mut();
     play(alloc, board, players.as_mut_slice(), run.calls, report)?;
-    Ok(ending_text(alloc, shared_end(alloc, shared, players)?)?)
+    Ok(ending_text(alloc, shared_end(alloc, shared, players))?)
 }
 
 /// Plays a run at a board. The answer is how it ends.
@@ -162,9 +164,11 @@ fn played_alone<'a, L: Bench, W: Write + Drop>(
         run.workers,
         blank,
     );
-    let (mut board, mut players) = table?;
+    let Some((mut board, mut players)) = table else {
+        return Ok(String::from_str(alloc, "it does not begin")?);
+    };
     play(alloc, &mut board, players.as_mut_slice(), run.calls, report)?;
-    Ok(ending_text(alloc, lone_end(alloc, &start, board, players)?)?)
+    Ok(ending_text(alloc, lone_end(alloc, &start, board, players))?)
 }
 
 /// How a run at a board in a lock ends.

@@ -157,7 +157,7 @@ fn found_by<'a, L: Bench>(
     requires one_each { blank.parts ≡ 1 }
 {
     let table = lone_table::<L>(alloc, verified, places, arguments, memory, 1, blank);
-    let (mut board, mut players) = table?;
+    let (mut board, mut players) = table.context("a run that does not begin")?;
     let player = players.as_mut_slice().get_mut(0).context("no player")?;
     taken(alloc, verified, other, &mut board, player)
 }
