@@ -4,7 +4,7 @@ ghost use Rattle.std.specs.Prelude.{◌≡◌, ◌<◌, vec_len};
 ghost use Rattle.shared_run.specs.crew.Starts.{ArePlaces};
 ghost use Rattle.shared_run.specs.store.Made.{IsMadeFor};
 
-use crate::mirrors::{MOST_WORKERS, events_of, is_same};
+use crate::mirrors::{events_of, is_same};
 use crate::players::Player;
 use crate::plays::Play;
 use crate::tables::{shared_end, shared_table};
@@ -144,8 +144,8 @@ fn is_right_run<L: Bench>(
 /// Whether the run of a seed, on 1 to 4 workers, is as it is to be.
 fn is_right(alloc: Global, subject: &Subject<'_>, seed: u64) -> anyhow::Result<bool> {
     let memory = Memory::zeroed(alloc, subject.verified)?;
-    let workers = 1 + (seed % MOST_WORKERS as u64) as u8;
-    let blank = Blank::new(u64::from(workers));
+    let workers = 1 + (seed % 4) as u8;
+    let blank = Blank::new(workers as u64);
     is_right_run::<Brand>(alloc, subject, memory, workers, seed, blank)
 }
 
