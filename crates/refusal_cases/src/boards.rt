@@ -2,7 +2,7 @@
 ghost use Rattle.std.specs.Prelude.{◌≡◌, IfOk};
 ghost use Rattle.shared_run.specs.store.Made.{IsMadeFor};
 
-use crate::calls::{Answer, Call, WORKERS, tried};
+use crate::calls::{Answer, Call, tried};
 use crate::players::{Player, places_again, players_of};
 use crate::tally::Tally;
 use anyhow::{Context, bail};
@@ -64,11 +64,11 @@ fn drawn_call(state: &mut u64) -> (usize, Call) {
 fn play_call<L: Bench>(
     board: &mut Board<'_, L>,
     players: &mut [Player<'_, L>],
-    meant: (usize, Call),
+    asked: (usize, Call),
     ticket: &mut Option<Ticket>,
     tally: &mut Tally,
 ) -> Option<Answer> {
-    let (worker, call) = meant;
+    let (worker, call) = asked;
     let place = players.len().checked_sub(1)?.checked_sub(worker)?;
     let player = players.get_mut(place)?;
     let answer = tried(board, player, call, *ticket, tally);
@@ -110,8 +110,8 @@ fn play_drawn<L: Bench>(
         if board.end() || last == 'X' || last == 'M' {
             return last;
         }
-        let meant = drawn_call(&mut state);
-        if let Some(answer) = play_call(board, players, meant, &mut ticket, tally) {
+        let asked = drawn_call(&mut state);
+        if let Some(answer) = play_call(board, players, asked, &mut ticket, tally) {
             last = answer.letter;
         }
     }
@@ -175,21 +175,13 @@ fn played_by<L: Bench>(
 ) -> anyhow::Result<Option<String>>
     requires made { IsMadeFor verified.now memory }
     requires code { verified.now ≡ L.code }
-    requires crew { L.crew ≡ 2 }
+    requires crew { 2 ≡ L.crew }
     requires name { blank.name ≡ L.name }
     requires parts { blank.parts ≡ L.parts }
     requires one_each { blank.parts ≡ 2 }
 {
     let arguments = [argument];
-    let workers = WORKERS as usize;
-    match Board::<L>::new(
-        alloc,
-        verified,
-        arguments.as_slice(),
-        memory,
-        workers,
-        blank,
-    ) {
+    match Board::<L>::new(alloc, verified, arguments.as_slice(), memory, 2, blank) {
         Ok((mut board, seats)) => {
             let told = played_at(alloc, verified, &mut board, seats, calls, tally)?;
             Ok(Some(told))

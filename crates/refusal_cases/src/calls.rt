@@ -6,7 +6,7 @@ use crate::tally::Tally;
 use shared_run::{Bench, Board, Claimed, Committed, Stepped, Ticket};
 
 /// How many workers a board has.
-pub const WORKERS: u8 = 2;
+const WORKERS: u8 = 2;
 
 /// What a worker calls.
 #[derive(Clone, Copy, PartialEq, Eq)]
