@@ -118,14 +118,15 @@ fn play_drawn<L: Bench>(
     last
 }
 
-fn play<L: Bench>(
+/// The letters of the calls, or the last one of drawn calls.
+fn letters_of<L: Bench>(
     alloc: Global,
     board: &mut Board<'_, L>,
     players: &mut [Player<'_, L>],
-    play: Play<'_>,
+    calls: Play<'_>,
     tally: &mut Tally,
 ) -> Result<String, AllocError> {
-    match play {
+    match calls {
         Play::Script(script) => play_script(alloc, board, players, script, tally),
         Play::Drawn(seed) => {
             let last = play_drawn(board, players, seed, tally);
@@ -159,7 +160,7 @@ fn played_at<L: Bench>(
 {
     let places = places_again(alloc, verified, tally)?;
     let mut players = players_of(alloc, seats, verified, &places, tally)?;
-    let letters = play(alloc, board, players.as_mut_slice(), calls, tally)?;
+    let letters = letters_of(alloc, board, players.as_mut_slice(), calls, tally)?;
     Ok(told(alloc, board, letters.as_str())?)
 }
 
