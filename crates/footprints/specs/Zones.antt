@@ -1,10 +1,11 @@
 -- Zones at a place, and what facts show of them.
-use Rattle.std.specs.Prelude.{◌==◌, pos, negsuc, ◌-ℤ◌, Bool, true, false, not, ◌&&◌, ◌||◌, List, [], ◌++◌}
+use Rattle.std.specs.Prelude.{◌≡◌, ◌==◌, ℤ, pos, negsuc, ◌-ℤ◌, ◌≤ℤ◌, Bool, true, false, not, ◌&&◌, ◌||◌, List, [], ◌++◌}
 use Rattle.std.specs.List.{list_any}
 use Rattle.syntax.specs.declared.operator.Mode.{Mode}
 use Rattle.syntax.specs.declared.operator.Mode.TheVariants.{Reads, Writes, Adds}
 use Rattle.linear.specs.declared.form.Fact.{Fact}
-use Rattle.linear.specs.Forms.{Combination}
+use Rattle.linear.specs.Forms.{Combination, constant_form}
+use Rattle.linear.specs.Tested.{is_shown}
 use Rattle.program.specs.declared.annotation.Zone.{Zone}
 use Rattle.program.specs.declared.identifier.ObjectName.{ObjectName}
 use Rattle.program.specs.declared.identifier.ObjectName.TheVariants.{Global, Alloca, Parameter}
@@ -98,3 +99,7 @@ conflict facts z y = not (modes_agree z.zone.mode y.zone.mode || is_apart facts 
 -- one of the zones covers it, or it is empty
 unfoldable pub is_covered : List Fact → List Zone → Span → Bool
 is_covered facts zones y = is_empty facts y || list_any (λ z. covers facts (as_written z) y) zones
+
+-- no number below 0 is shown
+abbrev pub ShowsNoNegative : List Fact → Type 0
+ShowsNoNegative facts = (n : ℤ) → n ≤ℤ negsuc 0 → is_shown facts (constant_form n) ≡ false

@@ -1,5 +1,7 @@
-ghost use Rattle.std.specs.Prelude.{◌≡◌, ◌<◌, IfOk};
-ghost use Rattle.footprints.specs.Zones.{span, same_object, mode_covers, modes_agree, between, shows_order, is_empty, covers, is_apart, conflict, is_covered};
+ghost use Rattle.std.specs.Prelude.{◌≡◌, ◌<◌, IfOk, IsTrue, List, true, false};
+ghost use Rattle.linear.specs.declared.form.Fact.{Fact};
+ghost use Rattle.ranges.specs.cfg.declared.structure.Move.{Move as MoveKind};
+ghost use Rattle.footprints.specs.Zones.{span, same_object, mode_covers, modes_agree, between, shows_order, is_empty, covers, is_apart, conflict, is_covered, ShowsNoNegative};
 
 use linear::{Form, Known, side_of};
 use lists::{OutOfMemory, Seq};
@@ -74,6 +76,38 @@ fn between(
     })
 }
 
+/// Whether two ends are numbers, of which the first is no less than the second.
+fn is_no_less(high: &Form, low: &Form) -> bool
+    ensures { IsTrue result → (facts : List Fact) (for_high for_low : List MoveKind) → shows_order facts for_high high.now for_low low.now ≡ true }
+{
+    let high = side_of(high);
+    let low = side_of(low);
+    if !high.terms.is_empty() {
+        return false;
+    }
+    if !low.terms.is_empty() {
+        return false;
+    }
+    let difference = high.constant - low.constant;
+    0 <= difference && difference <= 1_267_650_600_228_229_401_496_703_205_375
+}
+
+/// Whether two ends are numbers, of which the first is less than the second.
+fn is_less(high: &Form, low: &Form) -> bool
+    ensures { IsTrue result → (facts : List Fact) (for_high for_low : List MoveKind) → ShowsNoNegative facts
+        → shows_order facts for_high high.now for_low low.now ≡ false }
+{
+    let high = side_of(high);
+    let low = side_of(low);
+    if !high.terms.is_empty() {
+        return false;
+    }
+    if !low.terms.is_empty() {
+        return false;
+    }
+    high.constant - low.constant < 0
+}
+
 /// Whether high >= low is shown.
 #[tactic(auto, unfolding(crate::specs::Zones::shows_order))]
 fn shows_order(
@@ -86,6 +120,9 @@ fn shows_order(
 ) -> Result<bool, OutOfMemory>
     ensures { IfOk result (λ b. b ≡ shows_order facts.now for_high.now high.now for_low.now low.now) }
 {
+    if is_no_less(high, low) {
+        return Ok(true);
+    }
     let sum = between(alloc, for_high, high, for_low, low)?;
     shows_at(alloc, facts, &sum)
 }
@@ -133,6 +170,9 @@ pub fn is_apart(
     if !same_object(z.object, y.object) {
         return Ok(true);
     }
+    if is_no_less(&y.zone.low, &z.zone.high) {
+        return Ok(true);
+    }
     if shows_order(alloc, facts, z.moves, &z.zone.low, y.moves, &y.zone.high)? {
         return Ok(true);
     }
@@ -161,6 +201,21 @@ pub fn conflict(
     Ok(!is_apart(alloc, facts, z, y)?)
 }
 
+/// Whether numbers say that `z` does not have each cell of `y`.
+#[tactic(auto, unfolding(crate::specs::Zones::covers))]
+fn is_outside(z: &PlacedZone<'_>, y: &PlacedZone<'_>) -> bool
+    ensures { IsTrue result → (facts : List Fact) → ShowsNoNegative facts
+        → covers facts (span z.now.object z.now.moves.now z.now.zone.now) (span y.now.object y.now.moves.now y.now.zone.now) ≡ false }
+{
+    if is_less(&y.zone.low, &z.zone.low) {
+        return true;
+    }
+    is_less(&z.zone.high, &y.zone.high)
+}
+
+/// So many zones are tried in turn without a look at their numbers.
+const FEW: usize = 4;
+
 /// Whether one of the zones covers `y`, or `y` is shown to be empty.
 #[tactic(auto, unfolding(crate::specs::Zones::is_covered))]
 pub fn is_covered(
@@ -171,18 +226,19 @@ pub fn is_covered(
 ) -> Result<bool, OutOfMemory>
     ensures { IfOk result (λ b. b ≡ is_covered facts.now zones.now (span y.now.object y.now.moves.now y.now.zone.now)) }
 {
-    if is_empty(alloc, facts, y)? {
-        return Ok(true);
-    }
+    let may_skip = zones.len() > FEW && !facts.shows_negative(alloc);
     for zone in zones {
         let z = PlacedZone {
             object: zone.object,
             moves: &[],
             zone,
         };
+        if may_skip && is_outside(&z, y) {
+            continue;
+        }
         if covers(alloc, facts, &z, y)? {
             return Ok(true);
         }
     }
-    Ok(false)
+    is_empty(alloc, facts, y)
 }

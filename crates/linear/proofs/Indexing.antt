@@ -1,8 +1,7 @@
 -- What stands for the facts in an index, and what it makes up.
-use Rattle.std.proofs.Common.{◌≡◌, ◌∙◌, ℕ, zero, suc, ◌<◌, ◌≤◌, ◌+◌, ◌*◌, ◌^◌, ℤ, pos, ◌+ℤ◌, ◌*ℤ◌, ◌-ℤ◌, ◌≤ℤ◌, true, List, [], ◌∷◌, ◌++◌, length, get_or, insert, set, map, take, drop, Option, None, Some, inl, inr, sym, ap, refl, subst, arith}
+use Rattle.std.proofs.Common.{◌≡◌, ◌∙◌, ℕ, zero, suc, ◌<◌, ◌≤◌, ◌+◌, ◌*◌, ◌^◌, ℤ, pos, ◌+ℤ◌, ◌*ℤ◌, ◌-ℤ◌, ◌≤ℤ◌, List, [], ◌∷◌, ◌++◌, length, get_or, insert, set, map, take, drop, None, inl, inr, sym, ap, refl, subst, arith}
 use Rattle.std.specs.List.{All, Contains}
 use Rattle.std.specs.List.Sorted.{IsNonDecreasingBy}
-use Rattle.std.specs.Option.{IfSome}
 use Rattle.std.proofs.Math.ListN.{get_or-append}
 use Rattle.std.proofs.lemmas.Int.{ints}
 use Rattle.std.proofs.lemmas.Bool.{cases_eq, cases_lt}
@@ -10,16 +9,16 @@ use Rattle.std.proofs.lemmas.List.{length-map, length-append, map-append, take-a
 use Rattle.std.proofs.lemmas.List.Edits.{length-insert, get_or-insert_at}
 use Rattle.std.proofs.lemmas.List.Elements.{All-contains, All-cons, Contains-get_or, Contains-append_right}
 use Rattle.std.proofs.lemmas.List.Sorted.{IsNonDecreasingBy-insert, IsNonDecreasingBy-short, IsPermutation-insert, All-permutation, Contains-permutation}
-use Rattle.linear.specs.declared.form.RegisterId.{RegisterId}
 use Rattle.linear.specs.declared.form.Fact.{Fact}
 use Rattle.linear.specs.declared.index.Entry.{Entry}
 use Rattle.linear.specs.Forms.{Combination, coefficient_of, constant_form, IsRising}
 use Rattle.linear.specs.Shown.{IsSum, IsShown, sides}
-use Rattle.linear.specs.Search.{factors, has_some, IsLeft, IsFound}
+use Rattle.linear.specs.Search.{factors, IsFound}
 use Rattle.linear.specs.Index.{weight, weigh, IsKeyOf, place_at, IsEntry, IsAsStrong, IsIndexed, IsIndex, IsBegun, IsMadeUp, IsMadeUpByA}
 use Rattle.linear.proofs.Values.{distributes, keeps_sign, value_combines}
-use Rattle.linear.proofs.Newest.{in_newest, in_sides}
-use Rattle.linear.proofs.Found.{is_factor, found_shown, shown_found}
+use Rattle.linear.proofs.Newest.{in_sides}
+use Rattle.linear.proofs.Left.{swapped}
+use Rattle.linear.proofs.Found.{is_factor, shown_found}
 
 -- ---- strength
 
@@ -54,10 +53,6 @@ stronger_second e a f b g g' p s = record {
   terms = λ r. s.terms r ∙ ap (λ z. (pos a *ℤ coefficient_of f.terms r) +ℤ (pos b *ℤ z)) (sym (p.terms r));
   constant = less_after (pos b *ℤ g'.constant) (pos b *ℤ g.constant) (pos a *ℤ f.constant) e.constant (keeps_order b g'.constant g.constant p.constant) s.constant;
 }
-
-same_some : (f g : Combination) (lead : Option RegisterId) → IsAsStrong f g → has_some g.terms lead ≡ true → has_some f.terms lead ≡ true
-same_some f g None p h = h
-same_some f g (Some r) p h = rw (p.terms r.0) h
 
 -- ---- keys
 
@@ -214,18 +209,34 @@ alone_shown facts e b rising in_b (g, in_g, sum) = record {
   sum = sum;
 }
 
-pub shown_by_index : (facts : List Fact) (es : List Entry) → IsIndex facts (suc (length facts)) es → (e : Combination) (lead : Option RegisterId) → IsRising e.terms → IsMadeUpByA facts e lead es → IsShown facts e
-shown_by_index facts es index e lead rising (a, in_a, (b, in_b, (entry, c, (leads, (g, in_g, sum))))) =
-    let own = All-contains (IsEntry facts) es entry index.own c in
-    found_shown facts e lead rising (place_at facts entry.place, in_newest facts (place_at facts entry.place) (side_of_entry facts entry own), (leads, (a, in_a, (g, in_newest facts g in_g, (b, in_b, sum)))))
+pub shown_by_index : (facts : List Fact) (es : List Entry) → IsIndex facts (suc (length facts)) es → (e : Combination) → IsRising e.terms → IsMadeUpByA facts e es → IsShown facts e
+shown_by_index facts es index e rising (a, in_a, (b, in_b, (le, (entry, c, (g, in_g, sum))))) = record {
+  f = place_at facts entry.place;
+  g = g;
+  a = a;
+  b = b;
+  f_is = side_of_entry facts entry (All-contains (IsEntry facts) es entry index.own c);
+  g_is = in_g;
+  a_is = is_factor e a rising in_a;
+  b_is = is_factor e b rising in_b;
+  sum = sum;
+}
 
-by_index : (facts : List Fact) (es : List Entry) → IsIndex facts (suc (length facts)) es → (e : Combination) (lead : Option RegisterId) → IsFound facts e lead → IsMadeUpByA facts e lead es
-by_index facts es index e lead (f, in_f, (leads, (a, in_a, (g, in_g, (b, in_b, sum))))) =
-    let k = kept_side facts es index f (in_sides facts f in_f) in
-    (a, in_a, (b, in_b, (k.0, k.1, (same_some (place_at facts k.0.place) f lead k.2 leads, (g, in_sides facts g in_g, stronger_first e a f (place_at facts k.0.place) b g k.2 sum)))))
+-- the greater factor first
+greater_first : (facts : List Fact) (es : List Entry) → IsIndex facts (suc (length facts)) es → (e f g : Combination) (a b : ℕ) → b ≤ a → Contains (factors e.terms) a → Contains (factors e.terms) b →
+    Contains (sides facts) f → Contains (sides facts) g → IsSum e a f b g → IsMadeUpByA facts e es
+greater_first facts es index e f g a b le in_a in_b in_f in_g sum =
+    let k = kept_side facts es index f in_f in
+    (a, in_a, (b, in_b, (le, (k.0, k.1, (g, in_g, stronger_first e a f (place_at facts k.0.place) b g k.2 sum)))))
 
-pub index_shows : (facts : List Fact) (es : List Entry) → IsIndex facts (suc (length facts)) es → (e : Combination) (lead : Option RegisterId) → IfSome lead (IsLeft e.terms 1 []) → IsRising e.terms → IsShown facts e → IsMadeUpByA facts e lead es
-index_shows facts es index e lead leads rising s = by_index facts es index e lead (shown_found facts e lead leads rising s)
+by_index : (facts : List Fact) (es : List Entry) → IsIndex facts (suc (length facts)) es → (e : Combination) → IsFound facts e None → IsMadeUpByA facts e es
+by_index facts es index e (f, in_f, (leads, (a, in_a, (g, in_g, (b, in_b, sum))))) = elim (cases_lt a b) [
+  | inl less ↦ greater_first facts es index e g f b a (omega (arith, less)) in_b in_a (in_sides facts g in_g) (in_sides facts f in_f) (swapped e a f b g sum)
+  | inr more ↦ greater_first facts es index e f g a b more in_a in_b (in_sides facts f in_f) (in_sides facts g in_g) sum
+]
+
+pub index_shows : (facts : List Fact) (es : List Entry) → IsIndex facts (suc (length facts)) es → (e : Combination) → IsRising e.terms → IsShown facts e → IsMadeUpByA facts e es
+index_shows facts es index e rising s = by_index facts es index e (shown_found facts e None tt rising s)
 
 -- ---- some of the facts
 

@@ -13,3 +13,5 @@ pub mod Newest
 pub mod Left
 pub mod Indexing
 pub mod Looking
+pub mod Passing
+pub mod Numbers

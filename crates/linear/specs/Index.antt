@@ -1,12 +1,11 @@
 -- Facts by the values of their terms: of those with the same coefficients the strongest alone is kept.
-use Rattle.std.specs.Prelude.{◌≡◌, ℕ, suc, ◌<◌, ◌≤◌, ◌+◌, ◌*◌, ◌%◌, ◌^◌, ℤ, pos, ◌+ℤ◌, ◌≤ℤ◌, true, List, length, All, Contains, Option, slice_index_or}
+use Rattle.std.specs.Prelude.{◌≡◌, ℕ, suc, ◌<◌, ◌≤◌, ◌+◌, ◌*◌, ◌%◌, ◌^◌, ℤ, pos, ◌+ℤ◌, ◌≤ℤ◌, List, length, All, Contains, slice_index_or}
 use Rattle.std.specs.List.Sorted.{IsNonDecreasingBy}
-use Rattle.linear.specs.declared.form.RegisterId.{RegisterId}
 use Rattle.linear.specs.declared.form.Term.{Term}
 use Rattle.linear.specs.declared.form.Fact.{Fact}
 use Rattle.linear.specs.declared.index.Entry.{Entry}
 use Rattle.linear.specs.Forms.{Combination, coefficient_of, constant_form, value_of}
-use Rattle.linear.specs.Search.{factors, has_some}
+use Rattle.linear.specs.Search.{factors}
 use Rattle.linear.specs.Shown.{IsSum, sides}
 
 abbrev pub spread : ℕ → ℕ
@@ -49,23 +48,19 @@ pub record IsBegun (facts : List Fact) (count : ℕ) (entries : List Entry) : Ty
   pub within : count ≤ suc (length facts)
   pub index : IsIndex facts count entries
 
--- ---- the search: some first factor, some second factor, some first fact that has some of a register, some second fact
+-- ---- the search: some first factor, some second factor that is no more, some first fact, some second fact
 
 abbrev pub IsMadeUp : List Fact → Combination → Combination → ℕ → ℕ → Type 0
 IsMadeUp facts e f a b = (g : Combination) × Contains (sides facts) g × IsSum e a f b g
 
-abbrev pub IsMadeUpFirst : List Fact → Combination → Option RegisterId → ℕ → ℕ → Entry → Type 0
-IsMadeUpFirst facts e lead a b first =
-    (has_some (place_at facts first.place).terms lead ≡ true) × IsMadeUp facts e (place_at facts first.place) a b
+abbrev pub IsMadeUpWith : List Fact → Combination → List Entry → ℕ → ℕ → Type 0
+IsMadeUpWith facts e entries a b = (first : Entry) × Contains entries first × IsMadeUp facts e (place_at facts first.place) a b
 
-abbrev pub IsMadeUpWith : List Fact → Combination → Option RegisterId → List Entry → ℕ → ℕ → Type 0
-IsMadeUpWith facts e lead entries a b = (first : Entry) × Contains entries first × IsMadeUpFirst facts e lead a b first
+abbrev pub IsMadeUpByB : List Fact → Combination → List Entry → ℕ → Type 0
+IsMadeUpByB facts e entries a = (b : ℕ) × Contains (factors e.terms) b × (b ≤ a) × IsMadeUpWith facts e entries a b
 
-abbrev pub IsMadeUpByB : List Fact → Combination → Option RegisterId → List Entry → ℕ → Type 0
-IsMadeUpByB facts e lead entries a = (b : ℕ) × Contains (factors e.terms) b × IsMadeUpWith facts e lead entries a b
-
-abbrev pub IsMadeUpByA : List Fact → Combination → Option RegisterId → List Entry → Type 0
-IsMadeUpByA facts e lead entries = (a : ℕ) × Contains (factors e.terms) a × IsMadeUpByB facts e lead entries a
+abbrev pub IsMadeUpByA : List Fact → Combination → List Entry → Type 0
+IsMadeUpByA facts e entries = (a : ℕ) × Contains (factors e.terms) a × IsMadeUpByB facts e entries a
 
 -- from a place on the keys are too great for what a form of this key lacks beside a times a first key
 abbrev pub ArePast : List Entry → ℕ → ℕ → ℕ → ℕ → ℕ → Type 0

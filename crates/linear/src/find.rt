@@ -7,10 +7,13 @@ ghost use Rattle.linear.specs.Tested.{is_shown};
 use crate::form::{Fact, Form};
 use crate::index::{Entry, index_of};
 use crate::lookup::{Search, made_up, made_up_alone};
-use crate::show::{left_over, shown};
+use crate::show::shown;
 use crate::side::side_of;
 use crate::weight::key_of;
 use std::alloc::{AllocError, Global};
+
+/// Past so many facts the newest are tried first.
+const MANY: usize = 65_536;
 
 /// The newest facts, among which most forms find what shows them.
 fn newest(facts: &[Fact]) -> &[Fact]
@@ -51,11 +54,10 @@ fn shown_by_two(search: &Search<'_>) -> bool
     requires key { IsKeyOf search.now.form.now.terms search.now.key }
     ensures { result ≡ is_shown search.now.facts.now search.now.form.now }
 {
-    let lead = left_over(side_of(search.form).terms, 1, &[]);
-    made_up(search, lead)
+    made_up(search)
 }
 
-/// Whether the facts show the form, by their index. Most forms are shown by one fact, or by two of the newest.
+/// Whether the facts show the form, by their index. Most forms are shown by one fact, or by two of the newest, which are tried before very many.
 fn shown_by_search(search: &Search<'_>) -> bool
     requires index { IsIndex search.now.facts.now (suc (length search.now.facts.now)) search.now.entries.now }
     requires key { IsKeyOf search.now.form.now.terms search.now.key }
@@ -64,7 +66,7 @@ fn shown_by_search(search: &Search<'_>) -> bool
     if shown_by_one(search) {
         return true;
     }
-    if shown_by_newest(search) {
+    if search.facts.len() > MANY && shown_by_newest(search) {
         return true;
     }
     shown_by_two(search)

@@ -1,12 +1,14 @@
 //! What is known at a place, with an index of it where it is much.
 
-ghost use Rattle.std.specs.Prelude.{◌≡◌};
+ghost use Rattle.std.specs.Prelude.{◌≡◌, ℤ, negsuc, ◌≤ℤ◌, false};
+ghost use Rattle.linear.specs.Forms.{constant_form};
 ghost use Rattle.linear.specs.Tested.{is_shown};
 
 use crate::find::shown_by_index;
 use crate::form::{Fact, Form};
 use crate::index::Entry;
 use crate::show::shown;
+use std::alloc::Global;
 use std::marker::Model;
 
 /// Facts, lent with an index of them all, if there is one. Contracts see the facts.
@@ -57,5 +59,12 @@ impl<'a> Known<'a> {
         } else {
             shown(self.facts, form)
         }
+    }
+
+    /// Whether a number below 0 is shown, as by facts that contradict each other.
+    pub fn shows_negative(&self, alloc: Global) -> bool
+        ensures { result ≡ false → (n : ℤ) → n ≤ℤ negsuc 0 → is_shown self.now (constant_form n) ≡ false }
+    {
+        self.shows(&Form::from_constant(alloc, -1))
     }
 }

@@ -1,18 +1,22 @@
 //! The search for what shows a form, by an index: two factors, and then both facts along the index, the first one up and the second one down.
+//! The first fact takes the greater factor, so that few keys come into question for it.
 
 ghost use Rattle.std.specs.Prelude.{◌≡◌, ◌<◌, ◌≤◌, ◌+◌, ◌-◌, ◌*◌, ◌^◌, ◌↔◌, ℕ, suc, All, Contains, IsTrue, IfSome, IfNone, length};
 ghost use Rattle.std.specs.Prelude.{slice_index, slice_index_or};
 ghost use Rattle.std.specs.List.Sorted.{IsNonDecreasingBy};
 ghost use Rattle.linear.specs.Forms.{AreSmall};
 ghost use Rattle.linear.specs.Search.{factors};
-ghost use Rattle.linear.specs.Index.{place_at, IsKeyOf, IsEntry, IsIndex, ArePast, IsMadeUp, IsMadeUpFirst, IsMadeUpWith, IsMadeUpByB, IsMadeUpByA};
+ghost use Rattle.linear.specs.Index.{place_at, IsKeyOf, IsEntry, IsIndex, ArePast, IsMadeUp, IsMadeUpWith, IsMadeUpByB};
 ghost use Rattle.linear.specs.Shown.{IsSum, IsShown};
 ghost use Rattle.linear.specs.declared.index.Entry.{Entry};
 
-use crate::form::{Fact, Form, RegisterId, Term};
+use crate::form::{Fact, Form, Term};
 use crate::index::{Entry, side_of_place};
-use crate::show::{agree, factor, has_some, is_at_most};
+use crate::show::{agree, factor, is_at_most};
 use crate::side::side_of;
+
+/// So many entries are tried one by one before those that are left are halved.
+const NEAR: usize = 4;
 
 /// A form with its key, and the facts with their index.
 #[derive(Clone, Copy)]
@@ -43,15 +47,41 @@ fn times(b: u32, key: u64) -> u128
     u128::from(b) * u128::from(key)
 }
 
-/// How many of the first entries are left where those at the end are not counted of which b times the key is past this.
+/// How many of the first entries are left where those at the end are not counted of which b times the key is past this, by halving.
+fn halved(entries: &[Entry], upto: usize, b: u32, wanted: u128) -> usize
+    requires sorted { IsNonDecreasingBy (λ (e : Entry). e.key) entries.now }
+    requires upto { upto ≤ length entries.now }
+    ensures within { result ≤ upto }
+    ensures past { (k : ℕ) (d : Entry) → result ≤ k → k < upto → wanted < b * (slice_index_or entries.now k d).key }
+    ensures last { (d : Entry) → 0 < result → b * (slice_index_or entries.now (result - 1) d).key ≤ wanted }
+{
+    let mut low = 0;
+    let mut high = upto;
+    while low < high {
+        let middle = low + (high - low) / 2;
+        let here = times(b, entries[middle].key);
+        if here <= wanted {
+            low = middle + 1;
+        } else {
+            high = middle;
+        }
+    }
+    low
+}
+
+/// The same, where most often few entries fall.
 fn fallen(entries: &[Entry], upto: usize, b: u32, wanted: u128) -> usize
-    requires { upto ≤ length entries.now }
+    requires sorted { IsNonDecreasingBy (λ (e : Entry). e.key) entries.now }
+    requires upto { upto ≤ length entries.now }
     ensures within { result ≤ upto }
     ensures past { (k : ℕ) (d : Entry) → result ≤ k → k < upto → wanted < b * (slice_index_or entries.now k d).key }
     ensures last { (d : Entry) → 0 < result → b * (slice_index_or entries.now (result - 1) d).key ≤ wanted }
 {
     let mut count = upto;
     while count > 0 {
+        if upto - count >= NEAR {
+            return halved(entries, count, b, wanted);
+        }
         let at_end = times(b, entries[count - 1].key);
         if at_end <= wanted {
             return count;
@@ -112,17 +142,8 @@ fn some_makes_up(search: &Search<'_>, run: &[Entry], first: usize, a: u32, b: u3
     false
 }
 
-/// Whether b times some fact makes the form up with the first one, which has some of the register that leads. The entries past the first ones have
-/// keys that are too great.
-fn is_made_up(
-    search: &Search<'_>,
-    lead: Option<RegisterId>,
-    first: Entry,
-    a: u32,
-    b: u32,
-    wanted: u128,
-    upto: usize,
-) -> bool
+/// Whether b times some fact makes the form up with the first one. The entries past the first ones have keys that are too great.
+fn is_made_up(search: &Search<'_>, first: Entry, a: u32, b: u32, wanted: u128, upto: usize) -> bool
     requires index { IsIndex search.now.facts.now (suc (length search.now.facts.now)) search.now.entries.now }
     requires key { IsKeyOf search.now.form.now.terms search.now.key }
     requires first { IsEntry search.now.facts.now first }
@@ -132,22 +153,14 @@ fn is_made_up(
     requires upto { upto ≤ length search.now.entries.now }
     requires last { (d : Entry) → 0 < upto → b * (slice_index_or search.now.entries.now (upto - 1) d).key ≤ wanted }
     requires past { (k : ℕ) (d : Entry) → upto ≤ k → k < length search.now.entries.now → wanted < b * (slice_index_or search.now.entries.now k d).key }
-    ensures { IsTrue result ↔ IsMadeUpFirst search.now.facts.now search.now.form.now lead a b first }
+    ensures { IsTrue result ↔ IsMadeUp search.now.facts.now search.now.form.now (place_at search.now.facts.now first.place) a b }
 {
     let run = run_before(search.entries, upto, b, wanted);
     some_makes_up(search, run, first.place, a, b)
-        && has_some(side_of_place(search.facts, first.place).terms, lead)
 }
 
 /// Whether the first fact is one with which b times another makes the form up, and how many entries may do so with facts of greater keys.
-fn tried(
-    search: &Search<'_>,
-    lead: Option<RegisterId>,
-    first: Entry,
-    a: u32,
-    b: u32,
-    upto: usize,
-) -> (bool, usize)
+fn tried(search: &Search<'_>, first: Entry, a: u32, b: u32, upto: usize) -> (bool, usize)
     requires index { IsIndex search.now.facts.now (suc (length search.now.facts.now)) search.now.entries.now }
     requires key { IsKeyOf search.now.form.now.terms search.now.key }
     requires first { IsEntry search.now.facts.now first }
@@ -155,31 +168,59 @@ fn tried(
     requires b { b ≤ 2 ^ 24 }
     requires upto { upto ≤ length search.now.entries.now }
     requires past { ArePast search.now.entries.now search.now.key a b first.key upto }
-    ensures made { IsTrue result.0 ↔ IsMadeUpFirst search.now.facts.now search.now.form.now lead a b first }
+    ensures made { IsTrue result.0 ↔ IsMadeUp search.now.facts.now search.now.form.now (place_at search.now.facts.now first.place) a b }
     ensures within { result.1 ≤ upto }
     ensures past { ArePast search.now.entries.now search.now.key a b first.key result.1 }
 {
     match wanted(search.key, a, first.key, b) {
         Some(wanted) => {
             let count = fallen(search.entries, upto, b, wanted);
-            (is_made_up(search, lead, first, a, b, wanted, count), count)
+            (is_made_up(search, first, a, b, wanted, count), count)
         }
-        None => (false, upto),
+        None => (false, 0),
     }
 }
 
-/// Whether a times a fact that has some of the register that leads, and b times another one, make the form up. As the key of the first one
-/// rises, that of the second one falls.
-fn made_up_with(search: &Search<'_>, lead: Option<RegisterId>, a: u32, b: u32) -> bool
+/// How many of the first entries have keys that are too small, whatever stands beside them.
+fn skipped(search: &Search<'_>, a: u32, b: u32) -> usize
+    requires sorted { IsNonDecreasingBy (λ (e : Entry). e.key) search.now.entries.now }
+    ensures within { result ≤ length search.now.entries.now }
+    ensures small { (k m : ℕ) (d : Entry) → k < result → m < length search.now.entries.now
+        → b * (slice_index_or search.now.entries.now m d).key + a * (slice_index_or search.now.entries.now k d).key + 2 ^ 61
+        < (a + b) * 2 ^ 61 + search.now.key }
+{
+    let count = search.entries.len();
+    if count == 0 {
+        return 0;
+    }
+    match wanted(search.key, b, search.entries[count - 1].key, a) {
+        Some(least) => {
+            if least == 0 {
+                0
+            } else {
+                halved(search.entries, count, a, least - 1)
+            }
+        }
+        None => 0,
+    }
+}
+
+/// Whether a times a fact and b times another one make the form up. As the key of the first one rises, that of the second one falls; where the
+/// factors are the same, each two are tried in one order alone.
+fn made_up_with(search: &Search<'_>, a: u32, b: u32) -> bool
     requires index { IsIndex search.now.facts.now (suc (length search.now.facts.now)) search.now.entries.now }
     requires key { IsKeyOf search.now.form.now.terms search.now.key }
     requires a { a ≤ 2 ^ 24 }
     requires b { b ≤ 2 ^ 24 }
-    ensures { IsTrue result ↔ IsMadeUpWith search.now.facts.now search.now.form.now lead search.now.entries.now a b }
+    ensures { IsTrue result ↔ IsMadeUpWith search.now.facts.now search.now.form.now search.now.entries.now a b }
 {
     let mut upto = search.entries.len();
-    for first in search.entries {
-        let (is_found, rest) = tried(search, lead, *first, a, b, upto);
+    let from = skipped(search, a, b);
+    for index in from..search.entries.len() {
+        if upto == 0 || (a == b && upto <= index) {
+            return false;
+        }
+        let (is_found, rest) = tried(search, search.entries[index], a, b, upto);
         if is_found {
             return true;
         }
@@ -236,30 +277,35 @@ fn is_repeated(terms: &[Term], index: usize) -> bool
     false
 }
 
-fn made_up_by_b(search: &Search<'_>, lead: Option<RegisterId>, a: u32) -> bool
+/// Whether b times a fact makes the form up with a times another, for some b that is no more.
+fn made_up_by_b(search: &Search<'_>, a: u32) -> bool
     requires index { IsIndex search.now.facts.now (suc (length search.now.facts.now)) search.now.entries.now }
     requires key { IsKeyOf search.now.form.now.terms search.now.key }
     requires a { a ≤ 2 ^ 24 }
-    ensures { IsTrue result ↔ IsMadeUpByB search.now.facts.now search.now.form.now lead search.now.entries.now a }
+    ensures { IsTrue result ↔ IsMadeUpByB search.now.facts.now search.now.form.now search.now.entries.now a }
 {
     let terms = side_of(search.form).terms;
     let count = terms.len() + 1;
     for index in 0..count {
+        let b = factor(terms, index);
+        if b > a {
+            continue;
+        }
         if is_repeated(terms, index) {
             continue;
         }
-        if made_up_with(search, lead, a, factor(terms, index)) {
+        if made_up_with(search, a, b) {
             return true;
         }
     }
     false
 }
 
-/// Whether the facts make the form up.
-pub fn made_up(search: &Search<'_>, lead: Option<RegisterId>) -> bool
+/// Whether the facts show the form.
+pub fn made_up(search: &Search<'_>) -> bool
     requires index { IsIndex search.now.facts.now (suc (length search.now.facts.now)) search.now.entries.now }
     requires key { IsKeyOf search.now.form.now.terms search.now.key }
-    ensures { IsTrue result ↔ IsMadeUpByA search.now.facts.now search.now.form.now lead search.now.entries.now }
+    ensures { IsTrue result ↔ IsShown search.now.facts.now search.now.form.now }
 {
     let terms = side_of(search.form).terms;
     let count = terms.len() + 1;
@@ -267,7 +313,7 @@ pub fn made_up(search: &Search<'_>, lead: Option<RegisterId>) -> bool
         if is_repeated(terms, index) {
             continue;
         }
-        if made_up_by_b(search, lead, factor(terms, index)) {
+        if made_up_by_b(search, factor(terms, index)) {
             return true;
         }
     }

@@ -1,23 +1,24 @@
-use Rattle.std.proofs.Common.{◌∙◌, sym, arith}
+use Rattle.std.proofs.Common.{◌≡◌, ◌<◌, length, get_or, sym, arith}
 use Rattle.std.proofs.lemmas.Bool.{false≢true}
 use Rattle.std.proofs.lemmas.List.Elements.{All-more}
 use Rattle.linear.specs.declared.index.Entry.{Entry}
-use Rattle.linear.specs.Index.{IsMadeUpFirst}
+use Rattle.linear.specs.Index.{place_at, IsMadeUp}
 use Rattle.linear.proofs.Parts.{none_found}
 use Rattle.linear.proofs.Looking.{past_more}
+use Rattle.linear.proofs.Passing.{none_past, skipped_not}
 use Rattle.linear.proofs.lookup.made_up_with.Goals as goal
 
-pub loop-first-preserved : goal.loop-first-preserved
-loop-first-preserved c =
-    let entries = c.args.search.now.entries.now in (
-      omega (arith, c.tried-is_found.ensures.within, c.loop-first.invariant.0),
-      All-more (λ (e : Entry). IsMadeUpFirst c.args.search.now.facts.now c.args.search.now.form.now c.args.lead c.args.a c.args.b e → ⊥) entries c.loop-first.first-index _ c.loop-first-test.true c.loop-first.invariant.1
-          (λ s. false≢true (sym c.if-is_found.false ∙ c.tried-is_found.ensures.made.1 s)),
-      λ m d le l. past_more entries c.args.search.now.key c.args.a c.args.b c.loop-first.first-index c.tried-is_found.result.1 _ c.requires.index.sorted c.loop-first-test.true c.tried-is_found.ensures.past m d (omega (arith, le)) l,
-    )
+pub loop-index-init : goal.loop-index-init
+loop-index-init c = ?
+
+pub returns-then-upto-0 : goal.returns-then-upto-0
+returns-then-upto-0 c = ?
+
+pub loop-index-preserved : goal.loop-index-preserved
+loop-index-preserved c = ?
 
 pub returns : goal.returns
 returns c = (
   λ h. absurd (false≢true h),
-  λ s. absurd (none_found (λ (e : Entry). IsMadeUpFirst c.args.search.now.facts.now c.args.search.now.form.now c.args.lead c.args.a c.args.b e) c.args.search.now.entries.now c.loop-first.first-index c.loop-first.invariant.1 (omega (arith, c.loop-first-test.false)) s.0 s.1 s.2),
+  λ s. absurd (none_found (λ (e : Entry). IsMadeUp c.args.search.now.facts.now c.args.search.now.form.now (place_at c.args.search.now.facts.now e.place) c.args.a c.args.b) c.args.search.now.entries.now c.loop-index.index c.loop-index.invariant.1 (omega (arith, c.loop-index-test.false)) s.0 s.1 s.2),
 )

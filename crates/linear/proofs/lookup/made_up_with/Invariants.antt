@@ -1,11 +1,11 @@
 use Rattle.std.proofs.Common.{ℕ, ◌<◌, ◌≤◌, length, get_or, take}
 use Rattle.std.specs.List.{All}
 use Rattle.linear.specs.declared.index.Entry.{Entry}
-use Rattle.linear.specs.Index.{IsMadeUpFirst, ArePast}
+use Rattle.linear.specs.Index.{place_at, IsMadeUp, ArePast}
 use Rattle.linear.proofs.lookup.made_up_with.Given as goal
 
-abbrev pub invariant-loop-first : goal.invariant-loop-first
-invariant-loop-first l =
+abbrev pub invariant-loop-index : goal.invariant-loop-index
+invariant-loop-index l =
     (l.upto ≤ length l.search.entries.now)
-    × All (λ e. IsMadeUpFirst l.search.facts.now l.search.form.now l.lead l.a l.b e → ⊥) (take l.first-index l.search.entries.now)
-    × ((m : ℕ) (d : Entry) → l.first-index ≤ m → m < length l.search.entries.now → ArePast l.search.entries.now l.search.key l.a l.b (get_or l.search.entries.now m d).key l.upto)
+    × All (λ (e : Entry). IsMadeUp l.search.facts.now l.search.form.now (place_at l.search.facts.now e.place) l.a l.b → ⊥) (take l.index l.search.entries.now)
+    × ((m : ℕ) (d : Entry) → l.index ≤ m → m < length l.search.entries.now → ArePast l.search.entries.now l.search.key l.a l.b (get_or l.search.entries.now m d).key l.upto)
