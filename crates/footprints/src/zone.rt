@@ -1,4 +1,4 @@
-ghost use Rattle.std.specs.Prelude.{◌≡◌, ◌<◌, IfOk, IsTrue, List, true, false};
+ghost use Rattle.std.specs.Prelude.{◌≡◌, ◌<◌, ◌^◌, IfOk, IfSome, IsTrue, List, [], true, false, unsigned_abs};
 ghost use Rattle.linear.specs.declared.form.Fact.{Fact};
 ghost use Rattle.ranges.specs.cfg.declared.structure.Move.{Move as MoveKind};
 ghost use Rattle.footprints.specs.Zones.{span, same_object, mode_covers, modes_agree, between, shows_order, is_empty, covers, is_apart, conflict, is_covered, ShowsNoNegative};
@@ -76,19 +76,31 @@ fn between(
     })
 }
 
+/// The number that an end is; none where it has registers.
+fn number_of(form: &Form) -> Option<i128>
+    ensures terms { IfSome result (λ _. form.now.terms ≡ []) }
+    ensures value { IfSome result (λ n. n ≡ form.now.constant) }
+    ensures small { IfSome result (λ n. unsigned_abs n < 2 ^ 100) }
+{
+    let side = side_of(form);
+    if side.terms.is_empty() {
+        Some(side.constant)
+    } else {
+        None
+    }
+}
+
 /// Whether two ends are numbers, of which the first is no less than the second.
 fn is_no_less(high: &Form, low: &Form) -> bool
     ensures { IsTrue result → (facts : List Fact) (for_high for_low : List MoveKind) → shows_order facts for_high high.now for_low low.now ≡ true }
 {
-    let high = side_of(high);
-    let low = side_of(low);
-    if !high.terms.is_empty() {
+    let Some(high) = number_of(high) else {
         return false;
-    }
-    if !low.terms.is_empty() {
+    };
+    let Some(low) = number_of(low) else {
         return false;
-    }
-    let difference = high.constant - low.constant;
+    };
+    let difference = high - low;
     0 <= difference && difference <= 1_267_650_600_228_229_401_496_703_205_375
 }
 
@@ -97,15 +109,13 @@ fn is_less(high: &Form, low: &Form) -> bool
     ensures { IsTrue result → (facts : List Fact) (for_high for_low : List MoveKind) → ShowsNoNegative facts
         → shows_order facts for_high high.now for_low low.now ≡ false }
 {
-    let high = side_of(high);
-    let low = side_of(low);
-    if !high.terms.is_empty() {
+    let Some(high) = number_of(high) else {
         return false;
-    }
-    if !low.terms.is_empty() {
+    };
+    let Some(low) = number_of(low) else {
         return false;
-    }
-    high.constant - low.constant < 0
+    };
+    high < low
 }
 
 /// Whether high >= low is shown.

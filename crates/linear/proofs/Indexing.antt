@@ -1,7 +1,7 @@
 -- What stands for the facts in an index, and what it makes up.
 use Rattle.std.proofs.Common.{◌≡◌, ◌∙◌, ℕ, zero, suc, ◌<◌, ◌≤◌, ◌+◌, ◌*◌, ◌^◌, ℤ, pos, ◌+ℤ◌, ◌*ℤ◌, ◌-ℤ◌, ◌≤ℤ◌, List, [], ◌∷◌, ◌++◌, length, get_or, insert, set, map, take, drop, None, inl, inr, sym, ap, refl, subst, arith}
 use Rattle.std.specs.List.{All, Contains}
-use Rattle.std.specs.List.Sorted.{IsNonDecreasingBy}
+use Rattle.std.specs.List.Sorted.{IsNonDecreasingBy, IsPermutation}
 use Rattle.std.proofs.Math.ListN.{get_or-append}
 use Rattle.std.proofs.lemmas.Int.{ints}
 use Rattle.std.proofs.lemmas.Bool.{cases_eq, cases_lt}
@@ -14,7 +14,7 @@ use Rattle.linear.specs.declared.index.Entry.{Entry}
 use Rattle.linear.specs.Forms.{Combination, coefficient_of, constant_form, IsRising}
 use Rattle.linear.specs.Shown.{IsSum, IsShown, sides}
 use Rattle.linear.specs.Search.{factors, IsFound}
-use Rattle.linear.specs.Index.{weight, weigh, IsKeyOf, place_at, IsEntry, IsAsStrong, IsIndexed, IsIndex, IsBegun, IsMadeUp, IsMadeUpByA}
+use Rattle.linear.specs.Index.{weight, weigh, IsKeyOf, place_at, IsEntry, IsAsStrong, IsIndexed, AreListed, IsIndex, IsBegun, IsMadeUp, IsMadeUpByA}
 use Rattle.linear.proofs.Values.{distributes, keeps_sign, value_combines}
 use Rattle.linear.proofs.Newest.{in_sides}
 use Rattle.linear.proofs.Left.{swapped}
@@ -78,27 +78,32 @@ index_none facts = record {
   kept = λ place l. absurd (omega (arith, l));
 }
 
--- what is kept, in a list that keeps what was there
-more_kept : (facts : List Fact) (old new : List Entry) (n : ℕ) → ((e : Entry) → Contains old e → (e' : Entry) × Contains new e' × IsAsStrong (place_at facts e'.place) (place_at facts e.place)) →
-    IsIndexed facts new n → ((p : ℕ) → p < n → IsIndexed facts old p) → (p : ℕ) → p < suc n → IsIndexed facts new p
-more_kept facts old new n on last before p l = elim (cases_eq p n) [
-  | inl same ↦ rw same last
-  | inr other ↦
-      let k = before p (omega (arith, l, other)) in
-      let m = on k.0 k.1 in
-      (m.0, m.1, stronger (place_at facts m.0.place) (place_at facts k.0.place) (place_at facts p) m.2 k.2)
-]
+-- what new entries have for all that was there
+abbrev pub Keeps : List Fact → List Entry → List Entry → Type 0
+Keeps facts old new = (place : ℕ) → IsIndexed facts old place → IsIndexed facts new place
+
+-- a list with something as strong for each entry
+more_kept : (facts : List Fact) (old new : List Entry) → ((e : Entry) → Contains old e → (e' : Entry) × Contains new e' × IsAsStrong (place_at facts e'.place) (place_at facts e.place)) → Keeps facts old new
+more_kept facts old new on p k =
+    let m = on k.0 k.1 in
+    (m.0, m.1, stronger (place_at facts m.0.place) (place_at facts k.0.place) (place_at facts p) m.2 k.2)
+
+-- one more place
+pub index_more : (facts : List Fact) (old new : List Entry) (n : ℕ) → IsIndex facts n old → AreListed facts new → IsIndexed facts new n → Keeps facts old new → IsIndex facts (suc n) new
+index_more facts old new n index listed own keeps = record {
+  sorted = listed.sorted;
+  own = listed.own;
+  kept = λ place l. elim (cases_eq place n) [
+    | inl same ↦ rw same own
+    | inr other ↦ keeps place (index.kept place (omega (arith, l, other)))
+  ];
+}
 
 -- as strong an entry is there already
-pub index_same : (facts : List Fact) (es : List Entry) (entry : Entry) (k : ℕ) → IsIndex facts entry.place es → k < length es →
+pub same_indexed : (facts : List Fact) (es : List Entry) (entry : Entry) (k : ℕ) → k < length es →
     ((r : ℕ) → coefficient_of (place_at facts (get_or es k entry).place).terms r ≡ coefficient_of (place_at facts entry.place).terms r) →
-    (place_at facts (get_or es k entry).place).constant ≤ℤ (place_at facts entry.place).constant → IsIndex facts (suc entry.place) es
-index_same facts es entry k index within same le = record {
-  sorted = index.sorted;
-  own = index.own;
-  kept = more_kept facts es es entry.place (λ e c. (e, c, strong_itself (place_at facts e.place)))
-      (get_or es k entry, Contains-get_or es k entry within, record { terms = same; constant = le }) index.kept;
-}
+    (place_at facts (get_or es k entry).place).constant ≤ℤ (place_at facts entry.place).constant → IsIndexed facts es entry.place
+same_indexed facts es entry k within same le = (get_or es k entry, Contains-get_or es k entry within, record { terms = same; constant = le })
 
 key_stays : (es : List Entry) (entry d : Entry) (k i : ℕ) → k < length es → (get_or es k entry).key ≡ entry.key → (get_or (set es k entry) i d).key ≡ (get_or es i d).key
 key_stays es entry d k i within same = elim (cases_eq i k) [
@@ -127,31 +132,63 @@ set_keeps facts es entry k within strong e (i, l, at_i) = elim (cases_eq i k) [
 ]
 
 -- a weaker entry gives way
-pub index_set : (facts : List Fact) (es : List Entry) (entry : Entry) (k : ℕ) → IsIndex facts entry.place es → IsEntry facts entry → k < length es →
-    (get_or es k entry).key ≡ entry.key →
-    ((r : ℕ) → coefficient_of (place_at facts (get_or es k entry).place).terms r ≡ coefficient_of (place_at facts entry.place).terms r) →
-    (place_at facts entry.place).constant ≤ℤ (place_at facts (get_or es k entry).place).constant → IsIndex facts (suc entry.place) (set es k entry)
-index_set facts es entry k index is within key same le = record {
-  sorted = set_rises es entry k index.sorted within key;
-  own = all_set (IsEntry facts) es entry k index.own is within;
-  kept = more_kept facts es (set es k entry) entry.place
-      (set_keeps facts es entry k within (record { terms = λ r. sym (same r); constant = le }))
-      (entry, (k, rw (length-set es k entry) within, get_or-set_same es k entry entry within), strong_itself (place_at facts entry.place)) index.kept;
+pub set_listed : (facts : List Fact) (es : List Entry) (entry : Entry) (k : ℕ) → AreListed facts es → IsEntry facts entry → k < length es → (get_or es k entry).key ≡ entry.key → AreListed facts (set es k entry)
+set_listed facts es entry k listed is within key = record {
+  sorted = set_rises es entry k listed.sorted within key;
+  own = all_set (IsEntry facts) es entry k listed.own is within;
 }
+
+pub set_indexed : (facts : List Fact) (es : List Entry) (entry : Entry) (k : ℕ) → k < length es → IsIndexed facts (set es k entry) entry.place
+set_indexed facts es entry k within =
+    (entry, (k, rw (length-set es k entry) within, get_or-set_same es k entry entry within), strong_itself (place_at facts entry.place))
+
+pub set_kept : (facts : List Fact) (es : List Entry) (entry : Entry) (k : ℕ) → k < length es →
+    ((r : ℕ) → coefficient_of (place_at facts (get_or es k entry).place).terms r ≡ coefficient_of (place_at facts entry.place).terms r) →
+    (place_at facts entry.place).constant ≤ℤ (place_at facts (get_or es k entry).place).constant → Keeps facts es (set es k entry)
+set_kept facts es entry k within same le = more_kept facts es (set es k entry) (set_keeps facts es entry k within (record { terms = λ r. sym (same r); constant = le }))
 
 all_insert : (P : Entry → Type 0) (es : List Entry) (entry : Entry) (at : ℕ) → at ≤ length es → All P es → P entry → All P (insert es at entry)
 all_insert P es entry at le all here = All-permutation P (entry ∷ es) (insert es at entry) (IsPermutation-insert es at entry) (All-cons P entry es here all)
 
 -- a new entry before those of its key and above
-pub index_insert : (facts : List Fact) (es : List Entry) (entry : Entry) (at : ℕ) → IsIndex facts entry.place es → IsEntry facts entry → at ≤ length es →
-    ((k : ℕ) (d : Entry) → k < at → (get_or es k d).key ≤ entry.key) → ((k : ℕ) (d : Entry) → at ≤ k → k < length es → entry.key ≤ (get_or es k d).key) →
-    IsIndex facts (suc entry.place) (insert es at entry)
-index_insert facts es entry at index is le below above = record {
-  sorted = IsNonDecreasingBy-insert (λ (e : Entry). e.key) es at entry index.sorted le below above;
-  own = all_insert (IsEntry facts) es entry at le index.own is;
-  kept = more_kept facts es (insert es at entry) entry.place
-      (λ e c. (e, Contains-permutation (entry ∷ es) (insert es at entry) e (IsPermutation-insert es at entry) (Contains-append_right (entry ∷ []) es e c), strong_itself (place_at facts e.place)))
-      (entry, (at, rw (length-insert es at entry le) (omega (arith, le)), get_or-insert_at es at entry entry le), strong_itself (place_at facts entry.place)) index.kept;
+pub insert_listed : (facts : List Fact) (es : List Entry) (entry : Entry) (at : ℕ) → AreListed facts es → IsEntry facts entry → at ≤ length es →
+    ((k : ℕ) (d : Entry) → k < at → (get_or es k d).key ≤ entry.key) → ((k : ℕ) (d : Entry) → at ≤ k → k < length es → entry.key ≤ (get_or es k d).key) → AreListed facts (insert es at entry)
+insert_listed facts es entry at listed is le below above = record {
+  sorted = IsNonDecreasingBy-insert (λ (e : Entry). e.key) es at entry listed.sorted le below above;
+  own = all_insert (IsEntry facts) es entry at le listed.own is;
+}
+
+pub insert_indexed : (facts : List Fact) (es : List Entry) (entry : Entry) (at : ℕ) → at ≤ length es → IsIndexed facts (insert es at entry) entry.place
+insert_indexed facts es entry at le =
+    (entry, (at, rw (length-insert es at entry le) (omega (arith, le)), get_or-insert_at es at entry entry le), strong_itself (place_at facts entry.place))
+
+pub insert_kept : (facts : List Fact) (es : List Entry) (entry : Entry) (at : ℕ) → Keeps facts es (insert es at entry)
+insert_kept facts es entry at = more_kept facts es (insert es at entry)
+    (λ e c. (e, Contains-permutation (entry ∷ es) (insert es at entry) e (IsPermutation-insert es at entry) (Contains-append_right (entry ∷ []) es e c), strong_itself (place_at facts e.place)))
+
+-- an index goes on
+pub listed_begun : (facts : List Fact) (n : ℕ) (es : List Entry) → IsBegun facts n es → AreListed facts es
+listed_begun facts n es begun = record { sorted = begun.index.sorted; own = begun.index.own }
+
+pub begun_next : (facts : List Fact) (old new : List Entry) (n m : ℕ) → IsBegun facts n old → n ≤ length facts → m ≡ n → AreListed facts new → IsIndexed facts new m → Keeps facts old new → IsBegun facts (suc n) new
+begun_next facts old new n m begun within same listed own keeps = record {
+  within = omega (arith, within);
+  index = index_more facts old new n begun.index listed (rw same at own) keeps;
+}
+
+-- an index of what the sorted entries of the first places became
+pub begun_sorted : (facts : List Fact) (list sorted es : List Entry) → length list ≤ suc (length facts) → ((place : ℕ) (d : Entry) → place < length list → (get_or list place d).place ≡ place) →
+    IsPermutation list sorted → AreListed facts es → ((e : Entry) → Contains sorted e → IsIndexed facts es e.place) → IsBegun facts (length list) es
+begun_sorted facts list sorted es within places same listed all = record {
+  within = within;
+  index = record {
+    sorted = listed.sorted;
+    own = listed.own;
+    kept = λ place l.
+        let entry : Entry = get_or list place (record { key = 0; place = 0 }) in
+        let there = Contains-permutation list sorted entry same (Contains-get_or list place (record { key = 0; place = 0 }) l) in
+        subst (λ (n : ℕ). IsIndexed facts es n) (places place (record { key = 0; place = 0 }) l) (all entry there);
+  };
 }
 
 -- ---- what an index makes up
@@ -210,7 +247,7 @@ alone_shown facts e b rising in_b (g, in_g, sum) = record {
 }
 
 pub shown_by_index : (facts : List Fact) (es : List Entry) → IsIndex facts (suc (length facts)) es → (e : Combination) → IsRising e.terms → IsMadeUpByA facts e es → IsShown facts e
-shown_by_index facts es index e rising (a, in_a, (b, in_b, (le, (entry, c, (g, in_g, sum))))) = record {
+shown_by_index facts es index e rising (a, in_a, (b, in_b, le, (entry, c, (g, in_g, sum)))) = record {
   f = place_at facts entry.place;
   g = g;
   a = a;
@@ -227,7 +264,7 @@ greater_first : (facts : List Fact) (es : List Entry) → IsIndex facts (suc (le
     Contains (sides facts) f → Contains (sides facts) g → IsSum e a f b g → IsMadeUpByA facts e es
 greater_first facts es index e f g a b le in_a in_b in_f in_g sum =
     let k = kept_side facts es index f in_f in
-    (a, in_a, (b, in_b, (le, (k.0, k.1, (g, in_g, stronger_first e a f (place_at facts k.0.place) b g k.2 sum)))))
+    (a, in_a, (b, in_b, le, (k.0, k.1, (g, in_g, stronger_first e a f (place_at facts k.0.place) b g k.2 sum))))
 
 by_index : (facts : List Fact) (es : List Entry) → IsIndex facts (suc (length facts)) es → (e : Combination) → IsFound facts e None → IsMadeUpByA facts e es
 by_index facts es index e (f, in_f, (leads, (a, in_a, (g, in_g, (b, in_b, sum))))) = elim (cases_lt a b) [

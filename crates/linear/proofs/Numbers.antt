@@ -37,6 +37,6 @@ more_shown facts n m le s = record {
 
 pub none_negative : (facts : List Fact) → is_shown facts (constant_form (negsuc 0)) ≡ false → (n : ℤ) → n ≤ℤ negsuc 0 → is_shown facts (constant_form n) ≡ false
 none_negative facts not n le = elim (cases_Bool (is_shown facts (constant_form n))) [
-  | inl yes ↦ absurd (false≢true (sym not ∙ shown_passes facts (constant_form (negsuc 0)) (more_shown facts n (negsuc 0) le (shown_from_test facts (constant_form n) yes))))
-  | inr no ↦ no
+  | inl is ↦ absurd (false≢true (sym not ∙ shown_passes facts (constant_form (negsuc 0)) (more_shown facts n (negsuc 0) le (shown_from_test facts (constant_form n) is))))
+  | inr none ↦ none
 ]

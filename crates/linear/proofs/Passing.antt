@@ -1,6 +1,9 @@
 -- First facts that need not be tried, since no key is the wanted one beside theirs.
-use Rattle.std.proofs.Common.{◌≡◌, ◌∙◌, ℕ, suc, ◌<◌, ◌≤◌, ◌+◌, ◌*◌, ◌^◌, List, length, get_or, take, sym, ap, subst, inl, inr, ◌⊎◌, arith}
+use Rattle.std.proofs.Common.{◌≡◌, ◌∙◌, ℕ, suc, ◌<◌, ◌≤◌, ◌+◌, ◌-◌, ◌*◌, ◌%◌, ◌^◌, List, length, get_or, take, sym, ap, subst, inl, inr, ◌⊎◌, arith}
 use Rattle.std.specs.List.{All}
+use Rattle.std.specs.List.Sorted.{IsNonDecreasingBy}
+use Rattle.std.proofs.Math.Nat.{mul-le-mul_left, mul-add, mul_comm}
+use Rattle.std.proofs.lemmas.Nat.{mod-mul-add}
 use Rattle.std.proofs.lemmas.Bool.{cases_lt}
 use Rattle.std.proofs.lemmas.List.{get_or_default, get_or-take, length-take-le}
 use Rattle.std.proofs.lemmas.List.Elements.{All-contains}
@@ -15,6 +18,16 @@ use Rattle.linear.proofs.Indexing.{made_up_by_entry, side_of_entry}
 -- none of the first entries makes the form up
 abbrev pub NoneOf : List Fact → Combination → List Entry → ℕ → ℕ → ℕ → Type 0
 NoneOf facts e es a b i = All (λ (x : Entry). IsMadeUp facts e (place_at facts x.place) a b → ⊥) (take i es)
+
+-- first keys that are too small even beside the greatest second one
+pub too_small : (es : List Entry) (a b key least n : ℕ) (last : Entry) → IsNonDecreasingBy (λ (e : Entry). e.key) es → n ≤ length es → ((d : Entry) → last ≡ get_or es (length es - 1) d) →
+    least + b * last.key + 2 ^ 61 ≡ (b + a) * 2 ^ 61 + key → 0 < least → ((d : Entry) → 0 < n → a * (get_or es (n - 1) d).key ≤ least - 1) →
+    (k m : ℕ) (d : Entry) → k < n → m < length es → b * (get_or es m d).key + a * (get_or es k d).key + 2 ^ 61 < (a + b) * 2 ^ 61 + key
+too_small es a b key least n last up within at_end is some below k m d l l' =
+    let top = mul-le-mul_left b (up m (length es - 1) d (omega (arith, l')) (omega (arith, l'))) in
+    let end : b * last.key ≡ b * (get_or es (length es - 1) d).key = ap (λ (x : Entry). b * x.key) (at_end d) in
+    let low = mul-le-mul_left a (up k (n - 1) d (omega (arith, l)) (omega (arith, l, within))) in
+    omega (arith, top, end, low, below d (omega (arith, l)), is, some)
 
 -- a first fact whose key is too small beside each second one
 pub skipped_not : (facts : List Fact) (es : List Entry) (e : Combination) (a b key n : ℕ) → IsIndex facts (suc (length facts)) es → IsKeyOf e.terms key → n ≤ length es →
@@ -48,6 +61,20 @@ not_past es key a b upto k first second past within at_k is = elim (cases_lt k u
   | inl less ↦ less
   | inr more ↦ absurd (omega (arith, past k second more within, ap (λ (x : Entry). b * x.key) at_k, is))
 ]
+
+-- what is no multiple of the factor is no sum of two keys times it
+pub not_even : (a key whole first second : ℕ) → 0 < a → whole + 2 ^ 61 ≡ (a + a) * 2 ^ 61 + key → (whole % a ≡ 0 → ⊥) → a * second + a * first + 2 ^ 61 ≡ (a + a) * 2 ^ 61 + key → ⊥
+not_even a key whole first second some is uneven made =
+    let sum : whole ≡ a * second + a * first = omega (arith, is, made) in
+    let multiple : whole ≡ (second + first) * a + 0 = sum ∙ sym (mul-add a second first) ∙ mul_comm a (second + first) ∙ omega arith in
+    uneven (ap (λ n. n % a) multiple ∙ mod-mul-add (second + first) a 0 some)
+
+pub uneven_not : (facts : List Fact) (es : List Entry) (e : Combination) (a b key : ℕ) → IsIndex facts (suc (length facts)) es → IsKeyOf e.terms key →
+    (a ≡ b) × ((first second : ℕ) → a * second + a * first + 2 ^ 61 ≡ (a + a) * 2 ^ 61 + key → ⊥) → IsMadeUpWith facts e es a b → ⊥
+uneven_not facts es e a b key index is (same, uneven) (first, c, made) =
+    let own = All-contains (IsEntry facts) es first index.own c in
+    let s = made_up_by_entry facts es index e a first b key is own made in
+    uneven first.key s.0.key (subst (λ (x : ℕ). x * s.0.key + a * first.key + 2 ^ 61 ≡ (a + x) * 2 ^ 61 + key) (sym same) s.2)
 
 -- no first fact is left, where no second one is, or where each second one that is left was a first one
 pub none_left : (facts : List Fact) (es : List Entry) (e : Combination) (a b key i upto : ℕ) → IsIndex facts (suc (length facts)) es → IsKeyOf e.terms key → i ≤ length es → NoneOf facts e es a b i →

@@ -37,6 +37,11 @@ pub record IsAsStrong (f g : Combination) : Type 0 where
 abbrev pub IsIndexed : List Fact → List Entry → ℕ → Type 0
 IsIndexed facts entries place = (entry : Entry) × Contains entries entry × IsAsStrong (place_at facts entry.place) (place_at facts place)
 
+-- entries of places, by rising keys
+pub record AreListed (facts : List Fact) (entries : List Entry) : Type 0 where
+  pub sorted : IsNonDecreasingBy (λ (e : Entry). e.key) entries
+  pub own : All (IsEntry facts) entries
+
 -- entries of the first places, by rising keys
 pub record IsIndex (facts : List Fact) (count : ℕ) (entries : List Entry) : Type 0 where
   pub sorted : IsNonDecreasingBy (λ (e : Entry). e.key) entries

@@ -3,7 +3,7 @@
 ghost use Rattle.std.specs.Prelude.{◌≡◌, length, take};
 
 use crate::form::Fact;
-use crate::index::{Entry, FEW, enter_from};
+use crate::index::{Entry, FEW, enter_all, enter_from};
 use crate::known::Known;
 use std::alloc::{AllocError, Global};
 use std::marker::Model;
@@ -11,6 +11,7 @@ use std::marker::Model;
 /// Lent facts, how many of them are known, and an index of the first of these. Contracts see the facts and the number.
 #[derive(Drop)]
 pub struct FactCursor<'a> {
+    alloc: Global,
     facts: &'a [Fact],
     count: usize,
     entries: Vec<Entry>,
@@ -47,6 +48,7 @@ impl<'a> FactCursor<'a> {
         ensures { result ≡ (facts.now, length facts.now) }
     {
         FactCursor {
+            alloc,
             facts,
             count: facts.len(),
             entries: Vec::new(alloc),
@@ -75,7 +77,12 @@ impl<'a> FactCursor<'a> {
         if facts.len() <= FEW {
             return Ok(());
         }
-        match enter_from(facts, &mut self.entries, self.entered) {
+        let entered = if self.entered == 0 {
+            enter_all(self.alloc, facts, &mut self.entries)
+        } else {
+            enter_from(facts, &mut self.entries, self.entered)
+        };
+        match entered {
             Ok(entered) => {
                 self.entered = entered;
                 Ok(())

@@ -3,7 +3,7 @@
 ghost use Rattle.std.specs.Prelude.{◌≡◌, ◌++◌, ◌∷◌, [], IfOk, OnOk, length};
 
 use crate::form::Fact;
-use crate::index::{Entry, FEW, enter_from};
+use crate::index::{Entry, FEW, enter_all, enter_from};
 use crate::known::Known;
 use std::alloc::{AllocError, Global};
 use std::marker::Model;
@@ -11,6 +11,7 @@ use std::marker::Model;
 /// Facts in their order, and an index of the first of them. Contracts see the facts.
 #[derive(Drop)]
 pub struct FactList {
+    alloc: Global,
     facts: Vec<Fact>,
     entries: Vec<Entry>,
     /// How many places have entries.
@@ -35,6 +36,7 @@ impl FactList {
         ensures { result ≡ [] }
     {
         FactList {
+            alloc,
             facts: Vec::new(alloc),
             entries: Vec::new(alloc),
             entered: 0,
@@ -46,6 +48,7 @@ impl FactList {
         ensures { result ≡ facts.items }
     {
         FactList {
+            alloc,
             facts,
             entries: Vec::new(alloc),
             entered: 0,
@@ -79,7 +82,13 @@ impl FactList {
         if self.facts.len() <= FEW {
             return Ok(());
         }
-        match enter_from(self.facts.as_slice(), &mut self.entries, self.entered) {
+        let facts = self.facts.as_slice();
+        let entered = if self.entered == 0 {
+            enter_all(self.alloc, facts, &mut self.entries)
+        } else {
+            enter_from(facts, &mut self.entries, self.entered)
+        };
+        match entered {
             Ok(entered) => {
                 self.entered = entered;
                 Ok(())

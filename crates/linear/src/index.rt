@@ -4,7 +4,7 @@ ghost use Rattle.std.specs.Prelude.{◌≡◌, ◌<◌, ◌≤◌, ◌+◌, ◌*
 ghost use Rattle.std.specs.Prelude.{unsigned_abs, ◌≤ℤ◌, false, slice_index_or};
 ghost use Rattle.std.specs.List.Sorted.{IsNonDecreasingBy};
 ghost use Rattle.linear.specs.Forms.{AreSmall, IsRising, coefficient_of};
-ghost use Rattle.linear.specs.Index.{place_at, IsKeyOf, IsEntry, IsIndex, IsBegun, IsAsStrong};
+ghost use Rattle.linear.specs.Index.{place_at, IsKeyOf, IsEntry, IsIndexed, AreListed, IsIndex, IsBegun};
 ghost use Rattle.linear.specs.declared.index.Entry.{Entry};
 
 use crate::form::Fact;
@@ -96,11 +96,13 @@ fn is_below(facts: &[Fact], one: usize, other: usize) -> bool
     side_of_place(facts, one).constant < side_of_place(facts, other).constant
 }
 
-/// Adds the entry of the next place, unless one with the same coefficients is as strong; a weaker one gives way.
+/// Adds an entry, unless one with the same coefficients is as strong; a weaker one gives way.
 fn enter(facts: &[Fact], entries: &mut Vec<Entry>, entry: Entry) -> Result<(), AllocError>
     requires entry { IsEntry facts.now entry }
-    requires index { IsIndex facts.now entry.place entries.old.items }
-    ensures { OnOk result (IsIndex facts.now (suc entry.place) entries.new.items) }
+    requires listed { AreListed facts.now entries.old.items }
+    ensures listed { OnOk result (AreListed facts.now entries.new.items) }
+    ensures own { OnOk result (IsIndexed facts.now entries.new.items entry.place) }
+    ensures kept { OnOk result ((place : ℕ) → IsIndexed facts.now entries.old.items place → IsIndexed facts.now entries.new.items place) }
 {
     let from = entries.partition_point(|other| other.key < entry.key);
     match found_same(facts, entries.as_slice(), from, entry) {
@@ -133,12 +135,47 @@ pub fn enter_from(
     Ok(count)
 }
 
+/// The entries of the first places in their order: of all, where none is past the range of keys.
+fn entries_of(alloc: Global, facts: &[Fact]) -> Result<Vec<Entry>, AllocError>
+    ensures within { IfOk result (λ list. length list.items ≤ suc (length facts.now)) }
+    ensures own { IfOk result (λ list. All (IsEntry facts.now) list.items) }
+    ensures places { IfOk result (λ list. (place : ℕ) (d : Entry) → place < length list.items → (slice_index_or list.items place d).place ≡ place) }
+{
+    let count = facts.len() + 1;
+    let mut list: Vec<Entry> = Vec::with_capacity(alloc, count)?;
+    for place in 0..count {
+        match entry_at(facts, place) {
+            Some(entry) => list.push(entry)?,
+            None => return Ok(list),
+        }
+    }
+    Ok(list)
+}
+
+/// Enters facts of which none is entered, and answers up to where. They come by rising keys, so that no entry has to make room.
+pub fn enter_all(
+    alloc: Global,
+    facts: &[Fact],
+    entries: &mut Vec<Entry>,
+) -> Result<usize, AllocError>
+    requires { AreListed facts.now entries.old.items }
+    ensures { IfOk result (λ count. IsBegun facts.now count entries.new.items) }
+{
+    let mut list = entries_of(alloc, facts)?;
+    let count = list.len();
+    list.sort_by_key(|entry| entry.key)?;
+    for entry in &list {
+        enter(facts, entries, *entry)?;
+    }
+    Ok(count)
+}
+
 /// The strongest facts by their keys; none where one is past the range of keys.
 pub fn index_of(alloc: Global, facts: &[Fact]) -> Result<Option<Vec<Entry>>, AllocError>
     ensures { IfOk result (λ index. IfSome index (λ entries. IsIndex facts.now (suc (length facts.now)) entries.items)) }
 {
     let mut entries: Vec<Entry> = Vec::new(alloc);
-    let count = enter_from(facts, &mut entries, 0)?;
+    let count = enter_all(alloc, facts, &mut entries)?;
     if count > facts.len() {
         Ok(Some(entries))
     } else {

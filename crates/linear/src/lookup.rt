@@ -1,7 +1,7 @@
 //! The search for what shows a form, by an index: two factors, and then both facts along the index, the first one up and the second one down.
 //! The first fact takes the greater factor, so that few keys come into question for it.
 
-ghost use Rattle.std.specs.Prelude.{◌≡◌, ◌<◌, ◌≤◌, ◌+◌, ◌-◌, ◌*◌, ◌^◌, ◌↔◌, ℕ, suc, All, Contains, IsTrue, IfSome, IfNone, length};
+ghost use Rattle.std.specs.Prelude.{◌≡◌, ◌⊎◌, ◌<◌, ◌≤◌, ◌+◌, ◌-◌, ◌*◌, ◌^◌, ◌↔◌, ℕ, suc, All, Contains, IsTrue, IfSome, IfNone, length};
 ghost use Rattle.std.specs.Prelude.{slice_index, slice_index_or};
 ghost use Rattle.std.specs.List.Sorted.{IsNonDecreasingBy};
 ghost use Rattle.linear.specs.Forms.{AreSmall};
@@ -25,6 +25,14 @@ pub struct Search<'a> {
     pub entries: &'a [Entry],
     pub form: &'a Form,
     pub key: u64,
+}
+
+/// The entry at a place.
+fn entry_of(entries: &[Entry], index: usize) -> Entry
+    requires { index < length entries.now }
+    ensures { (d : Entry) → result ≡ slice_index_or entries.now index d }
+{
+    entries[index]
 }
 
 /// What b times the key of the second fact has to be; none where it would be below 0.
@@ -193,16 +201,45 @@ fn skipped(search: &Search<'_>, a: u32, b: u32) -> usize
     if count == 0 {
         return 0;
     }
-    match wanted(search.key, b, search.entries[count - 1].key, a) {
+    let last = entry_of(search.entries, count - 1);
+    match wanted(search.key, b, last.key, a) {
         Some(least) => {
-            if least == 0 {
-                0
-            } else {
+            if least > 0 {
                 halved(search.entries, count, a, least - 1)
+            } else {
+                0
             }
         }
         None => 0,
     }
+}
+
+/// Whether no second fact is left, or each one that is left was a first one with the same factor.
+fn is_over(index: usize, upto: usize, a: u32, b: u32) -> bool
+    ensures { IsTrue result → (upto ≡ 0) ⊎ ((a ≡ b) × (upto ≤ index)) }
+{
+    if upto == 0 {
+        return true;
+    }
+    if a != b {
+        return false;
+    }
+    upto <= index
+}
+
+/// Whether both factors are the same, and no sum of two keys times it is the wanted one.
+fn is_uneven(key: u64, a: u32, b: u32) -> bool
+    ensures { IsTrue result → (a ≡ b) × ((first second : ℕ) → a * second + a * first + 2 ^ 61 ≡ (a + a) * 2 ^ 61 + key → ⊥) }
+{
+    if a != b {
+        return false;
+    }
+    if a == 0 {
+        return false;
+    }
+    let twice = (u128::from(a) + u128::from(a)) * 2_305_843_009_213_693_952;
+    let whole = twice + u128::from(key) - 2_305_843_009_213_693_952;
+    whole % u128::from(a) != 0
 }
 
 /// Whether a times a fact and b times another one make the form up. As the key of the first one rises, that of the second one falls; where the
@@ -214,13 +251,17 @@ fn made_up_with(search: &Search<'_>, a: u32, b: u32) -> bool
     requires b { b ≤ 2 ^ 24 }
     ensures { IsTrue result ↔ IsMadeUpWith search.now.facts.now search.now.form.now search.now.entries.now a b }
 {
+    if is_uneven(search.key, a, b) {
+        return false;
+    }
     let mut upto = search.entries.len();
     let from = skipped(search, a, b);
     for index in from..search.entries.len() {
-        if upto == 0 || (a == b && upto <= index) {
+        if is_over(index, upto, a, b) {
             return false;
         }
-        let (is_found, rest) = tried(search, search.entries[index], a, b, upto);
+        let first = entry_of(search.entries, index);
+        let (is_found, rest) = tried(search, first, a, b, upto);
         if is_found {
             return true;
         }

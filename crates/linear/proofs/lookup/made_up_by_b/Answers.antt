@@ -41,10 +41,10 @@ returns-then-made_up_with c =
     let same = c.side_of.ensures.terms in
     let is : c.factor-b.result ≡ get_or (factors terms) c.loop-index.index 0 = c.factor-b.ensures.value ∙ ap (λ ts. get_or (factors ts) c.loop-index.index 0) same in
     let within : c.loop-index.index < length (factors terms) = rw (length_factors terms) (omega (arith, c.loop-index-test.true, ap length same)) in
-    (λ _. (get_or (factors terms) c.loop-index.index 0, Contains-get_or (factors terms) c.loop-index.index 0 within, (omega (arith, is, c.if-b-a.false), rw is at (c.if-made_up_with.ensures.0 refl))), λ _. refl)
+    (λ _. (get_or (factors terms) c.loop-index.index 0, Contains-get_or (factors terms) c.loop-index.index 0 within, omega (arith, is, c.if-b-a.false), rw is at (c.if-made_up_with.ensures.0 refl)), λ _. refl)
 
 pub returns : goal.returns
 returns c = (
   λ h. absurd (false≢true h),
-  λ s. absurd (none_found (λ (x : ℕ). (x ≤ c.args.a) × IsMadeUpWith c.args.search.now.facts.now c.args.search.now.form.now c.args.search.now.entries.now c.args.a x) (factors c.args.search.now.form.now.terms) c.loop-index.index c.loop-index.invariant (rw (length_factors c.args.search.now.form.now.terms) (omega (arith, c.loop-index-test.false, ap length c.side_of.ensures.terms))) s.0 s.1 s.2),
+  λ s. absurd (none_found (λ (x : ℕ). (x ≤ c.args.a) × IsMadeUpWith c.args.search.now.facts.now c.args.search.now.form.now c.args.search.now.entries.now c.args.a x) (factors c.args.search.now.form.now.terms) c.loop-index.index c.loop-index.invariant (rw (length_factors c.args.search.now.form.now.terms) (omega (arith, c.loop-index-test.false, ap length c.side_of.ensures.terms))) s.0 s.1 (s.2, s.3)),
 )
