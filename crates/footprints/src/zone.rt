@@ -1,4 +1,4 @@
-ghost use Rattle.std.specs.Prelude.{◌≡◌, ◌<◌, ◌^◌, IfOk, IfSome, IsTrue, List, [], true, false, unsigned_abs};
+ghost use Rattle.std.specs.Prelude.{◌≡◌, ◌<◌, ◌^◌, pos, negsuc, ◌-ℤ◌, ◌≤ℤ◌, IfOk, IsTrue, List, [], true, false, unsigned_abs};
 ghost use Rattle.linear.specs.declared.form.Fact.{Fact};
 ghost use Rattle.ranges.specs.cfg.declared.structure.Move.{Move as MoveKind};
 ghost use Rattle.footprints.specs.Zones.{span, same_object, mode_covers, modes_agree, between, shows_order, is_empty, covers, is_apart, conflict, is_covered, ShowsNoNegative};
@@ -76,32 +76,48 @@ fn between(
     })
 }
 
-/// The number that an end is; none where it has registers.
-fn number_of(form: &Form) -> Option<i128>
-    ensures terms { IfSome result (λ _. form.now.terms ≡ []) }
-    ensures value { IfSome result (λ n. n ≡ form.now.constant) }
-    ensures small { IfSome result (λ n. unsigned_abs n < 2 ^ 100) }
+/// Whether an end has no registers.
+fn is_number(form: &Form) -> bool
+    ensures { IsTrue result → form.now.terms ≡ [] }
 {
-    let side = side_of(form);
-    if side.terms.is_empty() {
-        Some(side.constant)
-    } else {
-        None
-    }
+    side_of(form).terms.is_empty()
+}
+
+/// By how much one number is above another.
+fn difference(high: i128, low: i128) -> i128
+    requires high { unsigned_abs high < 2 ^ 100 }
+    requires low { unsigned_abs low < 2 ^ 100 }
+    ensures { result ≡ high -ℤ low }
+{
+    high - low
+}
+
+/// Whether a number is within the bounds of a form's constant, and not below 0.
+fn is_natural(number: i128) -> bool
+    ensures least { IsTrue result → pos 0 ≤ℤ number }
+    ensures small { IsTrue result → unsigned_abs number < 2 ^ 100 }
+{
+    0 <= number && number <= 1_267_650_600_228_229_401_496_703_205_375
+}
+
+fn is_negative(number: i128) -> bool
+    ensures { IsTrue result → number ≤ℤ negsuc 0 }
+{
+    number < 0
 }
 
 /// Whether two ends are numbers, of which the first is no less than the second.
 fn is_no_less(high: &Form, low: &Form) -> bool
     ensures { IsTrue result → (facts : List Fact) (for_high for_low : List MoveKind) → shows_order facts for_high high.now for_low low.now ≡ true }
 {
-    let Some(high) = number_of(high) else {
+    if !is_number(high) {
         return false;
-    };
-    let Some(low) = number_of(low) else {
+    }
+    if !is_number(low) {
         return false;
-    };
-    let difference = high - low;
-    0 <= difference && difference <= 1_267_650_600_228_229_401_496_703_205_375
+    }
+    let over = difference(side_of(high).constant, side_of(low).constant);
+    is_natural(over)
 }
 
 /// Whether two ends are numbers, of which the first is less than the second.
@@ -109,13 +125,14 @@ fn is_less(high: &Form, low: &Form) -> bool
     ensures { IsTrue result → (facts : List Fact) (for_high for_low : List MoveKind) → ShowsNoNegative facts
         → shows_order facts for_high high.now for_low low.now ≡ false }
 {
-    let Some(high) = number_of(high) else {
+    if !is_number(high) {
         return false;
-    };
-    let Some(low) = number_of(low) else {
+    }
+    if !is_number(low) {
         return false;
-    };
-    high < low
+    }
+    let over = difference(side_of(high).constant, side_of(low).constant);
+    is_negative(over)
 }
 
 /// Whether high >= low is shown.
