@@ -208,15 +208,15 @@ def cases(count):
     adds = count // 32
     head = f"define i64 @main(i64 %n, i64 %m) {{\n;! requires %n <= 9\n;! requires %m <= 9\n;! budget 0 {adds + 3}\nentry:\n;! left 0 {adds + 3}\n"
     facts = [f";! shows {k + 1}*%n <= {9 * k + 10}\n" + (f"%x{k} = add i64 %n, 0\n" if k % 32 == 0 else "") for k in range(1, count + 1)]
-    ways = "%y = add i64 %n, 0\nswitch i64 %m, label %a64 [\n" + "".join(f"i64 {k}, label %a{k}\n" for k in range(64)) + "]\n"
+    ways = "%y = add i64 %n, 0\nswitch i64 %m, label %a64 [" + "".join(f" i64 {k}, label %a{k}" for k in range(64)) + " ]\n"
     keeps = "".join(f";! keeps {k + 1}*%n+{k + 2}*%m <= {18 * k + 27}\n" for k in range(32))
     return head + "".join(facts) + ways + "".join(f"a{k}:\n{keeps};! left 0 1\nret i64 0\n" for k in range(65)) + "}\n"
 
 def pointers(count):
     """So many calls in one block, then a pointer, and as many loads through it."""
     total = 3 * count + 2
-    callee = "define void @f() {\n;! budget 0 1\nentry:\n;! left 0 1\nret void\n}\n"
-    head = f"@a = global [9 x i64] zeroinitializer\ndefine i64 @main(i64 %n) {{\n;! writes @a 0 9\n;! budget 0 {total}\nentry:\n;! left 0 {total}\n"
+    callee = "@a = global [9 x i64] zeroinitializer\ndefine void @f() {\n;! budget 0 1\nentry:\n;! left 0 1\nret void\n}\n"
+    head = f"define i64 @main(i64 %n) {{\n;! writes @a 0 9\n;! budget 0 {total}\nentry:\n;! left 0 {total}\n"
     return callee + head + "call void @f()\n" * count + "%p = getelementptr inbounds i64, ptr @a, i64 0\n" + "store i64 0, ptr %p\n" * count + "ret i64 0\n}\n"
 
 def selves(count):
