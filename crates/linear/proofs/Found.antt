@@ -2,7 +2,7 @@
 use Rattle.std.proofs.Common.{◌≡◌, ◌∙◌, ℕ, zero, suc, ◌<◌, pos, ◌+ℤ◌, ◌*ℤ◌, true, List, [], Option, length, get_or, inl, inr, sym, ap, refl, arith}
 use Rattle.std.specs.List.{Contains}
 use Rattle.std.specs.Option.{IfSome}
-use Rattle.std.proofs.lemmas.Bool.{cases_Bool}
+use Rattle.std.proofs.lemmas.Bool.{cases_Bool, cases_eq}
 use Rattle.std.specs.Int.RustNames.{unsigned_abs}
 use Rattle.std.proofs.lemmas.List.{length-map, get_or-map}
 use Rattle.std.proofs.Math.IntN.{zero-*ℤ}
@@ -56,6 +56,55 @@ counted facts e f a rising in_f (inr (r, is)) = elim (named_or_none e.terms r ri
   | inl none ↦ for_nothing facts e f a (is ∙ ap unsigned_abs none)
   | inr (k, within, own) ↦ as_it_is facts e f a in_f (suc k, omega (arith, within, length-map e.terms (λ (t : Term). unsigned_abs t.coefficient)), factor_at e.terms k a within ∙ ap unsigned_abs (sym (own some_term)) ∙ sym is)
 ]
+
+in_factors : (e : Combination) (a : ℕ) → IsRising e.terms → (a ≡ 0 → ⊥) → IsFactor e a → Contains (factors e.terms) a
+in_factors e a rising some (inl one) = (0, omega arith, sym one)
+in_factors e a rising some (inr (r, is)) = elim (named_or_none e.terms r rising) [
+  | inl none ↦ absurd (some (is ∙ ap unsigned_abs none))
+  | inr (k, within, own) ↦ (suc k, omega (arith, within, length-map e.terms (λ (t : Term). unsigned_abs t.coefficient)), factor_at e.terms k a within ∙ ap unsigned_abs (sym (own some_term)) ∙ sym is)
+]
+
+-- with a factor that is not 0
+counted_some : (facts : List Fact) (e f : Combination) (a : ℕ) → IsRising e.terms → Contains (sides facts) f → IsFactor e a → (c : Counts facts e f a) × (0 < c.factor)
+counted_some facts e f a rising in_f is = elim (cases_eq a 0) [
+  | inl none ↦ (for_nothing facts e f a none, omega arith)
+  | inr some ↦ (as_it_is facts e f a in_f (in_factors e a rising some is), omega (arith, some))
+]
+
+-- two facts that show a form, with factors that are not 0
+pub record ShowsSome (facts : List Fact) (e : Combination) : Type 0 where
+  pub f : Combination
+  pub g : Combination
+  pub a : ℕ
+  pub b : ℕ
+  pub f_is : Contains (sides facts) f
+  pub g_is : Contains (sides facts) g
+  pub a_is : Contains (factors e.terms) a
+  pub b_is : Contains (factors e.terms) b
+  pub some_a : 0 < a
+  pub some_b : 0 < b
+  pub sum : IsSum e a f b g
+
+pub shown_some : (facts : List Fact) (e : Combination) → IsRising e.terms → IsShown facts e → ShowsSome facts e
+shown_some facts e rising s =
+    let f = counted_some facts e s.f s.a rising s.f_is s.a_is in
+    let g = counted_some facts e s.g s.b rising s.g_is s.b_is in
+    record {
+      f = f.0.side;
+      g = g.0.side;
+      a = f.0.factor;
+      b = g.0.factor;
+      f_is = f.0.side_is;
+      g_is = g.0.side_is;
+      a_is = f.0.factor_is;
+      b_is = g.0.factor_is;
+      some_a = f.1;
+      some_b = g.1;
+      sum = record {
+        terms = λ r. s.sum.terms r ∙ ap (λ x. x +ℤ (pos s.b *ℤ coefficient_of s.g.terms r)) (f.0.terms r) ∙ ap (λ x. (pos f.0.factor *ℤ coefficient_of f.0.side.terms r) +ℤ x) (g.0.terms r);
+        constant = rw (← f.0.constant, ← g.0.constant) s.sum.constant;
+      };
+    }
 
 made : (facts : List Fact) (e : Combination) (lead : Option RegisterId) (f g : Combination) (a b : ℕ) → has_some f.terms lead ≡ true →
     Contains (sides facts) f → Contains (sides facts) g → Contains (factors e.terms) a → Contains (factors e.terms) b → IsSum e a f b g → IsFound facts e lead

@@ -1,5 +1,5 @@
 -- What stands for the facts in an index, and what it makes up.
-use Rattle.std.proofs.Common.{◌≡◌, ◌∙◌, ℕ, zero, suc, ◌<◌, ◌≤◌, ◌+◌, ◌*◌, ◌^◌, ℤ, pos, ◌+ℤ◌, ◌*ℤ◌, ◌-ℤ◌, ◌≤ℤ◌, List, [], ◌∷◌, ◌++◌, length, get_or, insert, set, map, take, drop, None, inl, inr, sym, ap, refl, subst, arith}
+use Rattle.std.proofs.Common.{◌≡◌, ◌∙◌, ℕ, zero, suc, ◌<◌, ◌≤◌, ◌+◌, ◌*◌, ◌^◌, ℤ, pos, ◌+ℤ◌, ◌*ℤ◌, ◌-ℤ◌, ◌≤ℤ◌, List, [], ◌∷◌, ◌++◌, length, get_or, insert, set, map, take, drop, inl, inr, sym, ap, refl, subst, arith}
 use Rattle.std.specs.List.{All, Contains}
 use Rattle.std.specs.List.Sorted.{IsNonDecreasingBy, IsPermutation}
 use Rattle.std.proofs.Math.ListN.{get_or-append}
@@ -13,12 +13,11 @@ use Rattle.linear.specs.declared.form.Fact.{Fact}
 use Rattle.linear.specs.declared.index.Entry.{Entry}
 use Rattle.linear.specs.Forms.{Combination, coefficient_of, constant_form, IsRising}
 use Rattle.linear.specs.Shown.{IsSum, IsShown, sides}
-use Rattle.linear.specs.Search.{factors, IsFound}
+use Rattle.linear.specs.Search.{factors}
 use Rattle.linear.specs.Index.{weight, weigh, IsKeyOf, place_at, IsEntry, IsAsStrong, IsIndexed, AreListed, IsIndex, IsBegun, IsMadeUp, IsMadeUpByA}
 use Rattle.linear.proofs.Values.{distributes, keeps_sign, value_combines}
-use Rattle.linear.proofs.Newest.{in_sides}
 use Rattle.linear.proofs.Left.{swapped}
-use Rattle.linear.proofs.Found.{is_factor, shown_found}
+use Rattle.linear.proofs.Found.{is_factor, shown_some}
 
 -- ---- strength
 
@@ -247,7 +246,7 @@ alone_shown facts e b rising in_b (g, in_g, sum) = record {
 }
 
 pub shown_by_index : (facts : List Fact) (es : List Entry) → IsIndex facts (suc (length facts)) es → (e : Combination) → IsRising e.terms → IsMadeUpByA facts e es → IsShown facts e
-shown_by_index facts es index e rising (a, in_a, (b, in_b, le, (entry, c, (g, in_g, sum)))) = record {
+shown_by_index facts es index e rising (a, in_a, (b, in_b, some, le, (entry, c, (g, in_g, sum)))) = record {
   f = place_at facts entry.place;
   g = g;
   a = a;
@@ -260,20 +259,19 @@ shown_by_index facts es index e rising (a, in_a, (b, in_b, le, (entry, c, (g, in
 }
 
 -- the greater factor first
-greater_first : (facts : List Fact) (es : List Entry) → IsIndex facts (suc (length facts)) es → (e f g : Combination) (a b : ℕ) → b ≤ a → Contains (factors e.terms) a → Contains (factors e.terms) b →
+greater_first : (facts : List Fact) (es : List Entry) → IsIndex facts (suc (length facts)) es → (e f g : Combination) (a b : ℕ) → 0 < b → b ≤ a → Contains (factors e.terms) a → Contains (factors e.terms) b →
     Contains (sides facts) f → Contains (sides facts) g → IsSum e a f b g → IsMadeUpByA facts e es
-greater_first facts es index e f g a b le in_a in_b in_f in_g sum =
+greater_first facts es index e f g a b some le in_a in_b in_f in_g sum =
     let k = kept_side facts es index f in_f in
-    (a, in_a, (b, in_b, le, (k.0, k.1, (g, in_g, stronger_first e a f (place_at facts k.0.place) b g k.2 sum))))
-
-by_index : (facts : List Fact) (es : List Entry) → IsIndex facts (suc (length facts)) es → (e : Combination) → IsFound facts e None → IsMadeUpByA facts e es
-by_index facts es index e (f, in_f, (leads, (a, in_a, (g, in_g, (b, in_b, sum))))) = elim (cases_lt a b) [
-  | inl less ↦ greater_first facts es index e g f b a (omega (arith, less)) in_b in_a (in_sides facts g in_g) (in_sides facts f in_f) (swapped e a f b g sum)
-  | inr more ↦ greater_first facts es index e f g a b more in_a in_b (in_sides facts f in_f) (in_sides facts g in_g) sum
-]
+    (a, in_a, (b, in_b, some, le, (k.0, k.1, (g, in_g, stronger_first e a f (place_at facts k.0.place) b g k.2 sum))))
 
 pub index_shows : (facts : List Fact) (es : List Entry) → IsIndex facts (suc (length facts)) es → (e : Combination) → IsRising e.terms → IsShown facts e → IsMadeUpByA facts e es
-index_shows facts es index e rising s = by_index facts es index e (shown_found facts e None tt rising s)
+index_shows facts es index e rising shown =
+    let s = shown_some facts e rising shown in
+    elim (cases_lt s.a s.b) [
+      | inl less ↦ greater_first facts es index e s.g s.f s.b s.a s.some_a (omega (arith, less)) s.b_is s.a_is s.g_is s.f_is (swapped e s.a s.f s.b s.g s.sum)
+      | inr more ↦ greater_first facts es index e s.f s.g s.a s.b s.some_b more s.a_is s.b_is s.f_is s.g_is s.sum
+    ]
 
 -- ---- some of the facts
 

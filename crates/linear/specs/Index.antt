@@ -53,7 +53,7 @@ pub record IsBegun (facts : List Fact) (count : ℕ) (entries : List Entry) : Ty
   pub within : count ≤ suc (length facts)
   pub index : IsIndex facts count entries
 
--- ---- the search: some first factor, some second factor that is no more, some first fact, some second fact
+-- ---- the search: some first factor, some second factor that is no more and not 0, some first fact, some second fact
 
 abbrev pub IsMadeUp : List Fact → Combination → Combination → ℕ → ℕ → Type 0
 IsMadeUp facts e f a b = (g : Combination) × Contains (sides facts) g × IsSum e a f b g
@@ -62,7 +62,7 @@ abbrev pub IsMadeUpWith : List Fact → Combination → List Entry → ℕ → �
 IsMadeUpWith facts e entries a b = (first : Entry) × Contains entries first × IsMadeUp facts e (place_at facts first.place) a b
 
 abbrev pub IsMadeUpByB : List Fact → Combination → List Entry → ℕ → Type 0
-IsMadeUpByB facts e entries a = (b : ℕ) × Contains (factors e.terms) b × (b ≤ a) × IsMadeUpWith facts e entries a b
+IsMadeUpByB facts e entries a = (b : ℕ) × Contains (factors e.terms) b × (0 < b) × (b ≤ a) × IsMadeUpWith facts e entries a b
 
 abbrev pub IsMadeUpByA : List Fact → Combination → List Entry → Type 0
 IsMadeUpByA facts e entries = (a : ℕ) × Contains (factors e.terms) a × IsMadeUpByB facts e entries a

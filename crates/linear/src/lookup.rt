@@ -276,6 +276,9 @@ fn is_made_up_alone(search: &Search<'_>, b: u32) -> bool
     requires b { b ≤ 2 ^ 24 }
     ensures { IsTrue result → IsMadeUp search.now.facts.now search.now.form.now (place_at search.now.facts.now 0) 1 b }
 {
+    if b == 0 {
+        return false;
+    }
     match wanted(search.key, 1, 2_305_843_009_213_693_952, b) {
         Some(wanted) => {
             let upto = search
@@ -318,7 +321,8 @@ fn is_repeated(terms: &[Term], index: usize) -> bool
     false
 }
 
-/// Whether b times a fact makes the form up with a times another, for some b that is no more.
+/// Whether b times a fact makes the form up with a times another, for some b that is no more. With a factor 0 a fact counts for nothing, as an absent
+/// one does; forms whose registers cancel have that factor.
 fn made_up_by_b(search: &Search<'_>, a: u32) -> bool
     requires index { IsIndex search.now.facts.now (suc (length search.now.facts.now)) search.now.entries.now }
     requires key { IsKeyOf search.now.form.now.terms search.now.key }
@@ -329,6 +333,9 @@ fn made_up_by_b(search: &Search<'_>, a: u32) -> bool
     let count = terms.len() + 1;
     for index in 0..count {
         let b = factor(terms, index);
+        if b == 0 {
+            continue;
+        }
         if b > a {
             continue;
         }

@@ -1,4 +1,5 @@
 use Rattle.std.proofs.Common.{get_or}
+use Rattle.std.proofs.lemmas.Bool.{false≢true}
 use Rattle.std.proofs.lemmas.List.Elements.{All-contains, Contains-get_or}
 use Rattle.linear.specs.Index.{place_at, IsEntry}
 use Rattle.linear.proofs.Indexing.{side_of_entry}
@@ -8,6 +9,9 @@ pub some_makes_up-requires-clause-run : goal.some_makes_up-requires-clause-run
 some_makes_up-requires-clause-run c = λ k d l.
     let run = c.run_before-run.result.now in
     All-contains (IsEntry c.args.search.now.facts.now) c.args.search.now.entries.now (get_or run k d) c.requires.index.own (c.run_before-run.ensures.within (get_or run k d) (Contains-get_or run k d l))
+
+pub returns-then-b-eq0 : goal.returns-then-b-eq0
+returns-then-b-eq0 c = λ h. absurd (false≢true h)
 
 pub returns-in-Some : goal.returns-in-Some
 returns-in-Some c = λ h.

@@ -7,14 +7,23 @@ use Rattle.linear.specs.Index.{IsMadeUpWith}
 use Rattle.linear.proofs.Parts.{none_found, repeated_not, length_factors}
 use Rattle.linear.proofs.lookup.made_up_by_b.Goals as goal
 
+pub loop-index-preserved-then-b-eq0 : goal.loop-index-preserved-then-b-eq0
+loop-index-preserved-then-b-eq0 c =
+    let terms = c.args.search.now.form.now.terms in
+    let same = c.side_of.ensures.terms in
+    let is : c.factor-b.result ≡ get_or (factors terms) c.loop-index.index 0 = c.factor-b.ensures.value ∙ ap (λ ts. get_or (factors ts) c.loop-index.index 0) same in
+    All-more (λ (x : ℕ). (0 < x) × (x ≤ c.args.a) × IsMadeUpWith c.args.search.now.facts.now c.args.search.now.form.now c.args.search.now.entries.now c.args.a x → ⊥) (factors terms) c.loop-index.index 0
+    (rw (length_factors terms) (omega (arith, c.loop-index-test.true, ap length same))) c.loop-index.invariant
+    (λ s. omega (arith, s.0, is, c.if-b-eq0.true))
+
 pub loop-index-preserved-then-b-a : goal.loop-index-preserved-then-b-a
 loop-index-preserved-then-b-a c =
     let terms = c.args.search.now.form.now.terms in
     let same = c.side_of.ensures.terms in
     let is : c.factor-b.result ≡ get_or (factors terms) c.loop-index.index 0 = c.factor-b.ensures.value ∙ ap (λ ts. get_or (factors ts) c.loop-index.index 0) same in
-    All-more (λ (x : ℕ). (x ≤ c.args.a) × IsMadeUpWith c.args.search.now.facts.now c.args.search.now.form.now c.args.search.now.entries.now c.args.a x → ⊥) (factors terms) c.loop-index.index 0
+    All-more (λ (x : ℕ). (0 < x) × (x ≤ c.args.a) × IsMadeUpWith c.args.search.now.facts.now c.args.search.now.form.now c.args.search.now.entries.now c.args.a x → ⊥) (factors terms) c.loop-index.index 0
     (rw (length_factors terms) (omega (arith, c.loop-index-test.true, ap length same))) c.loop-index.invariant
-    (λ s. omega (arith, s.0, is, c.if-b-a.true))
+    (λ s. omega (arith, s.1, is, c.if-b-a.true))
 
 pub loop-index-preserved-then-is_repeated : goal.loop-index-preserved-then-is_repeated
 loop-index-preserved-then-is_repeated c =
@@ -22,8 +31,8 @@ loop-index-preserved-then-is_repeated c =
     let same = c.side_of.ensures.terms in
     let within : c.loop-index.index < length (factors terms) = rw (length_factors terms) (omega (arith, c.loop-index-test.true, ap length same)) in
     let twice = c.if-is_repeated.ensures refl in
-    All-more (λ (x : ℕ). (x ≤ c.args.a) × IsMadeUpWith c.args.search.now.facts.now c.args.search.now.form.now c.args.search.now.entries.now c.args.a x → ⊥) (factors terms) c.loop-index.index 0 within c.loop-index.invariant
-    (repeated_not (λ (x : ℕ). (x ≤ c.args.a) × IsMadeUpWith c.args.search.now.facts.now c.args.search.now.form.now c.args.search.now.entries.now c.args.a x) (factors terms) c.loop-index.index twice.0 within twice.1
+    All-more (λ (x : ℕ). (0 < x) × (x ≤ c.args.a) × IsMadeUpWith c.args.search.now.facts.now c.args.search.now.form.now c.args.search.now.entries.now c.args.a x → ⊥) (factors terms) c.loop-index.index 0 within c.loop-index.invariant
+    (repeated_not (λ (x : ℕ). (0 < x) × (x ≤ c.args.a) × IsMadeUpWith c.args.search.now.facts.now c.args.search.now.form.now c.args.search.now.entries.now c.args.a x) (factors terms) c.loop-index.index twice.0 within twice.1
     (subst (λ (ts : List Term). get_or (factors ts) twice.0 0 ≡ get_or (factors ts) c.loop-index.index 0) same twice.2) c.loop-index.invariant)
 
 pub loop-index-preserved : goal.loop-index-preserved
@@ -31,9 +40,9 @@ loop-index-preserved c =
     let terms = c.args.search.now.form.now.terms in
     let same = c.side_of.ensures.terms in
     let is : c.factor-b.result ≡ get_or (factors terms) c.loop-index.index 0 = c.factor-b.ensures.value ∙ ap (λ ts. get_or (factors ts) c.loop-index.index 0) same in
-    All-more (λ (x : ℕ). (x ≤ c.args.a) × IsMadeUpWith c.args.search.now.facts.now c.args.search.now.form.now c.args.search.now.entries.now c.args.a x → ⊥) (factors terms) c.loop-index.index 0
+    All-more (λ (x : ℕ). (0 < x) × (x ≤ c.args.a) × IsMadeUpWith c.args.search.now.facts.now c.args.search.now.form.now c.args.search.now.entries.now c.args.a x → ⊥) (factors terms) c.loop-index.index 0
     (rw (length_factors terms) (omega (arith, c.loop-index-test.true, ap length same))) c.loop-index.invariant
-    (λ s. false≢true (c.if-made_up_with.ensures.1 (rw is s.1)))
+    (λ s. false≢true (c.if-made_up_with.ensures.1 (rw is s.2)))
 
 pub returns-then-made_up_with : goal.returns-then-made_up_with
 returns-then-made_up_with c =
@@ -41,10 +50,10 @@ returns-then-made_up_with c =
     let same = c.side_of.ensures.terms in
     let is : c.factor-b.result ≡ get_or (factors terms) c.loop-index.index 0 = c.factor-b.ensures.value ∙ ap (λ ts. get_or (factors ts) c.loop-index.index 0) same in
     let within : c.loop-index.index < length (factors terms) = rw (length_factors terms) (omega (arith, c.loop-index-test.true, ap length same)) in
-    (λ _. (get_or (factors terms) c.loop-index.index 0, Contains-get_or (factors terms) c.loop-index.index 0 within, omega (arith, is, c.if-b-a.false), rw is at (c.if-made_up_with.ensures.0 refl)), λ _. refl)
+    (λ _. (get_or (factors terms) c.loop-index.index 0, Contains-get_or (factors terms) c.loop-index.index 0 within, omega (arith, is, c.if-b-eq0.false), omega (arith, is, c.if-b-a.false), rw is at (c.if-made_up_with.ensures.0 refl)), λ _. refl)
 
 pub returns : goal.returns
 returns c = (
   λ h. absurd (false≢true h),
-  λ s. absurd (none_found (λ (x : ℕ). (x ≤ c.args.a) × IsMadeUpWith c.args.search.now.facts.now c.args.search.now.form.now c.args.search.now.entries.now c.args.a x) (factors c.args.search.now.form.now.terms) c.loop-index.index c.loop-index.invariant (rw (length_factors c.args.search.now.form.now.terms) (omega (arith, c.loop-index-test.false, ap length c.side_of.ensures.terms))) s.0 s.1 (s.2, s.3)),
+  λ s. absurd (none_found (λ (x : ℕ). (0 < x) × (x ≤ c.args.a) × IsMadeUpWith c.args.search.now.facts.now c.args.search.now.form.now c.args.search.now.entries.now c.args.a x) (factors c.args.search.now.form.now.terms) c.loop-index.index c.loop-index.invariant (rw (length_factors c.args.search.now.form.now.terms) (omega (arith, c.loop-index-test.false, ap length c.side_of.ensures.terms))) s.0 s.1 (s.2, s.3, s.4)),
 )
