@@ -276,7 +276,7 @@ def weight(register):
     return spread * spread % 16777213
 
 def alike(count):
-    """So many `shows` lines of four registers whose weighted sums are all 0, so that an index by such sums tells none of them apart; most are not shown."""
+    """So many `shows` lines of four registers whose weighted sums are all 0, so that an index by such sums tells none of them apart; none is shown."""
     weights, halves, reach = [weight(register) for register in range(4)], {}, 330
     for x in range(-reach, reach + 1):
         for y in range(-reach, reach + 1):
@@ -285,7 +285,7 @@ def alike(count):
     found = [halves[sum] + (z, w) for z, w in pairs if (sum := -weights[2] * z - weights[3] * w) in halves and (z, w) > (0, 0)]
     one, other = sorted(found, key=lambda form: max(map(abs, form)))[:2]
     wide = int(count ** 0.5) + 1
-    forms = [[i * x + j * y for x, y in zip(one, other)] for i in range(1, wide + 1) for j in range(1, wide + 1)][:count]
+    forms = [[i * x + j * y for x, y in zip(one, other)] for i in range(wide, 2 * wide) for j in range(wide, 2 * wide)][:count]
     head = f"define i64 @main(i64 %a, i64 %b, i64 %c, i64 %d) {{\n;! budget 0 {count // 32 + 2}\nentry:\n;! left 0 {count // 32 + 2}\n"
     lines = []
     for k, form in enumerate(forms, 1):
