@@ -1,7 +1,7 @@
 //! The loop of a worker on its thread.
 
 use crate::gate::Gate;
-use crate::turns::{commit, go};
+use crate::turns::{commit, go_on, load};
 use crate::workers::Worker;
 use shared_run::{Bench, Claimed, Committed, Fetched, Shared};
 use std::sync::Wait;
@@ -60,43 +60,45 @@ pub(crate) fn work<L: Bench, G: Gate, R: Wait + Clock>(
     }
 }
 
-/// Worker 0 begins with `root`, and the others have no task.
-fn begin<L: Bench, R: Wait>(rt: &R, shared: &Shared<'_, L>, worker: &Worker<'_, L>) -> Next {
-    let board = shared.board.lock(rt);
-    match board.machine().depth_of(worker.seat.worker()) {
-        Some(_) => Next::Strand,
-        None => Next::Search,
+/// What a worker does next whose strand was to be loaded.
+fn next_of(loaded: Fetched) -> Next {
+    match loaded {
+        Fetched::Frame | Fetched::Cell => Next::Strand,
+        Fetched::Idle => Next::Search,
+        // It has no room for the frame's path: as where memory was refused.
+        Fetched::Stranger => Next::Leave,
     }
 }
 
-/// One strand of the worker's task; a task that it leaves ready is offered.
+/// Worker 0 begins with `root`, and the others have no task.
+fn begin<L: Bench, R: Wait>(rt: &R, shared: &Shared<'_, L>, worker: &mut Worker<'_, L>) -> Next {
+    let board = shared.board.lock(rt);
+    next_of(load(&board, worker))
+}
+
+/// The strand of the worker's task that is loaded; a task that it leaves ready is offered.
 fn do_strand<L: Bench, R: Wait>(
     rt: &R,
     shared: &Shared<'_, L>,
     worker: &mut Worker<'_, L>,
 ) -> Next {
-    match go(rt, shared, worker) {
-        Fetched::Idle => return Next::Search,
-        // It has no room for the frame's path: as where memory was refused.
-        Fetched::Stranger => return Next::Leave,
-        Fetched::Frame | Fetched::Cell => {}
-    }
-    match commit(rt, shared, worker) {
-        Committed::After { ended: true, .. } | Committed::OutOfMemory => Next::Leave,
+    go_on(rt, shared, worker);
+    let (committed, loaded) = commit(rt, shared, worker);
+    match committed {
+        Committed::After { ended: true, .. } | Committed::OutOfMemory => return Next::Leave,
         Committed::After {
             ready: Some(ticket),
             ..
         } => {
             // A task whose ticket is refused is still found at the board.
             let _ = worker.hands.offer(ticket);
-            Next::Strand
         }
-        Committed::After { idle: true, .. } => Next::Search,
-        Committed::After { .. } | Committed::Stranger => Next::Strand,
+        Committed::After { .. } | Committed::Stranger => {}
     }
+    next_of(loaded)
 }
 
-/// Claims a task by a ticket, or, where there is none, the first that is ready.
+/// Claims a task by a ticket, or, where there is none, the first that is ready, and loads its frame.
 fn search<L: Bench, R: Wait>(rt: &R, shared: &Shared<'_, L>, worker: &mut Worker<'_, L>) -> Next {
     let ticket = worker.next_ticket();
     let mut board = shared.board.lock(rt);
@@ -104,9 +106,8 @@ fn search<L: Bench, R: Wait>(rt: &R, shared: &Shared<'_, L>, worker: &mut Worker
         Some(ticket) => board.claim(&mut worker.seat, ticket),
         None => board.claim_first(&mut worker.seat),
     };
-    drop(board);
     match claimed {
-        Claimed::Taken => Next::Strand,
+        Claimed::Taken => next_of(load(&board, worker)),
         Claimed::Gone if ticket.is_some() => Next::Search,
         Claimed::Gone => Next::Rest,
         Claimed::OutOfMemory => Next::Leave,

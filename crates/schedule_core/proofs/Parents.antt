@@ -12,7 +12,8 @@ use Rattle.frame.specs.declared.frame.Role.{Role}
 use Rattle.frame.specs.declared.frame.Role.TheVariants as role
 use Rattle.frame.specs.Reading.{role_of}
 use Rattle.cactus.specs.declared.node.Node.{Node}
-use Rattle.cactus.specs.Frames.{node_at, frame_at, HasPath, HasNoPath}
+use Rattle.cactus.specs.Frames.{Frames, node_at, frame_at, HasPath}
+use Rattle.cactus.proofs.FramesLemmas.{node_of_use-own}
 use Rattle.crew.specs.declared.activation.Activation.{Activation}
 use Rattle.crew.specs.declared.run.Run.{Run}
 use Rattle.crew.specs.Scheduling.{hand_of}
@@ -21,7 +22,7 @@ use Rattle.crew.specs.Tasks.{IsReady}
 use Rattle.crew.proofs.Stealing.{ready_standing, standing_is}
 use Rattle.crew.proofs.Topmost.{hand_found, holder_is}
 use Rattle.schedule_core.specs.declared.stage.Stage.{Stage}
-use Rattle.schedule_core.specs.Parents.{HasNoParentSlot, HasNoReadyParent, IsParentSlot, IsReadyParent}
+use Rattle.schedule_core.specs.Parents.{HasNoParentSlot, HasNoReadyParent, IsParentSlot, IsReadyParent, IsReadySpot, IsSpotBelow}
 use Rattle.schedule_core.specs.Stages.{IsState, program_of, workers_of}
 use Rattle.schedule_core.specs.Viewed.{place_in, IsReadyAt}
 use Rattle.schedule_core.proofs.Firsts.{ready_status}
@@ -43,6 +44,25 @@ pub slot_if : (m : Run) (worker top : ℕ) (child : Node Activation) (region : R
 slot_if m worker top child region continuation None hand stands is at = tt
 slot_if m worker top child region continuation (Some slot) hand stands is at =
     record { top = top; hand = hand; child = child; stands = stands; role = λ e. (let f : role.Child region continuation ≡ role.Body = sym is ∙ e in cc); parent = at }
+
+-- ---- a ready task by the use of a slot
+
+pub spot_if : (frames : Frames Activation) (slot : ℕ) (top : Node Activation) → node_at frames slot ≡ Some top → IsReady top.frame → (o : Option (ℕ × ℕ)) → IfSome o (λ spot. IsSpotBelow frames slot spot.0 spot.1) → IfSome o (λ spot. IsReadySpot frames slot spot.0 spot.1)
+spot_if frames slot top stands ready None below = tt
+spot_if frames slot top stands ready (Some spot) below = record { top = top; stands = stands; ready = ready; task = below }
+
+ready_at : (frames : Frames Activation) (slot low generation : ℕ) (r : IsReadySpot frames slot low generation) → IsReadyAt frames slot r.task.lowest.path
+ready_at frames slot low generation r = record {
+  top = r.top;
+  stands = r.stands;
+  ready = r.ready;
+  task = record { low = low; below = r.task.below; lowest = r.task.lowest; stands = r.task.stands; named = refl };
+}
+
+has_path : (frames : Frames Activation) (slot low generation : ℕ) (b : IsSpotBelow frames slot low generation) → HasPath frames low generation b.lowest.path
+has_path frames slot low generation b =
+    subst (λ g. HasPath frames low g b.lowest.path) b.since
+    (subst (λ o. IsSomeAnd o (λ (node : Node Activation). node.path ≡ b.lowest.path)) (sym (node_of_use-own frames low b.lowest b.stands)) refl)
 
 module _ (stage : Stage) (m : Machine) (state : IsState stage m) (worker : ℕ) where
   parent_of : (slot : ℕ) (path : Path) (generation spot : ℕ) → IsParentSlot stage.run worker slot → IsReadyAt stage.run.cactus slot path → HasPath stage.run.cactus spot generation path → IsReadyParent stage.run m worker spot generation
@@ -95,10 +115,10 @@ module _ (stage : Stage) (m : Machine) (state : IsState stage m) (worker : ℕ) 
 
   -- ---- what the calls answer
 
-  pub shown : (slot : ℕ) (path : Path) (o : Option (ℕ × ℕ)) → IsParentSlot stage.run worker slot → IsReadyAt stage.run.cactus slot path → IfSome o (λ spot. HasPath stage.run.cactus spot.0 spot.1 path) → IfSome o (λ spot. IsReadyParent stage.run m worker spot.0 spot.1)
-  shown slot path None p r has = tt
-  shown slot path (Some spot) p r has = parent_of slot path spot.1 spot.0 p r has
+  pub shown : (slot : ℕ) (o : Option (ℕ × ℕ)) → IsParentSlot stage.run worker slot → IfSome o (λ spot. IsReadySpot stage.run.cactus slot spot.0 spot.1) → IfSome o (λ spot. IsReadyParent stage.run m worker spot.0 spot.1)
+  shown slot None p ready = tt
+  shown slot (Some spot) p ready = parent_of slot ready.task.lowest.path spot.1 spot.0 p (ready_at stage.run.cactus slot spot.0 spot.1 ready) (has_path stage.run.cactus slot spot.0 spot.1 ready.task)
 
-  pub found : (slot : ℕ) (path : Path) (o : Option (ℕ × ℕ)) → IsReadyAt stage.run.cactus slot path → IfNone o (HasNoPath stage.run.cactus path) → IfNone o (HasNoReadyParent (workers_of stage) m worker)
-  found slot path (Some spot) r none = tt
-  found slot path None r none = absurd (none r.task.low r.task.lowest r.task.stands r.task.named)
+  pub found : (slot : ℕ) (o : Option (ℕ × ℕ)) → IsParentSlot stage.run worker slot → IfNone o (¬ IsSomeAnd (frame_at stage.run.cactus slot) IsReady) → IfNone o (HasNoReadyParent (workers_of stage) m worker)
+  found slot (Some spot) p off = tt
+  found slot None p off = not_ready slot p off

@@ -1,8 +1,11 @@
-ghost use Rattle.std.specs.Prelude.{◌≡◌, length, IfNone, IfSome};
+ghost use Rattle.std.specs.Prelude.{◌≡◌, length, IfNone, IfSome, IsSome, IsSomeAnd};
 ghost use Rattle.std.specs.Option.{option_map};
 ghost use Rattle.running.specs.Events as running;
 ghost use Rattle.running.specs.Paths.{Path};
-ghost use Rattle.schedule_core.specs.Parents.{HasNoParentSlot, HasNoReadyParent, IsParentSlot, IsReadyParent};
+ghost use Rattle.cactus.specs.Frames.{Lives, frame_at};
+ghost use Rattle.cactus.specs.ByPath.{IsTree};
+ghost use Rattle.crew.specs.Tasks.{IsReady};
+ghost use Rattle.schedule_core.specs.Parents.{HasNoParentSlot, HasNoReadyParent, IsParentSlot, IsReadyParent, IsReadySpot, IsSpotBelow};
 ghost use Rattle.schedule_core.specs.Stages.{IsState, workers_of};
 
 use crate::machine::Machine;
@@ -31,6 +34,28 @@ impl Machine<'_> {
         }
     }
 
+    /// The slot and the generation of the lowest frame of the task on which the slot's frame stands.
+    fn lowest_spot(&self, slot: usize) -> Option<(usize, u64)>
+        ensures shown { IfSome result (λ spot. IsSpotBelow self.now.stage.run.cactus slot spot.0 spot.1) }
+        ensures found { IsTree self.now.stage.run.cactus → Lives self.now.stage.run.cactus slot → IsSome result }
+    {
+        let lowest = self.stage.run.lowest_below(slot)?;
+        Some((lowest, self.stage.run.cactus.node(lowest)?.generation))
+    }
+
+    /// The slot and the generation of the lowest frame of the task of which the slot's frame is the top, where the task is ready.
+    fn ready_spot(&self, slot: usize) -> Option<(usize, u64)>
+        ensures shown { IfSome result (λ spot. IsReadySpot self.now.stage.run.cactus slot spot.0 spot.1) }
+        ensures absent { IsTree self.now.stage.run.cactus → IfNone result (¬ IsSomeAnd (frame_at self.now.stage.run.cactus slot) IsReady) }
+    {
+        let node = self.stage.run.cactus.node(slot)?;
+        if node.frame.is_ready() {
+            self.lowest_spot(slot)
+        } else {
+            None
+        }
+    }
+
     /// The slot and the generation of the lowest frame of the ready task whose top detached the child that the worker runs: what names
     /// that task after a detach.
     pub fn ready_parent(&self, worker: u8) -> Option<(usize, u64)>
@@ -38,7 +63,6 @@ impl Machine<'_> {
         ensures none { (m : running.Machine) → IsState self.now.stage m → IfNone result (HasNoReadyParent (workers_of self.now.stage) m worker) }
     {
         let parent = self.parent_slot(worker)?;
-        let path = self.ready_task(parent)?;
-        self.stage.run.cactus.spot(path)
+        self.ready_spot(parent)
     }
 }

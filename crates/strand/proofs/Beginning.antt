@@ -1,15 +1,15 @@
 -- A copy of a frame that may go on alone is a strand before its first instruction.
-use Rattle.std.proofs.Common.{◌≡◌, ◌≢◌, ℕ, ◌≤◌, ◌<◌, List, [], ◌∷◌, map, refl, ap, sym, ◌∙◌, subst, arith, ℤ, Option, Some, None}
+use Rattle.std.proofs.Common.{◌≡◌, ◌≢◌, ℕ, ◌≤◌, ◌<◌, List, [], ◌∷◌, map, refl, ap, sym, ◌∙◌, subst, arith, ℤ, Bool, true, false, Option, Some, None}
 use Rattle.std.specs.Prelude.{length, reverse, slice_get}
 use Rattle.std.specs.List.{All}
 use Rattle.std.proofs.lemmas.List.Elements.{All-nil}
 use Rattle.running.specs.Paths.{Path}
 use Rattle.running.specs.Cells.{Cell}
-use Rattle.running.specs.Frames.{Frame}
+use Rattle.running.specs.Frames.{Frame, Item, item_at}
 use Rattle.program.specs.declared.function.Program.{Program}
 use Rattle.strands.specs.Footprint.{Write, untouched}
 use Rattle.strands.specs.Strands as strands
-use Rattle.strands.specs.Strands.{IsStrand, is_loaded, pause_of}
+use Rattle.strands.specs.Strands.{IsStrand, is_border, is_loaded, next_of, pause_of}
 use Rattle.frame.specs.Reading.{role_of}
 use Rattle.engine.specs.Activation.{FrameFits, ShowsFrame, allocas_of}
 use Rattle.engine.specs.Fits.{PlaceFits}
@@ -20,11 +20,13 @@ use Rattle.engine.specs.declared.activation.Places.{Places}
 use Rattle.strand.specs.Alone.{GoesAlone}
 use Rattle.strand.specs.Along.{IsAlong, IsGoing, IsUnderWay, MayBegin, MayGo}
 use Rattle.strand.specs.Buffers.{Buffers}
+use Rattle.strand.specs.Gone.{is_load}
 use Rattle.strand.specs.Showing.{ShowsFootprint, read_of}
 use Rattle.strand.specs.Standing.{IsCopy}
 use Rattle.strand.specs.declared.cells.Read.{Read}
 use Rattle.strand.specs.declared.standing.Course.{Course}
-use Rattle.strand.proofs.Pausing.{first_free, stands_free}
+use Rattle.strand.specs.declared.standing.Pause.TheVariants.{Border}
+use Rattle.strand.proofs.Pausing.{first_free, limit_border, plain_free, stands_free}
 
 -- ---- copies
 
@@ -101,6 +103,28 @@ module _ (prog : Program) (places : Places) (path : List ℕ) (f : machine.Frame
     };
     along = fresh;
   }
+
+  -- where it pauses, by what the frame does next
+  module _ (fits : FrameFits prog f) (may : MayBegin prog places path f) where
+    abbrev next : Option Item
+    next = item_at prog f.function.0 f.place.block.0 f.place.index
+
+    next_is : (l : Layout) (g : Frame) → GoesAlone prog places l (reverse x.path.items) g x.loaded → next_of prog g ≡ next
+    next_is l g goes =
+        let s = copy_shows x.loaded f (copy_back f x.loaded loaded) l places (reverse x.path.items) g goes.shown in
+        λ i. item_at prog (s.function i) (s.block i) (s.index i)
+
+    pub begins_at_border : is_border next ≡ true → IsGoing prog places x (Some Border)
+    begins_at_border border = record {
+      way = under_way fits may;
+      pauses = λ l g goes. limit_border prog l (strands.loaded (reverse x.path.items) g) (ap is_border (next_is l g goes) ∙ border);
+    }
+
+    pub begins_freely : is_border next ≡ false → is_load next ≡ false → IsGoing prog places x None
+    begins_freely border load = record {
+      way = under_way fits may;
+      pauses = λ l g goes. plain_free prog l (reverse x.path.items) g (ap is_border (next_is l g goes) ∙ border) (ap is_load (next_is l g goes) ∙ load);
+    }
 
   no_reads : (l : Layout) (rs : List (Cell × ℤ)) (b : List Read) → b ≡ map (read_of l) rs → b ≡ [] → rs ≡ []
   no_reads l [] b e n = refl

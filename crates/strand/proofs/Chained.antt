@@ -121,3 +121,43 @@ chained_push heads entries y c was h n is at same lt = record {
         let ne = q.1 in
         let lt2 : j < length entries = omega (arith, ne) in
         latest_kept entries y (slot e.at) j e.earlier (omega arith) (c.earlier_are j e (sym (get_before entries y j lt2) ∙ g))
+
+-- ---- an address less
+
+latest_cut : (entries : List Entry) (y : Entry) (chain before n : ℕ) → before ≤ length entries → IsLatest (entries ++ y ∷ []) chain before n → IsLatest entries chain before n
+latest_cut entries y chain before n le l = record {
+  within = l.within;
+  last = λ i e lt h. l.last i e lt (get_before entries y i (omega arith) ∙ h);
+  there = λ i q. let (e, h, t) = l.there i q in let w = l.within in (e, sym (get_before entries y i (omega arith)) ∙ h, t);
+}
+
+-- the last one was in no other chain
+latest_without : (entries : List Entry) (y : Entry) (chain n : ℕ) → slot y.at ≢ chain → IsLatest (entries ++ y ∷ []) chain (length (entries ++ y ∷ [])) n → IsLatest entries chain (length entries) n
+latest_without entries y chain n apart l =
+    let more = length_push entries y in
+    let w = l.within in
+    let earlier : n ≢ suc (length entries) = λ q.
+    let (e, h, t) = l.there (length entries) q in
+    apart (ap (λ (x : Entry). slot x.at) (same_Some y e (sym (get_last entries y) ∙ h)) ∙ t) in
+    record {
+      within = omega (arith, earlier, more, w);
+      last = λ i e lt h same. l.last i e (omega (arith, more, lt)) (get_before entries y i lt ∙ h) same;
+      there = λ i q. let (e, h, t) = l.there i q in (e, sym (get_before entries y i (omega (arith, earlier, more, w, q))) ∙ h, t);
+    }
+
+pub chained_pop : (heads : List ℕ) (entries : List Entry) (y : Entry) → IsChained heads (entries ++ y ∷ []) → (h n : ℕ) → n ≡ y.earlier → h ≡ slot y.at → length (slice_set heads h n) ≡ length heads → h < length heads → IsChained (slice_set heads h n) entries
+chained_pop heads entries y c h n is at same lt = record {
+  chains = same ∙ c.chains;
+  heads_are = λ k m g. head k m g (eqb_tells k h);
+  earlier_are = λ j e g.
+      let there = slice_get_within entries j e g in
+      latest_cut entries y (slot e.at) j e.earlier (omega (arith, there)) (c.earlier_are j e (get_before entries y j there ∙ g));
+}
+  where
+    head : (k m : ℕ) → slice_get (slice_set heads h n) k ≡ Some m → ((eqb k h ≡ true) × (k ≡ h)) ⊎ ((eqb k h ≡ false) × (k ≢ h)) → IsLatest entries k (length entries) m
+    head k m g (inl q) =
+        let e : m ≡ y.earlier = same_Some m n (sym g ∙ ap (slice_get (slice_set heads h n)) q.1 ∙ get_set heads h n lt) ∙ is in
+        let chain : slot y.at ≡ k = sym (q.1 ∙ at) in
+        subst (λ (x : ℕ). IsLatest entries k (length entries) x) (sym e) (subst (λ (x : ℕ). IsLatest entries x (length entries) y.earlier) chain
+        (latest_cut entries y (slot y.at) (length entries) y.earlier (omega arith) (c.earlier_are (length entries) y (get_last entries y))))
+    head k m g (inr q) = latest_without entries y k m (λ z. q.1 (sym (at ∙ z))) (c.heads_are k m (sym (get_other heads h k n q.1) ∙ g))

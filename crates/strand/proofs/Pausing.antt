@@ -4,11 +4,13 @@ use Rattle.std.specs.Option.{option_map}
 use Rattle.std.proofs.lemmas.Bool.Decides.{leb_tells}
 use Rattle.std.proofs.lemmas.List.{length-map}
 use Rattle.running.specs.Cells.{Cell}
-use Rattle.running.specs.Frames.{Frame, Item, Does, Ends}
+use Rattle.running.specs.Frames.{Frame, Item, Does, Ends, cell_at}
 use Rattle.program.specs.declared.function.Program.{Program}
 use Rattle.program.specs.declared.instruction.Instruction.{Instruction}
 use Rattle.program.specs.declared.instruction.Instruction.TheVariants as instruction
-use Rattle.strands.specs.Footprint.{Footprint, Write, held, write_at}
+use Rattle.program.specs.declared.instruction.Terminator.{Terminator}
+use Rattle.running.specs.Paths.{Path}
+use Rattle.strands.specs.Footprint.{Footprint, Write, held, untouched, write_at}
 use Rattle.strands.specs.Strands as strands
 use Rattle.strands.specs.Strands.{Strand, Access, IsStrand, is_advanced, is_filled, is_loaded, access_of, is_border, is_full, item_access, loaded, need, next_of, pause_at, pause_of, to_cell}
 use Rattle.engine.specs.Access.{Loads}
@@ -16,7 +18,7 @@ use Rattle.engine.specs.Accesses.{RefusedItem}
 use Rattle.engine.specs.Shows.{Layout, IsIn, address}
 use Rattle.strand.specs.Along.{NeedsLiving, PausesAt, pause_in}
 use Rattle.strand.specs.Buffers.{Buffers, BuffersRefuse, LacksPlace, change_in, held_in}
-use Rattle.strand.specs.Gone.{named}
+use Rattle.strand.specs.Gone.{is_load, named}
 use Rattle.strand.specs.Showing.{AreApart, ShowsFootprint, change_of}
 use Rattle.strand.specs.declared.cells.Stop.{Stop}
 use Rattle.strand.specs.declared.cells.Stop.TheVariants as stop
@@ -131,6 +133,39 @@ pub first_free : (prog : Program) (t : Strand) → IsStrand prog t → t.footpri
 first_free prog _ (is_loaded p f) none one = absurd (omega (arith, one))
 first_free prog _ (is_filled s c v is paused) none one = absurd (no_push s.footprint.reads (c, v) none)
 first_free prog _ (is_advanced s e is free act fine) none one = ap (pause_of prog) (sym (unstarted prog s is none (omega (arith, one)))) ∙ free
+
+-- where no cell is held, what is no border and no load can be done
+abbrev IsFree : Frame → Option Item → Type 0
+IsFree f o = pause_at untouched 0 o (item_access f o) ≡ None
+
+stores_free : (o : Option Cell) → cond (is_full untouched (to_cell strands.Stores o)) (Some strands.Full) (need untouched (to_cell strands.Stores o)) ≡ None
+stores_free None = refl
+stores_free (Some c) = refl
+
+adds_free : (o : Option Cell) → cond (is_full untouched (to_cell strands.Adds o)) (Some strands.Full) (need untouched (to_cell strands.Adds o)) ≡ None
+adds_free None = refl
+adds_free (Some c) = refl
+
+does_free : (f : Frame) (i : Instruction) → is_border (Some (Does i)) ≡ false → is_load (Some (Does i)) ≡ false → IsFree f (Some (Does i))
+does_free f (instruction.Load r a) border load = absurd cc
+does_free f (instruction.StoreZeros cells name) border load = absurd cc
+does_free f (instruction.Call r callee arguments) border load = absurd cc
+does_free f (instruction.Store v a) border load = stores_free (cell_at f a)
+does_free f (instruction.AtomicAdd a v) border load = adds_free (cell_at f a)
+does_free f (instruction.Binary r op w x y) border load = refl
+does_free f (instruction.Compare r by w x y) border load = refl
+does_free f (instruction.Convert r by x) border load = refl
+does_free f (instruction.Alloca r a) border load = refl
+does_free f (instruction.ElementPointer r name i) border load = refl
+does_free f (instruction.StartRegion r) border load = refl
+
+item_free : (f : Frame) (o : Option Item) → is_border o ≡ false → is_load o ≡ false → IsFree f o
+item_free f None border load = refl
+item_free f (Some (Ends t)) border load = rw border refl
+item_free f (Some (Does i)) border load = does_free f i border load
+
+pub plain_free : (prog : Program) (l : Layout) (p : Path) (f : Frame) → is_border (next_of prog f) ≡ false → is_load (next_of prog f) ≡ false → PausesAt prog l (loaded p f) None
+plain_free prog l p f border load = stands_free prog l (loaded p f) (item_free f (next_of prog f) border load)
 
 -- ---- a cell was filled
 

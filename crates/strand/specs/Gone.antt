@@ -1,7 +1,8 @@
 -- For the functions of this crate alone: where the engine's loop leads a strand.
-use Rattle.std.specs.Prelude.{◌≢◌, ℕ, reverse, Some}
-use Rattle.running.specs.Frames.{Frame}
+use Rattle.std.specs.Prelude.{◌≢◌, ℕ, Bool, true, false, reverse, Option, Some}
+use Rattle.running.specs.Frames.{Frame, Item, Does}
 use Rattle.program.specs.declared.function.Program.{Program}
+use Rattle.program.specs.declared.instruction.Instruction.TheVariants.{Load}
 use Rattle.engine.specs.Shows.{Layout}
 use Rattle.engine.specs.declared.activation.Places.{Places}
 use Rattle.engine.specs.declared.turning.Pause as engine
@@ -20,6 +21,11 @@ named engine_pause.Border = Border
 named engine_pause.Limit = Limit
 named (engine_pause.Stopped stop.Full) = Full
 named (engine_pause.Stopped (stop.Need at)) = Need at
+
+-- what stands at a place loads a cell
+abbrev pub is_load : Option Item → Bool
+is_load (Some (Does (Load d address))) = true
+is_load other = false
 
 pub record Gone (prog : Program) (places : Places) (x : Course) (stopped : engine.Pause Stop) (limit : ℕ) : Type 0 where
   pub way : IsUnderWay prog places x

@@ -1,5 +1,6 @@
-ghost use Rattle.std.specs.Prelude.{◌≡◌, ◌≢◌, ◌<◌, ◌++◌, ◌∷◌, ℕ, [], IfNone, IfOk, IfSome, Some, length, replicate, slice_get, vec_len};
+ghost use Rattle.std.specs.Prelude.{◌≡◌, ◌≢◌, ◌<◌, ◌++◌, ◌∷◌, ℕ, [], IfNone, IfOk, IfSome, Some, length, replicate, slice_get, vec_capacity, vec_len};
 ghost use Rattle.strand.specs.Chains.{slot};
+ghost use Rattle.strand.specs.Indexing.{IsChained};
 
 use lists::OutOfMemory;
 use std::alloc::Global;
@@ -68,6 +69,18 @@ fn empty(heads: &mut Vec<u16>)
     heads.fill(0);
 }
 
+/// Takes all addresses out of their chains, the latest first.
+fn unchain(heads: &mut Vec<u16>, entries: &mut Vec<Entry>)
+    requires { IsChained heads.old.items entries.old.items }
+    ensures chained { IsChained heads.new.items entries.new.items }
+    ensures none { entries.new.items ≡ [] }
+    ensures capacity { vec_capacity entries.new ≡ vec_capacity entries.old }
+{
+    while let Some(entry) = entries.pop() {
+        heads[slot(&entry.at)] = entry.earlier;
+    }
+}
+
 impl Index {
     /// An index without addresses, with room for 256.
     pub fn new(alloc: Global) -> Result<Index, OutOfMemory>
@@ -108,11 +121,10 @@ impl Index {
         self.heads[slot] = self.entries.len() as u16;
     }
 
-    /// Leaves no address.
+    /// Leaves no address, in a time that grows with how many there were.
     pub fn clear(&mut self)
         ensures { self.new ≡ [] }
     {
-        self.entries.clear();
-        empty(&mut self.heads);
+        unchain(&mut self.heads, &mut self.entries);
     }
 }
