@@ -89,10 +89,7 @@ fn do_strand<L: Bench, R: Wait>(
         Committed::After {
             ready: Some(ticket),
             ..
-        } => {
-            // A task whose ticket is refused is still found at the board.
-            let _ = worker.hands.offer(ticket);
-        }
+        } => worker.offer(ticket),
         Committed::After { .. } | Committed::Stranger => {}
     }
     next_of(loaded)

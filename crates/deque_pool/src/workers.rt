@@ -21,6 +21,13 @@ pub(crate) struct Worker<'p, L: Bench> {
 }
 
 impl<L: Bench> Worker<'_, L> {
+    /// Offers a ticket, where there are others to take it. A task whose ticket is not offered, or refused, is still found at the board.
+    pub(crate) fn offer(&mut self, ticket: Ticket) {
+        if !self.thieves.is_empty() {
+            let _ = self.hands.offer(ticket);
+        }
+    }
+
     /// A ticket that is to be claimed: the worker's own newest, or else the oldest of another.
     pub(crate) fn next_ticket(&mut self) -> Option<Ticket> {
         if let Some(own) = self.hands.take_newest() {
