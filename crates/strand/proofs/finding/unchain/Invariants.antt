@@ -3,7 +3,7 @@ use Rattle.strand.specs.Indexing.{IsChained}
 use Rattle.strand.proofs.finding.unchain.Given as goal
 
 abbrev pub invariant-loop-entry : goal.invariant-loop-entry
-invariant-loop-entry g l = IsChained l.heads.items l.entries.items × (vec_capacity l.entries ≡ vec_capacity l.fn.entries)
+invariant-loop-entry l = IsChained l.heads.items l.entries.items × (vec_capacity l.entries ≡ vec_capacity l.fn.entries)
 
 abbrev pub decreases-loop-entry : goal.decreases-loop-entry
-decreases-loop-entry g l = vec_len l.entries
+decreases-loop-entry l = vec_len l.entries
