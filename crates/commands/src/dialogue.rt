@@ -107,25 +107,35 @@ fn cell_line(
     }
 }
 
-/// Obeys a command; the answer is the line to write, and none at `quit`.
+/// Obeys a command that does not end the dialogue; the answer is the line to write.
+fn obey_command(
+    alloc: Global,
+    debugger: &mut Debugger<'_>,
+    command: &Command<'_>,
+) -> Result<String, OutOfMemory> {
+    match command {
+        Command::To(position) => debugger.to(*position as usize)?,
+        Command::Forward => debugger.forward()?,
+        Command::Back => debugger.back()?,
+        Command::Break(line) => debugger.break_at(*line)?,
+        Command::Task { name, path } => return task_line(alloc, debugger, name, path),
+        Command::Cell { name, index } => return cell_line(alloc, debugger, name, *index),
+        Command::Quit => {}
+    }
+    position_line(alloc, debugger)
+}
+
+/// Obeys a line; the answer is the line to write, and none at `quit`.
 fn obey(
     alloc: Global,
     debugger: &mut Debugger<'_>,
     line: &[u8],
 ) -> Result<Option<String>, OutOfMemory> {
-    let Some(command) = read_command(alloc, line)? else {
-        return Ok(Some(String::from_str(alloc, "unknown\n")?));
-    };
-    match command {
-        Command::To(position) => debugger.to(position as usize)?,
-        Command::Forward => debugger.forward()?,
-        Command::Back => debugger.back()?,
-        Command::Break(line) => debugger.break_at(line)?,
-        Command::Task { name, path } => return Ok(Some(task_line(alloc, debugger, name, &path)?)),
-        Command::Cell { name, index } => return Ok(Some(cell_line(alloc, debugger, name, index)?)),
-        Command::Quit => return Ok(None),
+    match read_command(alloc, line)? {
+        Some(Command::Quit) => Ok(None),
+        Some(command) => Ok(Some(obey_command(alloc, debugger, &command)?)),
+        None => Ok(Some(String::from_str(alloc, "unknown\n")?)),
     }
-    Ok(Some(position_line(alloc, debugger)?))
 }
 
 /// The next line without its LF; none at the end. The last line may lack the LF.
@@ -138,7 +148,23 @@ fn next_line<B: BufRead>(input: &mut B, line: &mut Vec<u8>) -> io::Result<bool> 
     Ok(count > 0)
 }
 
-/// Answers each line by a line of its own, written at once.
+/// Answers a line by a line of its own, written at once; false at `quit`.
+fn answer_line<W: Write>(
+    alloc: Global,
+    debugger: &mut Debugger<'_>,
+    line: &[u8],
+    output: &mut W,
+) -> io::Result<bool> {
+    match obey(alloc, debugger, line) {
+        Ok(Some(answer)) => output.write_all(answer.as_bytes())?,
+        Ok(None) => return Ok(false),
+        Err(OutOfMemory) => return Err(io::Error::from(AllocError)),
+    }
+    output.flush()?;
+    Ok(true)
+}
+
+/// Answers each line.
 fn answer_all<R: Read + Drop, W: Write>(
     alloc: Global,
     debugger: &mut Debugger<'_>,
@@ -151,12 +177,9 @@ fn answer_all<R: Read + Drop, W: Write>(
         if !next_line(&mut input, &mut line)? {
             return Ok(());
         }
-        match obey(alloc, debugger, line.as_slice()) {
-            Ok(Some(answer)) => output.write_all(answer.as_bytes())?,
-            Ok(None) => return Ok(()),
-            Err(OutOfMemory) => return Err(io::Error::from(AllocError)),
+        if !answer_line(alloc, debugger, line.as_slice(), output)? {
+            return Ok(());
         }
-        output.flush()?;
     }
     Ok(())
 }

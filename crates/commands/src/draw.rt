@@ -1,42 +1,64 @@
 //! A run whose events are drawn at random.
 
+ghost use Rattle.serial_machine.specs.store.Made.{IsMadeFor};
+
 use crate::beside::Beside;
 use crate::job::{Job, print_schedule_fault, stop_for_memory};
 use crate::runs::{prepared, run_replay};
 use crate::status::Status;
-use debugger::read_schedule;
+use debugger::{Memory, read_schedule};
 use std::io;
 use std::io::Write;
 use traces::random_schedule;
 
-/// Draws a schedule, keeps its text for the file where one is asked for, and answers as a replay of that text does.
+/// Keeps a schedule's text for the file where one is asked for, and answers as a replay of that text does.
+fn replay_drawn<W: Write>(
+    job: &Job<'_>,
+    text: &str,
+    memory: Memory,
+    output: &mut W,
+    beside: &mut Beside,
+) -> io::Result<Status>
+    requires { IsMadeFor job.now.verified.now memory }
+{
+    if job.request.telling.file.is_some() {
+        beside.file.push_str(text)?;
+    }
+    match read_schedule(job.alloc, text.as_bytes()) {
+        Ok(events) => run_replay(job, memory, events.as_slice(), output, beside),
+        Err(fault) => print_schedule_fault(&fault, output),
+    }
+}
+
+/// Draws a schedule over one memory, and replays it over the other.
+fn run_twice<W: Write>(
+    job: &Job<'_>,
+    first: Memory,
+    second: Memory,
+    output: &mut W,
+    beside: &mut Beside,
+) -> io::Result<Status>
+    requires first { IsMadeFor job.now.verified.now first }
+    requires second { IsMadeFor job.now.verified.now second }
+{
+    let args = job.request.args.as_slice();
+    let workers = job.request.workers;
+    let seed = job.request.telling.seed.unwrap_or(0);
+    match random_schedule(job.alloc, job.verified, args, first, workers, seed) {
+        Ok(text) => replay_drawn(job, text.as_str(), second, output, beside),
+        Err(fault) => job.print_run_fault(&fault, output, beside),
+    }
+}
+
+/// Draws a schedule, and answers as a replay of its text does.
 pub fn run_drawn<W: Write>(
     job: &Job<'_>,
     output: &mut W,
     beside: &mut Beside,
 ) -> io::Result<Status> {
-    let (first, second) = match (prepared(job), prepared(job)) {
-        (Ok(first), Ok(second)) => (first, second),
-        (Err(Status::Stopped), _) | (_, Err(Status::Stopped)) => return stop_for_memory(output),
-        (Err(status), _) | (_, Err(status)) => return Ok(status),
-    };
-    let Job {
-        alloc,
-        request,
-        verified,
-        ..
-    } = *job;
-    let args = request.args.as_slice();
-    let seed = request.telling.seed.unwrap_or(0);
-    let text = match random_schedule(alloc, verified, args, first, request.workers, seed) {
-        Ok(text) => text,
-        Err(fault) => return job.print_run_fault(&fault, output, beside),
-    };
-    if request.telling.file.is_some() {
-        beside.file.push_str(text.as_str())?;
-    }
-    match read_schedule(alloc, text.as_bytes()) {
-        Ok(events) => run_replay(job, second, events.as_slice(), output, beside),
-        Err(fault) => print_schedule_fault(&fault, output),
+    match (prepared(job), prepared(job)) {
+        (Ok(first), Ok(second)) => run_twice(job, first, second, output, beside),
+        (Err(Status::Stopped), _) | (_, Err(Status::Stopped)) => stop_for_memory(output),
+        (Err(status), _) | (_, Err(status)) => Ok(status),
     }
 }

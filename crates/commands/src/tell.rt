@@ -29,18 +29,13 @@ fn tell_moments<W: Write>(
     Ok(Status::Done)
 }
 
-/// Tells of the events of a schedule that can be read, in a run that can start; else nothing.
-fn tell_events<W: Write>(
+/// Tells of these events in a run that can start; else nothing.
+fn tell_run<W: Write>(
     job: &Job<'_>,
-    schedule: &[u8],
+    events: &[Event],
     output: &mut W,
     beside: &mut Beside,
 ) -> io::Result<Status> {
-    let events = match read_schedule(job.alloc, schedule) {
-        Ok(events) => events,
-        Err(ScheduleFault::Memory) => return stop_for_memory(output),
-        Err(_) => return Ok(Status::Done),
-    };
     let memory = match prepared(job) {
         Ok(memory) => memory,
         Err(Status::Stopped) => return stop_for_memory(output),
@@ -48,10 +43,23 @@ fn tell_events<W: Write>(
     };
     let args = job.request.args.as_slice();
     let workers = job.request.workers;
-    let events = events.as_slice();
     match watch(job.alloc, job.verified, args, memory, workers, events) {
         Ok(moments) => tell_moments(job, events, moments.as_slice(), output, beside),
         Err(RunFault::OutOfMemory) => stop_for_memory(output),
+        Err(_) => Ok(Status::Done),
+    }
+}
+
+/// Tells of the events of a schedule that can be read; else nothing.
+fn tell_events<W: Write>(
+    job: &Job<'_>,
+    schedule: &[u8],
+    output: &mut W,
+    beside: &mut Beside,
+) -> io::Result<Status> {
+    match read_schedule(job.alloc, schedule) {
+        Ok(events) => tell_run(job, events.as_slice(), output, beside),
+        Err(ScheduleFault::Memory) => stop_for_memory(output),
         Err(_) => Ok(Status::Done),
     }
 }
