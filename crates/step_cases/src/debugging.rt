@@ -92,28 +92,41 @@ impl<'a> Run<'a> {
         }
     }
 
+    /// Whether the debugger stands at this position, and shows the machine there.
+    fn stands_at(&self, debugger: &Debugger<'_>, position: usize) -> anyhow::Result<bool> {
+        let machine = self.machine_at(position)?;
+        Ok(debugger.position() == position && shows(self.alloc, debugger, &machine)?)
+    }
+
     /// Whether the debugger stands where each command is to lead to, and shows the machine there.
     fn goes_on_so(&self, debugger: &mut Debugger<'_>, seed: u64) -> anyhow::Result<bool> {
         let mut state = seed;
         let mut is_so = true;
         for _command in 0..COMMANDS {
             let position = self.command(debugger, &mut state)?;
-            let machine = self.machine_at(position)?;
-            is_so = is_so
-                && debugger.position() == position
-                && shows(self.alloc, &*debugger, &machine)?;
+            is_so = is_so && self.stands_at(&*debugger, position)?;
         }
         Ok(is_so)
     }
 }
 
+/// The debugger over the events of a seed.
+fn debugger_of<'v>(
+    alloc: Global,
+    verified: &'v Verified,
+    seed: u64,
+) -> anyhow::Result<Debugger<'v>> {
+    let events = random_events(alloc, seed, EVENTS)?;
+    let memory = Memory::zeroed(alloc, verified)?;
+    let arguments = [8];
+    let debugger = Debugger::new(alloc, verified, arguments.as_slice(), memory, 4, events);
+    debugger.ok().context("a run that stops")
+}
+
 /// Whether a dialogue over the events of a seed answers as replays do.
 fn is_as_replays(alloc: Global, verified: &Verified, seed: u64) -> anyhow::Result<bool> {
     let events = random_events(alloc, seed, EVENTS)?;
-    let memory = Memory::zeroed(alloc, verified)?;
-    let same = random_events(alloc, seed, EVENTS)?;
-    let debugger = Debugger::new(alloc, verified, [8].as_slice(), memory, 4, same);
-    let mut debugger = debugger.ok().context("a run that stops")?;
+    let mut debugger = debugger_of(alloc, verified, seed)?;
     let run = Run {
         alloc,
         verified,

@@ -7,6 +7,7 @@ use debugger::{Machine, Memory, Status, Verified, read_schedule};
 use frame::Path;
 use program::RegisterId;
 use std::alloc::Global;
+use std::io;
 use std::io::Write;
 
 /// The machine of two workers after the schedule.
@@ -29,6 +30,19 @@ fn stands(machine: &Machine<'_>, path: &Path, status: Status, line: u32) -> bool
     }
 }
 
+fn report_stolen_root<W: Write + Drop>(
+    machine: &Machine<'_>,
+    root: &Path,
+    child: &Path,
+    report: &mut Report<W>,
+) -> io::Result<()> {
+    let stalled = Status::Stalled(RegisterId(1));
+    let runs = Status::Running(0);
+    report.holds("it is stalled", stands(machine, root, stalled, 20))?;
+    report.holds("its child runs", stands(machine, child, runs, 12))?;
+    report.holds("the thief is idle", machine.task_of(1).is_none())
+}
+
 fn answer_stolen_root<W: Write + Drop>(
     alloc: Global,
     pair: &Verified,
@@ -38,14 +52,18 @@ fn answer_stolen_root<W: Write + Drop>(
     let machine = scheduled(alloc, pair, 7, "step 0 2\nsteal 1 root\nstep 1 3\n")?;
     let root = Path::root(alloc);
     let child = root.child(alloc, 0)?;
+    Ok(report_stolen_root(&machine, &root, &child, report)?)
+}
+
+fn report_loop<W: Write + Drop>(
+    alloc: Global,
+    machine: &Machine<'_>,
+    report: &mut Report<W>,
+) -> io::Result<()> {
+    report.count("instructions", 18, machine.instructions())?;
     let stalled = Status::Stalled(RegisterId(1));
-    report.holds("it is stalled", stands(&machine, &root, stalled, 20))?;
-    report.holds(
-        "its child runs",
-        stands(&machine, &child, Status::Running(0), 12),
-    )?;
-    report.holds("the thief is idle", machine.task_of(1).is_none())?;
-    Ok(())
+    let is_stalled = stands(machine, &Path::root(alloc), stalled, 47);
+    report.holds("it is stalled", is_stalled)
 }
 
 fn answer_loop<W: Write + Drop>(
@@ -56,11 +74,17 @@ fn answer_loop<W: Write + Drop>(
     report.title("the root of a loop at its sync")?;
     let schedule = "step 0 5\nsteal 1 root\nstep 1 5\nstep 0 3\nsteal 0 root\nstep 0 5\n";
     let machine = scheduled(alloc, parallel_for, 2, schedule)?;
-    let root = Path::root(alloc);
-    report.count("instructions", 18, machine.instructions())?;
-    let stalled = Status::Stalled(RegisterId(1));
-    report.holds("it is stalled", stands(&machine, &root, stalled, 47))?;
-    Ok(())
+    Ok(report_loop(alloc, &machine, report)?)
+}
+
+fn report_slots<W: Write + Drop>(
+    machine: &Machine<'_>,
+    second: &Path,
+    report: &mut Report<W>,
+) -> io::Result<()> {
+    let spot = machine.spot(second);
+    report.holds("it has a new generation", spot == Some((1, 2)))?;
+    report.holds("the old one is gone", machine.path_at(1, 1).is_none())
 }
 
 fn answer_slots<W: Write + Drop>(
@@ -71,10 +95,7 @@ fn answer_slots<W: Write + Drop>(
     report.title("a slot that is used again")?;
     let machine = scheduled(alloc, parallel_for, 2, "step 0 13\n")?;
     let second = Path::root(alloc).child(alloc, 1)?;
-    let spot = machine.spot(&second);
-    report.holds("it has a new generation", spot == Some((1, 2)))?;
-    report.holds("the old one is gone", machine.path_at(1, 1).is_none())?;
-    Ok(())
+    Ok(report_slots(&machine, &second, report)?)
 }
 
 fn answer_copies<W: Write + Drop>(
@@ -84,10 +105,10 @@ fn answer_copies<W: Write + Drop>(
 ) -> anyhow::Result<()> {
     report.title("a copy of an ended run's memory")?;
     let memory = scheduled(alloc, pair, 7, "step 0 14\n")?.into_memory();
-    let copy = memory.copy()?;
-    let zeroed = Memory::zeroed(alloc, pair)?;
-    report.holds("it is the same", copy.same(&memory))?;
-    report.holds("it is not the one at the start", !zeroed.same(&memory))?;
+    let is_same = memory.copy()?.same(&memory);
+    let is_zeroed = Memory::zeroed(alloc, pair)?.same(&memory);
+    report.holds("it is the same", is_same)?;
+    report.holds("it is not the one at the start", !is_zeroed)?;
     Ok(())
 }
 
