@@ -80,18 +80,23 @@ fn push_after_mark(bytes: &mut Vec<u8>, text: &str) -> Result<(), AllocError> {
     bytes.extend_from_slice(rest.as_bytes())
 }
 
-/// The bytes that a text with escapes means.
-pub fn unescaped(alloc: Global, text: &str) -> Result<Vec<u8>, AllocError> {
-    let mut bytes = Vec::new(alloc);
+/// Pushes the bytes that a text with escapes means.
+fn push_unescaped(bytes: &mut Vec<u8>, text: &str) -> Result<(), AllocError> {
     let mut rest = text;
     for _ in 0..text.len() {
         let Some(repeat) = Repeat::first_of(rest) else {
             break;
         };
-        push_escaped(&mut bytes, repeat.before)?;
-        repeat.push_to(&mut bytes)?;
+        push_escaped(bytes, repeat.before)?;
+        repeat.push_to(bytes)?;
         rest = repeat.after;
     }
-    push_escaped(&mut bytes, rest)?;
+    push_escaped(bytes, rest)
+}
+
+/// The bytes that a text with escapes means.
+pub fn unescaped(alloc: Global, text: &str) -> Result<Vec<u8>, AllocError> {
+    let mut bytes = Vec::new(alloc);
+    push_unescaped(&mut bytes, text)?;
     Ok(bytes)
 }

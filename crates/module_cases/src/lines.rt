@@ -19,19 +19,20 @@ fn kind_word(kind: Kind) -> &'static str {
     }
 }
 
+/// Adds a token to a list: its place, its kind and its bytes.
+fn push_token(list: &mut String, text: &str, token: Token) -> Result<(), AllocError> {
+    let between = if list.is_empty() { "" } else { "; " };
+    let kind = kind_word(token.kind);
+    write!(list, "{between}{} {kind} {text}", token.from)
+}
+
 /// Each token by its place, its kind and its bytes.
 fn listed(alloc: Global, line: &[u8], tokens: &[Token]) -> Result<String, AllocError> {
     let mut list = String::new(alloc);
     for token in tokens {
         let bytes = line.get(token.from..token.to).unwrap_or(b"?");
         let text = String::from_utf8_lossy(alloc, bytes)?;
-        let between = if list.is_empty() { "" } else { "; " };
-        write!(
-            list,
-            "{between}{} {} {text}",
-            token.from,
-            kind_word(token.kind)
-        )?;
+        push_token(&mut list, text.as_str(), *token)?;
     }
     Ok(list)
 }
@@ -56,32 +57,45 @@ pub fn fault(alloc: Global, text: &str) -> Result<String, AllocError> {
     format!(in alloc; "{fault}")
 }
 
+/// Pushes the canonical spelling of an annotation.
+fn push_annotation(text: &mut String, annotation: &Annotation) -> Result<(), AllocError> {
+    match annotation {
+        Annotation::Requires(fact) => push_inequality(text, "requires", fact),
+        Annotation::Ensures(fact) => push_inequality(text, "ensures", fact),
+        Annotation::Keeps(fact) => push_inequality(text, "keeps", fact),
+        Annotation::Shows(fact) => push_inequality(text, "shows", fact),
+        Annotation::FunctionZone(zone) => push_zone(text, zone),
+        Annotation::Measure(measure) => push_measure(text, measure),
+        Annotation::Budget(budget) => push_budget(text, budget),
+        Annotation::Pending(pending) => push_pending(text, pending),
+        Annotation::Left(left) => push_left(text, left),
+        Annotation::Foot(zone) => push_foot(text, zone),
+    }
+}
+
 /// The canonical spelling of an annotation.
 fn spelled(alloc: Global, annotation: &Annotation) -> Result<String, AllocError> {
     let mut text = String::new(alloc);
-    match annotation {
-        Annotation::Requires(fact) => push_inequality(&mut text, "requires", fact)?,
-        Annotation::Ensures(fact) => push_inequality(&mut text, "ensures", fact)?,
-        Annotation::Keeps(fact) => push_inequality(&mut text, "keeps", fact)?,
-        Annotation::Shows(fact) => push_inequality(&mut text, "shows", fact)?,
-        Annotation::FunctionZone(zone) => push_zone(&mut text, zone)?,
-        Annotation::Measure(measure) => push_measure(&mut text, measure)?,
-        Annotation::Budget(budget) => push_budget(&mut text, budget)?,
-        Annotation::Pending(pending) => push_pending(&mut text, pending)?,
-        Annotation::Left(left) => push_left(&mut text, left)?,
-        Annotation::Foot(zone) => push_foot(&mut text, zone)?,
-    }
+    push_annotation(&mut text, annotation)?;
     Ok(text)
 }
 
-/// What words after the mark of an annotation, parted by one blank, mean; `no words` are none.
-pub fn annotation(alloc: Global, text: &str) -> Result<String, AllocError> {
+/// The words of a text, parted by one blank; `no words` are none.
+fn words_of(alloc: Global, text: &str) -> Result<Vec<Name>, AllocError> {
     let mut words = Vec::new(alloc);
-    if text != "no words" {
-        for word in text.split(" ") {
-            words.push(Name::from_text(String::from_str(alloc, word)?))?;
-        }
+    if text == "no words" {
+        return Ok(words);
     }
+    for word in text.split(" ") {
+        let word = String::from_str(alloc, word)?;
+        words.push(Name::from_text(word))?;
+    }
+    Ok(words)
+}
+
+/// What words after the mark of an annotation mean.
+pub fn annotation(alloc: Global, text: &str) -> Result<String, AllocError> {
+    let words = words_of(alloc, text)?;
     match read_annotation(alloc, words.as_slice(), 7) {
         Ok(line) if line.is_within_limits => spelled(alloc, &line.annotation),
         Ok(_) => String::from_str(alloc, "past a limit"),

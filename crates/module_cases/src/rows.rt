@@ -46,12 +46,23 @@ impl Question {
     ) -> Result<String, AllocError> {
         let whole = format!(in alloc; "{head}{text}")?;
         let bytes = unescaped(alloc, whole.as_str())?;
+        self.answer_to(alloc, state, text, bytes.as_slice())
+    }
+
+    /// The answer to a text and its bytes with its head.
+    fn answer_to(
+        self,
+        alloc: Global,
+        state: RandomState,
+        text: &str,
+        bytes: &[u8],
+    ) -> Result<String, AllocError> {
         match self {
-            Question::Tokens => lines::tokens(alloc, bytes.as_slice()),
+            Question::Tokens => lines::tokens(alloc, bytes),
             Question::Annotation => lines::annotation(alloc, text),
-            Question::Item => lines::item(alloc, bytes.as_slice(), false),
-            Question::Parts => lines::item(alloc, bytes.as_slice(), true),
-            Question::Text => texts::reading(alloc, state, bytes.as_slice()),
+            Question::Item => lines::item(alloc, bytes, false),
+            Question::Parts => lines::item(alloc, bytes, true),
+            Question::Text => texts::reading(alloc, state, bytes),
             Question::Sum => texts::sum(alloc, state, text),
             Question::Fault => lines::fault(alloc, text),
         }
@@ -64,6 +75,20 @@ pub fn parted(row: &str) -> (&str, &str) {
     (wanted.trim_end(), text.strip_prefix(" ").unwrap_or(text))
 }
 
+/// Answers a row.
+fn answer_row<W: Write + Drop>(
+    alloc: Global,
+    state: RandomState,
+    question: Question,
+    head: &str,
+    row: &str,
+    report: &mut Report<W>,
+) -> io::Result<()> {
+    let (wanted, text) = parted(row);
+    let found = question.answer(alloc, state, head, text)?;
+    report.answer(wanted, found.as_str())
+}
+
 /// Answers the rows of a file.
 pub fn answer<W: Write + Drop>(
     alloc: Global,
@@ -72,23 +97,16 @@ pub fn answer<W: Write + Drop>(
     file: &str,
     report: &mut Report<W>,
 ) -> io::Result<()> {
-    let mut head = String::new(alloc);
+    let mut head = "";
     for line in file.lines() {
         match Line::of(line) {
             Line::Title(title) => {
-                head.clear();
+                head = "";
                 report.title(title)?;
             }
-            Line::Order(order) => {
-                head.clear();
-                head.push_str(order.strip_prefix("after ").unwrap_or(""))?;
-            }
+            Line::Order(order) => head = order.strip_prefix("after ").unwrap_or(""),
             Line::Note | Line::Text("") => {}
-            Line::Text(row) => {
-                let (wanted, text) = parted(row);
-                let found = question.answer(alloc, state, head.as_str(), text)?;
-                report.answer(wanted, found.as_str())?;
-            }
+            Line::Text(row) => answer_row(alloc, state, question, head, row, report)?,
         }
     }
     Ok(())

@@ -13,7 +13,7 @@ use std::hash::RandomState;
 use std::io::Write;
 use std::rt::Files;
 use std::{fs, io};
-use verifier::{Refused, verify};
+use verifier::{Refused, Verified, verify};
 
 /// What a case's lines are to the file that they speak of.
 #[derive(Clone, Copy)]
@@ -21,6 +21,13 @@ enum Role {
     Whole,
     Filling,
     Changes,
+}
+
+/// What the verifier says of a module.
+#[derive(Clone, Copy)]
+enum Verdict {
+    Accepted { budget: u64, depth: u64 },
+    Refused { number: u16, line: u32 },
 }
 
 /// The file that cases speak of, and their role.
@@ -112,29 +119,39 @@ fn named_base(rt: &(impl AllocGlobal + Files), order: &str) -> io::Result<Option
     Ok(Some(Base { role, text }))
 }
 
-/// What the verifier says, and the number of the fault; 0 where it accepts.
-fn verdict(alloc: Global, state: RandomState, module: &[u8]) -> Result<(String, u16), AllocError> {
-    match verify(alloc, state, module) {
-        Ok(verified) => {
-            let (budget, depth) = (verified.budget(), verified.depth());
-            Ok((
-                format!(in alloc; "accepted budget {budget} depth {depth}")?,
-                0,
-            ))
+impl Verdict {
+    fn of(alloc: Global, state: RandomState, module: &[u8]) -> Result<Verdict, AllocError> {
+        match verify(alloc, state, module) {
+            Ok(verified) => Ok(Verdict::Accepted {
+                budget: verified.budget(),
+                depth: verified.depth(),
+            }),
+            Err(Refused::Fault { number, line }) => Ok(Verdict::Refused { number, line }),
+            Err(Refused::Memory) => Err(AllocError),
         }
-        Err(Refused::Fault { number, line }) => {
-            Ok((format!(in alloc; "refused {number} line {line}")?, number))
+    }
+
+    fn text(self, alloc: Global) -> Result<String, AllocError> {
+        match self {
+            Verdict::Accepted { budget, depth } => {
+                format!(in alloc; "accepted budget {budget} depth {depth}")
+            }
+            Verdict::Refused { number, line } => format!(in alloc; "refused {number} line {line}"),
         }
-        Err(Refused::Memory) => Err(AllocError),
+    }
+
+    /// Whether no fault is below this number.
+    fn is_from(self, bound: u16) -> bool {
+        match self {
+            Verdict::Accepted { .. } => true,
+            Verdict::Refused { number, .. } => number >= bound,
+        }
     }
 }
 
-/// The costs and depths of a module's first function, from measure 0 on.
-pub fn table(alloc: Global, state: RandomState, module: &[u8]) -> Result<String, AllocError> {
+/// The costs and depths of a verified module's first function, from measure 0 on.
+fn entries(alloc: Global, verified: &Verified) -> Result<String, AllocError> {
     let mut entries = String::new(alloc);
-    let Ok(verified) = verify(alloc, state, module) else {
-        return Ok(entries);
-    };
     let table = verified.table();
     for measure in 0..u64::MAX {
         let (Some(cost), Some(depth)) = (table.cost(0, measure), table.depth(0, measure)) else {
@@ -144,6 +161,29 @@ pub fn table(alloc: Global, state: RandomState, module: &[u8]) -> Result<String,
         write!(entries, "{between}{cost} {depth}")?;
     }
     Ok(entries)
+}
+
+/// The costs and depths of a module's first function; none where the module is refused.
+pub fn table(alloc: Global, state: RandomState, module: &[u8]) -> Result<String, AllocError> {
+    match verify(alloc, state, module) {
+        Ok(verified) => entries(alloc, &verified),
+        Err(_) => Ok(String::new(alloc)),
+    }
+}
+
+/// Reports a verdict, and whether it is the one that is wanted.
+fn report_verdict<W: Write + Drop>(
+    alloc: Global,
+    verdict: Verdict,
+    wanted: &str,
+    report: &mut Report<W>,
+) -> io::Result<()> {
+    let found = verdict.text(alloc)?;
+    let bound = wanted.strip_prefix("no fault below ");
+    match bound.and_then(|bound| bound.parse::<u16>().ok()) {
+        Some(bound) => report.case(found.as_str(), wanted, verdict.is_from(bound)),
+        None => report.answer(wanted, found.as_str()),
+    }
 }
 
 /// Answers a case.
@@ -159,12 +199,8 @@ fn answer_case<W: Write + Drop>(
         return report.case("no such line", wanted, false);
     };
     let bytes = unescaped(alloc, module.as_str())?;
-    let (found, number) = verdict(alloc, state, bytes.as_slice())?;
-    let bound = wanted.strip_prefix("no fault below ");
-    match bound.and_then(|bound| bound.parse::<u16>().ok()) {
-        Some(bound) => report.case(found.as_str(), wanted, number == 0 || number >= bound),
-        None => report.answer(wanted, found.as_str()),
-    }
+    let verdict = Verdict::of(alloc, state, bytes.as_slice())?;
+    report_verdict(alloc, verdict, wanted, report)
 }
 
 /// Tells of lines that no answer follows.
