@@ -105,43 +105,63 @@ fn wrong_value(alloc: Global, option: &str, text: &str) -> WordsFault {
     }
 }
 
-fn args_of(alloc: Global, matches: &ArgMatches<'_>) -> Result<Vec<i64>, WordsFault> {
-    let mut args = Vec::new(alloc);
-    if let Some(texts) = matches.get_strs("arg") {
-        for text in texts {
-            match text.parse::<i64>() {
-                Ok(value) => args.push(value)?,
-                Err(_) => return Err(wrong_value(alloc, "--arg <V>", text)),
-            }
-        }
-    }
-    Ok(args)
+/// The texts of an option that may be given more than once.
+fn texts_of<'m, 'a>(matches: &'m ArgMatches<'a>, option: &str) -> &'m [&'a str] {
+    matches.get_strs(option).unwrap_or(&[])
 }
 
-fn settings_of(alloc: Global, matches: &ArgMatches<'_>) -> Result<Vec<Setting>, WordsFault> {
-    let mut settings = Vec::new(alloc);
-    if let Some(texts) = matches.get_strs("set") {
-        for text in texts {
-            match setting(alloc, text)? {
-                Some(setting) => settings.push(setting)?,
-                None => return Err(wrong_value(alloc, "--set <@a:I=V>", text)),
-            }
-        }
+fn push_arg(alloc: Global, text: &str, args: &mut Vec<i64>) -> Result<(), WordsFault> {
+    match text.parse::<i64>() {
+        Ok(value) => Ok(args.push(value)?),
+        Err(_) => Err(wrong_value(alloc, "--arg <V>", text)),
     }
-    Ok(settings)
 }
 
-fn cells_of(alloc: Global, matches: &ArgMatches<'_>) -> Result<Vec<CellWord>, WordsFault> {
-    let mut cells = Vec::new(alloc);
-    if let Some(texts) = matches.get_strs("show") {
-        for text in texts {
-            match cell_word(alloc, text)? {
-                Some(cell) => cells.push(cell)?,
-                None => return Err(wrong_value(alloc, "--show <@a:I>", text)),
-            }
-        }
+fn read_args(
+    alloc: Global,
+    matches: &ArgMatches<'_>,
+    args: &mut Vec<i64>,
+) -> Result<(), WordsFault> {
+    for text in texts_of(matches, "arg") {
+        push_arg(alloc, text, args)?;
     }
-    Ok(cells)
+    Ok(())
+}
+
+fn push_setting(alloc: Global, text: &str, set: &mut Vec<Setting>) -> Result<(), WordsFault> {
+    match setting(alloc, text)? {
+        Some(setting) => Ok(set.push(setting)?),
+        None => Err(wrong_value(alloc, "--set <@a:I=V>", text)),
+    }
+}
+
+fn read_settings(
+    alloc: Global,
+    matches: &ArgMatches<'_>,
+    set: &mut Vec<Setting>,
+) -> Result<(), WordsFault> {
+    for text in texts_of(matches, "set") {
+        push_setting(alloc, text, set)?;
+    }
+    Ok(())
+}
+
+fn push_cell(alloc: Global, text: &str, show: &mut Vec<CellWord>) -> Result<(), WordsFault> {
+    match cell_word(alloc, text)? {
+        Some(cell) => Ok(show.push(cell)?),
+        None => Err(wrong_value(alloc, "--show <@a:I>", text)),
+    }
+}
+
+fn read_cells(
+    alloc: Global,
+    matches: &ArgMatches<'_>,
+    show: &mut Vec<CellWord>,
+) -> Result<(), WordsFault> {
+    for text in texts_of(matches, "show") {
+        push_cell(alloc, text, show)?;
+    }
+    Ok(())
 }
 
 fn workers_of(alloc: Global, matches: &ArgMatches<'_>) -> Result<usize, WordsFault> {
@@ -182,27 +202,25 @@ fn fault_of(alloc: Global, error: Error) -> WordsFault {
     }
 }
 
-fn file_word<'a>(alloc: Global) -> Arg<'a> {
-    Arg::new(alloc, "file")
-        .value_name("FILE")
+/// A word that has to be given.
+fn word<'a>(alloc: Global, name: &'a str, value: &'a str, help: &'a str) -> Arg<'a> {
+    Arg::new(alloc, name)
+        .value_name(value)
         .required(true)
-        .help("the text of the module")
+        .help(help)
 }
 
-fn table_option<'a>(alloc: Global) -> Arg<'a> {
-    Arg::new(alloc, "table")
-        .long("table")
-        .value_name("@f")
+fn file_word<'a>(alloc: Global) -> Arg<'a> {
+    word(alloc, "file", "FILE", "the text of the module")
+}
+
+/// An option that takes a value.
+fn option<'a>(alloc: Global, name: &'a str, value: &'a str, help: &'a str) -> Arg<'a> {
+    Arg::new(alloc, name)
+        .long(name)
+        .value_name(value)
         .action(ArgAction::Set)
-        .help("prints the costs and depths of a function")
-}
-
-fn verify_command<'a>(alloc: Global) -> Result<Command<'a>, AllocError> {
-    Command::new(alloc, "verify")
-        .about("verifies a module, and tells its budget and depth")
-        .after_help(STATUSES)
-        .arg(file_word(alloc))?
-        .arg(table_option(alloc))
+        .help(help)
 }
 
 /// An option that may be given more than once.
@@ -214,16 +232,24 @@ fn repeated<'a>(alloc: Global, name: &'a str, value: &'a str, help: &'a str) -> 
         .help(help)
 }
 
+/// A command without its words.
+fn verb_command<'a>(alloc: Global, name: &'a str, about: &'a str) -> Command<'a> {
+    Command::new(alloc, name).about(about).after_help(STATUSES)
+}
+
 /// A command that takes a module alone.
 fn module_command<'a>(
     alloc: Global,
     name: &'a str,
     about: &'a str,
 ) -> Result<Command<'a>, AllocError> {
-    Command::new(alloc, name)
-        .about(about)
-        .after_help(STATUSES)
-        .arg(file_word(alloc))
+    verb_command(alloc, name, about).arg(file_word(alloc))
+}
+
+fn verify_command<'a>(alloc: Global) -> Result<Command<'a>, AllocError> {
+    let about = "verifies a module, and tells its budget and depth";
+    let help = "prints the costs and depths of a function";
+    module_command(alloc, "verify", about)?.arg(option(alloc, "table", "@f", help))
 }
 
 fn print_command<'a>(alloc: Global) -> Result<Command<'a>, AllocError> {
@@ -242,16 +268,10 @@ fn annotate_command<'a>(alloc: Global) -> Result<Command<'a>, AllocError> {
 }
 
 fn explain_command<'a>(alloc: Global) -> Result<Command<'a>, AllocError> {
-    let file = Arg::new(alloc, "file")
-        .value_name("FILE|NUMBER")
-        .required(true)
-        .help("the text of a module, or the number of a rule");
-    Command::new(alloc, "explain")
-        .about(
-            "says why a module is refused and what was to be shown, or what an accepted one could do without; or prints a rule",
-        )
-        .after_help(STATUSES)
-        .arg(file)
+    let about =
+        "says why a module is refused and what was to be shown, or what an accepted one could do without; or prints a rule";
+    let help = "the text of a module, or the number of a rule";
+    verb_command(alloc, "explain", about).arg(word(alloc, "file", "FILE|NUMBER", help))
 }
 
 /// The options of a verb that runs a module.
@@ -279,44 +299,26 @@ fn running<'a>(alloc: Global, command: Command<'a>) -> Result<Command<'a>, Alloc
 }
 
 fn serial_command<'a>(alloc: Global) -> Result<Command<'a>, AllocError> {
-    running(
-        alloc,
-        Command::new(alloc, "serial")
-            .about("runs the serial elision of a module")
-            .after_help(STATUSES),
-    )
+    let about = "runs the serial elision of a module";
+    running(alloc, verb_command(alloc, "serial", about))
 }
 
 fn workers<'a>(alloc: Global) -> Arg<'a> {
-    Arg::new(alloc, "workers")
-        .long("workers")
-        .value_name("N")
-        .required(true)
-        .action(ArgAction::Set)
-        .help("the number of workers, from 1 to 64")
+    option(alloc, "workers", "N", "the number of workers, from 1 to 64").required(true)
 }
 
 fn seed_option<'a>(alloc: Global) -> Arg<'a> {
-    Arg::new(alloc, "seed")
-        .long("seed")
-        .value_name("S")
-        .action(ArgAction::Set)
-        .help("draws the events, at most 1048576, at random by this number")
+    let help = "draws the events, at most 1048576, at random by this number";
+    option(alloc, "seed", "S", help)
 }
 
 fn drawn_option<'a>(alloc: Global) -> Result<Arg<'a>, AllocError> {
-    Arg::new(alloc, "save")
-        .long("save")
-        .value_name("OUT")
-        .action(ArgAction::Set)
-        .help("writes the events to a file, as replay takes them")
-        .requires_arg("seed")
+    let help = "writes the events to a file, as replay takes them";
+    option(alloc, "save", "OUT", help).requires_arg("seed")
 }
 
 fn run_command<'a>(alloc: Global) -> Result<Command<'a>, AllocError> {
-    let command = Command::new(alloc, "run")
-        .about("runs a module on workers")
-        .after_help(STATUSES);
+    let command = verb_command(alloc, "run", "runs a module on workers");
     running(alloc, command)?
         .arg(workers(alloc))?
         .arg(seed_option(alloc))?
@@ -324,10 +326,8 @@ fn run_command<'a>(alloc: Global) -> Result<Command<'a>, AllocError> {
 }
 
 fn schedule_word<'a>(alloc: Global) -> Arg<'a> {
-    Arg::new(alloc, "schedule")
-        .value_name("SCHEDULE")
-        .required(true)
-        .help("the events, a line for each: step W N, or steal W PATH")
+    let help = "the events, a line for each: step W N, or steal W PATH";
+    word(alloc, "schedule", "SCHEDULE", help)
 }
 
 /// The words of a verb that follows a schedule.
@@ -345,31 +345,25 @@ fn trace_option<'a>(alloc: Global) -> Arg<'a> {
 }
 
 fn picture_option<'a>(alloc: Global) -> Arg<'a> {
-    Arg::new(alloc, "picture")
-        .long("picture")
-        .value_name("OUT")
-        .action(ArgAction::Set)
-        .help("writes a picture of the run to a file, as SVG")
+    let help = "writes a picture of the run to a file, as SVG";
+    option(alloc, "picture", "OUT", help)
 }
 
 fn replay_command<'a>(alloc: Global) -> Result<Command<'a>, AllocError> {
-    let command = Command::new(alloc, "replay")
-        .about("runs a module by a schedule")
-        .after_help(STATUSES);
+    let command = verb_command(alloc, "replay", "runs a module by a schedule");
     scheduled(alloc, command)?
         .arg(trace_option(alloc))?
         .arg(picture_option(alloc))
 }
 
 fn debug_command<'a>(alloc: Global) -> Result<Command<'a>, AllocError> {
-    let command = Command::new(alloc, "debug")
-        .about("goes forwards and backwards through a schedule, by commands from standard input")
-        .after_help(DIALOGUE);
+    let about = "goes forwards and backwards through a schedule, by commands from standard input";
+    let command = verb_command(alloc, "debug", about).after_help(DIALOGUE);
     scheduled(alloc, command)
 }
 
 /// The command of a verb.
-fn verb_command<'a>(alloc: Global, verb: Verb) -> Result<Command<'a>, AllocError> {
+fn command_of<'a>(alloc: Global, verb: Verb) -> Result<Command<'a>, AllocError> {
     match verb {
         Verb::Verify => verify_command(alloc),
         Verb::Explain => explain_command(alloc),
@@ -387,7 +381,7 @@ fn verb_command<'a>(alloc: Global, verb: Verb) -> Result<Command<'a>, AllocError
 fn verb_commands<'a>(alloc: Global) -> Result<Vec<Command<'a>>, AllocError> {
     let mut commands = Vec::new(alloc);
     for verb in VERBS {
-        commands.push(verb_command(alloc, verb)?)?;
+        commands.push(command_of(alloc, verb)?)?;
     }
     Ok(commands)
 }
@@ -440,10 +434,9 @@ fn read_running(
     ensures { request.new.verb ≡ request.old.verb }
 {
     request.workers = workers_of(alloc, matches)?;
-    request.args = args_of(alloc, matches)?;
-    request.set = settings_of(alloc, matches)?;
-    request.show = cells_of(alloc, matches)?;
-    Ok(())
+    read_args(alloc, matches, &mut request.args)?;
+    read_settings(alloc, matches, &mut request.set)?;
+    read_cells(alloc, matches, &mut request.show)
 }
 
 fn seed_of(alloc: Global, matches: &ArgMatches<'_>) -> Result<Option<u64>, WordsFault> {
