@@ -5,32 +5,26 @@ use program::{Block, RegisterId, Terminator};
 use region_match::Task;
 use std::alloc::{AllocError, Global};
 
-/// A function's blocks with their edges and tasks, in one order.
-#[derive(Clone, Copy)]
-pub struct Blocks<'a> {
-    pub bodies: &'a [Block],
-    pub edges: &'a [BlockEdges],
-    pub tasks: &'a [Task],
+/// The region within which a terminator detaches, and the block that goes on beside the child.
+fn detach_of(terminator: &Terminator) -> Option<(RegisterId, usize)> {
+    match terminator {
+        Terminator::Detach {
+            region,
+            continuation,
+            ..
+        } => Some((*region, continuation.0)),
+        _ => None,
+    }
 }
 
-impl Blocks<'_> {
-    /// The region within which a block detaches, and the block that goes on beside the child.
-    fn detach(self, block: usize) -> Option<(RegisterId, usize)> {
-        match &self.bodies.get(block)?.ending {
-            Some(ending) => match &ending.terminator {
-                Terminator::Detach {
-                    region,
-                    continuation,
-                    ..
-                } => Some((*region, continuation.0)),
-                _ => None,
-            },
-            None => None,
-        }
+/// The same of a block.
+fn detach_at(bodies: &[Block], block: usize) -> Option<(RegisterId, usize)> {
+    if block >= bodies.len() {
+        return None;
     }
-
-    fn task(self, block: usize) -> Option<Task> {
-        self.tasks.get(block).copied()
+    match &bodies[block].ending {
+        Some(ending) => detach_of(&ending.terminator),
+        None => None,
     }
 }
 
@@ -65,37 +59,49 @@ impl Search {
 /// The blocks that a path from a continuation leads to with no sync of the region.
 fn unsynced(
     alloc: Global,
-    blocks: Blocks<'_>,
+    edges: &[BlockEdges],
     region: RegisterId,
     continuation: usize,
+    blocks: usize,
 ) -> Result<Vec<bool>, AllocError> {
     let mut search = Search {
-        marks: vec![in alloc; false; blocks.bodies.len()]?,
+        marks: vec![in alloc; false; blocks]?,
         work: Vec::new(alloc),
     };
     search.mark(continuation)?;
-    for _look in 0..blocks.bodies.len() {
+    for _look in 0..blocks {
         let Some(block) = search.work.pop() else {
             break;
         };
-        if let Some(edges) = blocks.edges.get(block) {
+        if let Some(edges) = edges.get(block) {
             search.mark_behind(edges, region)?;
         }
     }
     Ok(search.marks)
 }
 
-/// For each block the regions of which a child may still run where it begins: in the blocks of the task that detaches it, from the
-/// continuation on to a sync. A region stands there once.
-pub fn open_regions(alloc: Global, blocks: Blocks<'_>) -> Result<Vec<Vec<RegisterId>>, AllocError> {
-    let mut open: Vec<Vec<RegisterId>> = Vec::new(alloc);
-    for _block in 0..blocks.bodies.len() {
+/// As many lists without a region.
+fn no_regions(alloc: Global, blocks: usize) -> Result<Vec<Vec<RegisterId>>, AllocError> {
+    let mut open = Vec::new(alloc);
+    for _block in 0..blocks {
         open.push(Vec::new(alloc))?;
     }
-    for detach in 0..blocks.bodies.len() {
-        if let Some((region, continuation)) = blocks.detach(detach) {
-            let marks = unsynced(alloc, blocks, region, continuation)?;
-            put_region(&mut open, blocks, detach, region, marks.as_slice())?;
+    Ok(open)
+}
+
+/// For each block the regions of which a child may still run where it begins: in the blocks of the task that detaches it, from the
+/// continuation on to a sync. A region stands there once. The blocks, their edges and their tasks are in one order.
+pub fn open_regions(
+    alloc: Global,
+    bodies: &[Block],
+    edges: &[BlockEdges],
+    tasks: &[Task],
+) -> Result<Vec<Vec<RegisterId>>, AllocError> {
+    let mut open = no_regions(alloc, bodies.len())?;
+    for detach in 0..bodies.len() {
+        if let Some((region, continuation)) = detach_at(bodies, detach) {
+            let marks = unsynced(alloc, edges, region, continuation, bodies.len())?;
+            put_region(&mut open, tasks, detach, region, marks.as_slice())?;
         }
     }
     Ok(open)
@@ -104,18 +110,22 @@ pub fn open_regions(alloc: Global, blocks: Blocks<'_>) -> Result<Vec<Vec<Registe
 /// Puts the region to each marked block of the detach's task.
 fn put_region(
     open: &mut Vec<Vec<RegisterId>>,
-    blocks: Blocks<'_>,
+    tasks: &[Task],
     detach: usize,
     region: RegisterId,
     marks: &[bool],
 ) -> Result<(), AllocError> {
     for block in 0..open.len() {
         let is_marked = marks.get(block).copied().unwrap_or(false);
-        if is_marked && blocks.task(block) == blocks.task(detach) {
+        if is_marked && task_at(tasks, block) == task_at(tasks, detach) {
             put_once(&mut open[block], region)?;
         }
     }
     Ok(())
+}
+
+fn task_at(tasks: &[Task], block: usize) -> Option<Task> {
+    tasks.get(block).copied()
 }
 
 fn put_once(regions: &mut Vec<RegisterId>, region: RegisterId) -> Result<(), AllocError> {

@@ -2,10 +2,11 @@
 
 use crate::form::{name_of, push_fact};
 use crate::name::register_names;
-use crate::open::{Blocks, open_regions};
+use crate::open::open_regions;
 use crate::range::range_of;
 use crate::usage::{most_cells, usage_of};
-use cfg::Graph;
+use cfg::{BlockEdges, Graph};
+use cost_table::Table;
 use ir_annotation::{push_foot, push_left, push_pending};
 use ir_reader::read;
 use program::{Fact, Function, Parameter, Program, RegisterId};
@@ -15,7 +16,7 @@ use region_match::{Regions, Task, regions};
 use std::alloc;
 use std::alloc::AllocError;
 use std::hash::RandomState;
-use syntax::{BlockNotes, Module};
+use syntax::{BlockNotes, Left, Module};
 use verifier::Verified;
 
 /// A module that is shown: what it spells and what it means.
@@ -32,12 +33,13 @@ struct Subject<'a> {
 /// A function of it.
 #[derive(Clone, Copy)]
 struct Part<'a> {
-    subject: Subject<'a>,
+    alloc: alloc::Global,
+    program: &'a Program,
+    table: &'a Table,
     index: usize,
     spelled: &'a syntax::Function,
     function: &'a Function,
     names: &'a [&'a str],
-    blocks: Blocks<'a>,
 }
 
 fn push_totals(out: &mut String, subject: Subject<'_>) -> Result<(), AllocError> {
@@ -78,10 +80,11 @@ fn push_ranges(
 
 fn push_main(out: &mut String, subject: Subject<'_>) -> Result<(), Refused> {
     let index = subject.program.main.0;
-    let main = subject.program.functions.as_slice().get(index);
-    let spelled = subject.module.functions.as_slice().get(index);
-    if let (Some(main), Some(spelled)) = (main, spelled) {
-        let names = register_names(subject.alloc, spelled)?;
+    let functions = subject.program.functions.as_slice();
+    let spelled = subject.module.functions.as_slice();
+    if index < functions.len() && index < spelled.len() {
+        let main = &functions[index];
+        let names = register_names(subject.alloc, &spelled[index])?;
         let facts = stated(subject.alloc, main.requirements.as_slice())?;
         push_ranges(out, main, names.as_slice(), facts.as_slice())?;
     }
@@ -96,10 +99,14 @@ fn label_of<'a>(spelled: &'a syntax::Function, block: usize) -> &'a str {
     }
 }
 
-fn push_task(out: &mut String, part: Part<'_>, block: usize) -> Result<(), AllocError> {
-    match part.blocks.tasks.get(block) {
+fn push_task(
+    out: &mut String,
+    spelled: &syntax::Function,
+    task: Option<Task>,
+) -> Result<(), AllocError> {
+    match task {
         Some(Task::Child(detach)) => {
-            let label = label_of(part.spelled, detach.0);
+            let label = label_of(spelled, detach.0);
             writeln!(out, "    task child of %{label}")
         }
         Some(Task::Body) => writeln!(out, "    task body"),
@@ -153,24 +160,39 @@ fn push_feet(out: &mut String, notes: &BlockNotes) -> Result<(), AllocError> {
     Ok(())
 }
 
-/// What is left at the block's start, and what it uses of that itself.
-fn push_costs(
-    out: &mut String,
-    part: Part<'_>,
-    block: usize,
-    notes: &BlockNotes,
-) -> Result<(), AllocError> {
-    out.push_str("    ")?;
-    push_left(out, &notes.left)?;
-    out.push_str("\n")?;
-    if let Some(body) = part.blocks.bodies.get(block) {
-        let subject = part.subject;
-        let usage = usage_of(subject.program, subject.verified.table(), part.index, body);
-        let calls = usage.self_calls;
-        let instructions = usage.instructions;
-        writeln!(out, "    uses {calls} {instructions}")?;
+/// What the text says of a block.
+fn push_notes(out: &mut String, notes: &BlockNotes) -> Result<(), AllocError> {
+    push_all_pending(out, notes)?;
+    push_feet(out, notes)
+}
+
+/// What is known at a block's start.
+fn push_known(out: &mut String, part: Part<'_>, index: usize) -> Result<(), Refused> {
+    let bodies = part.function.blocks.as_slice();
+    if index < bodies.len() {
+        let facts = start_facts(part.alloc, part.function, index, &bodies[index])?;
+        push_facts(part.alloc, out, part.names, facts.as_slice())?;
     }
     Ok(())
+}
+
+/// What is left at a block's start.
+fn push_share(out: &mut String, left: &Left) -> Result<(), AllocError> {
+    out.push_str("    ")?;
+    push_left(out, left)?;
+    out.push_str("\n")
+}
+
+/// What a block uses itself of what is left.
+fn push_usage(out: &mut String, part: Part<'_>, index: usize) -> Result<(), AllocError> {
+    let bodies = part.function.blocks.as_slice();
+    if index >= bodies.len() {
+        return Ok(());
+    }
+    let usage = usage_of(part.program, part.table, part.index, &bodies[index]);
+    let calls = usage.self_calls;
+    let instructions = usage.instructions;
+    writeln!(out, "    uses {calls} {instructions}")
 }
 
 fn push_block(
@@ -178,28 +200,45 @@ fn push_block(
     part: Part<'_>,
     index: usize,
     block: &syntax::Block,
+    task: Option<Task>,
     open: Option<&Vec<RegisterId>>,
 ) -> Result<(), Refused> {
-    let alloc = part.subject.alloc;
     let label = block.label.as_str();
     let line = block.line;
     writeln!(out, "  block %{label} line {line}")?;
-    push_task(out, part, index)?;
+    push_task(out, part.spelled, task)?;
     push_open(out, part.names, open)?;
-    push_all_pending(out, &block.notes)?;
-    push_feet(out, &block.notes)?;
-    if let Some(body) = part.blocks.bodies.get(index) {
-        let facts = start_facts(alloc, part.function, index, body)?;
-        push_facts(alloc, out, part.names, facts.as_slice())?;
-    }
-    push_costs(out, part, index, &block.notes)?;
+    push_notes(out, &block.notes)?;
+    push_known(out, part, index)?;
+    push_share(out, &block.notes.left)?;
+    push_usage(out, part, index)?;
     Ok(())
 }
 
-fn push_blocks(out: &mut String, part: Part<'_>) -> Result<(), Refused> {
-    let open = open_regions(part.subject.alloc, part.blocks)?;
-    for (index, block) in part.spelled.blocks.as_slice().iter().enumerate() {
-        push_block(out, part, index, block, open.as_slice().get(index))?;
+fn push_blocks(
+    out: &mut String,
+    part: Part<'_>,
+    edges: &[BlockEdges],
+    tasks: &[Task],
+) -> Result<(), Refused> {
+    let bodies = part.function.blocks.as_slice();
+    let open = open_regions(part.alloc, bodies, edges, tasks)?;
+    let blocks = part.spelled.blocks.as_slice();
+    for index in 0..blocks.len() {
+        let task = tasks.get(index).copied();
+        let open = open.as_slice().get(index);
+        push_block(out, part, index, &blocks[index], task, open)?;
+    }
+    Ok(())
+}
+
+fn push_part(out: &mut String, subject: Subject<'_>, part: Part<'_>) -> Result<(), Refused> {
+    let graphs = subject.graph.functions.as_slice();
+    let regions = subject.regions.functions.as_slice();
+    let index = part.index;
+    if index < graphs.len() && index < regions.len() {
+        let edges = graphs[index].blocks.as_slice();
+        push_blocks(out, part, edges, regions[index].tasks.as_slice())?;
     }
     Ok(())
 }
@@ -212,34 +251,28 @@ fn push_function(
     function: &Function,
 ) -> Result<(), Refused> {
     let names = register_names(subject.alloc, spelled)?;
-    let edges = subject.graph.functions.as_slice().get(index);
-    let tasks = subject.regions.functions.as_slice().get(index);
     let name = spelled.name.as_str();
     let line = spelled.line;
     writeln!(out, "function @{name} line {line}")?;
-    if let (Some(edges), Some(tasks)) = (edges, tasks) {
-        let part = Part {
-            subject,
-            index,
-            spelled,
-            function,
-            names: names.as_slice(),
-            blocks: Blocks {
-                bodies: function.blocks.as_slice(),
-                edges: edges.blocks.as_slice(),
-                tasks: tasks.tasks.as_slice(),
-            },
-        };
-        push_blocks(out, part)?;
-    }
-    Ok(())
+    let part = Part {
+        alloc: subject.alloc,
+        program: subject.program,
+        table: subject.verified.table(),
+        index,
+        spelled,
+        function,
+        names: names.as_slice(),
+    };
+    push_part(out, subject, part)
 }
 
 fn push_functions(out: &mut String, subject: Subject<'_>) -> Result<(), Refused> {
     let spelled = subject.module.functions.as_slice();
     let functions = subject.program.functions.as_slice();
-    for (index, (spelled, function)) in spelled.iter().zip(functions).enumerate() {
-        push_function(out, subject, index, spelled, function)?;
+    for index in 0..spelled.len() {
+        if index < functions.len() {
+            push_function(out, subject, index, &spelled[index], &functions[index])?;
+        }
     }
     Ok(())
 }
