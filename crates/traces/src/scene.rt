@@ -198,7 +198,7 @@ impl Scene {
     }
 
     /// The next event.
-    pub fn add(&mut self, event: &Event, moment: &Moment) -> Result<(), OutOfMemory> {
+    fn add(&mut self, event: &Event, moment: &Moment) -> Result<(), OutOfMemory> {
         let at = self.events;
         self.events = at.saturating_add(1);
         let worker = match event {
@@ -212,10 +212,20 @@ impl Scene {
     }
 
     /// Closes the stays that still last.
-    pub fn finish(&mut self) -> Result<(), OutOfMemory> {
+    fn finish(&mut self) -> Result<(), OutOfMemory> {
         for worker in 0..self.hands.len() {
             self.leave(worker, self.events)?;
         }
         Ok(())
+    }
+
+    /// A whole run.
+    pub fn add_all(&mut self, events: &[Event], moments: &[Moment]) -> Result<(), OutOfMemory> {
+        for index in 0..events.len() {
+            if index < moments.len() {
+                self.add(&events[index], &moments[index])?;
+            }
+        }
+        self.finish()
     }
 }

@@ -39,6 +39,17 @@ fn task_place(
     }
 }
 
+/// What the worker does after a step for a task, where it has one now.
+fn after_work(alloc: Global, before: &Path, now: &Path) -> Result<Outcome, OutOfMemory> {
+    if now.is_same(before) {
+        Ok(Outcome::GoesOn)
+    } else if now.numbers.len() > before.numbers.len() {
+        Ok(Outcome::Begins(now.copy(alloc)?))
+    } else {
+        Ok(Outcome::TakesOn(now.copy(alloc)?))
+    }
+}
+
 /// What the worker does after a step for a task.
 fn after_step(
     alloc: Global,
@@ -50,11 +61,7 @@ fn after_step(
         return Ok(Outcome::Returns);
     }
     match machine.task_of(worker) {
-        Some(view) if view.path.is_same(task) => Ok(Outcome::GoesOn),
-        Some(view) if view.path.numbers.len() > task.numbers.len() => {
-            Ok(Outcome::Begins(view.path.copy(alloc)?))
-        }
-        Some(view) => Ok(Outcome::TakesOn(view.path.copy(alloc)?)),
+        Some(view) => after_work(alloc, task, view.path),
         None if machine.task(task).is_some() => Ok(Outcome::Waits),
         None => Ok(Outcome::Ends),
     }
@@ -143,6 +150,20 @@ fn watch_event(
     }
 }
 
+/// All events, done and seen.
+fn watch_all(
+    alloc: Global,
+    machine: &mut Machine<'_>,
+    workers: usize,
+    events: &[Event],
+) -> Result<Vec<Moment>, OutOfMemory> {
+    let mut moments = Vec::new(alloc);
+    for event in events {
+        moments.push(watch_event(alloc, machine, workers, event)?)?;
+    }
+    Ok(moments)
+}
+
 /// The moments of a run by a schedule, one for each event, in their order.
 ///
 /// # Errors
@@ -159,14 +180,8 @@ pub fn watch(
     requires { IsMadeFor verified.now memory }
 {
     let mut machine = Machine::start(alloc, verified, arguments, memory, workers)?;
-    let mut moments = Vec::new(alloc);
-    for event in events {
-        let Ok(moment) = watch_event(alloc, &mut machine, workers, event) else {
-            return Err(RunFault::OutOfMemory);
-        };
-        if moments.push(moment).is_err() {
-            return Err(RunFault::OutOfMemory);
-        }
+    match watch_all(alloc, &mut machine, workers, events) {
+        Ok(moments) => Ok(moments),
+        Err(_) => Err(RunFault::OutOfMemory),
     }
-    Ok(moments)
 }
