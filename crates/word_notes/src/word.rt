@@ -2,7 +2,7 @@
 
 use crate::left_out::push_left_out;
 use findings::{Finding, Source, lines_before, push_finding};
-use ir_item::read_line;
+use ir_item::{Line, read_line};
 use ir_lex::{Kind, Token, lex};
 use ir_reader::read;
 use lists::OutOfMemory;
@@ -46,15 +46,18 @@ struct Row<'a> {
     text: &'a str,
 }
 
+/// 104 where a line has numbers beyond their limits.
+fn fault_of_numbers(line: Option<&Line>) -> Option<u16> {
+    match line {
+        Some(line) if !line.is_within_limits => Some(104),
+        _ => None,
+    }
+}
+
 /// The fault of a line by itself.
 fn fault_of(alloc: Global, row: Row<'_>) -> Result<Option<u16>, OutOfMemory> {
     match read_line(alloc, row.text.as_bytes(), row.number) {
-        Ok(Some(line)) => {
-            let is_within_limits = line.is_within_limits;
-            drop(line);
-            Ok(if is_within_limits { None } else { Some(104) })
-        }
-        Ok(None) => Ok(None),
+        Ok(line) => Ok(fault_of_numbers(line.as_ref())),
         Err(Refused::Fault { number, .. }) => Ok(Some(number)),
         Err(Refused::Memory) => Err(OutOfMemory),
     }
