@@ -19,10 +19,9 @@ use std::alloc::Global;
 /// A place of a block, with what is known there and what it may touch.
 #[derive(Clone, Copy)]
 struct Spot<'s, 'a> {
-    source: Source<'s>,
+    text: &'s str,
     known: Known<'a>,
     place: Place<'a>,
-    block: &'a Block,
 }
 
 /// What there is to say of a missing cover, and of a conflict.
@@ -73,13 +72,11 @@ impl Spot<'_, '_> {
         y: &PlacedZone<'_>,
         out: &mut String,
     ) -> Result<(), OutOfMemory> {
-        out.push_str("  touched: ")?;
-        push_zone(alloc, self.known.scene, y, out)?;
-        out.push_str("\n")?;
+        push_touched(alloc, self.known.scene, y, out)?;
         let mut is_any = false;
         for zone in self.place.covering {
             let z = as_written(zone);
-            let is_same = push_why_not(alloc, self.source.text, self.known, &z, y, out)?;
+            let is_same = push_why_not(alloc, self.text, self.known, &z, y, out)?;
             is_any = is_any || is_same;
         }
         if !is_any {
@@ -95,13 +92,11 @@ impl Spot<'_, '_> {
         y: &PlacedZone<'_>,
         out: &mut String,
     ) -> Result<(), OutOfMemory> {
-        out.push_str("  touched: ")?;
-        push_zone(alloc, self.known.scene, y, out)?;
-        out.push_str("\n")?;
+        push_touched(alloc, self.known.scene, y, out)?;
         for item in self.place.pending {
             let z = as_written(&item.zone);
             if conflict(alloc, self.place.facts, &z, y)? {
-                push_why_beside(alloc, self.source.text, self.known, &z, y, out)?;
+                push_why_beside(alloc, self.text, self.known, &z, y, out)?;
             }
         }
         Ok(())
@@ -139,11 +134,12 @@ impl Spot<'_, '_> {
     fn push_address_notes(
         &self,
         alloc: Global,
+        steps: &[Step],
         mode: Mode,
         address: Address,
         notes: &mut Notes,
     ) -> Result<(), OutOfMemory> {
-        match address_cell(self.block.steps.as_slice(), address) {
+        match address_cell(steps, address) {
             Some(cell) => self.push_cells_notes(alloc, mode, cell, 1, notes),
             None => Ok(()),
         }
@@ -175,18 +171,19 @@ impl Spot<'_, '_> {
     fn push_step_notes(
         &self,
         alloc: Global,
+        steps: &[Step],
         instruction: &Instruction,
         notes: &mut Notes,
     ) -> Result<(), OutOfMemory> {
         match instruction {
             Instruction::Load { address, .. } => {
-                self.push_address_notes(alloc, Mode::Reads, *address, notes)
+                self.push_address_notes(alloc, steps, Mode::Reads, *address, notes)
             }
             Instruction::Store { address, .. } => {
-                self.push_address_notes(alloc, Mode::Writes, *address, notes)
+                self.push_address_notes(alloc, steps, Mode::Writes, *address, notes)
             }
             Instruction::AtomicAdd { address, .. } => {
-                self.push_address_notes(alloc, Mode::Adds, *address, notes)
+                self.push_address_notes(alloc, steps, Mode::Adds, *address, notes)
             }
             Instruction::StoreZeros { cells, object } => {
                 let cell = Cell {
@@ -227,11 +224,11 @@ impl Spot<'_, '_> {
     fn push_step(
         &self,
         alloc: Global,
+        steps: &[Step],
         step: &Step,
         findings: &mut Vec<Finding>,
     ) -> Result<(), OutOfMemory> {
         let functions = self.known.scene.program.functions.as_slice();
-        let steps = self.block.steps.as_slice();
         let used = step_use(
             alloc,
             &self.place,
@@ -242,7 +239,7 @@ impl Spot<'_, '_> {
         )?;
         let mut notes = no_notes(alloc);
         if !used.covered || !used.clear {
-            self.push_step_notes(alloc, &step.instruction, &mut notes)?;
+            self.push_step_notes(alloc, steps, &step.instruction, &mut notes)?;
         }
         self.push_used(findings, used, notes)
     }
@@ -290,7 +287,7 @@ impl Spot<'_, '_> {
                 zone: &item.zone,
             };
             if item.region.0 == region.0 {
-                let is_same = push_why_not(alloc, self.source.text, known, &z, &y, out)?;
+                let is_same = push_why_not(alloc, self.text, known, &z, &y, out)?;
                 is_any = is_any || is_same;
             }
         }
@@ -371,6 +368,19 @@ impl Spot<'_, '_> {
     }
 }
 
+/// The zone that is touched.
+fn push_touched(
+    alloc: Global,
+    scene: &Scene<'_>,
+    y: &PlacedZone<'_>,
+    out: &mut String,
+) -> Result<(), OutOfMemory> {
+    out.push_str("  touched: ")?;
+    push_zone(alloc, scene, y, out)?;
+    out.push_str("\n")?;
+    Ok(())
+}
+
 /// Whether what is pending of a region goes on along an edge.
 fn goes_on(way: Way, region: RegisterId) -> bool {
     match way {
@@ -424,7 +434,7 @@ fn push_end(
 /// Adds the faults of a block of a task.
 fn push_block<'a>(
     alloc: Global,
-    source: Source<'_>,
+    text: &str,
     scene: &'a Scene<'a>,
     task: Task,
     index: usize,
@@ -439,25 +449,25 @@ fn push_block<'a>(
         cursor.index()?;
         let known = cursor.known();
         let spot = spot_at(
-            source,
+            text,
             &*scene,
             task,
-            &*block,
+            block.pending.as_slice(),
             &known,
             lines.as_slice(),
             step.line,
         );
-        spot.push_step(alloc, step, findings)?;
+        spot.push_step(alloc, block.steps.as_slice(), step, findings)?;
     }
     if let Some(ending) = &block.ending {
         cursor.seek(table.facts.len());
         cursor.index()?;
         let known = cursor.known();
         let spot = spot_at(
-            source,
+            text,
             &*scene,
             task,
-            &*block,
+            block.pending.as_slice(),
             &known,
             lines.as_slice(),
             ending.line,
@@ -468,17 +478,17 @@ fn push_block<'a>(
 }
 
 fn spot_at<'s, 'a>(
-    source: Source<'s>,
+    text: &'s str,
     scene: &'a Scene<'a>,
     task: Task,
-    block: &'a Block,
+    pending: &'a [Pending],
     known: &'a KnownFacts<'a>,
     lines: &'a [u32],
     line: u32,
 ) -> Spot<'s, 'a> {
     let facts = known.facts();
     Spot {
-        source,
+        text,
         known: Known {
             scene,
             facts,
@@ -490,22 +500,21 @@ fn spot_at<'s, 'a>(
             facts: known,
             covering: covering_of(scene.function, task),
             own: is_own_block(task),
-            pending: block.pending.as_slice(),
+            pending,
         },
-        block,
     }
 }
 
 fn push_function(
     alloc: Global,
-    source: Source<'_>,
+    text: &str,
     scene: &Scene<'_>,
     tasks: &[Task],
     findings: &mut Vec<Finding>,
 ) -> Result<(), OutOfMemory> {
     for (index, block) in scene.function.blocks.as_slice().iter().enumerate() {
         let task = tasks.get(index).copied().unwrap_or(Task::Unreached);
-        push_block(alloc, source, &*scene, task, index, &*block, findings)?;
+        push_block(alloc, text, &*scene, task, index, &*block, findings)?;
     }
     Ok(())
 }
@@ -521,7 +530,13 @@ pub fn zone_findings(
     let mut findings: Vec<Finding> = Vec::new(alloc);
     for (index, table) in tables.iter().enumerate() {
         if let Some(scene) = Scene::of(alloc, program, &matched.whole, index)? {
-            push_function(alloc, source, &scene, table.tasks.as_slice(), &mut findings)?;
+            push_function(
+                alloc,
+                source.text,
+                &scene,
+                table.tasks.as_slice(),
+                &mut findings,
+            )?;
         }
     }
     Ok(findings)
