@@ -1,8 +1,9 @@
 use crate::{Hands, Taken, Thief};
 use shared_run::Ticket;
-use std::alloc::Global;
+use std::alloc::{AllocError, Global};
+use std::process::Abort;
 use std::sync::Wait;
-use std::sync::atomic::{AtomicBool, Ordering};
+use std::sync::atomic::{AtomicBool, AtomicU64, Ordering};
 use std::test::*;
 use std::thread;
 use std::thread::Threads;
@@ -24,26 +25,40 @@ fn oldest(thief: &mut Thief) -> u64 {
     0
 }
 
-#[test]
-fn thieves_take_in_order_and_the_owner_in_reverse(rt: HostRuntime) -> Result<(), Fail> {
-    let (mut hands, mut thieves) = Hands::new(rt.alloc(), 1)?;
-    let mut thief = thieves.pop().ok_or("no thief")?;
+// The newest ticket's number, or 0.
+fn newest(hands: &mut Hands) -> u64 {
+    match hands.take_newest() {
+        Some(ticket) => ticket.generation,
+        None => 0,
+    }
+}
+
+fn offer_three(rt: &impl Abort, hands: &mut Hands) {
     for n in [1u64, 2, 3] {
         assert!(rt; hands.offer(number(n)).is_ok(), "offer {n}");
     }
+}
+
+fn check_thief(rt: &impl Abort, thief: &mut Thief) {
     for n in [1u64, 2, 3] {
-        assert_eq!(rt; oldest(&mut thief), n);
+        assert_eq!(rt; oldest(thief), n);
     }
-    for n in [1u64, 2, 3] {
-        assert!(rt; hands.offer(number(n)).is_ok(), "offer {n} again");
+}
+
+fn check_owner(rt: &impl Abort, hands: &mut Hands) {
+    for n in [3u64, 2, 1, 0] {
+        assert_eq!(rt; newest(hands), n);
     }
-    for n in [3u64, 2, 1] {
-        assert_eq!(rt;
-            hands.take_newest().map(|ticket| ticket.generation),
-            Some(n)
-        );
-    }
-    assert!(rt; hands.take_newest().is_none(), "a ticket is left");
+}
+
+#[test]
+fn thieves_take_in_order_and_the_owner_in_reverse(rt: HostRuntime) -> Result<(), Fail> {
+    let (mut hands, mut thieves) = Hands::new(rt.alloc(), 1)?;
+    let thief = thieves.first_mut().ok_or("no thief")?;
+    offer_three(&rt, &mut hands);
+    check_thief(&rt, thief);
+    offer_three(&rt, &mut hands);
+    check_owner(&rt, &mut hands);
     Ok(())
 }
 
@@ -51,47 +66,60 @@ const TICKETS: u64 = 100_000;
 
 const THIEVES: usize = 8;
 
+// How often each ticket was taken, and how often one that nobody offered.
 #[derive(Drop)]
-enum End {
-    Owner(Hands),
-    Thief(Thief),
+struct Tally {
+    times: Vec<AtomicU64>,
+    others: AtomicU64,
 }
 
-// One thread's end of the list, and the numbers that it took.
-#[derive(Drop)]
-struct Member {
-    end: End,
-    took: Vec<u64>,
-}
+impl Tally {
+    fn new(alloc: Global) -> Result<Tally, AllocError> {
+        let mut times = Vec::with_capacity(alloc, TICKETS as usize)?;
+        for _ in 0..TICKETS {
+            times.push(AtomicU64::new(0))?;
+        }
+        Ok(Tally {
+            times,
+            others: AtomicU64::new(0),
+        })
+    }
 
-fn keep(took: &mut Vec<u64>, ticket: Ticket) {
-    // one that finds no room is missing in the end
-    let _kept = took.push(ticket.generation);
+    fn note(&self, ticket: Ticket) {
+        let times = self.times.get(ticket.generation as usize);
+        let count = times.unwrap_or(&self.others);
+        let _before = count.fetch_add(1, Ordering::SeqCst);
+    }
 }
 
 // Offers all tickets, takes every eighth back, and takes the newest until none is left.
-fn offer_all(hands: &mut Hands, took: &mut Vec<u64>) {
+fn offer_all(hands: &mut Hands, tally: &Tally) {
     for n in 0..TICKETS {
         // one that is refused is missing in the end
         let _offered = hands.offer(number(n));
         if n % 8 == 0
             && let Some(ticket) = hands.take_newest()
         {
-            keep(took, ticket);
+            tally.note(ticket);
         }
     }
     for _ in 0..TICKETS {
         let Some(ticket) = hands.take_newest() else {
             return;
         };
-        keep(took, ticket);
+        tally.note(ticket);
     }
 }
 
-fn take_until<R: Wait>(rt: &R, over: &AtomicBool, thief: &mut Thief, took: &mut Vec<u64>) {
+fn offer_until_none_is_left(tally: &Tally, over: &AtomicBool, hands: &mut Hands) {
+    offer_all(hands, tally);
+    over.store(true, Ordering::SeqCst);
+}
+
+fn take_until<R: Wait>(rt: &R, tally: &Tally, over: &AtomicBool, thief: &mut Thief) {
     for _ in rt.forever() {
         match thief.take_oldest() {
-            Taken::Ticket(ticket) => keep(took, ticket),
+            Taken::Ticket(ticket) => tally.note(ticket),
             Taken::Empty | Taken::Again => {
                 if over.load(Ordering::SeqCst) {
                     break;
@@ -101,50 +129,47 @@ fn take_until<R: Wait>(rt: &R, over: &AtomicBool, thief: &mut Thief, took: &mut 
     }
 }
 
-fn play<R: Wait>(rt: &R, over: &AtomicBool, member: &mut Member) {
-    match &mut member.end {
-        End::Owner(hands) => {
-            offer_all(hands, &mut member.took);
-            over.store(true, Ordering::SeqCst);
-        }
-        End::Thief(thief) => take_until(rt, over, thief, &mut member.took),
-    }
+fn steal_all<R: Threads + Wait + Sync>(
+    rt: &R,
+    tally: &Tally,
+    over: &AtomicBool,
+    thieves: &mut [Thief],
+) {
+    thread::for_each_mut(
+        rt,
+        thieves,
+        THIEVES,
+        &|_, thief| take_until(rt, tally, over, thief),
+    );
 }
 
-fn play_all<R: Threads + Wait + Sync>(rt: &R, crew: &mut [Member]) {
+// The owner plays on the calling thread, and first where no other thread can be made.
+fn play_all<R: Threads + Wait + Sync>(
+    rt: &R,
+    tally: &Tally,
+    hands: &mut Hands,
+    thieves: &mut [Thief],
+) {
     let over = AtomicBool::new(false);
-    thread::for_each_mut(rt, crew, THIEVES + 1, &|_, member| play(rt, &over, member));
+    thread::join(
+        rt,
+        || steal_all(rt, tally, &over, thieves),
+        || offer_until_none_is_left(tally, &over, hands),
+    );
 }
 
-fn member_at(alloc: Global, end: End) -> Result<Member, Fail> {
-    let took = Vec::with_capacity(alloc, TICKETS as usize)?;
-    Ok(Member { end, took })
-}
-
-// The owner stands last: its part runs on the calling thread, and first where no other thread can be made.
-fn crew(alloc: Global) -> Result<Vec<Member>, Fail> {
-    let (hands, thieves) = Hands::new(alloc, THIEVES)?;
-    let mut crew = Vec::new(alloc);
-    for thief in thieves {
-        crew.push(member_at(alloc, End::Thief(thief))?)?;
+fn check_tally(rt: &impl Abort, tally: &Tally) {
+    for count in &tally.times {
+        assert_eq!(rt; count.load(Ordering::SeqCst), 1);
     }
-    crew.push(member_at(alloc, End::Owner(hands))?)?;
-    Ok(crew)
+    assert_eq!(rt; tally.others.load(Ordering::SeqCst), 0);
 }
 
 #[test]
 fn each_ticket_comes_out_once(rt: HostRuntime) -> Result<(), Fail> {
-    let mut crew = crew(rt.alloc())?;
-    play_all(&rt, crew.as_mut_slice());
-    let mut all = Vec::new(rt.alloc());
-    for member in &crew {
-        all.extend_from_slice(member.took.as_slice())?;
-    }
-    all.sort()?;
-    assert_eq!(rt; all.len() as u64, TICKETS);
-    assert!(rt;
-        all.iter().zip(0..TICKETS).all(|(number, n)| *number == n),
-        "a ticket came out twice"
-    );
+    let tally = Tally::new(rt.alloc())?;
+    let (mut hands, mut thieves) = Hands::new(rt.alloc(), THIEVES)?;
+    play_all(&rt, &tally, &mut hands, thieves.as_mut_slice());
+    check_tally(&rt, &tally);
     Ok(())
 }

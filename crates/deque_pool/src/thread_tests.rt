@@ -1,12 +1,13 @@
 //! Runs on threads: the serial answer for each number of workers, two workers inside at once, and two threads that each play at a seat.
-ghost use Rattle.std.specs.Prelude.{◌≡◌, ◌≤◌, vec_len, vec_capacity, IfOk};
+ghost use Rattle.std.specs.Prelude.{◌≡◌, ◌<◌, vec_len};
 ghost use Rattle.shared_run.specs.store.Made.{IsMadeFor};
 
 use crate::{Gate, OpenGate, run};
-use shared_run::{Bench, Claimed, Finished, Memory, Seat, Shared, Stepped, Verified};
-use std::alloc::Global;
+use shared_run::{Bench, Claimed, Memory, Seat, Shared, Stepped, Verified};
+use std::alloc::{AllocError, Global};
 use std::hash::RandomState;
 use std::marker::Brand;
+use std::process::Abort;
 use std::sync::Wait;
 use std::sync::atomic::{AtomicBool, AtomicU64, Ordering};
 use std::sync::ledger::Blank;
@@ -212,43 +213,15 @@ const TIMES: u64 = 20;
 
 const TURNS: u32 = 10_000;
 
-// A module with the argument of its `main`, and what its serial run comes to.
-#[derive(Drop)]
-struct Row {
-    module: &'static str,
-    argument: i64,
-    times: u64,
-    result: i64,
-    instructions: u64,
-    peak: u64,
-}
-
-fn rows() -> [Row; 4] {
-    [
-        row_of(PAIR, 7, TIMES, (14, 14, 2)),
-        row_of(PARALLEL_FOR, 64, TIMES, (64, 518, 2)),
-        row_of(ADDING, 64, TIMES, (64, 518, 2)),
-        row_of(FIB, 10, 1, (55, 1767, 20)),
-    ]
-}
-
-fn row_of(module: &'static str, argument: i64, times: u64, answer: (i64, u64, u64)) -> Row {
-    Row {
-        module,
-        argument,
-        times,
-        result: answer.0,
-        instructions: answer.1,
-        peak: answer.2,
-    }
-}
+// What a run comes to: its answer, its instructions, and the most frames that lived at a time.
+type Answer = (i64, u64, u64);
 
 fn verified(alloc: Global, state: RandomState, text: &str) -> Result<Verified, Fail> {
     let verdict = verify(alloc, state, text.as_bytes());
     Ok(verdict.ok().ok_or("a module that is refused")?)
 }
 
-// A run of the module on so many workers under a gate.
+// A run of the module on so many workers under a gate. None: it stops.
 fn answer<G: Gate + Sync, R: Threads + Wait + Clock + Sync>(
     rt: &R,
     alloc: Global,
@@ -256,28 +229,68 @@ fn answer<G: Gate + Sync, R: Threads + Wait + Clock + Sync>(
     arguments: &[i64],
     workers: usize,
     gate: &G,
-) -> Result<Finished, Fail> {
-    let memory = Memory::zeroed(alloc, verified)?;
-    let run = run(rt, alloc, verified, arguments, memory, workers, gate);
-    Ok(run.ok().ok_or("a run that stops")?)
+) -> Option<Answer> {
+    let Ok(memory) = Memory::zeroed(alloc, verified) else {
+        return None;
+    };
+    match run(rt, alloc, verified, arguments, memory, workers, gate) {
+        Ok(done) => Some((done.result, done.instructions, done.peak)),
+        Err(_) => None,
+    }
+}
+
+// Runs the module so many times on so many workers.
+fn check_runs<R: Threads + Wait + Clock + Sync + Abort>(
+    rt: &R,
+    alloc: Global,
+    verified: &Verified,
+    argument: i64,
+    workers: usize,
+    times: u64,
+    wanted: Answer,
+) {
+    for _time in 0..times {
+        let found = answer(rt, alloc, verified, &[argument], workers, &OpenGate);
+        assert_eq!(rt; found, Some(wanted), "on {workers}");
+    }
+}
+
+// Runs the module so many times on each number of workers.
+fn check_crews<R: Threads + Wait + Clock + Sync + Abort>(
+    rt: &R,
+    alloc: Global,
+    verified: &Verified,
+    argument: i64,
+    times: u64,
+    wanted: Answer,
+) {
+    for workers in [1usize, 2, 3, 4, 8, 64] {
+        check_runs(rt, alloc, verified, argument, workers, times, wanted);
+    }
+}
+
+fn check<R: Threads + Wait + Clock + Sync + Abort>(
+    rt: &R,
+    alloc: Global,
+    state: RandomState,
+    module: &str,
+    argument: i64,
+    times: u64,
+    wanted: Answer,
+) -> Result<(), Fail> {
+    let verified = verified(alloc, state, module)?;
+    check_crews(rt, alloc, &verified, argument, times, wanted);
+    Ok(())
 }
 
 #[test]
 fn each_number_of_workers_gives_the_serial_answer(rt: HostRuntime) -> Result<(), Fail> {
     let alloc = rt.alloc();
     let state = RandomState::new(&rt)?;
-    for row in &rows() {
-        let verified = verified(alloc, state, row.module)?;
-        for workers in [1usize, 2, 3, 4, 8, 64] {
-            for _time in 0..row.times {
-                let done = answer(&rt, alloc, &verified, &[row.argument], workers, &OpenGate)?;
-                assert_eq!(rt; done.result, row.result, "on {workers}");
-                assert_eq!(rt; done.instructions, row.instructions, "on {workers}");
-                assert_eq!(rt; done.peak, row.peak, "on {workers}");
-            }
-        }
-    }
-    Ok(())
+    check(&rt, alloc, state, PAIR, 7, TIMES, (14, 14, 2))?;
+    check(&rt, alloc, state, PARALLEL_FOR, 64, TIMES, (64, 518, 2))?;
+    check(&rt, alloc, state, ADDING, 64, TIMES, (64, 518, 2))?;
+    check(&rt, alloc, state, FIB, 10, 1, (55, 1767, 20))
 }
 
 // Holds worker 0 before its strand 1, and worker 1 before its strand 0, until the other is held there too.
@@ -335,65 +348,66 @@ impl Gate for Counting {
 }
 
 // A block that stores to 257 cells: one more than a strand has room for.
-fn stores(alloc: Global) -> Result<String, Fail> {
+fn stores(alloc: Global) -> Result<String, AllocError> {
     let mut text = String::from_str(
         alloc,
         "@a = global [257 x i64] zeroinitializer\ndefine i64 @main() {\n;! writes @a 0 257\n;! budget 0 515\nentry:\n;! left 0 515\n",
     )?;
     for cell in 0..257u32 {
-        writeln!(
-            text,
-            "%p{cell} = getelementptr inbounds i64, ptr @a, i64 {cell}"
-        )?;
-        writeln!(text, "store i64 1, ptr %p{cell}")?;
+        push_store(&mut text, cell)?;
     }
     text.push_str("ret i64 0\n}\n")?;
     Ok(text)
 }
 
-// What `pair` comes to on two workers that wait for each other in their gates, and whether both came.
+fn push_store(text: &mut String, cell: u32) -> Result<(), AllocError> {
+    writeln!(
+        text,
+        "%p{cell} = getelementptr inbounds i64, ptr @a, i64 {cell}\nstore i64 1, ptr %p{cell}"
+    )
+}
+
+// What the module comes to on two workers that wait for each other in their gates, and whether both came.
 fn meet<R: Threads + Wait + Clock + Sync>(
     rt: &R,
     alloc: Global,
-    state: RandomState,
-) -> Result<(i64, bool), Fail> {
+    verified: &Verified,
+) -> (Option<Answer>, bool) {
     let meeting = Meeting {
         rt,
         first: AtomicBool::new(false),
         second: AtomicBool::new(false),
     };
-    let pair = verified(alloc, state, PAIR)?;
-    let done = answer(rt, alloc, &pair, &[7], 2, &meeting)?;
+    let found = answer(rt, alloc, verified, &[7], 2, &meeting);
     let met = meeting.first.load(Ordering::SeqCst) && meeting.second.load(Ordering::SeqCst);
-    Ok((done.result, met))
+    (found, met)
 }
 
-// The instructions of a block that fills two strands, and how often its gates were passed.
+// What the module comes to on one worker, and how often its gates were passed.
 fn count<R: Threads + Wait + Clock + Sync>(
     rt: &R,
     alloc: Global,
-    state: RandomState,
-    text: &str,
-) -> Result<(u64, [u64; 3]), Fail> {
+    verified: &Verified,
+) -> (Option<Answer>, [u64; 3]) {
     let counting = Counting {
         first: AtomicU64::new(0),
         second: AtomicU64::new(0),
         other: AtomicU64::new(0),
     };
-    let stores = verified(alloc, state, text)?;
-    let done = answer(rt, alloc, &stores, &[], 1, &counting)?;
+    let found = answer(rt, alloc, verified, &[], 1, &counting);
     let passed = [
         counting.first.load(Ordering::SeqCst),
         counting.second.load(Ordering::SeqCst),
         counting.other.load(Ordering::SeqCst),
     ];
-    Ok((done.instructions, passed))
+    (found, passed)
 }
 
 #[test]
 fn two_workers_are_inside_at_once(rt: HostRuntime) -> Result<(), Fail> {
-    let (found, met) = meet(&rt, rt.alloc(), RandomState::new(&rt)?)?;
-    assert_eq!(rt; found, 14);
+    let pair = verified(rt.alloc(), RandomState::new(&rt)?, PAIR)?;
+    let (found, met) = meet(&rt, rt.alloc(), &pair);
+    assert_eq!(rt; found, Some((14, 14, 2)));
     assert!(rt; met, "two workers were not inside at once");
     Ok(())
 }
@@ -401,35 +415,35 @@ fn two_workers_are_inside_at_once(rt: HostRuntime) -> Result<(), Fail> {
 #[test]
 fn gates_are_passed_before_strands(rt: HostRuntime) -> Result<(), Fail> {
     let text = stores(rt.alloc())?;
-    let (instructions, passed) = count(&rt, rt.alloc(), RandomState::new(&rt)?, text.as_str())?;
-    assert_eq!(rt; instructions, 515);
+    let stores = verified(rt.alloc(), RandomState::new(&rt)?, text.as_str())?;
+    let (found, passed) = count(&rt, rt.alloc(), &stores);
+    assert_eq!(rt; found, Some((0, 515, 1)));
     assert_eq!(rt; passed, [1, 1, 0]);
     Ok(())
 }
 
-// A seat with the number of events that were reported there.
-#[derive(Drop)]
-struct Chair<L: Bench> {
-    seat: Seat<L>,
-    events: u64,
-}
-
 // One step, or else a claim; the answers are whether there was an event, and whether the run has ended.
-fn turn<L: Bench, R: Wait>(rt: &R, shared: &Shared<'_, L>, chair: &mut Chair<L>) -> (bool, bool) {
+fn turn<L: Bench, R: Wait>(rt: &R, shared: &Shared<'_, L>, seat: &mut Seat<L>) -> (bool, bool) {
     let mut board = shared.board.lock(rt);
-    let happened = match board.step(&mut chair.seat) {
+    let happened = match board.step(seat) {
         Stepped::Done { .. } => true,
-        _ => matches!(board.claim_first(&mut chair.seat), Claimed::Taken),
+        _ => matches!(board.claim_first(seat), Claimed::Taken),
     };
     (happened, board.end())
 }
 
-fn play<L: Bench, R: Wait + Clock>(rt: &R, shared: &Shared<'_, L>, chair: &mut Chair<L>) {
+// Plays at a seat, and counts the events that are reported there.
+fn play<L: Bench, R: Wait + Clock>(
+    rt: &R,
+    shared: &Shared<'_, L>,
+    reported: &AtomicU64,
+    seat: &mut Seat<L>,
+) {
     let mut idle: u32 = 0;
     for _turn in rt.forever() {
-        let (happened, ended) = turn(rt, shared, chair);
+        let (happened, ended) = turn(rt, shared, seat);
         if happened {
-            chair.events = chair.events.saturating_add(1);
+            let _before = reported.fetch_add(1, Ordering::SeqCst);
             continue;
         }
         idle = idle.saturating_add(1);
@@ -440,44 +454,33 @@ fn play<L: Bench, R: Wait + Clock>(rt: &R, shared: &Shared<'_, L>, chair: &mut C
     }
 }
 
-// A chair for each seat.
-fn chairs_of<L: Bench>(alloc: Global, mut seats: Vec<Seat<L>>) -> Result<Vec<Chair<L>>, Fail>
-    ensures { IfOk result (λ chairs. vec_len chairs ≡ vec_len seats) }
-{
-    let mut chairs = Vec::with_capacity(alloc, seats.len())?;
-    while let Some(seat) = seats.pop() {
-        chairs.push(Chair { seat, events: 0 })?;
-    }
-    Ok(chairs)
-}
-
-// The seats of all chairs, in `room`, which is empty.
-fn seats_of<L: Bench>(mut chairs: Vec<Chair<L>>, mut room: Vec<Seat<L>>) -> Vec<Seat<L>>
-    requires { (vec_len room ≡ 0) × (vec_len chairs ≤ vec_capacity room) }
-    ensures { vec_len result ≡ vec_len chairs }
-{
-    while let Some(chair) = chairs.pop() {
-        room.push_reserved(chair.seat);
-    }
-    room
-}
-
 fn play_both<L: Bench + Send + Sync, R: Threads + Wait + Clock + Sync>(
     rt: &R,
     shared: &Shared<'_, L>,
-    chairs: &mut [Chair<L>],
+    reported: &AtomicU64,
+    seats: &mut [Seat<L>],
 ) {
-    thread::for_each_mut(rt, chairs, 2, &|_, chair| play(rt, shared, chair));
+    thread::for_each_mut(rt, seats, 2, &|_, seat| play(rt, shared, reported, seat));
 }
 
-// A run of two seats, each on a thread: its answer, its events, and those that were reported.
+// What the run comes to, and its events. None: it goes on.
+fn finished<L: Bench>(shared: Shared<'_, L>, seats: Vec<Seat<L>>) -> Option<(Answer, u64)>
+    requires { (vec_len seats ≡ L.parts) × (0 < L.parts) }
+{
+    match shared.finish(seats) {
+        Ok((done, events)) => Some(((done.result, done.instructions, done.peak), events)),
+        Err(_) => None,
+    }
+}
+
+// A run of two seats, each on a thread: what it comes to, its events, and those that were reported.
 fn two_seats<L: Bench + Send + Sync, R: Threads + Wait + Clock + Sync>(
     rt: &R,
     alloc: Global,
     verified: &Verified,
     memory: Memory,
     blank: Blank,
-) -> Result<(Finished, u64, u64), Fail>
+) -> Option<(Answer, u64, u64)>
     requires made { IsMadeFor verified.now memory }
     requires code { verified.now ≡ L.code }
     requires crew { 2 ≡ L.crew }
@@ -486,18 +489,13 @@ fn two_seats<L: Bench + Send + Sync, R: Threads + Wait + Clock + Sync>(
     requires one_each { blank.parts ≡ 2 }
 {
     let made = Shared::<L>::new(alloc, verified, [64].as_slice(), memory, 2, blank);
-    let (shared, seats) = made.ok().ok_or("a run that does not begin")?;
-    let room = Vec::with_capacity(alloc, seats.len())?;
-    let mut chairs = chairs_of(alloc, seats)?;
-    play_both(rt, &shared, chairs.as_mut_slice());
-    let mut reported: u64 = 0;
-    for chair in &chairs {
-        reported = reported.saturating_add(chair.events);
-    }
-    match shared.finish(seats_of(chairs, room)) {
-        Ok((finished, events)) => Ok((finished, events, reported)),
-        Err(_) => Err(Fail::from("a run that goes on")),
-    }
+    let Ok((shared, mut seats)) = made else {
+        return None;
+    };
+    let reported = AtomicU64::new(0);
+    play_both(rt, &shared, &reported, seats.as_mut_slice());
+    let (answer, events) = finished(shared, seats)?;
+    Some((answer, events, reported.load(Ordering::SeqCst)))
 }
 
 #[test]
@@ -506,10 +504,9 @@ fn two_threads_play_at_their_seats(rt: HostRuntime) -> Result<(), Fail> {
     let verified = verified(alloc, RandomState::new(&rt)?, PARALLEL_FOR)?;
     let memory = Memory::zeroed(alloc, &verified)?;
     let blank = Blank::new(2);
-    let (done, events, reported) = two_seats::<Brand, _>(&rt, alloc, &verified, memory, blank)?;
-    assert_eq!(rt; done.result, 64);
-    assert_eq!(rt; done.instructions, 518);
-    assert_eq!(rt; done.peak, 2);
+    let played = two_seats::<Brand, _>(&rt, alloc, &verified, memory, blank);
+    let (answer, events, reported) = played.ok_or("a run that stops")?;
+    assert_eq!(rt; answer, (64, 518, 2));
     assert_eq!(rt; events, reported);
     Ok(())
 }
