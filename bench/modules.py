@@ -177,6 +177,122 @@ def clear(facts):
     last = "f:\n" + bounds + ";! pending %s reads @a 0 %m\n;! pending %s writes @a %n %n+32\n;! left 0 2\nsync within %s, label %g\ng:\n;! left 0 1\nret i64 0\n}\n"
     return head + first + middle + second + last
 
+def stores(count):
+    """So many facts, and then as many stores of a cell whose index the two oldest facts bound."""
+    adds = count // 32
+    head = f"@a = global [99 x i64] zeroinitializer\ndefine i64 @main(i64 %n, i64 %m) {{\n;! requires %n >= 0\n;! requires %n <= 9\n;! requires %m <= 9\n;! writes @a 0 99\n"
+    head += f";! budget 0 {adds + count + 2}\nentry:\n;! left 0 {adds + count + 2}\n"
+    facts = [f";! shows {k + 1}*%m <= {9 * k + 10}\n" + (f"%x{k} = add i64 %n, 0\n" if k % 32 == 0 else "") for k in range(1, count + 1)]
+    return head + "".join(facts) + "%p = getelementptr inbounds i64, ptr @a, i64 %n\n" + "store i64 0, ptr %p\n" * count + "ret i64 0\n}\n"
+
+def promises(count):
+    """So many calls of a function with 32 `requires` and 32 `ensures` lines, each of which the two oldest facts show."""
+    lines = [f"{k + 1}*%n+{k + 2}*%m <= {18 * k + 27}" for k in range(32)]
+    callee = "define void @f(i64 %n, i64 %m) {\n" + "".join(f";! requires {line}\n" for line in lines) + "".join(f";! ensures {line}\n" for line in lines)
+    callee += ";! budget 0 1\nentry:\n;! left 0 1\nret void\n}\n"
+    total = 2 * count + 1
+    head = f"define i64 @main(i64 %n, i64 %m) {{\n;! requires %n <= 9\n;! requires %m <= 9\n;! budget 0 {total}\nentry:\n;! left 0 {total}\n"
+    return callee + head + "call void @f(i64 %n, i64 %m)\n" * count + "ret i64 0\n}\n"
+
+def covers(count):
+    """So many calls of a function with 32 zones of each mode, each of which the last of the caller's 32 zones alone covers."""
+    modes = [("reads", 0), ("writes", 32), ("adds", 64)]
+    callee = "@a = global [999 x i64] zeroinitializer\ndefine void @f() {\n"
+    callee += "".join(f";! {mode} @a {start + k} {start + k + 1}\n" for mode, start in modes for k in range(32)) + ";! budget 0 1\nentry:\n;! left 0 1\nret void\n}\n"
+    total = 2 * count + 1
+    head = "define i64 @main(i64 %n) {\n" + "".join(f";! writes @a {k + 200} {k + 201}\n" for k in range(31)) + f";! writes @a 0 99\n;! budget 0 {total}\nentry:\n;! left 0 {total}\n"
+    return callee + head + "call void @f()\n" * count + "ret i64 0\n}\n"
+
+def cases(count):
+    """So many facts at the end of a block, and a switch behind it to 64 blocks with 32 `keeps` lines each, which the two oldest facts show."""
+    adds = count // 32
+    head = f"define i64 @main(i64 %n, i64 %m) {{\n;! requires %n <= 9\n;! requires %m <= 9\n;! budget 0 {adds + 3}\nentry:\n;! left 0 {adds + 3}\n"
+    facts = [f";! shows {k + 1}*%n <= {9 * k + 10}\n" + (f"%x{k} = add i64 %n, 0\n" if k % 32 == 0 else "") for k in range(1, count + 1)]
+    ways = "%y = add i64 %n, 0\nswitch i64 %m, label %a64 [" + "".join(f" i64 {k}, label %a{k}" for k in range(64)) + " ]\n"
+    keeps = "".join(f";! keeps {k + 1}*%n+{k + 2}*%m <= {18 * k + 27}\n" for k in range(32))
+    return head + "".join(facts) + ways + "".join(f"a{k}:\n{keeps};! left 0 1\nret i64 0\n" for k in range(65)) + "}\n"
+
+def pointers(count):
+    """So many calls in one block, then a pointer, and as many loads through it."""
+    total = 3 * count + 2
+    callee = "@a = global [9 x i64] zeroinitializer\ndefine void @f() {\n;! budget 0 1\nentry:\n;! left 0 1\nret void\n}\n"
+    head = f"define i64 @main(i64 %n) {{\n;! writes @a 0 9\n;! budget 0 {total}\nentry:\n;! left 0 {total}\n"
+    return callee + head + "call void @f()\n" * count + "%p = getelementptr inbounds i64, ptr @a, i64 0\n" + "store i64 0, ptr %p\n" * count + "ret i64 0\n}\n"
+
+def selves(count):
+    """So many facts in one block, and as many self calls behind them, whose measure the two oldest facts bound."""
+    adds = count // 32
+    head = f"define void @f(i64 %n, i64 %m) {{\n;! requires %n >= 0\n;! requires %n <= 1\n;! requires %m <= 9\n;! measure %n max 1\n;! budget {count} {adds + count + 9}\n"
+    head += f"entry:\n;! left {count}*%n {adds + count + 9}\n%c = icmp sge i64 %n, 1\nbr i1 %c, label %a, label %b\n"
+    first = f"a:\n;! keeps %n >= 1\n;! keeps %n <= 1\n;! keeps %m <= 9\n;! left {count}*%n {adds + count + 3}\n%k = sub nsw i64 %n, 1\n"
+    facts = [f";! shows {k + 1}*%m <= {9 * k + 10}\n" + (f"%x{k} = add i64 %n, 0\n" if k % 32 == 0 else "") for k in range(1, count + 1)]
+    main = "define i64 @main(i64 %n) {\n;! budget 0 1\nentry:\n;! left 0 1\nret i64 0\n}\n"
+    return head + first + "".join(facts) + "call void @f(i64 %k, i64 %m)\n" * count + "ret void\nb:\n;! left 0 1\nret void\n}\n" + main
+
+def asked(count):
+    """Sixteen facts of four registers, and so many calls of a function with 32 `requires` lines that two of them show with two factors."""
+    lines = [f"{k + 2}*%a+{k + 3}*%b+{k + 2}*%c+{k + 3}*%d >= {-9 * k}" for k in range(32)]
+    callee = "define void @f(i64 %a, i64 %b, i64 %c, i64 %d) {\n" + "".join(f";! requires {line}\n" for line in lines) + ";! budget 0 1\nentry:\n;! left 0 1\nret void\n}\n"
+    total = 2 * count + 1
+    facts = ["%a+%c >= 0", "%b+%d >= 0"] + [f"{k}*%a-{k}*%b+{k + 1}*%c-{k + 1}*%d >= {-k}" for k in range(1, 15)]
+    head = "define i64 @main(i64 %a, i64 %b, i64 %c, i64 %d) {\n" + "".join(f";! requires {fact}\n" for fact in facts) + f";! budget 0 {total}\nentry:\n;! left 0 {total}\n"
+    return callee + head + "call void @f(i64 %a, i64 %b, i64 %c, i64 %d)\n" * count + "ret i64 0\n}\n"
+
+def given(count):
+    """So many calls of a function with 32 `ensures` lines, each with a register of its own."""
+    lines = [f"{k + 1}*%n >= {-k}" for k in range(32)]
+    callee = "define void @f(i64 %n) {\n;! requires %n >= 0\n" + "".join(f";! ensures {line}\n" for line in lines) + ";! budget 0 1\nentry:\n;! left 0 1\nret void\n}\n"
+    total = 3 * count + 1
+    head = f"define i64 @main(i64 %n) {{\n;! requires %n >= 0\n;! budget 0 {total}\nentry:\n;! left 0 {total}\n"
+    return callee + head + "".join(f"%x{k} = and i64 %n, 7\ncall void @f(i64 %x{k})\n" for k in range(count)) + "ret i64 0\n}\n"
+
+def beside(count):
+    """So many calls of a function with 32 zones of each mode, beside a child with 32 zones that start where those end."""
+    modes = [("reads", 0), ("writes", 32), ("adds", 64)]
+    callee = "@a = global [999 x i64] zeroinitializer\ndefine void @f() {\n"
+    callee += "".join(f";! {mode} @a {start + k} {start + k + 1}\n" for mode, start in modes for k in range(32)) + ";! budget 0 1\nentry:\n;! left 0 1\nret void\n}\n"
+    total = 2 * count + 6
+    zones = [f"writes @a {k + 100} {k + 101}" for k in range(32)]
+    head = f"define i64 @main(i64 %n) {{\n;! writes @a 0 999\n;! budget 0 {total}\nentry:\n;! left 0 {total}\n%s = call token @llvm.syncregion.start()\n"
+    child = "detach within %s, label %d, label %c\nd:\n;! left 0 1\n" + "".join(f";! foot {zone}\n" for zone in zones) + "reattach within %s, label %c\n"
+    rest = f"c:\n;! left 0 {total - 3}\n" + "".join(f";! pending %s {zone}\n" for zone in zones)
+    return callee + head + child + rest + "call void @f()\n" * count + "sync within %s, label %e\ne:\n;! left 0 1\nret i64 0\n}\n"
+
+def crossed(count):
+    """So many `shows` lines of two registers with small coefficients of both signs, each in turn the first and the last that its question comes to."""
+    wide = int(count ** 0.5) // 2 + 1
+    forms = [(x, y) for x in range(-wide, wide + 1) for y in range(-wide, wide + 1) if abs(x) + abs(y) > 1][:count]
+    head = "define i64 @main(i64 %n, i64 %m) {\n;! requires %n >= 0\n;! requires %m >= 0\n;! requires %n <= 9\n;! requires %m <= 9\n"
+    head += f";! budget 0 {count // 32 + 2}\nentry:\n;! left 0 {count // 32 + 2}\n"
+    lines = []
+    for k, (x, y) in enumerate(forms, 1):
+        least = min(0, 9 * x) + min(0, 9 * y)
+        lines.append(f";! shows {x}*%n{y:+}*%m >= {least}\n".replace("+0*%m", "+0*%m") + (f"%x{k} = add i64 %n, 0\n" if k % 32 == 0 else ""))
+    return head + "".join(lines) + "ret i64 0\n}\n"
+
+def weight(register):
+    """The weight of a register in the index of facts."""
+    spread = (register % 65536 * 7368787 + 12345) % 16777213
+    return spread * spread % 16777213
+
+def alike(count):
+    """So many `shows` lines of four registers whose weighted sums are all 0, so that an index by such sums tells none of them apart; none is shown."""
+    weights, halves, reach = [weight(register) for register in range(4)], {}, 330
+    for x in range(-reach, reach + 1):
+        for y in range(-reach, reach + 1):
+            halves[weights[0] * x + weights[1] * y] = (x, y)
+    pairs = [(z, w) for z in range(-reach, reach + 1) for w in range(-reach, reach + 1)]
+    found = [halves[sum] + (z, w) for z, w in pairs if (sum := -weights[2] * z - weights[3] * w) in halves and (z, w) > (0, 0)]
+    one, other = sorted(found, key=lambda form: max(map(abs, form)))[:2]
+    wide = int(count ** 0.5) + 1
+    forms = [[i * x + j * y for x, y in zip(one, other)] for i in range(wide, 2 * wide) for j in range(wide, 2 * wide)][:count]
+    head = f"define i64 @main(i64 %a, i64 %b, i64 %c, i64 %d) {{\n;! budget 0 {count // 32 + 2}\nentry:\n;! left 0 {count // 32 + 2}\n"
+    lines = []
+    for k, form in enumerate(forms, 1):
+        text = "".join(f"{c:+}*%{r}" for c, r in zip(form, "abcd") if c).removeprefix("+")
+        lines.append(f";! shows {text} >= {-k}\n" + (f"%x{k} = add i64 %a, 0\n" if k % 32 == 0 else ""))
+    return head + "".join(lines) + ("" if count % 32 == 0 else "%x = add i64 %a, 0\n") + "ret i64 0\n}\n"
+
 def pending(blocks):
     """A child that may run beside so many blocks, each with 32 `pending` lines."""
     out = ["@a = global [99 x i64] zeroinitializer\n"]

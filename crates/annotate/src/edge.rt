@@ -2,7 +2,7 @@
 
 use lists::Name;
 use std::alloc::{AllocError, Global};
-use syntax::{Argument, Block, Function, Instruction, Operand, Terminator};
+use syntax::{Argument, Block, Case, Function, Instruction, Operand, Phi, Step, Terminator};
 
 /// How a path goes along an edge. None goes along a reattach.
 #[derive(Clone, Copy)]
@@ -32,68 +32,106 @@ fn block_of(blocks: &[Block], label: &Name) -> Option<usize> {
     blocks.iter().position(|block| block.label.is_same(label))
 }
 
-/// The edges of one function, while they are found.
-#[derive(Drop)]
-struct Finder<'a> {
-    blocks: &'a [Block],
-    edges: Vec<Edge<'a>>,
+/// A label that a terminator names, and how a path goes there.
+#[derive(Clone, Copy)]
+struct Exit<'a> {
+    label: &'a Name,
+    way: Way<'a>,
 }
 
-impl<'a> Finder<'a> {
-    fn add(&mut self, from: usize, to: &Name, way: Way<'a>) -> Result<(), AllocError> {
-        if let Some(to) = block_of(self.blocks, to) {
-            self.edges.push(Edge { from, to, way })?;
+/// The exits of a block, in the order of its terminator.
+#[derive(Drop)]
+struct Exits<'a> {
+    all: Vec<Exit<'a>>,
+}
+
+impl<'a> Exits<'a> {
+    fn add(&mut self, label: &'a Name, way: Way<'a>) -> Result<(), AllocError> {
+        self.all.push(Exit { label, way })?;
+        Ok(())
+    }
+
+    fn add_cases(&mut self, cases: &'a [Case]) -> Result<(), AllocError> {
+        for case in cases {
+            self.add(&case.target, Way::Branch)?;
         }
         Ok(())
     }
 
-    fn add_ending(&mut self, from: usize, terminator: &'a Terminator) -> Result<(), AllocError> {
+    fn add_ending(&mut self, terminator: &'a Terminator) -> Result<(), AllocError> {
         match terminator {
-            Terminator::Jump { target } => self.add(from, target, Way::Branch),
+            Terminator::Jump { target } => self.add(target, Way::Branch),
             Terminator::Branch {
                 condition,
                 when_true,
                 when_false,
             } => {
-                self.add(from, when_true, Way::WhenTrue(condition.as_str()))?;
-                self.add(from, when_false, Way::WhenFalse(condition.as_str()))
+                self.add(when_true, Way::WhenTrue(condition.as_str()))?;
+                self.add(when_false, Way::WhenFalse(condition.as_str()))
             }
             Terminator::Switch { default, cases, .. } => {
-                self.add(from, default, Way::Branch)?;
-                for case in cases.as_slice() {
-                    self.add(from, &case.target, Way::Branch)?;
-                }
-                Ok(())
+                self.add(default, Way::Branch)?;
+                self.add_cases(cases.as_slice())
             }
             Terminator::Detach {
                 region,
                 body,
                 continuation,
             } => {
-                self.add(from, body, Way::Detached)?;
-                self.add(from, continuation, Way::Continued(region.as_str()))
+                self.add(body, Way::Detached)?;
+                self.add(continuation, Way::Continued(region.as_str()))
             }
-            Terminator::Sync { region, target } => {
-                self.add(from, target, Way::Synced(region.as_str()))
-            }
+            Terminator::Sync { region, target } => self.add(target, Way::Synced(region.as_str())),
             Terminator::Return { .. } | Terminator::Reattach { .. } => Ok(()),
         }
     }
 }
 
+fn exits_of<'a>(alloc: Global, terminator: &'a Terminator) -> Result<Vec<Exit<'a>>, AllocError> {
+    let mut exits = Exits {
+        all: Vec::new(alloc),
+    };
+    exits.add_ending(terminator)?;
+    Ok(exits.all)
+}
+
+/// Adds the edges of a block; an exit to a label that no block has is none.
+fn push_edges<'a>(
+    edges: &mut Vec<Edge<'a>>,
+    blocks: &[Block],
+    from: usize,
+    exits: &[Exit<'a>],
+) -> Result<(), AllocError> {
+    for exit in exits {
+        if let Some(to) = block_of(blocks, exit.label) {
+            let way = exit.way;
+            edges.push(Edge { from, to, way })?;
+        }
+    }
+    Ok(())
+}
+
 /// The edges of a function, in the order of its blocks and terminators.
 pub fn edges_of<'a>(alloc: Global, function: &'a Function) -> Result<Vec<Edge<'a>>, AllocError> {
     let blocks = function.blocks.as_slice();
-    let mut finder = Finder {
-        blocks,
-        edges: Vec::new(alloc),
-    };
-    for (from, block) in blocks.iter().enumerate() {
-        if let Some(ending) = &block.ending {
-            finder.add_ending(from, &ending.terminator)?;
+    let mut edges = Vec::new(alloc);
+    for from in 0..blocks.len() {
+        if let Some(ending) = &blocks[from].ending {
+            let exits = exits_of(alloc, &ending.terminator)?;
+            push_edges(&mut edges, blocks, from, exits.as_slice())?;
         }
     }
-    Ok(finder.edges)
+    Ok(edges)
+}
+
+/// The instructions of a block; none where the function has no such block.
+pub fn steps_at(function: &Function, block: usize) -> &[Step] {
+    let blocks = function.blocks.as_slice();
+    if block < blocks.len() {
+        blocks[block].steps.as_slice()
+    } else {
+        &[]
+    }
 }
 
 /// The register that an instruction defines.
@@ -173,9 +211,8 @@ pub fn is_phi(block: &Block, name: &str) -> bool {
     phis.iter().any(|phi| phi.register.as_str() == name)
 }
 
-/// What a phi of a block takes where the run comes from a block of this label.
-pub fn phi_value<'a>(block: &'a Block, name: &str, predecessor: &Name) -> Option<&'a Operand> {
-    let phis = block.phis.as_slice();
+/// What a phi takes where the run comes from a block of this label.
+pub fn phi_value<'a>(phis: &'a [Phi], name: &str, predecessor: &Name) -> Option<&'a Operand> {
     let phi = phis.iter().find(|phi| phi.register.as_str() == name)?;
     let entries = phi.entries.as_slice();
     let entry = entries

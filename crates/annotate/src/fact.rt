@@ -1,10 +1,10 @@
 //! What inequalities, and the conditions of branches, say.
 
-use crate::edge::{Edge, Way, is_used_beside, register_of};
+use crate::edge::{Edge, Way, is_used_beside, register_of, steps_at};
 use crate::left::definition_of;
 use crate::sum::Sum;
 use std::alloc::{AllocError, Global};
-use syntax::{BinaryOperator, Block, Function, Inequality, Instruction, Predicate};
+use syntax::{BinaryOperator, Function, Inequality, Instruction, Operand, Predicate, Step};
 
 /// The facts that a function's text states anywhere, each once.
 #[derive(Drop)]
@@ -88,15 +88,28 @@ impl<'a> Facts<'a> {
         }
     }
 
+    /// Adds what a comparison of these operands says where it holds.
+    fn compare_operands(
+        &mut self,
+        stated: &mut Vec<usize>,
+        predicate: Predicate,
+        left: &'a Operand,
+        right: &'a Operand,
+    ) -> Result<(), AllocError> {
+        let left = Sum::of_operand(self.alloc, left)?;
+        let right = Sum::of_operand(self.alloc, right)?;
+        self.compare(stated, predicate, &left, &right)
+    }
+
     /// Adds what the comparison of this register says where it has this outcome.
     fn decide(
         &mut self,
         stated: &mut Vec<usize>,
-        block: &'a Block,
+        steps: &'a [Step],
         condition: &str,
         holds: bool,
     ) -> Result<(), AllocError> {
-        for step in block.steps.as_slice() {
+        for step in steps {
             if let Instruction::Compare {
                 register,
                 predicate,
@@ -106,14 +119,12 @@ impl<'a> Facts<'a> {
             } = &step.instruction
             {
                 if register.as_str() == condition {
-                    let left = Sum::of_operand(self.alloc, left)?;
-                    let right = Sum::of_operand(self.alloc, right)?;
                     let predicate = if holds {
                         *predicate
                     } else {
                         opposite(*predicate)
                     };
-                    self.compare(stated, predicate, &left, &right)?;
+                    self.compare_operands(stated, predicate, left, right)?;
                 }
             }
         }
@@ -138,6 +149,22 @@ impl<'a> Facts<'a> {
         self.order(stated, &value, &register, 0)
     }
 
+    /// Adds what an instruction says of a register that blocks beside its own take.
+    fn make(
+        &mut self,
+        stated: &mut Vec<usize>,
+        function: &'a Function,
+        index: usize,
+        instruction: &'a Instruction,
+    ) -> Result<(), AllocError> {
+        match register_of(instruction) {
+            Some(name) if is_used_beside(function, index, name) => {
+                self.define(stated, name, instruction)
+            }
+            _ => Ok(()),
+        }
+    }
+
     /// The facts that a block's own instructions make of registers that other blocks take.
     pub fn made_in(
         &mut self,
@@ -145,17 +172,24 @@ impl<'a> Facts<'a> {
         index: usize,
     ) -> Result<Vec<usize>, AllocError> {
         let mut stated = Vec::new(self.alloc);
-        let Some(block) = function.blocks.as_slice().get(index) else {
-            return Ok(stated);
-        };
-        for step in block.steps.as_slice() {
-            if let Some(name) = register_of(&step.instruction) {
-                if is_used_beside(function, index, name) {
-                    self.define(&mut stated, name, &step.instruction)?;
-                }
-            }
+        for step in steps_at(function, index) {
+            self.make(&mut stated, function, index, &step.instruction)?;
         }
         Ok(stated)
+    }
+
+    /// Adds the outcome of a branch along an edge.
+    fn branch(
+        &mut self,
+        stated: &mut Vec<usize>,
+        steps: &'a [Step],
+        way: Way<'a>,
+    ) -> Result<(), AllocError> {
+        match way {
+            Way::WhenTrue(condition) => self.decide(stated, steps, condition, true),
+            Way::WhenFalse(condition) => self.decide(stated, steps, condition, false),
+            Way::Branch | Way::Detached | Way::Continued(_) | Way::Synced(_) => Ok(()),
+        }
     }
 
     /// The facts that a block adds on one of its edges: its `shows`, and the outcome of its branch.
@@ -164,23 +198,26 @@ impl<'a> Facts<'a> {
         function: &'a Function,
         edge: Edge<'a>,
     ) -> Result<Vec<usize>, AllocError> {
+        let steps = steps_at(function, edge.from);
         let mut stated = Vec::new(self.alloc);
-        let Some(block) = function.blocks.as_slice().get(edge.from) else {
-            return Ok(stated);
-        };
-        for step in block.steps.as_slice() {
+        for step in steps {
             self.state(&mut stated, step.shows.as_slice())?;
         }
-        if let Some(ending) = &block.ending {
-            self.state(&mut stated, ending.shows.as_slice())?;
-        }
-        match edge.way {
-            Way::WhenTrue(condition) => self.decide(&mut stated, block, condition, true)?,
-            Way::WhenFalse(condition) => self.decide(&mut stated, block, condition, false)?,
-            Way::Branch | Way::Detached | Way::Continued(_) | Way::Synced(_) => {}
-        }
+        self.state(&mut stated, shows_at_end(function, edge.from))?;
+        self.branch(&mut stated, steps, edge.way)?;
         Ok(stated)
     }
+}
+
+/// What a block shows at its end.
+fn shows_at_end(function: &Function, block: usize) -> &[Inequality] {
+    let blocks = function.blocks.as_slice();
+    if block < blocks.len() {
+        if let Some(ending) = &blocks[block].ending {
+            return ending.shows.as_slice();
+        }
+    }
+    &[]
 }
 
 /// Whether an instruction makes its sum or product as it is, without a remainder by the width.

@@ -4,7 +4,7 @@ use crate::edge::{Edge, defines, is_phi};
 use crate::fact::Facts;
 use crate::sum::Sum;
 use std::alloc::{AllocError, Global};
-use syntax::{Block, Function};
+use syntax::{Block, Function, Inequality};
 
 /// The facts of a function, and which of them hold where.
 #[derive(Drop)]
@@ -24,6 +24,31 @@ fn has(numbers: &[usize], number: usize) -> bool {
     numbers.iter().any(|other| *other == number)
 }
 
+/// What a block's head keeps.
+fn keeps_at(function: &Function, block: usize) -> &[Inequality] {
+    let blocks = function.blocks.as_slice();
+    if block < blocks.len() {
+        blocks[block].notes.keeps.as_slice()
+    } else {
+        &[]
+    }
+}
+
+/// The numbers of the facts that a block's head states; at the entry what the function asks of its parameters too.
+fn given_at<'a>(
+    alloc: Global,
+    function: &'a Function,
+    block: usize,
+    facts: &mut Facts<'a>,
+) -> Result<Vec<usize>, AllocError> {
+    let mut stated = Vec::new(alloc);
+    if block == 0 {
+        facts.state(&mut stated, function.notes.requirements.as_slice())?;
+    }
+    facts.state(&mut stated, keeps_at(function, block))?;
+    Ok(stated)
+}
+
 /// For each block the numbers of the facts that its head states.
 fn given_by<'a>(
     alloc: Global,
@@ -31,13 +56,8 @@ fn given_by<'a>(
     facts: &mut Facts<'a>,
 ) -> Result<Vec<Vec<usize>>, AllocError> {
     let mut given = Vec::new(alloc);
-    for (index, block) in function.blocks.as_slice().iter().enumerate() {
-        let mut stated = Vec::new(alloc);
-        if index == 0 {
-            facts.state(&mut stated, function.notes.requirements.as_slice())?;
-        }
-        facts.state(&mut stated, block.notes.keeps.as_slice())?;
-        given.push(stated)?;
+    for block in 0..function.blocks.len() {
+        given.push(given_at(alloc, function, block, facts)?)?;
     }
     Ok(given)
 }
@@ -137,6 +157,46 @@ impl<'a> Known<'a> {
         Ok(false)
     }
 
+    /// Whether a difference is a fact that is known at the block, taken so many times, and a number that is not negative.
+    fn is_covered(&self, block: usize, difference: &Sum<'a>) -> Result<bool, AllocError> {
+        if difference.is_number() {
+            return Ok(difference.constant >= 0);
+        }
+        for (number, fact) in self.facts.sums.iter().enumerate() {
+            if self.is_known(block, number) && is_multiple(difference, fact)? {
+                return Ok(true);
+            }
+        }
+        Ok(false)
+    }
+
+    /// Whether one sum is known to be no less than the other.
+    fn is_at_least(
+        &self,
+        block: usize,
+        one: &Sum<'a>,
+        other: &Sum<'a>,
+    ) -> Result<bool, AllocError> {
+        let difference = one.copy()?.less(other)?;
+        self.is_covered(block, &difference)
+    }
+
+    /// The greater of two sums, or their sum where neither is known to be.
+    pub fn greater(
+        &self,
+        block: usize,
+        one: &Sum<'a>,
+        other: &Sum<'a>,
+    ) -> Result<Sum<'a>, AllocError> {
+        if self.is_at_least(block, one, other)? {
+            one.copy()
+        } else if self.is_at_least(block, other, one)? {
+            other.copy()
+        } else {
+            one.with(other, 1)
+        }
+    }
+
     /// Marks each fact at each block, but at the entry only what it states.
     fn mark_all(&mut self, alloc: Global, blocks: usize) -> Result<(), AllocError> {
         for block in 0..blocks {
@@ -226,6 +286,19 @@ impl<'a> Known<'a> {
             None => Ok(true),
         }
     }
+}
+
+/// Whether one sum is a multiple of the other and a number, neither of them negative.
+fn is_multiple<'a>(sum: &Sum<'a>, fact: &Sum<'a>) -> Result<bool, AllocError> {
+    let Some((name, coefficient)) = fact.first() else {
+        return Ok(false);
+    };
+    let times = sum.coefficient(name).checked_div(coefficient).unwrap_or(0);
+    if times <= 0 {
+        return Ok(false);
+    }
+    let rest = sum.with(fact, 0i128.saturating_sub(times))?;
+    Ok(rest.is_number() && rest.constant >= 0)
 }
 
 /// Whether a sum names a register that the block defines.

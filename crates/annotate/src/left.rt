@@ -1,10 +1,11 @@
 //! What a block needs, from its own instructions and from what is left behind it.
 
-use crate::edge::{Edge, Way, phi_value, register_of};
+use crate::edge::{Edge, Way, phi_value, register_of, steps_at};
 use crate::keep::Known;
 use crate::sum::Sum;
+use lists::Name;
 use std::alloc::{AllocError, Global};
-use syntax::{BinaryOperator, Block, Function, Instruction};
+use syntax::{BinaryOperator, Block, Function, Instruction, Phi, Step};
 
 /// Self calls and instructions.
 #[derive(Drop)]
@@ -14,14 +15,14 @@ pub struct Need<'a> {
 }
 
 /// A function, what is known in it, and what calls of the functions above it cost.
-#[derive(Drop)]
-pub struct World<'a> {
+#[derive(Clone, Copy)]
+pub struct World<'w, 'a> {
     pub alloc: Global,
     pub function: &'a Function,
-    pub edges: Vec<Edge<'a>>,
-    pub known: Known<'a>,
+    pub edges: &'w [Edge<'a>],
+    pub known: &'w Known<'a>,
     /// The names and the greatest costs of functions.
-    pub costs: Vec<(&'a str, u128)>,
+    pub costs: &'w [(&'a str, u128)],
 }
 
 /// What a call of another function costs at most.
@@ -50,149 +51,172 @@ impl<'a> Need<'a> {
         self.calls.add(&other.calls, 1)?;
         self.instructions.add(&other.instructions, 1)
     }
+
+    /// What is needed with this work done first; none where it is no form.
+    fn with_work(mut self, work: &Need<'a>) -> Result<Option<Need<'a>>, AllocError> {
+        self.add(work)?;
+        if self.calls.is_form() && self.instructions.is_form() {
+            Ok(Some(self))
+        } else {
+            Ok(None)
+        }
+    }
 }
 
-impl<'a> World<'a> {
-    /// What the block itself does.
-    fn work(&self, block: &Block) -> Need<'a> {
-        let mut need = Need::numbers(self.alloc, 0, 1);
-        for step in block.steps.as_slice() {
-            need.instructions.add_number(1);
-            if let Instruction::Call { callee, .. } = &step.instruction {
-                if callee.is_same(&self.function.name) {
-                    need.calls.add_number(1);
-                } else {
-                    let cost = cost_of(self.costs.as_slice(), callee.as_str());
-                    need.instructions.add_number(signed(cost));
-                }
+/// What the instructions of a block do, beside its terminator.
+fn work_of<'a>(alloc: Global, steps: &[Step], own: &Name, costs: &[(&str, u128)]) -> Need<'a> {
+    let mut calls = 0i128;
+    let mut instructions = 1i128;
+    for step in steps {
+        instructions = instructions.saturating_add(1);
+        if let Instruction::Call { callee, .. } = &step.instruction {
+            if callee.is_same(own) {
+                calls = calls.saturating_add(1);
+            } else {
+                let cost = signed(cost_of(costs, callee.as_str()));
+                instructions = instructions.saturating_add(cost);
             }
         }
-        need
     }
+    Need::numbers(alloc, calls, instructions)
+}
 
-    /// A sum at a block's start, with what its phis take on an edge from another block put in.
-    fn moved(&self, sum: &Sum<'a>, from: &Block, to: &'a Block) -> Result<Sum<'a>, AllocError> {
-        let mut moved = Sum::number(self.alloc, sum.constant);
-        for (name, coefficient) in &sum.terms()? {
-            match phi_value(to, name, &from.label) {
-                Some(value) => {
-                    let value = Sum::of_operand(self.alloc, value)?;
-                    moved.add(&value, *coefficient)?;
-                }
-                None => moved.add_term(name, *coefficient)?,
+/// A sum at a block's start, with what its phis take on an edge from a block of this label put in.
+fn moved<'a>(
+    alloc: Global,
+    sum: &Sum<'a>,
+    label: &Name,
+    phis: &'a [Phi],
+) -> Result<Sum<'a>, AllocError> {
+    let mut moved = Sum::number(alloc, sum.constant);
+    for (name, coefficient) in &sum.terms()? {
+        match phi_value(phis, name, label) {
+            Some(value) => {
+                let value = Sum::of_operand(alloc, value)?;
+                moved.add(&value, *coefficient)?;
             }
+            None => moved.add_term(name, *coefficient)?,
         }
-        Ok(moved)
     }
+    Ok(moved)
+}
 
-    /// The same at the start of the block where the edge begins: what the block defines is replaced by what it is made of. None where that
-    /// is no sum.
-    fn drawn_back(
-        &self,
-        mut sum: Sum<'a>,
-        block: &'a Block,
-    ) -> Result<Option<Sum<'a>>, AllocError> {
-        for step in block.steps.as_slice().iter().rev() {
-            if let Some(name) = register_of(&step.instruction) {
-                if sum.has(name) {
-                    match definition_of(self.alloc, &step.instruction)? {
-                        Some(value) => sum.put(name, &value)?,
-                        None => return Ok(None),
-                    }
-                }
+/// A sum at the end of a block, at its start: what the instructions define is replaced by what it is made of. None where that is no sum.
+fn drawn_back<'a>(
+    alloc: Global,
+    mut sum: Sum<'a>,
+    steps: &'a [Step],
+) -> Result<Option<Sum<'a>>, AllocError> {
+    for index in (0..steps.len()).rev() {
+        if !put_in(alloc, &mut sum, &steps[index].instruction)? {
+            return Ok(None);
+        }
+    }
+    Ok(Some(sum))
+}
+
+/// Puts in what an instruction's register is made of, if the sum has it; whether the sum is still one.
+fn put_in<'a>(
+    alloc: Global,
+    sum: &mut Sum<'a>,
+    instruction: &'a Instruction,
+) -> Result<bool, AllocError> {
+    match register_of(instruction) {
+        Some(name) if sum.has(name) => match definition_of(alloc, instruction)? {
+            Some(value) => {
+                sum.put(name, &value)?;
+                Ok(true)
             }
-        }
-        Ok(Some(sum))
+            None => Ok(false),
+        },
+        _ => Ok(true),
     }
+}
 
-    /// A sum at a block's start, at the start of another from which an edge leads there.
-    fn along(
-        &self,
-        sum: &Sum<'a>,
-        from: &'a Block,
-        to: &'a Block,
-    ) -> Result<Option<Sum<'a>>, AllocError> {
-        let moved = self.moved(sum, from, to)?;
-        self.drawn_back(moved, from)
+/// A sum at a block's start, at the start of another from which an edge leads there.
+fn along<'a>(
+    alloc: Global,
+    sum: &Sum<'a>,
+    from: &'a Block,
+    phis: &'a [Phi],
+) -> Result<Option<Sum<'a>>, AllocError> {
+    let moved = moved(alloc, sum, &from.label, phis)?;
+    drawn_back(alloc, moved, from.steps.as_slice())
+}
+
+/// What a block needs that has these phis, at the start of another from which an edge leads there.
+fn need_along<'a>(
+    alloc: Global,
+    left: &Need<'a>,
+    from: &'a Block,
+    phis: &'a [Phi],
+) -> Result<Option<Need<'a>>, AllocError> {
+    let Some(calls) = along(alloc, &left.calls, from, phis)? else {
+        return Ok(None);
+    };
+    let Some(instructions) = along(alloc, &left.instructions, from, phis)? else {
+        return Ok(None);
+    };
+    Ok(Some(Need {
+        calls,
+        instructions,
+    }))
+}
+
+/// What is needed along one more edge of a block: at a detach in both targets together, else in that which needs most.
+fn joined<'a>(
+    known: &Known<'a>,
+    edge: Edge<'a>,
+    mut before: Need<'a>,
+    next: &Need<'a>,
+) -> Result<Need<'a>, AllocError> {
+    if matches!(edge.way, Way::Continued(_)) {
+        before.add(next)?;
+        return Ok(before);
     }
+    Ok(Need {
+        calls: known.greater(edge.from, &before.calls, &next.calls)?,
+        instructions: known.greater(edge.from, &before.instructions, &next.instructions)?,
+    })
+}
 
+impl<'a> World<'_, 'a> {
     /// What the target of an edge needs, at the start of the block where the edge begins.
     fn behind(
-        &self,
+        self,
         lefts: &[Option<Need<'a>>],
         edge: Edge<'a>,
     ) -> Result<Option<Need<'a>>, AllocError> {
         let blocks = self.function.blocks.as_slice();
-        let (Some(from), Some(to)) = (blocks.get(edge.from), blocks.get(edge.to)) else {
+        if edge.from >= blocks.len() || edge.to >= blocks.len() || edge.to >= lefts.len() {
             return Ok(None);
-        };
-        let Some(Some(left)) = lefts.get(edge.to) else {
-            return Ok(None);
-        };
-        let calls = self.along(&left.calls, from, to)?;
-        let instructions = self.along(&left.instructions, from, to)?;
-        match (calls, instructions) {
-            (Some(calls), Some(instructions)) => Ok(Some(Need {
-                calls,
-                instructions,
-            })),
-            _ => Ok(None),
+        }
+        match &lefts[edge.to] {
+            Some(left) => need_along(
+                self.alloc,
+                left,
+                &blocks[edge.from],
+                blocks[edge.to].phis.as_slice(),
+            ),
+            None => Ok(None),
         }
     }
 
-    /// Whether a difference is a fact that is known at the block, taken so many times, and a number that is not negative.
-    fn is_covered(&self, block: usize, difference: &Sum<'a>) -> Result<bool, AllocError> {
-        if difference.is_number() {
-            return Ok(difference.constant >= 0);
-        }
-        for (number, fact) in self.known.facts.sums.iter().enumerate() {
-            if self.known.is_known(block, number) && is_multiple(difference, fact)? {
-                return Ok(true);
-            }
-        }
-        Ok(false)
-    }
-
-    /// Whether one sum is known to be no less than the other.
-    fn is_at_least(
-        &self,
-        block: usize,
-        one: &Sum<'a>,
-        other: &Sum<'a>,
-    ) -> Result<bool, AllocError> {
-        let difference = one.copy()?.less(other)?;
-        self.is_covered(block, &difference)
-    }
-
-    /// The greater of two sums, or their sum where neither is known to be.
-    fn greater(&self, block: usize, one: &Sum<'a>, other: &Sum<'a>) -> Result<Sum<'a>, AllocError> {
-        if self.is_at_least(block, one, other)? {
-            return one.copy();
-        }
-        if self.is_at_least(block, other, one)? {
-            return other.copy();
-        }
-        let mut both = one.copy()?;
-        both.add(other, 1)?;
-        Ok(both)
-    }
-
-    /// What is needed behind all edges of a block: at a detach in both targets together, else in that which needs most. None where a target's
-    /// need is not known.
+    /// What is needed behind all edges of a block. None where a target's need is not known.
     fn behind_all(
-        &self,
+        self,
         lefts: &[Option<Need<'a>>],
         block: usize,
     ) -> Result<Option<Need<'a>>, AllocError> {
         let mut all: Option<Need<'a>> = None;
-        for edge in &self.edges {
+        for edge in self.edges {
             if edge.from == block {
                 let Some(next) = self.behind(lefts, *edge)? else {
                     return Ok(None);
                 };
                 all = Some(match all {
                     None => next,
-                    Some(before) => self.joined(block, edge.way, before, &next)?,
+                    Some(before) => joined(self.known, *edge, before, &next)?,
                 });
             }
         }
@@ -202,55 +226,23 @@ impl<'a> World<'a> {
         }
     }
 
-    fn joined(
-        &self,
-        block: usize,
-        way: Way<'a>,
-        mut before: Need<'a>,
-        next: &Need<'a>,
-    ) -> Result<Need<'a>, AllocError> {
-        if matches!(way, Way::Continued(_)) {
-            before.add(next)?;
-            return Ok(before);
-        }
-        Ok(Need {
-            calls: self.greater(block, &before.calls, &next.calls)?,
-            instructions: self.greater(block, &before.instructions, &next.instructions)?,
-        })
+    /// What the block itself does.
+    fn work(self, block: usize) -> Need<'a> {
+        let steps = steps_at(self.function, block);
+        work_of(self.alloc, steps, &self.function.name, self.costs)
     }
 
     /// What a block needs. None where that is not known, or no form of its start's registers.
     fn need(
-        &self,
+        self,
         lefts: &[Option<Need<'a>>],
-        index: usize,
-        block: &'a Block,
+        block: usize,
     ) -> Result<Option<Need<'a>>, AllocError> {
-        let Some(mut need) = self.behind_all(lefts, index)? else {
-            return Ok(None);
-        };
-        need.add(&self.work(block))?;
-        if need.calls.is_form() && need.instructions.is_form() {
-            Ok(Some(need))
-        } else {
-            Ok(None)
+        match self.behind_all(lefts, block)? {
+            Some(behind) => behind.with_work(&self.work(block)),
+            None => Ok(None),
         }
     }
-}
-
-/// Whether one sum is a multiple of the other and a number, neither of them negative.
-fn is_multiple<'a>(sum: &Sum<'a>, fact: &Sum<'a>) -> Result<bool, AllocError> {
-    let terms = fact.terms()?;
-    let Some((name, coefficient)) = terms.as_slice().first().copied() else {
-        return Ok(false);
-    };
-    let times = sum.coefficient(name).checked_div(coefficient).unwrap_or(0);
-    if times <= 0 {
-        return Ok(false);
-    }
-    let mut rest = sum.copy()?;
-    rest.add(fact, 0i128.saturating_sub(times))?;
-    Ok(rest.is_number() && rest.constant >= 0)
 }
 
 /// The sum that an instruction makes, but for what its width cannot hold; none where it makes no sum.
@@ -301,14 +293,19 @@ fn given<'a>(alloc: Global, block: &'a Block) -> Result<Option<Need<'a>>, AllocE
     }))
 }
 
-/// What each block needs: what its line says, and where it has none what follows, from the ends back. None where that is not known.
-pub fn needs_of<'a>(world: &World<'a>) -> Result<Vec<Option<Need<'a>>>, AllocError> {
-    let blocks = world.function.blocks.as_slice();
-    let mut lefts = Vec::new(world.alloc);
+/// What the lines of the blocks say.
+fn all_given<'a>(alloc: Global, blocks: &'a [Block]) -> Result<Vec<Option<Need<'a>>>, AllocError> {
+    let mut lefts = Vec::new(alloc);
     for block in blocks {
-        lefts.push(given(world.alloc, block)?)?;
+        lefts.push(given(alloc, block)?)?;
     }
-    for _round in 0..blocks.len() {
+    Ok(lefts)
+}
+
+/// What each block needs: what its line says, and where it has none what follows, from the ends back. None where that is not known.
+pub fn needs_of<'a>(world: World<'_, 'a>) -> Result<Vec<Option<Need<'a>>>, AllocError> {
+    let mut lefts = all_given(world.alloc, world.function.blocks.as_slice())?;
+    for _round in 0..lefts.len() {
         if !draw_back(world, &mut lefts)? {
             break;
         }
@@ -317,12 +314,15 @@ pub fn needs_of<'a>(world: &World<'a>) -> Result<Vec<Option<Need<'a>>>, AllocErr
 }
 
 /// One round over the blocks, the last one first; whether a need was found.
-fn draw_back<'a>(world: &World<'a>, lefts: &mut Vec<Option<Need<'a>>>) -> Result<bool, AllocError> {
+fn draw_back<'a>(
+    world: World<'_, 'a>,
+    lefts: &mut Vec<Option<Need<'a>>>,
+) -> Result<bool, AllocError> {
     let mut is_new = false;
-    for (index, block) in world.function.blocks.as_slice().iter().enumerate().rev() {
-        if index < lefts.len() && lefts[index].is_none() {
-            if let Some(need) = world.need(lefts.as_slice(), index, block)? {
-                lefts[index] = Some(need);
+    for block in (0..lefts.len()).rev() {
+        if block < lefts.len() && lefts[block].is_none() {
+            if let Some(need) = world.need(lefts.as_slice(), block)? {
+                lefts[block] = Some(need);
                 is_new = true;
             }
         }

@@ -5,7 +5,7 @@ use crate::keep::names_own;
 use crate::sum::Sum;
 use lists::Name;
 use std::alloc::{AllocError, Global};
-use syntax::{Address, Block, Form, Function, Zone};
+use syntax::{Address, Block, Form, Function, Pending, Zone};
 
 /// A zone that is pending of a region.
 #[derive(Clone, Copy)]
@@ -108,17 +108,38 @@ impl<'a> Waiting<'a> {
         to: usize,
         next: Handed<'a>,
     ) -> Result<bool, AllocError> {
-        let Some(block) = function.blocks.as_slice().get(to) else {
-            return Ok(false);
-        };
-        if next.is_told(block) || next.is_renamed(self.alloc, block)? || self.is_put(to, next)? {
+        let blocks = function.blocks.as_slice();
+        if to >= blocks.len() || to >= self.handed.len() {
             return Ok(false);
         }
-        if to < self.handed.len() {
-            self.handed[to].push(next)?;
-            return Ok(true);
+        if self.is_kept_out(&blocks[to], next)? || self.is_put(to, next)? {
+            return Ok(false);
         }
-        Ok(false)
+        push_handed(&mut self.handed[to], next)?;
+        Ok(true)
+    }
+
+    /// Whether the block says itself what is pending there, or a register of the zone is another one there.
+    fn is_kept_out(&self, block: &Block, next: Handed<'a>) -> Result<bool, AllocError> {
+        Ok(next.is_told(block) || next.is_renamed(self.alloc, block)?)
+    }
+
+    /// All zones that are pending where a block begins.
+    fn waiting_at(
+        &self,
+        function: &'a Function,
+        block: usize,
+    ) -> Result<Vec<Handed<'a>>, AllocError> {
+        let mut waiting = Vec::new(self.alloc);
+        for pending in pending_at(function, block) {
+            let region = pending.region.as_str();
+            let zone = &pending.zone;
+            push_handed(&mut waiting, Handed { region, zone })?;
+        }
+        if block < self.handed.len() {
+            push_all_handed(&mut waiting, self.handed[block].as_slice())?;
+        }
+        Ok(waiting)
     }
 
     /// The zones that go on along an edge.
@@ -128,26 +149,45 @@ impl<'a> Waiting<'a> {
         edges: &[Edge<'a>],
         edge: Edge<'a>,
     ) -> Result<Vec<Handed<'a>>, AllocError> {
-        let mut along = Vec::new(self.alloc);
-        if let Some(block) = function.blocks.as_slice().get(edge.from) {
-            for pending in block.notes.pending.as_slice() {
-                along.push(Handed {
-                    region: pending.region.as_str(),
-                    zone: &pending.zone,
-                })?;
-            }
-        }
-        if let Some(handed) = self.handed.as_slice().get(edge.from) {
-            for other in handed {
-                along.push(*other)?;
-            }
-        }
+        let mut along = self.waiting_at(function, edge.from)?;
         along.retain(|handed| goes_on(edge.way, handed.region));
         if let Way::Continued(region) = edge.way {
             push_feet(&mut along, function, edges, edge.from, region)?;
         }
         Ok(along)
     }
+}
+
+/// The zones that a block says are pending where it begins.
+fn pending_at(function: &Function, block: usize) -> &[Pending] {
+    let blocks = function.blocks.as_slice();
+    if block < blocks.len() {
+        blocks[block].notes.pending.as_slice()
+    } else {
+        &[]
+    }
+}
+
+/// The zones of the child that begins at a block.
+fn foot_at(function: &Function, block: usize) -> &[Zone] {
+    let blocks = function.blocks.as_slice();
+    if block < blocks.len() {
+        blocks[block].notes.foot.as_slice()
+    } else {
+        &[]
+    }
+}
+
+fn push_handed<'a>(all: &mut Vec<Handed<'a>>, next: Handed<'a>) -> Result<(), AllocError> {
+    all.push(next)?;
+    Ok(())
+}
+
+fn push_all_handed<'a>(all: &mut Vec<Handed<'a>>, more: &[Handed<'a>]) -> Result<(), AllocError> {
+    for next in more {
+        push_handed(all, *next)?;
+    }
+    Ok(())
 }
 
 /// Adds the foot of the child that a block detaches.
@@ -160,12 +200,19 @@ fn push_feet<'a>(
 ) -> Result<(), AllocError> {
     for edge in edges {
         if edge.from == from && matches!(edge.way, Way::Detached) {
-            if let Some(body) = function.blocks.as_slice().get(edge.to) {
-                for zone in body.notes.foot.as_slice() {
-                    along.push(Handed { region, zone })?;
-                }
-            }
+            push_foot(along, region, foot_at(function, edge.to))?;
         }
+    }
+    Ok(())
+}
+
+fn push_foot<'a>(
+    along: &mut Vec<Handed<'a>>,
+    region: &'a str,
+    foot: &'a [Zone],
+) -> Result<(), AllocError> {
+    for zone in foot {
+        push_handed(along, Handed { region, zone })?;
     }
     Ok(())
 }

@@ -1,7 +1,7 @@
 //! The lines that are put in.
 
-use crate::budget::{cost_of, given, total_of};
-use crate::edge::edges_of;
+use crate::budget::{Total, cost_of, given, total_of};
+use crate::edge::{Edge, edges_of};
 use crate::keep::{Known, known_of};
 use crate::left::{Need, World, needs_of};
 use crate::pending::{Handed, Waiting, waiting_of};
@@ -86,6 +86,12 @@ fn requirements_of<'a>(alloc: Global, function: &'a Function) -> Result<Vec<Sum<
     Ok(facts)
 }
 
+fn budget_line(alloc: Global, total: Total) -> Result<String, AllocError> {
+    let calls = total.self_calls;
+    let instructions = total.instructions;
+    format!(in alloc; "  ;! budget {calls} {instructions}\n")
+}
+
 impl<'a> Draft<'a> {
     fn propose(&mut self, behind: u32, lines: String) -> Result<(), AllocError> {
         if !lines.is_empty() {
@@ -94,24 +100,41 @@ impl<'a> Draft<'a> {
         Ok(())
     }
 
+    /// Proposes the budget that covers what is left at the entry, if there is one.
+    fn propose_budget(
+        &mut self,
+        function: &'a Function,
+        entry: &Need<'a>,
+    ) -> Result<Option<Total>, AllocError> {
+        let facts = requirements_of(self.alloc, function)?;
+        let total = total_of(facts.as_slice(), entry)?;
+        if let Some(new) = total {
+            let line = budget_line(self.alloc, new)?;
+            self.propose(function.line, line)?;
+        }
+        Ok(total)
+    }
+
+    /// The budget of a function: what its text gives, else what is proposed.
+    fn budget(
+        &mut self,
+        function: &'a Function,
+        entry: &Option<Need<'a>>,
+    ) -> Result<Option<Total>, AllocError> {
+        let total = given(function);
+        match entry {
+            Some(entry) if total.is_none() => self.propose_budget(function, entry),
+            _ => Ok(total),
+        }
+    }
+
     /// Proposes the budget, where the function has none, and keeps what calls of it cost.
     fn add_budget(
         &mut self,
         function: &'a Function,
         entry: &Option<Need<'a>>,
     ) -> Result<(), AllocError> {
-        let mut total = given(function);
-        if let (None, Some(entry)) = (total, entry) {
-            let facts = requirements_of(self.alloc, function)?;
-            total = total_of(facts.as_slice(), entry)?;
-            if let Some(new) = total {
-                let calls = new.self_calls;
-                let instructions = new.instructions;
-                let line = format!(in self.alloc; "  ;! budget {calls} {instructions}\n")?;
-                self.propose(function.line, line)?;
-            }
-        }
-        if let Some(total) = total {
+        if let Some(total) = self.budget(function, entry)? {
             let cost = cost_of(total, function.notes.measure.bound);
             self.costs.push((function.name.as_str(), cost))?;
         }
@@ -119,52 +142,55 @@ impl<'a> Draft<'a> {
     }
 
     fn add_function(&mut self, function: &'a Function) -> Result<(), AllocError> {
-        let world = self.world(function)?;
-        self.add_lines(&world)
+        let edges = edges_of(self.alloc, function)?;
+        let known = known_of(self.alloc, function, edges.as_slice())?;
+        let needs = self.needs(function, edges.as_slice(), &known)?;
+        self.add_lines(function, edges.as_slice(), &known, needs.as_slice())
     }
 
-    fn add_lines(&mut self, world: &World<'a>) -> Result<(), AllocError> {
-        let needs = needs_of(world)?;
-        if let Some(entry) = needs.as_slice().first() {
-            self.add_budget(world.function, entry)?;
+    /// What each block of a function needs.
+    fn needs(
+        &self,
+        function: &'a Function,
+        edges: &[Edge<'a>],
+        known: &Known<'a>,
+    ) -> Result<Vec<Option<Need<'a>>>, AllocError> {
+        needs_of(World {
+            alloc: self.alloc,
+            function,
+            edges,
+            known,
+            costs: self.costs.as_slice(),
+        })
+    }
+
+    fn add_lines(
+        &mut self,
+        function: &'a Function,
+        edges: &[Edge<'a>],
+        known: &Known<'a>,
+        needs: &[Option<Need<'a>>],
+    ) -> Result<(), AllocError> {
+        if let [entry, ..] = needs {
+            self.add_budget(function, entry)?;
         }
-        let waiting = waiting_of(self.alloc, world.function, world.edges.as_slice())?;
-        self.add_heads(world, &waiting, needs.as_slice())
+        let waiting = waiting_of(self.alloc, function, edges)?;
+        self.add_heads(function, known, &waiting, needs)
     }
 
     /// Proposes the lines for the heads of the blocks.
     fn add_heads(
         &mut self,
-        world: &World<'a>,
+        function: &'a Function,
+        known: &Known<'a>,
         waiting: &Waiting<'a>,
         needs: &[Option<Need<'a>>],
     ) -> Result<(), AllocError> {
-        for (index, block) in world.function.blocks.as_slice().iter().enumerate() {
-            let lines = self.block_lines(&world.known, waiting, needs, index, block)?;
+        for (index, block) in function.blocks.as_slice().iter().enumerate() {
+            let lines = self.block_lines(known, waiting, needs, index, block)?;
             self.propose(block.line, lines)?;
         }
         Ok(())
-    }
-
-    fn copied_costs(&self) -> Result<Vec<(&'a str, u128)>, AllocError> {
-        let mut costs = Vec::new(self.alloc);
-        for cost in &self.costs {
-            costs.push(*cost)?;
-        }
-        Ok(costs)
-    }
-
-    fn world(&self, function: &'a Function) -> Result<World<'a>, AllocError> {
-        let costs = self.copied_costs()?;
-        let edges = edges_of(self.alloc, function)?;
-        let known = known_of(self.alloc, function, edges.as_slice())?;
-        Ok(World {
-            alloc: self.alloc,
-            function,
-            edges,
-            known,
-            costs,
-        })
     }
 
     /// The lines for the head of a block. What an entry knows stands at the function's head already.

@@ -91,6 +91,13 @@ impl<'a> Sum<'a> {
         Ok(())
     }
 
+    /// The sum and so many times another one.
+    pub fn with(&self, other: &Sum<'a>, times: i128) -> Result<Sum<'a>, AllocError> {
+        let mut sum = self.copy()?;
+        sum.add(other, times)?;
+        Ok(sum)
+    }
+
     /// The sum less another one.
     pub fn less(mut self, other: &Sum<'a>) -> Result<Sum<'a>, AllocError> {
         self.add(other, -1)?;
@@ -120,6 +127,16 @@ impl<'a> Sum<'a> {
             }
         }
         Ok(terms)
+    }
+
+    /// The first term whose coefficient is not 0.
+    pub fn first(&self) -> Option<(&'a str, i128)> {
+        for term in &self.terms {
+            if term.1 != 0 {
+                return Some(*term);
+            }
+        }
+        None
     }
 
     pub fn is_number(&self) -> bool {
@@ -161,31 +178,46 @@ impl<'a> Sum<'a> {
         spell_side(out, terms.as_slice(), self.constant)
     }
 
-    /// Adds that the sum is at least 0: what has a minus on the lesser side, the rest on the other.
-    pub fn spell_inequality(&self, out: &mut String) -> Result<(), AllocError> {
-        let mut less = Vec::new(self.alloc);
-        let mut more = Vec::new(self.alloc);
-        for (name, coefficient) in &self.terms()? {
-            if *coefficient < 0 {
-                less.push((*name, coefficient.saturating_neg()))?;
-            } else {
-                more.push((*name, *coefficient))?;
+    /// The terms of the lesser side where the sum is at least 0, those with a minus, or of the other side.
+    fn side(&self, is_lesser: bool) -> Result<Vec<(&'a str, i128)>, AllocError> {
+        let mut side = Vec::new(self.alloc);
+        for (name, coefficient) in &self.terms {
+            if is_lesser && *coefficient < 0 {
+                side.push((*name, coefficient.saturating_neg()))?;
+            } else if !is_lesser && *coefficient > 0 {
+                side.push((*name, *coefficient))?;
             }
         }
-        less.sort()?;
-        more.sort()?;
+        side.sort()?;
+        Ok(side)
+    }
+
+    /// Adds that the sum is at least 0: what has a minus on the lesser side, the rest on the other.
+    pub fn spell_inequality(&self, out: &mut String) -> Result<(), AllocError> {
+        let less = self.side(true)?;
+        let more = self.side(false)?;
         let below = 0i128.saturating_sub(self.constant).max(0);
         let above = self.constant.max(0);
         if less.is_empty() {
-            spell_side(out, more.as_slice(), above)?;
-            out.push_str(" >= ")?;
-            spell_side(out, less.as_slice(), below)
+            spell_sides(out, more.as_slice(), above, " >= ", less.as_slice(), below)
         } else {
-            spell_side(out, less.as_slice(), below)?;
-            out.push_str(" <= ")?;
-            spell_side(out, more.as_slice(), above)
+            spell_sides(out, less.as_slice(), below, " <= ", more.as_slice(), above)
         }
     }
+}
+
+/// Two sides, each of terms and a number, with a relation between them.
+fn spell_sides(
+    out: &mut String,
+    left: &[(&str, i128)],
+    left_constant: i128,
+    relation: &str,
+    right: &[(&str, i128)],
+    right_constant: i128,
+) -> Result<(), AllocError> {
+    spell_side(out, left, left_constant)?;
+    out.push_str(relation)?;
+    spell_side(out, right, right_constant)
 }
 
 /// Terms in the order of their names, and a number.

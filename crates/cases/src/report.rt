@@ -70,6 +70,11 @@ impl<W: Write + Drop> Report<W> {
         self.case(sentence, "it is not", is_true)
     }
 
+    /// Where the lines were written.
+    pub fn output(&self) -> &W {
+        &self.output
+    }
+
     /// The number of cases, and the status: 0 where all are as expected.
     pub fn finish(&mut self) -> io::Result<ExitCode> {
         writeln!(

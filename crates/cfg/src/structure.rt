@@ -36,7 +36,13 @@ pub struct BlockEdges {
 }
 
 /// The edges of a function, a block each.
-#[derive(Drop)]
 pub struct FunctionGraph {
     pub blocks: Seq<BlockEdges>,
+}
+
+/// Written out, so that no crate above proves it anew.
+impl Drop for FunctionGraph {
+    fn drop(self) {
+        let FunctionGraph { blocks: _ } = self;
+    }
 }

@@ -1,10 +1,9 @@
 //! From words to a request.
 
 ghost use Rattle.std.specs.Prelude.{◌≡◌, IfOk, IfSome, map};
-ghost use Rattle.command_line.specs.declared.request.Verb.TheVariants as verb_variant;
 ghost use Rattle.command_line.specs.Asked.{IsAsked, word_of};
 
-use crate::request::{CellWord, Request, Setting, Telling, Verb, WordsFault};
+use crate::request::{CellWord, Request, Setting, Verb, WordsFault};
 use clap::error::ErrorKind;
 use clap::{Arg, ArgAction, ArgMatches, Command, Error};
 use rules::rule_text;
@@ -369,20 +368,37 @@ fn debug_command<'a>(alloc: Global) -> Result<Command<'a>, AllocError> {
     scheduled(alloc, command)
 }
 
+/// The command of a verb.
+fn verb_command<'a>(alloc: Global, verb: Verb) -> Result<Command<'a>, AllocError> {
+    match verb {
+        Verb::Verify => verify_command(alloc),
+        Verb::Explain => explain_command(alloc),
+        Verb::Serial => serial_command(alloc),
+        Verb::Run => run_command(alloc),
+        Verb::Replay => replay_command(alloc),
+        Verb::Debug => debug_command(alloc),
+        Verb::Print => print_command(alloc),
+        Verb::Show => show_command(alloc),
+        Verb::Annotate => annotate_command(alloc),
+    }
+}
+
+/// The commands of the verbs, in their order.
+fn verb_commands<'a>(alloc: Global) -> Result<Vec<Command<'a>>, AllocError> {
+    let mut commands = Vec::new(alloc);
+    for verb in VERBS {
+        commands.push(verb_command(alloc, verb)?)?;
+    }
+    Ok(commands)
+}
+
 fn command<'a>(alloc: Global) -> Result<Command<'a>, AllocError> {
+    let commands = verb_commands(alloc)?;
     Command::new(alloc, "tapirvm")
         .about("A verified fork-join machine for LLVM IR with Tapir's detach, reattach and sync")
         .after_help(STATUSES)
         .subcommand_required(true)
-        .subcommand(verify_command(alloc)?)?
-        .subcommand(explain_command(alloc)?)?
-        .subcommand(serial_command(alloc)?)?
-        .subcommand(run_command(alloc)?)?
-        .subcommand(replay_command(alloc)?)?
-        .subcommand(debug_command(alloc)?)?
-        .subcommand(print_command(alloc)?)?
-        .subcommand(show_command(alloc)?)?
-        .subcommand(annotate_command(alloc)?)
+        .subcommands(commands)
 }
 
 fn schedule_of(alloc: Global, matches: &ArgMatches<'_>) -> Result<String, WordsFault> {
@@ -397,28 +413,6 @@ fn file_of(alloc: Global, matches: &ArgMatches<'_>) -> Result<String, WordsFault
         Some(file) => Ok(String::from_str(alloc, file)?),
         None => Err(wrong_value(alloc, "<FILE>", "")),
     }
-}
-
-/// A request for a module that is not run.
-fn module_request(
-    alloc: Global,
-    verb: Verb,
-    matches: &ArgMatches<'_>,
-) -> Result<Request, WordsFault>
-    ensures { IfOk result (λ r. r.verb ≡ verb) }
-{
-    Ok(Request {
-        verb,
-        file: file_of(alloc, matches)?,
-        schedule: None,
-        workers: 1,
-        args: Vec::new(alloc),
-        set: Vec::new(alloc),
-        show: Vec::new(alloc),
-        table: None,
-        telling: Telling::nothing(),
-        rule: None,
-    })
 }
 
 /// The number of a rule, where the word is a number; a fault where no rule has it.
@@ -437,37 +431,19 @@ fn rule_of(alloc: Global, word: &str) -> Result<Option<u16>, WordsFault> {
     }
 }
 
-fn explain_request(alloc: Global, matches: &ArgMatches<'_>) -> Result<Request, WordsFault>
-    ensures { IfOk result (λ r. r.verb ≡ verb_variant.Explain) }
+/// Reads the options of a verb that runs the module.
+fn read_running(
+    alloc: Global,
+    matches: &ArgMatches<'_>,
+    request: &mut Request,
+) -> Result<(), WordsFault>
+    ensures { request.new.verb ≡ request.old.verb }
 {
-    let request = module_request(alloc, Verb::Explain, matches)?;
-    let rule = rule_of(alloc, request.file.as_str())?;
-    Ok(Request { rule, ..request })
-}
-
-fn verify_request(alloc: Global, matches: &ArgMatches<'_>) -> Result<Request, WordsFault>
-    ensures { IfOk result (λ r. r.verb ≡ verb_variant.Verify) }
-{
-    let request = module_request(alloc, Verb::Verify, matches)?;
-    let table = table_of(alloc, matches)?;
-    Ok(Request { table, ..request })
-}
-
-fn request_of(alloc: Global, verb: Verb, matches: &ArgMatches<'_>) -> Result<Request, WordsFault>
-    ensures { IfOk result (λ r. r.verb ≡ verb) }
-{
-    Ok(Request {
-        verb,
-        file: file_of(alloc, matches)?,
-        schedule: None,
-        workers: workers_of(alloc, matches)?,
-        args: args_of(alloc, matches)?,
-        set: settings_of(alloc, matches)?,
-        show: cells_of(alloc, matches)?,
-        table: None,
-        rule: None,
-        telling: Telling::nothing(),
-    })
+    request.workers = workers_of(alloc, matches)?;
+    request.args = args_of(alloc, matches)?;
+    request.set = settings_of(alloc, matches)?;
+    request.show = cells_of(alloc, matches)?;
+    Ok(())
 }
 
 fn seed_of(alloc: Global, matches: &ArgMatches<'_>) -> Result<Option<u64>, WordsFault> {
@@ -492,43 +468,65 @@ fn written_file(
     }
 }
 
-fn run_request(alloc: Global, matches: &ArgMatches<'_>) -> Result<Request, WordsFault>
-    ensures { IfOk result (λ r. r.verb ≡ verb_variant.Run) }
-{
-    let request = request_of(alloc, Verb::Run, matches)?;
-    let telling = Telling {
-        trace: false,
-        seed: seed_of(alloc, matches)?,
-        file: written_file(alloc, matches, "save")?,
-    };
-    Ok(Request { telling, ..request })
-}
-
-fn schedule_request(
+/// Reads the options of a run on workers.
+fn read_run(
     alloc: Global,
-    verb: Verb,
     matches: &ArgMatches<'_>,
-) -> Result<Request, WordsFault>
-    ensures { IfOk result (λ r. r.verb ≡ verb) }
+    request: &mut Request,
+) -> Result<(), WordsFault>
+    ensures { request.new.verb ≡ request.old.verb }
 {
-    let request = request_of(alloc, verb, matches)?;
-    let schedule = schedule_of(alloc, matches)?;
-    Ok(Request {
-        schedule: Some(schedule),
-        ..request
-    })
+    read_running(alloc, matches, request)?;
+    request.telling.seed = seed_of(alloc, matches)?;
+    request.telling.file = written_file(alloc, matches, "save")?;
+    Ok(())
 }
 
-fn replay_request(alloc: Global, matches: &ArgMatches<'_>) -> Result<Request, WordsFault>
-    ensures { IfOk result (λ r. r.verb ≡ verb_variant.Replay) }
+/// Reads the options of a verb that follows a schedule.
+fn read_scheduled(
+    alloc: Global,
+    matches: &ArgMatches<'_>,
+    request: &mut Request,
+) -> Result<(), WordsFault>
+    ensures { request.new.verb ≡ request.old.verb }
 {
-    let request = schedule_request(alloc, Verb::Replay, matches)?;
-    let telling = Telling {
-        trace: matches.get_flag("trace"),
-        seed: None,
-        file: written_file(alloc, matches, "picture")?,
-    };
-    Ok(Request { telling, ..request })
+    read_running(alloc, matches, request)?;
+    request.schedule = Some(schedule_of(alloc, matches)?);
+    Ok(())
+}
+
+/// Reads the options of a replay.
+fn read_replay(
+    alloc: Global,
+    matches: &ArgMatches<'_>,
+    request: &mut Request,
+) -> Result<(), WordsFault>
+    ensures { request.new.verb ≡ request.old.verb }
+{
+    read_scheduled(alloc, matches, request)?;
+    request.telling.trace = matches.get_flag("trace");
+    request.telling.file = written_file(alloc, matches, "picture")?;
+    Ok(())
+}
+
+/// Reads the options of the request's verb.
+fn read_options(
+    alloc: Global,
+    matches: &ArgMatches<'_>,
+    request: &mut Request,
+) -> Result<(), WordsFault>
+    ensures { request.new.verb ≡ request.old.verb }
+{
+    match request.verb {
+        Verb::Verify => request.table = table_of(alloc, matches)?,
+        Verb::Explain => request.rule = rule_of(alloc, request.file.as_str())?,
+        Verb::Run => read_run(alloc, matches, request)?,
+        Verb::Replay => read_replay(alloc, matches, request)?,
+        Verb::Debug => read_scheduled(alloc, matches, request)?,
+        Verb::Serial => read_running(alloc, matches, request)?,
+        Verb::Print | Verb::Show | Verb::Annotate => {}
+    }
+    Ok(())
 }
 
 /// The verb that a word names.
@@ -547,15 +545,9 @@ fn verb_of(word: &str) -> Option<Verb>
 fn request_for(alloc: Global, verb: Verb, matches: &ArgMatches<'_>) -> Result<Request, WordsFault>
     ensures { IfOk result (λ r. r.verb ≡ verb) }
 {
-    match verb {
-        Verb::Verify => verify_request(alloc, matches),
-        Verb::Explain => explain_request(alloc, matches),
-        Verb::Run => run_request(alloc, matches),
-        Verb::Replay => replay_request(alloc, matches),
-        Verb::Debug => schedule_request(alloc, verb, matches),
-        Verb::Serial => request_of(alloc, verb, matches),
-        Verb::Print | Verb::Show | Verb::Annotate => module_request(alloc, verb, matches),
-    }
+    let mut request = Request::of_file(alloc, verb, file_of(alloc, matches)?);
+    read_options(alloc, matches, &mut request)?;
+    Ok(request)
 }
 
 /// Reads the program's words, the program's own name first.

@@ -1,7 +1,7 @@
 ghost use Rattle.std.specs.Prelude.{◌≡◌};
 ghost use Rattle.command_line.specs.Asked.{word_of};
 
-use std::alloc::{AllocError, AllocFailed};
+use std::alloc::{AllocError, AllocFailed, Global};
 
 /// What the program is asked to do.
 #[derive(Clone, Copy, PartialEq, Eq)]
@@ -82,6 +82,26 @@ pub struct Request {
     pub rule: Option<u16>,
     /// How the verb tells of the run, and where to.
     pub telling: Telling,
+}
+
+impl Request {
+    /// A request for a module, without options.
+    pub(crate) fn of_file(alloc: Global, verb: Verb, file: String) -> Request
+        ensures { result.verb ≡ verb }
+    {
+        Request {
+            verb,
+            file,
+            schedule: None,
+            workers: 1,
+            args: Vec::new(alloc),
+            set: Vec::new(alloc),
+            show: Vec::new(alloc),
+            table: None,
+            rule: None,
+            telling: Telling::nothing(),
+        }
+    }
 }
 
 /// What is told of a run beside its answer.

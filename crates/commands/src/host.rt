@@ -1,10 +1,7 @@
 //! The program over its words, files and streams.
 
-use crate::answer::act;
-use crate::beside::Beside;
-use crate::files::{read_file, write_file};
-use crate::status::Status;
-use command_line::{Request, WordsFault, text_of, words};
+use crate::act::act;
+use answers::{Beside, Request, Status, WordsFault, read_file, text_of, words, write_file};
 use std::env::FillError;
 use std::hash::RandomState;
 use std::io;
@@ -17,6 +14,14 @@ use std::time::Clock;
 
 /// More bytes than a word of a command line has.
 const WORD_ROOM: usize = 131_072;
+
+/// The files that a request names, each with why it could not be read.
+#[derive(Drop)]
+struct Texts {
+    module: io::Result<Vec<u8>>,
+    /// None where the verb takes no schedule.
+    schedule: Option<io::Result<Vec<u8>>>,
+}
 
 /// The texts of the command line's words, the program's own name first.
 fn read_words<R: AllocGlobal + Env>(rt: &R) -> io::Result<Vec<String>> {
@@ -64,13 +69,7 @@ fn refuse_words(rt: &(impl Print + Eprint), fault: &WordsFault) -> Status {
 }
 
 /// Says why a file could not be read, or that an option names nothing.
-fn explain_status(
-    rt: &impl Eprint,
-    request: &Request,
-    status: u8,
-    module: &io::Result<Vec<u8>>,
-    schedule: &Option<io::Result<Vec<u8>>>,
-) {
+fn explain_status(rt: &impl Eprint, request: &Request, status: u8, texts: &Texts) {
     if status == Status::Words as u8 {
         let _ = rt.eprintln(match request.table {
             Some(_) => "error: --table names a function that the module does not have",
@@ -78,7 +77,7 @@ fn explain_status(
         });
     }
     if status == Status::Unreadable as u8 {
-        match (module, schedule, &request.schedule) {
+        match (&texts.module, &texts.schedule, &request.schedule) {
             (Err(error), _, _) => complain(rt, request.file.as_str(), error),
             (_, Some(Err(error)), Some(file)) => complain(rt, file.as_str(), error),
             _ => {}
@@ -108,38 +107,73 @@ fn read_word<R: AllocGlobal + Files>(rt: &R, word: &str) -> io::Result<io::Resul
     }
 }
 
-/// Reads the files, does what is asked and answers the status.
-fn obey<
-    R: AllocGlobal + Clock + Eprint + Files + Input + Print + RandomSource + Sync + Threads + Wait,
->(rt: &R, request: &Request) -> io::Result<u8> {
-    let alloc = rt.alloc();
+/// Reads the schedule that a request names.
+fn read_schedule<R: AllocGlobal + Files>(
+    rt: &R,
+    request: &Request,
+) -> io::Result<Option<io::Result<Vec<u8>>>> {
+    match &request.schedule {
+        Some(file) => Ok(Some(read_word(rt, file.as_str())?)),
+        None => Ok(None),
+    }
+}
+
+/// Reads the files that a request names.
+fn read_texts<R: AllocGlobal + Files>(rt: &R, request: &Request) -> io::Result<Texts> {
     let module = read_word(rt, request.file.as_str())?;
-    let schedule = match &request.schedule {
-        Some(file) => Some(read_word(rt, file.as_str())?),
-        None => None,
-    };
+    let schedule = read_schedule(rt, request)?;
+    Ok(Texts { module, schedule })
+}
+
+/// Does what is asked over the files, writes standard output and answers the status.
+fn answer<R: AllocGlobal + Clock + Eprint + Input + Print + RandomSource + Sync + Threads + Wait>(
+    rt: &R,
+    request: &Request,
+    texts: &Texts,
+    beside: &mut Beside,
+) -> io::Result<u8> {
+    let alloc = rt.alloc();
     let state = RandomState::new(rt)?;
     let mut output = BufWriter::new(alloc, io::writer(rt))?;
     let mut input = rt.reader();
-    let mut beside = Beside::nothing(alloc);
     let status = act(
         rt,
         alloc,
         state,
         request,
-        bytes_of_read(&module),
-        schedule.as_ref().and_then(bytes_of_read),
+        bytes_of_read(&texts.module),
+        texts.schedule.as_ref().and_then(bytes_of_read),
         &mut input,
         &mut output,
-        &mut beside,
+        beside,
     );
-    let status = finish(rt, status, output);
+    Ok(finish(rt, status, output))
+}
+
+/// Tells what stands beside standard output, and answers the status.
+fn tell_beside<R: AllocGlobal + Eprint + Files>(
+    rt: &R,
+    request: &Request,
+    texts: &Texts,
+    beside: &Beside,
+    status: u8,
+) -> u8 {
     let _ = rt.eprint(beside.notes.as_str());
-    explain_status(rt, request, status, &module, &schedule);
+    explain_status(rt, request, status, texts);
     if status == Status::Done as u8 {
-        return Ok(write_asked(rt, request, beside.file.as_str()) as u8);
+        return write_asked(rt, request, beside.file.as_str()) as u8;
     }
-    Ok(status)
+    status
+}
+
+/// Reads the files, does what is asked and answers the status.
+fn obey<
+    R: AllocGlobal + Clock + Eprint + Files + Input + Print + RandomSource + Sync + Threads + Wait,
+>(rt: &R, request: &Request) -> io::Result<u8> {
+    let texts = read_texts(rt, request)?;
+    let mut beside = Beside::nothing(rt.alloc());
+    let status = answer(rt, request, &texts, &mut beside)?;
+    Ok(tell_beside(rt, request, &texts, &beside, status))
 }
 
 /// What was read.

@@ -11,7 +11,6 @@ pub struct Block {
 }
 
 /// A run by workers, between two events.
-#[derive(Drop)]
 pub struct Run {
     pub alloc: Global,
     pub cactus: Cactus<Activation>,
@@ -31,4 +30,22 @@ pub struct Run {
     pub result: Option<i64>,
     /// Room for the phi moves of an edge.
     pub moves: Vec<i64>,
+}
+
+/// Written out, so that no crate above proves it anew.
+impl Drop for Run {
+    fn drop(self) {
+        let Run {
+            alloc: _,
+            cactus: _,
+            cells: _,
+            blocks: _,
+            end: _,
+            hands: _,
+            instructions: _,
+            peak: _,
+            result: _,
+            moves: _,
+        } = self;
+    }
 }

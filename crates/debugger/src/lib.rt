@@ -14,8 +14,6 @@ mod marks;
 mod numeral;
 mod print;
 mod read;
-#[cfg(test)]
-mod tests;
 
 pub use debugger::Debugger;
 pub use fault::ScheduleFault;

@@ -9,10 +9,6 @@ mod gate;
 mod hands;
 mod law;
 mod taken;
-#[cfg(test)]
-mod tests;
-#[cfg(test)]
-mod thread_tests;
 mod threads;
 mod ticket_list;
 mod turns;

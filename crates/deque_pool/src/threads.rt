@@ -42,10 +42,12 @@ pub fn run<G: Gate + Sync, R: Threads + Wait + Clock + Sync>(
     ensures answer { IfOk result (λ done. IsSerialAnswer (origin verified.now arguments.now memory workers) done) }
     ensures in_range { OnOk result (IsNumberOfWorkers workers) }
     ensures met { OnOk result (unmet_in verified.now arguments.now ≡ None) }
-    ensures bad_workers { (m : Memory) → result ≡ Err (RunFault.BadWorkers m) → (m ≡ memory) × ¬ IsNumberOfWorkers workers }
-    ensures bad_arguments { (requirement : ℕ) (m : Memory) → result ≡ Err (RunFault.BadArguments requirement m) → m ≡ memory }
-    ensures unmet { (requirement : ℕ) (m : Memory) → result ≡ Err (RunFault.BadArguments requirement m)
+    ensures bad_arguments { (requirement : ℕ) → unmet_in verified.now arguments.now ≡ Some requirement
+        → result ≡ Err (RunFault.BadArguments requirement memory) }
+    ensures bad_workers { unmet_in verified.now arguments.now ≡ None → ¬ IsNumberOfWorkers workers → result ≡ Err (RunFault.BadWorkers memory) }
+    ensures only_bad_arguments { (requirement : ℕ) (m : Memory) → result ≡ Err (RunFault.BadArguments requirement m)
         → unmet_in verified.now arguments.now ≡ Some requirement }
+    ensures only_bad_workers { (m : Memory) → result ≡ Err (RunFault.BadWorkers m) → ¬ IsNumberOfWorkers workers }
 {
     run_by::<Brand, G, R>(
         rt,
@@ -79,10 +81,12 @@ fn run_by<L: Bench + Send + Sync, G: Gate + Sync, R: Threads + Wait + Clock + Sy
     ensures answer { IfOk result (λ done. IsSerialAnswer (origin verified.now arguments.now memory workers) done) }
     ensures in_range { OnOk result (IsNumberOfWorkers workers) }
     ensures met { OnOk result (unmet_in verified.now arguments.now ≡ None) }
-    ensures bad_workers { (m : Memory) → result ≡ Err (RunFault.BadWorkers m) → (m ≡ memory) × ¬ IsNumberOfWorkers workers }
-    ensures bad_arguments { (requirement : ℕ) (m : Memory) → result ≡ Err (RunFault.BadArguments requirement m) → m ≡ memory }
-    ensures unmet { (requirement : ℕ) (m : Memory) → result ≡ Err (RunFault.BadArguments requirement m)
+    ensures bad_arguments { (requirement : ℕ) → unmet_in verified.now arguments.now ≡ Some requirement
+        → result ≡ Err (RunFault.BadArguments requirement memory) }
+    ensures bad_workers { unmet_in verified.now arguments.now ≡ None → ¬ IsNumberOfWorkers workers → result ≡ Err (RunFault.BadWorkers memory) }
+    ensures only_bad_arguments { (requirement : ℕ) (m : Memory) → result ≡ Err (RunFault.BadArguments requirement m)
         → unmet_in verified.now arguments.now ≡ Some requirement }
+    ensures only_bad_workers { (m : Memory) → result ≡ Err (RunFault.BadWorkers m) → ¬ IsNumberOfWorkers workers }
 {
     let (shared, seats) = Shared::<L>::new(alloc, verified, arguments, memory, workers, blank)?;
     let Ok(room) = Vec::with_capacity(alloc, seats.len()) else {

@@ -13,8 +13,8 @@ use Rattle.program.specs.declared.annotation.Zone.{Zone}
 use Rattle.program.specs.declared.identifier.ObjectName.{ObjectName}
 use Rattle.program.specs.declared.identifier.ObjectName.TheVariants.{Global, Alloca, Parameter}
 use Rattle.ranges.specs.cfg.declared.structure.Move.{Move}
-use Rattle.ranges.specs.declared.sum.Part.{Part}
-use Rattle.ranges.specs.Inequalities.{parts_of}
+use Rattle.ranges.specs.obligations.declared.sum.Part.{Part}
+use Rattle.ranges.specs.obligations.Inequalities.{parts_of}
 use Rattle.ranges.specs.Truth.{parts_value}
 use Rattle.ranges.proofs.Truth.{shown_true}
 use Rattle.footprints.specs.Zones.{Span, as_written, same_object, mode_covers, modes_agree, between, shows_order, is_empty, covers, is_apart, conflict, is_covered}

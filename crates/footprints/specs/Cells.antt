@@ -4,7 +4,7 @@ use Rattle.linear.specs.declared.form.Term.{Term}
 use Rattle.linear.specs.Forms.{Combination}
 use Rattle.program.specs.declared.identifier.ObjectName.{ObjectName}
 use Rattle.ranges.specs.cfg.declared.structure.Move.{Move}
-use Rattle.ranges.specs.Inequalities.{operand_for}
+use Rattle.ranges.specs.obligations.Inequalities.{operand_for}
 use Rattle.ranges.specs.Truth.{operand_value}
 use Rattle.footprints.specs.Zones.{Span}
 

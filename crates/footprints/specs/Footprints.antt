@@ -29,7 +29,7 @@ use Rattle.program.specs.Steps.{first_said}
 use Rattle.ranges.specs.cfg.declared.structure.Way.{Way}
 use Rattle.ranges.specs.cfg.declared.structure.Way.TheVariants.{Branch, Detached, Continued, Synced}
 use Rattle.ranges.specs.declared.table.EdgeFacts.{EdgeFacts}
-use Rattle.ranges.specs.Inequalities.{argument_moves}
+use Rattle.ranges.specs.obligations.Inequalities.{argument_moves}
 use Rattle.footprints.specs.declared.access.Cell.{Cell}
 use Rattle.footprints.specs.declared.touch.Use.{Use}
 use Rattle.footprints.specs.Zones.{Span, span, as_written, covers, conflict, is_empty, is_covered}

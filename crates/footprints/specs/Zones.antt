@@ -9,9 +9,9 @@ use Rattle.program.specs.declared.annotation.Zone.{Zone}
 use Rattle.program.specs.declared.identifier.ObjectName.{ObjectName}
 use Rattle.program.specs.declared.identifier.ObjectName.TheVariants.{Global, Alloca, Parameter}
 use Rattle.ranges.specs.cfg.declared.structure.Move.{Move}
-use Rattle.ranges.specs.declared.sum.Sum.{Sum}
+use Rattle.ranges.specs.obligations.declared.sum.Sum.{Sum}
 use Rattle.ranges.specs.Sums.{shows}
-use Rattle.ranges.specs.Inequalities.{parts_of}
+use Rattle.ranges.specs.obligations.Inequalities.{parts_of}
 
 -- a zone at a place: the object that it is of there, and the operands that stand for its registers there
 pub record Span : Type 0 where

@@ -3,7 +3,7 @@ ghost use Rattle.std.specs.List.{list_all};
 ghost use Rattle.syntax.specs.declared.operator.Mode.TheVariants.{Writes};
 ghost use Rattle.program.specs.declared.annotation.Zone.{Zone as ZoneKind};
 ghost use Rattle.footprints.specs.Zones.{as_written};
-ghost use Rattle.ranges.specs.Inequalities.{argument_moves};
+ghost use Rattle.ranges.specs.obligations.Inequalities.{argument_moves};
 ghost use Rattle.footprints.specs.Footprints.{place_of, address_cell, first_cell, cells_zone, is_allowed, is_clear, cell_use, access_use, put_object};
 ghost use Rattle.footprints.specs.Footprints.{put_in, is_put_allowed, is_put_clear, no_use, callee_use, call_use, foot_use, step_use, child_foot};
 ghost use Rattle.footprints.specs.Footprints.{end_use};

@@ -1,5 +1,6 @@
 ghost use Rattle.std.specs.Prelude.{◌≡◌, ◌<◌, IfOk};
-ghost use Rattle.footprints.specs.Zones.{span, same_object, mode_covers, modes_agree, between, shows_order, is_empty, covers, is_apart, conflict, is_covered};
+ghost use Rattle.std.specs.List.{list_any};
+ghost use Rattle.footprints.specs.Zones.{span, as_written, same_object, mode_covers, modes_agree, between, shows_order, is_empty, covers, is_apart, conflict, is_covered};
 
 use linear::{Form, Known, side_of};
 use lists::{OutOfMemory, Seq};
@@ -161,19 +162,15 @@ pub fn conflict(
     Ok(!is_apart(alloc, facts, z, y)?)
 }
 
-/// Whether one of the zones covers `y`, or `y` is shown to be empty.
-#[tactic(auto, unfolding(crate::specs::Zones::is_covered))]
-pub fn is_covered(
+/// Whether one of the zones covers `y`.
+fn one_covers(
     alloc: Global,
     facts: &Known<'_>,
     zones: &[Zone],
     y: &PlacedZone<'_>,
 ) -> Result<bool, OutOfMemory>
-    ensures { IfOk result (λ b. b ≡ is_covered facts.now zones.now (span y.now.object y.now.moves.now y.now.zone.now)) }
+    ensures { IfOk result (λ b. b ≡ list_any (λ z. covers facts.now (as_written z) (span y.now.object y.now.moves.now y.now.zone.now)) zones.now) }
 {
-    if is_empty(alloc, facts, y)? {
-        return Ok(true);
-    }
     for zone in zones {
         let z = PlacedZone {
             object: zone.object,
@@ -185,4 +182,20 @@ pub fn is_covered(
         }
     }
     Ok(false)
+}
+
+/// Whether one of the zones covers `y`, or `y` is shown to be empty. Most zones that are asked for are covered, and few are empty.
+#[tactic(auto, unfolding(crate::specs::Zones::is_covered))]
+pub fn is_covered(
+    alloc: Global,
+    facts: &Known<'_>,
+    zones: &[Zone],
+    y: &PlacedZone<'_>,
+) -> Result<bool, OutOfMemory>
+    ensures { IfOk result (λ b. b ≡ is_covered facts.now zones.now (span y.now.object y.now.moves.now y.now.zone.now)) }
+{
+    if one_covers(alloc, facts, zones, y)? {
+        return Ok(true);
+    }
+    is_empty(alloc, facts, y)
 }

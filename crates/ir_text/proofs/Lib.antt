@@ -1,4 +1,3 @@
-pub mod Pushed
 pub mod Fills
 pub mod Unlining
 pub mod Rerun

@@ -1,7 +1,7 @@
 //! What the program does on a command line.
 
-use commands::{Beside, act, words};
-use std::alloc::Global;
+use commands::{Beside, Request, WordsFault, act, words};
+use std::alloc::{AllocError, Global};
 use std::hash::RandomState;
 use std::io;
 use std::io::{Read, Write};
@@ -33,40 +33,48 @@ pub struct Answer {
     pub status: u8,
     /// Standard output, and after it what a file is to hold.
     pub output: Vec<u8>,
-    /// Standard error, as far as it does not tell of files.
-    pub notes: String,
+    /// Standard error, as far as it does not tell of files, and the file.
+    pub beside: Beside,
 }
 
-/// What the program does, and which file it is to write.
-pub fn told<T: Threads + Wait + Clock + Sync, R: Read, W: Write>(
+/// What a command line asks for.
+fn request_of(alloc: Global, line: &str) -> Result<Request, WordsFault> {
+    let texts: Vec<&str> = line.split(' ').collect(alloc)?;
+    words(alloc, texts.as_slice())
+}
+
+/// Tells why words are no request.
+fn tell_fault(fault: &WordsFault, beside: &mut Beside) -> Result<(), AllocError> {
+    match &fault.text {
+        Some(text) => beside.notes.push_str(text.as_str()),
+        None => Ok(()),
+    }
+}
+
+/// What the program does: it answers the status, and writes.
+fn told<T: Threads + Wait + Clock + Sync, R: Read, W: Write>(
     alloc: Global,
     program: &Program<'_, T>,
     asked: Asked<'_>,
     input: &mut R,
     output: &mut W,
-) -> io::Result<(u8, Beside)> {
-    let mut beside = Beside::nothing(alloc);
-    let texts: Vec<&str> = asked.line.split(' ').collect(alloc)?;
-    match words(alloc, texts.as_slice()) {
-        Ok(request) => {
-            let status = act(
-                program.rt,
-                alloc,
-                program.state,
-                &request,
-                asked.module,
-                asked.schedule,
-                input,
-                output,
-                &mut beside,
-            );
-            Ok((status, beside))
-        }
+    beside: &mut Beside,
+) -> io::Result<u8> {
+    match request_of(alloc, asked.line) {
+        Ok(request) => Ok(act(
+            program.rt,
+            alloc,
+            program.state,
+            &request,
+            asked.module,
+            asked.schedule,
+            input,
+            output,
+            beside,
+        )),
         Err(fault) => {
-            if let Some(text) = &fault.text {
-                beside.notes.push_str(text.as_str())?;
-            }
-            Ok((WORDS, beside))
+            tell_fault(&fault, beside)?;
+            Ok(WORDS)
         }
     }
 }
@@ -78,14 +86,23 @@ pub fn answered<T: Threads + Wait + Clock + Sync>(
     asked: Asked<'_>,
     input: &[u8],
 ) -> io::Result<Answer> {
-    let mut output: Vec<u8> = Vec::new(alloc);
     let mut input = input;
-    let (status, beside) = told(alloc, program, asked, &mut input, &mut output)?;
-    output.extend_from_slice(beside.file.as_bytes())?;
-    let Beside { notes, .. } = beside;
-    Ok(Answer {
-        status,
+    let mut answer = Answer {
+        status: 0,
+        output: Vec::new(alloc),
+        beside: Beside::nothing(alloc),
+    };
+    let output = &mut answer.output;
+    answer.status = told(
+        alloc,
+        program,
+        asked,
+        &mut input,
         output,
-        notes,
-    })
+        &mut answer.beside,
+    )?;
+    answer
+        .output
+        .extend_from_slice(answer.beside.file.as_bytes())?;
+    Ok(answer)
 }

@@ -2,96 +2,86 @@
 
 use std::alloc::{AllocError, Global};
 
-/// `\*N(TEXT\)`, with what stands before and after it.
-#[derive(Drop)]
-struct Repeat<'a> {
-    before: &'a str,
-    times: u32,
-    text: &'a str,
-    after: &'a str,
+/// The byte of the two hexadecimal digits after the `x` of a text.
+fn hexadecimal(text: &str) -> Option<u8> {
+    u8::from_str_radix(text.get(1..3)?, 16).ok()
 }
 
-impl<'a> Repeat<'a> {
-    fn first_of(text: &'a str) -> Option<Repeat<'a>> {
-        let (before, marked) = text.split_once("\\*")?;
-        let (times, marked) = marked.split_once("(")?;
-        let (text, after) = marked.split_once("\\)")?;
-        Some(Repeat {
-            before,
-            times: times.parse().ok()?,
-            text,
-            after,
-        })
-    }
-
-    fn push_to(&self, bytes: &mut Vec<u8>) -> Result<(), AllocError> {
-        for place in 0..self.times {
-            push_filled(bytes, self.text, place)?;
-        }
-        Ok(())
+/// The byte that a `\` before this text means, and how many bytes of the text it takes. One that is no escape means itself.
+fn meaning(text: &str) -> (u8, usize) {
+    match text.as_bytes() {
+        [b'n', ..] => (b'\n', 1),
+        [b't', ..] => (b'\t', 1),
+        [b'r', ..] => (b'\r', 1),
+        [b'x', ..] => match hexadecimal(text) {
+            Some(byte) => (byte, 3),
+            None => (b'\\', 0),
+        },
+        _ => (b'\\', 0),
     }
 }
 
-/// Pushes a text whose `#` are this number.
-fn push_filled(bytes: &mut Vec<u8>, text: &str, place: u32) -> Result<(), AllocError> {
-    let mut digits = itoa::Buffer::new();
-    let digits = digits.format(place);
-    for (k, part) in text.split("#").enumerate() {
-        if k > 0 {
-            bytes.extend_from_slice(digits.as_bytes())?;
-        }
-        push_escaped(bytes, part)?;
-    }
-    Ok(())
+/// Pushes what stands after a `\`, up to the next one.
+fn push_marked(bytes: &mut Vec<u8>, text: &str) -> Result<(), AllocError> {
+    let (byte, length) = meaning(text);
+    bytes.push(byte)?;
+    bytes.extend_from_slice(text.as_bytes().get(length..).unwrap_or(b""))
 }
 
 /// Pushes a text that repeats nothing.
 fn push_escaped(bytes: &mut Vec<u8>, text: &str) -> Result<(), AllocError> {
-    for (k, part) in text.split("\\").enumerate() {
-        if k == 0 {
-            bytes.extend_from_slice(part.as_bytes())?;
+    let mut is_marked = false;
+    for part in text.split("\\") {
+        if is_marked {
+            push_marked(bytes, part)?;
         } else {
-            push_after_mark(bytes, part)?;
+            bytes.extend_from_slice(part.as_bytes())?;
+        }
+        is_marked = true;
+    }
+    Ok(())
+}
+
+/// Pushes what is repeated, with digits in place of each `#`.
+fn push_filled(bytes: &mut Vec<u8>, repeated: &[u8], digits: &[u8]) -> Result<(), AllocError> {
+    for byte in repeated {
+        if *byte == b'#' {
+            bytes.extend_from_slice(digits)?;
+        } else {
+            bytes.push(*byte)?;
         }
     }
     Ok(())
 }
 
-/// The byte of two hexadecimal digits, and what stands after them.
-fn hexadecimal(text: &str) -> Option<(u8, &str)> {
-    let (digits, rest) = text.split_at_checked(2)?;
-    Some((u8::from_str_radix(digits, 16).ok()?, rest))
-}
-
-/// Pushes what stands after a `\`, up to the next one.
-fn push_after_mark(bytes: &mut Vec<u8>, text: &str) -> Result<(), AllocError> {
-    let (byte, rest) = if let Some(rest) = text.strip_prefix("n") {
-        (b'\n', rest)
-    } else if let Some(rest) = text.strip_prefix("t") {
-        (b'\t', rest)
-    } else if let Some(rest) = text.strip_prefix("r") {
-        (b'\r', rest)
-    } else {
-        text.strip_prefix("x")
-            .and_then(hexadecimal)
-            .unwrap_or((b'\\', text))
-    };
-    bytes.push(byte)?;
-    bytes.extend_from_slice(rest.as_bytes())
-}
-
-/// The bytes that a text with escapes means.
-pub fn unescaped(alloc: Global, text: &str) -> Result<Vec<u8>, AllocError> {
-    let mut bytes = Vec::new(alloc);
-    let mut rest = text;
-    for _ in 0..text.len() {
-        let Some(repeat) = Repeat::first_of(rest) else {
-            break;
-        };
-        push_escaped(&mut bytes, repeat.before)?;
-        repeat.push_to(&mut bytes)?;
-        rest = repeat.after;
+fn push_times(bytes: &mut Vec<u8>, times: u32, repeated: &[u8]) -> Result<(), AllocError> {
+    for place in 0..times {
+        let mut digits = itoa::Buffer::new();
+        push_filled(bytes, repeated, digits.format(place).as_bytes())?;
     }
-    push_escaped(&mut bytes, rest)?;
-    Ok(bytes)
+    Ok(())
+}
+
+/// Pushes what stands after a `\*`, up to the next one.
+fn push_repeating(bytes: &mut Vec<u8>, alloc: Global, text: &str) -> Result<(), AllocError> {
+    let (times, text) = text.split_once("(").unwrap_or(("", text));
+    let (text, rest) = text.split_once("\\)").unwrap_or((text, ""));
+    let mut repeated = Vec::new(alloc);
+    push_escaped(&mut repeated, text)?;
+    push_times(bytes, times.parse().unwrap_or(0), repeated.as_slice())?;
+    push_escaped(bytes, rest)
+}
+
+/// Pushes the bytes that a text with escapes means.
+pub fn push_unescaped(bytes: &mut Vec<u8>, alloc: Global, text: &str) -> Result<(), AllocError> {
+    let mut is_marked = false;
+    for part in text.split("\\*") {
+        if is_marked {
+            push_repeating(bytes, alloc, part)?;
+        } else {
+            push_escaped(bytes, part)?;
+        }
+        is_marked = true;
+    }
+    Ok(())
 }

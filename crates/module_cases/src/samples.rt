@@ -2,72 +2,63 @@
 //! module is read without its last brace; `printed`, whether its canonical text is its own; `table`, the costs
 //! and depths of its first function.
 
-use crate::marks::Line;
-use crate::rows::parted;
-use crate::texts::{fault_of, printed, reading};
-use crate::verdicts::table;
-use cases::Report;
-use std::alloc::Global;
+use crate::texts::{fault_of, is_canonical, printed, push_reading};
+use crate::verdicts::push_table;
+use ir_lex::TextFault;
+use std::alloc::{AllocError, Global};
 use std::hash::RandomState;
-use std::io::Write;
-use std::rt::Files;
-use std::{fs, io};
+
+/// Pushes the length of a beginning that is read, or has another fault than 102, 103, 105 or 107.
+fn push_length(found: &mut String, len: usize, fault: Option<TextFault>) -> Result<(), AllocError> {
+    let between = if found.is_empty() { "" } else { " " };
+    match fault {
+        None => write!(found, "{between}{len}"),
+        Some(
+            TextFault::Fault {
+                number: 102 | 103 | 105 | 107,
+                ..
+            },
+        ) => Ok(()),
+        Some(fault) => write!(found, "{between}{fault} at {len}"),
+    }
+}
 
 /// The lengths of the beginnings that are read. Of all others the fault is 102, 103, 105 or 107; one that is not is told.
-fn lengths_read(alloc: Global, state: RandomState, text: &[u8]) -> io::Result<String> {
-    let mut lengths = String::new(alloc);
+fn push_lengths(
+    found: &mut String,
+    alloc: Global,
+    state: RandomState,
+    text: &[u8],
+) -> Result<(), AllocError> {
     for len in 0..=text.len() {
-        let between = if lengths.is_empty() { "" } else { " " };
-        match fault_of(alloc, state, text.get(..len).unwrap_or(text))? {
-            None => write!(lengths, "{between}{len}")?,
-            Some((102 | 103 | 105 | 107, _)) => {}
-            Some((number, _)) => write!(lengths, "{between}{number} at {len}")?,
-        }
+        let fault = fault_of(alloc, state, text.get(..len).unwrap_or(text));
+        push_length(found, len, fault)?;
     }
-    Ok(lengths)
+    Ok(())
 }
 
 /// Whether the canonical text is its own, and longer.
-fn is_printed_again(alloc: Global, state: RandomState, text: &str) -> io::Result<bool> {
+fn is_printed_again(alloc: Global, state: RandomState, text: &str) -> Result<bool, AllocError> {
     let first = printed(alloc, state, text.as_bytes())?;
-    let again = printed(alloc, state, first.as_bytes())?;
-    Ok(first == again && first.len() > text.len())
+    Ok(first.len() > text.len() && is_canonical(alloc, state, first.as_str())?)
 }
 
-fn answer_to(alloc: Global, state: RandomState, question: &str, text: &str) -> io::Result<String> {
+/// The answer to a question about a module.
+pub fn push_answer(
+    found: &mut String,
+    alloc: Global,
+    state: RandomState,
+    question: &str,
+    text: &str,
+) -> Result<(), AllocError> {
     match question {
-        "beginnings" => lengths_read(alloc, state, text.as_bytes()),
+        "beginnings" => push_lengths(found, alloc, state, text.as_bytes()),
         "unclosed" => {
             let open = text.strip_suffix("}\n").unwrap_or("");
-            Ok(reading(alloc, state, open.as_bytes())?)
+            push_reading(found, alloc, state, open.as_bytes())
         }
-        "table" => Ok(table(alloc, state, text.as_bytes())?),
-        "printed" if is_printed_again(alloc, state, text)? => {
-            Ok(String::from_str(alloc, "the same again")?)
-        }
-        _ => Ok(String::from_str(alloc, "otherwise")?),
+        "table" => push_table(found, alloc, state, text.as_bytes()),
+        "printed" if is_printed_again(alloc, state, text)? => found.push_str("the same again"),
+        _ => found.push_str("otherwise"),
     }
-}
-
-/// Answers the rows of a file.
-pub fn answer<W: Write + Drop>(
-    rt: &(impl AllocGlobal + Files),
-    state: RandomState,
-    file: &str,
-    report: &mut Report<W>,
-) -> io::Result<()> {
-    for line in file.lines() {
-        match Line::of(line) {
-            Line::Title(title) => report.title(title)?,
-            Line::Note | Line::Order(_) | Line::Text("") => {}
-            Line::Text(row) => {
-                let (wanted, asked) = parted(row);
-                let (question, name) = asked.split_once(" ").unwrap_or((asked, ""));
-                let text = fs::read_to_string(rt, name)?;
-                let found = answer_to(rt.alloc(), state, question, text.as_str())?;
-                report.answer(wanted, found.as_str())?;
-            }
-        }
-    }
-    Ok(())
 }

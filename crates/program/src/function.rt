@@ -57,7 +57,6 @@ pub struct Block {
 
 /// A function with its annotations. The parameters are the registers from 0 on, in their order; the other
 /// registers follow in the order of the text. In `guarantees` the register behind the last one is the result.
-#[derive(Drop)]
 pub struct Function {
     pub line: u32,
     pub name: Name,
@@ -72,6 +71,26 @@ pub struct Function {
     pub measure: Measure,
     pub budget: Budget,
     pub blocks: Seq<Block>,
+}
+
+/// Written out, so that no crate above proves it anew.
+impl Drop for Function {
+    fn drop(self) {
+        let Function {
+            line: _,
+            name: _,
+            result_type: _,
+            parameters: _,
+            registers: _,
+            allocas: _,
+            requirements: _,
+            guarantees: _,
+            zones: _,
+            measure: _,
+            budget: _,
+            blocks: _,
+        } = self;
+    }
 }
 
 /// A whole module. The run begins at `main`.

@@ -18,9 +18,9 @@ use Rattle.linear.proofs.Tested.{shown_from_test}
 use Rattle.linear.proofs.Values.{shown_holds}
 use Rattle.program.specs.declared.instruction.Operand.{Operand}
 use Rattle.program.specs.declared.instruction.Operand.TheVariants.{Number, Register}
-use Rattle.ranges.specs.declared.sum.Part.{Part}
-use Rattle.ranges.specs.declared.sum.Sum.{Sum}
-use Rattle.ranges.specs.declared.sum.Obligation.{Obligation}
+use Rattle.obligations.specs.declared.sum.Part.{Part}
+use Rattle.obligations.specs.declared.sum.Sum.{Sum}
+use Rattle.obligations.specs.declared.sum.Obligation.{Obligation}
 use Rattle.ranges.specs.Sums.{with_operand, with_parts, sum_form, fact_of, facts_of, shows_form, shows, is_met}
 use Rattle.ranges.specs.Truth.{operand_value, parts_value, sum_value, IsTrueAt}
 

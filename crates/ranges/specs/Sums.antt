@@ -1,4 +1,4 @@
--- Sums of operands times numbers, the forms that they make, and what facts show of them.
+-- The forms that sums make, and what facts show of them.
 use Rattle.std.specs.Prelude.{ℤ, ◌*ℤ◌, Bool, false, nat_lt, List, [], ◌∷◌, Option, Some, None, unsigned_abs, if◌then◌else◌}
 use Rattle.std.specs.List.{flat_map, list_any}
 use Rattle.std.specs.Option.{option_map, option_to_list}
@@ -8,25 +8,9 @@ use Rattle.linear.specs.Made.{is_bounded, with_term, with_constant}
 use Rattle.linear.specs.Tested.{is_shown}
 use Rattle.program.specs.declared.instruction.Operand.{Operand}
 use Rattle.program.specs.declared.instruction.Operand.TheVariants.{Number, Register}
-use Rattle.ranges.specs.declared.sum.Part.{Part}
-use Rattle.ranges.specs.declared.sum.Sum.{Sum}
-use Rattle.ranges.specs.declared.sum.Obligation.{Obligation}
-
--- ---- sums of one, two and three operands
-
-abbrev pub one : ℤ → ℤ → Operand → Sum
-one constant a x = record { constant = constant; parts = record { factor = a; operand = x } ∷ [] }
-
-abbrev pub two : ℤ → ℤ → Operand → ℤ → Operand → Sum
-two constant a x b y = record { constant = constant; parts = record { factor = a; operand = x } ∷ (record { factor = b; operand = y } ∷ []) }
-
-abbrev pub three : ℤ → ℤ → Operand → ℤ → Operand → ℤ → Operand → Sum
-three constant a x b y c z =
-    record {
-      constant = constant;
-      parts = record { factor = a; operand = x }
-          ∷ (record { factor = b; operand = y } ∷ (record { factor = c; operand = z } ∷ []));
-    }
+use Rattle.obligations.specs.declared.sum.Part.{Part}
+use Rattle.obligations.specs.declared.sum.Sum.{Sum}
+use Rattle.obligations.specs.declared.sum.Obligation.{Obligation}
 
 -- ---- the form of a sum
 

@@ -1,20 +1,19 @@
 ghost use Rattle.std.specs.Prelude.{◌≡◌, ◌++◌, ◌∷◌, [], true, false, negsuc, ◌*ℤ◌, map, IfOk, OnOk};
 ghost use Rattle.syntax.specs.declared.operator.Predicate.TheVariants.{Equal};
-ghost use Rattle.region_match.specs.cfg.declared.structure.Way.TheVariants.{Branch};
+ghost use Rattle.obligations.specs.cfg.declared.structure.Way.TheVariants.{Branch};
 ghost use Rattle.program.specs.declared.instruction.Case.{Case};
 ghost use Rattle.ranges.specs.Sums.{facts_of};
 ghost use Rattle.ranges.specs.Edges.{compare_of, compared, at_least, above, compare_sums, branch_sums, case_sums, edge_to, edges_out};
 ghost use Rattle.ranges.specs.Edges.{keeps_of, edge_facts, all_edge_facts};
 
 use crate::know::push_facts;
-use crate::sum::Sum;
 use crate::table::EdgeFacts;
 use linear::{Fact, FactList};
 use lists::{OutOfMemory, Seq};
+use obligations::{Sum, Way, make_moves};
 use program::{
     Block, BlockId, Case, Instruction, Operand, Predicate, RegisterId, Step, Terminator,
 };
-use region_match::{Way, make_moves};
 use std::alloc::Global;
 
 /// What an `icmp` compares.

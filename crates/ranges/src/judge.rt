@@ -1,19 +1,17 @@
 ghost use Rattle.std.specs.Prelude.{◌≡◌, ◌∷◌, [], false, Any, IfOk, OnOk, slice_get};
 ghost use Rattle.refusal.specs.Earliest.{IsEarliest};
 ghost use Rattle.ranges.specs.Sums.{shows, is_met};
-ghost use Rattle.ranges.specs.Inequalities.{difference_of};
+ghost use Rattle.obligations.specs.Inequalities.{difference_of};
 ghost use Rattle.ranges.specs.Places.{with_shows, stated};
 ghost use Rattle.ranges.specs.Rules.{AreUnmet, AreUnshown, AreEdgesBroken};
 ghost use Rattle.ranges.specs.Edges.{edge_owed, keeps_of};
 ghost use Rattle.refusal.specs.declared.broken.Broken.{Broken};
 
-use crate::inequality::difference_of;
 use crate::know::{is_met_at, push_fact, shows_at};
-use crate::owe::inequalities_owed;
-use crate::sum::Obligation;
 use crate::table::EdgeFacts;
 use linear::{FactCursor, FactList, Known};
 use lists::OutOfMemory;
+use obligations::{Obligation, difference_of, inequalities_owed};
 use program::{Block, BlockId, Inequality};
 use refusal::{Broken, lower};
 use std::alloc::Global;

@@ -1,9 +1,10 @@
 ghost use Rattle.std.specs.Prelude.{◌≡◌, ◌++◌, ◌∷◌, [], IfOk, OnOk};
 ghost use Rattle.ranges.specs.Sums.{facts_of, shows, is_met};
 
-use crate::sum::{Obligation, Sum, sum_form};
+use crate::form::sum_form;
 use linear::{Fact, FactList, Known, find_shown};
 use lists::OutOfMemory;
+use obligations::{Obligation, Sum};
 use std::alloc::Global;
 
 /// Adds that a sum is at least 0; one past the bounds of a form says nothing.

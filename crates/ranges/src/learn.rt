@@ -1,49 +1,15 @@
-ghost use Rattle.std.specs.Prelude.{◌≡◌, ◌++◌, [], pos, ◌≤ℤ◌, ◌-ℤ◌, true, IfOk, OnOk, IfSome, slice_get};
+ghost use Rattle.std.specs.Prelude.{◌≡◌, ◌++◌, [], pos, ◌≤ℤ◌, ◌-ℤ◌, true, IfOk, OnOk, slice_get};
 ghost use Rattle.syntax.specs.declared.operator.BinaryOperator.TheVariants.{AddNoWrap, SubtractNoWrap};
-ghost use Rattle.ranges.specs.Learned.{is_scale, scale_number, scale_of, is_multiple, is_product, is_between, is_quotient, is_divisor, quotient_by};
+ghost use Rattle.obligations.specs.Scales.{is_scale, scale_of};
+ghost use Rattle.ranges.specs.Learned.{is_multiple, is_product, is_between, is_quotient, is_divisor, quotient_by};
 ghost use Rattle.ranges.specs.Learned.{remainder_by, masked_by, binary_sums, is_32_bits, conversion_sums, call_sums, learned};
 
-use crate::inequality::{call_moves, differences_of};
 use crate::know::shows_at;
-use crate::sum::{Part, Sum, opposite};
 use linear::{Known, RegisterId};
 use lists::OutOfMemory;
+use obligations::{Sum, call_moves, differences_of, opposite, scale_of};
 use program::{Argument, BinaryOperator, Conversion, Function, FunctionId, Instruction, Operand};
 use std::alloc::Global;
-
-/// A number within a million.
-fn scale_number(operand: Operand) -> Option<i64>
-    ensures { result ≡ scale_number operand }
-{
-    match operand {
-        Operand::Number(number) => {
-            if -1_000_000 <= number && number <= 1_000_000 {
-                Some(number)
-            } else {
-                None
-            }
-        }
-        Operand::Register(_) => None,
-    }
-}
-
-/// A product as a number within a million times an operand.
-pub fn scale_of(left: Operand, right: Operand) -> Option<Part>
-    ensures value { result ≡ scale_of left right }
-    ensures scale { IfSome result (λ p. is_scale p.factor ≡ true) }
-{
-    match (scale_number(right), scale_number(left)) {
-        (Some(factor), _) => Some(Part {
-            factor,
-            operand: left,
-        }),
-        (None, Some(factor)) => Some(Part {
-            factor,
-            operand: right,
-        }),
-        (None, None) => None,
-    }
-}
 
 /// d = factor * x
 fn push_multiple(

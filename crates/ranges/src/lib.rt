@@ -14,23 +14,23 @@
 
 mod check;
 mod edge;
-mod inequality;
+mod form;
 mod judge;
 mod know;
 pub mod laws;
 mod learn;
-mod owe;
-mod sum;
 mod table;
 mod walk;
 
 pub use check::check_ranges;
 pub use edge::{Comparison, EdgeSums, edges_out};
-pub use inequality::{argument_moves, call_moves, difference_of, push_parts, result_moves};
+pub use form::sum_form;
 pub use know::{is_met, is_met_at, shows, shows_at};
-pub use owe::{inequalities_owed, owed, owed_at_end};
+pub use obligations::{
+    Move, Obligation, Part, Sum, Way, argument_moves, call_moves, difference_of, inequalities_owed,
+    owed, owed_at_end, push_parts, result_moves,
+};
 pub use refusal::Refused as RangeFault;
-pub use region_match::{Graph, Move, Regions, Task, Way};
-pub use sum::{Obligation, Part, Sum, sum_form};
+pub use region_match::{Graph, Regions, Task};
 pub use table::{BlockFacts, EdgeFacts, Facts, FunctionFacts};
 pub use walk::{block_facts, start_facts, stated};

@@ -2,8 +2,8 @@ ghost use Rattle.std.specs.Prelude.{◌≡◌, take, slice_index_or};
 
 use linear::Fact;
 use lists::Seq;
+use obligations::{Move, Way};
 use program::BlockId;
-use region_match::{Move, Way};
 
 /// An edge with what is known on it, and what its target's phis take.
 #[derive(Drop)]
@@ -46,9 +46,15 @@ impl BlockFacts {
 }
 
 /// What is known in each block of a function.
-#[derive(Drop)]
 pub struct FunctionFacts {
     pub blocks: Seq<BlockFacts>,
+}
+
+/// Written out, so that no crate above proves it anew.
+impl Drop for FunctionFacts {
+    fn drop(self) {
+        let FunctionFacts { blocks: _ } = self;
+    }
 }
 
 /// What is known at each place of a program.

@@ -8,14 +8,13 @@ ghost use Rattle.ranges.specs.Walks.{IsWalked, edges_behind, IsEndUnmetAt};
 ghost use Rattle.ranges.specs.Rules.{IsStepBroken, AreStepsBroken, IsEndBroken, IsBlockBroken};
 
 use crate::edge::{all_edge_facts, edges_out};
-use crate::inequality::differences_of;
 use crate::judge::{edges_fault, push_shows, unmet_fault};
 use crate::know::push_facts;
 use crate::learn::learned;
-use crate::owe::{owed, owed_at_end};
 use crate::table::{BlockFacts, EdgeFacts};
 use linear::{Fact, FactList};
 use lists::{OutOfMemory, Seq};
+use obligations::{differences_of, owed, owed_at_end};
 use program::{Block, Ending, Function, Inequality, Program, Step};
 use refusal::{Broken, lower};
 use std::alloc::Global;

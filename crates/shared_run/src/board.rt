@@ -76,10 +76,12 @@ impl<'a, L: Bench> Board<'a, L> {
         ensures seats { IfOk result (λ made. AreSeats workers made.1.items) }
         ensures in_range { OnOk result (IsNumberOfWorkers workers) }
         ensures met { OnOk result (unmet_in verified.now arguments.now ≡ None) }
-        ensures bad_workers { (m : Memory) → result ≡ Err (RunFault.BadWorkers m) → (m ≡ memory) × ¬ IsNumberOfWorkers workers }
-        ensures bad_arguments { (requirement : ℕ) (m : Memory) → result ≡ Err (RunFault.BadArguments requirement m) → m ≡ memory }
-        ensures unmet { (requirement : ℕ) (m : Memory) → result ≡ Err (RunFault.BadArguments requirement m) →
-            unmet_in verified.now arguments.now ≡ Some requirement }
+        ensures bad_arguments { (requirement : ℕ) → unmet_in verified.now arguments.now ≡ Some requirement
+            → result ≡ Err (RunFault.BadArguments requirement memory) }
+        ensures bad_workers { unmet_in verified.now arguments.now ≡ None → ¬ IsNumberOfWorkers workers → result ≡ Err (RunFault.BadWorkers memory) }
+        ensures only_bad_arguments { (requirement : ℕ) (m : Memory) → result ≡ Err (RunFault.BadArguments requirement m)
+            → unmet_in verified.now arguments.now ≡ Some requirement }
+        ensures only_bad_workers { (m : Memory) → result ≡ Err (RunFault.BadWorkers m) → ¬ IsNumberOfWorkers workers }
     {
         // for what it says of the module: that it is accepted
         let _accepted = verified.program();

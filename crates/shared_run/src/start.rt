@@ -81,10 +81,12 @@ pub(crate) fn admitted(
     ensures same { IfOk result (λ m. m ≡ memory) }
     ensures in_range { OnOk result (IsNumberOfWorkers workers) }
     ensures met { OnOk result (unmet_in verified.now arguments.now ≡ None) }
-    ensures bad_workers { (m : Memory) → result ≡ Err (RunFault.BadWorkers m) → (m ≡ memory) × ¬ IsNumberOfWorkers workers }
-    ensures bad_arguments { (requirement : ℕ) (m : Memory) → result ≡ Err (RunFault.BadArguments requirement m) → m ≡ memory }
-    ensures unmet { (requirement : ℕ) (m : Memory) → result ≡ Err (RunFault.BadArguments requirement m) →
-        unmet_in verified.now arguments.now ≡ Some requirement }
+    ensures bad_arguments { (requirement : ℕ) → unmet_in verified.now arguments.now ≡ Some requirement
+        → result ≡ Err (RunFault.BadArguments requirement memory) }
+    ensures bad_workers { unmet_in verified.now arguments.now ≡ None → ¬ IsNumberOfWorkers workers → result ≡ Err (RunFault.BadWorkers memory) }
+    ensures only_bad_arguments { (requirement : ℕ) (m : Memory) → result ≡ Err (RunFault.BadArguments requirement m)
+        → unmet_in verified.now arguments.now ≡ Some requirement }
+    ensures only_bad_workers { (m : Memory) → result ≡ Err (RunFault.BadWorkers m) → ¬ IsNumberOfWorkers workers }
 {
     if let Some(requirement) = unmet_requirement(verified.program(), arguments) {
         return Err(RunFault::BadArguments {

@@ -5,6 +5,7 @@ ghost use Rattle.std.specs.Prelude.{◌<◌, ◌≤◌};
 
 use crate::dice::Dice;
 use crate::script::Script;
+use crate::watching::path_of;
 use frame::Path;
 use lists::OutOfMemory;
 use schedule_core::{Event, Machine, Memory, RunFault, Verified};
@@ -13,22 +14,29 @@ use std::alloc::Global;
 /// The events that a schedule has at most.
 const MOST_EVENTS: usize = 1_048_576;
 
-/// A run whose events are drawn, with the text of those that were done.
+/// The text of the events that were drawn and done, and what may be drawn next.
 #[derive(Drop)]
-struct Draw<'v> {
+struct Draw {
     alloc: Global,
-    machine: Machine<'v>,
     script: Script,
     /// The tasks that may be taken.
     ready: Vec<Path>,
 }
 
-impl Draw<'_> {
-    /// The path of the worker's task.
-    fn task_of(&self, worker: u8) -> Result<Option<Path>, OutOfMemory> {
-        match self.machine.task_of(worker) {
-            Some(view) => Ok(Some(view.path.copy(self.alloc)?)),
-            None => Ok(None),
+/// The path of the worker's task.
+fn task_of(alloc: Global, machine: &Machine<'_>, worker: u8) -> Result<Option<Path>, OutOfMemory> {
+    match path_of(machine, worker) {
+        Some(path) => Ok(Some(path.copy(alloc)?)),
+        None => Ok(None),
+    }
+}
+
+impl Draw {
+    fn new(alloc: Global) -> Draw {
+        Draw {
+            alloc,
+            script: Script::new(alloc),
+            ready: Vec::new(alloc),
         }
     }
 
@@ -56,58 +64,97 @@ impl Draw<'_> {
     }
 
     /// A step of a worker that runs this task.
-    fn step(&mut self, worker: u8, before: Path) -> Result<(), OutOfMemory> {
-        if self.machine.apply(&Event::Step(worker))? {
+    fn step(
+        &mut self,
+        machine: &mut Machine<'_>,
+        worker: u8,
+        before: Path,
+    ) -> Result<(), OutOfMemory> {
+        if machine.apply(&Event::Step(worker))? {
             self.script.step(worker)?;
         }
-        match self.task_of(worker)? {
+        match task_of(self.alloc, machine, worker)? {
             Some(after) if !after.is_same(&before) => self.note(before, &after),
             _ => Ok(()),
         }
     }
 
+    /// Writes a steal that was done.
+    fn write_steal(&mut self, event: &Event) -> Result<(), OutOfMemory> {
+        if let Event::Steal(worker, task) = event {
+            self.script.steal(*worker, task)?;
+        }
+        Ok(())
+    }
+
     /// A steal of a task by chance, by a worker without one; nothing happens where none may be taken.
-    fn steal(&mut self, worker: u8, dice: &mut Dice) -> Result<(), OutOfMemory> {
+    fn steal(
+        &mut self,
+        machine: &mut Machine<'_>,
+        worker: u8,
+        dice: &mut Dice,
+    ) -> Result<(), OutOfMemory> {
         if self.ready.is_empty() {
             return Ok(());
         }
         let place = dice.below(self.ready.len());
-        let task = self.ready.swap_remove(place);
-        let event = Event::Steal(worker, task);
-        let done = self.machine.apply(&event)?;
-        if let Event::Steal(_, task) = &event {
-            if done {
-                self.script.steal(worker, task)?;
-            }
+        let event = Event::Steal(worker, self.ready.swap_remove(place));
+        if machine.apply(&event)? {
+            self.write_steal(&event)?;
         }
         Ok(())
     }
 
     /// An event of the worker.
-    fn event(&mut self, worker: u8, dice: &mut Dice) -> Result<(), OutOfMemory> {
-        match self.task_of(worker)? {
-            Some(task) => self.step(worker, task),
-            None => self.steal(worker, dice),
+    fn event(
+        &mut self,
+        machine: &mut Machine<'_>,
+        worker: u8,
+        dice: &mut Dice,
+    ) -> Result<(), OutOfMemory> {
+        match task_of(self.alloc, machine, worker)? {
+            Some(task) => self.step(machine, worker, task),
+            None => self.steal(machine, worker, dice),
         }
     }
 
-    fn is_over(&self) -> bool {
-        self.machine.ended() || self.script.events() > MOST_EVENTS
+    fn is_over(&self, machine: &Machine<'_>) -> bool {
+        machine.ended() || self.script.events() > MOST_EVENTS
     }
 }
 
 /// Draws events until the run has ended, or has one more than a schedule may have.
-fn draw_all(draw: &mut Draw<'_>, workers: u8, dice: &mut Dice) -> Result<(), OutOfMemory>
+fn draw_all(
+    draw: &mut Draw,
+    machine: &mut Machine<'_>,
+    workers: u8,
+    dice: &mut Dice,
+) -> Result<(), OutOfMemory>
     requires { 0 < workers }
 {
     for _event in 0..u64::MAX {
-        if draw.is_over() {
+        if draw.is_over(machine) {
             return Ok(());
         }
         let worker = dice.below(usize::from(workers));
-        draw.event(worker as u8, dice)?;
+        draw.event(machine, worker as u8, dice)?;
     }
     Ok(())
+}
+
+/// The text of the events that are drawn.
+fn drawn_text(
+    alloc: Global,
+    machine: &mut Machine<'_>,
+    workers: u8,
+    seed: u64,
+) -> Result<String, OutOfMemory>
+    requires { 0 < workers }
+{
+    let mut draw = Draw::new(alloc);
+    let mut dice = Dice::new(seed);
+    draw_all(&mut draw, machine, workers, &mut dice)?;
+    Ok(draw.script.into_text()?)
 }
 
 /// The text of a schedule that is drawn by a seed: again and again a worker by chance steps, or, where it has no task, takes one by chance
@@ -127,18 +174,8 @@ pub fn random_schedule(
 ) -> Result<String, RunFault>
     requires { IsMadeFor verified.now memory }
 {
-    let machine = Machine::start(alloc, verified, arguments, memory, workers)?;
-    let mut draw = Draw {
-        alloc,
-        machine,
-        script: Script::new(alloc),
-        ready: Vec::new(alloc),
-    };
-    let mut dice = Dice::new(seed);
-    if draw_all(&mut draw, workers as u8, &mut dice).is_err() {
-        return Err(RunFault::OutOfMemory);
-    }
-    match draw.script.into_text() {
+    let mut machine = Machine::start(alloc, verified, arguments, memory, workers)?;
+    match drawn_text(alloc, &mut machine, workers as u8, seed) {
         Ok(text) => Ok(text),
         Err(_) => Err(RunFault::OutOfMemory),
     }

@@ -55,6 +55,16 @@ pub struct Scene {
     runners: Vec<usize>,
 }
 
+fn worker_of(event: &Event) -> usize {
+    match event {
+        Event::Step(worker) | Event::Steal(worker, _) => usize::from(*worker),
+    }
+}
+
+fn is_steal(event: &Event) -> bool {
+    matches!(event, Event::Steal(_, _))
+}
+
 impl Scene {
     /// The scene before the first event: worker 0 runs the root.
     pub fn new(alloc: Global, workers: usize) -> Result<Scene, OutOfMemory> {
@@ -197,25 +207,46 @@ impl Scene {
         Ok(())
     }
 
+    /// An event that was enabled.
+    fn done(
+        &mut self,
+        worker: usize,
+        event: &Event,
+        moment: &Moment,
+        at: usize,
+    ) -> Result<(), OutOfMemory> {
+        match &moment.place {
+            Some(place) if is_steal(event) => self.steal(worker, place, at),
+            _ => self.step(worker, &moment.outcome, at),
+        }
+    }
+
     /// The next event.
-    pub fn add(&mut self, event: &Event, moment: &Moment) -> Result<(), OutOfMemory> {
+    fn add(&mut self, event: &Event, moment: &Moment) -> Result<(), OutOfMemory> {
         let at = self.events;
         self.events = at.saturating_add(1);
-        let worker = match event {
-            Event::Step(worker) | Event::Steal(worker, _) => usize::from(*worker),
-        };
-        match (&moment.outcome, event, &moment.place) {
-            (Outcome::NotEnabled(_), _, _) => self.miss(worker, at),
-            (_, Event::Steal(_, _), Some(place)) => self.steal(worker, place, at),
-            (outcome, _, _) => self.step(worker, outcome, at),
+        let worker = worker_of(event);
+        match &moment.outcome {
+            Outcome::NotEnabled(_) => self.miss(worker, at),
+            _ => self.done(worker, event, moment, at),
         }
     }
 
     /// Closes the stays that still last.
-    pub fn finish(&mut self) -> Result<(), OutOfMemory> {
+    fn finish(&mut self) -> Result<(), OutOfMemory> {
         for worker in 0..self.hands.len() {
             self.leave(worker, self.events)?;
         }
         Ok(())
+    }
+
+    /// A whole run.
+    pub fn add_all(&mut self, events: &[Event], moments: &[Moment]) -> Result<(), OutOfMemory> {
+        for index in 0..events.len() {
+            if index < moments.len() {
+                self.add(&events[index], &moments[index])?;
+            }
+        }
+        self.finish()
     }
 }

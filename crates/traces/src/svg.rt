@@ -157,7 +157,30 @@ fn push_label(out: &mut String, grid: Grid, stay: &Stay, name: &str) -> Result<(
     )
 }
 
-/// A worker with a task in its hand: a pale box, which tells more where a pointer rests on it.
+/// A pale box.
+fn push_box(out: &mut String, grid: Grid, stay: &Stay) -> Result<(), AllocError> {
+    let x = grid.x(stay.from);
+    let y = grid.y(stay.worker).saturating_sub(STAY / 2);
+    let width = grid.across(stay.to.saturating_sub(stay.from));
+    let colour = colour_of(stay.task);
+    write!(
+        out,
+        "<rect x=\"{x}\" y=\"{y}\" width=\"{width}\" height=\"{STAY}\" rx=\"3\" fill=\"{colour}\" fill-opacity=\"0.28\" stroke=\"{colour}\">"
+    )
+}
+
+/// What a box tells where a pointer rests on it, and its end.
+fn push_title(out: &mut String, stay: &Stay, name: &str) -> Result<(), AllocError> {
+    let worker = stay.worker;
+    let first = stay.from.saturating_add(1);
+    let last = stay.to;
+    writeln!(
+        out,
+        "<title>{name} on worker {worker}, events {first} to {last}</title></rect>"
+    )
+}
+
+/// A worker with a task in its hand: a box, which tells more where a pointer rests on it.
 fn push_stay(
     alloc: Global,
     out: &mut String,
@@ -170,18 +193,19 @@ fn push_stay(
     };
     let name = TaskName(task);
     let name = format!(in alloc; "{name}")?;
-    let x = grid.x(stay.from);
-    let y = grid.y(stay.worker).saturating_sub(STAY / 2);
-    let width = grid.across(stay.to.saturating_sub(stay.from));
-    let colour = colour_of(stay.task);
-    let worker = stay.worker;
-    let first = stay.from.saturating_add(1);
-    let last = stay.to;
-    writeln!(
-        out,
-        "<rect x=\"{x}\" y=\"{y}\" width=\"{width}\" height=\"{STAY}\" rx=\"3\" fill=\"{colour}\" fill-opacity=\"0.28\" stroke=\"{colour}\"><title>{name} on worker {worker}, events {first} to {last}</title></rect>"
-    )?;
-    push_label(out, grid, stay, name.as_str())
+    push_named_stay(out, grid, stay, name.as_str())
+}
+
+/// The same of a task of this path.
+fn push_named_stay(
+    out: &mut String,
+    grid: Grid,
+    stay: &Stay,
+    name: &str,
+) -> Result<(), AllocError> {
+    push_box(out, grid, stay)?;
+    push_title(out, stay, name)?;
+    push_label(out, grid, stay, name)
 }
 
 fn push_stays(
@@ -302,10 +326,7 @@ pub fn picture(
     moments: &[Moment],
 ) -> Result<String, OutOfMemory> {
     let mut scene = Scene::new(alloc, workers)?;
-    for (event, moment) in events.iter().zip(moments) {
-        scene.add(event, moment)?;
-    }
-    scene.finish()?;
+    scene.add_all(events, moments)?;
     let mut out = String::new(alloc);
     push_scene(alloc, &mut out, &scene)?;
     Ok(out)

@@ -94,10 +94,17 @@ pub fn write_trace<W: Write>(
     moments: &[Moment],
 ) -> io::Result<()> {
     let lines: Vec<&str> = source.lines().collect(alloc)?;
-    let mut number = 0usize;
-    for (event, moment) in events.iter().zip(moments) {
-        number = number.saturating_add(1);
-        write_moment(output, number, event, moment, lines.as_slice())?;
+    for index in 0..events.len() {
+        if index < moments.len() {
+            let number = index.saturating_add(1);
+            write_moment(
+                output,
+                number,
+                &events[index],
+                &moments[index],
+                lines.as_slice(),
+            )?;
+        }
     }
     Ok(())
 }

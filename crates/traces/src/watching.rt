@@ -15,6 +15,14 @@ fn place_of(alloc: Global, view: &TaskView<'_>) -> Result<Place, OutOfMemory> {
     })
 }
 
+/// The path of the worker's task.
+pub fn path_of<'m>(machine: &'m Machine<'_>, worker: u8) -> Option<&'m Path> {
+    match machine.task_of(worker) {
+        Some(view) => Some(view.path),
+        None => None,
+    }
+}
+
 /// Where the worker's task stands.
 fn worker_place(
     alloc: Global,
@@ -39,6 +47,17 @@ fn task_place(
     }
 }
 
+/// What the worker does after a step for a task, where it has one now.
+fn after_work(alloc: Global, before: &Path, now: &Path) -> Result<Outcome, OutOfMemory> {
+    if now.is_same(before) {
+        Ok(Outcome::GoesOn)
+    } else if now.numbers.len() > before.numbers.len() {
+        Ok(Outcome::Begins(now.copy(alloc)?))
+    } else {
+        Ok(Outcome::TakesOn(now.copy(alloc)?))
+    }
+}
+
 /// What the worker does after a step for a task.
 fn after_step(
     alloc: Global,
@@ -49,12 +68,8 @@ fn after_step(
     if machine.ended() {
         return Ok(Outcome::Returns);
     }
-    match machine.task_of(worker) {
-        Some(view) if view.path.is_same(task) => Ok(Outcome::GoesOn),
-        Some(view) if view.path.numbers.len() > task.numbers.len() => {
-            Ok(Outcome::Begins(view.path.copy(alloc)?))
-        }
-        Some(view) => Ok(Outcome::TakesOn(view.path.copy(alloc)?)),
+    match path_of(machine, worker) {
+        Some(now) => after_work(alloc, task, now),
         None if machine.task(task).is_some() => Ok(Outcome::Waits),
         None => Ok(Outcome::Ends),
     }
@@ -90,8 +105,33 @@ fn task_hindrance(machine: &Machine<'_>, task: &Path) -> Hindrance {
 fn steal_hindrance(machine: &Machine<'_>, workers: usize, worker: u8, task: &Path) -> Hindrance {
     match worker_hindrance(machine, workers, worker) {
         Some(hindrance) => hindrance,
-        None if machine.task_of(worker).is_some() => Hindrance::Busy,
+        None if path_of(machine, worker).is_some() => Hindrance::Busy,
         None => task_hindrance(machine, task),
+    }
+}
+
+/// Does a step of the worker, which has this task in its hand, if it has one.
+fn step_outcome(
+    alloc: Global,
+    machine: &mut Machine<'_>,
+    workers: usize,
+    event: &Event,
+    worker: u8,
+    task: Option<&Path>,
+) -> Result<Outcome, OutOfMemory> {
+    let hindrance = step_hindrance(machine, workers, worker);
+    let done = machine.apply(event)?;
+    match task {
+        Some(task) if done => after_step(alloc, machine, worker, task),
+        _ => Ok(Outcome::NotEnabled(hindrance)),
+    }
+}
+
+/// The task that an event found.
+fn task_at(place: &Option<Place>) -> Option<&Path> {
+    match place {
+        Some(place) => Some(&place.task),
+        None => None,
     }
 }
 
@@ -103,13 +143,24 @@ fn watch_step(
     worker: u8,
 ) -> Result<Moment, OutOfMemory> {
     let place = worker_place(alloc, machine, worker)?;
-    let hindrance = step_hindrance(machine, workers, worker);
-    let done = machine.apply(event)?;
-    let outcome = match &place {
-        Some(before) if done => after_step(alloc, machine, worker, &before.task)?,
-        _ => Outcome::NotEnabled(hindrance),
-    };
+    let outcome = step_outcome(alloc, machine, workers, event, worker, task_at(&place))?;
     Ok(Moment { place, outcome })
+}
+
+/// Does a steal of the task.
+fn steal_outcome(
+    machine: &mut Machine<'_>,
+    workers: usize,
+    event: &Event,
+    worker: u8,
+    task: &Path,
+) -> Result<Outcome, OutOfMemory> {
+    let hindrance = steal_hindrance(machine, workers, worker, task);
+    if machine.apply(event)? {
+        Ok(Outcome::GoesOn)
+    } else {
+        Ok(Outcome::NotEnabled(hindrance))
+    }
 }
 
 fn watch_steal(
@@ -121,12 +172,7 @@ fn watch_steal(
     task: &Path,
 ) -> Result<Moment, OutOfMemory> {
     let place = task_place(alloc, machine, task)?;
-    let hindrance = steal_hindrance(machine, workers, worker, task);
-    let outcome = if machine.apply(event)? {
-        Outcome::GoesOn
-    } else {
-        Outcome::NotEnabled(hindrance)
-    };
+    let outcome = steal_outcome(machine, workers, event, worker, task)?;
     Ok(Moment { place, outcome })
 }
 
@@ -141,6 +187,20 @@ fn watch_event(
         Event::Step(worker) => watch_step(alloc, machine, workers, event, *worker),
         Event::Steal(worker, task) => watch_steal(alloc, machine, workers, event, *worker, task),
     }
+}
+
+/// All events, done and seen.
+fn watch_all(
+    alloc: Global,
+    machine: &mut Machine<'_>,
+    workers: usize,
+    events: &[Event],
+) -> Result<Vec<Moment>, OutOfMemory> {
+    let mut moments = Vec::new(alloc);
+    for event in events {
+        moments.push(watch_event(alloc, machine, workers, event)?)?;
+    }
+    Ok(moments)
 }
 
 /// The moments of a run by a schedule, one for each event, in their order.
@@ -159,14 +219,8 @@ pub fn watch(
     requires { IsMadeFor verified.now memory }
 {
     let mut machine = Machine::start(alloc, verified, arguments, memory, workers)?;
-    let mut moments = Vec::new(alloc);
-    for event in events {
-        let Ok(moment) = watch_event(alloc, &mut machine, workers, event) else {
-            return Err(RunFault::OutOfMemory);
-        };
-        if moments.push(moment).is_err() {
-            return Err(RunFault::OutOfMemory);
-        }
+    match watch_all(alloc, &mut machine, workers, events) {
+        Ok(moments) => Ok(moments),
+        Err(_) => Err(RunFault::OutOfMemory),
     }
-    Ok(moments)
 }

@@ -25,12 +25,14 @@ use Rattle.program.specs.declared.instruction.Operand.{Operand}
 use Rattle.program.specs.declared.instruction.Operand.TheVariants.{Number, Register}
 use Rattle.program.specs.declared.function.Function.{Function}
 use Rattle.cfg.specs.declared.structure.Move.{Move}
-use Rattle.ranges.specs.declared.sum.Part.{Part}
-use Rattle.ranges.specs.declared.sum.Sum.{Sum}
-use Rattle.ranges.specs.declared.sum.Obligation.{Obligation}
-use Rattle.ranges.specs.Sums.{one, two, three, shows, shows_form, is_met, sum_form}
-use Rattle.ranges.specs.Inequalities.{difference_of, differences_of, argument_operand, argument_moves, result_of, result_moves, register_operand, call_moves}
-use Rattle.ranges.specs.Learned.{is_scale, scale_number, scale_left, scale_right, scale_of, is_multiple, is_product, is_between, is_quotient, is_divisor, quotient_by, remainder_by, masked_by, binary_sums, is_32_bits, conversion_sums, call_sums}
+use Rattle.ranges.specs.obligations.declared.sum.Part.{Part}
+use Rattle.ranges.specs.obligations.declared.sum.Sum.{Sum}
+use Rattle.ranges.specs.obligations.declared.sum.Obligation.{Obligation}
+use Rattle.ranges.specs.obligations.Sums.{one, two, three}
+use Rattle.ranges.specs.Sums.{shows, shows_form, is_met, sum_form}
+use Rattle.ranges.specs.obligations.Inequalities.{difference_of, differences_of, argument_operand, argument_moves, result_of, result_moves, register_operand, call_moves}
+use Rattle.ranges.specs.obligations.Scales.{is_scale, scale_number, scale_left, scale_right, scale_of}
+use Rattle.ranges.specs.Learned.{is_multiple, is_product, is_between, is_quotient, is_divisor, quotient_by, remainder_by, masked_by, binary_sums, is_32_bits, conversion_sums, call_sums}
 use Rattle.verdict_laws.specs.Sums.{IsWord, IsModest}
 use Rattle.verdict_laws.specs.Limited.{IsLimited, AreWords}
 use Rattle.verdict_laws.specs.Written.{AreSidesLimited, IsArgumentWord}

@@ -36,15 +36,17 @@ use Rattle.cfg.specs.declared.structure.Way.TheVariants.{Branch, Detached, Conti
 use Rattle.cfg.specs.Edges.{moves_from}
 use Rattle.ranges.specs.declared.edge.Comparison.{Comparison}
 use Rattle.ranges.specs.declared.edge.EdgeSums.{EdgeSums}
-use Rattle.ranges.specs.declared.sum.Obligation.{Obligation}
-use Rattle.ranges.specs.declared.sum.Part.{Part}
-use Rattle.ranges.specs.declared.sum.Sum.{Sum}
+use Rattle.ranges.specs.obligations.declared.sum.Obligation.{Obligation}
+use Rattle.ranges.specs.obligations.declared.sum.Part.{Part}
+use Rattle.ranges.specs.obligations.declared.sum.Sum.{Sum}
 use Rattle.ranges.specs.Edges.{compare_of, compared, at_least, above, compare_sums, branch_sums, case_sums, edge_to, edges_out, edge_facts, edge_owed, keeps_of}
-use Rattle.ranges.specs.Inequalities.{difference_of, argument_moves}
-use Rattle.ranges.specs.Learned.{learned, scale_of}
-use Rattle.ranges.specs.Owed.{must, half, greatest, last_bit, is_not_zero, is_not_least_by_minus_one, product_owed, is_amount, binary_owed, index_owed, inequalities_owed, call_owed, owed, owed_at_end}
+use Rattle.ranges.specs.obligations.Inequalities.{difference_of, argument_moves}
+use Rattle.ranges.specs.obligations.Scales.{scale_of}
+use Rattle.ranges.specs.Learned.{learned}
+use Rattle.ranges.specs.obligations.Owed.{must, half, greatest, last_bit, is_not_zero, is_not_least_by_minus_one, product_owed, is_amount, binary_owed, index_owed, inequalities_owed, call_owed, owed, owed_at_end}
 use Rattle.ranges.specs.Rules.{AreRangesRight}
-use Rattle.ranges.specs.Sums.{one, two, shows, shows_form, is_met, sum_form, facts_of}
+use Rattle.ranges.specs.obligations.Sums.{one, two}
+use Rattle.ranges.specs.Sums.{shows, shows_form, is_met, sum_form, facts_of}
 use Rattle.footprints.specs.Footprints.{form_at}
 use Rattle.footprints.specs.Zones.{Span}
 use Rattle.verifier.specs.Accepted.{IsAccepted}

@@ -10,8 +10,8 @@ use Rattle.linear.specs.declared.form.Term.{Term}
 use Rattle.linear.specs.Forms.{Combination}
 use Rattle.program.specs.declared.instruction.Operand.{Operand}
 use Rattle.cfg.specs.declared.structure.Move.{Move}
-use Rattle.ranges.specs.declared.sum.Part.{Part}
-use Rattle.ranges.specs.Inequalities.{operand_for, part_of, parts_of}
+use Rattle.ranges.specs.obligations.declared.sum.Part.{Part}
+use Rattle.ranges.specs.obligations.Inequalities.{operand_for, part_of, parts_of}
 use Rattle.verdict_laws.specs.Sums.{IsWord}
 use Rattle.verdict_laws.specs.Limited.{weight, IsLimited, AreWords, LimitedFormsAskLittle}
 

@@ -13,7 +13,7 @@ use Rattle.linear.specs.Forms.{Combination, constant_form}
 use Rattle.linear.specs.Made.{is_bounded, is_below, coefficient_at, placed_at, placed, with_terms, with_term, with_constant}
 use Rattle.program.specs.declared.instruction.Operand.{Operand}
 use Rattle.program.specs.declared.instruction.Operand.TheVariants.{Number, Register}
-use Rattle.ranges.specs.declared.sum.Part.{Part}
+use Rattle.ranges.specs.obligations.declared.sum.Part.{Part}
 use Rattle.ranges.specs.Sums.{with_operand, with_parts, start_of, sum_form}
 use Rattle.verdict_laws.specs.Sums.{IsWord, ModestSumsHaveForms}
 

@@ -10,12 +10,12 @@ use Rattle.program.specs.declared.instruction.Ending.{Ending}
 use Rattle.program.specs.declared.instruction.Step.{Step}
 use Rattle.ranges.specs.cfg.declared.structure.Move.{Move}
 use Rattle.ranges.specs.declared.edge.EdgeSums.{EdgeSums}
-use Rattle.ranges.specs.declared.sum.Obligation.{Obligation}
-use Rattle.ranges.specs.declared.sum.Sum.{Sum}
+use Rattle.ranges.specs.obligations.declared.sum.Obligation.{Obligation}
+use Rattle.ranges.specs.obligations.declared.sum.Sum.{Sum}
 use Rattle.ranges.specs.Edges.{edges_out, edge_facts, edge_owed}
-use Rattle.ranges.specs.Inequalities.{differences_of}
+use Rattle.ranges.specs.obligations.Inequalities.{differences_of}
 use Rattle.ranges.specs.Learned.{learned}
-use Rattle.ranges.specs.Owed.{owed, owed_at_end}
+use Rattle.ranges.specs.obligations.Owed.{owed, owed_at_end}
 use Rattle.ranges.specs.Sums.{sum_form}
 use Rattle.footprints.specs.declared.access.Cell.{Cell}
 use Rattle.footprints.specs.Footprints.{cells_zone}

@@ -2,8 +2,8 @@
 use Rattle.std.specs.Prelude.{◌<◌, ◌≤◌, ◌^◌, All, IsSome, unsigned_abs, sum_by}
 use Rattle.program.specs.declared.instruction.Operand.{Operand}
 use Rattle.program.specs.declared.instruction.Operand.TheVariants.{Number, Register}
-use Rattle.ranges.specs.declared.sum.Part.{Part}
-use Rattle.ranges.specs.declared.sum.Sum.{Sum}
+use Rattle.ranges.specs.obligations.declared.sum.Part.{Part}
+use Rattle.ranges.specs.obligations.declared.sum.Sum.{Sum}
 use Rattle.ranges.specs.Sums.{sum_form}
 
 -- a number of 64 bits, or a register

@@ -18,12 +18,23 @@ use std::marker::Model;
 use types::check_types;
 
 /// A module that the verifier took. Contracts see it as its program.
-#[derive(Drop)]
 pub struct Verified {
     graph: Graph,
     table: Table,
     budget: u64,
     depth: u64,
+}
+
+/// Written out, so that no crate above proves it anew.
+impl Drop for Verified {
+    fn drop(self) {
+        let Verified {
+            graph: _,
+            table: _,
+            budget: _,
+            depth: _,
+        } = self;
+    }
 }
 
 impl Model for Verified {

@@ -14,7 +14,7 @@ use Rattle.program.specs.declared.instruction.Operand.{Operand}
 use Rattle.program.specs.declared.instruction.Operand.TheVariants.{Number, Register}
 use Rattle.program.specs.declared.instruction.Phi.{Phi}
 use Rattle.cfg.specs.Edges.{value_from, moves_from}
-use Rattle.ranges.specs.Inequalities.{operand_for, argument_operand, argument_moves}
+use Rattle.ranges.specs.obligations.Inequalities.{operand_for, argument_operand, argument_moves}
 use Rattle.ranges.specs.Truth.{operand_value}
 use Rattle.conditions.specs.rules.Edges.{operand_form, entry_form, phi_forms, argument_forms}
 use Rattle.phase_laws.specs.facts.Owing.{AreApart}

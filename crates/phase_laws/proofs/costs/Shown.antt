@@ -25,7 +25,7 @@ use Rattle.cfg.specs.Edges.{moves_from}
 use Rattle.ranges.specs.declared.edge.EdgeSums.{EdgeSums}
 use Rattle.ranges.specs.declared.table.EdgeFacts.{EdgeFacts}
 use Rattle.ranges.specs.Sums.{facts_of, shows}
-use Rattle.ranges.specs.Inequalities.{argument_moves}
+use Rattle.ranges.specs.obligations.Inequalities.{argument_moves}
 use Rattle.ranges.specs.Edges.{edges_out, edge_facts, all_edge_facts}
 use Rattle.program.specs.Blocks.{block_phis, left_calls, left_instructions}
 use Rattle.ranges.specs.Places.{stated, start_facts, facts_at_step, facts_at_end, edges_known}

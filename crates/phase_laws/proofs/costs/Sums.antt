@@ -14,9 +14,9 @@ use Rattle.linear.proofs.Respects.{shown_same}
 use Rattle.linear.proofs.Tested.{shown_from_test}
 use Rattle.linear.proofs.Values.{value_constant, value_plus, value_minus, value_put}
 use Rattle.cfg.specs.declared.structure.Move.{Move}
-use Rattle.ranges.specs.declared.sum.Sum.{Sum}
+use Rattle.ranges.specs.obligations.declared.sum.Sum.{Sum}
 use Rattle.ranges.specs.Sums.{sum_form, shows_form, shows}
-use Rattle.ranges.specs.Inequalities.{parts_of}
+use Rattle.ranges.specs.obligations.Inequalities.{parts_of}
 use Rattle.ranges.specs.Truth.{parts_value, sum_value}
 use Rattle.ranges.proofs.Truth.{form_value}
 use Rattle.conditions.specs.rules.ShownCosts.{IsAtLeast}

@@ -31,11 +31,13 @@ use Rattle.program.specs.declared.instruction.Step.{Step}
 use Rattle.cfg.specs.declared.structure.Move.{Move}
 use Rattle.definedness.specs.declared.act.Act.TheVariants.{Needs}
 use Rattle.definedness.specs.RegisterActs.{register_needs, operand_needs, form_needs, inequality_needs, argument_needs, instruction_needs}
-use Rattle.ranges.specs.declared.sum.Part.{Part}
-use Rattle.ranges.specs.declared.sum.Sum.{Sum}
-use Rattle.ranges.specs.Sums.{one, with_operand, with_parts, start_of, sum_form, fact_of, facts_of, shows}
-use Rattle.ranges.specs.Inequalities.{operand_for, parts_of, differences_of, argument_operand, argument_moves, result_moves, register_operand, call_moves}
-use Rattle.ranges.specs.Learned.{scale_number, scale_left, scale_right, scale_of, is_multiple, is_product, is_between, is_quotient, is_divisor, binary_sums, is_32_bits, conversion_sums, call_sums, learned}
+use Rattle.ranges.specs.obligations.declared.sum.Part.{Part}
+use Rattle.ranges.specs.obligations.declared.sum.Sum.{Sum}
+use Rattle.ranges.specs.obligations.Sums.{one}
+use Rattle.ranges.specs.Sums.{with_operand, with_parts, start_of, sum_form, fact_of, facts_of, shows}
+use Rattle.ranges.specs.obligations.Inequalities.{operand_for, parts_of, differences_of, argument_operand, argument_moves, result_moves, register_operand, call_moves}
+use Rattle.ranges.specs.obligations.Scales.{scale_number, scale_left, scale_right, scale_of}
+use Rattle.ranges.specs.Learned.{is_multiple, is_product, is_between, is_quotient, is_divisor, binary_sums, is_32_bits, conversion_sums, call_sums, learned}
 use Rattle.ranges.specs.Places.{stated, start_facts, with_shows, after_step, facts_before, step_shows, facts_at_step}
 use Rattle.conditions.specs.rules.Moves.{dest_of}
 use Rattle.conditions.specs.rules.Costs.{Lacks}

@@ -21,9 +21,9 @@ use Rattle.program.specs.declared.instruction.Operand.TheVariants.{Number, Regis
 use Rattle.cfg.specs.declared.structure.Move.{Move}
 use Rattle.ranges.specs.Sums.{is_met}
 use Rattle.ranges.specs.Truth.{operand_value, IsTrueAt}
-use Rattle.ranges.specs.Inequalities.{operand_for, difference_of, argument_operand, argument_moves, result_moves, register_operand, call_moves}
+use Rattle.ranges.specs.obligations.Inequalities.{operand_for, difference_of, argument_operand, argument_moves, result_moves, register_operand, call_moves}
 use Rattle.ranges.specs.Learned.{call_sums}
-use Rattle.ranges.specs.Owed.{owed, call_owed, inequalities_owed}
+use Rattle.ranges.specs.obligations.Owed.{owed, call_owed, inequalities_owed}
 use Rattle.conditions.specs.rules.Costs.{numbers, parameters_of}
 use Rattle.running.specs.Cells.{or_zero}
 use Rattle.program.specs.Calls.{parameters_in}

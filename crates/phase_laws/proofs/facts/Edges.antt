@@ -40,9 +40,10 @@ use Rattle.cfg.specs.declared.structure.Way.TheVariants.{Branch, Detached, Conti
 use Rattle.cfg.specs.Edges.{value_from, moves_from}
 use Rattle.ranges.specs.declared.edge.Comparison.{Comparison}
 use Rattle.ranges.specs.declared.edge.EdgeSums.{EdgeSums}
-use Rattle.ranges.specs.Sums.{one, facts_of}
+use Rattle.ranges.specs.obligations.Sums.{one}
+use Rattle.ranges.specs.Sums.{facts_of}
 use Rattle.ranges.specs.Truth.{operand_value, IsTrueAt}
-use Rattle.ranges.specs.Inequalities.{operand_for, difference_of}
+use Rattle.ranges.specs.obligations.Inequalities.{operand_for, difference_of}
 use Rattle.ranges.specs.Edges.{compare_of, compared, at_least, above, compare_sums, branch_sums, case_sums, edge_to, edges_out, keeps_of}
 use Rattle.program.specs.Blocks.{block_phis}
 use Rattle.program.specs.Steps.{or_else}

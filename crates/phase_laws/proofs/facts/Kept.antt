@@ -27,9 +27,9 @@ use Rattle.program.specs.declared.instruction.Phi.{Phi}
 use Rattle.program.specs.declared.instruction.Terminator.{Terminator}
 use Rattle.program.specs.declared.instruction.Terminator.TheVariants as terminator
 use Rattle.ranges.specs.Truth.{operand_value}
-use Rattle.ranges.specs.Inequalities.{operand_for, result_moves}
+use Rattle.ranges.specs.obligations.Inequalities.{operand_for, result_moves}
 use Rattle.ranges.specs.Edges.{edges_out}
-use Rattle.ranges.specs.Owed.{owed_at_end, inequalities_owed}
+use Rattle.ranges.specs.obligations.Owed.{owed_at_end, inequalities_owed}
 use Rattle.ranges.specs.Sums.{is_met}
 use Rattle.conditions.specs.rules.Costs.{numbers, parameters_of}
 use Rattle.program.specs.Calls.{parameters_in}

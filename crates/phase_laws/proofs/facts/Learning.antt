@@ -22,11 +22,13 @@ use Rattle.linear.specs.Shown.{AllHold}
 use Rattle.linear.proofs.Values.{associates}
 use Rattle.program.specs.declared.instruction.Operand.{Operand}
 use Rattle.program.specs.declared.instruction.Operand.TheVariants.{Number, Register}
-use Rattle.ranges.specs.declared.sum.Part.{Part}
-use Rattle.ranges.specs.declared.sum.Sum.{Sum}
-use Rattle.ranges.specs.Sums.{one, two, three, shows}
+use Rattle.ranges.specs.obligations.declared.sum.Part.{Part}
+use Rattle.ranges.specs.obligations.declared.sum.Sum.{Sum}
+use Rattle.ranges.specs.obligations.Sums.{one, two, three}
+use Rattle.ranges.specs.Sums.{shows}
 use Rattle.ranges.specs.Truth.{operand_value, IsTrueAt}
-use Rattle.ranges.specs.Learned.{is_scale, scale_number, scale_left, scale_right, scale_of, is_multiple, is_product, is_between, is_quotient, is_divisor, quotient_by, remainder_by, masked_by, binary_sums, is_32_bits, conversion_sums}
+use Rattle.ranges.specs.obligations.Scales.{is_scale, scale_number, scale_left, scale_right, scale_of}
+use Rattle.ranges.specs.Learned.{is_multiple, is_product, is_between, is_quotient, is_divisor, quotient_by, remainder_by, masked_by, binary_sums, is_32_bits, conversion_sums}
 use Rattle.ranges.proofs.Truth.{shown_true}
 use Rattle.phase_laws.specs.facts.Owing.{FitsText}
 use Rattle.linear.proofs.Tested.{T_from_true}

@@ -20,12 +20,12 @@ use Rattle.program.specs.declared.instruction.Terminator.{Terminator}
 use Rattle.cfg.specs.declared.structure.Move.{Move}
 use Rattle.refusal.specs.declared.broken.Broken.{Broken}
 use Rattle.ranges.specs.declared.edge.EdgeSums.{EdgeSums}
-use Rattle.ranges.specs.declared.sum.Obligation.{Obligation}
+use Rattle.ranges.specs.obligations.declared.sum.Obligation.{Obligation}
 use Rattle.ranges.specs.declared.table.EdgeFacts.{EdgeFacts}
 use Rattle.ranges.specs.Sums.{shows, is_met, facts_of}
 use Rattle.ranges.specs.Truth.{IsTrueAt}
-use Rattle.ranges.specs.Inequalities.{difference_of}
-use Rattle.ranges.specs.Owed.{must, owed, owed_at_end, inequalities_owed}
+use Rattle.ranges.specs.obligations.Inequalities.{difference_of}
+use Rattle.ranges.specs.obligations.Owed.{must, owed, owed_at_end, inequalities_owed}
 use Rattle.ranges.specs.Edges.{edges_out, edge_facts, edge_owed}
 use Rattle.ranges.specs.Places.{start_facts, with_shows, after_step, facts_before, facts_at_end, ending_shows}
 use Rattle.ranges.specs.Rules.{AreUnmet, AreUnshown, IsEndBroken, IsBlockBroken}

@@ -13,8 +13,8 @@ use Rattle.program.specs.declared.annotation.Inequality.{Inequality}
 use Rattle.program.specs.declared.instruction.Operand.{Operand}
 use Rattle.program.specs.declared.instruction.Operand.TheVariants.{Number, Register}
 use Rattle.cfg.specs.declared.structure.Move.{Move}
-use Rattle.ranges.specs.declared.sum.Part.{Part}
-use Rattle.ranges.specs.Inequalities.{operand_for, parts_of, difference_of, differences_of}
+use Rattle.ranges.specs.obligations.declared.sum.Part.{Part}
+use Rattle.ranges.specs.obligations.Inequalities.{operand_for, parts_of, difference_of, differences_of}
 use Rattle.ranges.specs.Truth.{operand_value, parts_value, sum_value, IsTrueAt}
 use Rattle.ranges.specs.Places.{stated}
 use Rattle.ranges.proofs.Truth.{facts_true}

@@ -34,13 +34,14 @@ use Rattle.program.specs.declared.instruction.Instruction.TheVariants as instruc
 use Rattle.program.specs.declared.instruction.Operand.{Operand}
 use Rattle.program.specs.declared.instruction.Terminator.{Terminator}
 use Rattle.program.specs.declared.instruction.Terminator.TheVariants as terminator
-use Rattle.ranges.specs.declared.sum.Part.{Part}
-use Rattle.ranges.specs.declared.sum.Sum.{Sum}
-use Rattle.ranges.specs.declared.sum.Obligation.{Obligation}
-use Rattle.ranges.specs.Sums.{one, two, is_met}
+use Rattle.ranges.specs.obligations.declared.sum.Part.{Part}
+use Rattle.ranges.specs.obligations.declared.sum.Sum.{Sum}
+use Rattle.ranges.specs.obligations.declared.sum.Obligation.{Obligation}
+use Rattle.ranges.specs.obligations.Sums.{one, two}
+use Rattle.ranges.specs.Sums.{is_met}
 use Rattle.ranges.specs.Truth.{operand_value, IsTrueAt}
-use Rattle.ranges.specs.Learned.{scale_of}
-use Rattle.ranges.specs.Owed.{must, half, last_bit, is_not_zero, is_not_least_by_minus_one, product_owed, binary_owed, index_owed, owed, greatest as greatest_owed, is_amount as amount_owed}
+use Rattle.ranges.specs.obligations.Scales.{scale_of}
+use Rattle.ranges.specs.obligations.Owed.{must, half, last_bit, is_not_zero, is_not_least_by_minus_one, product_owed, binary_owed, index_owed, owed, greatest as greatest_owed, is_amount as amount_owed}
 use Rattle.program.specs.Cells.{object_cells as cells_owed, global_cells, alloca_cells, parameter_cells}
 use Rattle.ranges.proofs.Truth.{met_true}
 use Rattle.conditions.specs.rules.Costs.{numbers}

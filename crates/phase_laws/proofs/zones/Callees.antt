@@ -30,7 +30,7 @@ use Rattle.program.specs.declared.instruction.Step.{Step}
 use Rattle.types.specs.Apart.{IsInstructionAt, in_instruction, in_zone, itself, through}
 use Rattle.cfg.specs.declared.structure.Move.{Move}
 use Rattle.region_match.specs.declared.tables.Regions.{Regions}
-use Rattle.ranges.specs.Inequalities.{operand_for, argument_operand, argument_moves}
+use Rattle.ranges.specs.obligations.Inequalities.{operand_for, argument_operand, argument_moves}
 use Rattle.ranges.specs.Places.{facts_at_step}
 use Rattle.ranges.specs.Truth.{operand_value}
 use Rattle.footprints.specs.Zones.{span}

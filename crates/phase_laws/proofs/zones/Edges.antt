@@ -21,7 +21,7 @@ use Rattle.program.specs.declared.instruction.Terminator.TheVariants as terminat
 use Rattle.cfg.specs.declared.structure.Move.{Move}
 use Rattle.cfg.specs.declared.structure.Way.{Way}
 use Rattle.ranges.specs.declared.table.EdgeFacts.{EdgeFacts}
-use Rattle.ranges.specs.Inequalities.{operand_for}
+use Rattle.ranges.specs.obligations.Inequalities.{operand_for}
 use Rattle.ranges.specs.Truth.{operand_value}
 use Rattle.footprints.specs.Zones.{span, as_written, is_empty, covers}
 use Rattle.footprints.specs.Cells.{terms_value, end_value}

@@ -18,7 +18,7 @@ use Rattle.cfg.specs.declared.structure.Move.{Move}
 use Rattle.cfg.specs.declared.structure.Way.TheVariants.{Continued}
 use Rattle.region_match.specs.declared.tables.Regions.{Regions}
 use Rattle.ranges.specs.declared.table.EdgeFacts.{EdgeFacts}
-use Rattle.ranges.specs.Inequalities.{operand_for}
+use Rattle.ranges.specs.obligations.Inequalities.{operand_for}
 use Rattle.ranges.specs.Places.{edges_known}
 use Rattle.ranges.specs.Truth.{operand_value}
 use Rattle.footprints.specs.Zones.{mode_covers}

@@ -28,7 +28,7 @@ use Rattle.phase_laws.specs.cfg.Edges.{moves_from}
 use Rattle.phase_laws.specs.ranges.declared.edge.EdgeSums.{EdgeSums}
 use Rattle.phase_laws.specs.ranges.declared.table.EdgeFacts.{EdgeFacts}
 use Rattle.phase_laws.specs.ranges.Edges.{compared, branch_sums, edges_out, edge_to, edge_facts, case_sums}
-use Rattle.phase_laws.specs.ranges.Inequalities.{operand_for}
+use Rattle.phase_laws.specs.obligations.Inequalities.{operand_for}
 use Rattle.phase_laws.specs.ranges.Places.{facts_at_end, edges_known}
 use Rattle.phase_laws.specs.ranges.Sums.{facts_of}
 use Rattle.phase_laws.specs.ranges.Truth.{operand_value}

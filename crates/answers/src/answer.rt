@@ -1,0 +1,71 @@
+//! From a request and the bytes of its files to text and a status.
+
+use crate::draw::run_drawn;
+use crate::job::Job;
+use crate::runs::{debug, run_serial};
+use crate::tell::tell_replay;
+use command_line::{Request, Verb};
+use debugger::verify;
+use module_answers::{
+    Beside, Status, answer_text, print_known, print_refused, print_rule, print_unreadable,
+    print_verified,
+};
+use std::alloc::Global;
+use std::hash::RandomState;
+use std::io;
+use std::io::{Read, Write};
+
+/// Answers a request by the status, over the bytes of the files: `None` where one could not be read. What is told beside the output is
+/// added to `beside`. A run on workers is the caller's, who may start threads: here a run without a seed is drawn by the seed 0.
+pub fn answer<R: Read, W: Write>(
+    alloc: Global,
+    state: RandomState,
+    request: &Request,
+    module: Option<&[u8]>,
+    schedule: Option<&[u8]>,
+    input: &mut R,
+    output: &mut W,
+    beside: &mut Beside,
+) -> io::Result<Status> {
+    if let Some(number) = request.rule {
+        return print_rule(alloc, number, output);
+    }
+    let Some(text) = module else {
+        return print_unreadable(alloc, request.file.as_str(), output);
+    };
+    if let Some(status) = answer_text(alloc, state, request.verb, text, output)? {
+        return Ok(status);
+    }
+    match verify(alloc, state, text) {
+        Ok(verified) => {
+            let job = Job {
+                alloc,
+                request,
+                text,
+                verified: &verified,
+                schedule,
+            };
+            answer_verified(&job, state, input, output, beside)
+        }
+        Err(refused) => print_refused(&refused, output),
+    }
+}
+
+fn answer_verified<R: Read, W: Write>(
+    job: &Job<'_>,
+    state: RandomState,
+    input: &mut R,
+    output: &mut W,
+    beside: &mut Beside,
+) -> io::Result<Status> {
+    match job.request.verb {
+        Verb::Show => print_known(job.alloc, state, job.text, job.verified, output),
+        Verb::Replay => tell_replay(job, output, beside),
+        Verb::Run => run_drawn(job, output, beside),
+        Verb::Debug => debug(job, input, output, beside),
+        Verb::Serial => run_serial(job, output, beside),
+        Verb::Verify | Verb::Print | Verb::Annotate | Verb::Explain => {
+            print_verified(job.verified, job.request, output)
+        }
+    }
+}

@@ -1,0 +1,25 @@
+//! What the program answers to a request over the bytes of files: all of it but a run on threads.
+//!
+//! [`answer`] prints the answer and gives the status. What a crate with threads answers by itself is made of the parts that stand
+//! beside it: a [`Job`], the memory that it begins with, and how a run is printed. What runs are made of is passed on for the crates
+//! above.
+#![tactic(auto)]
+
+mod answer;
+mod dialogue;
+mod draw;
+mod job;
+mod runs;
+mod tell;
+
+pub use answer::answer;
+pub use command_line::{
+    CellWord, Request, Setting, Telling, Verb, WordsFault, bytes_of, text_of, words,
+};
+pub use debugger::{
+    Debugger, Event, Finished, Machine, Memory, RunFault, Status as Standing, TaskView, Verified,
+    read_schedule, replay, verify,
+};
+pub use job::Job;
+pub use module_answers::{Beside, Status, fail, print_refused, read_file, read_text, write_file};
+pub use runs::{prepared, print_run, print_unprepared};

@@ -1,0 +1,4 @@
+pub mod InstructionText
+pub mod LineText
+pub mod Spelling
+pub mod TerminatorText

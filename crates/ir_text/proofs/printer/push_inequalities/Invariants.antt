@@ -1,7 +1,0 @@
-use Rattle.std.proofs.Common.{◌≡◌, ◌++◌, take}
-use Rattle.std.specs.Prelude.{string_bytes, flat_map}
-use Rattle.ir_text.specs.Printed.{inequality_line}
-use Rattle.ir_text.proofs.printer.push_inequalities.Given as goal
-
-abbrev pub invariant-loop-inequality : goal.invariant-loop-inequality
-invariant-loop-inequality l = string_bytes l.out ≡ string_bytes l.initial.out ++ flat_map (inequality_line l.word) (take l.inequality-index l.inequalities)

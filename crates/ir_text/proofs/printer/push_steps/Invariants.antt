@@ -1,7 +1,0 @@
-use Rattle.std.proofs.Common.{◌≡◌, ◌++◌, take}
-use Rattle.std.specs.Prelude.{string_bytes, flat_map}
-use Rattle.ir_text.specs.Printed.{step_lines}
-use Rattle.ir_text.proofs.printer.push_steps.Given as goal
-
-abbrev pub invariant-loop-step : goal.invariant-loop-step
-invariant-loop-step l = string_bytes l.out ≡ string_bytes l.initial.out ++ flat_map step_lines (take l.step-index l.steps)

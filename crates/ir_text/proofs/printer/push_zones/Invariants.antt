@@ -1,7 +1,0 @@
-use Rattle.std.proofs.Common.{◌≡◌, ◌++◌, take}
-use Rattle.std.specs.Prelude.{string_bytes, flat_map}
-use Rattle.ir_text.specs.Printed.{zone_line}
-use Rattle.ir_text.proofs.printer.push_zones.Given as goal
-
-abbrev pub invariant-loop-zone : goal.invariant-loop-zone
-invariant-loop-zone l = string_bytes l.out ≡ string_bytes l.initial.out ++ flat_map zone_line (take l.zone-index l.zones)

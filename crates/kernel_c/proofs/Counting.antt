@@ -1,0 +1,63 @@
+-- A row with as many numbers as a program's globals have cells.
+use Rattle.std.proofs.Common.{◌≡◌, ◌∙◌, ℕ, zero, suc, ◌-◌, ◌^◌, ◌<◌, ◌≤◌, List, [], ◌∷◌, length, take, drop, Some, refl, ap, sym, arith, slice_get, ℤ}
+use Rattle.std.specs.Prelude.{IsSome, map, min, sum, sum_by}
+use Rattle.std.proofs.lemmas.List.{length-drop, length-take-le}
+use Rattle.std.proofs.lemmas.List.Sums.{sum-map, sum_by-cons}
+use Rattle.program.specs.declared.function.Global.{Global}
+use Rattle.program.specs.declared.function.Program.{Program}
+use Rattle.outcome.specs.store.Cells.{NamedCells, cell_at}
+use Rattle.outcome.specs.store.Made.{HasGlobalCells, IsMadeFor}
+use Rattle.outcome.specs.store.Rows.{refilled, sizes_of}
+use Rattle.kernel_c.specs.Told.{cells_in, sizes_in}
+
+-- ---- as many
+
+below_cap : (s n m : ℕ) → min s m ≡ n → n < m → n ≡ s
+below_cap s n m is low = grind arith
+
+-- a row is shorter than 2^63, so where the counts agree the sum was not cut
+pub as_many : (program : Program) (row : List ℤ) → cells_in program ≡ length row → length row < 9223372036854775808 →
+    length row ≡ sum (sizes_in program)
+as_many program row same small = below_cap (sum (sizes_in program)) (length row) (2 ^ 64 - 1) same (omega (arith, small))
+
+-- ---- numbers for all cells
+
+sizes_kept : (m : List NamedCells) (row : List ℤ) → sum_by (λ (g : NamedCells). length g.cells) m ≤ length row →
+    sizes_of (refilled m row) ≡ sizes_of m
+sizes_kept [] row room = refl
+sizes_kept (x ∷ m) row room =
+    let n = length x.cells in
+    let all = sum_by-cons (λ (g : NamedCells). length g.cells) x m in
+    let first : length (take n row) ≡ n = length-take-le n row (omega (arith, room, all)) in
+    let cut = length-drop n row in
+    let rest : sizes_of (refilled m (drop n row)) ≡ sizes_of m = sizes_kept m (drop n row) (omega (arith, room, all, cut)) in
+    λ i. first i ∷ rest i
+
+there : (xs : List ℤ) (i : ℕ) → i < length xs → IsSome (slice_get xs i)
+there [] i low = absurd (omega (arith, low))
+there (x ∷ xs) zero low = refl
+there (x ∷ xs) (suc i) low = there xs i (omega (arith, low))
+
+cells_there : (m : List NamedCells) (globals : List Global) → sizes_of m ≡ map (λ (g : Global). g.cells) globals →
+    (g i : ℕ) (global : Global) → slice_get globals g ≡ Some global → i < global.cells → IsSome (cell_at m g i)
+cells_there m [] made g i global is low = absurd (cc)
+cells_there [] (d ∷ globals) made g i global is low = absurd (cc)
+cells_there (x ∷ m) (d ∷ globals) made zero i global is low =
+    let both : length x.cells ∷ sizes_of m ≡ d.cells ∷ map (λ (g : Global). g.cells) globals = made in
+    let same : length x.cells ≡ d.cells = cc in
+    let one : d.cells ≡ global.cells = (let e : Some d ≡ Some global = is in let f : d ≡ global = cc in ap (λ (g : Global). g.cells) f) in
+    there x.cells i (omega (arith, same, one, low))
+cells_there (x ∷ m) (d ∷ globals) made (suc g) i global is low =
+    let both : length x.cells ∷ sizes_of m ≡ d.cells ∷ map (λ (g : Global). g.cells) globals = made in
+    let rest : sizes_of m ≡ map (λ (g : Global). g.cells) globals = cc in
+    cells_there m globals rest g i global is low
+
+module _ (program : Program) (zeroed : List NamedCells) (made : IsMadeFor program zeroed) (row : List ℤ) (long : length row ≡ sum (sizes_in program)) where
+  total : sum (sizes_of zeroed) ≡ length row
+  total = ap (λ (l : List ℕ). sum l) made ∙ sym long
+
+  pub filled_cells : HasGlobalCells program (refilled zeroed row)
+  filled_cells g i global is low =
+      let all = sum-map (λ (g : NamedCells). length g.cells) zeroed in
+      let kept = sizes_kept zeroed row (omega (arith, total, all)) in
+      cells_there (refilled zeroed row) program.globals (kept ∙ made) g i global is low

@@ -1,0 +1,19 @@
+//! Answers that run nothing: whether a module is accepted, why not, and how people see it; and what all answers are made of, the statuses,
+//! the files that words name, and what is told beside the output.
+#![tactic(auto)]
+
+mod accepted;
+mod beside;
+mod files;
+mod reasons;
+mod refusals;
+mod shown;
+mod status;
+
+pub use accepted::print_verified;
+pub use beside::Beside;
+pub use files::{read_file, read_text, write_file};
+pub use reasons::print_rule;
+pub use refusals::{fail, print_refused, print_unreadable, stop_for_memory};
+pub use shown::{answer_text, print_known};
+pub use status::Status;

@@ -1,0 +1,52 @@
+//! What `explain` prints: a rule, or why a module is refused.
+
+use crate::refusals::stop_for_memory;
+use crate::status::Status;
+use explain::{Explanation, explain, rule_text, told};
+use lists::OutOfMemory;
+use std::alloc::Global;
+use std::hash::RandomState;
+use std::io;
+use std::io::Write;
+
+/// The text of an explanation, and the status: 1 where the module is refused.
+fn explained(
+    alloc: Global,
+    state: RandomState,
+    text: &[u8],
+) -> Result<(String, Status), OutOfMemory> {
+    let explanation = explain(alloc, state, text)?;
+    let status = match &explanation {
+        Explanation::Accepted { .. } => Status::Done,
+        Explanation::Refused { .. } => Status::Refused,
+    };
+    Ok((told(alloc, text, &explanation)?, status))
+}
+
+/// Prints why a module is refused, or what it could do without.
+pub fn print_explanation<W: Write>(
+    alloc: Global,
+    state: RandomState,
+    text: &[u8],
+    output: &mut W,
+) -> io::Result<Status> {
+    match explained(alloc, state, text) {
+        Ok((told, status)) => {
+            write!(output, "{told}")?;
+            Ok(status)
+        }
+        Err(OutOfMemory) => stop_for_memory(output),
+    }
+}
+
+/// Prints a rule.
+pub fn print_rule<W: Write>(alloc: Global, number: u16, output: &mut W) -> io::Result<Status> {
+    match rule_text(alloc, number) {
+        Ok(Some(text)) => {
+            write!(output, "{text}")?;
+            Ok(Status::Done)
+        }
+        Ok(None) => Ok(Status::Words),
+        Err(OutOfMemory) => stop_for_memory(output),
+    }
+}
