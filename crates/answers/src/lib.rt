@@ -5,14 +5,13 @@
 //! above.
 #![tactic(auto)]
 
-mod answer;
 mod dialogue;
 mod draw;
 mod job;
+mod requests;
 mod runs;
 mod tell;
 
-pub use answer::answer;
 pub use command_line::{
     CellWord, Request, Setting, Telling, Verb, WordsFault, bytes_of, text_of, words,
 };
@@ -22,4 +21,5 @@ pub use debugger::{
 };
 pub use job::Job;
 pub use module_answers::{Beside, Status, fail, print_refused, read_file, read_text, write_file};
+pub use requests::answer;
 pub use runs::{prepared, print_run, print_unprepared};
