@@ -1,6 +1,6 @@
 //! The program over its words, files and streams.
 
-use crate::act::act;
+use crate::requests::act;
 use answers::{Beside, Request, Status, WordsFault, read_file, text_of, words, write_file};
 use std::env::FillError;
 use std::hash::RandomState;

@@ -5,13 +5,13 @@
 //! itself, and all else by `answers`. What runs are made of is passed on for tests that look inside one.
 #![tactic(auto)]
 
-mod act;
 mod host;
+mod requests;
 
-pub use act::act;
 pub use answers::{
     Beside, CellWord, Debugger, Event, Finished, Machine, Memory, Request, RunFault, Setting,
     Standing, Status, TaskView, Telling, Verb, Verified, WordsFault, bytes_of, read_file,
     read_schedule, read_text, replay, text_of, verify, words,
 };
 pub use host::run;
+pub use requests::act;
