@@ -8,20 +8,20 @@ use crate::judge::function_fault;
 use crate::program_graph::Graph;
 use crate::structure::FunctionGraph;
 use lists::Seq;
+use program::Program;
 use refusal::{Broken, lower};
 use std::alloc::Global;
-use types::Typed;
 
 /// The graph of a program (LLVM Language Reference, "phi" and "Terminator Instructions"). Of several faults that of
 /// the lowest line is named, and there that of the lowest number.
-pub fn graph(alloc: Global, typed: Typed) -> Result<Graph, GraphFault>
-    ensures same { IfOk result (λ graph. graph.typed ≡ typed) }
-    ensures right { IfOk result (λ graph. IsGraphRight typed.program) }
-    ensures fault { IfErr result (NamesEarliest (IsGraphBroken typed.program)) }
+pub fn graph(alloc: Global, program: Program) -> Result<Graph, GraphFault>
+    ensures same { IfOk result (λ graph. graph.program ≡ program) }
+    ensures right { IfOk result (λ graph. IsGraphRight program) }
+    ensures fault { IfErr result (NamesEarliest (IsGraphBroken program)) }
 {
     let mut functions: Vec<FunctionGraph> = Vec::new(alloc);
     let mut named: Option<Broken> = None;
-    for function in typed.program.functions.as_slice() {
+    for function in program.functions.as_slice() {
         let made = function_graph(alloc, function)?;
         let broken = function_fault(alloc, function, made.blocks.as_slice())?;
         named = lower(named, broken);
@@ -30,7 +30,7 @@ pub fn graph(alloc: Global, typed: Typed) -> Result<Graph, GraphFault>
     match named {
         Some(broken) => Err(broken.into()),
         None => Ok(Graph {
-            typed,
+            program,
             functions: Seq::from_vec(functions),
         }),
     }

@@ -4,13 +4,13 @@ ghost use Rattle.cfg.specs.Rules.{IsGraphRight};
 
 use crate::structure::FunctionGraph;
 use lists::Seq;
-use types::Typed;
+use program::Program;
 
 /// A program with the edges of its functions, which breaks none of the rules 211 to 213.
 #[derive(Drop)]
 pub struct Graph {
-    pub typed: Typed,
+    pub program: Program,
     pub functions: Seq<FunctionGraph>,
-    pub ghost edges: { functions ≡ graphs_of typed.program },
-    pub ghost right: { ∥ IsGraphRight typed.program ∥₁ },
+    pub ghost edges: { functions ≡ graphs_of program },
+    pub ghost right: { ∥ IsGraphRight program ∥₁ },
 }

@@ -550,7 +550,7 @@ fn push_function(
 
 /// All faults of costs of a text whose numbers and zones are right.
 pub fn cost_findings(alloc: Global, matched: &Matched) -> Result<Vec<Finding>, OutOfMemory> {
-    let program = &matched.graph.typed.program;
+    let program = &matched.graph.program;
     let table = make_table(alloc, program, &matched.regions)?;
     let mut findings: Vec<Finding> = Vec::new(alloc);
     for index in 0..program.functions.len() {

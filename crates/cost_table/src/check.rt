@@ -163,12 +163,12 @@ pub fn check_cost(
     regions: &Regions,
     facts: &Facts,
 ) -> Result<Table, CostFault>
-    requires { AreFacts graph.now.typed.program facts.now }
-    ensures table { IfOk result (IsTable graph.now.typed.program regions.now) }
-    ensures right { OnOk result ((b : Broken) → IsCostBroken graph.now.typed.program b → ⊥) }
-    ensures fault { IfErr result (NamesEarliest (IsCostBroken graph.now.typed.program)) }
+    requires { AreFacts graph.now.program facts.now }
+    ensures table { IfOk result (IsTable graph.now.program regions.now) }
+    ensures right { OnOk result ((b : Broken) → IsCostBroken graph.now.program b → ⊥) }
+    ensures fault { IfErr result (NamesEarliest (IsCostBroken graph.now.program)) }
 {
-    let program = &graph.typed.program;
+    let program = &graph.program;
     match program_fault(alloc, program, facts)? {
         Some(broken) => Err(broken.into()),
         None => Ok(make_table(alloc, program, regions)?),

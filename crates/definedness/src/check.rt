@@ -131,10 +131,10 @@ fn function_fault(
 /// What is named of all functions.
 fn all_faults(alloc: Global, graph: &Graph, regions: &Regions) -> Result<Option<Broken>, AllocError>
     requires { AreAllTasks graph.now.functions regions.now.functions }
-    ensures { IfOk result (IsEarliest (IsDefinednessBroken graph.now.typed.program)) }
+    ensures { IfOk result (IsEarliest (IsDefinednessBroken graph.now.program)) }
 {
     let graphs = graph.functions.as_slice();
-    let functions = graph.typed.program.functions.as_slice();
+    let functions = graph.program.functions.as_slice();
     let tables = regions.functions.as_slice();
     let mut named: Option<Broken> = None;
     for (index, function) in functions.iter().enumerate() {
@@ -149,9 +149,9 @@ fn all_faults(alloc: Global, graph: &Graph, regions: &Regions) -> Result<Option<
 /// wherever they are read. Of several faults that of the lowest line is named, and there that of the lowest number.
 pub fn defined(alloc: Global, graph: &Graph, regions: &Regions) -> Result<(), DefinedFault>
     requires { AreAllTasks graph.now.functions regions.now.functions }
-    ensures always { IfOk result (λ _. All AreRegistersDefined graph.now.typed.program.functions) }
-    ensures right { IfOk result (λ _. (b : Broken) → IsDefinednessBroken graph.now.typed.program b → ⊥) }
-    ensures fault { IfErr result (NamesEarliest (IsDefinednessBroken graph.now.typed.program)) }
+    ensures always { IfOk result (λ _. All AreRegistersDefined graph.now.program.functions) }
+    ensures right { IfOk result (λ _. (b : Broken) → IsDefinednessBroken graph.now.program b → ⊥) }
+    ensures fault { IfErr result (NamesEarliest (IsDefinednessBroken graph.now.program)) }
 {
     match all_faults(alloc, graph, regions)? {
         Some(broken) => Err(broken.into()),

@@ -157,7 +157,7 @@ fn push_program_notes(
     line: u32,
     notes: &mut String,
 ) -> Result<(), OutOfMemory> {
-    let program = &matched.graph.typed.program;
+    let program = &matched.graph.program;
     for index in 0..program.functions.len() {
         if let Some(scene) = Scene::of(alloc, program, &matched.whole, index)? {
             push_scene_notes(alloc, source, &scene, line, notes)?;

@@ -262,11 +262,11 @@ pub fn check_zones(
     regions: &Regions,
     facts: &Facts,
 ) -> Result<(), ZoneFault>
-    requires { AreFacts graph.now.typed.program facts.now }
-    ensures right { OnOk result ((b : Broken) → IsZoneBroken graph.now.typed.program regions.now b → ⊥) }
-    ensures fault { IfErr result (NamesEarliest (IsZoneBroken graph.now.typed.program regions.now)) }
+    requires { AreFacts graph.now.program facts.now }
+    ensures right { OnOk result ((b : Broken) → IsZoneBroken graph.now.program regions.now b → ⊥) }
+    ensures fault { IfErr result (NamesEarliest (IsZoneBroken graph.now.program regions.now)) }
 {
-    match program_fault(alloc, &graph.typed.program, regions, facts)? {
+    match program_fault(alloc, &graph.program, regions, facts)? {
         Some(broken) => Err(broken.into()),
         None => Ok(()),
     }

@@ -167,7 +167,7 @@ fn notes_of(
     old: &[Unmet],
 ) -> Result<String, OutOfMemory> {
     let mut notes = String::new(alloc);
-    let program = &matched.graph.typed.program;
+    let program = &matched.graph.program;
     let found = Scene::of(alloc, program, &matched.whole, unmet.site.function)?;
     if let Some(scene) = found {
         let blocks = scene.function.blocks.as_slice();

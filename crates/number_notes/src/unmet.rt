@@ -239,7 +239,7 @@ fn push_function(
 
 /// All that a program owes of its numbers and does not show, in the order of its blocks.
 pub fn all_unmet(alloc: Global, matched: &Matched) -> Result<Vec<Unmet>, OutOfMemory> {
-    let program = &matched.graph.typed.program;
+    let program = &matched.graph.program;
     let mut unmet: Vec<Unmet> = Vec::new(alloc);
     for (index, function) in program.functions.as_slice().iter().enumerate() {
         push_function(alloc, program, index, function, &mut unmet)?;

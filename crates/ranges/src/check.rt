@@ -62,11 +62,11 @@ fn program_facts(alloc: Global, program: &Program) -> Result<(Facts, Option<Brok
 /// What is known at each place of a program whose regions are matched, where it shows all that the program owes. Of several faults that of
 /// the lowest line is named, and there that of the lowest number.
 pub fn check_ranges(alloc: Global, graph: &Graph, _regions: &Regions) -> Result<Facts, RangeFault>
-    ensures facts { IfOk result (λ facts. AreFacts graph.now.typed.program facts) }
-    ensures right { IfOk result (λ facts. (b : Broken) → IsRangeBroken graph.now.typed.program b → ⊥) }
-    ensures fault { IfErr result (NamesEarliest (IsRangeBroken graph.now.typed.program)) }
+    ensures facts { IfOk result (λ facts. AreFacts graph.now.program facts) }
+    ensures right { IfOk result (λ facts. (b : Broken) → IsRangeBroken graph.now.program b → ⊥) }
+    ensures fault { IfErr result (NamesEarliest (IsRangeBroken graph.now.program)) }
 {
-    let (facts, named) = program_facts(alloc, &graph.typed.program)?;
+    let (facts, named) = program_facts(alloc, &graph.program)?;
     match named {
         Some(broken) => Err(broken.into()),
         None => Ok(facts),

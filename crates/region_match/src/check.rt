@@ -64,10 +64,10 @@ fn all_tasks(
     alloc: Global,
     graph: &Graph,
 ) -> Result<(Vec<FunctionTasks>, Option<Broken>), AllocError>
-    ensures { IfOk result (λ r. IsJudged (AreAllTasks graph.now.functions r.0.items) (IsMixed graph.now.typed.program) r.1) }
+    ensures { IfOk result (λ r. IsJudged (AreAllTasks graph.now.functions r.0.items) (IsMixed graph.now.program) r.1) }
 {
     let graphs = graph.functions.as_slice();
-    let functions = graph.typed.program.functions.as_slice();
+    let functions = graph.program.functions.as_slice();
     let mut tables: Vec<FunctionTasks> = Vec::new(alloc);
     let mut named: Option<Broken> = None;
     for (index, function) in functions.iter().enumerate() {
@@ -85,10 +85,10 @@ fn all_faults(
     tables: &[FunctionTasks],
 ) -> Result<Option<Broken>, AllocError>
     requires { AreAllTasks graph.now.functions tables.now }
-    ensures { IfOk result (IsEarliest (IsRegionBroken graph.now.typed.program)) }
+    ensures { IfOk result (IsEarliest (IsRegionBroken graph.now.program)) }
 {
     let graphs = graph.functions.as_slice();
-    let functions = graph.typed.program.functions.as_slice();
+    let functions = graph.program.functions.as_slice();
     let mut named: Option<Broken> = None;
     for (index, function) in functions.iter().enumerate() {
         let blocks = graphs[index].blocks.as_slice();
@@ -102,8 +102,8 @@ fn all_faults(
 /// several faults that of the lowest line is named, and there that of the lowest number.
 pub fn regions(alloc: Global, graph: &Graph) -> Result<Regions, RegionFault>
     ensures tasks { IfOk result (λ regions. AreAllTasks graph.now.functions regions.functions) }
-    ensures right { IfOk result (λ _. AreRegionsRight graph.now.typed.program) }
-    ensures fault { IfErr result (NamesEarliest (IsTaskBroken graph.now.typed.program)) }
+    ensures right { IfOk result (λ _. AreRegionsRight graph.now.program) }
+    ensures fault { IfErr result (NamesEarliest (IsTaskBroken graph.now.program)) }
 {
     let (tables, mixed) = all_tasks(alloc, graph)?;
     if let Some(broken) = mixed {

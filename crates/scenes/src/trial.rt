@@ -26,7 +26,7 @@ fn judged(
     is_defined: bool,
 ) -> Result<Matched, Refused> {
     let typed = check_types(alloc, state, read(alloc, state, text)?)?;
-    let graph = graph(alloc, typed)?;
+    let graph = graph(alloc, typed.program)?;
     let regions = regions(alloc, &graph)?;
     if is_defined {
         defined(alloc, &graph, &regions)?;

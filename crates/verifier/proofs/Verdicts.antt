@@ -29,8 +29,8 @@ refused_by_types text whole (Fault number line) a h = inr (whole, a, inl h)
 refused_by_types text whole Memory a h = tt
 
 -- a phase after the types
-pub refused_after : (text : List ℕ) (whole : Module) (typed kept : Typed) (refused : Refused) → kept ≡ typed → Answers text (Ok whole) → Judges whole (Ok typed) →
-    IsFaulty kept.program refused → IsRefused text refused
+pub refused_after : (text : List ℕ) (whole : Module) (typed : Typed) (kept : Program) (refused : Refused) → kept ≡ typed.program → Answers text (Ok whole) → Judges whole (Ok typed) →
+    IsFaulty kept refused → IsRefused text refused
 refused_after text whole typed kept (Fault number line) same a j h = inr (whole, a, inr (typed, j, rw same at h))
 refused_after text whole typed kept Memory same a j h = tt
 
@@ -38,11 +38,11 @@ refused_after text whole typed kept Memory same a j h = tt
 pub by_tasks : (program : Program) (graphs : List FunctionGraph) (regions : Regions) → graphs ≡ graphs_of program → AreAllTasks graphs regions.functions → AreTasksOf program regions
 by_tasks program graphs regions e h = subst (λ (gs : List FunctionGraph). AreAllTasks gs regions.functions) e h
 
-pub program_of : (text : List ℕ) (whole : Module) (typed kept : Typed) → kept ≡ typed → Answers text (Ok whole) → Judges whole (Ok typed) → IsGraphRight typed.program → AreRegionsRight kept.program → IsDefined kept.program → AreRangesRight kept.program → AreZonesRight kept.program → AreCostsRight kept.program → IsProgramOf text kept.program
-program_of text whole typed kept same a j right regions defined ranges zones costs = (whole, a, typed, j, ap (λ (t : Typed). t.program) (sym same), record { graph = rw same right; regions = regions; definedness = defined; ranges = ranges; zones = zones; costs = costs })
+pub program_of : (text : List ℕ) (whole : Module) (typed : Typed) (kept : Program) → kept ≡ typed.program → Answers text (Ok whole) → Judges whole (Ok typed) → IsGraphRight typed.program → AreRegionsRight kept → IsDefined kept → AreRangesRight kept → AreZonesRight kept → AreCostsRight kept → IsProgramOf text kept
+program_of text whole typed kept same a j right regions defined ranges zones costs = (whole, a, typed, j, sym same, record { graph = rw same right; regions = regions; definedness = defined; ranges = ranges; zones = zones; costs = costs })
 
-pub limits_of : (text : List ℕ) (whole : Module) (typed kept : Typed) → kept ≡ typed → Answers text (Ok whole) → Judges whole (Ok typed) → IsWithinLimits kept.program
-limits_of text whole typed kept same a j = subst (λ (t : Typed). IsWithinLimits t.program) (sym same) (within_limits text whole a typed.program j)
+pub limits_of : (text : List ℕ) (whole : Module) (typed : Typed) (kept : Program) → kept ≡ typed.program → Answers text (Ok whole) → Judges whole (Ok typed) → IsWithinLimits kept
+limits_of text whole typed kept same a j = subst IsWithinLimits (sym same) (within_limits text whole a typed.program j)
 
 -- an error that a call hands on
 pub err_from : {T E : Type 0} (Q : E → Type 0) (r : Result T E) (e : E) → IsErrAnd r (λ y. y ≡ e) → Q e → IfErr r Q

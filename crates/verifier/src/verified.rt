@@ -43,9 +43,9 @@ impl Model for Verified {
 
     ghost Value = { Program };
 
-    ghost view = { λ v. v.graph.typed.program };
+    ghost view = { λ v. v.graph.program };
 
-    ghost invariant = { λ v. IsVerified v.graph.typed.program v.table v.budget v.depth };
+    ghost invariant = { λ v. IsVerified v.graph.program v.table v.budget v.depth };
 }
 
 impl Verified {
@@ -54,12 +54,12 @@ impl Verified {
         ensures value { result.now ≡ self.now }
         ensures accepted { IsAccepted self.now }
     {
-        &self.graph.typed.program
+        &self.graph.program
     }
 
     /// Its graph.
     pub fn graph(&self) -> &Graph
-        ensures { result.now.typed.program ≡ self.now }
+        ensures { result.now.program ≡ self.now }
     {
         &self.graph
     }
@@ -97,14 +97,14 @@ pub fn verify(alloc: Global, state: RandomState, text: &[u8]) -> Result<Verified
 {
     let module = read(alloc, state, text)?;
     let typed = check_types(alloc, state, module)?;
-    let graph = graph(alloc, typed)?;
+    let graph = graph(alloc, typed.program)?;
     let regions = regions(alloc, &graph)?;
     defined(alloc, &graph, &regions)?;
     let facts = check_ranges(alloc, &graph, &regions)?;
     check_zones(alloc, &graph, &regions, &facts)?;
     let table = check_cost(alloc, &graph, &regions, &facts)?;
-    let budget = budget_of(&graph.typed.program, &table);
-    let depth = depth_of(&graph.typed.program, &table);
+    let budget = budget_of(&graph.program, &table);
+    let depth = depth_of(&graph.program, &table);
     Ok(Verified {
         graph,
         table,

@@ -516,7 +516,7 @@ pub fn zone_findings(
     source: Source<'_>,
     matched: &Matched,
 ) -> Result<Vec<Finding>, OutOfMemory> {
-    let program = &matched.graph.typed.program;
+    let program = &matched.graph.program;
     let tables = matched.regions.functions.as_slice();
     let mut findings: Vec<Finding> = Vec::new(alloc);
     for (index, table) in tables.iter().enumerate() {

@@ -16,7 +16,7 @@ loop-function-preserved c =
 
 pub invariant_of-result : goal.invariant_of-result
 invariant_of-result c =
-    let program = c.args.typed.program in
+    let program = c.args.program in
     let past = rw c.as_slice-function-items.ensures at c.loop-function-test.false in
     let all : IsJudged (IsGraphRight program) (IsGraphBroken program) c.loop-function.named = judged_all program _ _ _ past c.loop-function.invariant in
     let here : IsJudged (IsGraphRight program) (IsGraphBroken program) None = rw c.in-None.is at all in
@@ -27,14 +27,14 @@ invariant_of-result c =
 
 pub returns-in-Some-clause-fault : goal.returns-in-Some-clause-fault
 returns-in-Some-clause-fault c =
-    let program = c.args.typed.program in
+    let program = c.args.program in
     let all : IsJudged (IsGraphRight program) (IsGraphBroken program) c.loop-function.named = judged_all program _ _ _ (rw c.as_slice-function-items.ensures at c.loop-function-test.false) c.loop-function.invariant in
     let here : IsJudged (IsGraphRight program) (IsGraphBroken program) (Some c.in-Some.broken) = rw c.in-Some.is at all in
     rw c.into.ensures here
 
 pub returns-in-None-clause-right : goal.returns-in-None-clause-right
 returns-in-None-clause-right c =
-    let program = c.args.typed.program in
+    let program = c.args.program in
     let all : IsJudged (IsGraphRight program) (IsGraphBroken program) c.loop-function.named = judged_all program _ _ _ (rw c.as_slice-function-items.ensures at c.loop-function-test.false) c.loop-function.invariant in
     let here : IsJudged (IsGraphRight program) (IsGraphBroken program) None = rw c.in-None.is at all in
     here.0

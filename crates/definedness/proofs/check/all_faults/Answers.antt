@@ -8,7 +8,7 @@ use Rattle.definedness.proofs.check.all_faults.Goals as goal
 
 pub bounds-tables-index : goal.bounds-tables-index
 bounds-tables-index c =
-    let program = c.args.graph.now.typed.program in
+    let program = c.args.graph.now.program in
     let size : length c.args.graph.now.functions ≡ length program.functions = graphs_length program.functions c.args.graph.now.functions c.args.graph.now.edges in
     let same : length c.as_slice-functions.result.now ≡ length program.functions = ap length c.as_slice-functions.ensures in
     let tables : length c.args.regions.now.functions ≡ length c.args.graph.now.functions = all_length c.args.graph.now.functions c.args.regions.now.functions c.requires in
@@ -17,7 +17,7 @@ bounds-tables-index c =
 
 pub function_fault-requires-clause-tasks : goal.function_fault-requires-clause-tasks
 function_fault-requires-clause-tasks c =
-    let program = c.args.graph.now.typed.program in
+    let program = c.args.graph.now.program in
     let size : length c.args.graph.now.functions ≡ length program.functions = graphs_length program.functions c.args.graph.now.functions c.args.graph.now.edges in
     let same : length c.as_slice-functions.result.now ≡ length program.functions = ap length c.as_slice-functions.ensures in
     let within : c.loop-index.index < length c.args.graph.now.functions = omega (arith, c.loop-index-test.true, size, same) in
