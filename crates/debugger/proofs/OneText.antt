@@ -1,6 +1,6 @@
 -- Each list of events has one text, and each text one list.
 use Rattle.std.proofs.Common.{◌≡◌, ℕ, zero, suc, ◌≤◌, true, eqb, List, [], ◌∷◌, ◌++◌, length, drop, get_or, codes, refl, sym, ap, ◌∙◌, subst, length-append, arith}
-use Rattle.schedule_core.specs.declared.event.Event.{Event}
+use Rattle.frame.specs.declared.event.Event.{Event}
 use Rattle.frame.specs.declared.path.Path.{Path}
 use Rattle.debugger.specs.declared.line.Line.{Line}
 use Rattle.debugger.specs.declared.line.Line.TheVariants.{Steps, Steals}
@@ -10,7 +10,7 @@ use Rattle.debugger.proofs.Numerals.{numeral_lacks, same_number}
 use Rattle.debugger.proofs.Children.{same_child, children_start}
 use Rattle.std.proofs.lemmas.Bool.{eq-eqb}
 use Rattle.std.proofs.lemmas.List.{length-drop, append_cancel_left}
-use Rattle.schedule_core.specs.declared.event.Event.TheVariants.{Step, Steal}
+use Rattle.frame.specs.declared.event.Event.TheVariants.{Step, Steal}
 use Rattle.debugger.specs.Printing.{first_count, first_text}
 use Rattle.debugger.proofs.Spelled.{spelled_lacks}
 use Rattle.debugger.proofs.Printed.{Printed, none_printed, more_printed, all_printed}

@@ -9,8 +9,8 @@ use Rattle.std.specs.Char.{is_ascii_digit}
 use Rattle.debugger.proofs.Cuts.{by_test}
 use Rattle.std.proofs.lemmas.List.{length-replicate, length-drop}
 use Rattle.std.proofs.Math.Seq.{drop-append_seam}
-use Rattle.schedule_core.specs.declared.event.Event.{Event}
-use Rattle.schedule_core.specs.declared.event.Event.TheVariants.{Step, Steal}
+use Rattle.frame.specs.declared.event.Event.{Event}
+use Rattle.frame.specs.declared.event.Event.TheVariants.{Step, Steal}
 use Rattle.ir_annotation.specs.Words.{is_numeral}
 use Rattle.ir_annotation.proofs.Digits.{numeral_digits, own}
 use Rattle.debugger.specs.declared.line.Line.{Line}

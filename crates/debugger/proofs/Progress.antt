@@ -3,8 +3,8 @@ use Rattle.std.proofs.Common.{◌≡◌, ℕ, suc, ◌+◌, ◌-◌, ◌≤◌, 
 use Rattle.std.specs.Prelude.{replicate}
 use Rattle.std.proofs.lemmas.Grind.{flat_map-append}
 use Rattle.std.proofs.lemmas.List.{length-replicate}
-use Rattle.schedule_core.specs.declared.event.Event.{Event}
-use Rattle.schedule_core.specs.declared.event.Event.TheVariants as event
+use Rattle.frame.specs.declared.event.Event.{Event}
+use Rattle.frame.specs.declared.event.Event.TheVariants as event
 use Rattle.debugger.specs.declared.line.Line.{Line}
 use Rattle.debugger.specs.declared.line.Line.TheVariants.{Steps, Steals}
 use Rattle.debugger.specs.Reading.{IsNext, cap, capped}

@@ -6,7 +6,7 @@ use Rattle.std.specs.Prelude.{IfNone, IfSome, IsTrue}
 use Rattle.running.specs.Events as running
 use Rattle.frame.specs.declared.path.Path.{Path}
 use Rattle.schedule_core.specs.store.Cells.{NamedCells}
-use Rattle.schedule_core.specs.declared.event.Event.{Event}
+use Rattle.frame.specs.declared.event.Event.{Event}
 use Rattle.schedule_core.specs.declared.stage.Stage.{Stage}
 use Rattle.schedule_core.specs.Lines.{StandsAt}
 use Rattle.schedule_core.specs.declared.task.TaskView.{TaskView}

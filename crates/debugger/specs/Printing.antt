@@ -1,8 +1,8 @@
 -- How events are spelled.
 use Rattle.std.specs.Prelude.{ℕ, Bool, false, ◌==◌, List, ◌∷◌, ◌++◌, flat_map, codes, decimal}
 use Rattle.std.specs.List.{prefix_len}
-use Rattle.schedule_core.specs.declared.event.Event.{Event}
-use Rattle.schedule_core.specs.declared.event.Event.TheVariants.{Step, Steal}
+use Rattle.frame.specs.declared.event.Event.{Event}
+use Rattle.frame.specs.declared.event.Event.TheVariants.{Step, Steal}
 
 abbrev pub child_text : ℕ → List ℕ
 child_text k = 46 ∷ decimal k

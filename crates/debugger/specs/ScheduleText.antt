@@ -3,8 +3,8 @@ use Rattle.std.specs.Prelude.{◌≡◌, ◌≢◌, ℕ, ◌<◌, ◌≤◌, Lis
 use Rattle.std.specs.Str.Parse.{digits_value}
 use Rattle.ir_annotation.specs.Words.{is_numeral}
 use Rattle.frame.specs.declared.path.Path.{Path}
-use Rattle.schedule_core.specs.declared.event.Event.{Event}
-use Rattle.schedule_core.specs.declared.event.Event.TheVariants as event
+use Rattle.frame.specs.declared.event.Event.{Event}
+use Rattle.frame.specs.declared.event.Event.TheVariants as event
 use Rattle.debugger.specs.declared.line.Line.{Line}
 use Rattle.debugger.specs.declared.line.Line.TheVariants.{Steps, Steals}
 

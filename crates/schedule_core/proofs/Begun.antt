@@ -12,7 +12,7 @@ use Rattle.crew_promise.specs.store.Rows.{row_of, sizes_of}
 use Rattle.crew.specs.Follows.{AreGiven}
 use Rattle.crew.specs.Stalls.{StallsAgree, no_blocks}
 use Rattle.crew.specs.Starts.{ArePlaces, Begins, HasMoves, IsRowOf}
-use Rattle.schedule_core.specs.declared.event.Event.{Event}
+use Rattle.frame.specs.declared.event.Event.{Event}
 use Rattle.schedule_core.specs.declared.stage.Stage.{Stage}
 use Rattle.schedule_core.specs.Replaying.{IsMachine, KeepsItsSchedule, Replays, first_state}
 use Rattle.crew_promise.specs.store.Made.{IsMadeFor}

@@ -23,8 +23,8 @@ use Rattle.crew.specs.Shown.{IsShown}
 use Rattle.crew.specs.Starts.{ArePlaces}
 use Rattle.crew.specs.Stalls.{Blocks, StallsAgree, if_enabled, last_blocks, no_blocks, noted}
 use Rattle.engine.specs.declared.activation.Places.{Places}
-use Rattle.schedule_core.specs.declared.event.Event.{Event}
-use Rattle.schedule_core.specs.declared.event.Event.TheVariants.{Step}
+use Rattle.frame.specs.declared.event.Event.{Event}
+use Rattle.frame.specs.declared.event.Event.TheVariants.{Step}
 use Rattle.schedule_core.specs.declared.stage.Stage.{Stage}
 use Rattle.schedule_core.specs.Replaying.{AreEnabled, IsMachine, LeavesAsBefore, Replays, ReplaysMore, event_of, first_state, state_after}
 use Rattle.schedule_core.specs.Stages.{GoesWell, IsReached, IsState, program_of, workers_of}

@@ -26,7 +26,7 @@ use Rattle.crew.specs.Starts.{ArePlaces, HasMoves}
 use Rattle.engine.specs.declared.activation.Places.{Places}
 use Rattle.schedule_core.specs.Replaying.{KeepsItsSchedule, event_of}
 use Rattle.schedule_core.specs.Stages.{AreFull, given}
-use Rattle.schedule_core.specs.declared.event.Event.{Event as MachineEvent}
+use Rattle.frame.specs.declared.event.Event.{Event as MachineEvent}
 
 -- of one program, from arguments that `main` takes and memory that was made for it
 pub record FromStart (program : Program) (arguments : List ℤ) (globals : List NamedCells) (workers : ℕ) : Type 0 where

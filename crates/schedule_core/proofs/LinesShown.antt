@@ -18,7 +18,7 @@ use Rattle.engine.specs.declared.activation.Frame.{Frame}
 use Rattle.crew.specs.Shown.{place_of}
 use Rattle.crew.specs.Stalls.{Blocks, StallsAgree, last_blocks, no_blocks}
 use Rattle.crew.proofs.Onward.{seen}
-use Rattle.schedule_core.specs.declared.event.Event.{Event}
+use Rattle.frame.specs.declared.event.Event.{Event}
 use Rattle.schedule_core.specs.declared.stage.Stage.{Stage}
 use Rattle.schedule_core.specs.declared.task.Status.{Status}
 use Rattle.schedule_core.specs.declared.task.Status.TheVariants.{Running, Ready, Stalled}

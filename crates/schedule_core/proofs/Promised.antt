@@ -24,8 +24,8 @@ use Rattle.crew.specs.Left.{LeavesAsShown}
 use Rattle.crew.specs.Stalls.{KeepsStalls}
 use Rattle.crew.specs.Starts.{ArePlaces, HasMoves}
 use Rattle.engine.specs.declared.activation.Places.{Places}
-use Rattle.schedule_core.specs.declared.event.Event.{Event}
-use Rattle.schedule_core.specs.declared.event.Event.TheVariants.{Step, Steal}
+use Rattle.frame.specs.declared.event.Event.{Event}
+use Rattle.frame.specs.declared.event.Event.TheVariants.{Step, Steal}
 use Rattle.schedule_core.specs.declared.stage.Stage.{Stage}
 use Rattle.schedule_core.specs.Replaying.{Becomes, GrowsOnly, Happens, IsMachine, LeavesAsBefore, Replays, ReplaysOneMore, event_of, state_after}
 use Rattle.schedule_core.specs.Stages.{IsState, program_of, workers_of}

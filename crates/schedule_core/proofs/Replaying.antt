@@ -11,7 +11,7 @@ use Rattle.crew.specs.Going as crew
 use Rattle.crew.specs.Left.{LeavesAsShown}
 use Rattle.crew.specs.Shown.{IsShown}
 use Rattle.crew.specs.Stalls.{Blocks, StallsAgree, if_enabled, last_blocks, no_blocks, noted}
-use Rattle.schedule_core.specs.declared.event.Event.{Event}
+use Rattle.frame.specs.declared.event.Event.{Event}
 use Rattle.schedule_core.specs.declared.stage.Stage.{Stage}
 use Rattle.schedule_core.specs.Replaying.{Becomes, Happens, LeavesAsBefore, Replays, ReplaysMore, ReplaysOneMore, ReplaysTheSame, event_of, first_state, state_after}
 use Rattle.schedule_core.specs.Stages.{GoesWell, IsReached, IsState, program_of, workers_of}

@@ -19,8 +19,8 @@ use Rattle.schedule_core.specs.Spots.{KeepsSpots}
 use Rattle.schedule_core.specs.Lines.{line_after, line_or_zero}
 use Rattle.crew_promise.specs.store.Made.{IsMadeFor}
 use Rattle.schedule_core.specs.Stages.{given, program_of, workers_of, IsState}
-use Rattle.schedule_core.specs.declared.event.Event.{Event}
-use Rattle.schedule_core.specs.declared.event.Event.TheVariants.{Step, Steal}
+use Rattle.frame.specs.declared.event.Event.{Event}
+use Rattle.frame.specs.declared.event.Event.TheVariants.{Step, Steal}
 use Rattle.schedule_core.specs.declared.stage.Stage.{Stage}
 use Rattle.schedule_core.specs.declared.task.TaskView.{TaskView}
 

@@ -10,7 +10,7 @@ use Rattle.absorbing.specs.strand.declared.outside.Strand.{Strand}
 use Rattle.absorbing.specs.strand.declared.standing.Pause.TheVariants.{Blank}
 use Rattle.absorbing.specs.strands.Law.{steps_by}
 use Rattle.crew.specs.Starts.{ArePlaces}
-use Rattle.schedule_core.specs.declared.event.Event.TheVariants.{Step}
+use Rattle.frame.specs.declared.event.Event.TheVariants.{Step}
 use Rattle.schedule_core.specs.declared.stage.Stage.{Stage}
 use Rattle.schedule_core.specs.Replaying.{AreEnabled, ReplaysMore}
 use Rattle.schedule_core.specs.Stages.{IsState, program_of, workers_of}

@@ -7,10 +7,10 @@ ghost use Rattle.schedule_core.specs.Replaying.{GrowsOnly, Happens, IsMachine, I
 ghost use Rattle.crew_promise.specs.store.Made.{IsMadeFor};
 ghost use Rattle.schedule_core.specs.Stages.{IsState, program_of};
 
-use crate::event::Event;
 use crate::stage::Stage;
 use crew::{Run, most_moves};
 use engine::Places;
+use frame::Event;
 use lists::OutOfMemory;
 use outcome::{Memory, RunFault, Verified, unmet_requirement};
 use std::alloc::Global;

@@ -4,7 +4,6 @@
 #![tactic(auto)]
 
 mod absorb;
-mod event;
 mod events;
 mod globals;
 mod laws;
@@ -19,7 +18,7 @@ mod view;
 pub use absorb::{blank_strand, places_of, steps_of};
 pub use absorbing::{Pause, Strand};
 pub use engine::Places;
-pub use event::Event;
+pub use frame::Event;
 pub use laws::ended_enables_nothing;
 pub use machine::Machine;
 pub use outcome::{Finished, Memory, RunFault, Verified, unmet_requirement};

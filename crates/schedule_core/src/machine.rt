@@ -8,9 +8,9 @@ ghost use Rattle.schedule_core.specs.Replaying.{GrowsOnly, Happens, IsMachine, I
 ghost use Rattle.crew_promise.specs.store.Made.{IsMadeFor};
 ghost use Rattle.schedule_core.specs.Stages.{IsState, program_of};
 
-use crate::event::Event;
 use crate::events::{apply_to, begin, copied};
 use crate::stage::Stage;
+use frame::Event;
 use lists::OutOfMemory;
 use outcome::{Memory, RunFault, Verified};
 use std::alloc::Global;

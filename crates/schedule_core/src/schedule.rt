@@ -4,9 +4,9 @@ ghost use Rattle.crew_promise.specs.store.declared.memory.Memory.{Memory};
 ghost use Rattle.schedule_core.specs.Replaying.{IsNumberOfWorkers, KeepsItsSchedule, Replays};
 ghost use Rattle.crew_promise.specs.store.Made.{IsMadeFor};
 
-use crate::event::Event;
 use crate::events::{apply_all, begin};
 use crate::machine::Machine;
+use frame::Event;
 use lists::OutOfMemory;
 use outcome::{Memory, RunFault, Verified};
 use std::alloc::Global;

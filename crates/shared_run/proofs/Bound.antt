@@ -17,7 +17,7 @@ use Rattle.program.specs.declared.function.Program.{Program}
 use Rattle.schedule_core.specs.verifier.Accepted.{IsAccepted}
 use Rattle.schedule_core.specs.verifier.Budgets.{budget_of}
 use Rattle.schedule_core.proofs.schedule_theorem.Bounds.{budget_bounded}
-use Rattle.schedule_core.specs.declared.event.Event.{Event}
+use Rattle.frame.specs.declared.event.Event.{Event}
 use Rattle.schedule_core.specs.declared.stage.Stage.{Stage}
 use Rattle.schedule_core.specs.Replaying.{AreEnabled, event_of, KeepsItsSchedule}
 use Rattle.shared_run.specs.Story.{Origin, IsLegal, first_of, reached}

@@ -18,8 +18,8 @@ use Rattle.schedule_core.specs.Parents.{HasNoReadyParent, IsReadyParent}
 use Rattle.schedule_core.specs.Replaying.{GrowsOnly, LeavesAsBefore}
 use Rattle.schedule_core.specs.Stages.{workers_of}
 use Rattle.schedule_core.specs.Viewed.{place_in, status_in, IsFirstReady}
-use Rattle.schedule_core.specs.declared.event.Event.{Event}
-use Rattle.schedule_core.specs.declared.event.Event.TheVariants.{Step, Steal}
+use Rattle.frame.specs.declared.event.Event.{Event}
+use Rattle.frame.specs.declared.event.Event.TheVariants.{Step, Steal}
 use Rattle.schedule_core.specs.declared.stage.Stage.{Stage}
 use Rattle.schedule_core.proofs.Unchanged.{as_it_was}
 use Rattle.shared_run.specs.declared.ticket.Ticket.{Ticket}

@@ -1,7 +1,7 @@
 -- An entry more.
 use Rattle.std.proofs.Common.{◌≡◌, ℕ, ◌+◌, ◌≤◌, List, [], ◌∷◌, ◌++◌, sym, ap, ◌∙◌, append_assoc, append-nil, length, length-append, replicate, arith}
 use Rattle.std.proofs.lemmas.List.{length-replicate, replicate-append-replicate}
-use Rattle.schedule_core.specs.declared.event.Event.TheVariants as event
+use Rattle.frame.specs.declared.event.Event.TheVariants as event
 use Rattle.shared_run.specs.declared.history.Entry.{Entry}
 use Rattle.shared_run.specs.declared.history.Entry.TheVariants.{Steps}
 use Rattle.shared_run.specs.Spelled.{spelled, events_of}

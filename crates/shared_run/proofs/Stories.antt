@@ -17,8 +17,8 @@ use Rattle.schedule_core.specs.outcome.declared.outcome.Finished.{Finished}
 use Rattle.schedule_core.proofs.crew_promise.Results.{IsOpen, always_open}
 use Rattle.schedule_core.proofs.Grounds.{laws}
 use Rattle.schedule_core.proofs.Reached.{reached_manned, replay_more}
-use Rattle.schedule_core.specs.declared.event.Event.{Event}
-use Rattle.schedule_core.specs.declared.event.Event.TheVariants.{Step, Steal}
+use Rattle.frame.specs.declared.event.Event.{Event}
+use Rattle.frame.specs.declared.event.Event.TheVariants.{Step, Steal}
 use Rattle.schedule_core.specs.declared.stage.Stage.{Stage}
 use Rattle.schedule_core.specs.Replaying.{AreEnabled, event_of, Happens, IsNumberOfWorkers, KeepsItsSchedule, Replays, ReplaysOneMore, ReplaysTheSame}
 use Rattle.schedule_core.specs.Stages.{given, HoldsGlobals, IsState, program_of, workers_of}

@@ -8,8 +8,8 @@ use Rattle.running.specs.Events as running
 use Rattle.running.specs.Events.{Machine, event, top_of}
 use Rattle.program.specs.declared.function.Program.{Program}
 use Rattle.frame.specs.declared.path.Path.{Path}
-use Rattle.schedule_core.specs.declared.event.Event.{Event}
-use Rattle.schedule_core.specs.declared.event.Event.TheVariants.{Step, Steal}
+use Rattle.frame.specs.declared.event.Event.{Event}
+use Rattle.frame.specs.declared.event.Event.TheVariants.{Step, Steal}
 use Rattle.schedule_core.specs.Strands.{Absorbs, FitsStage, IsLoaded, LacksRoom}
 use Rattle.schedule_core.specs.absorbing.Absorbing.{steps_in}
 use Rattle.schedule_core.specs.strand.declared.outside.Strand.{Strand}

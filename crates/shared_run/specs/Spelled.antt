@@ -1,7 +1,7 @@
 -- The events that the entries of a history spell.
 use Rattle.std.specs.Prelude.{ℕ, List, [], ◌∷◌, ◌++◌, replicate}
-use Rattle.schedule_core.specs.declared.event.Event.{Event}
-use Rattle.schedule_core.specs.declared.event.Event.TheVariants as event
+use Rattle.frame.specs.declared.event.Event.{Event}
+use Rattle.frame.specs.declared.event.Event.TheVariants as event
 use Rattle.shared_run.specs.declared.history.Entry.{Entry}
 use Rattle.shared_run.specs.declared.history.Entry.TheVariants.{Steps, Steal}
 

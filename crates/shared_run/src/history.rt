@@ -1,5 +1,5 @@
 ghost use Rattle.std.specs.Prelude.{◌≡◌, ℕ, ◌+◌, ◌^◌, ◌<◌, ◌≤◌, [], ◌∷◌, ◌++◌, length, replicate, vec_len, vec_capacity, OnOk};
-ghost use Rattle.schedule_core.specs.declared.event.Event.TheVariants.{Step, Steal};
+ghost use Rattle.frame.specs.declared.event.Event.TheVariants.{Step, Steal};
 ghost use Rattle.shared_run.specs.Spelled.{spelled};
 
 use frame::Path;

@@ -1,7 +1,7 @@
 //! The text of a schedule, event for event.
 
-use crate::moment::TaskName;
 use frame::Path;
+use moments::TaskName;
 use std::alloc::{AllocError, Global};
 
 /// A schedule's text, of which the steps of one worker in a row are written as one line.

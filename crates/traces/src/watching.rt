@@ -2,9 +2,9 @@
 
 ghost use Rattle.schedule_core.specs.store.Made.{IsMadeFor};
 
-use crate::moment::{Hindrance, Moment, Outcome, Place};
 use frame::Path;
 use lists::OutOfMemory;
+use moments::{Hindrance, Moment, Outcome, Place};
 use schedule_core::{Event, Machine, Memory, RunFault, Status, TaskView, Verified};
 use std::alloc::Global;
 

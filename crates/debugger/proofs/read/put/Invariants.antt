@@ -1,6 +1,6 @@
 use Rattle.std.proofs.Common.{◌≡◌, ◌++◌}
 use Rattle.std.specs.Prelude.{replicate}
-use Rattle.schedule_core.specs.declared.event.Event.TheVariants.{Step}
+use Rattle.frame.specs.declared.event.Event.TheVariants.{Step}
 use Rattle.debugger.proofs.read.put.Given as goal
 
 abbrev pub invariant-loop : goal.invariant-loop

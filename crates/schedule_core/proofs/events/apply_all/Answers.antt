@@ -1,6 +1,6 @@
 use Rattle.std.proofs.Common.{◌≡◌, ℕ, zero, suc, ◌+◌, ◌<◌, List, [], ◌∷◌, ◌++◌, take, length, get_or, add-one, arith, sym, ap, ◌∙◌, subst}
 use Rattle.std.proofs.lemmas.List.{take_all}
-use Rattle.schedule_core.specs.declared.event.Event.{Event}
+use Rattle.frame.specs.declared.event.Event.{Event}
 use Rattle.schedule_core.specs.Replaying.{ReplaysMore}
 use Rattle.schedule_core.proofs.Replaying.{none_more, one_more}
 use Rattle.schedule_core.proofs.events.apply_all.Goals as goal

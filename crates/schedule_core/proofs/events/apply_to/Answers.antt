@@ -6,8 +6,8 @@ use Rattle.program.specs.declared.function.Program.{Program}
 use Rattle.crew.specs.Events.{DoesEvent, Grows, LeavesStalls}
 use Rattle.crew.specs.Going.{StandsSafely, TextFits}
 use Rattle.crew.specs.Left.{LeavesAsShown}
-use Rattle.schedule_core.specs.declared.event.Event.{Event}
-use Rattle.schedule_core.specs.declared.event.Event.TheVariants.{Step, Steal}
+use Rattle.frame.specs.declared.event.Event.{Event}
+use Rattle.frame.specs.declared.event.Event.TheVariants.{Step, Steal}
 use Rattle.schedule_core.specs.Replaying.{GrowsOnly, Happens, ReplaysOneMore, event_of}
 use Rattle.schedule_core.specs.Stages.{IsState, program_of}
 use Rattle.schedule_core.proofs.Replaying.{with_run}

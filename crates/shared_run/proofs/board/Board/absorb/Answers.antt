@@ -4,7 +4,7 @@ use Rattle.std.specs.Prelude.{IsTrue, Ok}
 use Rattle.crew.proofs.Growing.{on_err}
 use Rattle.program.specs.declared.function.Program.{Program}
 use Rattle.schedule_core.specs.absorbing.Absorbing.{steps_in}
-use Rattle.schedule_core.specs.declared.event.Event.TheVariants.{Step}
+use Rattle.frame.specs.declared.event.Event.TheVariants.{Step}
 use Rattle.schedule_core.specs.Strands.{FitsStage, IsMadeOf}
 use Rattle.shared_run.specs.Story.{IsLegal, place, story}
 use Rattle.shared_run.proofs.Bound.{room}

@@ -1,4 +1,4 @@
-use frame::Path;
+use crate::path::Path;
 
 /// One event of a schedule.
 #[derive(Debug, Drop)]

@@ -1,9 +1,8 @@
 //! What a picture shows: who runs which task from when to when, and who took it from whom.
 
 use crate::moment::{Hindrance, Moment, Outcome, Place};
-use frame::Path;
+use frame::{Event, Path};
 use lists::OutOfMemory;
-use schedule_core::Event;
 use std::alloc::Global;
 
 /// A worker and its task from one event to before another.

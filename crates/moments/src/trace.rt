@@ -1,7 +1,7 @@
 //! A line for each event.
 
 use crate::moment::{Moment, Outcome, Place, TaskName};
-use schedule_core::Event;
+use frame::Event;
 use std::alloc::Global;
 use std::io;
 use std::io::Write;

@@ -3,8 +3,8 @@
 use crate::colour::colour_of;
 use crate::moment::{Moment, TaskName};
 use crate::scene::{Miss, Scene, Stay, Theft};
+use frame::Event;
 use lists::OutOfMemory;
-use schedule_core::Event;
 use std::alloc::{AllocError, Global};
 
 /// The room for the workers' names, in pixels.
