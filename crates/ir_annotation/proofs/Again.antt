@@ -8,7 +8,7 @@ use Rattle.std.specs.Str.Parse.{digits_value}
 use Rattle.std.specs.Fmt.{decimal, signed_decimal}
 use Rattle.std.proofs.lemmas.Bool.{ltb-true, lt-ltb, le-leb, cases_eq, and_from, or_right, or_left, and_parts}
 use Rattle.std.proofs.lemmas.Bool.Decides.{nat_tests}
-use Rattle.std.proofs.lemmas.Fmt.{decimal_digit, digits_decimal, digits_value-decimal, first_decimal, decimal_nonempty}
+use Rattle.std.proofs.lemmas.Fmt.{decimal_digit, digits_value-decimal, first_decimal, decimal_nonempty}
 use Rattle.std.proofs.lemmas.List.Elements.{All-head, All-tail}
 use Rattle.std.proofs.lemmas.List.Folds.{list_all-append}
 use Rattle.syntax.specs.declared.annotation.Term.{Term}
@@ -20,8 +20,8 @@ use Rattle.ir_lex.specs.Spelling.{begins_name, continues_name, is_name}
 use Rattle.ir_annotation.specs.Words.{is_numeral, small_value, number_of, name_of}
 use Rattle.ir_annotation.specs.Forms.{SignedText, Cut, as_signed, cut_of, signed_texts, signed, is_no_star}
 use Rattle.ir_annotation.specs.Spelling.{sign_text, factor_text, term_text, constant_text, terms_text}
-use Rattle.ir_annotation.proofs.Digits.{own}
 use Rattle.ir_annotation.proofs.Adding.{plain_here}
+use Rattle.ir_lex.proofs.Digits.{own, digits_listed, decimal_digits}
 use Rattle.ir_lex.proofs.Names.{by_test, differs}
 
 -- ---- bytes
@@ -53,14 +53,7 @@ pub digits_no_star : (ds : List ℕ) → all_ascii_digits ds ≡ true → list_a
 digits_no_star [] h = refl
 digits_no_star (b ∷ bs) h = let t = and_parts (is_ascii_digit b) (all_ascii_digits bs) h in and_from (is_no_star b) (list_all is_no_star bs) (no_star_byte b t.0) (digits_no_star bs t.1)
 
-pub digits_listed : (ds : List ℕ) → all_ascii_digits ds ≡ true → list_all is_ascii_digit ds ≡ true
-digits_listed [] h = refl
-digits_listed (b ∷ bs) h = let t = and_parts (is_ascii_digit b) (all_ascii_digits bs) h in and_from (is_ascii_digit b) (list_all is_ascii_digit bs) t.0 (digits_listed bs t.1)
-
 -- ---- numbers
-
-pub decimal_digits : (n : ℕ) → n < 2 ^ 63 → all_ascii_digits (decimal n) ≡ true
-decimal_digits n h = digits_decimal own n (omega arith)
 
 numeral_by : (ds : List ℕ) → all_ascii_digits ds ≡ true → 48 < get_or ds 0 0 → is_numeral ds ≡ true
 numeral_by [] h first = absurd (omega arith)

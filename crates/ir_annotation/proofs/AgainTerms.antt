@@ -24,7 +24,8 @@ use Rattle.ir_annotation.specs.Reading.{◌>>=◌}
 use Rattle.ir_annotation.specs.Words.{number_of, name_of}
 use Rattle.ir_annotation.specs.Forms.{SignedText, signed_texts, signed, term_behind, is_no_star, term_by_number, term_of, Total, is_before, has_name, is_at, with_more, added, plus, all_added, nothing, kept, is_narrow, form_from, form_of}
 use Rattle.ir_annotation.specs.Spelling.{terms_text, form_text}
-use Rattle.ir_annotation.proofs.Again.{digits_no_star, decimal_digits, number_again, name_again, is_minus, signed_size, body, one_text, constant_texts, texts, first_texts, constant_first}
+use Rattle.ir_lex.proofs.Digits.{decimal_digits}
+use Rattle.ir_annotation.proofs.Again.{digits_no_star, number_again, name_again, is_minus, signed_size, body, one_text, constant_texts, texts, first_texts, constant_first}
 use Rattle.ir_lex.proofs.Names.{differs}
 
 -- ---- a term is read

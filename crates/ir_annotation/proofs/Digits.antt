@@ -8,15 +8,12 @@ use Rattle.std.specs.Str.Parse.{digits_value, ParsesUnsigned}
 use Rattle.std.proofs.lemmas.Bool.{eqb-true, ltb-true, lt-ltb, and_parts, or_cases, false_from_ne_true}
 use Rattle.std.proofs.lemmas.Bool.Decides.{nat_tests}
 use Rattle.std.proofs.lemmas.Str.{IsUtf8-from_ascii}
-use Rattle.std.proofs.lemmas.Str.Parse.{IsNumeralModel, numerals_by_value, tells_all_ascii_digits, parse_digits}
+use Rattle.std.proofs.lemmas.Str.Parse.{parse_digits}
 use Rattle.std.proofs.lemmas.Fmt.{IsAscii-from_digits}
 use Rattle.ir_lex.specs.Spelling.{is_name}
+use Rattle.ir_lex.proofs.Digits.{own, digits}
 use Rattle.ir_lex.proofs.Plain.{name_printed, printed_ascii}
 use Rattle.ir_annotation.specs.Words.{is_numeral, small_value}
-
-pub digits : (bs : List ℕ) → list_all is_ascii_digit bs ≡ true → all_ascii_digits bs ≡ true
-digits [] h = refl
-digits (b ∷ bs) h = let t = and_parts (is_ascii_digit b) (list_all is_ascii_digit bs) h in rw (t.0, digits bs t.1) refl
 
 pub numeral_digits : (word : List ℕ) → is_numeral word ≡ true → all_ascii_digits word ≡ true
 numeral_digits [] h = absurd cc
@@ -33,9 +30,6 @@ numeral_digits (b ∷ bs) h =
     lone : (b : ℕ) (bs : List ℕ) → b ≡ 48 → length bs ≡ 0 → all_ascii_digits (b ∷ bs) ≡ true
     lone b [] e h = subst (λ (c : ℕ). all_ascii_digits (c ∷ []) ≡ true) (sym e) refl
     lone b (c ∷ bs) e h = absurd (omega arith)
-
-pub own : IsNumeralModel (λ ds. all_ascii_digits ds ≡ true) (digits_value 10)
-own = numerals_by_value _ tells_all_ascii_digits
 
 pub numeral_utf8 : (word : List ℕ) → is_numeral word ≡ true → IsUtf8 word
 numeral_utf8 word h = IsUtf8-from_ascii word (IsAscii-from_digits word (own.to word (numeral_digits word h)))

@@ -17,15 +17,18 @@ use Rattle.syntax.specs.declared.terminator.Terminator.{Terminator}
 use Rattle.syntax.specs.declared.terminator.Terminator.TheVariants as terminator
 use Rattle.ir_item.specs.declared.item.Item.{Item}
 use Rattle.ir_item.specs.declared.item.Item.TheVariants as item
-use Rattle.ir_item.specs.declared.symbol.Symbol.TheVariants.{Word}
-use Rattle.ir_item.specs.Outcome.{◌>>=◌}
-use Rattle.ir_item.specs.Operators.{operator_of, without_wrap}
-use Rattle.ir_item.specs.Cases.{are_cases_of, cases_from}
-use Rattle.ir_item.specs.Shape.{Gaps, gaps_of}
-use Rattle.ir_item.specs.Grammar.{binary_shape, binary_from, compare_shape, compare_from, truncate_shape, truncate_from, extend_shape, extend_from, alloca_shape, alloca_from, alloca_array_shape, alloca_array_from, element_pointer_shape, element_pointer_from, load_shape, load_from, start_region_shape, start_region_from, call_shape, call_from, phi_shape, phi_from, store_shape, store_from, store_zeros_shape, store_zeros_from, atomic_shape, atomic_from, call_void_shape, call_void_from, jump_shape, jump_from, branch_shape, branch_from, switch_shape, switch_from, return_void_shape, return_void_from, return_shape, return_from, detach_shape, detach_from, region_shape, reattach_from, sync_from, global_shape, global_from, define_shape, define_from, binary, fixed, definition, terminator_in, worded, item_in}
-use Rattle.ir_item.specs.Spelling.{symbols_in, atoms_of, instruction_atoms, terminator_atoms, item_atoms, spelled_cases}
-use Rattle.ir_item.specs.Fits.{instruction_fits, terminator_fits, item_fits, is_some_list}
-use Rattle.ir_item.proofs.Again.{gaps_again}
+use Rattle.ir_instruction.specs.declared.symbol.Symbol.TheVariants.{Word}
+use Rattle.ir_instruction.specs.Outcome.{◌>>=◌}
+use Rattle.ir_instruction.specs.Operators.{operator_of, without_wrap}
+use Rattle.ir_instruction.specs.Cases.{are_cases_of, cases_from}
+use Rattle.ir_instruction.specs.Shape.{Gaps, gaps_of}
+use Rattle.ir_instruction.specs.Grammar.{binary_shape, binary_from, compare_shape, compare_from, truncate_shape, truncate_from, extend_shape, extend_from, alloca_shape, alloca_from, alloca_array_shape, alloca_array_from, element_pointer_shape, element_pointer_from, load_shape, load_from, start_region_shape, start_region_from, call_shape, call_from, phi_shape, phi_from, store_shape, store_from, store_zeros_shape, store_zeros_from, atomic_shape, atomic_from, call_void_shape, call_void_from, jump_shape, jump_from, branch_shape, branch_from, switch_shape, switch_from, return_void_shape, return_void_from, return_shape, return_from, detach_shape, detach_from, region_shape, reattach_from, sync_from, global_shape, define_shape, binary, fixed, terminator_in}
+use Rattle.ir_item.specs.Grammar.{global_from, define_from, definition, worded, item_in}
+use Rattle.ir_instruction.specs.Spelling.{symbols_in, atoms_of, instruction_atoms, terminator_atoms, spelled_cases}
+use Rattle.ir_item.specs.Items.{item_atoms}
+use Rattle.ir_instruction.specs.Fits.{instruction_fits, terminator_fits, is_some_list}
+use Rattle.ir_item.specs.Items.{item_fits}
+use Rattle.ir_instruction.proofs.Again.{gaps_again}
 
 -- binary operations
 

@@ -7,11 +7,13 @@ use Rattle.ir_annotation.proofs.LinesAgain.{annotation_again}
 use Rattle.ir_item.specs.declared.item.Item.{Item}
 use Rattle.ir_item.specs.declared.item.Item.TheVariants as item
 use Rattle.ir_item.specs.declared.line.Line.{Line}
-use Rattle.ir_item.specs.Symbols.{is_within_limits}
-use Rattle.ir_item.specs.Fits.{is_some_list, item_fits}
+use Rattle.ir_instruction.specs.Symbols.{is_within_limits}
+use Rattle.ir_instruction.specs.Fits.{is_some_list}
+use Rattle.ir_item.specs.Items.{item_fits}
 use Rattle.ir_item.specs.Lines.{annotation_line, line_of}
-use Rattle.ir_item.specs.Spelling.{Atom, spaces, text_of, symbols_in, item_atoms}
-use Rattle.ir_item.specs.Spelled.{are_spelled}
+use Rattle.ir_instruction.specs.Spelling.{Atom, spaces, text_of, symbols_in}
+use Rattle.ir_item.specs.Items.{item_atoms}
+use Rattle.ir_instruction.specs.Spelled.{are_spelled}
 use Rattle.ir_item.specs.Printed.{item_on, IsSpelledItem, IsKeptItem, item_text, said}
 use Rattle.ir_item.proofs.LineAgain.{line_again}
 use Rattle.ir_item.proofs.NoteAgain.{note_again}

@@ -13,16 +13,17 @@ use Rattle.ir_lex.specs.Lexemes.{text_at}
 use Rattle.ir_lex.proofs.Printed.{no_note, IsLexeme, Run, Sign}
 use Rattle.ir_item.specs.declared.item.Item.{Item}
 use Rattle.ir_item.specs.declared.line.Line.{Line}
-use Rattle.ir_item.specs.declared.symbol.Symbol.{Symbol}
-use Rattle.ir_item.specs.declared.symbol.Symbol.TheVariants.{Note}
-use Rattle.ir_item.specs.Symbols.{symbol_of, symbol_at, is_within_limits}
+use Rattle.ir_instruction.specs.declared.symbol.Symbol.{Symbol}
+use Rattle.ir_instruction.specs.declared.symbol.Symbol.TheVariants.{Note}
+use Rattle.ir_instruction.specs.Symbols.{symbol_of, symbol_at, is_within_limits}
 use Rattle.ir_item.specs.Grammar.{item_in}
 use Rattle.ir_item.specs.Lines.{item_line, tokens_line, meaning_of, meaning_if_any, line_of}
-use Rattle.ir_item.specs.Spelling.{Atom, Blank, symbol_text, text_of, symbols_in, item_atoms, spaces}
-use Rattle.ir_item.specs.Spelling as spelling
-use Rattle.ir_item.specs.Spelled.{is_spelled, is_parted_from, are_spelled}
-use Rattle.ir_item.specs.Fits.{item_fits}
-use Rattle.ir_item.proofs.Lexed.{symbol_text_is, AreCut, atoms_cut}
+use Rattle.ir_instruction.specs.Spelling.{Atom, Blank, symbol_text, text_of, symbols_in, spaces}
+use Rattle.ir_item.specs.Items.{item_atoms}
+use Rattle.ir_instruction.specs.Spelling as spelling
+use Rattle.ir_instruction.specs.Spelled.{is_spelled, is_parted_from, are_spelled}
+use Rattle.ir_item.specs.Items.{item_fits}
+use Rattle.ir_instruction.proofs.Lexed.{symbol_text_is, AreCut, atoms_cut}
 use Rattle.ir_item.proofs.Items.{item_again}
 
 -- the first byte of a lexeme

@@ -12,14 +12,15 @@ use Rattle.ir_annotation.specs.Annotations.{IsShortName}
 use Rattle.syntax.specs.declared.module.ResultType.{ResultType}
 use Rattle.ir_item.specs.declared.item.Item.{Item}
 use Rattle.ir_item.specs.declared.item.Item.TheVariants as item
-use Rattle.ir_item.specs.declared.symbol.Numeral.TheVariants.{Small}
-use Rattle.ir_item.specs.declared.symbol.Symbol.{Symbol}
-use Rattle.ir_item.specs.declared.symbol.Symbol.TheVariants as symbols
-use Rattle.ir_item.specs.Symbols.{is_within_limits}
-use Rattle.ir_item.specs.Spelling.{Atom, Token, Blank, symbols_in, parameter_atoms, other_atoms, parted, item_atoms, result_word}
-use Rattle.ir_item.specs.Spelled.{is_spelled, is_parted_from, are_spelled}
+use Rattle.ir_instruction.specs.declared.symbol.Numeral.TheVariants.{Small}
+use Rattle.ir_instruction.specs.declared.symbol.Symbol.{Symbol}
+use Rattle.ir_instruction.specs.declared.symbol.Symbol.TheVariants as symbols
+use Rattle.ir_instruction.specs.Symbols.{is_within_limits}
+use Rattle.ir_instruction.specs.Spelling.{Atom, Token, Blank, symbols_in, parameter_atoms, other_atoms, parted, result_word}
+use Rattle.ir_item.specs.Items.{item_atoms}
+use Rattle.ir_instruction.specs.Spelled.{is_spelled, is_parted_from, are_spelled}
 use Rattle.ir_item.specs.Printed.{IsSpelledItem, IsKeptItem}
-use Rattle.ir_item.proofs.Again.{symbols_appended}
+use Rattle.ir_instruction.proofs.Again.{symbols_appended}
 
 abbrev is_good : Symbol → Bool
 is_good s = is_spelled s && is_within_limits s

@@ -12,7 +12,7 @@ use Rattle.ir_lex.specs.Lexemes.{text_at}
 use Rattle.ir_lex.specs.Words.{words_text, are_words}
 use Rattle.ir_lex.proofs.PrintedWords.{words_cut}
 use Rattle.ir_item.specs.Lines.{annotation_line, meaning_if_any, line_of}
-use Rattle.ir_item.specs.Spelling.{spaces}
+use Rattle.ir_instruction.specs.Spelling.{spaces}
 use Rattle.ir_item.proofs.LineAgain.{spaces_then, length_spaces}
 
 -- A line of ;! and words parted by spaces says the annotation that the words make.

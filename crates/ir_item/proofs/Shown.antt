@@ -29,16 +29,17 @@ use Rattle.ir_annotation.specs.declared.meaning.Annotation.TheVariants as annota
 use Rattle.ir_annotation.specs.Canonical.{IsTerm, IsCanonical}
 use Rattle.ir_annotation.specs.Spelling.{sign_text, factor_text, term_text, constant_text, terms_text, form_text, relation_text, mode_text, object_text}
 use Rattle.ir_annotation.specs.Annotations.{IsShortName, address_name, IsInequality, IsZone, IsKeptAnnotation, inequality_words, zone_words, moded_zone_words, annotation_words}
-use Rattle.ir_annotation.proofs.Again.{decimal_digits}
+use Rattle.ir_lex.proofs.Digits.{decimal_digits}
 use Rattle.ir_item.specs.declared.item.Item.{Item}
 use Rattle.ir_item.specs.declared.item.Item.TheVariants as item
-use Rattle.ir_item.specs.declared.symbol.Numeral.TheVariants.{Small, Large}
-use Rattle.ir_item.specs.declared.symbol.Symbol.{Symbol}
-use Rattle.ir_item.specs.declared.symbol.Symbol.TheVariants as symbols
-use Rattle.ir_item.specs.Spelling.{Atom, Token, Blank, symbol_text, text_of, item_atoms, spaces}
-use Rattle.ir_item.specs.Spelled.{is_spelled, is_parted_from, are_spelled}
+use Rattle.ir_instruction.specs.declared.symbol.Numeral.TheVariants.{Small, Large}
+use Rattle.ir_instruction.specs.declared.symbol.Symbol.{Symbol}
+use Rattle.ir_instruction.specs.declared.symbol.Symbol.TheVariants as symbols
+use Rattle.ir_instruction.specs.Spelling.{Atom, Token, Blank, symbol_text, text_of, spaces}
+use Rattle.ir_item.specs.Items.{item_atoms}
+use Rattle.ir_instruction.specs.Spelled.{is_spelled, is_parted_from, are_spelled}
 use Rattle.ir_item.specs.Printed.{IsKeptItem, item_text}
-use Rattle.ir_item.proofs.Digits.{number_of_printed}
+use Rattle.ir_instruction.proofs.Digits.{number_of_printed}
 
 -- ---- words of annotations
 

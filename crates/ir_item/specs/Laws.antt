@@ -3,14 +3,15 @@ use Rattle.std.specs.Prelude.{◌≡◌, ℕ, true, List, ◌∷◌, ◌++◌, S
 use Rattle.std.specs.List.{list_all}
 use Rattle.ir_annotation.specs.Lines.{annotation_of}
 use Rattle.ir_item.specs.declared.item.Item.{Item}
-use Rattle.ir_item.specs.declared.symbol.Symbol.{Symbol}
-use Rattle.ir_item.specs.Symbols.{is_within_limits}
+use Rattle.ir_instruction.specs.declared.symbol.Symbol.{Symbol}
+use Rattle.ir_instruction.specs.Symbols.{is_within_limits}
 use Rattle.ir_item.specs.Grammar.{item_in}
 use Rattle.ir_item.specs.Lines.{annotation_line, line_of}
-use Rattle.ir_item.specs.Spelling.{spaces, text_of, symbols_in, item_atoms}
+use Rattle.ir_instruction.specs.Spelling.{spaces, text_of, symbols_in}
+use Rattle.ir_item.specs.Items.{item_atoms}
 use Rattle.ir_lex.specs.Words.{words_text, are_words}
-use Rattle.ir_item.specs.Spelled.{are_spelled}
-use Rattle.ir_item.specs.Fits.{item_fits}
+use Rattle.ir_instruction.specs.Spelled.{are_spelled}
+use Rattle.ir_item.specs.Items.{item_fits}
 use Rattle.ir_item.specs.declared.line.Line.{Line}
 use Rattle.ir_item.specs.Printed.{item_on, IsKeptItem, item_text, said}
 

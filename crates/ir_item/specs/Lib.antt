@@ -1,15 +1,5 @@
-pub mod Outcome
-pub mod Numerals
-pub mod Fronts
-pub mod Lists
-pub mod Operators
-pub mod Cases
-pub mod Shape
 pub mod Grammar
-pub mod Symbols
+pub mod Items
 pub mod Lines
-pub mod Spelling
-pub mod Fits
-pub mod Spelled
 pub mod Printed
 pub mod Laws

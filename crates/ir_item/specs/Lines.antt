@@ -13,8 +13,8 @@ use Rattle.ir_lex.specs.Lexemes.{text_at}
 use Rattle.ir_item.specs.declared.item.Item.{Item}
 use Rattle.ir_item.specs.declared.item.Item.TheVariants.{Annotation}
 use Rattle.ir_item.specs.declared.line.Line.{Line}
-use Rattle.ir_item.specs.declared.symbol.Symbol.{Symbol}
-use Rattle.ir_item.specs.Symbols.{symbol_at, is_within_limits}
+use Rattle.ir_instruction.specs.declared.symbol.Symbol.{Symbol}
+use Rattle.ir_instruction.specs.Symbols.{symbol_at, is_within_limits}
 use Rattle.ir_item.specs.Grammar.{item_in}
 
 abbrev pub annotation_line : Result AnnotationLine ℕ → Result (Option Line) ℕ

@@ -6,10 +6,11 @@ use Rattle.ir_annotation.specs.Annotations.{IsKeptAnnotation, annotation_words, 
 use Rattle.ir_item.specs.declared.item.Item.{Item}
 use Rattle.ir_item.specs.declared.item.Item.TheVariants as item
 use Rattle.ir_item.specs.declared.line.Line.{Line}
-use Rattle.ir_item.specs.Symbols.{is_within_limits}
-use Rattle.ir_item.specs.Spelling.{text_of, symbols_in, item_atoms}
-use Rattle.ir_item.specs.Spelled.{are_spelled}
-use Rattle.ir_item.specs.Fits.{item_fits}
+use Rattle.ir_instruction.specs.Symbols.{is_within_limits}
+use Rattle.ir_instruction.specs.Spelling.{text_of, symbols_in}
+use Rattle.ir_item.specs.Items.{item_atoms}
+use Rattle.ir_instruction.specs.Spelled.{are_spelled}
+use Rattle.ir_item.specs.Items.{item_fits}
 
 -- the same item on another line
 abbrev pub item_on : ℕ → Item → Item

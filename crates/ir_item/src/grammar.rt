@@ -2,21 +2,18 @@
 
 ghost use Rattle.std.specs.Prelude.{◌≡◌, [], option_map, IsTrue};
 ghost use Rattle.ir_item.specs.declared.item.Item.TheVariants as item;
-ghost use Rattle.ir_item.specs.Outcome.{Gives};
-ghost use Rattle.ir_item.specs.Fronts.{behind};
-ghost use Rattle.ir_item.specs.Shape.{gaps_of};
-ghost use Rattle.ir_item.specs.Grammar.{global_shape, global_from, define_shape, define_from, worded, item_in};
+ghost use Rattle.ir_instruction.specs.Outcome.{Gives};
+ghost use Rattle.ir_instruction.specs.Fronts.{behind};
+ghost use Rattle.ir_instruction.specs.Shape.{gaps_of};
+ghost use Rattle.ir_instruction.specs.Grammar.{global_shape, define_shape};
+ghost use Rattle.ir_item.specs.Grammar.{global_from, define_from, definition, worded, item_in};
 
-use crate::definition::definition_at;
-use crate::effect::{atomic_at, call_void_at, store_at};
-use crate::fault::LineFault;
-use crate::front::{
-    array_at, behind, end_at, global_at, is_mark, mark_at, result_type_at, word_at,
-};
 use crate::item::Item;
-use crate::list::parameters_at;
-use crate::symbol::Symbol;
-use crate::terminator::terminator_at;
+use ir_instruction::{
+    LineFault, Symbol, array_at, atomic_at, behind, call_at, call_void_at, end_at, fixed_at,
+    global_at, is_mark, mark_at, parameters_at, phi_at, result_type_at, store_at, terminator_at,
+    word_at,
+};
 use lists::Name;
 use std::alloc;
 use syntax::Global;
@@ -48,6 +45,31 @@ fn define_at(alloc: alloc::Global, symbols: &[Symbol]) -> Result<Item, LineFault
         result_type,
         parameters,
     })
+}
+
+/// Behind `%d =`.
+#[tactic(auto, unfolding(crate::specs::Grammar::definition))]
+fn definition_at(
+    alloc: alloc::Global,
+    register: Name,
+    line: u32,
+    symbols: &[Symbol],
+) -> Result<Item, LineFault>
+    ensures { Gives (λ made. made) result (definition line register symbols.now) }
+{
+    match symbols {
+        [Symbol::Word(word), rest @ ..] => {
+            let word = word.as_bytes();
+            if word == b"phi".as_slice() {
+                Ok(Item::Phi(phi_at(alloc, register, line, rest)?))
+            } else if word == b"call".as_slice() {
+                Ok(Item::Instruction(call_at(alloc, register, rest)?))
+            } else {
+                Ok(Item::Instruction(fixed_at(register, word, rest)?))
+            }
+        }
+        _ => Err(LineFault::Unexpected),
+    }
 }
 
 /// Behind a first word that is no label.

@@ -4,16 +4,14 @@ ghost use Rattle.std.specs.Prelude.{◌≡◌, ◌∷◌, [], All, IfOk, IfErr, 
 ghost use Rattle.std.specs.List.{list_all};
 ghost use Rattle.ir_annotation.specs.Lines.{annotation_of};
 ghost use Rattle.ir_lex.specs.Lexemes.{IsTokenOf, text_at};
-ghost use Rattle.ir_item.specs.Symbols.{symbol_at, is_within_limits};
+ghost use Rattle.ir_instruction.specs.Symbols.{symbol_at, is_within_limits};
 ghost use Rattle.ir_item.specs.Grammar.{item_in};
 ghost use Rattle.ir_item.specs.Lines.{annotation_line, item_line, meaning_of, line_of, IsFaultOfLine, IsMeaningFault};
 
-use crate::fault::LineFault;
 use crate::grammar::item_of;
 use crate::item::Item;
-use crate::symbol::{Numeral, Symbol};
-use crate::tokens::{symbols_of, words_of};
 use ir_annotation::read_annotation;
+use ir_instruction::{LineFault, Numeral, Symbol, symbols_of, words_of};
 use ir_lex::{Kind, Token, lex};
 use lists::Name;
 use refusal::Refused;

@@ -3,9 +3,9 @@ use Rattle.std.proofs.Common.{◌≡◌, ℕ, ◌*◌, List, [], ◌∷◌, ◌+
 use Rattle.std.specs.Prelude.{codes}
 use Rattle.std.specs.List.{flat_map}
 use Rattle.std.specs.Fmt.{decimal, signed_decimal}
-use Rattle.ir_item.specs.declared.symbol.Symbol.TheVariants as symbols
-use Rattle.ir_item.specs.Spelling.{Atom, Token, Blank, symbol_text, text_of, operand_symbol, address_symbol, width_word, operator_atoms, parameter_atoms, argument_atoms, entry_atoms, other_atoms, parted, cases_atoms, spelled_cases, instruction_atoms, phi_atoms, terminator_atoms}
-use Rattle.ir_item.proofs.Texts.{text_appended, parted_text}
+use Rattle.ir_instruction.specs.declared.symbol.Symbol.TheVariants as symbols
+use Rattle.ir_instruction.specs.Spelling.{Atom, Token, Blank, symbol_text, text_of, operand_symbol, address_symbol, width_word, operator_atoms, parameter_atoms, argument_atoms, entry_atoms, other_atoms, parted, cases_atoms, spelled_cases, instruction_atoms, phi_atoms, terminator_atoms}
+use Rattle.ir_instruction.proofs.Texts.{text_appended, parted_text}
 use Rattle.syntax.specs.declared.operator.Width.{Width}
 use Rattle.syntax.specs.declared.operator.BinaryOperator.{BinaryOperator}
 use Rattle.syntax.specs.declared.operator.Conversion.TheVariants.{Truncate, SignExtend, ZeroExtend}

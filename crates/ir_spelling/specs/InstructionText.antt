@@ -15,7 +15,7 @@ use Rattle.syntax.specs.declared.instruction.Phi.{Phi}
 use Rattle.syntax.specs.declared.instruction.Instruction.{Instruction}
 use Rattle.syntax.specs.declared.instruction.Instruction.TheVariants as instruction
 use Rattle.ir_lex.specs.Spelling.{register_text}
-use Rattle.ir_item.specs.Spelling.{width_word, predicate_word}
+use Rattle.ir_instruction.specs.Spelling.{width_word, predicate_word}
 use Rattle.ir_spelling.specs.Spelling.{operator_text, operand_text, address_text, array_text, arguments_text, behind_comma}
 
 abbrev pub binary_text : List ℕ → BinaryOperator → Width → Operand → Operand → List ℕ

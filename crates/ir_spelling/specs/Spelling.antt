@@ -11,7 +11,7 @@ use Rattle.syntax.specs.declared.instruction.Address.TheVariants as address
 use Rattle.syntax.specs.declared.instruction.Argument.{Argument}
 use Rattle.syntax.specs.declared.instruction.Argument.TheVariants as argument
 use Rattle.ir_lex.specs.Spelling.{register_text, global_text}
-use Rattle.ir_item.specs.Spelling.{text_of, operator_atoms}
+use Rattle.ir_instruction.specs.Spelling.{text_of, operator_atoms}
 
 abbrev pub operator_text : BinaryOperator → List ℕ
 operator_text operator = text_of (operator_atoms operator)

@@ -1,7 +1,7 @@
 //! How values, types and the words of operations are spelled.
 
 ghost use Rattle.std.specs.Prelude.{◌≡◌, ◌++◌, ◌*◌, OnOk, string_bytes, codes, flat_map};
-ghost use Rattle.ir_item.specs.Spelling.{width_word, result_word, predicate_word};
+ghost use Rattle.ir_instruction.specs.Spelling.{width_word, result_word, predicate_word};
 ghost use Rattle.ir_spelling.specs.Spelling.{operator_text, operand_text, address_text, array_text, label_text, pointer_parameter_text, parameter_text};
 ghost use Rattle.ir_spelling.specs.Spelling.{parameters_text, argument_text, arguments_text, behind_comma};
 

@@ -10,9 +10,9 @@ use Rattle.ir_annotation.specs.Spelling.{form_text, relation_text, mode_text, ob
 use Rattle.ir_lex.specs.Words.{words_text}
 use Rattle.ir_item.specs.declared.item.Item.{Item}
 use Rattle.ir_item.specs.declared.item.Item.TheVariants as item
-use Rattle.ir_item.specs.declared.symbol.Symbol.TheVariants as symbols
-use Rattle.ir_item.specs.Spelling.{Atom, Token, Blank, text_of, result_word, parameter_atoms, parted, instruction_atoms, phi_atoms, terminator_atoms}
-use Rattle.ir_item.proofs.Texts.{text_appended}
+use Rattle.ir_instruction.specs.declared.symbol.Symbol.TheVariants as symbols
+use Rattle.ir_instruction.specs.Spelling.{Atom, Token, Blank, text_of, result_word, parameter_atoms, parted, instruction_atoms, phi_atoms, terminator_atoms}
+use Rattle.ir_instruction.proofs.Texts.{text_appended}
 use Rattle.syntax.specs.declared.annotation.Inequality.{Inequality}
 use Rattle.syntax.specs.declared.annotation.Zone.{Zone}
 use Rattle.syntax.specs.declared.annotation.Pending.{Pending}

@@ -25,7 +25,7 @@ use Rattle.syntax.specs.declared.instruction.PhiEntry.{PhiEntry as PhiEntryText}
 use Rattle.syntax.specs.declared.module.Block.{Block as BlockText}
 use Rattle.syntax.specs.declared.module.Function.{Function as FunctionText}
 use Rattle.syntax.specs.declared.module.Module.{Module}
-use Rattle.ir_item.specs.Fits.{is_some_list}
+use Rattle.ir_instruction.specs.Fits.{is_some_list}
 use Rattle.ir_reader.specs.Kept.{IsBlockWritten, IsPhiWritten, IsKeptFunction, IsKeptModule}
 use Rattle.phase_laws.specs.cfg.declared.structure.BlockEdges.{BlockEdges}
 use Rattle.phase_laws.specs.cfg.declared.structure.Edge.{Edge}

@@ -19,7 +19,7 @@ use Rattle.syntax.specs.declared.module.Function.{Function as FunctionText}
 use Rattle.syntax.specs.declared.module.Module.{Module}
 use Rattle.syntax.specs.declared.module.Parameter.{Parameter as ParameterText}
 use Rattle.syntax.specs.declared.module.Parameter.TheVariants as parameter
-use Rattle.ir_item.specs.Fits.{has_cells, instruction_fits}
+use Rattle.ir_instruction.specs.Fits.{has_cells, instruction_fits}
 use Rattle.ir_reader.specs.Kept.{IsStepWritten, IsBlockWritten, IsGlobalWritten, IsKeptFunction, IsKeptModule}
 use Rattle.scopes.specs.declared.layout.Layout.{Layout}
 use Rattle.scopes.specs.declared.scope.Origin.{Origin}

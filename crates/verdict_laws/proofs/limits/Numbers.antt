@@ -16,9 +16,9 @@ use Rattle.syntax.specs.declared.instruction.PhiEntry.{PhiEntry as EntryText}
 use Rattle.syntax.specs.declared.operator.Width.{Width}
 use Rattle.syntax.specs.declared.terminator.Case.{Case as CaseText}
 use Rattle.refusal.specs.declared.refused.Refused.TheVariants.{Fault}
-use Rattle.ir_item.specs.Spelled.{is_spelled, is_parted_from, are_spelled}
-use Rattle.ir_item.specs.Spelling.{Atom, Token, Blank, operand_symbol, argument_atoms, entry_atoms, other_atoms, parted, spelled_cases, cases_atoms}
-use Rattle.ir_item.specs.Symbols.{fits_i64}
+use Rattle.ir_instruction.specs.Spelled.{is_spelled, is_parted_from, are_spelled}
+use Rattle.ir_instruction.specs.Spelling.{Atom, Token, Blank, operand_symbol, argument_atoms, entry_atoms, other_atoms, parted, spelled_cases, cases_atoms}
+use Rattle.ir_instruction.specs.Symbols.{fits_i64}
 use Rattle.scopes.specs.Fault.{unless_of}
 use Rattle.scopes.specs.Operand.{fits_width, operand_of, register_passing}
 use Rattle.scopes.specs.Scope.{Scope, is_number_of}

@@ -38,9 +38,9 @@ use Rattle.refusal.specs.declared.refused.Refused.{Refused}
 use Rattle.refusal.specs.declared.refused.Refused.TheVariants.{Fault}
 use Rattle.ir_item.specs.declared.item.Item.TheVariants as item
 use Rattle.ir_item.specs.Printed.{IsKeptItem}
-use Rattle.ir_item.specs.Spelling.{Blank, a_mark, argument_atoms, atoms_of, cases_atoms, entry_atoms, instruction_atoms, operator_atoms, parted, phi_atoms, spelled_cases, terminator_atoms}
-use Rattle.ir_item.specs.Symbols.{fits_i64}
-use Rattle.ir_item.specs.Grammar.{binary_shape}
+use Rattle.ir_instruction.specs.Spelling.{Blank, a_mark, argument_atoms, atoms_of, cases_atoms, entry_atoms, instruction_atoms, operator_atoms, parted, phi_atoms, spelled_cases, terminator_atoms}
+use Rattle.ir_instruction.specs.Symbols.{fits_i64}
+use Rattle.ir_instruction.specs.Grammar.{binary_shape}
 use Rattle.scopes.specs.declared.address.WholeObject.{WholeObject}
 use Rattle.scopes.specs.Address.{Items, object_of}
 use Rattle.scopes.specs.Fault.{and_then, both_of, made_of, unless_of}

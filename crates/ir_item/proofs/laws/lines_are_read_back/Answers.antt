@@ -1,5 +1,5 @@
 use Rattle.ir_item.proofs.LineAgain.{line_again}
-use Rattle.ir_item.proofs.LineTakes.{item_takes}
+use Rattle.ir_item.proofs.ItemTakes.{item_takes}
 use Rattle.ir_item.proofs.NoteAgain.{note_again}
 use Rattle.ir_item.proofs.laws.lines_are_read_back.Goals as goal
 

@@ -1,0 +1,12 @@
+pub mod Outcome
+pub mod Numerals
+pub mod Fronts
+pub mod Lists
+pub mod Operators
+pub mod Cases
+pub mod Shape
+pub mod Grammar
+pub mod Symbols
+pub mod Spelling
+pub mod Fits
+pub mod Spelled

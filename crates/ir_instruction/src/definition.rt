@@ -1,0 +1,258 @@
+//! What defines a register: behind `%d =` and a word.
+
+ghost use Rattle.std.specs.Prelude.{◌≡◌, option_map};
+ghost use Rattle.ir_instruction.specs.Outcome.{Gives};
+ghost use Rattle.ir_instruction.specs.Shape.{gaps_of};
+ghost use Rattle.ir_instruction.specs.Grammar.{binary_shape, binary_from, compare_shape, compare_from, truncate_shape, truncate_from, extend_shape};
+ghost use Rattle.ir_instruction.specs.Grammar.{extend_from, alloca_shape, alloca_from, alloca_array_shape, alloca_array_from, element_pointer_shape};
+ghost use Rattle.ir_instruction.specs.Grammar.{element_pointer_from, load_shape, load_from, start_region_shape, start_region_from, call_shape, call_from};
+ghost use Rattle.ir_instruction.specs.Grammar.{phi_shape, phi_from, binary, alloca, call, fixed};
+
+use crate::fault::LineFault;
+use crate::front::{
+    array_at, behind, end_at, global_at, is_word, mark_at, named_at, operand_at, pointer_at,
+    width_at, word_at,
+};
+use crate::list::{arguments_at, entries_at};
+use crate::operator::{operator_of, predicate_at, without_wrap};
+use crate::symbol::Symbol;
+use lists::Name;
+use std::alloc::Global;
+use syntax::{AllocaSize, BinaryOperator, Conversion, Instruction, Phi};
+
+fn plain_at(
+    register: Name,
+    operator: BinaryOperator,
+    symbols: &[Symbol],
+) -> Result<Instruction, LineFault>
+    ensures { Gives (λ made. made) result (option_map (binary_from register operator) (gaps_of binary_shape symbols.now)) }
+{
+    let (width, rest) = width_at(symbols)?;
+    let (left, rest) = operand_at(rest)?;
+    let rest = mark_at(b',', rest)?;
+    let (right, rest) = operand_at(rest)?;
+    end_at(rest)?;
+    Ok(Instruction::Binary {
+        register,
+        operator,
+        width,
+        left,
+        right,
+    })
+}
+
+fn binary_at(
+    register: Name,
+    operator: BinaryOperator,
+    symbols: &[Symbol],
+) -> Result<Instruction, LineFault>
+    ensures { Gives (λ made. made) result (binary register operator symbols.now) }
+{
+    if !is_word(b"nsw", symbols) {
+        return plain_at(register, operator, symbols);
+    }
+    match without_wrap(operator) {
+        None => Err(LineFault::Unexpected),
+        Some(operator) => plain_at(register, operator, behind(symbols)),
+    }
+}
+
+fn compare_at(register: Name, symbols: &[Symbol]) -> Result<Instruction, LineFault>
+    ensures { Gives (λ made. made) result (option_map (compare_from register) (gaps_of compare_shape symbols.now)) }
+{
+    let (predicate, rest) = predicate_at(symbols)?;
+    let (width, rest) = width_at(rest)?;
+    let (left, rest) = operand_at(rest)?;
+    let rest = mark_at(b',', rest)?;
+    let (right, rest) = operand_at(rest)?;
+    end_at(rest)?;
+    Ok(Instruction::Compare {
+        register,
+        predicate,
+        width,
+        left,
+        right,
+    })
+}
+
+fn truncate_at(register: Name, symbols: &[Symbol]) -> Result<Instruction, LineFault>
+    ensures { Gives (λ made. made) result (option_map (truncate_from register) (gaps_of truncate_shape symbols.now)) }
+{
+    let rest = word_at(b"i64", symbols)?;
+    let (value, rest) = operand_at(rest)?;
+    let rest = word_at(b"to", rest)?;
+    let rest = word_at(b"i32", rest)?;
+    end_at(rest)?;
+    Ok(Instruction::Convert {
+        register,
+        conversion: Conversion::Truncate,
+        value,
+    })
+}
+
+fn extend_at(
+    register: Name,
+    conversion: Conversion,
+    symbols: &[Symbol],
+) -> Result<Instruction, LineFault>
+    ensures { Gives (λ made. made) result (option_map (extend_from register conversion) (gaps_of extend_shape symbols.now)) }
+{
+    let rest = word_at(b"i32", symbols)?;
+    let (value, rest) = operand_at(rest)?;
+    let rest = word_at(b"to", rest)?;
+    let rest = word_at(b"i64", rest)?;
+    end_at(rest)?;
+    Ok(Instruction::Convert {
+        register,
+        conversion,
+        value,
+    })
+}
+
+fn alloca_one_at(register: Name, symbols: &[Symbol]) -> Result<Instruction, LineFault>
+    ensures { Gives (λ made. made) result (option_map (alloca_from register) (gaps_of alloca_shape symbols.now)) }
+{
+    let rest = word_at(b"i64", symbols)?;
+    end_at(rest)?;
+    Ok(Instruction::Alloca {
+        register,
+        size: AllocaSize::One,
+    })
+}
+
+fn alloca_array_at(register: Name, symbols: &[Symbol]) -> Result<Instruction, LineFault>
+    ensures { Gives (λ made. made) result (option_map (alloca_array_from register) (gaps_of alloca_array_shape symbols.now)) }
+{
+    let (cells, rest) = array_at(symbols)?;
+    end_at(rest)?;
+    Ok(Instruction::Alloca {
+        register,
+        size: AllocaSize::Array(cells),
+    })
+}
+
+fn alloca_at(register: Name, symbols: &[Symbol]) -> Result<Instruction, LineFault>
+    ensures { Gives (λ made. made) result (alloca register symbols.now) }
+{
+    if is_word(b"i64", symbols) {
+        alloca_one_at(register, symbols)
+    } else {
+        alloca_array_at(register, symbols)
+    }
+}
+
+fn element_pointer_at(register: Name, symbols: &[Symbol]) -> Result<Instruction, LineFault>
+    ensures { Gives (λ made. made) result (option_map (element_pointer_from register) (gaps_of element_pointer_shape symbols.now)) }
+{
+    let rest = word_at(b"inbounds", symbols)?;
+    let rest = word_at(b"i64", rest)?;
+    let rest = mark_at(b',', rest)?;
+    let (base, rest) = pointer_at(rest)?;
+    let rest = mark_at(b',', rest)?;
+    let rest = word_at(b"i64", rest)?;
+    let (index, rest) = operand_at(rest)?;
+    end_at(rest)?;
+    Ok(Instruction::ElementPointer {
+        register,
+        base,
+        index,
+    })
+}
+
+fn load_at(register: Name, symbols: &[Symbol]) -> Result<Instruction, LineFault>
+    ensures { Gives (λ made. made) result (option_map (load_from register) (gaps_of load_shape symbols.now)) }
+{
+    let rest = word_at(b"i64", symbols)?;
+    let rest = mark_at(b',', rest)?;
+    let (address, rest) = pointer_at(rest)?;
+    end_at(rest)?;
+    Ok(Instruction::Load { register, address })
+}
+
+fn start_region_at(register: Name, symbols: &[Symbol]) -> Result<Instruction, LineFault>
+    ensures { Gives (λ made. made) result (option_map (start_region_from register) (gaps_of start_region_shape symbols.now)) }
+{
+    let rest = word_at(b"token", symbols)?;
+    let rest = named_at(b"llvm.syncregion.start", rest)?;
+    let rest = mark_at(b'(', rest)?;
+    let rest = mark_at(b')', rest)?;
+    end_at(rest)?;
+    Ok(Instruction::StartRegion { register })
+}
+
+fn call_number_at(
+    alloc: Global,
+    register: Name,
+    symbols: &[Symbol],
+) -> Result<Instruction, LineFault>
+    ensures { Gives (λ made. made) result (option_map (call_from register) (gaps_of call_shape symbols.now)) }
+{
+    let rest = word_at(b"i64", symbols)?;
+    let (callee, rest) = global_at(rest)?;
+    let rest = mark_at(b'(', rest)?;
+    let (arguments, rest) = arguments_at(alloc, rest)?;
+    end_at(rest)?;
+    Ok(Instruction::Call {
+        register: Some(register),
+        callee,
+        arguments,
+    })
+}
+
+/// Behind `%d = call`.
+pub fn call_at(alloc: Global, register: Name, symbols: &[Symbol]) -> Result<Instruction, LineFault>
+    ensures { Gives (λ made. made) result (call register symbols.now) }
+{
+    if is_word(b"token", symbols) {
+        start_region_at(register, symbols)
+    } else {
+        call_number_at(alloc, register, symbols)
+    }
+}
+
+/// Behind `%d = phi`.
+pub fn phi_at(
+    alloc: Global,
+    register: Name,
+    line: u32,
+    symbols: &[Symbol],
+) -> Result<Phi, LineFault>
+    ensures { Gives (λ made. made) result (option_map (phi_from line register) (gaps_of phi_shape symbols.now)) }
+{
+    let (width, rest) = width_at(symbols)?;
+    let (entries, rest) = entries_at(alloc, rest)?;
+    end_at(rest)?;
+    Ok(Phi {
+        line,
+        register,
+        width,
+        entries,
+    })
+}
+
+/// Behind `%d =`, for a word that is neither `phi` nor `call`.
+#[tactic(auto, unfolding(crate::specs::Grammar::fixed))]
+pub fn fixed_at(register: Name, word: &[u8], symbols: &[Symbol]) -> Result<Instruction, LineFault>
+    ensures { Gives (λ made. made) result (fixed register word.now symbols.now) }
+{
+    if word == b"icmp".as_slice() {
+        compare_at(register, symbols)
+    } else if word == b"trunc".as_slice() {
+        truncate_at(register, symbols)
+    } else if word == b"sext".as_slice() {
+        extend_at(register, Conversion::SignExtend, symbols)
+    } else if word == b"zext".as_slice() {
+        extend_at(register, Conversion::ZeroExtend, symbols)
+    } else if word == b"alloca".as_slice() {
+        alloca_at(register, symbols)
+    } else if word == b"getelementptr".as_slice() {
+        element_pointer_at(register, symbols)
+    } else if word == b"load".as_slice() {
+        load_at(register, symbols)
+    } else {
+        match operator_of(word) {
+            None => Err(LineFault::Unexpected),
+            Some(operator) => binary_at(register, operator, symbols),
+        }
+    }
+}

@@ -1,6 +1,0 @@
-use Rattle.std.proofs.Common.{◌≡◌, take, map}
-use Rattle.ir_item.specs.Cases.{case_from}
-use Rattle.ir_item.proofs.switch.cases_from.Given as goal
-
-abbrev pub invariant-loop-case : goal.invariant-loop-case
-invariant-loop-case l = l.cases.items ≡ map case_from (take l.case-index l.spelled)

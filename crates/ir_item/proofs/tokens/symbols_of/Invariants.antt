@@ -1,6 +1,0 @@
-use Rattle.std.proofs.Common.{◌≡◌, take, map}
-use Rattle.ir_item.specs.Symbols.{symbol_at}
-use Rattle.ir_item.proofs.tokens.symbols_of.Given as goal
-
-abbrev pub invariant-loop-token : goal.invariant-loop-token
-invariant-loop-token l = l.symbols.items ≡ map (symbol_at l.line) (take l.token-index l.tokens)

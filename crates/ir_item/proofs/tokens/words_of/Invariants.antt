@@ -1,6 +1,0 @@
-use Rattle.std.proofs.Common.{◌≡◌, take, map}
-use Rattle.ir_lex.specs.Lexemes.{text_at}
-use Rattle.ir_item.proofs.tokens.words_of.Given as goal
-
-abbrev pub invariant-loop-token : goal.invariant-loop-token
-invariant-loop-token l = l.words.items ≡ map (text_at l.line) (take l.token-index l.tokens)
