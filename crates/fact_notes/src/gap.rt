@@ -1,6 +1,7 @@
 //! By how much facts fall short of a form, and which of them come nearest. All is asked of `shown`.
 
-use linear::{Fact, Form, FormFault, shown};
+use entailment::shown;
+use linear::{Fact, Form, FormFault};
 use lists::OutOfMemory;
 use std::alloc::Global;
 

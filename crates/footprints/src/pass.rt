@@ -4,7 +4,7 @@ ghost use Rattle.footprints.specs.Footprints.{hands_on, pending_of, is_passed, a
 use crate::place::{as_written, index_for};
 use crate::touch::child_foot;
 use crate::zone::{PlacedZone, covers, is_empty};
-use linear::{FactCursor, Known};
+use entailment::{FactCursor, Known};
 use lists::OutOfMemory;
 use program::{Block, BlockId, Pending, RegisterId, Terminator, Zone};
 use ranges::{EdgeFacts, Way};

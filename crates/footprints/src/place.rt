@@ -3,7 +3,7 @@ ghost use Rattle.footprints.specs.Zones.{span};
 ghost use Rattle.footprints.specs.Footprints.{place_of, is_own, is_allowed, is_clear};
 
 use crate::zone::{PlacedZone, conflict, is_covered};
-use linear::{FactCursor, Known};
+use entailment::{FactCursor, Known};
 use lists::OutOfMemory;
 use program::{ObjectName, Pending, Zone};
 use std::alloc::Global;

@@ -2,7 +2,8 @@ ghost use Rattle.std.specs.Prelude.{◌≡◌, ◌<◌, IfOk};
 ghost use Rattle.std.specs.List.{list_any};
 ghost use Rattle.footprints.specs.Zones.{span, as_written, same_object, mode_covers, modes_agree, between, shows_order, is_empty, covers, is_apart, conflict, is_covered};
 
-use linear::{Form, Known, side_of};
+use entailment::Known;
+use linear::{Form, side_of};
 use lists::{OutOfMemory, Seq};
 use program::{Mode, ObjectName, Zone};
 use ranges::{Move, Sum, push_parts, shows_at};

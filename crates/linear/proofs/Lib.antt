@@ -1,15 +1,6 @@
-pub mod Agreement
 pub mod Coefficients
-pub mod Found
 pub mod Making
-pub mod Parts
 pub mod Placing
 pub mod Respects
-pub mod Signed
 pub mod Values
-pub mod Tested
 pub mod Added
-pub mod Newest
-pub mod Left
-pub mod Indexing
-pub mod Looking

@@ -1,16 +1,13 @@
 -- What forms say of values.
-use Rattle.std.proofs.Common.{◌≡◌, ◌≢◌, ◌∙◌, ℕ, ◌<◌, ◌≤◌, ◌+◌, ◌*◌, zero, suc, ℤ, pos, negsuc, ◌+ℤ◌, ◌*ℤ◌, ◌≤ℤ◌, cond, eqb, List, [], ◌∷◌, ◌++◌, sym, ap, refl, inl, inr, map, arith}
-use Rattle.std.proofs.Math.Nat.{mul-le-mul_left}
+use Rattle.std.proofs.Common.{◌≡◌, ◌≢◌, ◌∙◌, ℕ, ◌<◌, ◌≤◌, ◌+◌, ◌*◌, zero, suc, ℤ, pos, negsuc, ◌+ℤ◌, ◌*ℤ◌, ◌≤ℤ◌, cond, eqb, List, [], ◌∷◌, ◌++◌, sym, ap, refl, inl, inr, arith}
 use Rattle.std.proofs.Math.IntN.{zero-*ℤ, *ℤ-zero}
 use Rattle.std.specs.List.{All}
 use Rattle.std.proofs.lemmas.Int.{ints}
 use Rattle.std.proofs.lemmas.Bool.{cases_eq, eq-eqb, ne_eqb}
-use Rattle.std.proofs.lemmas.List.Elements.{All-head, All-tail, All-cons, All-map, All-contains}
-use borrow.Author.Differences.{up, down, sum_is_lem, product_is, le_out}
+use Rattle.std.proofs.lemmas.List.Elements.{All-head, All-tail}
+use borrow.Author.Differences.{up, down, sum_is_lem, product_is}
 use Rattle.linear.specs.Forms.{Combination, coefficient_of, constant_form, register_form, plus, scaled_terms, scaled, minus, put_terms, put, value_of, value, Holds}
 use Rattle.linear.specs.declared.form.Term.{Term}
-use Rattle.linear.specs.declared.form.Fact.{Fact}
-use Rattle.linear.specs.Shown.{sides, IsShown, AllHold}
 
 pub distributes : (a b c : ℤ) → a *ℤ (b +ℤ c) ≡ (a *ℤ b) +ℤ (a *ℤ c)
 distributes a b c = omega (arith, ints, ap (λ x. up a * x) (sum_is_lem b c), ap (λ x. down a * x) (sum_is_lem b c))
@@ -31,11 +28,6 @@ associates a b c = omega (
   ap (λ x. down a * x) (product_is b c).0,
   ap (λ x. down a * x) (product_is b c).1,
 )
-
-pub keeps_sign : (a : ℕ) (x : ℤ) → pos 0 ≤ℤ x → pos 0 ≤ℤ (pos a *ℤ x)
-keeps_sign a x h =
-    let signs : down x ≤ up x = omega (arith, le_out (pos 0) x h) in
-    omega (arith, ints, mul-le-mul_left a signs)
 
 -- ---- sums over the registers below a number
 
@@ -109,23 +101,6 @@ value_combines v e a f b g agree =
     ∙ sum_below_add n (λ r. pos a *ℤ at_f r) (λ r. pos b *ℤ at_g r)
     ∙ ap (λ z. z +ℤ sum_below n (λ r. pos b *ℤ at_g r)) (sum_below_scale n (pos a) at_f ∙ ap (λ z. pos a *ℤ z) (sym (value_is_sum v n f (omega arith))))
     ∙ ap (λ z. (pos a *ℤ value_of v f) +ℤ z) (sum_below_scale n (pos b) at_g ∙ ap (λ z. pos b *ℤ z) (sym (value_is_sum v n g (omega arith))))
-
--- linear, over what the products are
-pub adds_up : (e ec af afc bg bgc : ℤ) → e ≡ af +ℤ bg → (afc +ℤ bgc) ≤ℤ ec → pos 0 ≤ℤ (af +ℤ afc) → pos 0 ≤ℤ (bg +ℤ bgc) → pos 0 ≤ℤ (e +ℤ ec)
-adds_up e ec af afc bg bgc same le p q = omega (arith, ints)
-
-pub scaled_holds : (a : ℕ) (x c : ℤ) → pos 0 ≤ℤ (x +ℤ c) → pos 0 ≤ℤ ((pos a *ℤ x) +ℤ (pos a *ℤ c))
-scaled_holds a x c h = rw (← distributes (pos a) x c) (keeps_sign a (x +ℤ c) h)
-
--- what is shown by true facts is true
-pub shown_holds : (facts : List Fact) (e : Combination) → IsShown facts e → (v : ℕ → ℤ) → AllHold v facts → Holds v e
-shown_holds facts e s v all =
-    let hold : All (Holds v) (sides facts) = All-cons (Holds v) (constant_form (pos 0)) (map (λ (f : Fact). f.form) facts) (omega (arith, ints)) (All-map (Holds v) (λ (f : Fact). f.form) facts all) in
-    adds_up (value_of v e.terms) e.constant (pos s.a *ℤ value_of v s.f.terms) (pos s.a *ℤ s.f.constant) (pos s.b *ℤ value_of v s.g.terms) (pos s.b *ℤ s.g.constant)
-    (value_combines v e.terms s.a s.f.terms s.b s.g.terms s.sum.terms)
-    s.sum.constant
-    (scaled_holds s.a (value_of v s.f.terms) s.f.constant (All-contains (Holds v) (sides facts) s.f hold s.f_is))
-    (scaled_holds s.b (value_of v s.g.terms) s.g.constant (All-contains (Holds v) (sides facts) s.g hold s.g_is))
 
 -- ---- the values of sums, differences and of forms with registers replaced
 

@@ -1,4 +1,4 @@
--- Linear forms over registers, what they say of the registers' values, and what facts show.
+-- Linear forms over registers, and what they say of the registers' values.
 use Rattle.std.specs.Prelude.{◌≡◌, ℕ, ◌<◌, ◌^◌, ℤ, pos, negsuc, ◌+ℤ◌, ◌*ℤ◌, ◌≤ℤ◌, ◌==◌, List, [], ◌∷◌, ◌++◌, All, unsigned_abs, if◌then◌else◌}
 use Rattle.linear.specs.declared.form.Term.{Term}
 

@@ -1,6 +1,2 @@
 pub mod Forms
-pub mod Index
 pub mod Made
-pub mod Search
-pub mod Shown
-pub mod Tested

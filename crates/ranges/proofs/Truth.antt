@@ -11,11 +11,11 @@ use Rattle.std.proofs.lemmas.List.Elements.{All-nil, All-cons, All-head, All-tai
 use Rattle.std.proofs.lemmas.List.Folds.{Any-from_list_any}
 use Rattle.linear.specs.declared.form.Fact.{Fact}
 use Rattle.linear.specs.Forms.{Combination, IsForm, constant_form, Holds, value}
-use Rattle.linear.specs.Shown.{AllHold}
+use Rattle.entailment.specs.Shown.{AllHold}
 use Rattle.linear.specs.Made.{is_bounded, term_form, with_constant}
 use Rattle.linear.proofs.Added.{term_added, number_added, added_value}
-use Rattle.linear.proofs.Tested.{shown_from_test}
-use Rattle.linear.proofs.Values.{shown_holds}
+use Rattle.entailment.proofs.Tested.{shown_from_test}
+use Rattle.entailment.proofs.Sound.{shown_holds}
 use Rattle.program.specs.declared.instruction.Operand.{Operand}
 use Rattle.program.specs.declared.instruction.Operand.TheVariants.{Number, Register}
 use Rattle.obligations.specs.declared.sum.Part.{Part}

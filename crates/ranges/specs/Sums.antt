@@ -5,7 +5,7 @@ use Rattle.std.specs.Option.{option_map, option_to_list}
 use Rattle.linear.specs.declared.form.Fact.{Fact}
 use Rattle.linear.specs.Forms.{Combination, constant_form}
 use Rattle.linear.specs.Made.{is_bounded, with_term, with_constant}
-use Rattle.linear.specs.Tested.{is_shown}
+use Rattle.entailment.specs.Tested.{is_shown}
 use Rattle.program.specs.declared.instruction.Operand.{Operand}
 use Rattle.program.specs.declared.instruction.Operand.TheVariants.{Number, Register}
 use Rattle.obligations.specs.declared.sum.Part.{Part}

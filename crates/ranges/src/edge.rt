@@ -8,7 +8,8 @@ ghost use Rattle.ranges.specs.Edges.{keeps_of, edge_facts, all_edge_facts};
 
 use crate::know::push_facts;
 use crate::table::EdgeFacts;
-use linear::{Fact, FactList};
+use entailment::FactList;
+use linear::Fact;
 use lists::{OutOfMemory, Seq};
 use obligations::{Sum, Way, make_moves};
 use program::{

@@ -9,7 +9,7 @@ ghost use Rattle.refusal.specs.declared.broken.Broken.{Broken};
 
 use crate::know::{is_met_at, push_fact, shows_at};
 use crate::table::EdgeFacts;
-use linear::{FactCursor, FactList, Known};
+use entailment::{FactCursor, FactList, Known};
 use lists::OutOfMemory;
 use obligations::{Obligation, difference_of, inequalities_owed};
 use program::{Block, BlockId, Inequality};

@@ -2,7 +2,8 @@ ghost use Rattle.std.specs.Prelude.{◌≡◌, ◌++◌, ◌∷◌, [], IfOk, On
 ghost use Rattle.ranges.specs.Sums.{facts_of, shows, is_met};
 
 use crate::form::sum_form;
-use linear::{Fact, FactList, Known, find_shown};
+use entailment::{FactList, Known, find_shown};
+use linear::Fact;
 use lists::OutOfMemory;
 use obligations::{Obligation, Sum};
 use std::alloc::Global;

@@ -2,7 +2,7 @@
 
 ghost use Rattle.std.specs.Prelude.{◌≡◌, ℕ, ℤ, List, All, Any, true};
 ghost use Rattle.linear.specs.declared.form.Fact.{Fact};
-ghost use Rattle.linear.specs.Shown.{AllHold};
+ghost use Rattle.entailment.specs.Shown.{AllHold};
 ghost use Rattle.obligations.specs.declared.sum.Sum.{Sum};
 ghost use Rattle.obligations.specs.declared.sum.Obligation.{Obligation};
 ghost use Rattle.ranges.specs.Sums.{facts_of, shows, is_met};

@@ -5,7 +5,8 @@ ghost use Rattle.ranges.specs.Learned.{is_multiple, is_product, is_between, is_q
 ghost use Rattle.ranges.specs.Learned.{remainder_by, masked_by, binary_sums, is_32_bits, conversion_sums, call_sums, learned};
 
 use crate::know::shows_at;
-use linear::{Known, RegisterId};
+use entailment::Known;
+use linear::RegisterId;
 use lists::OutOfMemory;
 use obligations::{Sum, call_moves, differences_of, opposite, scale_of};
 use program::{Argument, BinaryOperator, Conversion, Function, FunctionId, Instruction, Operand};

@@ -1,6 +1,7 @@
 //! Forms as plain numbers.
 
-use linear::{Fact, Form, FormFault, RegisterId, find_shown};
+use entailment::find_shown;
+use linear::{Fact, Form, FormFault, RegisterId};
 use std::alloc::Global;
 
 pub const I: RegisterId = RegisterId(0);

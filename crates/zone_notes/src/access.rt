@@ -1,13 +1,14 @@
 //! Faults of zones, each with the zone and what stands beside it.
 
 use crate::zone_text::{as_written, push_why_beside, push_why_not, push_zone};
+use entailment::{FactCursor, Known as KnownFacts};
 use fact_notes::{Known, Matched, Scene, fact_lines};
 use findings::{Finding, Source, push_finding};
 use footprints::{
     Cell, Place, PlacedZone, address_cell, cells_zone, conflict, covers, end_use, is_allowed,
     is_clear, is_empty, passes_on, step_use,
 };
-use linear::{FactCursor, Known as KnownFacts, RegisterId};
+use linear::RegisterId;
 use lists::OutOfMemory;
 use program::{
     Address, Argument, Block, Ending, Function, Instruction, Mode, ObjectName, Operand, Pending,

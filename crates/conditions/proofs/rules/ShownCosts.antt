@@ -9,10 +9,11 @@ use Rattle.running.specs.Frames.{Value, Registers, Frame, Does, Ends, item_at}
 use Rattle.running.specs.Effect.{Effect, Plain, Detach, Reattach, Sync, Return, registers_along, action_of}
 use Rattle.running.specs.State.{went, detached, continued, synced, called}
 use Rattle.linear.specs.Forms.{Combination, constant_form, plus, minus, put, value}
-use Rattle.linear.specs.Shown.{IsShown, AllHold}
+use Rattle.entailment.specs.Shown.{IsShown, AllHold}
 use Rattle.linear.specs.declared.form.Fact.{Fact}
 use Rattle.linear.specs.declared.form.RegisterId.{RegisterId}
-use Rattle.linear.proofs.Values.{shown_holds, minus_orders, value_plus, value_constant}
+use Rattle.linear.proofs.Values.{minus_orders, value_plus, value_constant}
+use Rattle.entailment.proofs.Sound.{shown_holds}
 use Rattle.program.specs.declared.function.Program.{Program}
 use Rattle.program.specs.declared.instruction.Terminator.{Terminator}
 use Rattle.conditions.specs.rules.InProofs.{Moves, is_next, is_along}

@@ -13,7 +13,7 @@ use Rattle.conditions.specs.sample.Pair.{pair, register, block}
 use Rattle.conditions.proofs.sample.PairSample.{At}
 use Rattle.conditions.proofs.sample.PairSerial.{Serial, Found, entry_start, pair_serially}
 use Rattle.linear.specs.Forms.{constant_form, minus}
-use Rattle.linear.specs.Shown.{IsShown, AllHold}
+use Rattle.entailment.specs.Shown.{IsShown, AllHold}
 use Rattle.linear.specs.declared.form.Fact.{Fact}
 use Rattle.linear.specs.declared.form.RegisterId.{RegisterId}
 use Rattle.program.specs.declared.identifier.BlockId.{BlockId}

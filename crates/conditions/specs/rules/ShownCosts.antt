@@ -5,7 +5,7 @@ use Rattle.running.specs.Cells.{Memory}
 use Rattle.running.specs.Frames.{Registers, Frame, Does, Ends, item_at, block_at, phis_at}
 use Rattle.running.specs.Effect.{Effect, Plain, Detach, Sync, action_of}
 use Rattle.linear.specs.Forms.{Combination, constant_form, plus, minus, put}
-use Rattle.linear.specs.Shown.{IsShown, AllHold}
+use Rattle.entailment.specs.Shown.{IsShown, AllHold}
 use Rattle.linear.specs.declared.form.Fact.{Fact}
 use Rattle.linear.specs.declared.form.RegisterId.{RegisterId}
 use Rattle.program.specs.declared.identifier.BlockId.{BlockId}

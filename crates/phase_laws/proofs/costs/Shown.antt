@@ -8,7 +8,7 @@ use Rattle.linear.specs.declared.form.Fact.{Fact}
 use Rattle.linear.specs.declared.form.Term.{Term}
 use Rattle.linear.specs.declared.form.RegisterId.{RegisterId}
 use Rattle.linear.specs.Forms.{Combination, constant_form, minus, put}
-use Rattle.linear.specs.Shown.{IsShown}
+use Rattle.entailment.specs.Shown.{IsShown}
 use Rattle.program.specs.declared.function.Block.{Block}
 use Rattle.program.specs.declared.function.Function.{Function}
 use Rattle.program.specs.declared.function.Program.{Program}

@@ -8,10 +8,10 @@ use Rattle.std.proofs.Math.IntN.{*ℤ-zero}
 use Rattle.linear.specs.declared.form.Fact.{Fact}
 use Rattle.linear.specs.declared.form.Term.{Term}
 use Rattle.linear.specs.Forms.{Combination, constant_form, plus, minus, put, coefficient_of, Same, value_of, value}
-use Rattle.linear.specs.Shown.{IsShown, SameFacts}
+use Rattle.entailment.specs.Shown.{IsShown, SameFacts}
 use Rattle.linear.proofs.Making.{same_of}
-use Rattle.linear.proofs.Respects.{shown_same}
-use Rattle.linear.proofs.Tested.{shown_from_test}
+use Rattle.entailment.proofs.Respects.{shown_same}
+use Rattle.entailment.proofs.Tested.{shown_from_test}
 use Rattle.linear.proofs.Values.{value_constant, value_plus, value_minus, value_put}
 use Rattle.cfg.specs.declared.structure.Move.{Move}
 use Rattle.ranges.specs.obligations.declared.sum.Sum.{Sum}

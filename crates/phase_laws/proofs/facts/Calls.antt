@@ -6,7 +6,7 @@ use Rattle.std.proofs.lemmas.List.Elements.{All-nil, All-head, All-tail, All-map
 use Rattle.running.specs.Frames.{Value, Word, Registers, Frame, set_register}
 use Rattle.running.specs.State.{with_result}
 use Rattle.linear.specs.Forms.{value, Holds}
-use Rattle.linear.specs.Shown.{AllHold}
+use Rattle.entailment.specs.Shown.{AllHold}
 use Rattle.linear.specs.declared.form.Fact.{Fact}
 use Rattle.linear.specs.declared.form.RegisterId.{RegisterId}
 use Rattle.linear.proofs.Values.{value_register, value_constant}

@@ -15,7 +15,7 @@ use Rattle.running.specs.Frames.{Word, Truth, Registers, Frame, Does, item_of, i
 use Rattle.running.specs.Effect.{Effect, Plain, given, enters, jumps, case_for, registers_along, entry_for, with_phis, terminator_action}
 use Rattle.running.proofs.Actions.{same_effect}
 use Rattle.linear.specs.Forms.{Holds}
-use Rattle.linear.specs.Shown.{AllHold}
+use Rattle.entailment.specs.Shown.{AllHold}
 use Rattle.linear.specs.declared.form.Fact.{Fact}
 use Rattle.linear.specs.declared.form.RegisterId.{RegisterId}
 use Rattle.syntax.specs.declared.operator.Predicate.{Predicate}

@@ -9,7 +9,7 @@ use Rattle.running.specs.Frames.{Value, Word, Truth, Registers, Frame, word_at, 
 use Rattle.running.specs.Effect.{Effect, Action, Plain, Detach, Reattach, Sync, Call, Return, sets, answers, argument_values, calls, instruction_action}
 use Rattle.linear.specs.declared.form.Fact.{Fact}
 use Rattle.linear.specs.declared.form.RegisterId.{RegisterId}
-use Rattle.linear.specs.Shown.{AllHold}
+use Rattle.entailment.specs.Shown.{AllHold}
 use Rattle.syntax.specs.declared.operator.Width.{Width}
 use Rattle.syntax.specs.declared.operator.Width.TheVariants.{Bits32}
 use Rattle.syntax.specs.declared.operator.BinaryOperator.{BinaryOperator}

@@ -6,7 +6,7 @@ use Rattle.running.specs.Frames.{Registers, Frame, Ends, item_at, and_then}
 use Rattle.running.specs.Effect.{Effect}
 use Rattle.running.specs.State.{root_frame}
 use Rattle.linear.specs.Forms.{Holds}
-use Rattle.linear.specs.Shown.{AllHold}
+use Rattle.entailment.specs.Shown.{AllHold}
 use Rattle.linear.specs.declared.form.Fact.{Fact}
 use Rattle.program.specs.declared.function.Block.{Block}
 use Rattle.program.specs.declared.function.Function.{Function}

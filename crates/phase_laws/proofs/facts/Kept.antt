@@ -13,7 +13,7 @@ use Rattle.running.specs.State.{went, detached, continued, synced, called, with_
 use Rattle.running.proofs.Outcomes.{gave_same, left_none}
 use Rattle.conditions.specs.theorem.SerialConditions.{Says, KeptSerially}
 use Rattle.linear.specs.Forms.{value}
-use Rattle.linear.specs.Shown.{AllHold}
+use Rattle.entailment.specs.Shown.{AllHold}
 use Rattle.linear.specs.declared.form.Fact.{Fact}
 use Rattle.linear.specs.declared.form.RegisterId.{RegisterId}
 use Rattle.linear.proofs.Values.{value_same}

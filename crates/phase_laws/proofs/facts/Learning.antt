@@ -18,7 +18,7 @@ use Rattle.syntax.specs.declared.operator.BinaryOperator.TheVariants.{Add, Subtr
 use Rattle.syntax.specs.declared.operator.Conversion.TheVariants.{Truncate, SignExtend, ZeroExtend}
 use Rattle.running.specs.Arithmetic.{Gives, Traps, Undefined, BadDivisor, word, least, greatest, fits, divides_signed, binary}
 use Rattle.linear.specs.declared.form.Fact.{Fact}
-use Rattle.linear.specs.Shown.{AllHold}
+use Rattle.entailment.specs.Shown.{AllHold}
 use Rattle.linear.proofs.Values.{associates}
 use Rattle.program.specs.declared.instruction.Operand.{Operand}
 use Rattle.program.specs.declared.instruction.Operand.TheVariants.{Number, Register}
@@ -31,7 +31,7 @@ use Rattle.ranges.specs.obligations.Scales.{is_scale, scale_number, scale_left, 
 use Rattle.ranges.specs.Learned.{is_multiple, is_product, is_between, is_quotient, is_divisor, quotient_by, remainder_by, masked_by, binary_sums, is_32_bits, conversion_sums}
 use Rattle.ranges.proofs.Truth.{shown_true}
 use Rattle.phase_laws.specs.facts.Owing.{FitsText}
-use Rattle.linear.proofs.Tested.{T_from_true}
+use Rattle.entailment.proofs.Tested.{T_from_true}
 
 -- ---- tests and numbers
 

@@ -6,7 +6,7 @@ use Rattle.std.proofs.lemmas.List.Elements.{All-append}
 use Rattle.running.specs.Arithmetic.{compares}
 use Rattle.running.specs.Frames.{Truth, Registers, Frame, Does, item_at, word_of}
 use Rattle.linear.specs.Forms.{Combination, Holds, value}
-use Rattle.linear.specs.Shown.{AllHold}
+use Rattle.entailment.specs.Shown.{AllHold}
 use Rattle.linear.specs.declared.form.Fact.{Fact}
 use Rattle.linear.proofs.Values.{value_same}
 use Rattle.program.specs.declared.function.Program.{Program}

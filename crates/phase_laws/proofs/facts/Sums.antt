@@ -7,7 +7,7 @@ use Rattle.std.proofs.Math.IntN.{*ℤ-zero}
 use Rattle.running.specs.Frames.{Registers, word_at}
 use Rattle.linear.specs.declared.form.Term.{Term}
 use Rattle.linear.specs.Forms.{value_of}
-use Rattle.linear.specs.Shown.{AllHold}
+use Rattle.entailment.specs.Shown.{AllHold}
 use Rattle.linear.proofs.Values.{distributes, associates}
 use Rattle.program.specs.declared.annotation.Inequality.{Inequality}
 use Rattle.program.specs.declared.instruction.Operand.{Operand}

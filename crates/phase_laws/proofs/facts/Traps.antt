@@ -50,7 +50,7 @@ use Rattle.phase_laws.specs.facts.Traps.{IsThere, FindsAll, MayEnd, NoTraps}
 use Rattle.phase_laws.proofs.facts.Sums.{word_value}
 use Rattle.phase_laws.proofs.facts.Learning.{at_least_zero, scaled_is}
 use Rattle.phase_laws.proofs.facts.Places.{StepAt, step_at, step_met, sole}
-use Rattle.linear.proofs.Tested.{true_from_T}
+use Rattle.entailment.proofs.Tested.{true_from_T}
 
 -- ---- choices
 

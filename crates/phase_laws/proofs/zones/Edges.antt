@@ -8,7 +8,7 @@ use Rattle.linear.specs.declared.form.RegisterId.{RegisterId}
 use Rattle.linear.specs.declared.form.Term.{Term}
 use Rattle.linear.specs.declared.form.Fact.{Fact}
 use Rattle.linear.specs.Forms.{Combination, value_of, value}
-use Rattle.linear.specs.Shown.{AllHold}
+use Rattle.entailment.specs.Shown.{AllHold}
 use Rattle.running.specs.Cells.{Cell}
 use Rattle.running.specs.Frames.{Frame, object_at}
 use Rattle.program.specs.declared.annotation.Pending.{Pending}

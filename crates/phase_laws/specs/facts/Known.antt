@@ -3,7 +3,7 @@ use Rattle.std.specs.Prelude.{◌≡◌, ℕ, zero, suc, ◌<◌, ◌≤ℤ◌, 
 use Rattle.running.specs.Arithmetic.{compares}
 use Rattle.running.specs.Frames.{Registers, Truth, Frame, Does, item_at}
 use Rattle.linear.specs.Forms.{value}
-use Rattle.linear.specs.Shown.{AllHold}
+use Rattle.entailment.specs.Shown.{AllHold}
 use Rattle.linear.specs.declared.form.Fact.{Fact}
 use Rattle.program.specs.declared.annotation.Inequality.{Inequality}
 use Rattle.program.specs.declared.function.Block.{Block}

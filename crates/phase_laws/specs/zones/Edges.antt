@@ -1,6 +1,6 @@
 -- The law: what is pending goes on along each edge.
 use Rattle.std.specs.Prelude.{◌≡◌, true, List, Some, Any, Contains, slice_get}
-use Rattle.linear.specs.Shown.{AllHold}
+use Rattle.entailment.specs.Shown.{AllHold}
 use Rattle.linear.specs.declared.form.RegisterId.{RegisterId}
 use Rattle.syntax.specs.declared.operator.Mode.{Mode}
 use Rattle.running.specs.Cells.{Cell}

@@ -5,7 +5,7 @@ use Rattle.std.proofs.lemmas.List.Elements.{All-nil, All-cons, All-append}
 use Rattle.linear.specs.declared.form.RegisterId.{RegisterId}
 use Rattle.linear.specs.declared.form.Fact.{Fact}
 use Rattle.linear.specs.Forms.{Holds}
-use Rattle.linear.specs.Shown.{AllHold}
+use Rattle.entailment.specs.Shown.{AllHold}
 use Rattle.running.specs.Frames.{Word, Registers, Frame, Ends, and_then, item_at, block_phis, phis_at, cell_of, set_register, object_at}
 use Rattle.running.specs.Cells.{Cell}
 use Rattle.running.specs.Effect.{phi_value, with_phis, registers_along}

@@ -4,7 +4,7 @@ use Rattle.std.specs.List.{Contains}
 use Rattle.std.proofs.lemmas.Bool.{false≢true, cases_eq, cases_lt, eq-eqb}
 use Rattle.std.proofs.lemmas.List.Elements.{Contains-append_left, Contains-append_right}
 use Rattle.linear.specs.declared.form.RegisterId.{RegisterId}
-use Rattle.linear.specs.Shown.{AllHold}
+use Rattle.entailment.specs.Shown.{AllHold}
 use Rattle.running.specs.Paths.{Path}
 use Rattle.running.specs.Cells.{Object, Cell, Memory}
 use Rattle.running.specs.Arithmetic.{BadIndex}

@@ -1,0 +1,305 @@
+-- What stands for the facts in an index, and what it makes up.
+use Rattle.std.proofs.Common.{◌≡◌, ◌∙◌, ℕ, zero, suc, ◌<◌, ◌≤◌, ◌+◌, ◌*◌, ◌^◌, ℤ, pos, ◌+ℤ◌, ◌*ℤ◌, ◌-ℤ◌, ◌≤ℤ◌, true, List, [], ◌∷◌, ◌++◌, length, get_or, insert, set, map, take, drop, Option, None, Some, inl, inr, sym, ap, refl, subst, arith}
+use Rattle.std.specs.List.{All, Contains}
+use Rattle.std.specs.List.Sorted.{IsNonDecreasingBy}
+use Rattle.std.specs.Option.{IfSome}
+use Rattle.std.proofs.Math.ListN.{get_or-append}
+use Rattle.std.proofs.lemmas.Int.{ints}
+use Rattle.std.proofs.lemmas.Bool.{cases_eq, cases_lt}
+use Rattle.std.proofs.lemmas.List.{length-map, length-append, map-append, take-append-drop, length-set, get_or_default, get_or-set_same, get_or-set_other}
+use Rattle.std.proofs.lemmas.List.Edits.{length-insert, get_or-insert_at}
+use Rattle.std.proofs.lemmas.List.Elements.{All-contains, All-cons, Contains-get_or, Contains-append_right}
+use Rattle.std.proofs.lemmas.List.Sorted.{IsNonDecreasingBy-insert, IsNonDecreasingBy-short, IsPermutation-insert, All-permutation, Contains-permutation}
+use Rattle.linear.specs.declared.form.RegisterId.{RegisterId}
+use Rattle.linear.specs.declared.form.Fact.{Fact}
+use Rattle.linear.specs.Forms.{Combination, coefficient_of, constant_form, IsRising}
+use Rattle.entailment.specs.declared.index.Entry.{Entry}
+use Rattle.entailment.specs.Shown.{IsSum, IsShown, sides}
+use Rattle.entailment.specs.Search.{factors, has_some, IsLeft, IsFound}
+use Rattle.entailment.specs.Index.{weight, weigh, IsKeyOf, place_at, IsEntry, IsAsStrong, IsIndexed, IsIndex, IsBegun, IsMadeUp, IsMadeUpByA}
+use Rattle.linear.proofs.Values.{distributes, value_combines}
+use Rattle.entailment.proofs.Sound.{keeps_sign}
+use Rattle.entailment.proofs.Newest.{in_newest, in_sides}
+use Rattle.entailment.proofs.Found.{is_factor, found_shown, shown_found}
+
+-- ---- strength
+
+pub strong_itself : (f : Combination) → IsAsStrong f f
+strong_itself f = record { terms = λ r. refl; constant = omega (arith, ints) }
+
+pub stronger : (f g h : Combination) → IsAsStrong f g → IsAsStrong g h → IsAsStrong f h
+stronger f g h p q = record { terms = λ r. p.terms r ∙ q.terms r; constant = omega (arith, ints, p.constant, q.constant) }
+
+pub keeps_order : (a : ℕ) (x y : ℤ) → x ≤ℤ y → (pos a *ℤ x) ≤ℤ (pos a *ℤ y)
+keeps_order a x y h =
+    let d : ℤ = y -ℤ x in
+    let e : x +ℤ d ≡ y = omega (arith, ints) in
+    let p : pos 0 ≤ℤ (pos a *ℤ d) = keeps_sign a d (omega (arith, ints, h)) in
+    let q : pos a *ℤ y ≡ (pos a *ℤ x) +ℤ (pos a *ℤ d) = ap (λ z. pos a *ℤ z) (sym e) ∙ distributes (pos a) x d in
+    omega (arith, ints, p, q)
+
+less_together : (x y z w : ℤ) → x ≤ℤ y → (y +ℤ z) ≤ℤ w → (x +ℤ z) ≤ℤ w
+less_together x y z w h k = omega (arith, ints, h, k)
+
+less_after : (x y z w : ℤ) → x ≤ℤ y → (z +ℤ y) ≤ℤ w → (z +ℤ x) ≤ℤ w
+less_after x y z w h k = omega (arith, ints, h, k)
+
+pub stronger_first : (e : Combination) (a : ℕ) (f f' : Combination) (b : ℕ) (g : Combination) → IsAsStrong f' f → IsSum e a f b g → IsSum e a f' b g
+stronger_first e a f f' b g p s = record {
+  terms = λ r. s.terms r ∙ ap (λ z. (pos a *ℤ z) +ℤ (pos b *ℤ coefficient_of g.terms r)) (sym (p.terms r));
+  constant = less_together (pos a *ℤ f'.constant) (pos a *ℤ f.constant) (pos b *ℤ g.constant) e.constant (keeps_order a f'.constant f.constant p.constant) s.constant;
+}
+
+pub stronger_second : (e : Combination) (a : ℕ) (f : Combination) (b : ℕ) (g g' : Combination) → IsAsStrong g' g → IsSum e a f b g → IsSum e a f b g'
+stronger_second e a f b g g' p s = record {
+  terms = λ r. s.terms r ∙ ap (λ z. (pos a *ℤ coefficient_of f.terms r) +ℤ (pos b *ℤ z)) (sym (p.terms r));
+  constant = less_after (pos b *ℤ g'.constant) (pos b *ℤ g.constant) (pos a *ℤ f.constant) e.constant (keeps_order b g'.constant g.constant p.constant) s.constant;
+}
+
+same_some : (f g : Combination) (lead : Option RegisterId) → IsAsStrong f g → has_some g.terms lead ≡ true → has_some f.terms lead ≡ true
+same_some f g None p h = h
+same_some f g (Some r) p h = rw (p.terms r.0) h
+
+-- ---- keys
+
+scaled_key : (b k : ℕ) (z : ℤ) → pos k ≡ z +ℤ pos (2 ^ 61) → pos (b * k) ≡ (pos b *ℤ z) +ℤ pos (b * 2 ^ 61)
+scaled_key b k z h = ap (λ x. pos b *ℤ x) h ∙ distributes (pos b) z (pos (2 ^ 61))
+
+keys_add : (e f g : ℤ) (x y : ℤ) (u v a b k : ℕ) → e ≡ x +ℤ y → pos k ≡ e +ℤ pos (2 ^ 61) → pos u ≡ x +ℤ pos (a * 2 ^ 61) → pos v ≡ y +ℤ pos (b * 2 ^ 61) → v + u + 2 ^ 61 ≡ (a + b) * 2 ^ 61 + k
+keys_add e f g x y u v a b k h i j l = omega (arith, ints, h, i, j, l)
+
+-- a form that is made up has the key that is wanted
+pub key_of_sum : (e : Combination) (a : ℕ) (f : Combination) (b : ℕ) (g : Combination) (ek fk gk : ℕ) →
+    IsKeyOf e.terms ek → IsKeyOf f.terms fk → IsKeyOf g.terms gk → IsSum e a f b g → b * gk + a * fk + 2 ^ 61 ≡ (a + b) * 2 ^ 61 + ek
+key_of_sum e a f b g ek fk gk ke kf kg s =
+    keys_add (weigh e.terms) (weigh f.terms) (weigh g.terms) (pos a *ℤ weigh f.terms) (pos b *ℤ weigh g.terms) (a * fk) (b * gk) a b ek
+    (value_combines (λ r. pos (weight r)) e.terms a f.terms b g.terms s.terms) ke (scaled_key a fk (weigh f.terms) kf) (scaled_key b gk (weigh g.terms) kg)
+
+-- ---- the index grows
+
+pub index_none : (facts : List Fact) → IsIndex facts 0 []
+index_none facts = record {
+  sorted = IsNonDecreasingBy-short (λ (e : Entry). e.key) [] (omega arith);
+  own = λ k d l. absurd (omega (arith, l));
+  kept = λ place l. absurd (omega (arith, l));
+}
+
+-- what is kept, in a list that keeps what was there
+more_kept : (facts : List Fact) (old new : List Entry) (n : ℕ) → ((e : Entry) → Contains old e → (e' : Entry) × Contains new e' × IsAsStrong (place_at facts e'.place) (place_at facts e.place)) →
+    IsIndexed facts new n → ((p : ℕ) → p < n → IsIndexed facts old p) → (p : ℕ) → p < suc n → IsIndexed facts new p
+more_kept facts old new n on last before p l = elim (cases_eq p n) [
+  | inl same ↦ rw same last
+  | inr other ↦
+      let k = before p (omega (arith, l, other)) in
+      let m = on k.0 k.1 in
+      (m.0, m.1, stronger (place_at facts m.0.place) (place_at facts k.0.place) (place_at facts p) m.2 k.2)
+]
+
+-- as strong an entry is there already
+pub index_same : (facts : List Fact) (es : List Entry) (entry : Entry) (k : ℕ) → IsIndex facts entry.place es → k < length es →
+    ((r : ℕ) → coefficient_of (place_at facts (get_or es k entry).place).terms r ≡ coefficient_of (place_at facts entry.place).terms r) →
+    (place_at facts (get_or es k entry).place).constant ≤ℤ (place_at facts entry.place).constant → IsIndex facts (suc entry.place) es
+index_same facts es entry k index within same le = record {
+  sorted = index.sorted;
+  own = index.own;
+  kept = more_kept facts es es entry.place (λ e c. (e, c, strong_itself (place_at facts e.place)))
+      (get_or es k entry, Contains-get_or es k entry within, record { terms = same; constant = le }) index.kept;
+}
+
+key_stays : (es : List Entry) (entry d : Entry) (k i : ℕ) → k < length es → (get_or es k entry).key ≡ entry.key → (get_or (set es k entry) i d).key ≡ (get_or es i d).key
+key_stays es entry d k i within same = elim (cases_eq i k) [
+  | inl e ↦ rw e (ap (λ (x : Entry). x.key) (get_or-set_same es k entry d within) ∙ sym same ∙ ap (λ (x : Entry). x.key) (get_or_default es k entry d within))
+  | inr ne ↦ ap (λ (x : Entry). x.key) (get_or-set_other es k i entry d ne)
+]
+
+set_rises : (es : List Entry) (entry : Entry) (k : ℕ) → IsNonDecreasingBy (λ (e : Entry). e.key) es → k < length es → (get_or es k entry).key ≡ entry.key → IsNonDecreasingBy (λ (e : Entry). e.key) (set es k entry)
+set_rises es entry k up within same i j d le l =
+    rw (key_stays es entry d k i within same, key_stays es entry d k j within same) (up i j d le (rw (length-set es k entry) at l))
+
+all_set : (P : Entry → Type 0) (es : List Entry) (entry : Entry) (k : ℕ) → All P es → P entry → k < length es → All P (set es k entry)
+all_set P es entry k all here within i d l = elim (cases_eq i k) [
+  | inl e ↦ rw (e, get_or-set_same es k entry d within) here
+  | inr ne ↦ rw (get_or-set_other es k i entry d ne) (all i d (rw (length-set es k entry) at l))
+]
+
+-- an entry that was there, or what takes its place
+set_keeps : (facts : List Fact) (es : List Entry) (entry : Entry) (k : ℕ) → k < length es → IsAsStrong (place_at facts entry.place) (place_at facts (get_or es k entry).place) →
+    (e : Entry) → Contains es e → (e' : Entry) × Contains (set es k entry) e' × IsAsStrong (place_at facts e'.place) (place_at facts e.place)
+set_keeps facts es entry k within strong e (i, l, at_i) = elim (cases_eq i k) [
+  | inl s ↦
+      let it : get_or es k entry ≡ e = ap (λ n. get_or es n entry) (sym s) ∙ get_or_default es i entry e l ∙ at_i in
+      (entry, (k, rw (length-set es k entry) within, get_or-set_same es k entry entry within), subst (λ (x : Entry). IsAsStrong (place_at facts entry.place) (place_at facts x.place)) it strong)
+  | inr ne ↦ (e, (i, rw (length-set es k entry) l, get_or-set_other es k i entry e ne ∙ at_i), strong_itself (place_at facts e.place))
+]
+
+-- a weaker entry gives way
+pub index_set : (facts : List Fact) (es : List Entry) (entry : Entry) (k : ℕ) → IsIndex facts entry.place es → IsEntry facts entry → k < length es →
+    (get_or es k entry).key ≡ entry.key →
+    ((r : ℕ) → coefficient_of (place_at facts (get_or es k entry).place).terms r ≡ coefficient_of (place_at facts entry.place).terms r) →
+    (place_at facts entry.place).constant ≤ℤ (place_at facts (get_or es k entry).place).constant → IsIndex facts (suc entry.place) (set es k entry)
+index_set facts es entry k index is within key same le = record {
+  sorted = set_rises es entry k index.sorted within key;
+  own = all_set (IsEntry facts) es entry k index.own is within;
+  kept = more_kept facts es (set es k entry) entry.place
+      (set_keeps facts es entry k within (record { terms = λ r. sym (same r); constant = le }))
+      (entry, (k, rw (length-set es k entry) within, get_or-set_same es k entry entry within), strong_itself (place_at facts entry.place)) index.kept;
+}
+
+all_insert : (P : Entry → Type 0) (es : List Entry) (entry : Entry) (at : ℕ) → at ≤ length es → All P es → P entry → All P (insert es at entry)
+all_insert P es entry at le all here = All-permutation P (entry ∷ es) (insert es at entry) (IsPermutation-insert es at entry) (All-cons P entry es here all)
+
+-- a new entry before those of its key and above
+pub index_insert : (facts : List Fact) (es : List Entry) (entry : Entry) (at : ℕ) → IsIndex facts entry.place es → IsEntry facts entry → at ≤ length es →
+    ((k : ℕ) (d : Entry) → k < at → (get_or es k d).key ≤ entry.key) → ((k : ℕ) (d : Entry) → at ≤ k → k < length es → entry.key ≤ (get_or es k d).key) →
+    IsIndex facts (suc entry.place) (insert es at entry)
+index_insert facts es entry at index is le below above = record {
+  sorted = IsNonDecreasingBy-insert (λ (e : Entry). e.key) es at entry index.sorted le below above;
+  own = all_insert (IsEntry facts) es entry at le index.own is;
+  kept = more_kept facts es (insert es at entry) entry.place
+      (λ e c. (e, Contains-permutation (entry ∷ es) (insert es at entry) e (IsPermutation-insert es at entry) (Contains-append_right (entry ∷ []) es e c), strong_itself (place_at facts e.place)))
+      (entry, (at, rw (length-insert es at entry le) (omega (arith, le)), get_or-insert_at es at entry entry le), strong_itself (place_at facts entry.place)) index.kept;
+}
+
+-- ---- what an index makes up
+
+place_of_side : (facts : List Fact) (g : Combination) (c : Contains (sides facts) g) → (c.0 < suc (length facts)) × (place_at facts c.0 ≡ g)
+place_of_side facts g (p, within, is) =
+    (omega (arith, within, length-map facts (λ (f : Fact). f.form)), get_or_default (sides facts) p (constant_form (pos 0)) g within ∙ is)
+
+kept_side : (facts : List Fact) (es : List Entry) → IsIndex facts (suc (length facts)) es → (g : Combination) → Contains (sides facts) g →
+    (e : Entry) × Contains es e × IsAsStrong (place_at facts e.place) g
+kept_side facts es index g c =
+    let p = place_of_side facts g c in
+    let k = index.kept c.0 p.0 in
+    (k.0, k.1, rw p.1 at k.2)
+
+pub side_of_entry : (facts : List Fact) (e : Entry) → IsEntry facts e → Contains (sides facts) (place_at facts e.place)
+side_of_entry facts e is = Contains-get_or (sides facts) e.place (constant_form (pos 0)) (omega (arith, is.within, length-map facts (λ (f : Fact). f.form)))
+
+-- what makes a form up has an entry that does, of the key that is wanted
+pub made_up_by_entry : (facts : List Fact) (es : List Entry) → IsIndex facts (suc (length facts)) es → (e : Combination) (a : ℕ) (first : Entry) (b key : ℕ) → IsKeyOf e.terms key → IsEntry facts first →
+    IsMadeUp facts e (place_at facts first.place) a b →
+    (second : Entry) × Contains es second × (b * second.key + a * first.key + 2 ^ 61 ≡ (a + b) * 2 ^ 61 + key) × IsSum e a (place_at facts first.place) b (place_at facts second.place)
+made_up_by_entry facts es index e a first b key is entry (g, c, sum) =
+    let k = kept_side facts es index g c in
+    let s = stronger_second e a (place_at facts first.place) b g (place_at facts k.0.place) k.2 sum in
+    let own = All-contains (IsEntry facts) es k.0 index.own k.1 in
+    (k.0, k.1, key_of_sum e a (place_at facts first.place) b (place_at facts k.0.place) key first.key k.0.key is entry.key own.key s, s)
+
+-- it is in a run of the first entries, which holds all of the wanted key, where the other entries are past it
+pub second_in_run : (facts : List Fact) (es run : List Entry) (e : Combination) (a : ℕ) (first : Entry) (b key wanted upto : ℕ) → IsIndex facts (suc (length facts)) es → IsKeyOf e.terms key → IsEntry facts first →
+    wanted + a * first.key + 2 ^ 61 ≡ (a + b) * 2 ^ 61 + key → ((k : ℕ) (d : Entry) → upto ≤ k → k < length es → wanted < b * (get_or es k d).key) →
+    ((k : ℕ) (d : Entry) → k < upto → b * (get_or es k d).key ≡ wanted → Contains run (get_or es k d)) → IsMadeUp facts e (place_at facts first.place) a b →
+    (second : Entry) × Contains run second × IsSum e a (place_at facts first.place) b (place_at facts second.place)
+second_in_run facts es run e a first b key wanted upto index is entry want past all made =
+    let s = made_up_by_entry facts es index e a first b key is entry made in
+    let at_is : get_or es s.1.0 s.0 ≡ s.0 = s.1.2 in
+    let key_is : b * s.0.key ≡ wanted = omega (arith, s.2, want) in
+    let same : b * (get_or es s.1.0 s.0).key ≡ b * s.0.key = ap (λ (x : Entry). b * x.key) at_is in
+    elim (cases_lt s.1.0 upto) [
+      | inl less ↦ (s.0, subst (λ (x : Entry). Contains run x) at_is (all s.1.0 s.0 less (same ∙ key_is)), s.3)
+      | inr more ↦ absurd (omega (arith, past s.1.0 s.0 more s.1.1, same, key_is))
+    ]
+
+-- one fact alone shows a form
+pub alone_shown : (facts : List Fact) (e : Combination) (b : ℕ) → IsRising e.terms → Contains (factors e.terms) b → IsMadeUp facts e (place_at facts 0) 1 b → IsShown facts e
+alone_shown facts e b rising in_b (g, in_g, sum) = record {
+  f = place_at facts 0;
+  g = g;
+  a = 1;
+  b = b;
+  f_is = (0, omega arith, refl);
+  g_is = in_g;
+  a_is = inl refl;
+  b_is = is_factor e b rising in_b;
+  sum = sum;
+}
+
+pub shown_by_index : (facts : List Fact) (es : List Entry) → IsIndex facts (suc (length facts)) es → (e : Combination) (lead : Option RegisterId) → IsRising e.terms → IsMadeUpByA facts e lead es → IsShown facts e
+shown_by_index facts es index e lead rising (a, in_a, (b, in_b, (entry, c, (leads, (g, in_g, sum))))) =
+    let own = All-contains (IsEntry facts) es entry index.own c in
+    found_shown facts e lead rising (place_at facts entry.place, in_newest facts (place_at facts entry.place) (side_of_entry facts entry own), (leads, (a, in_a, (g, in_newest facts g in_g, (b, in_b, sum)))))
+
+by_index : (facts : List Fact) (es : List Entry) → IsIndex facts (suc (length facts)) es → (e : Combination) (lead : Option RegisterId) → IsFound facts e lead → IsMadeUpByA facts e lead es
+by_index facts es index e lead (f, in_f, (leads, (a, in_a, (g, in_g, (b, in_b, sum))))) =
+    let k = kept_side facts es index f (in_sides facts f in_f) in
+    (a, in_a, (b, in_b, (k.0, k.1, (same_some (place_at facts k.0.place) f lead k.2 leads, (g, in_sides facts g in_g, stronger_first e a f (place_at facts k.0.place) b g k.2 sum)))))
+
+pub index_shows : (facts : List Fact) (es : List Entry) → IsIndex facts (suc (length facts)) es → (e : Combination) (lead : Option RegisterId) → IfSome lead (IsLeft e.terms 1 []) → IsRising e.terms → IsShown facts e → IsMadeUpByA facts e lead es
+index_shows facts es index e lead leads rising s = by_index facts es index e lead (shown_found facts e lead leads rising s)
+
+-- ---- some of the facts
+
+next_one : (x : Combination) (xs : List Combination) (f : Combination) → Contains xs f → Contains (x ∷ xs) f
+next_one x xs f (k, within, is) = (suc k, omega (arith, within), is)
+
+dropped : (n : ℕ) (facts : List Fact) (f : Combination) → Contains (map (λ (f : Fact). f.form) (drop n facts)) f → Contains (map (λ (f : Fact). f.form) facts) f
+dropped zero facts f c = c
+dropped (suc n) [] f c = c
+dropped (suc n) (x ∷ xs) f c = next_one x.form (map (λ (f : Fact). f.form) xs) f (dropped n xs f c)
+
+dropped_side : (n : ℕ) (facts : List Fact) (f : Combination) → Contains (sides (drop n facts)) f → Contains (sides facts) f
+dropped_side n facts f (zero, within, is) = (0, omega arith, is)
+dropped_side n facts f (suc k, within, is) = next_one (constant_form (pos 0)) (map (λ (f : Fact). f.form) facts) f (dropped n facts f (k, omega (arith, within), is))
+
+-- what some of the facts show
+pub shown_by_more : (n : ℕ) (facts : List Fact) (e : Combination) → IsShown (drop n facts) e → IsShown facts e
+shown_by_more n facts e s = record {
+  f = s.f;
+  g = s.g;
+  a = s.a;
+  b = s.b;
+  f_is = dropped_side n facts s.f s.f_is;
+  g_is = dropped_side n facts s.g s.g_is;
+  a_is = s.a_is;
+  b_is = s.b_is;
+  sum = s.sum;
+}
+
+-- ---- facts join
+
+place_more : (facts more : List Fact) (p : ℕ) → p ≤ length facts → place_at (facts ++ more) p ≡ place_at facts p
+place_more facts more zero l = refl
+place_more facts more (suc p) l =
+    rw (map-append (λ (f : Fact). f.form) facts more) (get_or-append (map (λ (f : Fact). f.form) facts) (map (λ (f : Fact). f.form) more) (constant_form (pos 0)) p (rw (length-map facts (λ (f : Fact). f.form)) (omega (arith, l))))
+
+entry_more : (facts more : List Fact) (e : Entry) → IsEntry facts e → IsEntry (facts ++ more) e
+entry_more facts more e is = record {
+  within = rw (length-append facts more) (omega (arith, is.within));
+  key = rw (place_more facts more e.place is.within) is.key;
+}
+
+pub begun_more : (facts more : List Fact) (n : ℕ) (es : List Entry) → IsBegun facts n es → IsBegun (facts ++ more) n es
+begun_more facts more n es begun = record {
+  within = rw (length-append facts more) (omega (arith, begun.within));
+  index = record {
+    sorted = begun.index.sorted;
+    own = λ k d l. entry_more facts more (get_or es k d) (begun.index.own k d l);
+    kept = λ place l.
+        let k = begun.index.kept place l in
+        let own = All-contains (IsEntry facts) es k.0 begun.index.own k.1 in
+        (k.0, k.1, rw (place_more facts more k.0.place own.within, place_more facts more place (omega (arith, begun.within, l))) k.2);
+  };
+}
+
+pub begun_none : (facts : List Fact) → IsBegun facts 0 []
+begun_none facts = record { within = omega arith; index = index_none facts }
+
+-- the first facts, and more of them
+pub begun_later : (facts : List Fact) (count later : ℕ) (n : ℕ) (es : List Entry) → count ≤ later → IsBegun (take count facts) n es → IsBegun (take later facts) n es
+begun_later facts count later n es le begun =
+    let first : take count (take later facts) ≡ take count facts = take-take-le count later facts le in
+    let whole : take count facts ++ drop count (take later facts) ≡ take later facts = ap (λ xs. xs ++ drop count (take later facts)) (sym first) ∙ take-append-drop count (take later facts) in
+    rw whole at (begun_more (take count facts) (drop count (take later facts)) n es begun)
+  where
+    take-take-le : (n m : ℕ) (xs : List Fact) → n ≤ m → take n (take m xs) ≡ take n xs
+    take-take-le zero m xs l = refl
+    take-take-le (suc n) zero xs l = absurd (omega (arith, l))
+    take-take-le (suc n) (suc m) [] l = refl
+    take-take-le (suc n) (suc m) (x ∷ xs) l = ap (λ ys. x ∷ ys) (take-take-le n m xs (omega (arith, l)))
+
+-- an index of all the facts
+pub begun_whole : (facts : List Fact) (n : ℕ) (es : List Entry) → length facts < n → IsBegun facts n es → IsIndex facts (suc (length facts)) es
+begun_whole facts n es all begun =
+    let e : n ≡ suc (length facts) = omega (arith, all, begun.within) in
+    rw e at begun.index

@@ -1,0 +1,12 @@
+pub mod Agreement
+pub mod Coefficients
+pub mod Found
+pub mod Parts
+pub mod Respects
+pub mod Signed
+pub mod Sound
+pub mod Tested
+pub mod Newest
+pub mod Left
+pub mod Indexing
+pub mod Looking

@@ -1,0 +1,73 @@
+-- Facts by the values of their terms: of those with the same coefficients the strongest alone is kept.
+use Rattle.std.specs.Prelude.{◌≡◌, ℕ, suc, ◌<◌, ◌≤◌, ◌+◌, ◌*◌, ◌%◌, ◌^◌, ℤ, pos, ◌+ℤ◌, ◌≤ℤ◌, true, List, length, All, Contains, Option, slice_index_or}
+use Rattle.std.specs.List.Sorted.{IsNonDecreasingBy}
+use Rattle.linear.specs.declared.form.RegisterId.{RegisterId}
+use Rattle.linear.specs.declared.form.Term.{Term}
+use Rattle.linear.specs.declared.form.Fact.{Fact}
+use Rattle.linear.specs.Forms.{Combination, coefficient_of, constant_form, value_of}
+use Rattle.entailment.specs.declared.index.Entry.{Entry}
+use Rattle.entailment.specs.Search.{factors, has_some}
+use Rattle.entailment.specs.Shown.{IsSum, sides}
+
+abbrev pub spread : ℕ → ℕ
+spread r = (r % 65536 * 7368787 + 12345) % 16777213
+
+unfoldable pub weight : ℕ → ℕ
+weight r = spread r * spread r % 16777213
+
+abbrev pub weigh : List Term → ℤ
+weigh terms = value_of (λ r. pos (weight r)) terms
+
+abbrev pub IsKeyOf : List Term → ℕ → Type 0
+IsKeyOf terms key = pos key ≡ weigh terms +ℤ pos (2 ^ 61)
+
+-- an absent fact at 0, and then the facts in their order
+abbrev pub place_at : List Fact → ℕ → Combination
+place_at facts place = slice_index_or (sides facts) place (constant_form (pos 0))
+
+pub record IsEntry (facts : List Fact) (entry : Entry) : Type 0 where
+  pub within : entry.place ≤ length facts
+  pub key : IsKeyOf (place_at facts entry.place).terms entry.key
+
+-- it says what the other says, and maybe more
+pub record IsAsStrong (f g : Combination) : Type 0 where
+  pub terms : (r : ℕ) → coefficient_of f.terms r ≡ coefficient_of g.terms r
+  pub constant : f.constant ≤ℤ g.constant
+
+-- some entry is as strong as what stands at the place
+abbrev pub IsIndexed : List Fact → List Entry → ℕ → Type 0
+IsIndexed facts entries place = (entry : Entry) × Contains entries entry × IsAsStrong (place_at facts entry.place) (place_at facts place)
+
+-- entries of the first places, by rising keys
+pub record IsIndex (facts : List Fact) (count : ℕ) (entries : List Entry) : Type 0 where
+  pub sorted : IsNonDecreasingBy (λ (e : Entry). e.key) entries
+  pub own : All (IsEntry facts) entries
+  pub kept : (place : ℕ) → place < count → IsIndexed facts entries place
+
+-- an index of the first places, which more may join
+pub record IsBegun (facts : List Fact) (count : ℕ) (entries : List Entry) : Type 0 where
+  pub within : count ≤ suc (length facts)
+  pub index : IsIndex facts count entries
+
+-- ---- the search: some first factor, some second factor, some first fact that has some of a register, some second fact
+
+abbrev pub IsMadeUp : List Fact → Combination → Combination → ℕ → ℕ → Type 0
+IsMadeUp facts e f a b = (g : Combination) × Contains (sides facts) g × IsSum e a f b g
+
+abbrev pub IsMadeUpFirst : List Fact → Combination → Option RegisterId → ℕ → ℕ → Entry → Type 0
+IsMadeUpFirst facts e lead a b first =
+    (has_some (place_at facts first.place).terms lead ≡ true) × IsMadeUp facts e (place_at facts first.place) a b
+
+abbrev pub IsMadeUpWith : List Fact → Combination → Option RegisterId → List Entry → ℕ → ℕ → Type 0
+IsMadeUpWith facts e lead entries a b = (first : Entry) × Contains entries first × IsMadeUpFirst facts e lead a b first
+
+abbrev pub IsMadeUpByB : List Fact → Combination → Option RegisterId → List Entry → ℕ → Type 0
+IsMadeUpByB facts e lead entries a = (b : ℕ) × Contains (factors e.terms) b × IsMadeUpWith facts e lead entries a b
+
+abbrev pub IsMadeUpByA : List Fact → Combination → Option RegisterId → List Entry → Type 0
+IsMadeUpByA facts e lead entries = (a : ℕ) × Contains (factors e.terms) a × IsMadeUpByB facts e lead entries a
+
+-- from a place on the keys are too great for what a form of this key lacks beside a times a first key
+abbrev pub ArePast : List Entry → ℕ → ℕ → ℕ → ℕ → ℕ → Type 0
+ArePast entries key a b first upto = (k : ℕ) (d : Entry) → upto ≤ k → k < length entries
+    → (a + b) * 2 ^ 61 + key < b * (slice_index_or entries k d).key + a * first + 2 ^ 61

@@ -1,0 +1,4 @@
+pub mod Index
+pub mod Search
+pub mod Shown
+pub mod Tested

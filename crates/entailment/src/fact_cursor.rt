@@ -1,0 +1,103 @@
+//! The first of some facts, as many as are known at a place, and an index that grows from place to place.
+
+ghost use Rattle.std.specs.Prelude.{◌≡◌, length, take};
+
+use crate::index::{Entry, FEW, enter_from};
+use crate::known::Known;
+use linear::Fact;
+use std::alloc::{AllocError, Global};
+use std::marker::Model;
+
+/// Lent facts, how many of them are known, and an index of the first of these. Contracts see the facts and the number.
+#[derive(Drop)]
+pub struct FactCursor<'a> {
+    facts: &'a [Fact],
+    count: usize,
+    entries: Vec<Entry>,
+    /// How many places have entries.
+    entered: usize,
+}
+
+impl<'a> Model for FactCursor<'a> {
+    ghost use Rattle.std.specs.Prelude.{List, ℕ, take};
+    ghost use Rattle.linear.specs.declared.form.Fact.{Fact};
+    ghost use Rattle.entailment.specs.Index.{IsBegun};
+
+    ghost Value = { List Fact × ℕ };
+
+    ghost view = { λ c. (c.facts.now, c.count) };
+
+    ghost invariant = { λ c. IsBegun (take c.count c.facts.now) c.entered c.entries.items };
+}
+
+/// The first of the facts.
+fn first(facts: &[Fact], count: usize) -> &[Fact]
+    ensures { result.now ≡ take count facts.now }
+{
+    if count < facts.len() {
+        &facts[..count]
+    } else {
+        facts
+    }
+}
+
+impl<'a> FactCursor<'a> {
+    /// At a place where all the facts are known.
+    pub fn new(alloc: Global, facts: &'a [Fact]) -> FactCursor<'a>
+        ensures { result ≡ (facts.now, length facts.now) }
+    {
+        FactCursor {
+            facts,
+            count: facts.len(),
+            entries: Vec::new(alloc),
+            entered: 0,
+        }
+    }
+
+    /// Goes to a place where so many of the facts are known. The index is kept where they are no fewer.
+    pub fn seek(&mut self, count: usize)
+        ensures { self.new ≡ (self.old.0, count) }
+    {
+        if count < self.count {
+            self.entries.clear();
+            self.entered = 0;
+            self.count = count;
+        } else {
+            self.count = count;
+        }
+    }
+
+    /// Brings the index up to date, where the facts are many. Questions are answered without it, too, but not as fast.
+    pub fn index(&mut self) -> Result<(), AllocError>
+        ensures { self.new ≡ self.old }
+    {
+        let facts = first(self.facts, self.count);
+        if facts.len() <= FEW {
+            return Ok(());
+        }
+        match enter_from(facts, &mut self.entries, self.entered) {
+            Ok(entered) => {
+                self.entered = entered;
+                Ok(())
+            }
+            Err(refused) => {
+                self.entries.clear();
+                self.entered = 0;
+                Err(refused)
+            }
+        }
+    }
+
+    /// What is known at the place.
+    pub fn known(&self) -> Known<'_>
+        ensures some { result ≡ take self.now.1 self.now.0 }
+        ensures all { self.now.1 ≡ length self.now.0 → result ≡ self.now.0 }
+    {
+        let facts = first(self.facts, self.count);
+        Known {
+            facts,
+            entries: self.entries.as_slice(),
+            is_indexed: self.entered > facts.len(),
+        }
+    }
+}

@@ -1,0 +1,113 @@
+//! Facts that become more, and an index that grows with them.
+
+ghost use Rattle.std.specs.Prelude.{◌≡◌, ◌++◌, ◌∷◌, [], IfOk, OnOk, length};
+
+use crate::index::{Entry, FEW, enter_from};
+use crate::known::Known;
+use linear::Fact;
+use std::alloc::{AllocError, Global};
+use std::marker::Model;
+
+/// Facts in their order, and an index of the first of them. Contracts see the facts.
+#[derive(Drop)]
+pub struct FactList {
+    facts: Vec<Fact>,
+    entries: Vec<Entry>,
+    /// How many places have entries.
+    entered: usize,
+}
+
+impl Model for FactList {
+    ghost use Rattle.std.specs.Prelude.{List};
+    ghost use Rattle.linear.specs.declared.form.Fact.{Fact};
+    ghost use Rattle.entailment.specs.Index.{IsBegun};
+
+    ghost Value = { List Fact };
+
+    ghost view = { λ l. l.facts.items };
+
+    ghost invariant = { λ l. IsBegun l.facts.items l.entered l.entries.items };
+}
+
+impl FactList {
+    /// No facts.
+    pub fn new(alloc: Global) -> FactList
+        ensures { result ≡ [] }
+    {
+        FactList {
+            facts: Vec::new(alloc),
+            entries: Vec::new(alloc),
+            entered: 0,
+        }
+    }
+
+    /// Facts that are not in an index yet.
+    pub fn from_vec(alloc: Global, facts: Vec<Fact>) -> FactList
+        ensures { result ≡ facts.items }
+    {
+        FactList {
+            facts,
+            entries: Vec::new(alloc),
+            entered: 0,
+        }
+    }
+
+    pub fn len(&self) -> usize
+        ensures { result ≡ length self.now }
+    {
+        self.facts.len()
+    }
+
+    pub fn as_slice(&self) -> &[Fact]
+        ensures { result.now ≡ self.now }
+    {
+        self.facts.as_slice()
+    }
+
+    /// Adds a fact.
+    pub fn push(&mut self, fact: Fact) -> Result<(), AllocError>
+        ensures { OnOk result (self.new ≡ self.old ++ fact ∷ []) }
+    {
+        self.facts.push(fact)?;
+        Ok(())
+    }
+
+    /// Brings the index up to date, where the facts are many. Questions are answered without it, too, but not as fast.
+    pub fn index(&mut self) -> Result<(), AllocError>
+        ensures { self.new ≡ self.old }
+    {
+        if self.facts.len() <= FEW {
+            return Ok(());
+        }
+        match enter_from(self.facts.as_slice(), &mut self.entries, self.entered) {
+            Ok(entered) => {
+                self.entered = entered;
+                Ok(())
+            }
+            Err(refused) => {
+                self.entries.clear();
+                self.entered = 0;
+                Err(refused)
+            }
+        }
+    }
+
+    /// What is known by these facts.
+    pub fn known(&self) -> Known<'_>
+        ensures { result ≡ self.now }
+    {
+        Known {
+            facts: self.facts.as_slice(),
+            entries: self.entries.as_slice(),
+            is_indexed: self.entered > self.facts.len(),
+        }
+    }
+
+    /// The facts alone.
+    pub fn into_vec(self) -> Vec<Fact>
+        ensures { result.items ≡ self }
+    {
+        let FactList { facts, .. } = self;
+        facts
+    }
+}

@@ -1,0 +1,109 @@
+//! What many facts show.
+
+ghost use Rattle.std.specs.Prelude.{◌≡◌, ◌-◌, suc, true, IfOk, IfSome, IsTrue, drop, length};
+ghost use Rattle.entailment.specs.Index.{IsKeyOf, IsIndex};
+ghost use Rattle.entailment.specs.Tested.{is_shown};
+
+use crate::index::{Entry, index_of};
+use crate::lookup::{Search, made_up, made_up_alone};
+use crate::show::{left_over, shown};
+use crate::weight::key_of;
+use linear::{Fact, Form, side_of};
+use std::alloc::{AllocError, Global};
+
+/// The newest facts, among which most forms find what shows them.
+fn newest(facts: &[Fact]) -> &[Fact]
+    ensures { result.now ≡ drop (length facts.now - 16) facts.now }
+{
+    if facts.len() <= 16 {
+        facts
+    } else {
+        &facts[facts.len() - 16..]
+    }
+}
+
+/// The key of a form's terms.
+fn key_of_form(form: &Form) -> Option<u64>
+    ensures { IfSome result (IsKeyOf form.now.terms) }
+{
+    key_of(side_of(form).terms)
+}
+
+/// Whether one of the facts shows the form.
+fn shown_by_one(search: &Search<'_>) -> bool
+    requires index { IsIndex search.now.facts.now (suc (length search.now.facts.now)) search.now.entries.now }
+    ensures { IsTrue result → is_shown search.now.facts.now search.now.form.now ≡ true }
+{
+    made_up_alone(search)
+}
+
+/// Whether two of the newest facts show the form.
+fn shown_by_newest(search: &Search<'_>) -> bool
+    ensures { IsTrue result → is_shown search.now.facts.now search.now.form.now ≡ true }
+{
+    shown(newest(search.facts), search.form)
+}
+
+/// Whether the facts show the form.
+fn shown_by_two(search: &Search<'_>) -> bool
+    requires index { IsIndex search.now.facts.now (suc (length search.now.facts.now)) search.now.entries.now }
+    requires key { IsKeyOf search.now.form.now.terms search.now.key }
+    ensures { result ≡ is_shown search.now.facts.now search.now.form.now }
+{
+    let lead = left_over(side_of(search.form).terms, 1, &[]);
+    made_up(search, lead)
+}
+
+/// Whether the facts show the form, by their index. Most forms are shown by one fact, or by two of the newest.
+fn shown_by_search(search: &Search<'_>) -> bool
+    requires index { IsIndex search.now.facts.now (suc (length search.now.facts.now)) search.now.entries.now }
+    requires key { IsKeyOf search.now.form.now.terms search.now.key }
+    ensures { result ≡ is_shown search.now.facts.now search.now.form.now }
+{
+    if shown_by_one(search) {
+        return true;
+    }
+    if shown_by_newest(search) {
+        return true;
+    }
+    shown_by_two(search)
+}
+
+/// Whether the facts show the form, by the index of them all.
+pub fn shown_by_index(facts: &[Fact], entries: &[Entry], form: &Form) -> bool
+    requires { IsIndex facts.now (suc (length facts.now)) entries.now }
+    ensures { result ≡ is_shown facts.now form.now }
+{
+    match key_of_form(form) {
+        Some(key) => shown_by_search(&Search {
+            facts,
+            entries,
+            form,
+            key,
+        }),
+        None => shown(facts, form),
+    }
+}
+
+/// Whether the facts show the form, by an index where each fact has a key.
+fn shown_by_many(alloc: Global, facts: &[Fact], form: &Form) -> Result<bool, AllocError>
+    ensures { IfOk result (λ b. b ≡ is_shown facts.now form.now) }
+{
+    match index_of(alloc, facts)? {
+        Some(entries) => Ok(shown_by_index(facts, entries.as_slice(), form)),
+        None => Ok(shown(facts, form)),
+    }
+}
+
+/// Whether the facts show the form. Of many facts the newest are tried first, and then the second of two is looked up.
+pub fn find_shown(alloc: Global, facts: &[Fact], form: &Form) -> Result<bool, AllocError>
+    ensures { IfOk result (λ b. b ≡ is_shown facts.now form.now) }
+{
+    if shown(newest(facts), form) {
+        return Ok(true);
+    }
+    if facts.len() <= 16 {
+        return Ok(false);
+    }
+    shown_by_many(alloc, facts, form)
+}

@@ -1,0 +1,61 @@
+//! What is known at a place, with an index of it where it is much.
+
+ghost use Rattle.std.specs.Prelude.{◌≡◌};
+ghost use Rattle.entailment.specs.Tested.{is_shown};
+
+use crate::find::shown_by_index;
+use crate::index::Entry;
+use crate::show::shown;
+use linear::{Fact, Form};
+use std::marker::Model;
+
+/// Facts, lent with an index of them all, if there is one. Contracts see the facts.
+#[derive(Drop)]
+pub struct Known<'a> {
+    pub(crate) facts: &'a [Fact],
+    pub(crate) entries: &'a [Entry],
+    pub(crate) is_indexed: bool,
+}
+
+impl<'a> Model for Known<'a> {
+    ghost use Rattle.std.specs.Prelude.{◌≡◌, true, List, suc, length};
+    ghost use Rattle.linear.specs.declared.form.Fact.{Fact};
+    ghost use Rattle.entailment.specs.Index.{IsIndex};
+
+    ghost Value = { List Fact };
+
+    ghost view = { λ k. k.facts.now };
+
+    ghost invariant = { λ k. k.is_indexed ≡ true → IsIndex k.facts.now (suc (length k.facts.now)) k.entries.now };
+}
+
+impl<'a> Known<'a> {
+    /// Facts that are asked too seldom for an index.
+    pub fn few(facts: &'a [Fact]) -> Known<'a>
+        ensures { result ≡ facts.now }
+    {
+        Known {
+            facts,
+            entries: &[],
+            is_indexed: false,
+        }
+    }
+
+    /// The facts.
+    pub fn facts(&self) -> &'a [Fact]
+        ensures { result.now ≡ self.now }
+    {
+        self.facts
+    }
+
+    /// Whether the facts show the form.
+    pub fn shows(&self, form: &Form) -> bool
+        ensures { result ≡ is_shown self.now form.now }
+    {
+        if self.is_indexed {
+            shown_by_index(self.facts, self.entries, form)
+        } else {
+            shown(self.facts, form)
+        }
+    }
+}

@@ -1,0 +1,20 @@
+//! Entailment of linear inequalities: whether a form is a nonnegative combination of two known facts and a constant.
+//!
+//! All pairs of facts are tried; of many facts the second is looked up by an index that grows from place to place.
+#![tactic(auto)]
+
+mod fact_cursor;
+mod fact_list;
+mod find;
+mod index;
+mod known;
+pub mod laws;
+mod lookup;
+mod show;
+mod weight;
+
+pub use fact_cursor::FactCursor;
+pub use fact_list::FactList;
+pub use find::find_shown;
+pub use known::Known;
+pub use show::shown;

@@ -1,6 +1,0 @@
-use Rattle.std.proofs.Common.{arith}
-use Rattle.linear.proofs.Indexing.{begun_later}
-use Rattle.linear.proofs.fact_cursor.FactCursor.seek.Goals as goal
-
-pub invariant_of-self-else-count-self : goal.invariant_of-self-else-count-self
-invariant_of-self-else-count-self c = begun_later c.self.inside.facts.now c.self.inside.count c.args.count c.self.inside.entered c.self.inside.entries.items (omega arith) c.self.invariant

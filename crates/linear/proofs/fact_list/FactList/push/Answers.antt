@@ -1,6 +1,0 @@
-use Rattle.std.proofs.Common.{◌∷◌, []}
-use Rattle.linear.proofs.Indexing.{begun_more}
-use Rattle.linear.proofs.fact_list.FactList.push.Goals as goal
-
-pub invariant_of-self-2 : goal.invariant_of-self-2
-invariant_of-self-2 c = rw c.in_ok-push.ensures.items (begun_more c.self.inside.facts.items (c.args.fact ∷ []) c.self.inside.entered c.self.inside.entries.items c.self.invariant)

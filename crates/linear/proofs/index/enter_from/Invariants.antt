@@ -1,5 +1,0 @@
-use Rattle.linear.specs.Index.{IsBegun}
-use Rattle.linear.proofs.index.enter_from.Given as goal
-
-abbrev pub invariant-loop-place : goal.invariant-loop-place
-invariant-loop-place l = IsBegun l.facts l.place l.entries.items
