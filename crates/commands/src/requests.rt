@@ -44,12 +44,12 @@ fn run_on_workers<T: Threads + Wait + Clock + Sync, W: Write>(
 }
 
 /// Verifies the module, and runs it on workers.
-fn verify_and_run<T: Threads + Wait + Clock + Sync, W: Write>(
+fn verify_and_run<'a, T: Threads + Wait + Clock + Sync, W: Write>(
     rt: &T,
     alloc: Global,
     state: RandomState,
-    request: &Request,
-    text: &[u8],
+    request: &'a Request,
+    text: &'a [u8],
     output: &mut W,
     beside: &mut Beside,
 ) -> io::Result<Status> {
