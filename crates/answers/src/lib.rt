@@ -20,6 +20,8 @@ pub use debugger::{
     read_schedule, replay, verify,
 };
 pub use job::Job;
-pub use module_answers::{Beside, Status, fail, print_refused, read_file, read_text, write_file};
+pub use module_answers::{
+    Beside, Status, fail, print_refused, print_unreadable, read_file, read_text, write_file,
+};
 pub use requests::answer;
 pub use runs::{prepared, print_run, print_unprepared};

@@ -2,7 +2,7 @@
 
 use answers::{
     Beside, Job, Request, Status, Verb, answer, fail, prepared, print_refused, print_run,
-    print_unprepared, verify,
+    print_unprepared, print_unreadable, verify,
 };
 use deque_pool::OpenGate;
 use std::alloc::Global;
@@ -44,15 +44,18 @@ fn run_on_workers<T: Threads + Wait + Clock + Sync, W: Write>(
 }
 
 /// Verifies the module, and runs it on workers.
-fn verify_and_run<'a, T: Threads + Wait + Clock + Sync, W: Write>(
+fn verify_and_run<T: Threads + Wait + Clock + Sync, W: Write>(
     rt: &T,
     alloc: Global,
     state: RandomState,
-    request: &'a Request,
-    text: &'a [u8],
+    request: &Request,
+    module: Option<&[u8]>,
     output: &mut W,
     beside: &mut Beside,
 ) -> io::Result<Status> {
+    let Some(text) = module else {
+        return print_unreadable(alloc, request.file.as_str(), output);
+    };
     match verify(alloc, state, text) {
         Ok(verified) => {
             let job = Job {
@@ -83,13 +86,12 @@ pub fn act<T: Threads + Wait + Clock + Sync, R: Read, W: Write>(
     output: &mut W,
     beside: &mut Beside,
 ) -> u8 {
-    let answered = match module {
-        Some(text) if is_on_workers(request) => {
-            verify_and_run(rt, alloc, state, request, text, output, beside)
-        }
-        _ => answer(
+    let answered = if is_on_workers(request) {
+        verify_and_run(rt, alloc, state, request, module, output, beside)
+    } else {
+        answer(
             alloc, state, request, module, schedule, input, output, beside,
-        ),
+        )
     };
     match answered {
         Ok(status) => status as u8,
