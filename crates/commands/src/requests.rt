@@ -50,6 +50,7 @@ fn verify_and_run<T: Threads + Wait + Clock + Sync, W: Write>(
     state: RandomState,
     request: &Request,
     module: Option<&[u8]>,
+    schedule: Option<&[u8]>,
     output: &mut W,
     beside: &mut Beside,
 ) -> io::Result<Status> {
@@ -63,7 +64,7 @@ fn verify_and_run<T: Threads + Wait + Clock + Sync, W: Write>(
                 request,
                 text,
                 verified: &verified,
-                schedule: None,
+                schedule,
             };
             run_on_workers(rt, &job, output, beside)
         }
@@ -87,7 +88,7 @@ pub fn act<T: Threads + Wait + Clock + Sync, R: Read, W: Write>(
     beside: &mut Beside,
 ) -> u8 {
     let answered = if is_on_workers(request) {
-        verify_and_run(rt, alloc, state, request, module, output, beside)
+        verify_and_run(rt, alloc, state, request, module, schedule, output, beside)
     } else {
         answer(
             alloc, state, request, module, schedule, input, output, beside,
