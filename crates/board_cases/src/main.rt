@@ -3,9 +3,9 @@
 //! is due where the machine stands; at its end each run is compared with the serial run: result, memory, count of instructions, most frames. It
 //! prints a line of each block, and fails where one is not as it is to be. What a block expects is worked by hand.
 //!
-//! A call that is refused memory has to leave all as it was, and is made once more; so is the whole block where another request is refused. So what
-//! is printed is the same whichever request is refused, but for the last line, which names the call. Here none is refused: `bench/sweeps` lets each
-//! request fail in turn.
+//! A call that is refused memory has to leave all as it was, and is made once more; so is the whole block where another of its requests is refused.
+//! Where a file or its module is refused memory the program ends. The last line names the call that was refused. Here none is: `bench/sweeps` lets
+//! each request fail in turn.
 #![tactic(auto)]
 
 mod answers;
