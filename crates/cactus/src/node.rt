@@ -4,7 +4,7 @@ use frame::Path;
 use std::alloc::{AllocError, Global};
 
 /// One use of a slot.
-#[derive(Debug, Drop)]
+#[derive(Drop)]
 pub struct Node<F> {
     /// The number of frames that were made before this one.
     pub generation: u64,

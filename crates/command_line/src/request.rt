@@ -61,7 +61,6 @@ pub struct Setting {
 }
 
 /// The words of a command line, read.
-#[derive(Drop)]
 pub struct Request {
     pub verb: Verb,
     /// The file of the module.
@@ -82,6 +81,24 @@ pub struct Request {
     pub rule: Option<u16>,
     /// How the verb tells of the run, and where to.
     pub telling: Telling,
+}
+
+/// Written out, so that no crate above proves it anew.
+impl Drop for Request {
+    fn drop(self) {
+        let Request {
+            verb: _,
+            file: _,
+            schedule: _,
+            workers: _,
+            args: _,
+            set: _,
+            show: _,
+            table: _,
+            rule: _,
+            telling: _,
+        } = self;
+    }
 }
 
 impl Request {
@@ -126,11 +143,16 @@ impl Telling {
 }
 
 /// Why words are no request: a text for the user, or that memory was refused.
-#[derive(Drop)]
 pub struct WordsFault {
     /// Empty where memory was refused.
     pub text: Option<String>,
     pub memory: bool,
+}
+
+impl Drop for WordsFault {
+    fn drop(self) {
+        let WordsFault { text: _, memory: _ } = self;
+    }
 }
 
 impl WordsFault {

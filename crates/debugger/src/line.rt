@@ -13,7 +13,7 @@ use lists::{OutOfMemory, Seq};
 use std::alloc::Global;
 
 /// A line of a schedule's text.
-#[derive(Debug, Drop)]
+#[derive(Drop)]
 pub enum Line {
     /// The worker executes so many instructions, one after another.
     Steps { worker: u8, count: u64 },

@@ -5,7 +5,7 @@ ghost use Rattle.running.specs.Frames as frames;
 use program::{Block, BlockId, FunctionId, Program, RegisterId};
 
 /// What a frame waits for.
-#[derive(Clone, Copy, Debug, PartialEq, Eq)]
+#[derive(Clone, Copy, PartialEq, Eq)]
 pub enum Wait {
     Nothing,
     /// The end of its children within the region.
@@ -18,7 +18,7 @@ pub enum Wait {
 }
 
 /// What a frame runs.
-#[derive(Clone, Copy, Debug, PartialEq, Eq)]
+#[derive(Clone, Copy, PartialEq, Eq)]
 pub enum Role {
     /// The body of a function, to its return.
     Body,

@@ -8,9 +8,15 @@ use std::cmp::Ordering;
 
 /// The name of a frame: the root's is empty, and the k-th call or detach of a frame, counted together from 0, makes the
 /// child with k at the end.
-#[derive(Debug, Drop)]
 pub struct Path {
     pub numbers: Seq<u64>,
+}
+
+/// Written out, so that no crate above proves it anew.
+impl Drop for Path {
+    fn drop(self) {
+        let Path { numbers: _ } = self;
+    }
 }
 
 impl Path {

@@ -1,5 +1,5 @@
 /// What a token is by its bytes.
-#[derive(Clone, Copy, Debug, PartialEq, Eq)]
+#[derive(Clone, Copy, PartialEq, Eq)]
 pub enum Kind {
     /// A name behind its sigil, `%` or `@`.
     Name,
@@ -13,7 +13,7 @@ pub enum Kind {
 }
 
 /// The bytes of a line from `from` to before `to`, counted from 0.
-#[derive(Clone, Copy, Debug, PartialEq, Eq)]
+#[derive(Clone, Copy, PartialEq, Eq)]
 pub struct Token {
     pub kind: Kind,
     pub from: usize,

@@ -58,7 +58,12 @@ impl Drop for FunctionFacts {
 }
 
 /// What is known at each place of a program.
-#[derive(Drop)]
 pub struct Facts {
     pub functions: Seq<FunctionFacts>,
+}
+
+impl Drop for Facts {
+    fn drop(self) {
+        let Facts { functions: _ } = self;
+    }
 }

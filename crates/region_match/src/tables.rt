@@ -14,7 +14,12 @@ impl Drop for FunctionTasks {
 }
 
 /// The tasks of the blocks of each function.
-#[derive(Drop)]
 pub struct Regions {
     pub functions: Seq<FunctionTasks>,
+}
+
+impl Drop for Regions {
+    fn drop(self) {
+        let Regions { functions: _ } = self;
+    }
 }

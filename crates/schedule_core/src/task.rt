@@ -8,7 +8,7 @@ use frame::{Path, Wait, block_at};
 use program::{Block, BlockId, FunctionId, Program, RegisterId};
 
 /// How a task stands.
-#[derive(Clone, Copy, Debug, PartialEq, Eq)]
+#[derive(Clone, Copy, PartialEq, Eq)]
 pub enum Status {
     /// The worker runs it.
     Running(u8),

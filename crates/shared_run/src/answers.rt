@@ -19,7 +19,7 @@ pub enum Stepped {
 }
 
 /// What a strand was given.
-#[derive(Clone, Copy, Debug, PartialEq, Eq)]
+#[derive(Clone, Copy, PartialEq, Eq)]
 pub enum Fetched {
     /// The frame that the seat's worker runs next.
     Frame,

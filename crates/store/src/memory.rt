@@ -13,7 +13,7 @@ use std::marker::Model;
 use verifier::Verified;
 
 /// A global: its name and its numbers.
-#[derive(Debug, Drop)]
+#[derive(Drop)]
 pub(crate) struct GlobalCells {
     pub(crate) name: Name,
     pub(crate) cells: Vec<i64>,
@@ -59,7 +59,6 @@ impl GlobalCells {
 
 /// The memory that a run begins and ends with: the globals of a module, in its order. Contracts see it as their names
 /// and numbers.
-#[derive(Debug)]
 pub struct Memory {
     pub(crate) alloc: Global,
     pub(crate) globals: Vec<GlobalCells>,

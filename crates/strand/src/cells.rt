@@ -11,7 +11,7 @@ use std::alloc::Global;
 use std::marker::Model;
 
 /// What a strand keeps of a cell that it wrote.
-#[derive(Clone, Copy, Debug)]
+#[derive(Clone, Copy)]
 pub enum Change {
     /// The cell is to hold this.
     Stored(i64),
@@ -34,7 +34,7 @@ pub struct Written {
 }
 
 /// Why a strand cannot go on with a cell.
-#[derive(Clone, Copy, Debug)]
+#[derive(Clone, Copy)]
 pub enum Stop {
     /// It needs to know what the cell at this address holds.
     Need { at: i64 },

@@ -12,7 +12,6 @@ use program::Program;
 use std::alloc::Global;
 
 /// What a worker does outside of the machine with a copy of a frame, up to a pause.
-#[derive(Drop)]
 pub struct Strand<'p> {
     pub(crate) program: &'p Program,
     pub(crate) places: &'p Places,
@@ -20,6 +19,19 @@ pub struct Strand<'p> {
     /// Where it stands; None where it can go on.
     pub(crate) pause: Option<Pause>,
     pub ghost kept: { ∥ IsKept program.now places.now course pause ∥₁ },
+}
+
+/// Written out, so that no crate above proves it anew.
+impl Drop for Strand<'_> {
+    fn drop(self) {
+        let Strand {
+            program: _,
+            places: _,
+            course: _,
+            pause: _,
+            kept: _,
+        } = self;
+    }
 }
 
 /// As many registers as the largest function has.

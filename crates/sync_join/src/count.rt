@@ -1,7 +1,7 @@
 ghost use Rattle.std.specs.Prelude.{◌≡◌, ◌≢◌, ◌↔◌, ◌+◌, ◌<◌, ◌^◌};
 
 /// How the task of a parent stands when a child of the parent reattaches.
-#[derive(Clone, Copy, Debug, PartialEq, Eq)]
+#[derive(Clone, Copy)]
 pub enum Parent {
     /// A worker runs the task, or a call of the parent has not returned.
     Busy,
@@ -12,7 +12,7 @@ pub enum Parent {
 }
 
 /// What the worker of a child does after its reattach.
-#[derive(Clone, Copy, Debug, PartialEq, Eq)]
+#[derive(Clone, Copy, PartialEq, Eq)]
 pub enum Outcome {
     /// It goes on with the parent, which no thief took.
     ResumeReady,
@@ -23,14 +23,14 @@ pub enum Outcome {
 }
 
 /// What a sync does.
-#[derive(Clone, Copy, Debug, PartialEq, Eq)]
+#[derive(Clone, Copy, PartialEq, Eq)]
 pub enum Passage {
     Pass,
     Stall,
 }
 
 /// The number of children that a frame detached within one region and that still live.
-#[derive(Clone, Copy, Debug, PartialEq, Eq)]
+#[derive(Clone, Copy)]
 pub struct RegionCount {
     pub living: u64,
 }
