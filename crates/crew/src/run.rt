@@ -4,7 +4,7 @@ use engine::Flat;
 use std::alloc::Global;
 
 /// The cells that a slot's frames take for their allocas, one after the other.
-#[derive(Clone, Copy, PartialEq, Eq)]
+#[derive(Clone, Copy)]
 pub struct Block {
     pub start: usize,
     pub cells: usize,
