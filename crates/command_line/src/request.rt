@@ -143,16 +143,11 @@ impl Telling {
 }
 
 /// Why words are no request: a text for the user, or that memory was refused.
+#[derive(Drop)]
 pub struct WordsFault {
     /// Empty where memory was refused.
     pub text: Option<String>,
     pub memory: bool,
-}
-
-impl Drop for WordsFault {
-    fn drop(self) {
-        let WordsFault { text: _, memory: _ } = self;
-    }
 }
 
 impl WordsFault {

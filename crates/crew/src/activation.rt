@@ -11,6 +11,7 @@ use sync_join::RegionCount;
 
 /// A living frame with what the scheduler knows of it. A task is a frame that no call made, with the frames called on top of it, one on
 /// the other; the uppermost is the task's top.
+#[derive(Drop)]
 pub struct Activation {
     pub frame: Frame,
     /// By the register that names a region: the children that the frame detached within it and that still live.
@@ -21,19 +22,6 @@ pub struct Activation {
     pub runner: Option<u8>,
     /// The block at whose sync the frame stalls; the frame itself stands at the sync's target.
     pub stalled_in: Option<BlockId>,
-}
-
-/// Written out, so that no crate above proves it anew.
-impl Drop for Activation {
-    fn drop(self) {
-        let Activation {
-            frame: _,
-            counts: _,
-            callee: _,
-            runner: _,
-            stalled_in: _,
-        } = self;
-    }
 }
 
 impl Activation {

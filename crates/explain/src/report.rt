@@ -2,6 +2,7 @@ use findings::Finding;
 use lists::Seq;
 
 /// What a module's text comes to.
+#[derive(Drop)]
 pub enum Explanation {
     /// The verifier takes the module. The remarks say what it could do without, in lines that end with LF.
     Accepted {
@@ -12,17 +13,4 @@ pub enum Explanation {
         first: Finding,
         others: Seq<Finding>,
     },
-}
-
-/// Written out, so that no crate above proves it anew.
-impl Drop for Explanation {
-    fn drop(self) {
-        match self {
-            Explanation::Accepted { remarks: _ } => {}
-            Explanation::Refused {
-                first: _,
-                others: _,
-            } => {}
-        }
-    }
 }

@@ -4,21 +4,11 @@ use lists::OutOfMemory;
 use std::hash::RandomState;
 
 /// A broken rule and the line that breaks it, with what there is to say of it: lines that end with LF.
+#[derive(Drop)]
 pub struct Finding {
     pub number: u16,
     pub line: u32,
     pub notes: String,
-}
-
-/// Written out, so that no crate above proves it anew.
-impl Drop for Finding {
-    fn drop(self) {
-        let Finding {
-            number: _,
-            line: _,
-            notes: _,
-        } = self;
-    }
 }
 
 /// A module's text, and what its names are hashed with.

@@ -3,7 +3,7 @@ use lists::{Name, Seq};
 use syntax::{Global, Instruction, Parameter, Phi, ResultType, Terminator};
 
 /// What a line of the text says. Lines that are blank or hold only a comment say nothing.
-#[derive(Debug)]
+#[derive(Debug, Drop)]
 pub enum Item {
     Global(Global),
     /// `define T @f(..) {`
@@ -21,24 +21,4 @@ pub enum Item {
     Close,
     /// `;! ..`
     Annotation(Annotation),
-}
-
-/// Written out, so that no crate above proves it anew.
-impl Drop for Item {
-    fn drop(self) {
-        match self {
-            Item::Global(_) => {}
-            Item::Define {
-                name: _,
-                result_type: _,
-                parameters: _,
-            } => {}
-            Item::Label(_) => {}
-            Item::Phi(_) => {}
-            Item::Instruction(_) => {}
-            Item::Terminator(_) => {}
-            Item::Close => {}
-            Item::Annotation(_) => {}
-        }
-    }
 }

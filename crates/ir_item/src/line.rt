@@ -18,21 +18,11 @@ use refusal::Refused;
 use std::alloc::Global;
 
 /// An item with the judgement of its numbers and names.
-#[derive(Debug)]
+#[derive(Debug, Drop)]
 pub struct Line {
     pub item: Item,
     /// Whether each number is in its range and each name has at most 64 bytes. A number outside its range is any number in it.
     pub is_within_limits: bool,
-}
-
-/// Written out, so that no crate above proves it anew.
-impl Drop for Line {
-    fn drop(self) {
-        let Line {
-            item: _,
-            is_within_limits: _,
-        } = self;
-    }
 }
 
 /// Whether a number is in `i64` and a name has at most 64 bytes.

@@ -18,19 +18,10 @@ pub struct Term {
 ///
 /// The registers rise; a coefficient is below 2^24 and the constant below 2^100 in size, so that products of two forms' numbers are
 /// exact in 128 bits. Contracts see the terms and the constant as a `Combination`.
+#[derive(Drop)]
 pub struct Form {
     pub terms: Seq<Term>,
     pub constant: i128,
-}
-
-/// Written out, so that no crate above proves it anew.
-impl Drop for Form {
-    fn drop(self) {
-        let Form {
-            terms: _,
-            constant: _,
-        } = self;
-    }
 }
 
 impl Model for Form {
@@ -42,12 +33,7 @@ impl Model for Form {
 }
 
 /// A form that is at least 0.
+#[derive(Drop)]
 pub struct Fact {
     pub form: Form,
-}
-
-impl Drop for Fact {
-    fn drop(self) {
-        let Fact { form: _ } = self;
-    }
 }

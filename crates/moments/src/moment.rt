@@ -76,18 +76,9 @@ pub enum Outcome {
 }
 
 /// One event of a run.
+#[derive(Drop)]
 pub struct Moment {
     /// Where the event found the task that it is about: the worker's own, or the one to be taken. None where there is none.
     pub place: Option<Place>,
     pub outcome: Outcome,
-}
-
-/// Written out, so that no crate above proves it anew.
-impl Drop for Moment {
-    fn drop(self) {
-        let Moment {
-            place: _,
-            outcome: _,
-        } = self;
-    }
 }

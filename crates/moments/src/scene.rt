@@ -33,6 +33,7 @@ pub struct Miss {
 }
 
 /// A whole run. Workers, tasks and events are numbered from 0.
+#[derive(Drop)]
 pub struct Scene {
     alloc: Global,
     /// The tasks by their numbers, in the order of their first instruction.
@@ -51,24 +52,6 @@ pub struct Scene {
     hands: Vec<Option<Stay>>,
     /// The last worker of each task.
     runners: Vec<usize>,
-}
-
-/// Written out, so that no crate above proves it anew.
-impl Drop for Scene {
-    fn drop(self) {
-        let Scene {
-            alloc: _,
-            tasks: _,
-            stays: _,
-            works: _,
-            thefts: _,
-            misses: _,
-            events: _,
-            end: _,
-            hands: _,
-            runners: _,
-        } = self;
-    }
 }
 
 fn worker_of(event: &Event) -> usize {

@@ -14,34 +14,17 @@ pub struct Part {
 }
 
 /// A sum of operands times numbers, and a number.
+#[derive(Drop)]
 pub struct Sum {
     pub constant: i128,
     pub parts: Seq<Part>,
 }
 
-/// Written out, so that no crate above proves it anew.
-impl Drop for Sum {
-    fn drop(self) {
-        let Sum {
-            constant: _,
-            parts: _,
-        } = self;
-    }
-}
-
 /// What the rule of this number asks: one of the choices is shown to be at least 0.
+#[derive(Drop)]
 pub struct Obligation {
     pub number: u16,
     pub choices: Seq<Sum>,
-}
-
-impl Drop for Obligation {
-    fn drop(self) {
-        let Obligation {
-            number: _,
-            choices: _,
-        } = self;
-    }
 }
 
 impl Sum {

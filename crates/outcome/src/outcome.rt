@@ -1,6 +1,7 @@
 use store::Memory;
 
 /// What a run that has ended comes to.
+#[derive(Drop)]
 pub struct Finished {
     /// What `main` returned.
     pub result: i64,
@@ -12,19 +13,8 @@ pub struct Finished {
     pub peak: u64,
 }
 
-/// Written out, so that no crate above proves it anew.
-impl Drop for Finished {
-    fn drop(self) {
-        let Finished {
-            result: _,
-            memory: _,
-            instructions: _,
-            peak: _,
-        } = self;
-    }
-}
-
 /// Why a run does not begin, or does not end.
+#[derive(Drop)]
 pub enum RunFault {
     /// 801: 0 for a wrong number of arguments, else the first `requires` of `main` that they do not meet, counted from
     /// 1. The memory is as it was handed in.
@@ -33,17 +23,4 @@ pub enum RunFault {
     BadWorkers { memory: Memory },
     /// 803: memory was refused.
     OutOfMemory,
-}
-
-impl Drop for RunFault {
-    fn drop(self) {
-        match self {
-            RunFault::BadArguments {
-                requirement: _,
-                memory: _,
-            } => {}
-            RunFault::BadWorkers { memory: _ } => {}
-            RunFault::OutOfMemory => {}
-        }
-    }
 }

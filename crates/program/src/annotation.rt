@@ -4,24 +4,15 @@ use lists::Seq;
 use syntax::Mode;
 
 /// `low` is at most `high`; `F >= G` stands here as `G <= F`.
+#[derive(Drop)]
 pub struct Inequality {
     pub line: u32,
     pub low: Form,
     pub high: Form,
 }
 
-/// Written out, so that no crate above proves it anew.
-impl Drop for Inequality {
-    fn drop(self) {
-        let Inequality {
-            line: _,
-            low: _,
-            high: _,
-        } = self;
-    }
-}
-
 /// The cells of an object from `low` to before `high`, and what they may be used for.
+#[derive(Drop)]
 pub struct Zone {
     pub line: u32,
     pub mode: Mode,
@@ -30,28 +21,11 @@ pub struct Zone {
     pub high: Form,
 }
 
-impl Drop for Zone {
-    fn drop(self) {
-        let Zone {
-            line: _,
-            mode: _,
-            object: _,
-            low: _,
-            high: _,
-        } = self;
-    }
-}
-
 /// What children of a region that may still run may touch.
+#[derive(Drop)]
 pub struct Pending {
     pub region: RegisterId,
     pub zone: Zone,
-}
-
-impl Drop for Pending {
-    fn drop(self) {
-        let Pending { region: _, zone: _ } = self;
-    }
 }
 
 /// What falls with each self call, and its greatest value.
@@ -71,18 +45,9 @@ pub struct Budget {
 }
 
 /// What may still be used from a block's start on.
+#[derive(Drop)]
 pub struct Left {
     pub line: u32,
     pub self_calls: Form,
     pub instructions: Form,
-}
-
-impl Drop for Left {
-    fn drop(self) {
-        let Left {
-            line: _,
-            self_calls: _,
-            instructions: _,
-        } = self;
-    }
 }

@@ -6,20 +6,11 @@ use lists::{Name, Seq};
 use syntax::{ResultType, Width};
 
 /// A global array; its cells begin at 0.
+#[derive(Drop)]
 pub struct Global {
     pub line: u32,
     pub name: Name,
     pub cells: u64,
-}
-
-impl Drop for Global {
-    fn drop(self) {
-        let Global {
-            line: _,
-            name: _,
-            cells: _,
-        } = self;
-    }
 }
 
 /// A parameter: an `i64`, or a whole object of at least so many cells.
@@ -52,6 +43,7 @@ pub struct Alloca {
 }
 
 /// A block with its annotations. A block without an ending is refused by the layer of the graph.
+#[derive(Drop)]
 pub struct Block {
     pub line: u32,
     pub keeps: Seq<Inequality>,
@@ -61,21 +53,6 @@ pub struct Block {
     pub phis: Seq<Phi>,
     pub steps: Seq<Step>,
     pub ending: Option<Ending>,
-}
-
-impl Drop for Block {
-    fn drop(self) {
-        let Block {
-            line: _,
-            keeps: _,
-            pending: _,
-            left: _,
-            foot: _,
-            phis: _,
-            steps: _,
-            ending: _,
-        } = self;
-    }
 }
 
 /// A function with its annotations. The parameters are the registers from 0 on, in their order; the other

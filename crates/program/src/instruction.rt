@@ -33,6 +33,7 @@ pub struct PhiEntry {
 }
 
 /// A phi (LLVM Language Reference, "phi").
+#[derive(Drop)]
 pub struct Phi {
     pub line: u32,
     pub register: RegisterId,
@@ -40,19 +41,8 @@ pub struct Phi {
     pub entries: Seq<PhiEntry>,
 }
 
-/// Written out, so that no crate above proves it anew.
-impl Drop for Phi {
-    fn drop(self) {
-        let Phi {
-            line: _,
-            register: _,
-            width: _,
-            entries: _,
-        } = self;
-    }
-}
-
 /// An instruction that is neither a phi nor a terminator. `register` is the register that it defines.
+#[derive(Drop)]
 pub enum Instruction {
     Binary {
         register: RegisterId,
@@ -112,78 +102,12 @@ pub enum Instruction {
     },
 }
 
-impl Drop for Instruction {
-    fn drop(self) {
-        match self {
-            Instruction::Binary {
-                register: _,
-                operator: _,
-                width: _,
-                left: _,
-                right: _,
-            } => {}
-            Instruction::Compare {
-                register: _,
-                predicate: _,
-                width: _,
-                left: _,
-                right: _,
-            } => {}
-            Instruction::Convert {
-                register: _,
-                conversion: _,
-                value: _,
-            } => {}
-            Instruction::Alloca {
-                register: _,
-                alloca: _,
-            } => {}
-            Instruction::ElementPointer {
-                register: _,
-                object: _,
-                index: _,
-            } => {}
-            Instruction::Load {
-                register: _,
-                address: _,
-            } => {}
-            Instruction::Store {
-                value: _,
-                address: _,
-            } => {}
-            Instruction::StoreZeros {
-                cells: _,
-                object: _,
-            } => {}
-            Instruction::AtomicAdd {
-                address: _,
-                value: _,
-            } => {}
-            Instruction::Call {
-                register: _,
-                callee: _,
-                arguments: _,
-            } => {}
-            Instruction::StartRegion { register: _ } => {}
-        }
-    }
-}
-
 /// An instruction with the `shows` lines directly before it.
+#[derive(Drop)]
 pub struct Step {
     pub line: u32,
     pub shows: Seq<Inequality>,
     pub instruction: Instruction,
-}
-
-impl Drop for Step {
-    fn drop(self) {
-        let Step {
-            line: _,
-            shows: _,
-            instruction: _,
-        } = self;
-    }
 }
 
 /// A case of a switch.
@@ -194,6 +118,7 @@ pub struct Case {
 }
 
 /// What ends a block (LLVM Language Reference, "Terminator Instructions"; Tapir for the last three).
+#[derive(Drop)]
 pub enum Terminator {
     Jump {
         target: BlockId,
@@ -227,52 +152,10 @@ pub enum Terminator {
     },
 }
 
-impl Drop for Terminator {
-    fn drop(self) {
-        match self {
-            Terminator::Jump { target: _ } => {}
-            Terminator::Branch {
-                condition: _,
-                when_true: _,
-                when_false: _,
-            } => {}
-            Terminator::Switch {
-                width: _,
-                value: _,
-                default: _,
-                cases: _,
-            } => {}
-            Terminator::Return { value: _ } => {}
-            Terminator::Detach {
-                region: _,
-                body: _,
-                continuation: _,
-            } => {}
-            Terminator::Reattach {
-                region: _,
-                continuation: _,
-            } => {}
-            Terminator::Sync {
-                region: _,
-                target: _,
-            } => {}
-        }
-    }
-}
-
 /// A terminator with the `shows` lines directly before it.
+#[derive(Drop)]
 pub struct Ending {
     pub line: u32,
     pub shows: Seq<Inequality>,
     pub terminator: Terminator,
-}
-
-impl Drop for Ending {
-    fn drop(self) {
-        let Ending {
-            line: _,
-            shows: _,
-            terminator: _,
-        } = self;
-    }
 }

@@ -6,19 +6,10 @@ use std::sync::ledger::Share;
 
 /// A worker's seat at a board: one part of the run's ledger. Contracts see the worker, and how many events the calls at this seat
 /// appended.
+#[derive(Drop)]
 pub struct Seat<L: Bench> {
     pub(crate) worker: u8,
     pub(crate) share: Share<L>,
-}
-
-/// Written out, so that no crate above proves it anew.
-impl<L: Bench> Drop for Seat<L> {
-    fn drop(self) {
-        let Seat {
-            worker: _,
-            share: _,
-        } = self;
-    }
 }
 
 impl<L: Bench> Model for Seat<L> {

@@ -3,36 +3,17 @@ use crate::operator::Mode;
 use lists::{Name, Seq};
 
 /// A register times a number; the number is not 0.
-#[derive(Debug)]
+#[derive(Debug, Drop)]
 pub struct Term {
     pub register: Name,
     pub coefficient: i64,
 }
 
-/// Written out, so that no crate above proves it anew.
-impl Drop for Term {
-    fn drop(self) {
-        let Term {
-            register: _,
-            coefficient: _,
-        } = self;
-    }
-}
-
 /// A sum of registers times numbers, and a number. The terms rise by the bytes of their names; no number is -2^63.
-#[derive(Debug)]
+#[derive(Debug, Drop)]
 pub struct Form {
     pub terms: Seq<Term>,
     pub constant: i64,
-}
-
-impl Drop for Form {
-    fn drop(self) {
-        let Form {
-            terms: _,
-            constant: _,
-        } = self;
-    }
 }
 
 /// `<=` or `>=`
@@ -43,7 +24,7 @@ pub enum Relation {
 }
 
 /// `F R F` of `requires`, `ensures`, `keeps` and `shows`.
-#[derive(Debug)]
+#[derive(Debug, Drop)]
 pub struct Inequality {
     pub line: u32,
     pub left: Form,
@@ -51,19 +32,8 @@ pub struct Inequality {
     pub right: Form,
 }
 
-impl Drop for Inequality {
-    fn drop(self) {
-        let Inequality {
-            line: _,
-            left: _,
-            relation: _,
-            right: _,
-        } = self;
-    }
-}
-
 /// Cells of an object from `low` to before `high`: `O F F`.
-#[derive(Debug)]
+#[derive(Debug, Drop)]
 pub struct Zone {
     pub line: u32,
     pub mode: Mode,
@@ -72,29 +42,11 @@ pub struct Zone {
     pub high: Form,
 }
 
-impl Drop for Zone {
-    fn drop(self) {
-        let Zone {
-            line: _,
-            mode: _,
-            object: _,
-            low: _,
-            high: _,
-        } = self;
-    }
-}
-
 /// `pending %s MODE O F F`
-#[derive(Debug)]
+#[derive(Debug, Drop)]
 pub struct Pending {
     pub region: Name,
     pub zone: Zone,
-}
-
-impl Drop for Pending {
-    fn drop(self) {
-        let Pending { region: _, zone: _ } = self;
-    }
 }
 
 /// `measure F max N`. Where it is left out it is `0 max 0` on the function's line.
@@ -114,25 +66,15 @@ pub struct Budget {
 }
 
 /// `left F F`: self calls and instructions. Where it is left out it is `0 0` on the label's line.
-#[derive(Debug)]
+#[derive(Debug, Drop)]
 pub struct Left {
     pub line: u32,
     pub self_calls: Form,
     pub instructions: Form,
 }
 
-impl Drop for Left {
-    fn drop(self) {
-        let Left {
-            line: _,
-            self_calls: _,
-            instructions: _,
-        } = self;
-    }
-}
-
 /// The annotations of a function, each kind in the order of the text.
-#[derive(Debug)]
+#[derive(Debug, Drop)]
 pub struct FunctionNotes {
     pub requirements: Seq<Inequality>,
     pub guarantees: Seq<Inequality>,
@@ -143,36 +85,11 @@ pub struct FunctionNotes {
     pub budget: Budget,
 }
 
-impl Drop for FunctionNotes {
-    fn drop(self) {
-        let FunctionNotes {
-            requirements: _,
-            guarantees: _,
-            reads: _,
-            writes: _,
-            adds: _,
-            measure: _,
-            budget: _,
-        } = self;
-    }
-}
-
 /// The annotations at the head of a block, each kind in the order of the text.
-#[derive(Debug)]
+#[derive(Debug, Drop)]
 pub struct BlockNotes {
     pub keeps: Seq<Inequality>,
     pub pending: Seq<Pending>,
     pub left: Left,
     pub foot: Seq<Zone>,
-}
-
-impl Drop for BlockNotes {
-    fn drop(self) {
-        let BlockNotes {
-            keeps: _,
-            pending: _,
-            left: _,
-            foot: _,
-        } = self;
-    }
 }

@@ -6,52 +6,24 @@ use crate::operator::{BinaryOperator, Conversion, Predicate, Width};
 use lists::{Name, Seq};
 
 /// A value of a number's type as the text writes it: a number or a register.
-#[derive(Debug)]
+#[derive(Debug, Drop)]
 pub enum Operand {
     Number(i64),
     Register(Name),
 }
 
-/// Written out, so that no crate above proves it anew.
-impl Drop for Operand {
-    fn drop(self) {
-        match self {
-            Operand::Number(_) => {}
-            Operand::Register(_) => {}
-        }
-    }
-}
-
 /// A value of type `ptr` as the text writes it: a register or a global.
-#[derive(Debug)]
+#[derive(Debug, Drop)]
 pub enum Address {
     Register(Name),
     Global(Name),
 }
 
-impl Drop for Address {
-    fn drop(self) {
-        match self {
-            Address::Register(_) => {}
-            Address::Global(_) => {}
-        }
-    }
-}
-
 /// An argument of a call: `i64 V` or `ptr P`.
-#[derive(Debug)]
+#[derive(Debug, Drop)]
 pub enum Argument {
     Number(Operand),
     Pointer(Address),
-}
-
-impl Drop for Argument {
-    fn drop(self) {
-        match self {
-            Argument::Number(_) => {}
-            Argument::Pointer(_) => {}
-        }
-    }
 }
 
 /// How an `alloca` spells its size: `i64` or `[N x i64]`.
@@ -74,23 +46,14 @@ impl AllocaSize {
 }
 
 /// `[ V, %l ]` of a phi.
-#[derive(Debug)]
+#[derive(Debug, Drop)]
 pub struct PhiEntry {
     pub value: Operand,
     pub predecessor: Name,
 }
 
-impl Drop for PhiEntry {
-    fn drop(self) {
-        let PhiEntry {
-            value: _,
-            predecessor: _,
-        } = self;
-    }
-}
-
 /// `%d = phi T [ V, %l ], ..`
-#[derive(Debug)]
+#[derive(Debug, Drop)]
 pub struct Phi {
     pub line: u32,
     pub register: Name,
@@ -98,19 +61,8 @@ pub struct Phi {
     pub entries: Seq<PhiEntry>,
 }
 
-impl Drop for Phi {
-    fn drop(self) {
-        let Phi {
-            line: _,
-            register: _,
-            width: _,
-            entries: _,
-        } = self;
-    }
-}
-
 /// An instruction that is neither a phi nor a terminator. `register` is the register that it defines.
-#[derive(Debug)]
+#[derive(Debug, Drop)]
 pub enum Instruction {
     /// `%d = OP T V, V`
     Binary {
@@ -177,77 +129,10 @@ pub enum Instruction {
     },
 }
 
-impl Drop for Instruction {
-    fn drop(self) {
-        match self {
-            Instruction::Binary {
-                register: _,
-                operator: _,
-                width: _,
-                left: _,
-                right: _,
-            } => {}
-            Instruction::Compare {
-                register: _,
-                predicate: _,
-                width: _,
-                left: _,
-                right: _,
-            } => {}
-            Instruction::Convert {
-                register: _,
-                conversion: _,
-                value: _,
-            } => {}
-            Instruction::Alloca {
-                register: _,
-                size: _,
-            } => {}
-            Instruction::ElementPointer {
-                register: _,
-                base: _,
-                index: _,
-            } => {}
-            Instruction::Load {
-                register: _,
-                address: _,
-            } => {}
-            Instruction::Store {
-                value: _,
-                address: _,
-            } => {}
-            Instruction::StoreZeros {
-                cells: _,
-                address: _,
-            } => {}
-            Instruction::AtomicAdd {
-                address: _,
-                value: _,
-            } => {}
-            Instruction::Call {
-                register: _,
-                callee: _,
-                arguments: _,
-            } => {}
-            Instruction::StartRegion { register: _ } => {}
-        }
-    }
-}
-
 /// An instruction with the `shows` lines directly before it.
-#[derive(Debug)]
+#[derive(Debug, Drop)]
 pub struct Step {
     pub line: u32,
     pub shows: Seq<Inequality>,
     pub instruction: Instruction,
-}
-
-impl Drop for Step {
-    fn drop(self) {
-        let Step {
-            line: _,
-            shows: _,
-            instruction: _,
-        } = self;
-    }
 }

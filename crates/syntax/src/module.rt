@@ -4,21 +4,11 @@ use crate::terminator::Ending;
 use lists::{Name, Seq};
 
 /// `@a = global [N x i64] zeroinitializer`
-#[derive(Debug)]
+#[derive(Debug, Drop)]
 pub struct Global {
     pub line: u32,
     pub name: Name,
     pub cells: u64,
-}
-
-impl Drop for Global {
-    fn drop(self) {
-        let Global {
-            line: _,
-            name: _,
-            cells: _,
-        } = self;
-    }
 }
 
 /// `i64` or `void`
@@ -29,7 +19,7 @@ pub enum ResultType {
 }
 
 /// A parameter, on the line of its `define`. A pointer's bytes are eight times its cells.
-#[derive(Debug)]
+#[derive(Debug, Drop)]
 pub enum Parameter {
     /// `i64 %x`
     Number { name: Name },
@@ -37,17 +27,8 @@ pub enum Parameter {
     Pointer { name: Name, cells: u64 },
 }
 
-impl Drop for Parameter {
-    fn drop(self) {
-        match self {
-            Parameter::Number { name: _ } => {}
-            Parameter::Pointer { name: _, cells: _ } => {}
-        }
-    }
-}
-
 /// A label with all that stands up to the next one. A block without an ending is refused by the layers above.
-#[derive(Debug)]
+#[derive(Debug, Drop)]
 pub struct Block {
     pub line: u32,
     pub label: Name,
@@ -55,19 +36,6 @@ pub struct Block {
     pub phis: Seq<Phi>,
     pub steps: Seq<Step>,
     pub ending: Option<Ending>,
-}
-
-impl Drop for Block {
-    fn drop(self) {
-        let Block {
-            line: _,
-            label: _,
-            notes: _,
-            phis: _,
-            steps: _,
-            ending: _,
-        } = self;
-    }
 }
 
 /// A function; its first block is the entry.
@@ -96,17 +64,8 @@ impl Drop for Function {
 }
 
 /// A module as its text spells it.
-#[derive(Debug)]
+#[derive(Debug, Drop)]
 pub struct Module {
     pub globals: Seq<Global>,
     pub functions: Seq<Function>,
-}
-
-impl Drop for Module {
-    fn drop(self) {
-        let Module {
-            globals: _,
-            functions: _,
-        } = self;
-    }
 }

@@ -4,24 +4,14 @@ use crate::operator::Width;
 use lists::{Name, Seq};
 
 /// `T N, label %l` of a switch.
-#[derive(Debug)]
+#[derive(Debug, Drop)]
 pub struct Case {
     pub number: i64,
     pub target: Name,
 }
 
-/// Written out, so that no crate above proves it anew.
-impl Drop for Case {
-    fn drop(self) {
-        let Case {
-            number: _,
-            target: _,
-        } = self;
-    }
-}
-
 /// What ends a block. Targets are labels; a region is named by its register.
-#[derive(Debug)]
+#[derive(Debug, Drop)]
 pub enum Terminator {
     /// `br label %l`
     Jump {
@@ -62,53 +52,10 @@ pub enum Terminator {
     },
 }
 
-impl Drop for Terminator {
-    fn drop(self) {
-        match self {
-            Terminator::Jump { target: _ } => {}
-            Terminator::Branch {
-                condition: _,
-                when_true: _,
-                when_false: _,
-            } => {}
-            Terminator::Switch {
-                width: _,
-                value: _,
-                default: _,
-                cases: _,
-            } => {}
-            Terminator::Return { value: _ } => {}
-            Terminator::Detach {
-                region: _,
-                body: _,
-                continuation: _,
-            } => {}
-            Terminator::Reattach {
-                region: _,
-                continuation: _,
-            } => {}
-            Terminator::Sync {
-                region: _,
-                target: _,
-            } => {}
-        }
-    }
-}
-
 /// A terminator with the `shows` lines directly before it.
-#[derive(Debug)]
+#[derive(Debug, Drop)]
 pub struct Ending {
     pub line: u32,
     pub shows: Seq<Inequality>,
     pub terminator: Terminator,
-}
-
-impl Drop for Ending {
-    fn drop(self) {
-        let Ending {
-            line: _,
-            shows: _,
-            terminator: _,
-        } = self;
-    }
 }
