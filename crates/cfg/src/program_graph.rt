@@ -20,8 +20,6 @@ impl Drop for Graph {
         let Graph {
             program: _,
             functions: _,
-            edges: _,
-            right: _,
         } = self;
     }
 }

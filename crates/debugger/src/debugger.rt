@@ -22,7 +22,6 @@ impl Drop for Debugger<'_> {
             position: _,
             machine: _,
             marks: _,
-            within: _,
         } = self;
     }
 }

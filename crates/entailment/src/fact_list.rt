@@ -117,7 +117,11 @@ impl FactList {
     pub fn into_vec(self) -> Vec<Fact>
         ensures { result.items ≡ self }
     {
-        let FactList { facts, .. } = self;
+        let FactList {
+            facts,
+            entries: _,
+            entered: _,
+        } = self;
         facts
     }
 }

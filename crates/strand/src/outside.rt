@@ -29,7 +29,6 @@ impl Drop for Strand<'_> {
             places: _,
             course: _,
             pause: _,
-            kept: _,
         } = self;
     }
 }
