@@ -182,19 +182,30 @@ fn fault_of(alloc: Global, error: Error) -> WordsFault {
     }
 }
 
-fn file_word<'a>(alloc: Global) -> Arg<'a> {
-    Arg::new(alloc, "file")
-        .value_name("FILE")
+/// A word that has to be there.
+fn word<'a>(alloc: Global, name: &'a str, value: &'a str, help: &'a str) -> Arg<'a> {
+    Arg::new(alloc, name)
+        .value_name(value)
         .required(true)
-        .help("the text of the module")
+        .help(help)
+}
+
+fn file_word<'a>(alloc: Global) -> Arg<'a> {
+    word(alloc, "file", "FILE", "the text of the module")
+}
+
+/// An option with a value.
+fn option<'a>(alloc: Global, name: &'a str, value: &'a str, help: &'a str) -> Arg<'a> {
+    Arg::new(alloc, name)
+        .long(name)
+        .value_name(value)
+        .action(ArgAction::Set)
+        .help(help)
 }
 
 fn table_option<'a>(alloc: Global) -> Arg<'a> {
-    Arg::new(alloc, "table")
-        .long("table")
-        .value_name("@f")
-        .action(ArgAction::Set)
-        .help("prints the costs and depths of a function")
+    let help = "prints the costs and depths of a function";
+    option(alloc, "table", "@f", help)
 }
 
 fn verify_command<'a>(alloc: Global) -> Result<Command<'a>, AllocError> {
@@ -242,10 +253,8 @@ fn annotate_command<'a>(alloc: Global) -> Result<Command<'a>, AllocError> {
 }
 
 fn explain_command<'a>(alloc: Global) -> Result<Command<'a>, AllocError> {
-    let file = Arg::new(alloc, "file")
-        .value_name("FILE|NUMBER")
-        .required(true)
-        .help("the text of a module, or the number of a rule");
+    let help = "the text of a module, or the number of a rule";
+    let file = word(alloc, "file", "FILE|NUMBER", help);
     Command::new(alloc, "explain")
         .about(
             "says why a module is refused and what was to be shown, or what an accepted one could do without; or prints a rule",
@@ -288,29 +297,18 @@ fn serial_command<'a>(alloc: Global) -> Result<Command<'a>, AllocError> {
 }
 
 fn workers<'a>(alloc: Global) -> Arg<'a> {
-    Arg::new(alloc, "workers")
-        .long("workers")
-        .value_name("N")
-        .required(true)
-        .action(ArgAction::Set)
-        .help("the number of workers, from 1 to 64")
+    let help = "the number of workers, from 1 to 64";
+    option(alloc, "workers", "N", help).required(true)
 }
 
 fn seed_option<'a>(alloc: Global) -> Arg<'a> {
-    Arg::new(alloc, "seed")
-        .long("seed")
-        .value_name("S")
-        .action(ArgAction::Set)
-        .help("draws the events, at most 1048576, at random by this number")
+    let help = "draws the events, at most 1048576, at random by this number";
+    option(alloc, "seed", "S", help)
 }
 
 fn drawn_option<'a>(alloc: Global) -> Result<Arg<'a>, AllocError> {
-    Arg::new(alloc, "save")
-        .long("save")
-        .value_name("OUT")
-        .action(ArgAction::Set)
-        .help("writes the events to a file, as replay takes them")
-        .requires_arg("seed")
+    let help = "writes the events to a file, as replay takes them";
+    option(alloc, "save", "OUT", help).requires_arg("seed")
 }
 
 fn run_command<'a>(alloc: Global) -> Result<Command<'a>, AllocError> {
@@ -324,10 +322,8 @@ fn run_command<'a>(alloc: Global) -> Result<Command<'a>, AllocError> {
 }
 
 fn schedule_word<'a>(alloc: Global) -> Arg<'a> {
-    Arg::new(alloc, "schedule")
-        .value_name("SCHEDULE")
-        .required(true)
-        .help("the events, a line for each: step W N, or steal W PATH")
+    let help = "the events, a line for each: step W N, or steal W PATH";
+    word(alloc, "schedule", "SCHEDULE", help)
 }
 
 /// The words of a verb that follows a schedule.
@@ -345,11 +341,8 @@ fn trace_option<'a>(alloc: Global) -> Arg<'a> {
 }
 
 fn picture_option<'a>(alloc: Global) -> Arg<'a> {
-    Arg::new(alloc, "picture")
-        .long("picture")
-        .value_name("OUT")
-        .action(ArgAction::Set)
-        .help("writes a picture of the run to a file, as SVG")
+    let help = "writes a picture of the run to a file, as SVG";
+    option(alloc, "picture", "OUT", help)
 }
 
 fn replay_command<'a>(alloc: Global) -> Result<Command<'a>, AllocError> {

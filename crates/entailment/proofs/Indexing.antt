@@ -3,6 +3,7 @@ use Rattle.std.proofs.Common.{◌≡◌, ◌∙◌, ℕ, zero, suc, ◌<◌, ◌
 use Rattle.std.specs.List.{All, Contains}
 use Rattle.std.specs.List.Sorted.{IsNonDecreasingBy}
 use Rattle.std.specs.Option.{IfSome}
+use Rattle.std.proofs.Math.IntN.{zero-*ℤ}
 use Rattle.std.proofs.Math.ListN.{get_or-append}
 use Rattle.std.proofs.lemmas.Int.{ints}
 use Rattle.std.proofs.lemmas.Bool.{cases_eq, cases_lt}
@@ -16,7 +17,7 @@ use Rattle.linear.specs.Forms.{Combination, coefficient_of, constant_form, IsRis
 use Rattle.entailment.specs.declared.index.Entry.{Entry}
 use Rattle.entailment.specs.Shown.{IsSum, IsShown, sides}
 use Rattle.entailment.specs.Search.{factors, has_some, IsLeft, IsFound}
-use Rattle.entailment.specs.Index.{weight, weigh, IsKeyOf, place_at, IsEntry, IsAsStrong, IsIndexed, IsIndex, IsBegun, IsMadeUp, IsMadeUpByA}
+use Rattle.entailment.specs.Index.{weight, weigh, IsKeyOf, place_at, IsEntry, IsAsStrong, IsIndexed, IsIndex, IsBegun, IsMadeUp, IsMadeUpWith, IsMadeUpByA}
 use Rattle.linear.proofs.Values.{distributes, value_combines}
 use Rattle.entailment.proofs.Sound.{keeps_sign}
 use Rattle.entailment.proofs.Newest.{in_newest, in_sides}
@@ -214,6 +215,24 @@ alone_shown facts e b rising in_b (g, in_g, sum) = record {
   b_is = is_factor e b rising in_b;
   sum = sum;
 }
+
+-- with a factor 0 the second fact counts for nothing, as the absent one does with the factor 1
+second_nothing : (facts : List Fact) (e f : Combination) (a : ℕ) → IsMadeUp facts e f a 0 → IsMadeUp facts e f a 1
+second_nothing facts e f a (g, in_g, sum) =
+    let with_one : IsSum e a f 1 (constant_form (pos 0)) = record {
+      terms = λ r. sum.terms r ∙ ap (λ x. (pos a *ℤ coefficient_of f.terms r) +ℤ x) (zero-*ℤ (coefficient_of g.terms r));
+      constant = subst (λ x. ((pos a *ℤ f.constant) +ℤ x) ≤ℤ e.constant) (zero-*ℤ g.constant) sum.constant;
+    } in
+    (constant_form (pos 0), (0, omega arith, refl), with_one)
+
+with_nothing : (facts : List Fact) (e : Combination) (lead : Option RegisterId) (es : List Entry) (a : ℕ) → IsMadeUpWith facts e lead es a 0 → IsMadeUpWith facts e lead es a 1
+with_nothing facts e lead es a (first, c, (leads, second)) = (first, c, (leads, second_nothing facts e (place_at facts first.place) a second))
+
+-- so a factor 0 need not be tried after the factor 1
+pub nothing_not : (facts : List Fact) (e : Combination) (lead : Option RegisterId) (es : List Entry) (a k : ℕ) → get_or (factors e.terms) k 0 ≡ 0 →
+    All (λ b. IsMadeUpWith facts e lead es a b → ⊥) (take k (factors e.terms)) → IsMadeUpWith facts e lead es a (get_or (factors e.terms) k 0) → ⊥
+nothing_not facts e lead es a zero is none made = absurd (omega (arith, is))
+nothing_not facts e lead es a (suc k) is none made = none 0 0 (omega arith) (with_nothing facts e lead es a (rw is at made))
 
 pub shown_by_index : (facts : List Fact) (es : List Entry) → IsIndex facts (suc (length facts)) es → (e : Combination) (lead : Option RegisterId) → IsRising e.terms → IsMadeUpByA facts e lead es → IsShown facts e
 shown_by_index facts es index e lead rising (a, in_a, (b, in_b, (entry, c, (leads, (g, in_g, sum))))) =

@@ -235,6 +235,8 @@ fn is_repeated(terms: &[Term], index: usize) -> bool
     false
 }
 
+/// Whether the facts make the form up with this first factor. A second factor 0, which a register that cancels has, is passed over: the fact would
+/// count for nothing, as the absent one does with the factor 1.
 fn made_up_by_b(search: &Search<'_>, lead: Option<RegisterId>, a: u32) -> bool
     requires index { IsIndex search.now.facts.now (suc (length search.now.facts.now)) search.now.entries.now }
     requires key { IsKeyOf search.now.form.now.terms search.now.key }
@@ -244,10 +246,14 @@ fn made_up_by_b(search: &Search<'_>, lead: Option<RegisterId>, a: u32) -> bool
     let terms = side_of(search.form).terms;
     let count = terms.len() + 1;
     for index in 0..count {
+        let b = factor(terms, index);
+        if b == 0 {
+            continue;
+        }
         if is_repeated(terms, index) {
             continue;
         }
-        if made_up_with(search, lead, a, factor(terms, index)) {
+        if made_up_with(search, lead, a, b) {
             return true;
         }
     }

@@ -1,11 +1,21 @@
-use Rattle.std.proofs.Common.{◌≡◌, ◌∙◌, ◌<◌, ℕ, List, refl, get_or, length, ap, subst, arith}
+use Rattle.std.proofs.Common.{◌≡◌, ◌∙◌, ◌<◌, ℕ, List, refl, get_or, length, ap, sym, subst, arith}
 use Rattle.std.proofs.lemmas.Bool.{false≢true}
 use Rattle.std.proofs.lemmas.List.Elements.{All-more}
 use Rattle.linear.specs.declared.form.Term.{Term}
 use Rattle.entailment.specs.Search.{factors}
 use Rattle.entailment.specs.Index.{IsMadeUpWith}
+use Rattle.entailment.proofs.Indexing.{nothing_not}
 use Rattle.entailment.proofs.Parts.{none_found, repeated_not, length_factors}
 use Rattle.entailment.proofs.lookup.made_up_by_b.Goals as goal
+
+pub loop-index-preserved-then-b-eq0 : goal.loop-index-preserved-then-b-eq0
+loop-index-preserved-then-b-eq0 c =
+    let terms = c.args.search.now.form.now.terms in
+    let same = c.side_of.ensures.terms in
+    let is : c.factor-b.result ≡ get_or (factors terms) c.loop-index.index 0 = c.factor-b.ensures.value ∙ ap (λ ts. get_or (factors ts) c.loop-index.index 0) same in
+    All-more (λ (x : ℕ). (IsMadeUpWith c.args.search.now.facts.now c.args.search.now.form.now c.args.lead c.args.search.now.entries.now c.args.a x) → ⊥) (factors terms) c.loop-index.index 0
+    (rw (length_factors terms) (omega (arith, c.loop-index-test.true, ap length same))) c.loop-index.invariant
+    (nothing_not c.args.search.now.facts.now c.args.search.now.form.now c.args.lead c.args.search.now.entries.now c.args.a c.loop-index.index (sym is ∙ c.if-b-eq0.true) c.loop-index.invariant)
 
 pub loop-index-preserved-then-is_repeated : goal.loop-index-preserved-then-is_repeated
 loop-index-preserved-then-is_repeated c =
@@ -21,7 +31,7 @@ pub loop-index-preserved : goal.loop-index-preserved
 loop-index-preserved c =
     let terms = c.args.search.now.form.now.terms in
     let same = c.side_of.ensures.terms in
-    let is : c.factor.result ≡ get_or (factors terms) c.loop-index.index 0 = c.factor.ensures.value ∙ ap (λ ts. get_or (factors ts) c.loop-index.index 0) same in
+    let is : c.factor-b.result ≡ get_or (factors terms) c.loop-index.index 0 = c.factor-b.ensures.value ∙ ap (λ ts. get_or (factors ts) c.loop-index.index 0) same in
     All-more (λ (x : ℕ). (IsMadeUpWith c.args.search.now.facts.now c.args.search.now.form.now c.args.lead c.args.search.now.entries.now c.args.a x) → ⊥) (factors terms) c.loop-index.index 0
     (rw (length_factors terms) (omega (arith, c.loop-index-test.true, ap length same))) c.loop-index.invariant
     (λ s. false≢true (c.if-made_up_with.ensures.1 (rw is s)))
