@@ -65,7 +65,7 @@ impl Machine<'_> {
             places: _,
             mut memory,
             run,
-        } = self.into_stage();
+        } = self.stage;
         memory.refill(run.cells.cells.as_slice());
         memory
     }

@@ -16,27 +16,13 @@ use outcome::{Memory, RunFault, Verified};
 use std::alloc::Global;
 
 /// A run of a verified module by workers, between two events.
+#[derive(Drop)]
 pub struct Machine<'v> {
     pub(crate) stage: Stage<'v>,
     ghost kept: { ∥ IsMachine stage ∥₁ },
 }
 
-/// Written out, so that no crate above proves it anew.
-impl Drop for Machine<'_> {
-    fn drop(self) {
-        let Machine { stage: _ } = self;
-    }
-}
-
 impl<'v> Machine<'v> {
-    /// What the run is made of.
-    pub(crate) fn into_stage(self) -> Stage<'v>
-        ensures { result ≡ self.entry.stage }
-    {
-        let Machine { stage } = self;
-        stage
-    }
-
     /// The state before the first event: worker 0 runs the root at the entry of `main`, the other workers are idle. The
     /// memory was made for this module.
     ///

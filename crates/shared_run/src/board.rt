@@ -29,25 +29,13 @@ use std::marker::Model;
 use std::sync::ledger::{Blank, Book, Share};
 
 /// A machine with the history of its events. Contracts see the start, the events since then, and the stage that they led to.
+#[derive(Drop)]
 pub struct Board<'a, L: Bench> {
     alloc: Global,
     start: Start<'a>,
     history: History,
     machine: Machine<'a>,
     book: Book<L>,
-}
-
-/// Written out, so that no crate above proves it anew.
-impl<L: Bench> Drop for Board<'_, L> {
-    fn drop(self) {
-        let Board {
-            alloc: _,
-            start: _,
-            history: _,
-            machine: _,
-            book: _,
-        } = self;
-    }
 }
 
 impl<'a, L: Bench> Model for Board<'a, L> {

@@ -17,16 +17,10 @@ use std::sync::Mutex;
 use std::sync::ledger::Blank;
 
 /// A board in a lock, with a copy of its start beside it. Contracts see the start.
+#[derive(Drop)]
 pub struct Shared<'a, L: Bench> {
     pub board: Mutex<Board<'a, L>>,
     start: Start<'a>,
-}
-
-/// Written out, so that no crate above proves it anew.
-impl<L: Bench> Drop for Shared<'_, L> {
-    fn drop(self) {
-        let Shared { board: _, start: _ } = self;
-    }
 }
 
 impl<'a, L: Bench> Model for Shared<'a, L> {

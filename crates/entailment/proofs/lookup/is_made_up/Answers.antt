@@ -1,4 +1,4 @@
-use Rattle.std.proofs.Common.{◌≡◌, ◌∙◌, true, get_or, refl, sym}
+use Rattle.std.proofs.Common.{◌≡◌, ◌∙◌, get_or, refl, sym}
 use Rattle.std.proofs.lemmas.Bool.{false≢true}
 use Rattle.std.proofs.lemmas.List.Elements.{All-contains, Contains-get_or}
 use Rattle.entailment.specs.Search.{has_some}

@@ -1,5 +1,4 @@
-use Rattle.std.proofs.Common.{◌≡◌, ℕ, ◌<◌, ◌≤◌, ◌*◌, get_or}
-use Rattle.entailment.specs.declared.index.Entry.{Entry}
+use Rattle.std.proofs.Common.{◌≤◌}
 use Rattle.entailment.proofs.lookup.run_before.Given as goal
 
 abbrev pub invariant-loop-from : goal.invariant-loop-from
