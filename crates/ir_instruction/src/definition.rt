@@ -1,24 +1,25 @@
 //! What defines a register: behind `%d =` and a word.
 
-ghost use Rattle.std.specs.Prelude.{◌≡◌, option_map};
+ghost use Rattle.std.specs.Prelude.{◌≡◌, [], ◌∷◌, codes, option_map};
 ghost use Rattle.ir_instruction.specs.Outcome.{Gives};
-ghost use Rattle.ir_instruction.specs.Shape.{gaps_of};
+ghost use Rattle.ir_instruction.specs.Shape.{gaps_of, gap, word, mark, space, operand, pointer};
 ghost use Rattle.ir_instruction.specs.Grammar.{binary_shape, binary_from, compare_shape, compare_from, truncate_shape, truncate_from, extend_shape};
 ghost use Rattle.ir_instruction.specs.Grammar.{extend_from, alloca_shape, alloca_from, alloca_array_shape, alloca_array_from, element_pointer_shape};
 ghost use Rattle.ir_instruction.specs.Grammar.{element_pointer_from, load_shape, load_from, start_region_shape, start_region_from, call_shape, call_from};
 ghost use Rattle.ir_instruction.specs.Grammar.{phi_shape, phi_from, binary, alloca, call, fixed};
 
+use crate::ends::{callee_at, last_index_at, last_operands_at, last_pointer_at, last_word_at};
 use crate::fault::LineFault;
 use crate::front::{
-    array_at, behind, end_at, global_at, is_word, mark_at, named_at, operand_at, pointer_at,
+    array_at, behind, end_at, is_text, is_word, mark_at, named_at, operand_at, pointer_at,
     width_at, word_at,
 };
-use crate::list::{arguments_at, entries_at};
+use crate::list::entries_at;
 use crate::operator::{operator_of, predicate_at, without_wrap};
 use crate::symbol::Symbol;
 use lists::Name;
 use std::alloc::Global;
-use syntax::{AllocaSize, BinaryOperator, Conversion, Instruction, Phi};
+use syntax::{Address, AllocaSize, BinaryOperator, Conversion, Instruction, Operand, Phi};
 
 fn plain_at(
     register: Name,
@@ -28,10 +29,7 @@ fn plain_at(
     ensures { Gives (λ made. made) result (option_map (binary_from register operator) (gaps_of binary_shape symbols.now)) }
 {
     let (width, rest) = width_at(symbols)?;
-    let (left, rest) = operand_at(rest)?;
-    let rest = mark_at(b',', rest)?;
-    let (right, rest) = operand_at(rest)?;
-    end_at(rest)?;
+    let (left, right) = last_operands_at(rest)?;
     Ok(Instruction::Binary {
         register,
         operator,
@@ -62,10 +60,7 @@ fn compare_at(register: Name, symbols: &[Symbol]) -> Result<Instruction, LineFau
 {
     let (predicate, rest) = predicate_at(symbols)?;
     let (width, rest) = width_at(rest)?;
-    let (left, rest) = operand_at(rest)?;
-    let rest = mark_at(b',', rest)?;
-    let (right, rest) = operand_at(rest)?;
-    end_at(rest)?;
+    let (left, right) = last_operands_at(rest)?;
     Ok(Instruction::Compare {
         register,
         predicate,
@@ -75,14 +70,29 @@ fn compare_at(register: Name, symbols: &[Symbol]) -> Result<Instruction, LineFau
     })
 }
 
+/// Behind the value of a conversion: `to` and the type that it is converted to.
+fn conversion_ends(to: &[u8], symbols: &[Symbol]) -> Result<(), LineFault>
+    ensures { Gives (λ done. done) result (gaps_of (word (codes "to") ∷ space ∷ word to.now ∷ []) symbols.now) }
+{
+    let rest = word_at(b"to", symbols)?;
+    last_word_at(to, rest)
+}
+
+/// The value that is converted: a type, `V`, `to` and a type.
+fn converted_at(from: &[u8], to: &[u8], symbols: &[Symbol]) -> Result<Operand, LineFault>
+    ensures { Gives (λ found. (found, tt)) result
+        (gaps_of (word from.now ∷ space ∷ gap operand ∷ space ∷ word (codes "to") ∷ space ∷ word to.now ∷ []) symbols.now) }
+{
+    let rest = word_at(from, symbols)?;
+    let (value, rest) = operand_at(rest)?;
+    conversion_ends(to, rest)?;
+    Ok(value)
+}
+
 fn truncate_at(register: Name, symbols: &[Symbol]) -> Result<Instruction, LineFault>
     ensures { Gives (λ made. made) result (option_map (truncate_from register) (gaps_of truncate_shape symbols.now)) }
 {
-    let rest = word_at(b"i64", symbols)?;
-    let (value, rest) = operand_at(rest)?;
-    let rest = word_at(b"to", rest)?;
-    let rest = word_at(b"i32", rest)?;
-    end_at(rest)?;
+    let value = converted_at(b"i64", b"i32", symbols)?;
     Ok(Instruction::Convert {
         register,
         conversion: Conversion::Truncate,
@@ -97,11 +107,7 @@ fn extend_at(
 ) -> Result<Instruction, LineFault>
     ensures { Gives (λ made. made) result (option_map (extend_from register conversion) (gaps_of extend_shape symbols.now)) }
 {
-    let rest = word_at(b"i32", symbols)?;
-    let (value, rest) = operand_at(rest)?;
-    let rest = word_at(b"to", rest)?;
-    let rest = word_at(b"i64", rest)?;
-    end_at(rest)?;
+    let value = converted_at(b"i32", b"i64", symbols)?;
     Ok(Instruction::Convert {
         register,
         conversion,
@@ -112,8 +118,7 @@ fn extend_at(
 fn alloca_one_at(register: Name, symbols: &[Symbol]) -> Result<Instruction, LineFault>
     ensures { Gives (λ made. made) result (option_map (alloca_from register) (gaps_of alloca_shape symbols.now)) }
 {
-    let rest = word_at(b"i64", symbols)?;
-    end_at(rest)?;
+    last_word_at(b"i64", symbols)?;
     Ok(Instruction::Alloca {
         register,
         size: AllocaSize::One,
@@ -141,17 +146,23 @@ fn alloca_at(register: Name, symbols: &[Symbol]) -> Result<Instruction, LineFaul
     }
 }
 
+/// `, ptr P, i64 V`
+fn element_at(symbols: &[Symbol]) -> Result<(Address, Operand), LineFault>
+    ensures { Gives (λ found. (found.0, (found.1, tt))) result
+        (gaps_of (mark 44 ∷ space ∷ gap pointer ∷ mark 44 ∷ space ∷ word (codes "i64") ∷ space ∷ gap operand ∷ []) symbols.now) }
+{
+    let rest = mark_at(b',', symbols)?;
+    let (base, rest) = pointer_at(rest)?;
+    let index = last_index_at(rest)?;
+    Ok((base, index))
+}
+
 fn element_pointer_at(register: Name, symbols: &[Symbol]) -> Result<Instruction, LineFault>
     ensures { Gives (λ made. made) result (option_map (element_pointer_from register) (gaps_of element_pointer_shape symbols.now)) }
 {
     let rest = word_at(b"inbounds", symbols)?;
     let rest = word_at(b"i64", rest)?;
-    let rest = mark_at(b',', rest)?;
-    let (base, rest) = pointer_at(rest)?;
-    let rest = mark_at(b',', rest)?;
-    let rest = word_at(b"i64", rest)?;
-    let (index, rest) = operand_at(rest)?;
-    end_at(rest)?;
+    let (base, index) = element_at(rest)?;
     Ok(Instruction::ElementPointer {
         register,
         base,
@@ -163,10 +174,17 @@ fn load_at(register: Name, symbols: &[Symbol]) -> Result<Instruction, LineFault>
     ensures { Gives (λ made. made) result (option_map (load_from register) (gaps_of load_shape symbols.now)) }
 {
     let rest = word_at(b"i64", symbols)?;
-    let rest = mark_at(b',', rest)?;
-    let (address, rest) = pointer_at(rest)?;
-    end_at(rest)?;
+    let address = last_pointer_at(rest)?;
     Ok(Instruction::Load { register, address })
+}
+
+/// `()`
+fn no_arguments_at(symbols: &[Symbol]) -> Result<(), LineFault>
+    ensures { Gives (λ done. done) result (gaps_of (mark 40 ∷ mark 41 ∷ []) symbols.now) }
+{
+    let rest = mark_at(b'(', symbols)?;
+    let rest = mark_at(b')', rest)?;
+    end_at(rest)
 }
 
 fn start_region_at(register: Name, symbols: &[Symbol]) -> Result<Instruction, LineFault>
@@ -174,9 +192,7 @@ fn start_region_at(register: Name, symbols: &[Symbol]) -> Result<Instruction, Li
 {
     let rest = word_at(b"token", symbols)?;
     let rest = named_at(b"llvm.syncregion.start", rest)?;
-    let rest = mark_at(b'(', rest)?;
-    let rest = mark_at(b')', rest)?;
-    end_at(rest)?;
+    no_arguments_at(rest)?;
     Ok(Instruction::StartRegion { register })
 }
 
@@ -187,11 +203,7 @@ fn call_number_at(
 ) -> Result<Instruction, LineFault>
     ensures { Gives (λ made. made) result (option_map (call_from register) (gaps_of call_shape symbols.now)) }
 {
-    let rest = word_at(b"i64", symbols)?;
-    let (callee, rest) = global_at(rest)?;
-    let rest = mark_at(b'(', rest)?;
-    let (arguments, rest) = arguments_at(alloc, rest)?;
-    end_at(rest)?;
+    let (callee, arguments) = callee_at(alloc, b"i64", symbols)?;
     Ok(Instruction::Call {
         register: Some(register),
         callee,
@@ -235,19 +247,19 @@ pub fn phi_at(
 pub fn fixed_at(register: Name, word: &[u8], symbols: &[Symbol]) -> Result<Instruction, LineFault>
     ensures { Gives (λ made. made) result (fixed register word.now symbols.now) }
 {
-    if word == b"icmp".as_slice() {
+    if is_text(word, b"icmp") {
         compare_at(register, symbols)
-    } else if word == b"trunc".as_slice() {
+    } else if is_text(word, b"trunc") {
         truncate_at(register, symbols)
-    } else if word == b"sext".as_slice() {
+    } else if is_text(word, b"sext") {
         extend_at(register, Conversion::SignExtend, symbols)
-    } else if word == b"zext".as_slice() {
+    } else if is_text(word, b"zext") {
         extend_at(register, Conversion::ZeroExtend, symbols)
-    } else if word == b"alloca".as_slice() {
+    } else if is_text(word, b"alloca") {
         alloca_at(register, symbols)
-    } else if word == b"getelementptr".as_slice() {
+    } else if is_text(word, b"getelementptr") {
         element_pointer_at(register, symbols)
-    } else if word == b"load".as_slice() {
+    } else if is_text(word, b"load") {
         load_at(register, symbols)
     } else {
         match operator_of(word) {

@@ -4,6 +4,7 @@
 
 mod definition;
 mod effect;
+mod ends;
 mod fault;
 mod front;
 mod list;

@@ -5,6 +5,7 @@ ghost use Rattle.ir_instruction.specs.Outcome.{Gives};
 ghost use Rattle.ir_instruction.specs.Operators.{operator_of, without_wrap, predicate_of, predicate_at};
 
 use crate::fault::LineFault;
+use crate::front::is_text;
 use crate::symbol::Symbol;
 use syntax::{BinaryOperator, Predicate};
 
@@ -13,31 +14,31 @@ use syntax::{BinaryOperator, Predicate};
 pub fn operator_of(word: &[u8]) -> Option<BinaryOperator>
     ensures { result ≡ operator_of word.now }
 {
-    if word == b"add".as_slice() {
+    if is_text(word, b"add") {
         Some(BinaryOperator::Add)
-    } else if word == b"sub".as_slice() {
+    } else if is_text(word, b"sub") {
         Some(BinaryOperator::Subtract)
-    } else if word == b"mul".as_slice() {
+    } else if is_text(word, b"mul") {
         Some(BinaryOperator::Multiply)
-    } else if word == b"sdiv".as_slice() {
+    } else if is_text(word, b"sdiv") {
         Some(BinaryOperator::SignedDivide)
-    } else if word == b"udiv".as_slice() {
+    } else if is_text(word, b"udiv") {
         Some(BinaryOperator::UnsignedDivide)
-    } else if word == b"srem".as_slice() {
+    } else if is_text(word, b"srem") {
         Some(BinaryOperator::SignedRemainder)
-    } else if word == b"urem".as_slice() {
+    } else if is_text(word, b"urem") {
         Some(BinaryOperator::UnsignedRemainder)
-    } else if word == b"shl".as_slice() {
+    } else if is_text(word, b"shl") {
         Some(BinaryOperator::ShiftLeft)
-    } else if word == b"lshr".as_slice() {
+    } else if is_text(word, b"lshr") {
         Some(BinaryOperator::LogicalShiftRight)
-    } else if word == b"ashr".as_slice() {
+    } else if is_text(word, b"ashr") {
         Some(BinaryOperator::ArithmeticShiftRight)
-    } else if word == b"and".as_slice() {
+    } else if is_text(word, b"and") {
         Some(BinaryOperator::And)
-    } else if word == b"or".as_slice() {
+    } else if is_text(word, b"or") {
         Some(BinaryOperator::Or)
-    } else if word == b"xor".as_slice() {
+    } else if is_text(word, b"xor") {
         Some(BinaryOperator::ExclusiveOr)
     } else {
         None
@@ -60,25 +61,25 @@ pub fn without_wrap(operator: BinaryOperator) -> Option<BinaryOperator>
 fn predicate_of(word: &[u8]) -> Option<Predicate>
     ensures { result ≡ predicate_of word.now }
 {
-    if word == b"eq".as_slice() {
+    if is_text(word, b"eq") {
         Some(Predicate::Equal)
-    } else if word == b"ne".as_slice() {
+    } else if is_text(word, b"ne") {
         Some(Predicate::NotEqual)
-    } else if word == b"ugt".as_slice() {
+    } else if is_text(word, b"ugt") {
         Some(Predicate::UnsignedGreater)
-    } else if word == b"uge".as_slice() {
+    } else if is_text(word, b"uge") {
         Some(Predicate::UnsignedAtLeast)
-    } else if word == b"ult".as_slice() {
+    } else if is_text(word, b"ult") {
         Some(Predicate::UnsignedLess)
-    } else if word == b"ule".as_slice() {
+    } else if is_text(word, b"ule") {
         Some(Predicate::UnsignedAtMost)
-    } else if word == b"sgt".as_slice() {
+    } else if is_text(word, b"sgt") {
         Some(Predicate::SignedGreater)
-    } else if word == b"sge".as_slice() {
+    } else if is_text(word, b"sge") {
         Some(Predicate::SignedAtLeast)
-    } else if word == b"slt".as_slice() {
+    } else if is_text(word, b"slt") {
         Some(Predicate::SignedLess)
-    } else if word == b"sle".as_slice() {
+    } else if is_text(word, b"sle") {
         Some(Predicate::SignedAtMost)
     } else {
         None

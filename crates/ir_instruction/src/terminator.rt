@@ -1,20 +1,23 @@
 //! Terminators: what stands behind their first word.
 
-ghost use Rattle.std.specs.Prelude.{◌≡◌, option_map};
+ghost use Rattle.std.specs.Prelude.{◌≡◌, Some, None, if◌then◌else◌, option_map};
 ghost use Rattle.ir_instruction.specs.Outcome.{Gives};
 ghost use Rattle.ir_instruction.specs.Shape.{gaps_of};
+ghost use Rattle.ir_instruction.specs.Cases.{are_cases_of, cases_from};
 ghost use Rattle.ir_instruction.specs.Grammar.{jump_shape, jump_from, branch_in, switch_in, return_void_shape, return_void_from, return_shape, return_from};
 ghost use Rattle.ir_instruction.specs.Grammar.{detach_in, region_shape, reattach_from, sync_from, br, return, terminator_in};
 
-use crate::fault::LineFault;
-use crate::front::{
-    end_at, is_word, label_at, mark_at, operand_at, register_at, width_at, word_at,
+use crate::ends::{
+    last_operand_at, last_targets_at, last_word_at, register_and_label_at, register_and_labels_at,
 };
+use crate::fault::LineFault;
+use crate::front::{end_at, is_text, is_word, label_at, operand_at, width_at, word_at};
 use crate::numeral::is_same_name;
-use crate::switch::{all_cases_at, are_cases_of, cases_from};
+use crate::switch::{SpelledCase, are_cases_of, cases_from};
 use crate::symbol::Symbol;
+use lists::{Name, Seq};
 use std::alloc::Global;
-use syntax::Terminator;
+use syntax::{Case, Terminator, Width};
 
 fn jump_at(symbols: &[Symbol]) -> Result<Terminator, LineFault>
     ensures { Gives (λ made. made) result (option_map jump_from (gaps_of jump_shape symbols.now)) }
@@ -27,13 +30,7 @@ fn jump_at(symbols: &[Symbol]) -> Result<Terminator, LineFault>
 fn branch_at(symbols: &[Symbol]) -> Result<Terminator, LineFault>
     ensures { Gives (λ made. made) result (branch_in symbols.now) }
 {
-    let rest = word_at(b"i1", symbols)?;
-    let (condition, rest) = register_at(rest)?;
-    let rest = mark_at(b',', rest)?;
-    let (when_true, rest) = label_at(rest)?;
-    let rest = mark_at(b',', rest)?;
-    let (when_false, rest) = label_at(rest)?;
-    end_at(rest)?;
+    let (condition, (when_true, when_false)) = register_and_labels_at(b"i1", symbols)?;
     if is_same_name(&when_true, &when_false) {
         return Err(LineFault::Unexpected);
     }
@@ -55,21 +52,30 @@ fn br_at(symbols: &[Symbol]) -> Result<Terminator, LineFault>
     }
 }
 
+/// The cases of a switch, where they are cases of this width and default.
+fn judged_cases(
+    alloc: Global,
+    width: Width,
+    default: &Name,
+    spelled: &[SpelledCase],
+) -> Result<Seq<Case>, LineFault>
+    ensures { Gives (λ cases. cases) result (if are_cases_of width default.now spelled.now then Some (cases_from spelled.now) else None) }
+{
+    if are_cases_of(width, default, spelled) {
+        Ok(cases_from(alloc, spelled)?)
+    } else {
+        Err(LineFault::Unexpected)
+    }
+}
+
 /// Behind `switch`.
 fn switch_at(alloc: Global, symbols: &[Symbol]) -> Result<Terminator, LineFault>
     ensures { Gives (λ made. made) result (switch_in symbols.now) }
 {
     let (width, rest) = width_at(symbols)?;
     let (value, rest) = operand_at(rest)?;
-    let rest = mark_at(b',', rest)?;
-    let (default, rest) = label_at(rest)?;
-    let rest = mark_at(b'[', rest)?;
-    let (spelled, rest) = all_cases_at(alloc, rest)?;
-    end_at(rest)?;
-    if !are_cases_of(width, &default, spelled.as_slice()) {
-        return Err(LineFault::Unexpected);
-    }
-    let cases = cases_from(alloc, spelled.as_slice())?;
+    let (default, spelled) = last_targets_at(alloc, rest)?;
+    let cases = judged_cases(alloc, width, &default, spelled.as_slice())?;
     Ok(Terminator::Switch {
         width,
         value,
@@ -81,8 +87,7 @@ fn switch_at(alloc: Global, symbols: &[Symbol]) -> Result<Terminator, LineFault>
 fn return_void_at(symbols: &[Symbol]) -> Result<Terminator, LineFault>
     ensures { Gives (λ made. made) result (option_map return_void_from (gaps_of return_void_shape symbols.now)) }
 {
-    let rest = word_at(b"void", symbols)?;
-    end_at(rest)?;
+    last_word_at(b"void", symbols)?;
     Ok(Terminator::Return { value: None })
 }
 
@@ -90,8 +95,7 @@ fn return_number_at(symbols: &[Symbol]) -> Result<Terminator, LineFault>
     ensures { Gives (λ made. made) result (option_map return_from (gaps_of return_shape symbols.now)) }
 {
     let rest = word_at(b"i64", symbols)?;
-    let (value, rest) = operand_at(rest)?;
-    end_at(rest)?;
+    let value = last_operand_at(rest)?;
     Ok(Terminator::Return { value: Some(value) })
 }
 
@@ -110,13 +114,7 @@ fn return_at(symbols: &[Symbol]) -> Result<Terminator, LineFault>
 fn detach_at(symbols: &[Symbol]) -> Result<Terminator, LineFault>
     ensures { Gives (λ made. made) result (detach_in symbols.now) }
 {
-    let rest = word_at(b"within", symbols)?;
-    let (region, rest) = register_at(rest)?;
-    let rest = mark_at(b',', rest)?;
-    let (body, rest) = label_at(rest)?;
-    let rest = mark_at(b',', rest)?;
-    let (continuation, rest) = label_at(rest)?;
-    end_at(rest)?;
+    let (region, (body, continuation)) = register_and_labels_at(b"within", symbols)?;
     if is_same_name(&body, &continuation) {
         return Err(LineFault::Unexpected);
     }
@@ -131,11 +129,7 @@ fn detach_at(symbols: &[Symbol]) -> Result<Terminator, LineFault>
 fn reattach_at(symbols: &[Symbol]) -> Result<Terminator, LineFault>
     ensures { Gives (λ made. made) result (option_map reattach_from (gaps_of region_shape symbols.now)) }
 {
-    let rest = word_at(b"within", symbols)?;
-    let (region, rest) = register_at(rest)?;
-    let rest = mark_at(b',', rest)?;
-    let (continuation, rest) = label_at(rest)?;
-    end_at(rest)?;
+    let (region, continuation) = register_and_label_at(b"within", symbols)?;
     Ok(Terminator::Reattach {
         region,
         continuation,
@@ -146,11 +140,7 @@ fn reattach_at(symbols: &[Symbol]) -> Result<Terminator, LineFault>
 fn sync_at(symbols: &[Symbol]) -> Result<Terminator, LineFault>
     ensures { Gives (λ made. made) result (option_map sync_from (gaps_of region_shape symbols.now)) }
 {
-    let rest = word_at(b"within", symbols)?;
-    let (region, rest) = register_at(rest)?;
-    let rest = mark_at(b',', rest)?;
-    let (target, rest) = label_at(rest)?;
-    end_at(rest)?;
+    let (region, target) = register_and_label_at(b"within", symbols)?;
     Ok(Terminator::Sync { region, target })
 }
 
@@ -163,17 +153,17 @@ pub fn terminator_at(
 ) -> Result<Terminator, LineFault>
     ensures { Gives (λ made. made) result (terminator_in word.now symbols.now) }
 {
-    if word == b"br".as_slice() {
+    if is_text(word, b"br") {
         br_at(symbols)
-    } else if word == b"switch".as_slice() {
+    } else if is_text(word, b"switch") {
         switch_at(alloc, symbols)
-    } else if word == b"ret".as_slice() {
+    } else if is_text(word, b"ret") {
         return_at(symbols)
-    } else if word == b"detach".as_slice() {
+    } else if is_text(word, b"detach") {
         detach_at(symbols)
-    } else if word == b"reattach".as_slice() {
+    } else if is_text(word, b"reattach") {
         reattach_at(symbols)
-    } else if word == b"sync".as_slice() {
+    } else if is_text(word, b"sync") {
         sync_at(symbols)
     } else {
         Err(LineFault::Unexpected)
