@@ -1,7 +1,6 @@
-ghost use Rattle.std.specs.Prelude.{◌≡◌, ◌⊎◌, ◌↔◌, ◌&&◌, ◌||◌, ◌==◌, ◌+◌, ◌≤◌, ℕ, length, true, false, slice_index_or, IfOk, OnOk};
-ghost use Rattle.std.specs.List.{filter, list_all};
+ghost use Rattle.std.specs.Prelude.{◌≡◌, ◌||◌, ◌==◌, ◌+◌, ◌≤◌, length, false, slice_index_or, IfOk, OnOk};
 ghost use Rattle.linear.specs.declared.form.RegisterId.{RegisterId};
-ghost use Rattle.definedness.specs.Settling.{has, due_in, label_at, label_of, due_and_given};
+ghost use Rattle.alloca_labels.specs.Sets.{has, due_in, label_at, label_of};
 
 use lists::Seq;
 use program::RegisterId;
@@ -17,58 +16,31 @@ pub enum Label {
 }
 
 /// Of one alloca: a label for each block, and a mark for each detach whose child ends somewhere without a value.
-#[derive(Drop)]
 pub struct Sets {
     pub labels: Vec<Label>,
     pub lacking: Vec<bool>,
 }
 
-/// Whether a region is listed.
-fn is_among(regions: &[RegisterId], region: RegisterId) -> bool
-    ensures { result ≡ has regions.now region }
-{
-    regions.iter().any(|its| its.0 == region.0)
+/// Written out, so that no crate above proves it anew.
+impl Drop for Sets {
+    fn drop(self) {
+        let Sets {
+            labels: _,
+            lacking: _,
+        } = self;
+    }
 }
 
-/// Whether a region is listed. Looks at this place first.
-fn is_found(regions: &[RegisterId], place: usize, region: RegisterId) -> bool
+/// Whether a region is listed.
+pub fn is_among(regions: &[RegisterId], region: RegisterId) -> bool
     ensures { result ≡ has regions.now region }
 {
-    if let Some(its) = regions.get(place) {
+    for its in regions {
         if its.0 == region.0 {
             return true;
         }
     }
-    is_among(regions, region)
-}
-
-/// Whether all regions of a list are in the other. Takes time in proportion to the list where the other begins with it.
-fn are_among(left: &[RegisterId], right: &[RegisterId]) -> bool
-    ensures { result ≡ list_all (has right.now) left.now }
-{
-    for (place, its) in left.iter().enumerate() {
-        if !is_found(right, place, *its) {
-            return false;
-        }
-    }
-    true
-}
-
-/// The regions of both lists. Takes time in proportion to the lists where they are the same.
-fn both(
-    alloc: Global,
-    left: &[RegisterId],
-    right: &[RegisterId],
-) -> Result<Vec<RegisterId>, AllocError>
-    ensures { IfOk result (λ kept. kept.items ≡ filter (λ its. has right.now its) left.now) }
-{
-    let mut kept: Vec<RegisterId> = Vec::new(alloc);
-    for (place, its) in left.iter().enumerate() {
-        if is_found(right, place, *its) {
-            kept.push(*its)?;
-        }
-    }
-    Ok(kept)
+    false
 }
 
 /// A copy with room for one more.
@@ -120,33 +92,6 @@ impl Sets {
     {
         match self.labels.get(block) {
             Some(Label::Due(regions)) => copy_with_room(alloc, regions.as_slice()),
-            Some(Label::Sure) => Ok(Vec::new(alloc)),
-            None => Ok(Vec::new(alloc)),
-        }
-    }
-
-    /// Whether all of these are given.
-    pub fn is_given(&self, block: usize, given: &[RegisterId]) -> bool
-        ensures { result ≡ list_all (has given.now) (due_in (label_at self.now block)) }
-    {
-        match self.labels.get(block) {
-            Some(Label::Due(regions)) => are_among(regions.as_slice(), given),
-            Some(Label::Sure) => true,
-            None => true,
-        }
-    }
-
-    /// Those of them that are given.
-    pub fn copy_given(
-        &self,
-        alloc: Global,
-        block: usize,
-        given: &[RegisterId],
-    ) -> Result<Vec<RegisterId>, AllocError>
-        ensures { IfOk result (λ regions. regions.items ≡ due_and_given self.now block given.now) }
-    {
-        match self.labels.get(block) {
-            Some(Label::Due(regions)) => both(alloc, regions.as_slice(), given),
             Some(Label::Sure) => Ok(Vec::new(alloc)),
             None => Ok(Vec::new(alloc)),
         }
