@@ -1,6 +1,6 @@
 ghost use Rattle.std.specs.Prelude.{◌≡◌, [], IfOk};
-ghost use Rattle.footprints.specs.Zones.{span};
-ghost use Rattle.footprints.specs.Footprints.{place_of, is_own, is_allowed, is_clear};
+ghost use Rattle.zones.specs.Zones.{span};
+ghost use Rattle.zones.specs.Places.{place_of, is_own, is_allowed, is_clear};
 
 use crate::zone::{PlacedZone, conflict, is_covered};
 use entailment::{FactCursor, Known};
@@ -52,7 +52,7 @@ fn is_own(own: bool, object: ObjectName) -> bool
 }
 
 /// Whether what is touched needs no cover, or has one.
-#[tactic(auto, unfolding(crate::specs::Footprints::is_allowed))]
+#[tactic(auto, unfolding(crate::specs::Places::is_allowed))]
 pub fn is_allowed(alloc: Global, place: &Place<'_>, y: &PlacedZone<'_>) -> Result<bool, OutOfMemory>
     ensures { IfOk result (λ b. b ≡ is_allowed
         (place_of place.now.facts.now place.now.covering.now place.now.own place.now.pending.now)
@@ -65,7 +65,7 @@ pub fn is_allowed(alloc: Global, place: &Place<'_>, y: &PlacedZone<'_>) -> Resul
 }
 
 /// Whether nothing that is pending conflicts with it.
-#[tactic(auto, unfolding(crate::specs::Footprints::is_clear))]
+#[tactic(auto, unfolding(crate::specs::Places::is_clear))]
 pub fn is_clear(alloc: Global, place: &Place<'_>, y: &PlacedZone<'_>) -> Result<bool, OutOfMemory>
     ensures { IfOk result (λ b. b ≡ is_clear
         (place_of place.now.facts.now place.now.covering.now place.now.own place.now.pending.now)
