@@ -14,12 +14,13 @@ use Rattle.cfg.specs.declared.structure.Way.{Way}
 use Rattle.cfg.specs.declared.structure.Way.TheVariants.{Branch, Detached, Continued, Synced}
 use Rattle.cfg.specs.Paths.{edges_of}
 use Rattle.cfg.proofs.Searching.{edges_within}
-use Rattle.definedness.specs.declared.fork.Fork.{Fork}
-use Rattle.definedness.specs.declared.sets.Label.{Label}
-use Rattle.definedness.specs.declared.sets.Label.TheVariants.{Due}
-use Rattle.definedness.specs.declared.sets.Sets.{Sets}
+use Rattle.alloca_labels.specs.declared.fork.Fork.{Fork}
+use Rattle.alloca_labels.specs.declared.sets.Label.{Label}
+use Rattle.alloca_labels.specs.declared.sets.Label.TheVariants.{Due}
+use Rattle.alloca_labels.specs.declared.sets.Sets.{Sets}
 use Rattle.definedness.specs.Sure.{Labels}
-use Rattle.definedness.specs.Settling.{due_in, label_in, is_sure_label, label_at, label_of, ended_in, IsHeldBy, EdgeGives, IsTableLabelling, IsBelow, IsFit, Lowers, IsSettledAt, IsAllSure, IsGreatest}
+use Rattle.alloca_labels.specs.Sets.{due_in, label_in, is_sure_label, label_at, label_of, ended_in, IsHeldBy, EdgeGives, IsFit}
+use Rattle.definedness.specs.Settling.{IsTableLabelling, IsBelow, Lowers, IsSettledAt, IsAllSure, IsGreatest}
 use Rattle.definedness.proofs.Settling.{lowers_then}
 
 read_same : {X : Type 0} (xs : List X) (i : ℕ) (d e : X) → i < length xs → get_or xs i d ≡ get_or xs i e

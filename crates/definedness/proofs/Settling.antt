@@ -10,12 +10,13 @@ use Rattle.linear.specs.declared.form.RegisterId.{RegisterId}
 use Rattle.cfg.specs.declared.structure.BlockEdges.{BlockEdges}
 use Rattle.cfg.specs.declared.structure.Way.{Way}
 use Rattle.cfg.specs.declared.structure.Way.TheVariants.{Branch, Detached, Continued, Synced}
-use Rattle.definedness.specs.declared.fork.Fork.{Fork}
-use Rattle.definedness.specs.declared.sets.Label.{Label}
-use Rattle.definedness.specs.declared.sets.Label.TheVariants.{Sure, Due}
-use Rattle.definedness.specs.declared.sets.Sets.{Sets}
+use Rattle.alloca_labels.specs.declared.fork.Fork.{Fork}
+use Rattle.alloca_labels.specs.declared.sets.Label.{Label}
+use Rattle.alloca_labels.specs.declared.sets.Label.TheVariants.{Sure, Due}
+use Rattle.alloca_labels.specs.declared.sets.Sets.{Sets}
 use Rattle.definedness.specs.Sure.{Labels}
-use Rattle.definedness.specs.Settling.{due_in, label_in, is_sure_label, label_at, label_of, count_sure, weight, load, Stores, ended_in, Ends, IsHeldBy, EdgeGives, IsTableLabelling, IsBelow, IsFit, Lowers, NotesEnd}
+use Rattle.alloca_labels.specs.Sets.{due_in, label_in, is_sure_label, label_at, label_of, count_sure, Stores, ended_in, Ends, IsHeldBy, EdgeGives, IsFit}
+use Rattle.definedness.specs.Settling.{weight, load, IsTableLabelling, IsBelow, Lowers, NotesEnd}
 
 pub option_cases : (o : Option ℕ) (n : ℕ) → (o ≡ Some n) ⊎ (o ≡ Some n → ⊥)
 option_cases None n = inr (λ e. absurd (cc))

@@ -1,5 +1,5 @@
 ghost use Rattle.std.specs.Prelude.{◌≡◌, ◌<◌, ◌↔◌, ℕ, Some, length, IsTrue, IfOk, slice_get};
-ghost use Rattle.definedness.specs.declared.fork.Fork.{Fork};
+ghost use Rattle.alloca_labels.specs.declared.fork.Fork.{Fork};
 ghost use Rattle.linear.specs.declared.form.RegisterId.{RegisterId};
 ghost use Rattle.region_match.specs.declared.task.Task.TheVariants.{Child};
 ghost use Rattle.region_match.specs.Rules.{ending_at};
@@ -7,17 +7,11 @@ ghost use Rattle.region_match.specs.Tasks.{AreTasks};
 ghost use Rattle.definedness.specs.Sure.{IsFork, IsReattach, IsEndOf};
 ghost use Rattle.definedness.specs.ForkOf.{IsForkOf};
 
+use alloca_labels::Fork;
 use cfg::BlockEdges;
 use program::{Block, RegisterId, Terminator};
 use region_match::{Task, ending_of};
 use std::alloc::{AllocError, Global};
-
-/// What the terminator of a block does to children: the region of its detach, and the detach whose child it ends.
-#[derive(Drop)]
-pub struct Fork {
-    pub region: Option<RegisterId>,
-    pub ended: Option<usize>,
-}
 
 /// The region of the detach that a block ends with.
 fn fork_region(bodies: &[Block], block: usize) -> Option<RegisterId>

@@ -1,15 +1,15 @@
 ghost use Rattle.std.specs.Prelude.{◌≡◌, ◌<◌, ◌≤◌, ◌↔◌, ℕ, None, Some, true, false, length, All, Contains, IfOk, slice_get, slice_index_or, OnOk};
 ghost use Rattle.program.specs.declared.function.Block.{Block};
-ghost use Rattle.definedness.specs.declared.fork.Fork.{Fork};
+ghost use Rattle.alloca_labels.specs.declared.fork.Fork.{Fork};
 ghost use Rattle.definedness.specs.ForkOf.{IsForkOf};
 ghost use Rattle.definedness.specs.Needs.{mark_at};
 ghost use Rattle.definedness.specs.Sure.{IsNeverSure};
-ghost use Rattle.definedness.specs.Settling.{label_of, AreNeverSure};
+ghost use Rattle.alloca_labels.specs.Sets.{label_of};
+ghost use Rattle.definedness.specs.Settling.{AreNeverSure};
 
-use crate::fork::Fork;
-use crate::sets::Sets;
 use crate::settle::settle;
 use crate::table::{Given, Row, giving};
+use alloca_labels::{Fork, Sets};
 use cfg::{BlockEdges, no_marks};
 use lists::Seq;
 use program::Block;

@@ -6,7 +6,7 @@ use Rattle.program.specs.declared.identifier.ObjectName.{ObjectName}
 use Rattle.ranges.specs.cfg.declared.structure.Move.{Move}
 use Rattle.ranges.specs.obligations.Inequalities.{operand_for}
 use Rattle.ranges.specs.Truth.{operand_value}
-use Rattle.footprints.specs.Zones.{Span}
+use Rattle.zones.specs.Zones.{Span}
 
 -- the values of the registers that the moves make of these
 abbrev pub moved : (ℕ → ℤ) → List Move → Term → ℤ

@@ -6,7 +6,6 @@ use Rattle.syntax.specs.declared.operator.Mode.{Mode}
 use Rattle.syntax.specs.declared.operator.Mode.TheVariants.{Reads, Writes, Adds}
 use Rattle.linear.specs.declared.form.RegisterId.{RegisterId}
 use Rattle.linear.specs.declared.form.Term.{Term}
-use Rattle.linear.specs.declared.form.Fact.{Fact}
 use Rattle.linear.specs.Forms.{Combination}
 use Rattle.program.specs.declared.annotation.Pending.{Pending}
 use Rattle.program.specs.declared.annotation.Zone.{Zone}
@@ -31,8 +30,10 @@ use Rattle.ranges.specs.cfg.declared.structure.Way.TheVariants.{Branch, Detached
 use Rattle.ranges.specs.declared.table.EdgeFacts.{EdgeFacts}
 use Rattle.ranges.specs.obligations.Inequalities.{argument_moves}
 use Rattle.footprints.specs.declared.access.Cell.{Cell}
-use Rattle.footprints.specs.declared.touch.Use.{Use}
-use Rattle.footprints.specs.Zones.{Span, span, as_written, covers, conflict, is_empty, is_covered}
+use Rattle.zones.specs.declared.foot.Use.{Use}
+use Rattle.zones.specs.Zones.{Span, span, as_written, covers, is_empty}
+pub use Rattle.zones.specs.Places.{Place, place_of, is_own, foot_use}
+unfoldable pub use Rattle.zones.specs.Places.{is_allowed, is_clear}
 
 -- ---- the cell of an address
 
@@ -78,33 +79,6 @@ form_at x offset = record { terms = operand_terms x; constant = operand_constant
 -- so many cells of an object from an index on
 abbrev pub cells_zone : ℕ → Mode → Cell → ℕ → Zone
 cells_zone line mode cell count = record { line = line; mode = mode; object = cell.object; low = form_at cell.index 0; high = form_at cell.index count }
-
--- ---- places
-
--- what is known at a place, the zones that must cover what is touched there, whether it is one of the function's own blocks, and what is pending
-pub record Place : Type 0 where
-  pub facts : List Fact
-  pub covering : List Zone
-  pub own : Bool
-  pub pending : List Pending
-
-abbrev pub place_of : List Fact → List Zone → Bool → List Pending → Place
-place_of facts covering own pending = record { facts = facts; covering = covering; own = own; pending = pending }
-
--- an alloca of the function in one of its own blocks
-abbrev pub is_own : Bool → ObjectName → Bool
-is_own false object = false
-is_own true (Global g) = false
-is_own true (Alloca a) = true
-is_own true (Parameter r) = false
-
--- 601 and 604: it needs no cover, or has one
-unfoldable pub is_allowed : Place → Span → Bool
-is_allowed p y = is_own p.own y.object || is_covered p.facts p.covering y
-
--- 602: nothing that is pending conflicts with it
-unfoldable pub is_clear : Place → Span → Bool
-is_clear p y = list_all (λ (q : Pending). not (conflict p.facts (as_written q.zone) y)) p.pending
 
 -- ---- what a step or a terminator touches
 
@@ -153,14 +127,6 @@ callee_use p callee arguments = record {
 abbrev pub call_use : Place → Option Function → List Argument → Use
 call_use p None arguments = no_use
 call_use p (Some callee) arguments = callee_use p callee arguments
-
--- 604: a new child's foot
-abbrev pub foot_use : Place → List Zone → Use
-foot_use p foot = record {
-  number = 604;
-  covered = list_all (λ (z : Zone). is_allowed p (as_written z)) foot;
-  clear = list_all (λ (z : Zone). is_clear p (as_written z)) foot;
-}
 
 abbrev pub step_use : Place → List Function → List Step → ℕ → Instruction → Use
 step_use p functions steps line (instruction.Binary d operator width x y) = no_use

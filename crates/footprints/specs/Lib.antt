@@ -1,4 +1,5 @@
-pub mod Zones
 pub mod Cells
 pub mod Footprints
 pub mod Rules
+pub use Rattle.zones.specs as zones
+pub use Rattle.zones.specs.Zones

@@ -11,7 +11,6 @@ ghost use Rattle.footprints.specs.Rules.{IsBlockBrokenBy, IsBlockBroken, IsFunct
 
 use crate::ZoneFault;
 use crate::judge::{edges_fault, step_fault, use_fault};
-use crate::place::{Place, index_for};
 use crate::touch::{child_foot, end_use};
 use entailment::{FactCursor, Known};
 use linear::Fact;
@@ -20,6 +19,7 @@ use program::{Block, BlockId, Ending, Function, Instruction, Program, Step, Zone
 use ranges::{BlockFacts, EdgeFacts, Facts, FunctionFacts, Graph, Regions, Task};
 use refusal::{Broken, lower};
 use std::alloc::Global;
+use zones::{Place, index_for};
 
 /// The task of a block.
 fn task_at(tasks: &[Task], index: usize) -> Task

@@ -6,13 +6,13 @@ ghost use Rattle.footprints.specs.Footprints.{place_of, step_use, end_use, passe
 ghost use Rattle.footprints.specs.Rules.{IsUseBroken, IsEdgeBroken};
 
 use crate::pass::passes_on;
-use crate::place::Place;
-use crate::touch::{Use, end_use, step_use};
+use crate::touch::{end_use, step_use};
 use lists::OutOfMemory;
 use program::{Block, Ending, Function, Step};
 use ranges::EdgeFacts;
 use refusal::{Broken, lower};
 use std::alloc::Global;
+use zones::{Place, Use};
 
 /// The rule of this number at this line, unless it holds.
 fn fault_unless(holds: bool, line: u32, number: u16) -> Option<Broken>

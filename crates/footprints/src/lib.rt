@@ -1,7 +1,7 @@
-//! Zones of cells, and the rules by which parallel parts keep clear of each other.
+//! The rules by which parallel parts keep clear of each other, over zones of cells.
 //!
-//! A zone is an object, a mode and a range of cells, whose ends are forms over registers. What the facts at a place show of zones is decided
-//! exactly, and so are the rules on what a block touches, what of it may still run beside it, and what it hands on:
+//! What the facts at a place show of zones is decided exactly, and so are the rules on what a block touches, what of it may still run beside
+//! it, and what it hands on:
 //!
 //! | Number | Rule |
 //! |---|---|
@@ -16,17 +16,14 @@ mod check;
 mod judge;
 pub mod laws;
 mod pass;
-mod place;
 mod touch;
-mod zone;
 
 pub use access::{Cell, address_cell, cells_zone};
 pub use check::check_zones;
 pub use pass::passes_on;
-pub use place::{Place, is_allowed, is_clear};
 pub use refusal::Refused as ZoneFault;
-pub use touch::{Use, end_use, step_use};
-pub use zone::{
-    PlacedZone, conflict, covers, is_apart, is_covered, is_empty, mode_covers, modes_agree,
-    same_object,
+pub use touch::{end_use, step_use};
+pub use zones::{
+    Place, PlacedZone, Use, conflict, covers, is_allowed, is_apart, is_clear, is_covered, is_empty,
+    mode_covers, modes_agree, same_object,
 };

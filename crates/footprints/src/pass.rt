@@ -1,14 +1,13 @@
 ghost use Rattle.std.specs.Prelude.{◌≡◌, IfOk, slice_get};
 ghost use Rattle.footprints.specs.Footprints.{hands_on, pending_of, is_passed, are_passed, foot_passed, child_passed_on, passes_on};
 
-use crate::place::{as_written, index_for};
 use crate::touch::child_foot;
-use crate::zone::{PlacedZone, covers, is_empty};
 use entailment::{FactCursor, Known};
 use lists::OutOfMemory;
 use program::{Block, BlockId, Pending, RegisterId, Terminator, Zone};
 use ranges::{EdgeFacts, Way};
 use std::alloc::Global;
+use zones::{PlacedZone, as_written, covers, index_for, is_empty};
 
 /// Whether what is pending of a region goes on along an edge: not into a detached block, and not where the region was synced.
 fn hands_on(way: Way, region: RegisterId) -> bool

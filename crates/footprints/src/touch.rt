@@ -2,15 +2,13 @@ ghost use Rattle.std.specs.Prelude.{◌≡◌, Some, IfOk, slice_get};
 ghost use Rattle.std.specs.List.{list_all};
 ghost use Rattle.syntax.specs.declared.operator.Mode.TheVariants.{Writes};
 ghost use Rattle.program.specs.declared.annotation.Zone.{Zone as ZoneKind};
-ghost use Rattle.footprints.specs.Zones.{as_written};
+ghost use Rattle.zones.specs.Zones.{as_written};
 ghost use Rattle.ranges.specs.obligations.Inequalities.{argument_moves};
 ghost use Rattle.footprints.specs.Footprints.{place_of, address_cell, first_cell, cells_zone, is_allowed, is_clear, cell_use, access_use, put_object};
 ghost use Rattle.footprints.specs.Footprints.{put_in, is_put_allowed, is_put_clear, no_use, callee_use, call_use, foot_use, step_use, child_foot};
 ghost use Rattle.footprints.specs.Footprints.{end_use};
 
 use crate::access::{Cell, address_cell, cells_zone, first_cell};
-use crate::place::{Place, as_written, is_allowed, is_clear};
-use crate::zone::PlacedZone;
 use lists::OutOfMemory;
 use program::{
     Address, Argument, Block, Function, FunctionId, Instruction, Mode, ObjectName, Step,
@@ -18,14 +16,7 @@ use program::{
 };
 use ranges::{Move, argument_moves};
 use std::alloc::Global;
-
-/// Whether what a step or a terminator touches is covered, by the rule of this number, and clear of what is pending.
-#[derive(Clone, Copy)]
-pub struct Use {
-    pub number: u16,
-    pub covered: bool,
-    pub clear: bool,
-}
+use zones::{Place, PlacedZone, Use, as_written, foot_use, is_allowed, is_clear};
 
 /// Of what touches nothing.
 fn no_use() -> Use
@@ -214,32 +205,6 @@ fn are_put_clear(
     Ok(true)
 }
 
-/// Whether each zone needs no cover, or has one.
-fn are_allowed(alloc: Global, place: &Place<'_>, zones: &[Zone]) -> Result<bool, OutOfMemory>
-    ensures { IfOk result (λ b. b ≡ list_all (λ (z : ZoneKind). is_allowed
-        (place_of place.now.facts.now place.now.covering.now place.now.own place.now.pending.now) (as_written z)) zones.now) }
-{
-    for zone in zones {
-        if !is_allowed(alloc, place, &as_written(zone))? {
-            return Ok(false);
-        }
-    }
-    Ok(true)
-}
-
-/// Whether nothing that is pending conflicts with one of the zones.
-fn are_clear(alloc: Global, place: &Place<'_>, zones: &[Zone]) -> Result<bool, OutOfMemory>
-    ensures { IfOk result (λ b. b ≡ list_all (λ (z : ZoneKind). is_clear
-        (place_of place.now.facts.now place.now.covering.now place.now.own place.now.pending.now) (as_written z)) zones.now) }
-{
-    for zone in zones {
-        if !is_clear(alloc, place, &as_written(zone))? {
-            return Ok(false);
-        }
-    }
-    Ok(true)
-}
-
 /// 604: of a call of this function, its zones.
 fn callee_use(
     alloc: Global,
@@ -275,17 +240,6 @@ fn call_use(
         Some(callee) => callee_use(alloc, place, callee, arguments),
         None => Ok(no_use()),
     }
-}
-
-/// 604: of a new child, its foot.
-fn foot_use(alloc: Global, place: &Place<'_>, foot: &[Zone]) -> Result<Use, OutOfMemory>
-    ensures { IfOk result (λ u. u ≡ foot_use (place_of place.now.facts.now place.now.covering.now place.now.own place.now.pending.now) foot.now) }
-{
-    Ok(Use {
-        number: 604,
-        covered: are_allowed(alloc, place, foot)?,
-        clear: are_clear(alloc, place, foot)?,
-    })
 }
 
 /// What an instruction touches.

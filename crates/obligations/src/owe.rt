@@ -2,6 +2,7 @@ ghost use Rattle.std.specs.Prelude.{◌≡◌, ◌++◌, ◌∷◌, [], true, So
 ghost use Rattle.syntax.specs.declared.operator.BinaryOperator.TheVariants.{AddNoWrap, SubtractNoWrap};
 ghost use Rattle.obligations.specs.Inequalities.{difference_of};
 ghost use Rattle.obligations.specs.Scales.{is_scale, scale_of};
+ghost use Rattle.obligations.specs.Sums.{one};
 ghost use Rattle.obligations.specs.Owed.{must, half, greatest, last_bit, is_not_zero, is_not_least_by_minus_one, product_owed, is_amount, binary_owed};
 ghost use Rattle.obligations.specs.Owed.{index_owed, inequalities_owed, call_owed, owed, owed_at_end};
 ghost use Rattle.program.specs.Cells.{object_cells};
@@ -61,6 +62,20 @@ fn push_must(
     Ok(())
 }
 
+/// Adds the choice that constant + a * x is at least 0.
+fn push_choice(
+    alloc: Global,
+    choices: &mut Seq<Sum>,
+    constant: i128,
+    a: i64,
+    x: Operand,
+) -> Result<(), OutOfMemory>
+    ensures { OnOk result (choices.new ≡ choices.old ++ one constant a x ∷ []) }
+{
+    choices.push(Sum::one(alloc, constant, a, x)?)?;
+    Ok(())
+}
+
 /// y >= 1 or y <= -1
 fn push_not_zero(
     alloc: Global,
@@ -70,8 +85,8 @@ fn push_not_zero(
     ensures { OnOk result (obligations.new.items ≡ obligations.old.items ++ is_not_zero y ∷ []) }
 {
     let mut choices = Seq::new(alloc);
-    choices.push(Sum::one(alloc, -1, 1, y)?)?;
-    choices.push(Sum::one(alloc, -1, -1, y)?)?;
+    push_choice(alloc, &mut choices, -1, 1, y)?;
+    push_choice(alloc, &mut choices, -1, -1, y)?;
     obligations.push(Obligation {
         number: 502,
         choices,
@@ -90,9 +105,9 @@ fn push_not_least_by_minus_one(
     ensures { OnOk result (obligations.new.items ≡ obligations.old.items ++ is_not_least_by_minus_one width x y ∷ []) }
 {
     let mut choices = Seq::new(alloc);
-    choices.push(Sum::one(alloc, 0, 1, y)?)?;
-    choices.push(Sum::one(alloc, -2, -1, y)?)?;
-    choices.push(Sum::one(alloc, greatest(width), 1, x)?)?;
+    push_choice(alloc, &mut choices, 0, 1, y)?;
+    push_choice(alloc, &mut choices, -2, -1, y)?;
+    push_choice(alloc, &mut choices, greatest(width), 1, x)?;
     obligations.push(Obligation {
         number: 502,
         choices,

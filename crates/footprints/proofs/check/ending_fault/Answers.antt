@@ -5,7 +5,7 @@ use Rattle.refusal.specs.declared.broken.Broken.{Broken}
 use Rattle.refusal.specs.Earliest.{IsEarliest}
 use Rattle.refusal.proofs.Elements.{earliest_both}
 use Rattle.ranges.specs.declared.table.EdgeFacts.{EdgeFacts}
-use Rattle.footprints.specs.declared.touch.Use.{Use}
+use Rattle.zones.specs.declared.foot.Use.{Use}
 use Rattle.footprints.specs.Footprints.{Place, end_use}
 use Rattle.footprints.specs.Rules.{place_in, IsUseBroken, IsEdgeBroken}
 use Rattle.footprints.proofs.check.ending_fault.Goals as goal

@@ -1,7 +1,0 @@
-use Rattle.std.proofs.Common.{◌≡◌, true, take}
-use Rattle.std.specs.List.{list_all}
-use Rattle.definedness.specs.Settling.{has}
-use Rattle.definedness.proofs.sets.are_among.Given as goal
-
-abbrev pub invariant-loop-place : goal.invariant-loop-place
-invariant-loop-place l = list_all (has l.right) (take l.place l.left) ≡ true

@@ -1,0 +1,55 @@
+ghost use Rattle.std.specs.Prelude.{◌≡◌, IfOk};
+ghost use Rattle.std.specs.List.{list_all};
+ghost use Rattle.program.specs.declared.annotation.Zone.{Zone as ZoneKind};
+ghost use Rattle.zones.specs.Zones.{as_written};
+ghost use Rattle.zones.specs.Places.{place_of, is_allowed, is_clear, foot_use};
+
+use crate::place::{Place, as_written, is_allowed, is_clear};
+use lists::OutOfMemory;
+use program::Zone;
+use std::alloc::Global;
+
+/// Whether what a step or a terminator touches is covered, by the rule of this number, and clear of what is pending.
+#[derive(Clone, Copy)]
+pub struct Use {
+    pub number: u16,
+    pub covered: bool,
+    pub clear: bool,
+}
+
+/// Whether each zone needs no cover, or has one.
+fn are_allowed(alloc: Global, place: &Place<'_>, zones: &[Zone]) -> Result<bool, OutOfMemory>
+    ensures { IfOk result (λ b. b ≡ list_all (λ (z : ZoneKind). is_allowed
+        (place_of place.now.facts.now place.now.covering.now place.now.own place.now.pending.now) (as_written z)) zones.now) }
+{
+    for zone in zones {
+        if !is_allowed(alloc, place, &as_written(zone))? {
+            return Ok(false);
+        }
+    }
+    Ok(true)
+}
+
+/// Whether nothing that is pending conflicts with one of the zones.
+fn are_clear(alloc: Global, place: &Place<'_>, zones: &[Zone]) -> Result<bool, OutOfMemory>
+    ensures { IfOk result (λ b. b ≡ list_all (λ (z : ZoneKind). is_clear
+        (place_of place.now.facts.now place.now.covering.now place.now.own place.now.pending.now) (as_written z)) zones.now) }
+{
+    for zone in zones {
+        if !is_clear(alloc, place, &as_written(zone))? {
+            return Ok(false);
+        }
+    }
+    Ok(true)
+}
+
+/// 604: of a new child, its foot.
+pub fn foot_use(alloc: Global, place: &Place<'_>, foot: &[Zone]) -> Result<Use, OutOfMemory>
+    ensures { IfOk result (λ u. u ≡ foot_use (place_of place.now.facts.now place.now.covering.now place.now.own place.now.pending.now) foot.now) }
+{
+    Ok(Use {
+        number: 604,
+        covered: are_allowed(alloc, place, foot)?,
+        clear: are_clear(alloc, place, foot)?,
+    })
+}

@@ -1,0 +1,15 @@
+//! Zones of cells at a place: what the facts there show of them, and whether what is touched is covered, and clear of what is pending.
+//!
+//! A zone is an object, a mode and a range of cells, whose ends are forms over registers. What the facts show of zones is decided exactly.
+#![tactic(auto)]
+
+mod foot;
+mod place;
+mod zone;
+
+pub use foot::{Use, foot_use};
+pub use place::{Place, as_written, index_for, is_allowed, is_clear};
+pub use zone::{
+    PlacedZone, conflict, covers, is_apart, is_covered, is_empty, mode_covers, modes_agree,
+    same_object,
+};

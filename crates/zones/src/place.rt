@@ -1,0 +1,80 @@
+ghost use Rattle.std.specs.Prelude.{◌≡◌, [], IfOk};
+ghost use Rattle.zones.specs.Zones.{span};
+ghost use Rattle.zones.specs.Places.{place_of, is_own, is_allowed, is_clear};
+
+use crate::zone::{PlacedZone, conflict, is_covered};
+use entailment::{FactCursor, Known};
+use lists::OutOfMemory;
+use program::{ObjectName, Pending, Zone};
+use std::alloc::Global;
+
+/// What is known at a place, the zones that must cover what is touched there, whether it is one of the function's own blocks, whose accesses of
+/// the function's own allocas need no cover, and what is pending.
+#[derive(Clone, Copy)]
+pub struct Place<'a> {
+    pub facts: &'a Known<'a>,
+    pub covering: &'a [Zone],
+    pub own: bool,
+    pub pending: &'a [Pending],
+}
+
+/// Brings the index of what is known up to date, where questions are to come.
+pub fn index_for(cursor: &mut FactCursor<'_>, is_asked: bool) -> Result<(), OutOfMemory>
+    ensures { cursor.new ≡ cursor.old }
+{
+    if is_asked {
+        cursor.index()?;
+    }
+    Ok(())
+}
+
+/// A zone in its own function.
+pub fn as_written(zone: &Zone) -> PlacedZone<'_>
+    ensures object { result.object ≡ zone.now.object }
+    ensures moves { result.moves.now ≡ [] }
+    ensures zone { result.zone.now ≡ zone.now }
+{
+    PlacedZone {
+        object: zone.object,
+        moves: &[],
+        zone,
+    }
+}
+
+/// An alloca of the function in one of its own blocks.
+fn is_own(own: bool, object: ObjectName) -> bool
+    ensures { result ≡ is_own own object }
+{
+    match object {
+        ObjectName::Alloca(_) => own,
+        ObjectName::Global(_) | ObjectName::Parameter(_) => false,
+    }
+}
+
+/// Whether what is touched needs no cover, or has one.
+#[tactic(auto, unfolding(crate::specs::Places::is_allowed))]
+pub fn is_allowed(alloc: Global, place: &Place<'_>, y: &PlacedZone<'_>) -> Result<bool, OutOfMemory>
+    ensures { IfOk result (λ b. b ≡ is_allowed
+        (place_of place.now.facts.now place.now.covering.now place.now.own place.now.pending.now)
+        (span y.now.object y.now.moves.now y.now.zone.now)) }
+{
+    if is_own(place.own, y.object) {
+        return Ok(true);
+    }
+    is_covered(alloc, place.facts, place.covering, y)
+}
+
+/// Whether nothing that is pending conflicts with it.
+#[tactic(auto, unfolding(crate::specs::Places::is_clear))]
+pub fn is_clear(alloc: Global, place: &Place<'_>, y: &PlacedZone<'_>) -> Result<bool, OutOfMemory>
+    ensures { IfOk result (λ b. b ≡ is_clear
+        (place_of place.now.facts.now place.now.covering.now place.now.own place.now.pending.now)
+        (span y.now.object y.now.moves.now y.now.zone.now)) }
+{
+    for item in place.pending {
+        if conflict(alloc, place.facts, &as_written(&item.zone), y)? {
+            return Ok(false);
+        }
+    }
+    Ok(true)
+}

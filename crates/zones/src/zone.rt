@@ -1,0 +1,202 @@
+ghost use Rattle.std.specs.Prelude.{◌≡◌, ◌<◌, IfOk};
+ghost use Rattle.std.specs.List.{list_any};
+ghost use Rattle.zones.specs.Zones.{span, as_written, same_object, mode_covers, modes_agree, between, shows_order, is_empty, covers, is_apart, conflict, is_covered};
+
+use entailment::Known;
+use linear::{Form, side_of};
+use lists::{OutOfMemory, Seq};
+use program::{Mode, ObjectName, Zone};
+use ranges::{Move, Sum, push_parts, shows_at};
+use std::alloc::Global;
+
+/// A zone at a place: the object that it is of there, and the operands that stand for its registers there.
+#[derive(Clone, Copy)]
+pub struct PlacedZone<'a> {
+    pub object: ObjectName,
+    pub moves: &'a [Move],
+    pub zone: &'a Zone,
+}
+
+/// Whether two names of a function are of one object: its own names are of different objects.
+pub fn same_object(left: ObjectName, right: ObjectName) -> bool
+    ensures { result ≡ same_object left right }
+{
+    match (left, right) {
+        (ObjectName::Global(a), ObjectName::Global(b)) => a.0 == b.0,
+        (ObjectName::Alloca(a), ObjectName::Alloca(b)) => a.0 == b.0,
+        (ObjectName::Parameter(a), ObjectName::Parameter(b)) => a.0 == b.0,
+        (ObjectName::Global(_), ObjectName::Alloca(_) | ObjectName::Parameter(_))
+        | (ObjectName::Alloca(_), ObjectName::Global(_) | ObjectName::Parameter(_))
+        | (ObjectName::Parameter(_), ObjectName::Global(_) | ObjectName::Alloca(_)) => false,
+    }
+}
+
+/// Whether a zone of this mode lets its cells be used by that mode: `writes` by every mode, any other only by its own.
+pub fn mode_covers(cover: Mode, covered: Mode) -> bool
+    ensures { result ≡ mode_covers cover covered }
+{
+    match (cover, covered) {
+        (Mode::Writes, _) | (Mode::Reads, Mode::Reads) | (Mode::Adds, Mode::Adds) => true,
+        (Mode::Reads, Mode::Writes | Mode::Adds) | (Mode::Adds, Mode::Reads | Mode::Writes) => {
+            false
+        }
+    }
+}
+
+/// Whether uses of one cell in any order come to the same: two reads, or two adds.
+pub fn modes_agree(left: Mode, right: Mode) -> bool
+    ensures { result ≡ modes_agree left right }
+{
+    match (left, right) {
+        (Mode::Reads, Mode::Reads) | (Mode::Adds, Mode::Adds) => true,
+        (Mode::Writes, _)
+        | (Mode::Reads, Mode::Writes | Mode::Adds)
+        | (Mode::Adds, Mode::Reads | Mode::Writes) => false,
+    }
+}
+
+/// high - low, each with the operands of its own zone put in.
+fn between(
+    alloc: Global,
+    for_high: &[Move],
+    high: &Form,
+    for_low: &[Move],
+    low: &Form,
+) -> Result<Sum, OutOfMemory>
+    ensures { IfOk result (λ s. s ≡ between for_high.now high.now for_low.now low.now) }
+{
+    let high = side_of(high);
+    let low = side_of(low);
+    let mut parts = Vec::new(alloc);
+    push_parts(&mut parts, for_high, 1, high.terms)?;
+    push_parts(&mut parts, for_low, -1, low.terms)?;
+    Ok(Sum {
+        constant: high.constant - low.constant,
+        parts: Seq::from_vec(parts),
+    })
+}
+
+/// Whether high >= low is shown.
+#[tactic(auto, unfolding(crate::specs::Zones::shows_order))]
+fn shows_order(
+    alloc: Global,
+    facts: &Known<'_>,
+    for_high: &[Move],
+    high: &Form,
+    for_low: &[Move],
+    low: &Form,
+) -> Result<bool, OutOfMemory>
+    ensures { IfOk result (λ b. b ≡ shows_order facts.now for_high.now high.now for_low.now low.now) }
+{
+    let sum = between(alloc, for_high, high, for_low, low)?;
+    shows_at(alloc, facts, &sum)
+}
+
+/// Whether a zone is shown to have no cell.
+#[tactic(auto, unfolding(crate::specs::Zones::is_empty))]
+pub fn is_empty(alloc: Global, facts: &Known<'_>, z: &PlacedZone<'_>) -> Result<bool, OutOfMemory>
+    ensures { IfOk result (λ b. b ≡ is_empty facts.now (span z.now.object z.now.moves.now z.now.zone.now)) }
+{
+    shows_order(alloc, facts, z.moves, &z.zone.low, z.moves, &z.zone.high)
+}
+
+/// Whether `z` is shown to have each cell of `y`, for each use that `y` has them for.
+#[tactic(auto, unfolding(crate::specs::Zones::covers))]
+pub fn covers(
+    alloc: Global,
+    facts: &Known<'_>,
+    z: &PlacedZone<'_>,
+    y: &PlacedZone<'_>,
+) -> Result<bool, OutOfMemory>
+    ensures { IfOk result (λ b. b ≡ covers facts.now (span z.now.object z.now.moves.now z.now.zone.now) (span y.now.object y.now.moves.now y.now.zone.now)) }
+{
+    if !same_object(z.object, y.object) {
+        return Ok(false);
+    }
+    if !mode_covers(z.zone.mode, y.zone.mode) {
+        return Ok(false);
+    }
+    if !shows_order(alloc, facts, y.moves, &y.zone.low, z.moves, &z.zone.low)? {
+        return Ok(false);
+    }
+    shows_order(alloc, facts, z.moves, &z.zone.high, y.moves, &y.zone.high)
+}
+
+/// Whether two zones are shown to have no cell in common.
+#[tactic(auto, unfolding(crate::specs::Zones::is_apart))]
+pub fn is_apart(
+    alloc: Global,
+    facts: &Known<'_>,
+    z: &PlacedZone<'_>,
+    y: &PlacedZone<'_>,
+) -> Result<bool, OutOfMemory>
+    ensures { IfOk result (λ b. b ≡ is_apart facts.now (span z.now.object z.now.moves.now z.now.zone.now) (span y.now.object y.now.moves.now y.now.zone.now)) }
+{
+    if !same_object(z.object, y.object) {
+        return Ok(true);
+    }
+    if shows_order(alloc, facts, z.moves, &z.zone.low, y.moves, &y.zone.high)? {
+        return Ok(true);
+    }
+    if shows_order(alloc, facts, y.moves, &y.zone.low, z.moves, &z.zone.high)? {
+        return Ok(true);
+    }
+    if is_empty(alloc, facts, z)? {
+        return Ok(true);
+    }
+    is_empty(alloc, facts, y)
+}
+
+/// Whether two zones may have a cell in common, and the order of its uses may matter.
+#[tactic(auto, unfolding(crate::specs::Zones::conflict))]
+pub fn conflict(
+    alloc: Global,
+    facts: &Known<'_>,
+    z: &PlacedZone<'_>,
+    y: &PlacedZone<'_>,
+) -> Result<bool, OutOfMemory>
+    ensures { IfOk result (λ b. b ≡ conflict facts.now (span z.now.object z.now.moves.now z.now.zone.now) (span y.now.object y.now.moves.now y.now.zone.now)) }
+{
+    if modes_agree(z.zone.mode, y.zone.mode) {
+        return Ok(false);
+    }
+    Ok(!is_apart(alloc, facts, z, y)?)
+}
+
+/// Whether one of the zones covers `y`.
+fn one_covers(
+    alloc: Global,
+    facts: &Known<'_>,
+    zones: &[Zone],
+    y: &PlacedZone<'_>,
+) -> Result<bool, OutOfMemory>
+    ensures { IfOk result (λ b. b ≡ list_any (λ z. covers facts.now (as_written z) (span y.now.object y.now.moves.now y.now.zone.now)) zones.now) }
+{
+    for zone in zones {
+        let z = PlacedZone {
+            object: zone.object,
+            moves: &[],
+            zone,
+        };
+        if covers(alloc, facts, &z, y)? {
+            return Ok(true);
+        }
+    }
+    Ok(false)
+}
+
+/// Whether one of the zones covers `y`, or `y` is shown to be empty. Most zones that are asked for are covered, and few are empty.
+#[tactic(auto, unfolding(crate::specs::Zones::is_covered))]
+pub fn is_covered(
+    alloc: Global,
+    facts: &Known<'_>,
+    zones: &[Zone],
+    y: &PlacedZone<'_>,
+) -> Result<bool, OutOfMemory>
+    ensures { IfOk result (λ b. b ≡ is_covered facts.now zones.now (span y.now.object y.now.moves.now y.now.zone.now)) }
+{
+    if one_covers(alloc, facts, zones, y)? {
+        return Ok(true);
+    }
+    is_empty(alloc, facts, y)
+}
