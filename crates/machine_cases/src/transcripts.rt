@@ -1,9 +1,9 @@
-//! Transcripts of the program `tapirvm`. `==== TITLE` begins some cases that belong together. `of FILE` takes a module, `of nothing` one that cannot be read, `of blanks 9` so
-//! many blanks, `of bytes 59 255` these bytes; each forgets the schedule and the input. Then the module is changed: `line 8 TEXT` puts a text in place of
-//! its line 8 (` || ` ends a line in it), `return 7` a carriage return at the end of a line, `without 9` takes a line away. `events EVENT; EVENT ..`, or
-//! `events none`, is the schedule; `input LINE; LINE ..` standard input, without an LF at its end. Command lines follow, after `$`, what each of them
-//! writes, lines of standard error after `!`, and the `status`, which ends the case. In place of all that is written may stand `has 2 TEXT`: how often a
-//! text stands in it. `beginnings STATUS NUMBER ..` ends a case over each beginning of the module in place of it, which one of these rules refuses.
+//! Transcripts of the program `tapirvm`. `==== TITLE` begins some cases that belong together. `of FILE` takes a module, `of nothing` one that cannot be read,
+//! `of blanks 9` so many blanks, `of bytes 59 255` these bytes; each forgets the schedule and the input. Then the module is changed: `line 8 TEXT` puts a
+//! text in place of its line 8 (` || ` ends a line in it), `return 7` a carriage return at the end of a line, `without 9` takes a line away. `events EVENT;
+//! EVENT ..`, or `events none`, is the schedule; `input LINE; LINE ..` standard input, without an LF at its end. Command lines follow, after `$`, what each
+//! of them writes, lines of standard error after `!`, and the `status`, which ends the case. In place of all that is written may stand `has 2 TEXT`: how
+//! often a text stands in it. `beginnings STATUS NUMBER ..` ends a case over each beginning of the module in place of it, which one of these rules refuses.
 //! `m.ll` and `s.txt` are the module and the schedule.
 
 mod case;
