@@ -1,12 +1,18 @@
-//! Cases of the program `tapirvm`. `machine_cases FILE..` answers the transcripts of these files (`transcript`). It prints a line of each case,
-//! and fails where one is not answered as it is to be. What is expected is worked by hand.
+//! Cases of the machine: counts of children, machines between events, the debugger, boards, answers without threads, and transcripts of the program.
+//! `machine_cases WORD..` answers those that each word names: `steps` and `answers` are groups of cases, any other word is a file of cases, whose
+//! folder is its kind, `boards` or `transcripts`; each is told of in the module of its name. It prints a line of each case, and fails where one is not
+//! answered as it is to be. What is expected is worked by hand. The last line names the call at a board that was refused memory, and made once more.
 #![tactic(auto)]
 
-mod answered;
-mod case;
-mod transcript;
+mod answers;
+mod asked;
+mod boards;
+mod draws;
+mod modules;
+mod steps;
+mod transcripts;
 
-use answered::Program;
+use boards::Notes;
 use cases::Report;
 use std::hash::RandomState;
 use std::io::Write;
@@ -14,53 +20,54 @@ use std::process::ExitCode;
 use std::sync::Wait;
 use std::thread::Threads;
 use std::time::Clock;
-use std::{env, fs, io};
+use std::{env, io};
+use transcripts::Program;
 
 /// The lines of the cases, in memory.
-type Lines<'a> = Report<&'a mut Vec<u8>>;
+type Lines = Report<Vec<u8>>;
 
-/// Answers the transcripts of a file.
-fn answer_file<T: Threads + Wait + Clock + Sync>(
+/// Answers the cases that a word names.
+fn answer_word<T: Threads + Wait + Clock + Sync>(
     rt: &HostRuntime,
     program: &Program<'_, T>,
-    file: &str,
-    report: &mut Lines<'_>,
+    word: &str,
+    notes: &mut Notes,
+    report: &mut Lines,
 ) -> io::Result<()> {
-    report.file(file)?;
-    let text = fs::read_to_string(rt, file)?;
-    transcript::answer(rt, program, text.as_str(), report)
-}
-
-/// Answers the transcripts of the files that the program's words name.
-fn answer_files<T: Threads + Wait + Clock + Sync>(
-    rt: &HostRuntime,
-    program: &Program<'_, T>,
-    report: &mut Lines<'_>,
-) -> io::Result<()> {
-    for file in env::args(rt)?.skip(1) {
-        answer_file(rt, program, file.as_str(), report)?;
+    report.file(word)?;
+    let (kind, _) = word.split_once("/").unwrap_or((word, ""));
+    match kind {
+        "steps" => steps::answer(rt, program.state, report),
+        "answers" => answers::answer(rt, program.state, report),
+        "boards" => boards::answer(rt, program.state, word, notes, report),
+        "transcripts" => transcripts::answer(rt, program, word, report),
+        _ => report.case("a word of no kind", word, false),
     }
-    Ok(())
 }
 
-/// Answers all cases.
+/// Answers the cases that the program's words name.
 fn answer<T: Threads + Wait + Clock + Sync>(
     rt: &HostRuntime,
     program: &Program<'_, T>,
-    output: &mut Vec<u8>,
+    notes: &mut Notes,
+    report: &mut Lines,
 ) -> io::Result<ExitCode> {
-    let mut report = Report::new(rt.alloc(), output);
-    answer_files(rt, program, &mut report)?;
+    for word in env::args(rt)?.skip(1) {
+        answer_word(rt, program, word.as_str(), notes, report)?;
+    }
     report.finish()
 }
 
 fn main(rt: HostRuntime) -> io::Result<ExitCode> {
-    let mut output = Vec::new(rt.alloc());
+    let alloc = rt.alloc();
     let program = Program {
         state: RandomState::new(&rt)?,
         rt: &rt,
     };
-    let status = answer(&rt, &program, &mut output);
-    io::writer(&rt).write_all(output.as_slice())?;
+    let mut notes = Notes::new(alloc);
+    let mut report = Report::new(alloc, Vec::new(alloc));
+    let status = answer(&rt, &program, &mut notes, &mut report);
+    io::writer(&rt).write_all(report.output().as_slice())?;
+    println!(rt; "refused and made once more: {}", notes.refused)?;
     status
 }

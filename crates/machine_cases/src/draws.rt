@@ -1,0 +1,9 @@
+//! Numbers that a seed draws.
+
+/// The next number of a sequence: the high bits of a linear congruence with Knuth's factor for 64 bits.
+pub fn drawn(state: &mut u64) -> u64 {
+    *state = state
+        .wrapping_mul(6_364_136_223_846_793_005)
+        .wrapping_add(1_442_695_040_888_963_407);
+    *state >> 33
+}
