@@ -3,6 +3,8 @@
 ghost use Rattle.std.specs.Prelude.{◌≡◌};
 ghost use Rattle.ir_annotation.specs.Keywords.{keyword_of, block_keyword_of};
 
+use crate::words::is_text;
+
 /// An annotation's word.
 #[derive(Clone, Copy)]
 pub enum Keyword {
@@ -23,15 +25,15 @@ pub enum Keyword {
 fn block_keyword(word: &[u8]) -> Option<Keyword>
     ensures { result ≡ block_keyword_of word.now }
 {
-    if word == b"keeps".as_slice() {
+    if is_text(word, b"keeps") {
         Some(Keyword::Keeps)
-    } else if word == b"pending".as_slice() {
+    } else if is_text(word, b"pending") {
         Some(Keyword::Pending)
-    } else if word == b"left".as_slice() {
+    } else if is_text(word, b"left") {
         Some(Keyword::Left)
-    } else if word == b"foot".as_slice() {
+    } else if is_text(word, b"foot") {
         Some(Keyword::Foot)
-    } else if word == b"shows".as_slice() {
+    } else if is_text(word, b"shows") {
         Some(Keyword::Shows)
     } else {
         None
@@ -42,19 +44,19 @@ fn block_keyword(word: &[u8]) -> Option<Keyword>
 pub fn read_keyword(word: &[u8]) -> Option<Keyword>
     ensures { result ≡ keyword_of word.now }
 {
-    if word == b"requires".as_slice() {
+    if is_text(word, b"requires") {
         Some(Keyword::Requires)
-    } else if word == b"ensures".as_slice() {
+    } else if is_text(word, b"ensures") {
         Some(Keyword::Ensures)
-    } else if word == b"reads".as_slice() {
+    } else if is_text(word, b"reads") {
         Some(Keyword::Reads)
-    } else if word == b"writes".as_slice() {
+    } else if is_text(word, b"writes") {
         Some(Keyword::Writes)
-    } else if word == b"adds".as_slice() {
+    } else if is_text(word, b"adds") {
         Some(Keyword::Adds)
-    } else if word == b"measure".as_slice() {
+    } else if is_text(word, b"measure") {
         Some(Keyword::Measure)
-    } else if word == b"budget".as_slice() {
+    } else if is_text(word, b"budget") {
         Some(Keyword::Budget)
     } else {
         block_keyword(word)

@@ -1,8 +1,10 @@
 //! Terms of a form, and their sum.
 
-ghost use Rattle.std.specs.Prelude.{◌≡◌, ◌≤◌, ◌<◌, ◌^◌, ℕ, ◌+ℤ◌, length, unsigned_abs, OnOk, All};
+ghost use Rattle.std.specs.Prelude.{◌≡◌, ◌≤◌, ◌<◌, ◌^◌, ℕ, ◌+ℤ◌, length, insert, slice_set, slice_index_or, unsigned_abs, IsTrue, OnOk, All};
 ghost use Rattle.std.specs.List.{prefix_len};
-ghost use Rattle.ir_annotation.specs.Forms.{nothing, added, is_before, is_at, signed, plus};
+ghost use Rattle.std.specs.Str.{bytes_eq};
+ghost use Rattle.ir_annotation.specs.Forms.{nothing, added, is_before, is_at, with_more, signed, plus};
+ghost use Rattle.ir_annotation.specs.declared.sums.SumTerm.{SumTerm};
 ghost use Rattle.ir_annotation.specs.Bounds.{IsBelow, IsBounded, total_of};
 
 use crate::limits::Limited;
@@ -62,12 +64,19 @@ fn place_of(terms: &[SumTerm], name: &Name) -> usize
     terms.iter().take_while(|t| is_before(t, name)).count()
 }
 
+fn is_named(term: &SumTerm, name: &Name) -> bool
+    ensures { result ≡ bytes_eq term.now.register name.now }
+{
+    term.register.as_bytes() == name.as_bytes()
+}
+
 fn is_at(terms: &[SumTerm], place: usize, name: &Name) -> bool
-    ensures { result ≡ is_at terms.now place name.now }
+    ensures value { result ≡ is_at terms.now place name.now }
+    ensures within { IsTrue result → place < length terms.now }
 {
     match terms.get(place) {
         None => false,
-        Some(term) => term.register.as_bytes() == name.as_bytes(),
+        Some(term) => is_named(term, name),
     }
 }
 
@@ -79,6 +88,31 @@ fn plus(sum: i128, amount: i64) -> i128
     sum + i128::from(amount)
 }
 
+/// Adds to the coefficient of the term at a place.
+fn raise(terms: &mut Vec<SumTerm>, place: usize, amount: i64)
+    requires place { place < length terms.old.items }
+    requires terms { All (λ t. IsBelow t.coefficient) terms.old.items }
+    requires amount { unsigned_abs amount < 2 ^ 63 }
+    ensures { (spare : SumTerm) → terms.new.items
+        ≡ slice_set terms.old.items place (with_more amount (slice_index_or terms.old.items place spare)) }
+{
+    let coefficient = plus(terms[place].coefficient, amount);
+    terms[place].coefficient = coefficient;
+}
+
+/// Puts the first multiple of a register at a place.
+fn put(terms: &mut Vec<SumTerm>, place: usize, name: Name, amount: i64) -> Result<(), AllocError>
+    requires { place ≤ length terms.old.items }
+    ensures { OnOk result (terms.new.items ≡ insert terms.old.items place (record { register = name; coefficient = amount })) }
+{
+    let term = SumTerm {
+        register: name,
+        coefficient: i128::from(amount),
+    };
+    terms.insert(place, term)?;
+    Ok(())
+}
+
 /// Adds a multiple of a register to terms in the order of their names.
 fn add(terms: &mut Vec<SumTerm>, name: Name, amount: i64) -> Result<(), AllocError>
     requires terms { All (λ t. IsBelow t.coefficient) terms.old.items }
@@ -87,17 +121,11 @@ fn add(terms: &mut Vec<SumTerm>, name: Name, amount: i64) -> Result<(), AllocErr
 {
     let place = place_of(terms.as_slice(), &name);
     if is_at(terms.as_slice(), place, &name) {
-        terms[place].coefficient = plus(terms[place].coefficient, amount);
+        raise(terms, place, amount);
+        Ok(())
     } else {
-        terms.insert(
-            place,
-            SumTerm {
-                register: name,
-                coefficient: i128::from(amount),
-            },
-        )?;
+        put(terms, place, name, amount)
     }
-    Ok(())
 }
 
 impl Sum {

@@ -1,6 +1,7 @@
 //! The words of an annotation but forms.
 
 ghost use Rattle.std.specs.Prelude.{◌≡◌, ◌≤◌, true, IfOk};
+ghost use Rattle.std.specs.Str.{bytes_eq};
 ghost use Rattle.ir_annotation.specs.Reading.{Gives};
 ghost use Rattle.ir_annotation.specs.Words.{is_numeral, small_value, number_of, name_of, register_of, object_of, relation_of, mode_of};
 
@@ -16,6 +17,12 @@ pub fn unexpected(line: u32) -> Refused
     ensures { result ≡ Refused.Fault 103 line }
 {
     Refused::Fault { number: 103, line }
+}
+
+pub fn is_text(word: &[u8], text: &[u8]) -> bool
+    ensures { result ≡ bytes_eq word.now text.now }
+{
+    word == text
 }
 
 fn is_numeral(bytes: &[u8]) -> bool
@@ -108,9 +115,9 @@ pub fn read_object(alloc: Global, word: &[u8], line: u32) -> Result<Limited<Addr
 pub fn read_relation(word: &[u8], line: u32) -> Result<Relation, Refused>
     ensures { Gives (λ r. r) line result (relation_of word.now) }
 {
-    if word == b"<=".as_slice() {
+    if is_text(word, b"<=") {
         Ok(Relation::AtMost)
-    } else if word == b">=".as_slice() {
+    } else if is_text(word, b">=") {
         Ok(Relation::AtLeast)
     } else {
         Err(unexpected(line))
@@ -121,11 +128,11 @@ pub fn read_relation(word: &[u8], line: u32) -> Result<Relation, Refused>
 pub fn read_mode(word: &[u8], line: u32) -> Result<Mode, Refused>
     ensures { Gives (λ m. m) line result (mode_of word.now) }
 {
-    if word == b"reads".as_slice() {
+    if is_text(word, b"reads") {
         Ok(Mode::Reads)
-    } else if word == b"writes".as_slice() {
+    } else if is_text(word, b"writes") {
         Ok(Mode::Writes)
-    } else if word == b"adds".as_slice() {
+    } else if is_text(word, b"adds") {
         Ok(Mode::Adds)
     } else {
         Err(unexpected(line))

@@ -1,8 +1,8 @@
 //! What stands at the front of the rest of a line, and what is left behind it.
 
-ghost use Rattle.std.specs.Prelude.{◌≡◌};
+ghost use Rattle.std.specs.Prelude.{◌≡◌, codes};
 ghost use Rattle.std.specs.Str.{bytes_eq};
-ghost use Rattle.ir_instruction.specs.Outcome.{Gives};
+ghost use Rattle.ir_instruction.specs.Outcome.{Gives, ◌>>=◌ as ◌▷◌};
 ghost use Rattle.ir_instruction.specs.Fronts.{mark_at, word_at, named_at, end_at, is_word, is_mark, behind, register_at, global_at, label_at, numeral_at};
 ghost use Rattle.ir_instruction.specs.Fronts.{operand_at, address_at, pointer_at, count_at, array_at, bytes_at, width_at, result_type_at};
 
@@ -159,15 +159,22 @@ fn count_at(symbols: &[Symbol]) -> Result<(u64, &[Symbol]), LineFault>
     }
 }
 
+/// `x i64]`
+fn array_ends(symbols: &[Symbol]) -> Result<&[Symbol], LineFault>
+    ensures { Gives (λ rest. rest.now) result ((word_at (codes "x") symbols.now ▷ word_at (codes "i64")) ▷ mark_at 93) }
+{
+    let rest = word_at(b"x", symbols)?;
+    let rest = word_at(b"i64", rest)?;
+    mark_at(b']', rest)
+}
+
 /// `[N x i64]`
 pub fn array_at(symbols: &[Symbol]) -> Result<(u64, &[Symbol]), LineFault>
     ensures { Gives (λ found. (found.0, found.1.now)) result (array_at symbols.now) }
 {
     let rest = mark_at(b'[', symbols)?;
     let (cells, rest) = count_at(rest)?;
-    let rest = word_at(b"x", rest)?;
-    let rest = word_at(b"i64", rest)?;
-    let rest = mark_at(b']', rest)?;
+    let rest = array_ends(rest)?;
     Ok((cells, rest))
 }
 

@@ -1,8 +1,9 @@
 //! Lists within a line.
 
-ghost use Rattle.std.specs.Prelude.{◌≡◌, List, length, Option, option_map};
+ghost use Rattle.std.specs.Prelude.{◌≡◌, List, length, codes, Option, option_map};
 ghost use Rattle.ir_instruction.specs.declared.symbol.Symbol.{Symbol};
-ghost use Rattle.ir_instruction.specs.Outcome.{Gives};
+ghost use Rattle.ir_instruction.specs.Outcome.{Gives, ◌>>=◌ as ◌▷◌};
+ghost use Rattle.ir_instruction.specs.Fronts.{mark_at, word_at, register_at, operand_at};
 ghost use Rattle.ir_instruction.specs.Lists.{list_at, comma_at, pointer_parameter_at, number_parameter_at, parameter_at, pointer_argument_at};
 ghost use Rattle.ir_instruction.specs.Lists.{number_argument_at, argument_at, entry_at, all_at, all_entries_at};
 
@@ -11,9 +12,9 @@ use crate::front::{
     behind, bytes_at, is_mark, is_word, mark_at, operand_at, pointer_at, register_at, word_at,
 };
 use crate::symbol::Symbol;
-use lists::Seq;
+use lists::{Name, Seq};
 use std::alloc::Global;
-use syntax::{Argument, Parameter, PhiEntry};
+use syntax::{Argument, Operand, Parameter, PhiEntry};
 
 /// What lists are made of.
 pub trait Listed: Drop {
@@ -59,16 +60,31 @@ fn comma_at(symbols: &[Symbol]) -> Option<&[Symbol]>
     }
 }
 
-fn pointer_parameter_at(symbols: &[Symbol]) -> Result<(Parameter, &[Symbol]), LineFault>
-    ensures { Gives (λ found. (found.0, found.1.now)) result (pointer_parameter_at symbols.now) }
+/// `ptr noalias dereferenceable`
+fn pointer_words_at(symbols: &[Symbol]) -> Result<&[Symbol], LineFault>
+    ensures { Gives (λ rest. rest.now) result
+        ((word_at (codes "ptr") symbols.now ▷ word_at (codes "noalias")) ▷ word_at (codes "dereferenceable")) }
 {
     let rest = word_at(b"ptr", symbols)?;
     let rest = word_at(b"noalias", rest)?;
-    let rest = word_at(b"dereferenceable", rest)?;
+    word_at(b"dereferenceable", rest)
+}
+
+/// A mark and `%x`
+fn register_behind(mark: u8, symbols: &[Symbol]) -> Result<(Name, &[Symbol]), LineFault>
+    ensures { Gives (λ found. (found.0, found.1.now)) result (mark_at mark symbols.now ▷ register_at) }
+{
+    let rest = mark_at(mark, symbols)?;
+    register_at(rest)
+}
+
+fn pointer_parameter_at(symbols: &[Symbol]) -> Result<(Parameter, &[Symbol]), LineFault>
+    ensures { Gives (λ found. (found.0, found.1.now)) result (pointer_parameter_at symbols.now) }
+{
+    let rest = pointer_words_at(symbols)?;
     let rest = mark_at(b'(', rest)?;
     let (cells, rest) = bytes_at(rest)?;
-    let rest = mark_at(b')', rest)?;
-    let (name, rest) = register_at(rest)?;
+    let (name, rest) = register_behind(b')', rest)?;
     Ok((Parameter::Pointer { name, cells }, rest))
 }
 
@@ -131,16 +147,22 @@ impl Listed for Argument {
     }
 }
 
+/// `[ V`
+fn entry_value_at(symbols: &[Symbol]) -> Result<(Operand, &[Symbol]), LineFault>
+    ensures { Gives (λ found. (found.0, found.1.now)) result (mark_at 91 symbols.now ▷ operand_at) }
+{
+    let rest = mark_at(b'[', symbols)?;
+    operand_at(rest)
+}
+
 impl Listed for PhiEntry {
     ghost element = { entry_at };
 
     ghost follows = { comma_at };
 
     fn at(symbols: &[Symbol]) -> Result<(PhiEntry, &[Symbol]), LineFault> {
-        let rest = mark_at(b'[', symbols)?;
-        let (value, rest) = operand_at(rest)?;
-        let rest = mark_at(b',', rest)?;
-        let (predecessor, rest) = register_at(rest)?;
+        let (value, rest) = entry_value_at(symbols)?;
+        let (predecessor, rest) = register_behind(b',', rest)?;
         let rest = mark_at(b']', rest)?;
         Ok((PhiEntry { value, predecessor }, rest))
     }

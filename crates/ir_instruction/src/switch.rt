@@ -1,7 +1,8 @@
 //! The cases of a `switch`.
 
 ghost use Rattle.std.specs.Prelude.{◌≡◌, IfOk, option_map};
-ghost use Rattle.ir_instruction.specs.Outcome.{Gives};
+ghost use Rattle.ir_instruction.specs.Outcome.{Gives, ◌>>=◌ as ◌▷◌};
+ghost use Rattle.ir_instruction.specs.Fronts.{mark_at, label_at};
 ghost use Rattle.ir_instruction.specs.Lists.{case_at, case_follows, all_cases_at};
 ghost use Rattle.std.specs.List.{list_all, list_any};
 ghost use Rattle.ir_instruction.specs.Cases.{share_number_or_label, are_distinct, is_case_of, are_cases_of, case_from, cases_from};
@@ -24,6 +25,14 @@ pub struct SpelledCase {
     pub target: Name,
 }
 
+/// `, label %l`
+fn target_at(symbols: &[Symbol]) -> Result<(Name, &[Symbol]), LineFault>
+    ensures { Gives (λ found. (found.0, found.1.now)) result (mark_at 44 symbols.now ▷ label_at) }
+{
+    let rest = mark_at(b',', symbols)?;
+    label_at(rest)
+}
+
 impl Listed for SpelledCase {
     ghost element = { case_at };
 
@@ -32,8 +41,7 @@ impl Listed for SpelledCase {
     fn at(symbols: &[Symbol]) -> Result<(SpelledCase, &[Symbol]), LineFault> {
         let (width, rest) = width_at(symbols)?;
         let (number, rest) = numeral_at(rest)?;
-        let rest = mark_at(b',', rest)?;
-        let (target, rest) = label_at(rest)?;
+        let (target, rest) = target_at(rest)?;
         Ok((
             SpelledCase {
                 width,
