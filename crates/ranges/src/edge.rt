@@ -149,7 +149,8 @@ fn branch_sums(
     }
 }
 
-fn opposite_number(number: i64) -> i128
+/// The opposite of a number.
+pub fn opposite_number(number: i64) -> i128
     ensures { result ≡ negsuc 0 *ℤ number }
 {
     -1 * i128::from(number)

@@ -1,9 +1,12 @@
-ghost use Rattle.std.specs.Prelude.{◌≡◌, ◌++◌, [], pos, ◌≤ℤ◌, ◌-ℤ◌, true, IfOk, OnOk, slice_get};
+ghost use Rattle.std.specs.Prelude.{◌≡◌, ◌++◌, ◌∷◌, [], pos, ◌≤ℤ◌, ◌-ℤ◌, true, IfOk, OnOk, slice_get};
 ghost use Rattle.syntax.specs.declared.operator.BinaryOperator.TheVariants.{AddNoWrap, SubtractNoWrap};
 ghost use Rattle.obligations.specs.Scales.{is_scale, scale_of};
+ghost use Rattle.obligations.specs.Sums.{one, three};
+ghost use Rattle.ranges.specs.Sums.{shows};
 ghost use Rattle.ranges.specs.Learned.{is_multiple, is_product, is_between, is_quotient, is_divisor, quotient_by};
 ghost use Rattle.ranges.specs.Learned.{remainder_by, masked_by, binary_sums, is_32_bits, conversion_sums, call_sums, learned};
 
+use crate::edge::opposite_number;
 use crate::know::shows_at;
 use entailment::Known;
 use linear::RegisterId;
@@ -28,6 +31,20 @@ fn push_multiple(
     Ok(())
 }
 
+/// Adds that constant + a * x is at least 0.
+fn push_one(
+    alloc: Global,
+    sums: &mut Vec<Sum>,
+    constant: i128,
+    a: i64,
+    x: Operand,
+) -> Result<(), OutOfMemory>
+    ensures { OnOk result (sums.new.items ≡ sums.old.items ++ one constant a x ∷ []) }
+{
+    sums.push(Sum::one(alloc, constant, a, x)?)?;
+    Ok(())
+}
+
 /// d from least to greatest
 fn push_between(
     alloc: Global,
@@ -38,8 +55,24 @@ fn push_between(
 ) -> Result<(), OutOfMemory>
     ensures { OnOk result (sums.new.items ≡ sums.old.items ++ is_between least greatest d) }
 {
-    sums.push(Sum::one(alloc, -1 * i128::from(least), 1, d)?)?;
-    sums.push(Sum::one(alloc, i128::from(greatest), -1, d)?)?;
+    push_one(alloc, sums, opposite_number(least), 1, d)?;
+    push_one(alloc, sums, i128::from(greatest), -1, d)
+}
+
+/// Adds that a * x + b * y + c * z is at least 0.
+fn push_three(
+    alloc: Global,
+    sums: &mut Vec<Sum>,
+    a: i64,
+    x: Operand,
+    b: i64,
+    y: Operand,
+    c: i64,
+    z: Operand,
+) -> Result<(), OutOfMemory>
+    ensures { OnOk result (sums.new.items ≡ sums.old.items ++ three (pos 0) a x b y c z ∷ []) }
+{
+    sums.push(Sum::three(alloc, a, x, b, y, c, z)?)?;
     Ok(())
 }
 
@@ -48,8 +81,8 @@ fn sum_sums(alloc: Global, d: Operand, x: Operand, y: Operand) -> Result<Vec<Sum
     ensures { IfOk result (λ sums. sums.items ≡ binary_sums [] AddNoWrap d x y) }
 {
     let mut sums = Vec::new(alloc);
-    sums.push(Sum::three(alloc, 1, d, -1, x, -1, y)?)?;
-    sums.push(Sum::three(alloc, -1, d, 1, x, 1, y)?)?;
+    push_three(alloc, &mut sums, 1, d, -1, x, -1, y)?;
+    push_three(alloc, &mut sums, -1, d, 1, x, 1, y)?;
     Ok(sums)
 }
 
@@ -63,8 +96,8 @@ fn difference_sums(
     ensures { IfOk result (λ sums. sums.items ≡ binary_sums [] SubtractNoWrap d x y) }
 {
     let mut sums = Vec::new(alloc);
-    sums.push(Sum::three(alloc, 1, d, -1, x, 1, y)?)?;
-    sums.push(Sum::three(alloc, -1, d, 1, x, -1, y)?)?;
+    push_three(alloc, &mut sums, 1, d, -1, x, 1, y)?;
+    push_three(alloc, &mut sums, -1, d, 1, x, -1, y)?;
     Ok(sums)
 }
 
@@ -79,6 +112,20 @@ fn product_sums(alloc: Global, d: Operand, x: Operand, y: Operand) -> Result<Vec
     Ok(sums)
 }
 
+/// Whether constant + a * x is shown to be at least 0.
+fn shows_one(
+    alloc: Global,
+    known: &Known<'_>,
+    constant: i128,
+    a: i64,
+    x: Operand,
+) -> Result<bool, OutOfMemory>
+    ensures { IfOk result (λ b. b ≡ shows known.now (one constant a x)) }
+{
+    let sum = Sum::one(alloc, constant, a, x)?;
+    shows_at(alloc, known, &sum)
+}
+
 /// Whether a number may divide an operand: it lies from 1 to a million, and the operand is shown to be at least 0.
 fn is_divisor(
     alloc: Global,
@@ -91,7 +138,7 @@ fn is_divisor(
     ensures scale { IfOk result (λ b. b ≡ true → is_scale divisor ≡ true) }
 {
     if 1 <= divisor && divisor <= 1_000_000 {
-        shows_at(alloc, known, &Sum::one(alloc, 0, 1, x)?)
+        shows_one(alloc, known, 0, 1, x)
     } else {
         Ok(false)
     }
@@ -206,8 +253,8 @@ fn binary_sums(
 fn is_32_bits(alloc: Global, known: &Known<'_>, x: Operand) -> Result<bool, OutOfMemory>
     ensures { IfOk result (λ b. b ≡ is_32_bits known.now x) }
 {
-    if shows_at(alloc, known, &Sum::one(alloc, 2_147_483_648, 1, x)?)? {
-        shows_at(alloc, known, &Sum::one(alloc, 2_147_483_647, -1, x)?)
+    if shows_one(alloc, known, 2_147_483_648, 1, x)? {
+        shows_one(alloc, known, 2_147_483_647, -1, x)
     } else {
         Ok(false)
     }
@@ -234,7 +281,7 @@ fn conversion_sums(
         }
         Conversion::ZeroExtend => {
             push_between(alloc, &mut sums, 0, 4_294_967_295, d)?;
-            shows_at(alloc, known, &Sum::one(alloc, 0, 1, x)?)?
+            shows_one(alloc, known, 0, 1, x)?
         }
     };
     if is_kept {
