@@ -1,6 +1,6 @@
 //! Numbers that words say, and that a seed draws.
 
-/// The number that a word is. Each type of numbers that is read costs a check of its own, so all are read as this one.
+/// The number that a word is. All but those with a sign are read as this type, since each type that is read costs proofs of its own.
 pub fn number_in(word: &str) -> Option<u64> {
     word.parse().ok()
 }
