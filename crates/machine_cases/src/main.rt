@@ -7,8 +7,8 @@
 mod answers;
 mod asked;
 mod boards;
-mod draws;
 mod modules;
+mod numbers;
 mod steps;
 mod transcripts;
 

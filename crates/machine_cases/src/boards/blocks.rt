@@ -7,6 +7,7 @@ use crate::Lines;
 use crate::boards::rows::Notes;
 use crate::boards::runs::{Calls, Run, begin_of, memory_of, numbers_of, played};
 use crate::modules::{no_memory, verified_file};
+use crate::numbers::number_in;
 use lists::OutOfMemory;
 use shared_run::{Verified, places_of};
 use std::alloc::Global;
@@ -46,8 +47,8 @@ fn block_of(text: &str) -> Block<'_> {
 /// The number of workers, and whether the board stands in no lock.
 fn workers_in(words: &str) -> (usize, bool) {
     match words.strip_suffix(" alone") {
-        Some(number) => (number.parse().unwrap_or(0), true),
-        None => (words.parse().unwrap_or(0), false),
+        Some(number) => (number_in(number).unwrap_or(0) as usize, true),
+        None => (number_in(words).unwrap_or(0) as usize, false),
     }
 }
 
@@ -89,7 +90,7 @@ fn told(
         calls: Calls::Rows(parted(block.whole, "finish = ").0),
     };
     match block.workers.strip_prefix("drawn ") {
-        Some(seeds) => draw(&mut run, seeds.parse().unwrap_or(0), notes),
+        Some(seeds) => draw(&mut run, number_in(seeds).unwrap_or(0), notes),
         None => {
             notes.forget();
             played(&run, notes)

@@ -1,5 +1,6 @@
 //! The calls of a worker, as lines ask for them.
 
+use crate::numbers::number_in;
 use shared_run::Ticket;
 
 /// A call of a worker at the board, or of its strand.
@@ -56,12 +57,12 @@ pub struct Asked {
 fn meant(tickets: &[Ticket], word: &str) -> Option<Ticket> {
     match word.split_once(":") {
         Some((slot, generation)) => Some(Ticket {
-            slot: slot.parse().ok()?,
-            generation: generation.parse().ok()?,
+            slot: number_in(slot)? as usize,
+            generation: number_in(generation)?,
         }),
         None => {
-            let number: usize = word.parse().ok()?;
-            tickets.get(number.checked_sub(1)?).copied()
+            let before = number_in(word)?.checked_sub(1)?;
+            tickets.get(before as usize).copied()
         }
     }
 }
@@ -72,7 +73,7 @@ pub fn asked_in(line: &str, tickets: &[Ticket]) -> Option<Asked> {
     let (worker, rest) = rest.split_once(" ").unwrap_or((rest, ""));
     let call = Call::of_word(word)?;
     let times = match call {
-        Call::Step => rest.parse().unwrap_or(1),
+        Call::Step => number_in(rest).unwrap_or(1),
         _ => 1,
     };
     let none = Ticket {
@@ -80,7 +81,7 @@ pub fn asked_in(line: &str, tickets: &[Ticket]) -> Option<Asked> {
         generation: 0,
     };
     Some(Asked {
-        worker: worker.parse().ok()?,
+        worker: number_in(worker)? as usize,
         call,
         times,
         ticket: meant(tickets, rest).unwrap_or(none),

@@ -7,7 +7,7 @@ use crate::boards::mirror::Mirror;
 use crate::boards::others::at_other;
 use crate::boards::players::Player;
 use crate::boards::runs::Run;
-use crate::draws::drawn;
+use crate::numbers::{drawn, number_in};
 use lists::OutOfMemory;
 use shared_run::{Bench, Board, Seat, Ticket};
 use std::alloc::{AllocError, Global};
@@ -122,7 +122,7 @@ fn look<L: Bench>(board: &Board<'_, L>, line: &str, text: &mut String) -> Result
     let Some(("cell", index)) = line.split_once(" ") else {
         return write_history(text, board.history());
     };
-    let index: u64 = index.parse().unwrap_or(u64::MAX);
+    let index = number_in(index).unwrap_or(u64::MAX);
     match board.machine().get_global("a", index) {
         Some(held) => write!(text, "{held}"),
         None => text.push_str("no such cell"),

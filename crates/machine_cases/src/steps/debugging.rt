@@ -1,8 +1,8 @@
 //! The debugger against replays.
 
 use crate::Lines;
-use crate::draws::drawn;
 use crate::modules::no_memory;
+use crate::numbers::drawn;
 use crate::steps::events::{random_events, replayed};
 use commands::{Debugger, Event, Machine, Memory, TaskView, Verified};
 use frame::Path;

@@ -1,6 +1,6 @@
 //! Events that are drawn, and runs by events.
 
-use crate::draws::drawn;
+use crate::numbers::drawn;
 use commands::{Event, Machine, Memory, Verified, replay};
 use frame::Path;
 use lists::OutOfMemory;

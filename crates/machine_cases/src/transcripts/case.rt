@@ -1,6 +1,7 @@
 //! What a transcript says of a case.
 
 use crate::asked::{Answer, Asked};
+use crate::numbers::number_in;
 use std::alloc::{AllocError, Global};
 use std::{fs, io};
 
@@ -20,9 +21,9 @@ pub struct Case {
 
 /// The number that a word of a transcript is.
 pub fn number_of(word: &str) -> io::Result<u64> {
-    match word.parse::<u64>() {
-        Ok(number) => Ok(number),
-        Err(_) => Err(io::Error::other("no number")),
+    match number_in(word) {
+        Some(number) => Ok(number),
+        None => Err(io::Error::other("no number")),
     }
 }
 
@@ -39,18 +40,39 @@ fn push_lines(text: &mut String, lines: &str) -> Result<(), AllocError> {
     Ok(())
 }
 
-/// Adds a text with another one in place of the line of this number, from 1.
+/// What becomes of a line.
+#[derive(Clone, Copy)]
+enum Change<'a> {
+    /// A text stands in its place.
+    To(&'a str),
+    /// It ends by a carriage return.
+    EndByReturn,
+}
+
+impl Change<'_> {
+    fn push(self, changed: &mut String, line: &str) -> Result<(), AllocError> {
+        match self {
+            Change::To(new) => changed.push_str(new),
+            Change::EndByReturn => {
+                changed.push_str(line)?;
+                changed.push_str("\r\n")
+            }
+        }
+    }
+}
+
+/// Adds a text whose line of this number, from 1, is changed.
 fn push_changed(
     changed: &mut String,
     text: &str,
     number: u64,
-    new: &str,
+    change: Change<'_>,
 ) -> Result<(), AllocError> {
     let mut at = 0u64;
     for line in text.lines() {
         at = at.saturating_add(1);
         if at == number {
-            changed.push_str(new)?;
+            change.push(changed, line)?;
         } else {
             push_line(changed, line)?;
         }
@@ -93,7 +115,7 @@ fn named_module(rt: &HostRuntime, name: &str) -> io::Result<Vec<u8>> {
 /// Whether a text stands as often in another as its row says.
 fn has_part(text: &str, row: &str) -> bool {
     match row.split_once(" ") {
-        Some((count, part)) => count.parse().ok() == Some(text.matches(part).count()),
+        Some((count, part)) => number_in(count) == Some(text.matches(part).count() as u64),
         None => false,
     }
 }
@@ -167,11 +189,11 @@ impl Case {
         }
     }
 
-    /// Puts a text in place of one of the module's lines.
-    fn change(&mut self, alloc: Global, number: &str, new: &str) -> io::Result<()> {
+    /// Changes one of the module's lines.
+    fn change(&mut self, alloc: Global, number: &str, change: Change<'_>) -> io::Result<()> {
         let number = number_of(number)?;
         let mut changed = String::new(alloc);
-        push_changed(&mut changed, self.text()?, number, new)?;
+        push_changed(&mut changed, self.text()?, number, change)?;
         self.module = Some(changed.into_bytes());
         Ok(())
     }
@@ -183,25 +205,15 @@ impl Case {
         };
         let mut new = String::new(alloc);
         push_lines(&mut new, lines)?;
-        self.change(alloc, number, new.as_str())
-    }
-
-    /// The line of this number, from 1.
-    fn line(&self, number: &str) -> io::Result<&str> {
-        let before = number_of(number)?.saturating_sub(1);
-        Ok(self.text()?.lines().nth(before as usize).unwrap_or(""))
-    }
-
-    /// Puts a carriage return at the end of a line of the module.
-    fn end_by_return(&mut self, alloc: Global, number: &str) -> io::Result<()> {
-        let new = format!(in alloc; "{}\r\n", self.line(number)?)?;
-        self.change(alloc, number, new.as_str())
+        self.change(alloc, number, Change::To(new.as_str()))
     }
 
     fn set_schedule(&mut self, alloc: Global, events: &str) -> Result<(), AllocError> {
         let mut schedule = String::new(alloc);
-        for event in events.split("; ").filter(|event| *event != "none") {
-            push_line(&mut schedule, event)?;
+        for event in events.split("; ") {
+            if event != "none" {
+                push_line(&mut schedule, event)?;
+            }
         }
         self.schedule = Some(schedule);
         Ok(())
@@ -258,8 +270,8 @@ impl Case {
         match line.split_once(" ") {
             Some(("of", name)) => self.set_module(rt, name),
             Some(("line", change)) => self.change_line(rt.alloc(), change),
-            Some(("return", number)) => self.end_by_return(rt.alloc(), number),
-            Some(("without", number)) => self.change(rt.alloc(), number, ""),
+            Some(("return", number)) => self.change(rt.alloc(), number, Change::EndByReturn),
+            Some(("without", number)) => self.change(rt.alloc(), number, Change::To("")),
             Some((word, rest)) => Ok(self.read_text(rt.alloc(), line, word, rest)?),
             None => Ok(self.read_output(line)?),
         }
