@@ -5,12 +5,12 @@
 //! A call that is refused memory has to leave all as it was, and is made once more; so is the whole block where another of its requests is refused.
 //! Where a file or its module is refused memory the program ends. In the stored run no call is: `bench/sweeps` lets each request fail in turn.
 
-mod answers;
 mod blocks;
 mod calls;
 mod mirror;
 mod others;
 mod players;
+mod replies;
 mod rows;
 mod runs;
 

@@ -1,16 +1,16 @@
 //! Cases of the machine: counts of children, machines between events, the debugger, boards, answers without threads, and transcripts of the program.
-//! `machine_cases WORD..` answers those that each word names: `steps` and `answers` are groups of cases, any other word is a file of cases, whose
+//! `machine_cases WORD..` answers those that each word names: `steps` and `unthreaded` are groups of cases, any other word is a file of cases, whose
 //! folder is its kind, `boards` or `transcripts`; each is told of in the module of its name. It prints a line of each case, and fails where one is not
 //! answered as it is to be. What is expected is worked by hand. The last line names the call at a board that was refused memory, and made once more.
 #![tactic(auto)]
 
-mod answers;
 mod asked;
 mod boards;
 mod modules;
 mod numbers;
 mod steps;
 mod transcripts;
+mod unthreaded;
 
 use boards::Notes;
 use cases::Report;
@@ -38,7 +38,7 @@ fn answer_word<T: Threads + Wait + Clock + Sync>(
     let (kind, _) = word.split_once("/").unwrap_or((word, ""));
     match kind {
         "steps" => steps::answer(rt, program.state, report),
-        "answers" => answers::answer(rt, program.state, report),
+        "unthreaded" => unthreaded::answer(rt, program.state, report),
         "boards" => boards::answer(rt, program.state, word, notes, report),
         "transcripts" => transcripts::answer(rt, program, word, report),
         _ => report.case("a word of no kind", word, false),

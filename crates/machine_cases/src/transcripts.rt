@@ -6,14 +6,14 @@
 //! often a text stands in it. `beginnings STATUS NUMBER ..` ends a case over each beginning of the module in place of it, which one of these rules refuses.
 //! `m.ll` and `s.txt` are the module and the schedule.
 
+mod acting;
 mod case;
-mod program;
 
 use crate::Lines;
 use crate::asked::Answer;
+pub use acting::Program;
+use acting::answered;
 use case::{Case, is_refused_by, number_of};
-pub use program::Program;
-use program::answered;
 use std::alloc::{AllocError, Global};
 use std::sync::Wait;
 use std::thread::Threads;

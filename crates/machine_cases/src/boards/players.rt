@@ -3,8 +3,8 @@ ghost use Rattle.std.specs.Prelude.{◌≡◌};
 ghost use Rattle.shared_run.specs.crew.Starts.{ArePlaces};
 ghost use Rattle.shared_run.specs.schedule_core.Strands.{IsMadeOf};
 
-use crate::boards::answers::{Answer, claimed, committed, fetched, stepped};
 use crate::boards::calls::Call;
+use crate::boards::replies::{Answer, claimed, committed, fetched, stepped};
 use commands::{Machine, Standing};
 use lists::OutOfMemory;
 use shared_run::{

@@ -1,11 +1,11 @@
 //! Lines of calls at a board, each answered and compared.
 ghost use Rattle.std.specs.Prelude.{◌≡◌};
 
-use crate::boards::answers::{Answer, write_history};
 use crate::boards::calls::{Asked, asked_in};
 use crate::boards::mirror::Mirror;
 use crate::boards::others::at_other;
 use crate::boards::players::Player;
+use crate::boards::replies::{Answer, write_history};
 use crate::boards::runs::Run;
 use crate::numbers::{drawn, number_in};
 use lists::OutOfMemory;

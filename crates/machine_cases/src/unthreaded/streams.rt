@@ -1,8 +1,8 @@
 //! Dialogues over streams that fail.
 
 use crate::Lines;
-use crate::answers::unthreaded::told;
 use crate::asked::Asked;
+use crate::unthreaded::answering::told;
 use commands::Beside;
 use std::alloc::Global;
 use std::hash::RandomState;

@@ -1,8 +1,8 @@
 //! Runs whose events are drawn, against serial runs.
 
 use crate::Lines;
-use crate::answers::unthreaded::answered;
 use crate::asked::{Answer, Asked};
+use crate::unthreaded::answering::answered;
 use std::alloc::Global;
 use std::hash::RandomState;
 use std::{fs, io};

@@ -1,9 +1,9 @@
 //! Cases of what is answered without threads: runs whose events are drawn, streams that fail, and texts as files have them.
 
+mod answering;
 mod drawn;
 mod streams;
 mod texts;
-mod unthreaded;
 
 use crate::Lines;
 use std::hash::RandomState;

@@ -1,8 +1,8 @@
 //! What is read of files, and the words that name them.
 
 use crate::Lines;
-use crate::answers::unthreaded::answered;
 use crate::asked::Asked;
+use crate::unthreaded::answering::answered;
 use commands::{bytes_of, read_file, read_text, text_of};
 use std::alloc::{AllocError, Global};
 use std::hash::RandomState;
