@@ -182,183 +182,212 @@ fn fault_of(alloc: Global, error: Error) -> WordsFault {
     }
 }
 
-/// A word that has to be there.
-fn word<'a>(alloc: Global, name: &'a str, value: &'a str, help: &'a str) -> Arg<'a> {
-    Arg::new(alloc, name)
-        .value_name(value)
-        .required(true)
-        .help(help)
+/// How a word or an option of a command is given.
+#[derive(Clone, Copy)]
+enum Given {
+    /// A word that has to be there.
+    Word,
+    /// An option with a value.
+    Option,
+    /// An option with a value, which has to be there.
+    Required,
+    /// An option with a value, which may be given more than once.
+    Repeated,
+    /// An option with a value, which needs this option too.
+    With(&'static str),
+    /// An option without a value.
+    Flag,
 }
 
-fn file_word<'a>(alloc: Global) -> Arg<'a> {
-    word(alloc, "file", "FILE", "the text of the module")
+/// A word or an option of a command.
+#[derive(Clone, Copy)]
+struct Part {
+    name: &'static str,
+    value: &'static str,
+    given: Given,
+    help: &'static str,
 }
+
+const FILE: Part = Part {
+    name: "file",
+    value: "FILE",
+    given: Given::Word,
+    help: "the text of the module",
+};
+
+const FILE_OR_NUMBER: Part = Part {
+    name: "file",
+    value: "FILE|NUMBER",
+    given: Given::Word,
+    help: "the text of a module, or the number of a rule",
+};
+
+const TABLE: Part = Part {
+    name: "table",
+    value: "@f",
+    given: Given::Option,
+    help: "prints the costs and depths of a function",
+};
+
+const ARG: Part = Part {
+    name: "arg",
+    value: "V",
+    given: Given::Repeated,
+    help: "an argument of @main, in order; --arg=-5 for one below 0",
+};
+
+const SET: Part = Part {
+    name: "set",
+    value: "@a:I=V",
+    given: Given::Repeated,
+    help: "sets cell I of the global @a before the run",
+};
+
+const SHOW: Part = Part {
+    name: "show",
+    value: "@a:I",
+    given: Given::Repeated,
+    help: "prints cell I of the global @a after the run",
+};
+
+const WORKERS: Part = Part {
+    name: "workers",
+    value: "N",
+    given: Given::Required,
+    help: "the number of workers, from 1 to 64",
+};
+
+const SEED: Part = Part {
+    name: "seed",
+    value: "S",
+    given: Given::Option,
+    help: "draws the events, at most 1048576, at random by this number",
+};
+
+const SAVE: Part = Part {
+    name: "save",
+    value: "OUT",
+    given: Given::With("seed"),
+    help: "writes the events to a file, as replay takes them",
+};
+
+const SCHEDULE: Part = Part {
+    name: "schedule",
+    value: "SCHEDULE",
+    given: Given::Word,
+    help: "the events, a line for each: step W N, or steal W PATH",
+};
+
+const TRACE: Part = Part {
+    name: "trace",
+    value: "",
+    given: Given::Flag,
+    help: "prints a line for each event before the answer",
+};
+
+const PICTURE: Part = Part {
+    name: "picture",
+    value: "OUT",
+    given: Given::Option,
+    help: "writes a picture of the run to a file, as SVG",
+};
 
 /// An option with a value.
-fn option<'a>(alloc: Global, name: &'a str, value: &'a str, help: &'a str) -> Arg<'a> {
-    Arg::new(alloc, name)
-        .long(name)
-        .value_name(value)
+fn option<'a>(arg: Arg<'a>, part: &Part) -> Arg<'a> {
+    arg.long(part.name)
+        .value_name(part.value)
         .action(ArgAction::Set)
-        .help(help)
 }
 
-fn table_option<'a>(alloc: Global) -> Arg<'a> {
-    let help = "prints the costs and depths of a function";
-    option(alloc, "table", "@f", help)
-}
-
-fn verify_command<'a>(alloc: Global) -> Result<Command<'a>, AllocError> {
-    Command::new(alloc, "verify")
-        .about("verifies a module, and tells its budget and depth")
-        .after_help(STATUSES)
-        .arg(file_word(alloc))?
-        .arg(table_option(alloc))
-}
-
-/// An option that may be given more than once.
-fn repeated<'a>(alloc: Global, name: &'a str, value: &'a str, help: &'a str) -> Arg<'a> {
-    Arg::new(alloc, name)
-        .long(name)
-        .value_name(value)
+/// An option with a value, which may be given more than once.
+fn repeated<'a>(arg: Arg<'a>, part: &Part) -> Arg<'a> {
+    arg.long(part.name)
+        .value_name(part.value)
         .action(ArgAction::Append)
-        .help(help)
 }
 
-/// A command that takes a module alone.
-fn module_command<'a>(
+fn arg_of<'a>(alloc: Global, part: &Part) -> Result<Arg<'a>, AllocError> {
+    let arg = Arg::new(alloc, part.name).help(part.help);
+    match part.given {
+        Given::Word => Ok(arg.value_name(part.value).required(true)),
+        Given::Option => Ok(option(arg, part)),
+        Given::Required => Ok(option(arg, part).required(true)),
+        Given::Repeated => Ok(repeated(arg, part)),
+        Given::With(other) => option(arg, part).requires_arg(other),
+        Given::Flag => Ok(arg.long(part.name).action(ArgAction::SetTrue)),
+    }
+}
+
+fn args_for<'a>(alloc: Global, parts: &[Part]) -> Result<Vec<Arg<'a>>, AllocError> {
+    let mut args = Vec::new(alloc);
+    for part in parts {
+        args.push(arg_of(alloc, part)?)?;
+    }
+    Ok(args)
+}
+
+/// A command of these words and options; its help ends by `ending`.
+fn command_with<'a>(
     alloc: Global,
     name: &'a str,
     about: &'a str,
+    ending: &'a str,
+    parts: &[Part],
 ) -> Result<Command<'a>, AllocError> {
+    let args = args_for(alloc, parts)?;
     Command::new(alloc, name)
         .about(about)
-        .after_help(STATUSES)
-        .arg(file_word(alloc))
+        .after_help(ending)
+        .args(args)
+}
+
+fn verify_command<'a>(alloc: Global) -> Result<Command<'a>, AllocError> {
+    let about = "verifies a module, and tells its budget and depth";
+    command_with(alloc, "verify", about, STATUSES, &[FILE, TABLE])
+}
+
+fn explain_command<'a>(alloc: Global) -> Result<Command<'a>, AllocError> {
+    let about =
+        "says why a module is refused and what was to be shown, or what an accepted one could do without; or prints a rule";
+    command_with(alloc, "explain", about, STATUSES, &[FILE_OR_NUMBER])
+}
+
+fn serial_command<'a>(alloc: Global) -> Result<Command<'a>, AllocError> {
+    let about = "runs the serial elision of a module";
+    command_with(alloc, "serial", about, STATUSES, &[FILE, ARG, SET, SHOW])
+}
+
+fn run_command<'a>(alloc: Global) -> Result<Command<'a>, AllocError> {
+    let about = "runs a module on workers";
+    let parts = [FILE, ARG, SET, SHOW, WORKERS, SEED, SAVE];
+    command_with(alloc, "run", about, STATUSES, &parts)
+}
+
+fn replay_command<'a>(alloc: Global) -> Result<Command<'a>, AllocError> {
+    let about = "runs a module by a schedule";
+    let parts = [FILE, ARG, SET, SHOW, SCHEDULE, WORKERS, TRACE, PICTURE];
+    command_with(alloc, "replay", about, STATUSES, &parts)
+}
+
+fn debug_command<'a>(alloc: Global) -> Result<Command<'a>, AllocError> {
+    let about = "goes forwards and backwards through a schedule, by commands from standard input";
+    let parts = [FILE, ARG, SET, SHOW, SCHEDULE, WORKERS];
+    command_with(alloc, "debug", about, DIALOGUE, &parts)
 }
 
 fn print_command<'a>(alloc: Global) -> Result<Command<'a>, AllocError> {
     let about = "prints the canonical text of a module";
-    module_command(alloc, "print", about)
+    command_with(alloc, "print", about, STATUSES, &[FILE])
 }
 
 fn show_command<'a>(alloc: Global) -> Result<Command<'a>, AllocError> {
     let about = "tells what the verifier knows of each block of a module";
-    module_command(alloc, "show", about)
+    command_with(alloc, "show", about, STATUSES, &[FILE])
 }
 
 fn annotate_command<'a>(alloc: Global) -> Result<Command<'a>, AllocError> {
     let about = "prints a module with annotations put in that follow from others";
-    module_command(alloc, "annotate", about)
-}
-
-fn explain_command<'a>(alloc: Global) -> Result<Command<'a>, AllocError> {
-    let help = "the text of a module, or the number of a rule";
-    let file = word(alloc, "file", "FILE|NUMBER", help);
-    Command::new(alloc, "explain")
-        .about(
-            "says why a module is refused and what was to be shown, or what an accepted one could do without; or prints a rule",
-        )
-        .after_help(STATUSES)
-        .arg(file)
-}
-
-/// The options of a verb that runs a module.
-fn running<'a>(alloc: Global, command: Command<'a>) -> Result<Command<'a>, AllocError> {
-    command
-        .arg(file_word(alloc))?
-        .arg(repeated(
-            alloc,
-            "arg",
-            "V",
-            "an argument of @main, in order; --arg=-5 for one below 0",
-        ))?
-        .arg(repeated(
-            alloc,
-            "set",
-            "@a:I=V",
-            "sets cell I of the global @a before the run",
-        ))?
-        .arg(repeated(
-            alloc,
-            "show",
-            "@a:I",
-            "prints cell I of the global @a after the run",
-        ))
-}
-
-fn serial_command<'a>(alloc: Global) -> Result<Command<'a>, AllocError> {
-    running(
-        alloc,
-        Command::new(alloc, "serial")
-            .about("runs the serial elision of a module")
-            .after_help(STATUSES),
-    )
-}
-
-fn workers<'a>(alloc: Global) -> Arg<'a> {
-    let help = "the number of workers, from 1 to 64";
-    option(alloc, "workers", "N", help).required(true)
-}
-
-fn seed_option<'a>(alloc: Global) -> Arg<'a> {
-    let help = "draws the events, at most 1048576, at random by this number";
-    option(alloc, "seed", "S", help)
-}
-
-fn drawn_option<'a>(alloc: Global) -> Result<Arg<'a>, AllocError> {
-    let help = "writes the events to a file, as replay takes them";
-    option(alloc, "save", "OUT", help).requires_arg("seed")
-}
-
-fn run_command<'a>(alloc: Global) -> Result<Command<'a>, AllocError> {
-    let command = Command::new(alloc, "run")
-        .about("runs a module on workers")
-        .after_help(STATUSES);
-    running(alloc, command)?
-        .arg(workers(alloc))?
-        .arg(seed_option(alloc))?
-        .arg(drawn_option(alloc)?)
-}
-
-fn schedule_word<'a>(alloc: Global) -> Arg<'a> {
-    let help = "the events, a line for each: step W N, or steal W PATH";
-    word(alloc, "schedule", "SCHEDULE", help)
-}
-
-/// The words of a verb that follows a schedule.
-fn scheduled<'a>(alloc: Global, command: Command<'a>) -> Result<Command<'a>, AllocError> {
-    running(alloc, command)?
-        .arg(schedule_word(alloc))?
-        .arg(workers(alloc))
-}
-
-fn trace_option<'a>(alloc: Global) -> Arg<'a> {
-    Arg::new(alloc, "trace")
-        .long("trace")
-        .action(ArgAction::SetTrue)
-        .help("prints a line for each event before the answer")
-}
-
-fn picture_option<'a>(alloc: Global) -> Arg<'a> {
-    let help = "writes a picture of the run to a file, as SVG";
-    option(alloc, "picture", "OUT", help)
-}
-
-fn replay_command<'a>(alloc: Global) -> Result<Command<'a>, AllocError> {
-    let command = Command::new(alloc, "replay")
-        .about("runs a module by a schedule")
-        .after_help(STATUSES);
-    scheduled(alloc, command)?
-        .arg(trace_option(alloc))?
-        .arg(picture_option(alloc))
-}
-
-fn debug_command<'a>(alloc: Global) -> Result<Command<'a>, AllocError> {
-    let command = Command::new(alloc, "debug")
-        .about("goes forwards and backwards through a schedule, by commands from standard input")
-        .after_help(DIALOGUE);
-    scheduled(alloc, command)
+    command_with(alloc, "annotate", about, STATUSES, &[FILE])
 }
 
 /// The command of a verb.
