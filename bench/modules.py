@@ -18,6 +18,18 @@ def seconds(tapirvm, text, wanted):
     os.unlink(file.name)
     return best
 
+def verified(tapirvm, text):
+    """The time of one `verify`, and what it says first; after 90 seconds it is not waited for."""
+    with tempfile.NamedTemporaryFile("w", suffix=".ll", delete=False) as file:
+        file.write(text)
+    start = time.time()
+    try:
+        told = subprocess.run([tapirvm, "verify", file.name], capture_output=True, text=True, timeout=90).stdout.split("\n")[0]
+    except subprocess.TimeoutExpired:
+        told = "not waited for"
+    os.unlink(file.name)
+    return time.time() - start, told
+
 def chain(name, blocks, defined):
     """A function of so many blocks one behind another, each but the first with a phi and so many more registers."""
     each = defined + 1
