@@ -1,10 +1,10 @@
 //! From the symbols of a line to its item.
 
-ghost use Rattle.std.specs.Prelude.{◌≡◌, [], option_map, IsTrue};
+ghost use Rattle.std.specs.Prelude.{◌≡◌, [], ◌∷◌, codes, option_map, IsTrue};
 ghost use Rattle.ir_item.specs.declared.item.Item.TheVariants as item;
 ghost use Rattle.ir_instruction.specs.Outcome.{Gives};
 ghost use Rattle.ir_instruction.specs.Fronts.{behind};
-ghost use Rattle.ir_instruction.specs.Shape.{gaps_of};
+ghost use Rattle.ir_instruction.specs.Shape.{gaps_of, gap, word, mark, space, parameters};
 ghost use Rattle.ir_instruction.specs.Grammar.{global_shape, define_shape};
 ghost use Rattle.ir_item.specs.Grammar.{global_from, define_from, definition, worded, item_in};
 
@@ -14,20 +14,53 @@ use ir_instruction::{
     global_at, is_mark, mark_at, parameters_at, phi_at, result_type_at, store_at, terminator_at,
     word_at,
 };
-use lists::Name;
+use lists::{Name, Seq};
 use std::alloc;
-use syntax::Global;
+use syntax::{Global, Parameter};
+
+/// `zeroinitializer` at the line's end.
+fn zeros_at(symbols: &[Symbol]) -> Result<(), LineFault>
+    ensures { Gives (λ done. done) result (gaps_of (word (codes "zeroinitializer") ∷ []) symbols.now) }
+{
+    let rest = word_at(b"zeroinitializer", symbols)?;
+    end_at(rest)
+}
+
+/// How many cells a global has.
+fn cells_at(symbols: &[Symbol]) -> Result<u64, LineFault>
+    ensures { Gives (λ cells. (cells, tt)) result (gaps_of global_shape symbols.now) }
+{
+    let rest = mark_at(b'=', symbols)?;
+    let rest = word_at(b"global", rest)?;
+    let (cells, rest) = array_at(rest)?;
+    zeros_at(rest)?;
+    Ok(cells)
+}
 
 /// Behind `@name`.
 fn global_item_at(name: Name, line: u32, symbols: &[Symbol]) -> Result<Item, LineFault>
     ensures { Gives (λ made. made) result (option_map (global_from line name) (gaps_of global_shape symbols.now)) }
 {
-    let rest = mark_at(b'=', symbols)?;
-    let rest = word_at(b"global", rest)?;
-    let (cells, rest) = array_at(rest)?;
-    let rest = word_at(b"zeroinitializer", rest)?;
-    end_at(rest)?;
+    let cells = cells_at(symbols)?;
     Ok(Item::Global(Global { line, name, cells }))
+}
+
+/// `{` at the line's end.
+fn brace_at(symbols: &[Symbol]) -> Result<(), LineFault>
+    ensures { Gives (λ done. done) result (gaps_of (mark 123 ∷ []) symbols.now) }
+{
+    let rest = mark_at(b'{', symbols)?;
+    end_at(rest)
+}
+
+/// `(PARAM, ..) {` at the line's end.
+fn parameter_list_at(alloc: alloc::Global, symbols: &[Symbol]) -> Result<Seq<Parameter>, LineFault>
+    ensures { Gives (λ found. (found, tt)) result (gaps_of (mark 40 ∷ gap parameters ∷ space ∷ mark 123 ∷ []) symbols.now) }
+{
+    let rest = mark_at(b'(', symbols)?;
+    let (found, rest) = parameters_at(alloc, rest)?;
+    brace_at(rest)?;
+    Ok(found)
 }
 
 /// Behind `define`.
@@ -36,10 +69,7 @@ fn define_at(alloc: alloc::Global, symbols: &[Symbol]) -> Result<Item, LineFault
 {
     let (result_type, rest) = result_type_at(symbols)?;
     let (name, rest) = global_at(rest)?;
-    let rest = mark_at(b'(', rest)?;
-    let (parameters, rest) = parameters_at(alloc, rest)?;
-    let rest = mark_at(b'{', rest)?;
-    end_at(rest)?;
+    let parameters = parameter_list_at(alloc, rest)?;
     Ok(Item::Define {
         name,
         result_type,
