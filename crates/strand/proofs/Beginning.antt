@@ -31,6 +31,18 @@ use Rattle.strand.proofs.Pausing.{first_free, stands_free}
 abbrev pub empty : Buffers
 empty = record { reads = []; writes = [] }
 
+pub copied_again : {f g h : machine.Frame} → IsCopy f g → IsCopy g h → IsCopy f h
+copied_again first second = record {
+  function = second.function ∙ first.function;
+  place = second.place ∙ first.place;
+  registers = second.registers ∙ first.registers;
+  home = second.home ∙ first.home;
+  made = second.made ∙ first.made;
+  waits = second.waits ∙ first.waits;
+  role = second.role ∙ first.role;
+  depth = second.depth ∙ first.depth;
+}
+
 module _ (f g : machine.Frame) (copy : IsCopy f g) where
   pub copy_back : IsCopy g f
   copy_back = record {

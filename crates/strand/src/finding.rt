@@ -112,7 +112,10 @@ impl Index {
     pub fn clear(&mut self)
         ensures { self.new ≡ [] }
     {
-        self.entries.clear();
-        empty(&mut self.heads);
+        // Without addresses all chains are empty already, and most strands have none.
+        if !self.entries.is_empty() {
+            self.entries.clear();
+            empty(&mut self.heads);
+        }
     }
 }
