@@ -16,61 +16,43 @@ pub struct Total {
 }
 
 /// The greatest or least number that a register may hold by a fact about it alone: of `coefficient * x + constant >= 0`.
-fn bound_by(fact: &Sum<'_>, name: &str, is_greatest: bool) -> Result<Option<i128>, AllocError> {
-    let terms = fact.terms()?;
+fn bound_by(fact: &Sum<'_>, name: &str, is_greatest: bool) -> Option<i128> {
     let coefficient = fact.coefficient(name);
-    if terms.len() != 1 || coefficient == 0 || (coefficient < 0) != is_greatest {
-        return Ok(None);
+    if coefficient == 0 || (coefficient < 0) != is_greatest || !fact.is_alone(name) {
+        return None;
     }
     let size = i128::try_from(coefficient.unsigned_abs()).unwrap_or(i128::MAX);
-    let Some(floor) = fact.constant.checked_div_euclid(size) else {
-        return Ok(None);
-    };
-    if is_greatest {
-        Ok(Some(floor))
-    } else {
-        Ok(Some(0i128.saturating_sub(floor)))
+    match fact.constant.checked_div_euclid(size) {
+        Some(floor) if is_greatest => Some(floor),
+        Some(floor) => Some(0i128.saturating_sub(floor)),
+        None => None,
     }
 }
 
 /// The closest of these bounds.
-fn bound_of(facts: &[Sum<'_>], name: &str, is_greatest: bool) -> Result<Option<i128>, AllocError> {
-    let mut closest: Option<i128> = None;
+fn bound_of(facts: &[Sum<'_>], name: &str, is_greatest: bool) -> Option<i128> {
+    let mut closest = None;
     for fact in facts {
-        if let Some(bound) = bound_by(fact, name, is_greatest)? {
-            closest = Some(match closest {
-                None => bound,
-                Some(before) if is_greatest => before.min(bound),
-                Some(before) => before.max(bound),
-            });
-        }
+        let bound = bound_by(fact, name, is_greatest);
+        closest = if is_greatest {
+            lesser(closest, bound)
+        } else {
+            greater(closest, bound)
+        };
     }
-    Ok(closest)
+    closest
 }
 
 /// The greatest number that a sum may come to, by the bounds of its registers one by one; none where one has none.
-fn greatest_apart(facts: &[Sum<'_>], sum: &Sum<'_>) -> Result<Option<i128>, AllocError> {
+fn greatest_apart(facts: &[Sum<'_>], sum: &Sum<'_>) -> Option<i128> {
     let mut most = sum.constant;
-    for (name, coefficient) in &sum.terms()? {
-        let Some(bound) = bound_of(facts, name, *coefficient > 0)? else {
-            return Ok(None);
-        };
-        most = most.saturating_add(coefficient.saturating_mul(bound));
+    for (name, coefficient) in &sum.terms {
+        if *coefficient != 0 {
+            let bound = bound_of(facts, name, *coefficient > 0)?;
+            most = most.saturating_add(coefficient.saturating_mul(bound));
+        }
     }
-    Ok(Some(most))
-}
-
-/// The sum with the fact added as often as takes this register out of it. That is no less than the sum; none where the fact has it with
-/// the same sign or does not divide it.
-fn without<'a>(sum: &Sum<'a>, fact: &Sum<'a>, name: &str) -> Result<Option<Sum<'a>>, AllocError> {
-    let coefficient = fact.coefficient(name);
-    let times = 0i128.saturating_sub(sum.coefficient(name).checked_div(coefficient).unwrap_or(0));
-    if times <= 0 {
-        return Ok(None);
-    }
-    let mut rest = sum.copy()?;
-    rest.add(fact, times)?;
-    Ok(if rest.has(name) { None } else { Some(rest) })
+    Some(most)
 }
 
 fn lesser(one: Option<i128>, other: Option<i128>) -> Option<i128> {
@@ -81,24 +63,52 @@ fn lesser(one: Option<i128>, other: Option<i128>) -> Option<i128> {
     }
 }
 
-/// The same, where the fact stands for one of its registers: of `3*%hi-3*%lo`, `%hi <= %lo+8` leaves 24.
-fn greatest_by(
+fn greater(one: Option<i128>, other: Option<i128>) -> Option<i128> {
+    match (one, other) {
+        (Some(one), Some(other)) => Some(one.max(other)),
+        (Some(one), None) => Some(one),
+        (None, other) => other,
+    }
+}
+
+/// The greatest number that a sum may come to, with the fact added as often as takes this register out of it. That is no less than the
+/// sum; none where the fact has the register with the same sign or does not divide it.
+fn greatest_without<'a>(
     facts: &[Sum<'_>],
-    sum: &Sum<'_>,
-    fact: &Sum<'_>,
+    sum: &Sum<'a>,
+    fact: &Sum<'a>,
+    name: &str,
+) -> Result<Option<i128>, AllocError> {
+    let coefficient = sum.coefficient(name);
+    let times = coefficient.checked_div(fact.coefficient(name)).unwrap_or(0);
+    let times = 0i128.saturating_sub(times);
+    if times <= 0 {
+        return Ok(None);
+    }
+    let rest = sum.with(fact, times)?;
+    Ok(if rest.has(name) {
+        None
+    } else {
+        greatest_apart(facts, &rest)
+    })
+}
+
+/// The same, where the fact stands for one of its registers: of `3*%hi-3*%lo`, `%hi <= %lo+8` leaves 24.
+fn greatest_by<'a>(
+    facts: &[Sum<'_>],
+    sum: &Sum<'a>,
+    fact: &Sum<'a>,
 ) -> Result<Option<i128>, AllocError> {
     let mut most = None;
-    for (name, _coefficient) in &fact.terms()? {
-        if let Some(rest) = without(sum, fact, name)? {
-            most = lesser(most, greatest_apart(facts, &rest)?);
-        }
+    for (name, _coefficient) in &fact.terms {
+        most = lesser(most, greatest_without(facts, sum, fact, name)?);
     }
     Ok(most)
 }
 
 /// The greatest number that a sum may come to, from 0 to that of a budget; none where there is none.
-fn greatest(facts: &[Sum<'_>], sum: &Sum<'_>) -> Result<Option<u64>, AllocError> {
-    let mut most = greatest_apart(facts, sum)?;
+fn greatest<'a>(facts: &[Sum<'a>], sum: &Sum<'a>) -> Result<Option<u64>, AllocError> {
+    let mut most = greatest_apart(facts, sum);
     for fact in facts {
         most = lesser(most, greatest_by(facts, sum, fact)?);
     }
@@ -109,7 +119,7 @@ fn greatest(facts: &[Sum<'_>], sum: &Sum<'_>) -> Result<Option<u64>, AllocError>
 }
 
 /// The budget that covers what is left at the entry, whatever the arguments are by these facts; none where there is none.
-pub fn total_of(facts: &[Sum<'_>], need: &Need<'_>) -> Result<Option<Total>, AllocError> {
+pub fn total_of<'a>(facts: &[Sum<'a>], need: &Need<'a>) -> Result<Option<Total>, AllocError> {
     let self_calls = greatest(facts, &need.calls)?;
     let instructions = greatest(facts, &need.instructions)?;
     match (self_calls, instructions) {

@@ -2,7 +2,9 @@
 
 use lists::Name;
 use std::alloc::{AllocError, Global};
-use syntax::{Argument, Block, Case, Function, Instruction, Operand, Phi, Step, Terminator};
+use syntax::{
+    Argument, Block, Case, Function, Instruction, Operand, Phi, PhiEntry, Step, Terminator,
+};
 
 /// How a path goes along an edge. None goes along a reattach.
 #[derive(Clone, Copy)]
@@ -29,7 +31,12 @@ pub struct Edge<'a> {
 
 /// The number of the block of this label.
 fn block_of(blocks: &[Block], label: &Name) -> Option<usize> {
-    blocks.iter().position(|block| block.label.is_same(label))
+    for number in 0..blocks.len() {
+        if blocks[number].label.is_same(label) {
+            return Some(number);
+        }
+    }
+    None
 }
 
 /// A label that a terminator names, and how a path goes there.
@@ -39,73 +46,101 @@ struct Exit<'a> {
     way: Way<'a>,
 }
 
-/// The exits of a block, in the order of its terminator.
-#[derive(Drop)]
-struct Exits<'a> {
-    all: Vec<Exit<'a>>,
-}
-
-impl<'a> Exits<'a> {
-    fn add(&mut self, label: &'a Name, way: Way<'a>) -> Result<(), AllocError> {
-        self.all.push(Exit { label, way })?;
-        Ok(())
-    }
-
-    fn add_cases(&mut self, cases: &'a [Case]) -> Result<(), AllocError> {
-        for case in cases {
-            self.add(&case.target, Way::Branch)?;
-        }
-        Ok(())
-    }
-
-    fn add_ending(&mut self, terminator: &'a Terminator) -> Result<(), AllocError> {
-        match terminator {
-            Terminator::Jump { target } => self.add(target, Way::Branch),
-            Terminator::Branch {
-                condition,
-                when_true,
-                when_false,
-            } => {
-                self.add(when_true, Way::WhenTrue(condition.as_str()))?;
-                self.add(when_false, Way::WhenFalse(condition.as_str()))
-            }
-            Terminator::Switch { default, cases, .. } => {
-                self.add(default, Way::Branch)?;
-                self.add_cases(cases.as_slice())
-            }
-            Terminator::Detach {
-                region,
-                body,
-                continuation,
-            } => {
-                self.add(body, Way::Detached)?;
-                self.add(continuation, Way::Continued(region.as_str()))
-            }
-            Terminator::Sync { region, target } => self.add(target, Way::Synced(region.as_str())),
-            Terminator::Return { .. } | Terminator::Reattach { .. } => Ok(()),
-        }
-    }
-}
-
-fn exits_of<'a>(alloc: Global, terminator: &'a Terminator) -> Result<Vec<Exit<'a>>, AllocError> {
-    let mut exits = Exits {
-        all: Vec::new(alloc),
+/// The exit that a terminator names first.
+fn first_of(terminator: &Terminator) -> Option<Exit<'_>> {
+    let (label, way) = match terminator {
+        Terminator::Jump { target } => (target, Way::Branch),
+        Terminator::Branch {
+            condition,
+            when_true,
+            ..
+        } => (when_true, Way::WhenTrue(condition.as_str())),
+        Terminator::Switch { default, .. } => (default, Way::Branch),
+        Terminator::Detach { body, .. } => (body, Way::Detached),
+        Terminator::Sync { region, target } => (target, Way::Synced(region.as_str())),
+        Terminator::Return { .. } | Terminator::Reattach { .. } => return None,
     };
-    exits.add_ending(terminator)?;
-    Ok(exits.all)
+    Some(Exit { label, way })
 }
 
-/// Adds the edges of a block; an exit to a label that no block has is none.
+/// The exit that it names next, beside the cases of a switch.
+fn second_of(terminator: &Terminator) -> Option<Exit<'_>> {
+    match terminator {
+        Terminator::Branch {
+            condition,
+            when_false,
+            ..
+        } => Some(Exit {
+            label: when_false,
+            way: Way::WhenFalse(condition.as_str()),
+        }),
+        Terminator::Detach {
+            region,
+            continuation,
+            ..
+        } => Some(Exit {
+            label: continuation,
+            way: Way::Continued(region.as_str()),
+        }),
+        _ => None,
+    }
+}
+
+fn cases_of(terminator: &Terminator) -> &[Case] {
+    match terminator {
+        Terminator::Switch { cases, .. } => cases.as_slice(),
+        _ => &[],
+    }
+}
+
+/// Adds the edge of an exit; where no block has its label there is none.
+fn push_edge<'a>(
+    edges: &mut Vec<Edge<'a>>,
+    blocks: &[Block],
+    from: usize,
+    exit: Exit<'a>,
+) -> Result<(), AllocError> {
+    if let Some(to) = block_of(blocks, exit.label) {
+        let way = exit.way;
+        edges.push(Edge { from, to, way })?;
+    }
+    Ok(())
+}
+
+fn push_cases<'a>(
+    edges: &mut Vec<Edge<'a>>,
+    blocks: &[Block],
+    from: usize,
+    cases: &'a [Case],
+) -> Result<(), AllocError> {
+    for case in cases {
+        let label = &case.target;
+        let way = Way::Branch;
+        push_edge(edges, blocks, from, Exit { label, way })?;
+    }
+    Ok(())
+}
+
+/// Adds the edges of a block, in the order of its terminator.
 fn push_edges<'a>(
     edges: &mut Vec<Edge<'a>>,
     blocks: &[Block],
     from: usize,
-    exits: &[Exit<'a>],
+    terminator: &'a Terminator,
 ) -> Result<(), AllocError> {
-    for exit in exits {
-        if let Some(to) = block_of(blocks, exit.label) {
-            let way = exit.way;
-            edges.push(Edge { from, to, way })?;
+    if let Some(exit) = first_of(terminator) {
+        push_edge(edges, blocks, from, exit)?;
+    }
+    if let Some(exit) = second_of(terminator) {
+        push_edge(edges, blocks, from, exit)?;
+    }
+    push_cases(edges, blocks, from, cases_of(terminator))
+}
+
+fn push_all_edges<'a>(edges: &mut Vec<Edge<'a>>, blocks: &'a [Block]) -> Result<(), AllocError> {
+    for from in 0..blocks.len() {
+        if let Some(ending) = &blocks[from].ending {
+            push_edges(edges, blocks, from, &ending.terminator)?;
         }
     }
     Ok(())
@@ -113,14 +148,8 @@ fn push_edges<'a>(
 
 /// The edges of a function, in the order of its blocks and terminators.
 pub fn edges_of<'a>(alloc: Global, function: &'a Function) -> Result<Vec<Edge<'a>>, AllocError> {
-    let blocks = function.blocks.as_slice();
     let mut edges = Vec::new(alloc);
-    for from in 0..blocks.len() {
-        if let Some(ending) = &blocks[from].ending {
-            let exits = exits_of(alloc, &ending.terminator)?;
-            push_edges(&mut edges, blocks, from, exits.as_slice())?;
-        }
-    }
+    push_all_edges(&mut edges, function.blocks.as_slice())?;
     Ok(edges)
 }
 
@@ -161,6 +190,17 @@ fn is_register(operand: &Operand, name: &str) -> bool {
     }
 }
 
+fn is_passed(arguments: &[Argument], name: &str) -> bool {
+    for argument in arguments {
+        if let Argument::Number(value) = argument {
+            if is_register(value, name) {
+                return true;
+            }
+        }
+    }
+    false
+}
+
 /// Whether an instruction takes a register that holds a number.
 fn uses(instruction: &Instruction, name: &str) -> bool {
     match instruction {
@@ -171,12 +211,7 @@ fn uses(instruction: &Instruction, name: &str) -> bool {
         | Instruction::Store { value, .. }
         | Instruction::AtomicAdd { value, .. } => is_register(value, name),
         Instruction::ElementPointer { index, .. } => is_register(index, name),
-        Instruction::Call { arguments, .. } => {
-            arguments.as_slice().iter().any(|argument| match argument {
-                Argument::Number(value) => is_register(value, name),
-                Argument::Pointer(_) => false,
-            })
-        }
+        Instruction::Call { arguments, .. } => is_passed(arguments.as_slice(), name),
         Instruction::Alloca { .. }
         | Instruction::Load { .. }
         | Instruction::StoreZeros { .. }
@@ -184,39 +219,66 @@ fn uses(instruction: &Instruction, name: &str) -> bool {
     }
 }
 
+fn block_uses(block: &Block, name: &str) -> bool {
+    for step in block.steps.as_slice() {
+        if uses(&step.instruction, name) {
+            return true;
+        }
+    }
+    false
+}
+
 /// Whether another block's instructions take the register.
 pub fn is_used_beside(function: &Function, own: usize, name: &str) -> bool {
     let blocks = function.blocks.as_slice();
-    blocks.iter().enumerate().any(|(index, block)| {
-        index != own
-            && block
-                .steps
-                .as_slice()
-                .iter()
-                .any(|step| uses(&step.instruction, name))
-    })
+    for index in 0..blocks.len() {
+        if index != own && block_uses(&blocks[index], name) {
+            return true;
+        }
+    }
+    false
 }
 
-/// Whether a block's own instructions, no phis, define the register.
+/// Whether an instruction of the block, no phi, defines the register.
+fn is_made(block: &Block, name: &str) -> bool {
+    for step in block.steps.as_slice() {
+        if let Some(register) = register_of(&step.instruction) {
+            if register == name {
+                return true;
+            }
+        }
+    }
+    false
+}
+
+/// The phi that defines the register.
+fn phi_of<'a>(phis: &'a [Phi], name: &str) -> Option<&'a Phi> {
+    for phi in phis {
+        if phi.register.as_str() == name {
+            return Some(phi);
+        }
+    }
+    None
+}
+
+/// Whether the block defines the register.
 pub fn defines(block: &Block, name: &str) -> bool {
-    let steps = block.steps.as_slice();
-    steps
-        .iter()
-        .any(|step| register_of(&step.instruction) == Some(name))
+    phi_of(block.phis.as_slice(), name).is_some() || is_made(block, name)
 }
 
-/// Whether a phi of the block defines the register.
-pub fn is_phi(block: &Block, name: &str) -> bool {
-    let phis = block.phis.as_slice();
-    phis.iter().any(|phi| phi.register.as_str() == name)
+fn value_from<'a>(entries: &'a [PhiEntry], predecessor: &Name) -> Option<&'a Operand> {
+    for entry in entries {
+        if entry.predecessor.is_same(predecessor) {
+            return Some(&entry.value);
+        }
+    }
+    None
 }
 
 /// What a phi takes where the run comes from a block of this label.
 pub fn phi_value<'a>(phis: &'a [Phi], name: &str, predecessor: &Name) -> Option<&'a Operand> {
-    let phi = phis.iter().find(|phi| phi.register.as_str() == name)?;
-    let entries = phi.entries.as_slice();
-    let entry = entries
-        .iter()
-        .find(|entry| entry.predecessor.is_same(predecessor))?;
-    Some(&entry.value)
+    match phi_of(phis, name) {
+        Some(phi) => value_from(phi.entries.as_slice(), predecessor),
+        None => None,
+    }
 }

@@ -4,208 +4,208 @@ use crate::edge::{Edge, Way, is_used_beside, register_of, steps_at};
 use crate::left::definition_of;
 use crate::sum::Sum;
 use std::alloc::{AllocError, Global};
+use std::mem::replace;
 use syntax::{BinaryOperator, Function, Inequality, Instruction, Operand, Predicate, Step};
 
 /// The facts that a function's text states anywhere, each once.
 #[derive(Drop)]
 pub struct Facts<'a> {
     alloc: Global,
+    function: &'a Function,
     /// Sums that are at least 0.
     pub sums: Vec<Sum<'a>>,
+    /// The numbers of those that were stated and not taken yet.
+    stated: Vec<usize>,
 }
 
 impl<'a> Facts<'a> {
-    pub fn new(alloc: Global) -> Facts<'a> {
+    pub fn new(alloc: Global, function: &'a Function) -> Facts<'a> {
         Facts {
             alloc,
+            function,
             sums: Vec::new(alloc),
+            stated: Vec::new(alloc),
         }
     }
 
-    /// The number of a fact; a new one where it has none.
-    pub fn number(&mut self, sum: Sum<'a>) -> Result<usize, AllocError> {
-        for (number, other) in self.sums.iter().enumerate() {
-            if other.is_same(&sum)? {
-                return Ok(number);
+    /// The numbers of the facts that were stated since they were last taken.
+    pub fn take(&mut self) -> Vec<usize> {
+        replace(&mut self.stated, Vec::new(self.alloc))
+    }
+
+    /// The number of a fact that is stated already.
+    fn find(&self, sum: &Sum<'a>) -> Option<usize> {
+        for number in 0..self.sums.len() {
+            if self.sums[number].is_same(sum) {
+                return Some(number);
             }
+        }
+        None
+    }
+
+    /// States that a sum is at least 0.
+    fn add(&mut self, sum: Sum<'a>) -> Result<(), AllocError> {
+        if let Some(number) = self.find(&sum) {
+            return self.push(number);
         }
         let number = self.sums.len();
         self.sums.push(sum)?;
-        Ok(number)
+        self.push(number)
     }
 
-    /// Adds the numbers of what these inequalities say.
-    pub fn state(
-        &mut self,
-        stated: &mut Vec<usize>,
-        inequalities: &'a [Inequality],
-    ) -> Result<(), AllocError> {
+    fn push(&mut self, number: usize) -> Result<(), AllocError> {
+        self.stated.push(number)?;
+        Ok(())
+    }
+
+    /// States what these inequalities say.
+    pub fn state(&mut self, inequalities: &'a [Inequality]) -> Result<(), AllocError> {
         for inequality in inequalities {
             let sum = Sum::of_inequality(self.alloc, inequality)?;
-            let number = self.number(sum)?;
-            stated.push(number)?;
+            self.add(sum)?;
         }
         Ok(())
     }
 
-    /// Adds the number of `low + less <= high`.
+    /// States `low <= high`, or `low < high`.
     fn order(
         &mut self,
-        stated: &mut Vec<usize>,
-        low: &Sum<'a>,
-        high: &Sum<'a>,
-        less: i128,
+        low: &'a Operand,
+        high: &'a Operand,
+        is_strict: bool,
     ) -> Result<(), AllocError> {
-        let mut sum = high.copy()?.less(low)?;
-        sum.add_number(0i128.saturating_sub(less));
-        let number = self.number(sum)?;
-        stated.push(number)?;
+        let mut sum = Sum::number(self.alloc, if is_strict { -1 } else { 0 });
+        sum.add_operand(high, 1)?;
+        sum.add_operand(low, -1)?;
+        self.add(sum)
+    }
+
+    /// States what an instruction says where it compares into this register and has this outcome.
+    fn decide(
+        &mut self,
+        instruction: &'a Instruction,
+        condition: &str,
+        holds: bool,
+    ) -> Result<(), AllocError> {
+        if let Instruction::Compare {
+            register,
+            predicate,
+            left,
+            right,
+            ..
+        } = instruction
+        {
+            if register.as_str() == condition {
+                return self.compare(*predicate, left, right, holds);
+            }
+        }
         Ok(())
     }
 
-    /// Adds what a comparison says of signed numbers where it holds.
+    /// States what a comparison says of signed numbers where it holds, or where it does not.
     fn compare(
         &mut self,
-        stated: &mut Vec<usize>,
-        predicate: Predicate,
-        left: &Sum<'a>,
-        right: &Sum<'a>,
-    ) -> Result<(), AllocError> {
-        match predicate {
-            Predicate::SignedLess => self.order(stated, left, right, 1),
-            Predicate::SignedAtMost => self.order(stated, left, right, 0),
-            Predicate::SignedGreater => self.order(stated, right, left, 1),
-            Predicate::SignedAtLeast => self.order(stated, right, left, 0),
-            Predicate::Equal => {
-                self.order(stated, left, right, 0)?;
-                self.order(stated, right, left, 0)
-            }
-            Predicate::NotEqual
-            | Predicate::UnsignedGreater
-            | Predicate::UnsignedAtLeast
-            | Predicate::UnsignedLess
-            | Predicate::UnsignedAtMost => Ok(()),
-        }
-    }
-
-    /// Adds what a comparison of these operands says where it holds.
-    fn compare_operands(
-        &mut self,
-        stated: &mut Vec<usize>,
         predicate: Predicate,
         left: &'a Operand,
         right: &'a Operand,
+        holds: bool,
     ) -> Result<(), AllocError> {
-        let left = Sum::of_operand(self.alloc, left)?;
-        let right = Sum::of_operand(self.alloc, right)?;
-        self.compare(stated, predicate, &left, &right)
+        if let Some(is_strict) = order_of(predicate, holds, false) {
+            self.order(left, right, is_strict)?;
+        }
+        if let Some(is_strict) = order_of(predicate, holds, true) {
+            self.order(right, left, is_strict)?;
+        }
+        Ok(())
     }
 
-    /// Adds what the comparison of this register says where it has this outcome.
-    fn decide(
+    /// States what the comparisons into this register say where they have this outcome.
+    fn decide_all(
         &mut self,
-        stated: &mut Vec<usize>,
         steps: &'a [Step],
         condition: &str,
         holds: bool,
     ) -> Result<(), AllocError> {
         for step in steps {
-            if let Instruction::Compare {
-                register,
-                predicate,
-                left,
-                right,
-                ..
-            } = &step.instruction
-            {
-                if register.as_str() == condition {
-                    let predicate = if holds {
-                        *predicate
-                    } else {
-                        opposite(*predicate)
-                    };
-                    self.compare_operands(stated, predicate, left, right)?;
-                }
-            }
+            self.decide(&step.instruction, condition, holds)?;
         }
         Ok(())
     }
 
-    /// Adds what an exact instruction says of the register that it makes.
-    fn define(
-        &mut self,
-        stated: &mut Vec<usize>,
-        name: &'a str,
-        instruction: &'a Instruction,
-    ) -> Result<(), AllocError> {
-        if !is_exact(instruction) {
-            return Ok(());
-        }
-        let Some(value) = definition_of(self.alloc, instruction)? else {
-            return Ok(());
-        };
-        let register = Sum::of_register(self.alloc, name)?;
-        self.order(stated, &register, &value, 0)?;
-        self.order(stated, &value, &register, 0)
+    /// States that a register is this sum.
+    fn equate(&mut self, name: &'a str, value: &Sum<'a>) -> Result<(), AllocError> {
+        let mut above = value.copy()?;
+        above.add_term(name, -1)?;
+        self.add(above)?;
+        let mut below = Sum::number(self.alloc, 0);
+        below.add_term(name, 1)?;
+        below.add(value, -1)?;
+        self.add(below)
     }
 
-    /// Adds what an instruction says of a register that blocks beside its own take.
-    fn make(
-        &mut self,
-        stated: &mut Vec<usize>,
-        function: &'a Function,
-        index: usize,
-        instruction: &'a Instruction,
-    ) -> Result<(), AllocError> {
+    /// States what an exact instruction says of the register that it makes.
+    fn define(&mut self, name: &'a str, instruction: &'a Instruction) -> Result<(), AllocError> {
+        match definition_of(self.alloc, instruction)? {
+            Some(value) => self.equate(name, &value),
+            None => Ok(()),
+        }
+    }
+
+    /// States what an instruction says of a register that blocks beside its own take.
+    fn make(&mut self, index: usize, instruction: &'a Instruction) -> Result<(), AllocError> {
         match register_of(instruction) {
-            Some(name) if is_used_beside(function, index, name) => {
-                self.define(stated, name, instruction)
+            Some(name) if is_exact(instruction) && is_used_beside(self.function, index, name) => {
+                self.define(name, instruction)
             }
             _ => Ok(()),
         }
     }
 
-    /// The facts that a block's own instructions make of registers that other blocks take.
-    pub fn made_in(
-        &mut self,
-        function: &'a Function,
-        index: usize,
-    ) -> Result<Vec<usize>, AllocError> {
-        let mut stated = Vec::new(self.alloc);
-        for step in steps_at(function, index) {
-            self.make(&mut stated, function, index, &step.instruction)?;
+    /// States what a block's own instructions make of registers that other blocks take.
+    pub fn make_all(&mut self, index: usize) -> Result<(), AllocError> {
+        for step in steps_at(self.function, index) {
+            self.make(index, &step.instruction)?;
         }
-        Ok(stated)
+        Ok(())
     }
 
-    /// Adds the outcome of a branch along an edge.
-    fn branch(
-        &mut self,
-        stated: &mut Vec<usize>,
-        steps: &'a [Step],
-        way: Way<'a>,
-    ) -> Result<(), AllocError> {
+    /// States the outcome of a branch along an edge.
+    fn branch(&mut self, steps: &'a [Step], way: Way<'a>) -> Result<(), AllocError> {
         match way {
-            Way::WhenTrue(condition) => self.decide(stated, steps, condition, true),
-            Way::WhenFalse(condition) => self.decide(stated, steps, condition, false),
+            Way::WhenTrue(condition) => self.decide_all(steps, condition, true),
+            Way::WhenFalse(condition) => self.decide_all(steps, condition, false),
             Way::Branch | Way::Detached | Way::Continued(_) | Way::Synced(_) => Ok(()),
         }
     }
 
-    /// The facts that a block adds on one of its edges: its `shows`, and the outcome of its branch.
-    pub fn on_edge(
-        &mut self,
-        function: &'a Function,
-        edge: Edge<'a>,
-    ) -> Result<Vec<usize>, AllocError> {
-        let steps = steps_at(function, edge.from);
-        let mut stated = Vec::new(self.alloc);
+    /// States what the steps show.
+    fn show(&mut self, steps: &'a [Step]) -> Result<(), AllocError> {
         for step in steps {
-            self.state(&mut stated, step.shows.as_slice())?;
+            self.state(step.shows.as_slice())?;
         }
-        self.state(&mut stated, shows_at_end(function, edge.from))?;
-        self.branch(&mut stated, steps, edge.way)?;
-        Ok(stated)
+        Ok(())
+    }
+
+    /// States what a block adds on one of its edges: its `shows`, and the outcome of its branch.
+    pub fn pass(&mut self, edge: Edge<'a>) -> Result<(), AllocError> {
+        let steps = steps_at(self.function, edge.from);
+        self.show(steps)?;
+        self.state(shows_at_end(self.function, edge.from))?;
+        self.branch(steps, edge.way)
+    }
+}
+
+/// Whether a comparison says, where it holds or does not, that its left operand is at most the right one, or if turned the right one the
+/// left one; and if so, whether it is less.
+fn order_of(predicate: Predicate, holds: bool, is_turned: bool) -> Option<bool> {
+    match predicate {
+        Predicate::SignedLess if holds != is_turned => Some(holds),
+        Predicate::SignedAtMost if holds != is_turned => Some(!holds),
+        Predicate::SignedGreater if holds == is_turned => Some(holds),
+        Predicate::SignedAtLeast if holds == is_turned => Some(!holds),
+        Predicate::Equal if holds => Some(false),
+        Predicate::NotEqual if !holds => Some(false),
+        _ => None,
     }
 }
 
@@ -223,28 +223,12 @@ fn shows_at_end(function: &Function, block: usize) -> &[Inequality] {
 /// Whether an instruction makes its sum or product as it is, without a remainder by the width.
 fn is_exact(instruction: &Instruction) -> bool {
     match instruction {
-        Instruction::Binary { operator, .. } => match operator {
+        Instruction::Binary { operator, .. } => matches!(
+            operator,
             BinaryOperator::AddNoWrap
-            | BinaryOperator::SubtractNoWrap
-            | BinaryOperator::MultiplyNoWrap => true,
-            _ => false,
-        },
+                | BinaryOperator::SubtractNoWrap
+                | BinaryOperator::MultiplyNoWrap
+        ),
         _ => false,
-    }
-}
-
-/// The comparison that holds just where this one does not.
-fn opposite(predicate: Predicate) -> Predicate {
-    match predicate {
-        Predicate::Equal => Predicate::NotEqual,
-        Predicate::NotEqual => Predicate::Equal,
-        Predicate::UnsignedGreater => Predicate::UnsignedAtMost,
-        Predicate::UnsignedAtLeast => Predicate::UnsignedLess,
-        Predicate::UnsignedLess => Predicate::UnsignedAtLeast,
-        Predicate::UnsignedAtMost => Predicate::UnsignedGreater,
-        Predicate::SignedGreater => Predicate::SignedAtMost,
-        Predicate::SignedAtLeast => Predicate::SignedLess,
-        Predicate::SignedLess => Predicate::SignedAtLeast,
-        Predicate::SignedAtMost => Predicate::SignedGreater,
     }
 }

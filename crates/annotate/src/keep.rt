@@ -1,6 +1,6 @@
 //! What is known wherever a block begins, because all ways to it bring it along.
 
-use crate::edge::{Edge, defines, is_phi};
+use crate::edge::{Edge, defines, edges_of};
 use crate::fact::Facts;
 use crate::sum::Sum;
 use std::alloc::{AllocError, Global};
@@ -9,6 +9,9 @@ use syntax::{Block, Function, Inequality};
 /// The facts of a function, and which of them hold where.
 #[derive(Drop)]
 pub struct Known<'a> {
+    pub alloc: Global,
+    pub function: &'a Function,
+    pub edges: Vec<Edge<'a>>,
     pub facts: Facts<'a>,
     /// For each block the numbers of the facts that its head states.
     given: Vec<Vec<usize>>,
@@ -21,7 +24,17 @@ pub struct Known<'a> {
 }
 
 fn has(numbers: &[usize], number: usize) -> bool {
-    numbers.iter().any(|other| *other == number)
+    for other in numbers {
+        if *other == number {
+            return true;
+        }
+    }
+    false
+}
+
+/// Whether a row of numbers has this one; a row that is not there has none.
+fn row_has(rows: &[Vec<usize>], row: usize, number: usize) -> bool {
+    row < rows.len() && has(rows[row].as_slice(), number)
 }
 
 /// What a block's head keeps.
@@ -34,140 +47,110 @@ fn keeps_at(function: &Function, block: usize) -> &[Inequality] {
     }
 }
 
-/// The numbers of the facts that a block's head states; at the entry what the function asks of its parameters too.
-fn given_at<'a>(
-    alloc: Global,
-    function: &'a Function,
-    block: usize,
-    facts: &mut Facts<'a>,
-) -> Result<Vec<usize>, AllocError> {
-    let mut stated = Vec::new(alloc);
-    if block == 0 {
-        facts.state(&mut stated, function.notes.requirements.as_slice())?;
-    }
-    facts.state(&mut stated, keeps_at(function, block))?;
-    Ok(stated)
-}
-
-/// For each block the numbers of the facts that its head states.
-fn given_by<'a>(
-    alloc: Global,
-    function: &'a Function,
-    facts: &mut Facts<'a>,
-) -> Result<Vec<Vec<usize>>, AllocError> {
-    let mut given = Vec::new(alloc);
-    for block in 0..function.blocks.len() {
-        given.push(given_at(alloc, function, block, facts)?)?;
-    }
-    Ok(given)
-}
-
-/// For each edge the numbers of the facts that its source adds.
-fn added_by<'a>(
-    alloc: Global,
-    function: &'a Function,
-    edges: &[Edge<'a>],
-    facts: &mut Facts<'a>,
-) -> Result<Vec<Vec<usize>>, AllocError> {
-    let mut added = Vec::new(alloc);
-    for edge in edges {
-        added.push(facts.on_edge(function, *edge)?)?;
-    }
-    Ok(added)
-}
-
-/// For each block the numbers of the facts that its own instructions make.
-fn made_by<'a>(
-    alloc: Global,
-    function: &'a Function,
-    facts: &mut Facts<'a>,
-) -> Result<Vec<Vec<usize>>, AllocError> {
-    let mut made = Vec::new(alloc);
-    for index in 0..function.blocks.len() {
-        made.push(facts.made_in(function, index)?)?;
-    }
-    Ok(made)
-}
-
 impl<'a> Known<'a> {
-    fn new(
-        alloc: Global,
-        function: &'a Function,
-        edges: &[Edge<'a>],
-    ) -> Result<Known<'a>, AllocError> {
-        let mut facts = Facts::new(alloc);
-        let given = given_by(alloc, function, &mut facts)?;
-        let added = added_by(alloc, function, edges, &mut facts)?;
-        let made = made_by(alloc, function, &mut facts)?;
-        Ok(Known {
-            facts,
-            given,
-            added,
-            made,
+    fn new(alloc: Global, function: &'a Function, edges: Vec<Edge<'a>>) -> Known<'a> {
+        Known {
+            alloc,
+            function,
+            edges,
+            facts: Facts::new(alloc, function),
+            given: Vec::new(alloc),
+            added: Vec::new(alloc),
+            made: Vec::new(alloc),
             marks: Vec::new(alloc),
-        })
+        }
+    }
+
+    /// States what a block's head says; at the entry what the function asks of its parameters too.
+    fn give(&mut self, block: usize) -> Result<(), AllocError> {
+        if block == 0 {
+            self.facts
+                .state(self.function.notes.requirements.as_slice())?;
+        }
+        self.facts.state(keeps_at(self.function, block))?;
+        let given = self.facts.take();
+        self.given.push(given)?;
+        Ok(())
+    }
+
+    /// States what the edge of this number adds.
+    fn add(&mut self, number: usize) -> Result<(), AllocError> {
+        if number < self.edges.len() {
+            let edge = self.edges[number];
+            self.facts.pass(edge)?;
+        }
+        let added = self.facts.take();
+        self.added.push(added)?;
+        Ok(())
+    }
+
+    /// States what the instructions of a block make.
+    fn make(&mut self, block: usize) -> Result<(), AllocError> {
+        self.facts.make_all(block)?;
+        let made = self.facts.take();
+        self.made.push(made)?;
+        Ok(())
+    }
+
+    fn give_all(&mut self) -> Result<(), AllocError> {
+        for block in 0..self.function.blocks.len() {
+            self.give(block)?;
+        }
+        Ok(())
+    }
+
+    fn add_all(&mut self) -> Result<(), AllocError> {
+        for number in 0..self.edges.len() {
+            self.add(number)?;
+        }
+        Ok(())
+    }
+
+    fn make_all(&mut self) -> Result<(), AllocError> {
+        for block in 0..self.function.blocks.len() {
+            self.make(block)?;
+        }
+        Ok(())
     }
 
     pub fn is_given(&self, block: usize, fact: usize) -> bool {
-        match self.given.as_slice().get(block) {
-            Some(given) => has(given.as_slice(), fact),
-            None => false,
-        }
+        row_has(self.given.as_slice(), block, fact)
     }
 
     /// Whether the fact is marked at the block.
     pub fn is_known(&self, block: usize, fact: usize) -> bool {
-        match self.marks.as_slice().get(block) {
-            Some(marks) => marks.as_slice().get(fact).copied().unwrap_or(false),
-            None => false,
+        if block >= self.marks.len() {
+            return false;
         }
+        let marks = self.marks[block].as_slice();
+        fact < marks.len() && marks[fact]
     }
 
-    fn is_added(&self, edge: usize, fact: usize) -> bool {
-        match self.added.as_slice().get(edge) {
-            Some(added) => has(added.as_slice(), fact),
-            None => false,
-        }
-    }
-
-    fn is_made(&self, block: usize, fact: usize) -> bool {
-        match self.made.as_slice().get(block) {
-            Some(made) => has(made.as_slice(), fact),
-            None => false,
-        }
-    }
-
-    /// Whether an edge brings the fact to its target.
-    fn is_along(&self, number: usize, edge: Edge<'a>, fact: usize) -> bool {
-        self.is_known(edge.from, fact)
-            || self.is_added(number, fact)
-            || self.is_made(edge.from, fact)
+    /// Whether the edge of this number brings the fact to its target.
+    fn is_along(&self, number: usize, from: usize, fact: usize) -> bool {
+        self.is_known(from, fact)
+            || row_has(self.added.as_slice(), number, fact)
+            || row_has(self.made.as_slice(), from, fact)
     }
 
     /// Whether another fact that is known at the block says more of the same registers with the same coefficients.
-    pub fn is_weaker(&self, block: usize, fact: &Sum<'a>) -> Result<bool, AllocError> {
-        for (number, other) in self.facts.sums.iter().enumerate() {
-            if self.is_known(block, number) {
-                let difference = fact.copy()?.less(other)?;
-                if difference.is_number() && difference.constant > 0 {
-                    return Ok(true);
-                }
+    pub fn is_weaker(&self, block: usize, fact: &Sum<'a>) -> bool {
+        for number in 0..self.facts.sums.len() {
+            if self.is_known(block, number) && is_above(fact, &self.facts.sums[number]) {
+                return true;
             }
         }
-        Ok(false)
+        false
     }
 
     /// Whether a difference is a fact that is known at the block, taken so many times, and a number that is not negative.
-    fn is_covered(&self, block: usize, difference: &Sum<'a>) -> Result<bool, AllocError> {
-        if difference.is_number() {
-            return Ok(difference.constant >= 0);
-        }
-        for (number, fact) in self.facts.sums.iter().enumerate() {
-            if self.is_known(block, number) && is_multiple(difference, fact)? {
-                return Ok(true);
+    fn is_covered(&self, block: usize, difference: &Sum<'a>) -> bool {
+        for number in 0..self.facts.sums.len() {
+            if self.is_known(block, number) && is_multiple(difference, &self.facts.sums[number]) {
+                return true;
             }
         }
-        Ok(false)
+        false
     }
 
     /// Whether one sum is known to be no less than the other.
@@ -177,8 +160,11 @@ impl<'a> Known<'a> {
         one: &Sum<'a>,
         other: &Sum<'a>,
     ) -> Result<bool, AllocError> {
-        let difference = one.copy()?.less(other)?;
-        self.is_covered(block, &difference)
+        let difference = one.with(other, -1)?;
+        match difference.as_number() {
+            Some(number) => Ok(number >= 0),
+            None => Ok(self.is_covered(block, &difference)),
+        }
     }
 
     /// The greater of two sums, or their sum where neither is known to be.
@@ -197,25 +183,30 @@ impl<'a> Known<'a> {
         }
     }
 
-    /// Marks each fact at each block, but at the entry only what it states.
-    fn mark_all(&mut self, alloc: Global, blocks: usize) -> Result<(), AllocError> {
-        for block in 0..blocks {
-            let mut marks = Vec::new(alloc);
-            for fact in 0..self.facts.sums.len() {
-                marks.push(block != 0 || self.is_given(block, fact))?;
-            }
+    /// The marks of a block to begin with: each fact, but at the entry only what it states.
+    fn first_marks(&self, block: usize) -> Result<Vec<bool>, AllocError> {
+        let mut marks = Vec::new(self.alloc);
+        for fact in 0..self.facts.sums.len() {
+            marks.push(block != 0 || self.is_given(block, fact))?;
+        }
+        Ok(marks)
+    }
+
+    fn mark_all(&mut self) -> Result<(), AllocError> {
+        for block in 0..self.function.blocks.len() {
+            let marks = self.first_marks(block)?;
             self.marks.push(marks)?;
         }
         Ok(())
     }
 
     /// Whether some way leads to the block and each of them brings the fact.
-    fn is_brought(&self, edges: &[Edge<'a>], block: usize, fact: usize) -> bool {
+    fn is_brought(&self, block: usize, fact: usize) -> bool {
         let mut is_reached = false;
-        for (number, edge) in edges.iter().enumerate() {
-            if edge.to == block {
+        for number in 0..self.edges.len() {
+            if self.edges[number].to == block {
                 is_reached = true;
-                if !self.is_along(number, *edge, fact) {
+                if !self.is_along(number, self.edges[number].from, fact) {
                     return false;
                 }
             }
@@ -232,93 +223,99 @@ impl<'a> Known<'a> {
         }
     }
 
+    /// Whether the fact names a register that the block defines.
+    fn is_renamed(&self, block: usize, fact: usize) -> bool {
+        let blocks = self.function.blocks.as_slice();
+        let sums = self.facts.sums.as_slice();
+        block >= blocks.len() || fact >= sums.len() || names_own(&blocks[block], &sums[fact])
+    }
+
+    /// Whether a mark at a block still stands.
+    fn stands(&self, block: usize, fact: usize) -> bool {
+        self.is_given(block, fact) || self.is_brought(block, fact) && !self.is_renamed(block, fact)
+    }
+
     /// Takes away the marks of a block that no longer stand; whether there were some.
-    fn settle(
-        &mut self,
-        edges: &[Edge<'a>],
-        index: usize,
-        block: &Block,
-    ) -> Result<bool, AllocError> {
+    fn settle(&mut self, block: usize) -> bool {
         let mut is_changed = false;
         for fact in 0..self.facts.sums.len() {
-            if self.is_known(index, fact) && !self.is_given(index, fact) {
-                let stands = self.is_brought(edges, index, fact) && !self.is_renamed(block, fact)?;
-                if !stands {
-                    self.unmark(index, fact);
-                    is_changed = true;
-                }
-            }
-        }
-        Ok(is_changed)
-    }
-
-    /// Marks what is known at each block.
-    fn find(
-        &mut self,
-        alloc: Global,
-        edges: &[Edge<'a>],
-        blocks: &[Block],
-    ) -> Result<(), AllocError> {
-        self.mark_all(alloc, blocks.len())?;
-        for _round in 0..blocks.len() {
-            if !self.settle_all(edges, blocks)? {
-                break;
-            }
-        }
-        Ok(())
-    }
-
-    /// One round over the blocks; whether some marks were taken away.
-    fn settle_all(&mut self, edges: &[Edge<'a>], blocks: &[Block]) -> Result<bool, AllocError> {
-        let mut is_changed = false;
-        for (index, block) in blocks.iter().enumerate() {
-            if self.settle(edges, index, block)? {
+            if self.is_known(block, fact) && !self.stands(block, fact) {
+                self.unmark(block, fact);
                 is_changed = true;
             }
         }
-        Ok(is_changed)
+        is_changed
     }
 
-    /// Whether the fact names a register that the block defines.
-    fn is_renamed(&self, block: &Block, fact: usize) -> Result<bool, AllocError> {
-        match self.facts.sums.as_slice().get(fact) {
-            Some(sum) => names_own(block, sum),
-            None => Ok(true),
+    /// One round over the blocks; whether some marks were taken away.
+    fn settle_all(&mut self) -> bool {
+        let mut is_changed = false;
+        for block in 0..self.function.blocks.len() {
+            if self.settle(block) {
+                is_changed = true;
+            }
         }
+        is_changed
+    }
+
+    /// Finds the facts, and marks what is known at each block.
+    fn find(&mut self) -> Result<(), AllocError> {
+        self.give_all()?;
+        self.add_all()?;
+        self.make_all()?;
+        self.mark_all()?;
+        self.settle_down();
+        Ok(())
+    }
+
+    /// Takes away all marks that do not stand.
+    fn settle_down(&mut self) {
+        for _round in 0..self.function.blocks.len() {
+            if !self.settle_all() {
+                return;
+            }
+        }
+    }
+}
+
+/// Whether one sum is the other and a number above 0.
+fn is_above<'a>(sum: &Sum<'a>, other: &Sum<'a>) -> bool {
+    match sum.number_with(other, -1) {
+        Some(number) => number > 0,
+        None => false,
     }
 }
 
 /// Whether one sum is a multiple of the other and a number, neither of them negative.
-fn is_multiple<'a>(sum: &Sum<'a>, fact: &Sum<'a>) -> Result<bool, AllocError> {
+fn is_multiple<'a>(sum: &Sum<'a>, fact: &Sum<'a>) -> bool {
     let Some((name, coefficient)) = fact.first() else {
-        return Ok(false);
+        return false;
     };
     let times = sum.coefficient(name).checked_div(coefficient).unwrap_or(0);
     if times <= 0 {
-        return Ok(false);
+        return false;
     }
-    let rest = sum.with(fact, 0i128.saturating_sub(times))?;
-    Ok(rest.is_number() && rest.constant >= 0)
+    match sum.number_with(fact, 0i128.saturating_sub(times)) {
+        Some(number) => number >= 0,
+        None => false,
+    }
 }
 
 /// Whether a sum names a register that the block defines.
-pub fn names_own(block: &Block, sum: &Sum<'_>) -> Result<bool, AllocError> {
-    for (name, _coefficient) in &sum.terms()? {
-        if is_phi(block, name) || defines(block, name) {
-            return Ok(true);
+pub fn names_own(block: &Block, sum: &Sum<'_>) -> bool {
+    for (name, coefficient) in &sum.terms {
+        if *coefficient != 0 && defines(block, name) {
+            return true;
         }
     }
-    Ok(false)
+    false
 }
 
 /// What is known at each block, by what heads state, `shows` and the outcomes of branches. A fact about registers that the block defines
 /// anew is not brought along to it.
-pub fn known_of<'a>(
-    alloc: Global,
-    function: &'a Function,
-    edges: &[Edge<'a>],
-) -> Result<Known<'a>, AllocError> {
-    let mut known = Known::new(alloc, function, edges)?;
-    known.find(alloc, edges, function.blocks.as_slice())?;
+pub fn known_of<'a>(alloc: Global, function: &'a Function) -> Result<Known<'a>, AllocError> {
+    let edges = edges_of(alloc, function)?;
+    let mut known = Known::new(alloc, function, edges);
+    known.find()?;
     Ok(known)
 }

@@ -5,7 +5,7 @@ use crate::keep::Known;
 use crate::sum::Sum;
 use lists::Name;
 use std::alloc::{AllocError, Global};
-use syntax::{BinaryOperator, Block, Function, Instruction, Phi, Step};
+use syntax::{BinaryOperator, Block, Instruction, Operand, Phi, Step};
 
 /// Self calls and instructions.
 #[derive(Drop)]
@@ -14,15 +14,13 @@ pub struct Need<'a> {
     pub instructions: Sum<'a>,
 }
 
-/// A function, what is known in it, and what calls of the functions above it cost.
-#[derive(Clone, Copy)]
-pub struct World<'w, 'a> {
-    pub alloc: Global,
-    pub function: &'a Function,
-    pub edges: &'w [Edge<'a>],
-    pub known: &'w Known<'a>,
+/// The needs of a function's blocks, while they are found.
+#[derive(Drop)]
+struct Finder<'w, 'a> {
+    known: &'w Known<'a>,
     /// The names and the greatest costs of functions.
-    pub costs: &'w [(&'a str, u128)],
+    costs: &'w [(&'a str, u128)],
+    lefts: Vec<Option<Need<'a>>>,
 }
 
 /// What a call of another function costs at most.
@@ -40,10 +38,10 @@ fn signed(number: u128) -> i128 {
 }
 
 impl<'a> Need<'a> {
-    fn numbers(alloc: Global, calls: i128, instructions: i128) -> Need<'a> {
+    fn none(alloc: Global) -> Need<'a> {
         Need {
-            calls: Sum::number(alloc, calls),
-            instructions: Sum::number(alloc, instructions),
+            calls: Sum::number(alloc, 0),
+            instructions: Sum::number(alloc, 0),
         }
     }
 
@@ -52,67 +50,70 @@ impl<'a> Need<'a> {
         self.instructions.add(&other.instructions, 1)
     }
 
-    /// What is needed with this work done first; none where it is no form.
-    fn with_work(mut self, work: &Need<'a>) -> Result<Option<Need<'a>>, AllocError> {
-        self.add(work)?;
-        if self.calls.is_form() && self.instructions.is_form() {
-            Ok(Some(self))
-        } else {
-            Ok(None)
-        }
+    fn is_form(&self) -> bool {
+        self.calls.is_form() && self.instructions.is_form()
     }
-}
 
-/// What the instructions of a block do, beside its terminator.
-fn work_of<'a>(alloc: Global, steps: &[Step], own: &Name, costs: &[(&str, u128)]) -> Need<'a> {
-    let mut calls = 0i128;
-    let mut instructions = 1i128;
-    for step in steps {
-        instructions = instructions.saturating_add(1);
-        if let Instruction::Call { callee, .. } = &step.instruction {
+    /// Makes each of its sums the greater one of it and the other's, as far as that is known at the block.
+    fn raise(
+        &mut self,
+        known: &Known<'a>,
+        block: usize,
+        other: &Need<'a>,
+    ) -> Result<(), AllocError> {
+        self.calls = known.greater(block, &self.calls, &other.calls)?;
+        self.instructions = known.greater(block, &self.instructions, &other.instructions)?;
+        Ok(())
+    }
+
+    /// Adds what an instruction does.
+    fn add_work(&mut self, instruction: &Instruction, own: &Name, costs: &[(&str, u128)]) {
+        self.instructions.add_number(1);
+        if let Instruction::Call { callee, .. } = instruction {
             if callee.is_same(own) {
-                calls = calls.saturating_add(1);
+                self.calls.add_number(1);
             } else {
                 let cost = signed(cost_of(costs, callee.as_str()));
-                instructions = instructions.saturating_add(cost);
+                self.instructions.add_number(cost);
             }
         }
     }
-    Need::numbers(alloc, calls, instructions)
+
+    /// Adds what the instructions of a block do, and its terminator.
+    fn add_steps(&mut self, steps: &[Step], own: &Name, costs: &[(&str, u128)]) {
+        self.instructions.add_number(1);
+        for step in steps {
+            self.add_work(&step.instruction, own, costs);
+        }
+    }
 }
 
-/// A sum at a block's start, with what its phis take on an edge from a block of this label put in.
-fn moved<'a>(
-    alloc: Global,
+/// Adds a term of a sum at a block's start, with what its phis take on an edge from a block of this label put in.
+fn move_term<'a>(
+    moved: &mut Sum<'a>,
+    name: &'a str,
+    coefficient: i128,
+    label: &Name,
+    phis: &'a [Phi],
+) -> Result<(), AllocError> {
+    match phi_value(phis, name, label) {
+        Some(value) => moved.add_operand(value, coefficient),
+        None => moved.add_term(name, coefficient),
+    }
+}
+
+fn move_terms<'a>(
+    moved: &mut Sum<'a>,
     sum: &Sum<'a>,
     label: &Name,
     phis: &'a [Phi],
-) -> Result<Sum<'a>, AllocError> {
-    let mut moved = Sum::number(alloc, sum.constant);
-    for (name, coefficient) in &sum.terms()? {
-        match phi_value(phis, name, label) {
-            Some(value) => {
-                let value = Sum::of_operand(alloc, value)?;
-                moved.add(&value, *coefficient)?;
-            }
-            None => moved.add_term(name, *coefficient)?,
+) -> Result<(), AllocError> {
+    for (name, coefficient) in &sum.terms {
+        if *coefficient != 0 {
+            move_term(moved, name, *coefficient, label, phis)?;
         }
     }
-    Ok(moved)
-}
-
-/// A sum at the end of a block, at its start: what the instructions define is replaced by what it is made of. None where that is no sum.
-fn drawn_back<'a>(
-    alloc: Global,
-    mut sum: Sum<'a>,
-    steps: &'a [Step],
-) -> Result<Option<Sum<'a>>, AllocError> {
-    for index in (0..steps.len()).rev() {
-        if !put_in(alloc, &mut sum, &steps[index].instruction)? {
-            return Ok(None);
-        }
-    }
-    Ok(Some(sum))
+    Ok(())
 }
 
 /// Puts in what an instruction's register is made of, if the sum has it; whether the sum is still one.
@@ -122,26 +123,48 @@ fn put_in<'a>(
     instruction: &'a Instruction,
 ) -> Result<bool, AllocError> {
     match register_of(instruction) {
-        Some(name) if sum.has(name) => match definition_of(alloc, instruction)? {
-            Some(value) => {
-                sum.put(name, &value)?;
-                Ok(true)
-            }
-            None => Ok(false),
-        },
+        Some(name) if sum.has(name) => put_definition(alloc, sum, name, instruction),
         _ => Ok(true),
     }
 }
 
-/// A sum at a block's start, at the start of another from which an edge leads there.
-fn along<'a>(
+fn put_definition<'a>(
     alloc: Global,
+    sum: &mut Sum<'a>,
+    name: &str,
+    instruction: &'a Instruction,
+) -> Result<bool, AllocError> {
+    match definition_of(alloc, instruction)? {
+        Some(value) => {
+            sum.put(name, &value)?;
+            Ok(true)
+        }
+        None => Ok(false),
+    }
+}
+
+/// Makes a sum at the end of a block one at its start: what the instructions define is replaced by what it is made of. Whether it is still
+/// a sum.
+fn draw_back<'a>(alloc: Global, sum: &mut Sum<'a>, steps: &'a [Step]) -> Result<bool, AllocError> {
+    for index in (0..steps.len()).rev() {
+        if !put_in(alloc, sum, &steps[index].instruction)? {
+            return Ok(false);
+        }
+    }
+    Ok(true)
+}
+
+/// Adds to nothing a sum at a block's start, as it is at the start of another from which an edge leads there. Whether it is still a sum.
+fn add_along<'a>(
+    alloc: Global,
+    moved: &mut Sum<'a>,
     sum: &Sum<'a>,
     from: &'a Block,
     phis: &'a [Phi],
-) -> Result<Option<Sum<'a>>, AllocError> {
-    let moved = moved(alloc, sum, &from.label, phis)?;
-    drawn_back(alloc, moved, from.steps.as_slice())
+) -> Result<bool, AllocError> {
+    moved.add_number(sum.constant);
+    move_terms(moved, sum, &from.label, phis)?;
+    draw_back(alloc, moved, from.steps.as_slice())
 }
 
 /// What a block needs that has these phis, at the start of another from which an edge leads there.
@@ -151,134 +174,161 @@ fn need_along<'a>(
     from: &'a Block,
     phis: &'a [Phi],
 ) -> Result<Option<Need<'a>>, AllocError> {
-    let Some(calls) = along(alloc, &left.calls, from, phis)? else {
-        return Ok(None);
-    };
-    let Some(instructions) = along(alloc, &left.instructions, from, phis)? else {
-        return Ok(None);
-    };
-    Ok(Some(Need {
-        calls,
-        instructions,
-    }))
+    let mut need = Need::none(alloc);
+    let is_known = add_along(alloc, &mut need.calls, &left.calls, from, phis)?
+        && add_along(
+            alloc,
+            &mut need.instructions,
+            &left.instructions,
+            from,
+            phis,
+        )?;
+    Ok(if is_known { Some(need) } else { None })
 }
 
-/// What is needed along one more edge of a block: at a detach in both targets together, else in that which needs most.
-fn joined<'a>(
-    known: &Known<'a>,
-    edge: Edge<'a>,
-    mut before: Need<'a>,
-    next: &Need<'a>,
-) -> Result<Need<'a>, AllocError> {
-    if matches!(edge.way, Way::Continued(_)) {
-        before.add(next)?;
-        return Ok(before);
-    }
-    Ok(Need {
-        calls: known.greater(edge.from, &before.calls, &next.calls)?,
-        instructions: known.greater(edge.from, &before.instructions, &next.instructions)?,
-    })
-}
-
-impl<'a> World<'_, 'a> {
+impl<'a> Finder<'_, 'a> {
     /// What the target of an edge needs, at the start of the block where the edge begins.
-    fn behind(
-        self,
-        lefts: &[Option<Need<'a>>],
-        edge: Edge<'a>,
-    ) -> Result<Option<Need<'a>>, AllocError> {
-        let blocks = self.function.blocks.as_slice();
-        if edge.from >= blocks.len() || edge.to >= blocks.len() || edge.to >= lefts.len() {
+    fn behind(&self, edge: Edge<'a>) -> Result<Option<Need<'a>>, AllocError> {
+        let blocks = self.known.function.blocks.as_slice();
+        if edge.from >= blocks.len() || edge.to >= blocks.len() || edge.to >= self.lefts.len() {
             return Ok(None);
         }
-        match &lefts[edge.to] {
-            Some(left) => need_along(
-                self.alloc,
-                left,
-                &blocks[edge.from],
-                blocks[edge.to].phis.as_slice(),
-            ),
+        match &self.lefts[edge.to] {
+            Some(left) => {
+                let phis = blocks[edge.to].phis.as_slice();
+                need_along(self.known.alloc, left, &blocks[edge.from], phis)
+            }
             None => Ok(None),
         }
     }
 
-    /// What is needed behind all edges of a block. None where a target's need is not known.
-    fn behind_all(
-        self,
-        lefts: &[Option<Need<'a>>],
-        block: usize,
-    ) -> Result<Option<Need<'a>>, AllocError> {
-        let mut all: Option<Need<'a>> = None;
-        for edge in self.edges {
-            if edge.from == block {
-                let Some(next) = self.behind(lefts, *edge)? else {
-                    return Ok(None);
-                };
-                all = Some(match all {
-                    None => next,
-                    Some(before) => joined(self.known, *edge, before, &next)?,
-                });
-            }
+    /// Joins what is needed along one more edge: at a detach that of both targets together, else of that which needs most. Whether it
+    /// is known.
+    fn join(&self, edge: Edge<'a>, is_first: bool, all: &mut Need<'a>) -> Result<bool, AllocError> {
+        let Some(next) = self.behind(edge)? else {
+            return Ok(false);
+        };
+        if is_first || matches!(edge.way, Way::Continued(_)) {
+            all.add(&next)?;
+        } else {
+            all.raise(self.known, edge.from, &next)?;
         }
-        match all {
-            None => Ok(Some(Need::numbers(self.alloc, 0, 0))),
-            some => Ok(some),
-        }
+        Ok(true)
     }
 
-    /// What the block itself does.
-    fn work(self, block: usize) -> Need<'a> {
-        let steps = steps_at(self.function, block);
-        work_of(self.alloc, steps, &self.function.name, self.costs)
+    /// Joins what is needed behind all edges of a block to nothing. Whether it is known.
+    fn join_all(&self, block: usize, all: &mut Need<'a>) -> Result<bool, AllocError> {
+        let mut is_first = true;
+        for edge in &self.known.edges {
+            if edge.from == block {
+                if !self.join(*edge, is_first, all)? {
+                    return Ok(false);
+                }
+                is_first = false;
+            }
+        }
+        Ok(true)
     }
 
     /// What a block needs. None where that is not known, or no form of its start's registers.
-    fn need(
-        self,
-        lefts: &[Option<Need<'a>>],
-        block: usize,
-    ) -> Result<Option<Need<'a>>, AllocError> {
-        match self.behind_all(lefts, block)? {
-            Some(behind) => behind.with_work(&self.work(block)),
-            None => Ok(None),
+    fn need(&self, block: usize) -> Result<Option<Need<'a>>, AllocError> {
+        let mut need = Need::none(self.known.alloc);
+        let is_known = self.join_all(block, &mut need)?;
+        let function = self.known.function;
+        need.add_steps(steps_at(function, block), &function.name, self.costs);
+        Ok(if is_known && need.is_form() {
+            Some(need)
+        } else {
+            None
+        })
+    }
+
+    /// Finds what a block needs, if that is not known yet; whether it was found.
+    fn draw(&mut self, block: usize) -> Result<bool, AllocError> {
+        if block >= self.lefts.len() || self.lefts[block].is_some() {
+            return Ok(false);
         }
+        let need = self.need(block)?;
+        let is_new = need.is_some();
+        self.lefts[block] = need;
+        Ok(is_new)
+    }
+
+    /// One round over the blocks, the last one first; whether a need was found.
+    fn draw_all(&mut self) -> Result<bool, AllocError> {
+        let mut is_new = false;
+        for block in (0..self.lefts.len()).rev() {
+            if self.draw(block)? {
+                is_new = true;
+            }
+        }
+        Ok(is_new)
+    }
+
+    /// Finds what follows from the ends back.
+    fn draw_down(&mut self) -> Result<(), AllocError> {
+        for _round in 0..self.lefts.len() {
+            if !self.draw_all()? {
+                return Ok(());
+            }
+        }
+        Ok(())
+    }
+
+    /// Begins with what the lines of the blocks say.
+    fn begin(&mut self) -> Result<(), AllocError> {
+        for block in self.known.function.blocks.as_slice() {
+            let given = given(self.known.alloc, block)?;
+            self.lefts.push(given)?;
+        }
+        Ok(())
     }
 }
 
-/// The sum that an instruction makes, but for what its width cannot hold; none where it makes no sum.
+/// How often an operator's left and right operand stand in the sum that it makes, but for what its width cannot hold; none where it makes
+/// no sum.
+fn times_of(operator: BinaryOperator, right: &Operand) -> Option<(i128, i128)> {
+    match operator {
+        BinaryOperator::Add | BinaryOperator::AddNoWrap => Some((1, 1)),
+        BinaryOperator::Subtract | BinaryOperator::SubtractNoWrap => Some((1, -1)),
+        BinaryOperator::Multiply | BinaryOperator::MultiplyNoWrap => match right {
+            Operand::Number(number) => Some((i128::from(*number), 0)),
+            Operand::Register(_) => None,
+        },
+        _ => None,
+    }
+}
+
+/// The sum that an operator makes; none where it makes no sum.
+fn combined<'a>(
+    alloc: Global,
+    operator: BinaryOperator,
+    left: &'a Operand,
+    right: &'a Operand,
+) -> Result<Option<Sum<'a>>, AllocError> {
+    let Some((of_left, of_right)) = times_of(operator, right) else {
+        return Ok(None);
+    };
+    let mut sum = Sum::number(alloc, 0);
+    sum.add_operand(left, of_left)?;
+    sum.add_operand(right, of_right)?;
+    Ok(Some(sum))
+}
+
+/// The sum that an instruction makes; none where it makes no sum.
 pub fn definition_of<'a>(
     alloc: Global,
     instruction: &'a Instruction,
 ) -> Result<Option<Sum<'a>>, AllocError> {
-    let Instruction::Binary {
-        operator,
-        left,
-        right,
-        ..
-    } = instruction
-    else {
-        return Ok(None);
-    };
-    let left = Sum::of_operand(alloc, left)?;
-    let right = Sum::of_operand(alloc, right)?;
-    match operator {
-        BinaryOperator::Add | BinaryOperator::AddNoWrap => combined(left, &right, 1),
-        BinaryOperator::Subtract | BinaryOperator::SubtractNoWrap => combined(left, &right, -1),
-        BinaryOperator::Multiply | BinaryOperator::MultiplyNoWrap if right.is_number() => {
-            combined(Sum::number(alloc, 0), &left, right.constant)
-        }
+    match instruction {
+        Instruction::Binary {
+            operator,
+            left,
+            right,
+            ..
+        } => combined(alloc, *operator, left, right),
         _ => Ok(None),
     }
-}
-
-/// A sum and so many times another.
-fn combined<'a>(
-    mut sum: Sum<'a>,
-    other: &Sum<'a>,
-    times: i128,
-) -> Result<Option<Sum<'a>>, AllocError> {
-    sum.add(other, times)?;
-    Ok(Some(sum))
 }
 
 /// The `left` line of a block, where it has one.
@@ -287,45 +337,23 @@ fn given<'a>(alloc: Global, block: &'a Block) -> Result<Option<Need<'a>>, AllocE
     if left.line == block.line {
         return Ok(None);
     }
-    Ok(Some(Need {
-        calls: Sum::of_form(alloc, &left.self_calls)?,
-        instructions: Sum::of_form(alloc, &left.instructions)?,
-    }))
-}
-
-/// What the lines of the blocks say.
-fn all_given<'a>(alloc: Global, blocks: &'a [Block]) -> Result<Vec<Option<Need<'a>>>, AllocError> {
-    let mut lefts = Vec::new(alloc);
-    for block in blocks {
-        lefts.push(given(alloc, block)?)?;
-    }
-    Ok(lefts)
+    let mut need = Need::none(alloc);
+    need.calls.add_form(&left.self_calls, 1)?;
+    need.instructions.add_form(&left.instructions, 1)?;
+    Ok(Some(need))
 }
 
 /// What each block needs: what its line says, and where it has none what follows, from the ends back. None where that is not known.
-pub fn needs_of<'a>(world: World<'_, 'a>) -> Result<Vec<Option<Need<'a>>>, AllocError> {
-    let mut lefts = all_given(world.alloc, world.function.blocks.as_slice())?;
-    for _round in 0..lefts.len() {
-        if !draw_back(world, &mut lefts)? {
-            break;
-        }
-    }
-    Ok(lefts)
-}
-
-/// One round over the blocks, the last one first; whether a need was found.
-fn draw_back<'a>(
-    world: World<'_, 'a>,
-    lefts: &mut Vec<Option<Need<'a>>>,
-) -> Result<bool, AllocError> {
-    let mut is_new = false;
-    for block in (0..lefts.len()).rev() {
-        if block < lefts.len() && lefts[block].is_none() {
-            if let Some(need) = world.need(lefts.as_slice(), block)? {
-                lefts[block] = Some(need);
-                is_new = true;
-            }
-        }
-    }
-    Ok(is_new)
+pub fn needs_of<'a>(
+    known: &Known<'a>,
+    costs: &[(&'a str, u128)],
+) -> Result<Vec<Option<Need<'a>>>, AllocError> {
+    let mut finder = Finder {
+        known,
+        costs,
+        lefts: Vec::new(known.alloc),
+    };
+    finder.begin()?;
+    finder.draw_down()?;
+    Ok(finder.lefts)
 }

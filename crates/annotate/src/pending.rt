@@ -1,6 +1,6 @@
 //! The zones that children may still touch where a block begins, because they are handed on to it.
 
-use crate::edge::{Edge, Way};
+use crate::edge::{Edge, Way, edges_of};
 use crate::keep::names_own;
 use crate::sum::Sum;
 use lists::Name;
@@ -30,25 +30,28 @@ fn is_same_object(one: &Address, other: &Address) -> bool {
 
 /// Whether two forms are the same number whatever the registers hold.
 fn are_same(alloc: Global, one: &Form, other: &Form) -> Result<bool, AllocError> {
-    let one = Sum::of_form(alloc, one)?;
-    let other = Sum::of_form(alloc, other)?;
-    one.is_same(&other)
+    let mut difference = Sum::of_form(alloc, one)?;
+    difference.add_form(other, -1)?;
+    Ok(difference.is_zero())
 }
 
 /// Whether a form names a register that the block defines.
 fn form_names_own(alloc: Global, block: &Block, form: &Form) -> Result<bool, AllocError> {
     let sum = Sum::of_form(alloc, form)?;
-    names_own(block, &sum)
+    Ok(names_own(block, &sum))
 }
 
 impl<'a> Handed<'a> {
     /// Whether the block itself says what is pending of the region's object.
     fn is_told(self, block: &Block) -> bool {
-        let all = block.notes.pending.as_slice();
-        all.iter().any(|pending| {
-            pending.region.as_str() == self.region
+        for pending in block.notes.pending.as_slice() {
+            if pending.region.as_str() == self.region
                 && is_same_object(&pending.zone.object, &self.zone.object)
-        })
+            {
+                return true;
+            }
+        }
+        false
     }
 
     /// Whether both are of one region and zone.
@@ -86,76 +89,118 @@ fn goes_on(way: Way<'_>, region: &str) -> bool {
 #[derive(Drop)]
 pub struct Waiting<'a> {
     alloc: Global,
+    function: &'a Function,
+    edges: Vec<Edge<'a>>,
     pub handed: Vec<Vec<Handed<'a>>>,
 }
 
 impl<'a> Waiting<'a> {
-    fn is_put(&self, block: usize, next: Handed<'a>) -> Result<bool, AllocError> {
-        if let Some(handed) = self.handed.as_slice().get(block) {
-            for other in handed {
-                if other.is_same(self.alloc, next)? {
-                    return Ok(true);
-                }
-            }
-        }
-        Ok(false)
-    }
-
     /// Hands a zone on to a block; whether that is new.
-    fn put(
-        &mut self,
-        function: &'a Function,
-        to: usize,
-        next: Handed<'a>,
-    ) -> Result<bool, AllocError> {
-        let blocks = function.blocks.as_slice();
+    fn put(&mut self, to: usize, next: Handed<'a>) -> Result<bool, AllocError> {
+        let blocks = self.function.blocks.as_slice();
         if to >= blocks.len() || to >= self.handed.len() {
             return Ok(false);
         }
-        if self.is_kept_out(&blocks[to], next)? || self.is_put(to, next)? {
+        if is_kept_out(self.alloc, &blocks[to], next)?
+            || is_put(self.alloc, self.handed[to].as_slice(), next)?
+        {
             return Ok(false);
         }
-        push_handed(&mut self.handed[to], next)?;
+        self.handed[to].push(next)?;
         Ok(true)
     }
 
-    /// Whether the block says itself what is pending there, or a register of the zone is another one there.
-    fn is_kept_out(&self, block: &Block, next: Handed<'a>) -> Result<bool, AllocError> {
-        Ok(next.is_told(block) || next.is_renamed(self.alloc, block)?)
+    /// Adds the feet of the children that a block detaches.
+    fn push_feet(
+        &self,
+        along: &mut Vec<Handed<'a>>,
+        from: usize,
+        region: &'a str,
+    ) -> Result<(), AllocError> {
+        for edge in &self.edges {
+            if edge.from == from && matches!(edge.way, Way::Detached) {
+                push_foot(along, region, foot_at(self.function, edge.to))?;
+            }
+        }
+        Ok(())
     }
 
-    /// All zones that are pending where a block begins.
-    fn waiting_at(
-        &self,
-        function: &'a Function,
-        block: usize,
-    ) -> Result<Vec<Handed<'a>>, AllocError> {
-        let mut waiting = Vec::new(self.alloc);
-        for pending in pending_at(function, block) {
-            let region = pending.region.as_str();
-            let zone = &pending.zone;
-            push_handed(&mut waiting, Handed { region, zone })?;
+    /// Adds the zones that go on along an edge.
+    fn push_along(&self, along: &mut Vec<Handed<'a>>, edge: Edge<'a>) -> Result<(), AllocError> {
+        push_pending(along, edge.way, pending_at(self.function, edge.from))?;
+        if edge.from < self.handed.len() {
+            push_handed(along, edge.way, self.handed[edge.from].as_slice())?;
         }
-        if block < self.handed.len() {
-            push_all_handed(&mut waiting, self.handed[block].as_slice())?;
-        }
-        Ok(waiting)
-    }
-
-    /// The zones that go on along an edge.
-    fn along(
-        &self,
-        function: &'a Function,
-        edges: &[Edge<'a>],
-        edge: Edge<'a>,
-    ) -> Result<Vec<Handed<'a>>, AllocError> {
-        let mut along = self.waiting_at(function, edge.from)?;
-        along.retain(|handed| goes_on(edge.way, handed.region));
         if let Way::Continued(region) = edge.way {
-            push_feet(&mut along, function, edges, edge.from, region)?;
+            self.push_feet(along, edge.from, region)?;
         }
-        Ok(along)
+        Ok(())
     }
+
+    /// Hands zones on to a block; whether one of them was new.
+    fn put_all(&mut self, to: usize, along: &[Handed<'a>]) -> Result<bool, AllocError> {
+        let mut is_new = false;
+        for next in along {
+            if self.put(to, *next)? {
+                is_new = true;
+            }
+        }
+        Ok(is_new)
+    }
+
+    /// Hands on what goes along the edge of this number; whether something was new.
+    fn hand_on(&mut self, number: usize) -> Result<bool, AllocError> {
+        if number >= self.edges.len() {
+            return Ok(false);
+        }
+        let edge = self.edges[number];
+        let mut along = Vec::new(self.alloc);
+        self.push_along(&mut along, edge)?;
+        self.put_all(edge.to, along.as_slice())
+    }
+
+    /// One round along all edges; whether something was new.
+    fn hand_all_on(&mut self) -> Result<bool, AllocError> {
+        let mut is_new = false;
+        for number in 0..self.edges.len() {
+            if self.hand_on(number)? {
+                is_new = true;
+            }
+        }
+        Ok(is_new)
+    }
+
+    /// Round after round until nothing is new.
+    fn hand_down(&mut self) -> Result<(), AllocError> {
+        for _round in 0..self.handed.len() {
+            if !self.hand_all_on()? {
+                return Ok(());
+            }
+        }
+        Ok(())
+    }
+
+    /// Begins with nothing at each block.
+    fn begin(&mut self) -> Result<(), AllocError> {
+        for _block in self.function.blocks.as_slice() {
+            self.handed.push(Vec::new(self.alloc))?;
+        }
+        Ok(())
+    }
+}
+
+/// Whether a block says itself what is pending there, or a register of the zone is another one there.
+fn is_kept_out(alloc: Global, block: &Block, next: Handed<'_>) -> Result<bool, AllocError> {
+    Ok(next.is_told(block) || next.is_renamed(alloc, block)?)
+}
+
+fn is_put<'a>(alloc: Global, handed: &[Handed<'a>], next: Handed<'a>) -> Result<bool, AllocError> {
+    for other in handed {
+        if other.is_same(alloc, next)? {
+            return Ok(true);
+        }
+    }
+    Ok(false)
 }
 
 /// The zones that a block says are pending where it begins.
@@ -178,29 +223,29 @@ fn foot_at(function: &Function, block: usize) -> &[Zone] {
     }
 }
 
-fn push_handed<'a>(all: &mut Vec<Handed<'a>>, next: Handed<'a>) -> Result<(), AllocError> {
-    all.push(next)?;
-    Ok(())
-}
-
-fn push_all_handed<'a>(all: &mut Vec<Handed<'a>>, more: &[Handed<'a>]) -> Result<(), AllocError> {
-    for next in more {
-        push_handed(all, *next)?;
+fn push_pending<'a>(
+    along: &mut Vec<Handed<'a>>,
+    way: Way<'a>,
+    all: &'a [Pending],
+) -> Result<(), AllocError> {
+    for pending in all {
+        let region = pending.region.as_str();
+        if goes_on(way, region) {
+            let zone = &pending.zone;
+            along.push(Handed { region, zone })?;
+        }
     }
     Ok(())
 }
 
-/// Adds the foot of the child that a block detaches.
-fn push_feet<'a>(
+fn push_handed<'a>(
     along: &mut Vec<Handed<'a>>,
-    function: &'a Function,
-    edges: &[Edge<'a>],
-    from: usize,
-    region: &'a str,
+    way: Way<'a>,
+    all: &[Handed<'a>],
 ) -> Result<(), AllocError> {
-    for edge in edges {
-        if edge.from == from && matches!(edge.way, Way::Detached) {
-            push_foot(along, region, foot_at(function, edge.to))?;
+    for next in all {
+        if goes_on(way, next.region) {
+            along.push(*next)?;
         }
     }
     Ok(())
@@ -212,47 +257,21 @@ fn push_foot<'a>(
     foot: &'a [Zone],
 ) -> Result<(), AllocError> {
     for zone in foot {
-        push_handed(along, Handed { region, zone })?;
+        along.push(Handed { region, zone })?;
     }
     Ok(())
 }
 
 /// What is handed on along the edges of a function, again and again until nothing is new.
-pub fn waiting_of<'a>(
-    alloc: Global,
-    function: &'a Function,
-    edges: &[Edge<'a>],
-) -> Result<Waiting<'a>, AllocError> {
-    let blocks = function.blocks.as_slice();
+pub fn waiting_of<'a>(alloc: Global, function: &'a Function) -> Result<Waiting<'a>, AllocError> {
+    let edges = edges_of(alloc, function)?;
     let mut waiting = Waiting {
         alloc,
+        function,
+        edges,
         handed: Vec::new(alloc),
     };
-    for _block in blocks {
-        waiting.handed.push(Vec::new(alloc))?;
-    }
-    for _round in 0..blocks.len() {
-        if !hand_on(&mut waiting, function, edges)? {
-            break;
-        }
-    }
+    waiting.begin()?;
+    waiting.hand_down()?;
     Ok(waiting)
-}
-
-/// One round along all edges; whether something was new.
-fn hand_on<'a>(
-    waiting: &mut Waiting<'a>,
-    function: &'a Function,
-    edges: &[Edge<'a>],
-) -> Result<bool, AllocError> {
-    let mut is_new = false;
-    for edge in edges {
-        let along = waiting.along(function, edges, *edge)?;
-        for next in &along {
-            if waiting.put(function, edge.to, *next)? {
-                is_new = true;
-            }
-        }
-    }
-    Ok(is_new)
 }

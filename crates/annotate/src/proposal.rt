@@ -1,10 +1,9 @@
 //! The lines that are put in.
 
 use crate::budget::{Total, cost_of, given, total_of};
-use crate::edge::{Edge, edges_of};
 use crate::keep::{Known, known_of};
-use crate::left::{Need, World, needs_of};
-use crate::pending::{Handed, Waiting, waiting_of};
+use crate::left::{Need, needs_of};
+use crate::pending::{Handed, waiting_of};
 use crate::sum::Sum;
 use ir_annotation::push_zone;
 use ir_reader::read;
@@ -32,6 +31,20 @@ struct Draft<'a> {
     costs: Vec<(&'a str, u128)>,
 }
 
+fn push_keep(out: &mut String, fact: &Sum<'_>) -> Result<(), AllocError> {
+    out.push_str("  ;! keeps ")?;
+    fact.spell_inequality(out)?;
+    out.push_str("\n")
+}
+
+/// Whether a fact is known at a block, but not by its head or by a fact that says more.
+fn is_kept<'a>(known: &Known<'a>, index: usize, number: usize, fact: &Sum<'a>) -> bool {
+    known.is_known(index, number)
+        && !known.is_given(index, number)
+        && fact.is_form()
+        && !known.is_weaker(index, fact)
+}
+
 /// Adds the facts that are known at a block and not stated there, as many as there is room for.
 fn push_keeps(
     out: &mut String,
@@ -40,26 +53,29 @@ fn push_keeps(
     block: &Block,
 ) -> Result<(), AllocError> {
     let mut lines = block.notes.keeps.len();
-    for (number, fact) in known.facts.sums.iter().enumerate() {
-        let is_new = known.is_known(index, number) && !known.is_given(index, number);
-        if is_new && fact.is_form() && lines < MOST_LINES && !known.is_weaker(index, fact)? {
-            out.push_str("  ;! keeps ")?;
-            fact.spell_inequality(out)?;
-            out.push_str("\n")?;
+    for number in 0..known.facts.sums.len() {
+        let fact = &known.facts.sums[number];
+        if lines < MOST_LINES && is_kept(known, index, number, fact) {
+            push_keep(out, fact)?;
             lines = lines.saturating_add(1);
         }
     }
     Ok(())
 }
 
+fn push_handed(out: &mut String, handed: Handed<'_>) -> Result<(), AllocError> {
+    out.push_str("  ;! pending %")?;
+    out.push_str(handed.region)?;
+    out.push_str(" ")?;
+    push_zone(out, handed.zone)?;
+    out.push_str("\n")
+}
+
 fn push_pending(out: &mut String, handed: &[Handed<'_>], block: &Block) -> Result<(), AllocError> {
     let mut lines = block.notes.pending.len();
     for next in handed {
         if lines < MOST_LINES {
-            let region = next.region;
-            write!(out, "  ;! pending %{region} ")?;
-            push_zone(out, next.zone)?;
-            out.push_str("\n")?;
+            push_handed(out, *next)?;
             lines = lines.saturating_add(1);
         }
     }
@@ -77,19 +93,43 @@ fn push_left(out: &mut String, block: &Block, need: &Need<'_>) -> Result<(), All
     out.push_str("\n")
 }
 
-/// What a function's head states of its parameters.
-fn requirements_of<'a>(alloc: Global, function: &'a Function) -> Result<Vec<Sum<'a>>, AllocError> {
-    let mut facts = Vec::new(alloc);
+fn push_budget(out: &mut String, total: Total) -> Result<(), AllocError> {
+    let calls = total.self_calls;
+    let instructions = total.instructions;
+    write!(out, "  ;! budget {calls} {instructions}\n")
+}
+
+/// Adds the lines for the head of a block. What an entry knows stands at the function's head already.
+fn push_head(
+    out: &mut String,
+    known: &Known<'_>,
+    handed: &[Handed<'_>],
+    needs: &[Option<Need<'_>>],
+    index: usize,
+    block: &Block,
+) -> Result<(), AllocError> {
+    if index != 0 {
+        push_keeps(out, known, index, block)?;
+    }
+    push_pending(out, handed, block)?;
+    if index < needs.len() {
+        if let Some(need) = &needs[index] {
+            push_left(out, block, need)?;
+        }
+    }
+    Ok(())
+}
+
+/// Adds what a function's head states of its parameters.
+fn push_requirements<'a>(
+    facts: &mut Vec<Sum<'a>>,
+    alloc: Global,
+    function: &'a Function,
+) -> Result<(), AllocError> {
     for inequality in function.notes.requirements.as_slice() {
         facts.push(Sum::of_inequality(alloc, inequality)?)?;
     }
-    Ok(facts)
-}
-
-fn budget_line(alloc: Global, total: Total) -> Result<String, AllocError> {
-    let calls = total.self_calls;
-    let instructions = total.instructions;
-    format!(in alloc; "  ;! budget {calls} {instructions}\n")
+    Ok(())
 }
 
 impl<'a> Draft<'a> {
@@ -100,17 +140,23 @@ impl<'a> Draft<'a> {
         Ok(())
     }
 
+    fn propose_total(&mut self, behind: u32, total: Total) -> Result<(), AllocError> {
+        let mut line = String::new(self.alloc);
+        push_budget(&mut line, total)?;
+        self.propose(behind, line)
+    }
+
     /// Proposes the budget that covers what is left at the entry, if there is one.
     fn propose_budget(
         &mut self,
         function: &'a Function,
         entry: &Need<'a>,
     ) -> Result<Option<Total>, AllocError> {
-        let facts = requirements_of(self.alloc, function)?;
+        let mut facts = Vec::new(self.alloc);
+        push_requirements(&mut facts, self.alloc, function)?;
         let total = total_of(facts.as_slice(), entry)?;
         if let Some(new) = total {
-            let line = budget_line(self.alloc, new)?;
-            self.propose(function.line, line)?;
+            self.propose_total(function.line, new)?;
         }
         Ok(total)
     }
@@ -142,96 +188,90 @@ impl<'a> Draft<'a> {
     }
 
     fn add_function(&mut self, function: &'a Function) -> Result<(), AllocError> {
-        let edges = edges_of(self.alloc, function)?;
-        let known = known_of(self.alloc, function, edges.as_slice())?;
-        let needs = self.needs(function, edges.as_slice(), &known)?;
-        self.add_lines(function, edges.as_slice(), &known, needs.as_slice())
+        let known = known_of(self.alloc, function)?;
+        self.add_known(&known)
     }
 
-    /// What each block of a function needs.
-    fn needs(
-        &self,
-        function: &'a Function,
-        edges: &[Edge<'a>],
-        known: &Known<'a>,
-    ) -> Result<Vec<Option<Need<'a>>>, AllocError> {
-        needs_of(World {
-            alloc: self.alloc,
-            function,
-            edges,
-            known,
-            costs: self.costs.as_slice(),
-        })
+    /// Proposes the lines for a function in which this is known.
+    fn add_known(&mut self, known: &Known<'a>) -> Result<(), AllocError> {
+        let needs = needs_of(known, self.costs.as_slice())?;
+        self.add_lines(known, needs.as_slice())
     }
 
     fn add_lines(
         &mut self,
-        function: &'a Function,
-        edges: &[Edge<'a>],
         known: &Known<'a>,
         needs: &[Option<Need<'a>>],
     ) -> Result<(), AllocError> {
         if let [entry, ..] = needs {
-            self.add_budget(function, entry)?;
+            self.add_budget(known.function, entry)?;
         }
-        let waiting = waiting_of(self.alloc, function, edges)?;
-        self.add_heads(function, known, &waiting, needs)
+        let waiting = waiting_of(self.alloc, known.function)?;
+        self.add_heads(known, needs, waiting.handed.as_slice())
     }
 
     /// Proposes the lines for the heads of the blocks.
     fn add_heads(
         &mut self,
-        function: &'a Function,
         known: &Known<'a>,
-        waiting: &Waiting<'a>,
         needs: &[Option<Need<'a>>],
+        handed: &[Vec<Handed<'a>>],
     ) -> Result<(), AllocError> {
-        for (index, block) in function.blocks.as_slice().iter().enumerate() {
-            let lines = self.block_lines(known, waiting, needs, index, block)?;
-            self.propose(block.line, lines)?;
+        let blocks = known.function.blocks.as_slice();
+        for index in 0..blocks.len() {
+            if index < handed.len() {
+                self.add_head(
+                    known,
+                    handed[index].as_slice(),
+                    needs,
+                    index,
+                    &blocks[index],
+                )?;
+            }
         }
         Ok(())
     }
 
-    /// The lines for the head of a block. What an entry knows stands at the function's head already.
-    fn block_lines(
-        &self,
+    fn add_head(
+        &mut self,
         known: &Known<'a>,
-        waiting: &Waiting<'a>,
+        handed: &[Handed<'a>],
         needs: &[Option<Need<'a>>],
         index: usize,
         block: &Block,
-    ) -> Result<String, AllocError> {
+    ) -> Result<(), AllocError> {
         let mut lines = String::new(self.alloc);
-        if index != 0 {
-            push_keeps(&mut lines, known, index, block)?;
-        }
-        if let Some(handed) = waiting.handed.as_slice().get(index) {
-            push_pending(&mut lines, handed.as_slice(), block)?;
-        }
-        if let Some(Some(need)) = needs.get(index) {
-            push_left(&mut lines, block, need)?;
-        }
-        Ok(lines)
+        push_head(&mut lines, known, handed, needs, index, block)?;
+        self.propose(block.line, lines)
     }
 
-    /// The text with the lines put in.
-    fn put_in(&self, text: &str) -> Result<String, AllocError> {
-        let mut out = String::new(self.alloc);
+    fn add_functions(&mut self, functions: &'a [Function]) -> Result<(), AllocError> {
+        for function in functions {
+            self.add_function(function)?;
+        }
+        Ok(())
+    }
+
+    /// Adds the lines of the proposal of this index if they belong behind this line of the text; the index of the one that comes next.
+    fn put_behind(&self, out: &mut String, number: u32, index: usize) -> Result<usize, AllocError> {
+        if index < self.proposals.len() && self.proposals[index].behind == number {
+            out.push_str(self.proposals[index].lines.as_str())?;
+            return Ok(index.saturating_add(1));
+        }
+        Ok(index)
+    }
+
+    /// Adds the text with the lines put in.
+    fn put_in(&self, out: &mut String, text: &str) -> Result<(), AllocError> {
         let mut number = 0u32;
-        let mut rest = self.proposals.as_slice();
+        let mut index = 0usize;
         for line in text.lines() {
             number = number.saturating_add(1);
             out.push_str(line)?;
             out.push_str("\n")?;
-            if let [first, after @ ..] = rest {
-                if first.behind == number {
-                    out.push_str(first.lines.as_str())?;
-                    rest = after;
-                }
-            }
+            index = self.put_behind(out, number, index)?;
         }
-        Ok(out)
+        Ok(())
     }
 }
 
@@ -242,10 +282,10 @@ fn with_lines(alloc: Global, module: &Module, text: &str) -> Result<String, Allo
         proposals: Vec::new(alloc),
         costs: Vec::new(alloc),
     };
-    for function in module.functions.as_slice() {
-        draft.add_function(function)?;
-    }
-    draft.put_in(text)
+    draft.add_functions(module.functions.as_slice())?;
+    let mut out = String::new(alloc);
+    draft.put_in(&mut out, text)?;
+    Ok(out)
 }
 
 /// A module's text with lines put in that follow from others; none is changed or taken away, and a last line without an end gets one. The

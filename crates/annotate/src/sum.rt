@@ -7,7 +7,8 @@ use syntax::{Form, Inequality, Operand, Relation};
 #[derive(Drop)]
 pub struct Sum<'a> {
     alloc: Global,
-    terms: Vec<(&'a str, i128)>,
+    /// Some coefficients may be 0.
+    pub terms: Vec<(&'a str, i128)>,
     pub constant: i128,
 }
 
@@ -28,43 +29,35 @@ impl<'a> Sum<'a> {
     }
 
     pub fn of_form(alloc: Global, form: &'a Form) -> Result<Sum<'a>, AllocError> {
-        let mut sum = Sum::number(alloc, i128::from(form.constant));
-        for term in form.terms.as_slice() {
-            sum.add_term(term.register.as_str(), i128::from(term.coefficient))?;
-        }
-        Ok(sum)
-    }
-
-    pub fn of_register(alloc: Global, name: &'a str) -> Result<Sum<'a>, AllocError> {
         let mut sum = Sum::number(alloc, 0);
-        sum.add_term(name, 1)?;
+        sum.add_form(form, 1)?;
         Ok(sum)
     }
 
     pub fn of_operand(alloc: Global, operand: &'a Operand) -> Result<Sum<'a>, AllocError> {
-        match operand {
-            Operand::Number(number) => Ok(Sum::number(alloc, i128::from(*number))),
-            Operand::Register(name) => Sum::of_register(alloc, name.as_str()),
-        }
+        let mut sum = Sum::number(alloc, 0);
+        sum.add_operand(operand, 1)?;
+        Ok(sum)
     }
 
     /// What an inequality says is at least 0.
     pub fn of_inequality(alloc: Global, inequality: &'a Inequality) -> Result<Sum<'a>, AllocError> {
-        let left = Sum::of_form(alloc, &inequality.left)?;
-        let right = Sum::of_form(alloc, &inequality.right)?;
-        match inequality.relation {
-            Relation::AtMost => right.less(&left),
-            Relation::AtLeast => left.less(&right),
-        }
+        let mut sum = Sum::number(alloc, 0);
+        sum.add_inequality(inequality)?;
+        Ok(sum)
     }
 
-    pub fn copy(&self) -> Result<Sum<'a>, AllocError> {
-        let mut sum = Sum::number(self.alloc, self.constant);
-        sum.terms.reserve(self.terms.len())?;
-        for term in &self.terms {
-            sum.terms.push(*term)?;
+    fn add_inequality(&mut self, inequality: &'a Inequality) -> Result<(), AllocError> {
+        match inequality.relation {
+            Relation::AtMost => {
+                self.add_form(&inequality.right, 1)?;
+                self.add_form(&inequality.left, -1)
+            }
+            Relation::AtLeast => {
+                self.add_form(&inequality.left, 1)?;
+                self.add_form(&inequality.right, -1)
+            }
         }
-        Ok(sum)
     }
 
     pub fn add_number(&mut self, number: i128) {
@@ -91,17 +84,38 @@ impl<'a> Sum<'a> {
         Ok(())
     }
 
+    /// Adds a form so many times.
+    pub fn add_form(&mut self, form: &'a Form, times: i128) -> Result<(), AllocError> {
+        self.add_number(i128::from(form.constant).saturating_mul(times));
+        for term in form.terms.as_slice() {
+            let coefficient = i128::from(term.coefficient).saturating_mul(times);
+            self.add_term(term.register.as_str(), coefficient)?;
+        }
+        Ok(())
+    }
+
+    /// Adds an operand so many times.
+    pub fn add_operand(&mut self, operand: &'a Operand, times: i128) -> Result<(), AllocError> {
+        match operand {
+            Operand::Number(number) => {
+                self.add_number(i128::from(*number).saturating_mul(times));
+                Ok(())
+            }
+            Operand::Register(name) => self.add_term(name.as_str(), times),
+        }
+    }
+
+    pub fn copy(&self) -> Result<Sum<'a>, AllocError> {
+        let mut sum = Sum::number(self.alloc, 0);
+        sum.add(self, 1)?;
+        Ok(sum)
+    }
+
     /// The sum and so many times another one.
     pub fn with(&self, other: &Sum<'a>, times: i128) -> Result<Sum<'a>, AllocError> {
         let mut sum = self.copy()?;
         sum.add(other, times)?;
         Ok(sum)
-    }
-
-    /// The sum less another one.
-    pub fn less(mut self, other: &Sum<'a>) -> Result<Sum<'a>, AllocError> {
-        self.add(other, -1)?;
-        Ok(self)
     }
 
     pub fn coefficient(&self, name: &str) -> i128 {
@@ -118,15 +132,14 @@ impl<'a> Sum<'a> {
         self.coefficient(name) != 0
     }
 
-    /// The terms whose coefficient is not 0.
-    pub fn terms(&self) -> Result<Vec<(&'a str, i128)>, AllocError> {
-        let mut terms = Vec::new(self.alloc);
+    /// Whether no other register stands in the sum.
+    pub fn is_alone(&self, name: &str) -> bool {
         for term in &self.terms {
-            if term.1 != 0 {
-                terms.push(*term)?;
+            if term.1 != 0 && term.0 != name {
+                return false;
             }
         }
-        Ok(terms)
+        true
     }
 
     /// The first term whose coefficient is not 0.
@@ -139,8 +152,60 @@ impl<'a> Sum<'a> {
         None
     }
 
-    pub fn is_number(&self) -> bool {
-        self.terms.iter().all(|term| term.1 == 0)
+    /// The number that the sum is; none where a register stands in it.
+    pub fn as_number(&self) -> Option<i128> {
+        match self.first() {
+            Some(_) => None,
+            None => Some(self.constant),
+        }
+    }
+
+    pub fn is_zero(&self) -> bool {
+        match self.as_number() {
+            Some(number) => number == 0,
+            None => false,
+        }
+    }
+
+    /// The number that the sum and so many times another one are, not 0; none where a register stands in that.
+    pub fn number_with(&self, other: &Sum<'a>, times: i128) -> Option<i128> {
+        if self.has_all(other) && self.is_cancelled(other, times) {
+            Some(
+                self.constant
+                    .saturating_add(other.constant.saturating_mul(times)),
+            )
+        } else {
+            None
+        }
+    }
+
+    /// Whether all registers of the other sum stand in this one.
+    fn has_all(&self, other: &Sum<'a>) -> bool {
+        for (name, coefficient) in &other.terms {
+            if *coefficient != 0 && !self.has(name) {
+                return false;
+            }
+        }
+        true
+    }
+
+    /// Whether so many times another sum takes all registers out of this one.
+    fn is_cancelled(&self, other: &Sum<'a>, times: i128) -> bool {
+        for (name, coefficient) in &self.terms {
+            let added = other.coefficient(name).saturating_mul(times);
+            if coefficient.saturating_add(added) != 0 {
+                return false;
+            }
+        }
+        true
+    }
+
+    /// Whether both are the same number whatever the registers hold.
+    pub fn is_same(&self, other: &Sum<'a>) -> bool {
+        match self.number_with(other, -1) {
+            Some(number) => number == 0,
+            None => false,
+        }
     }
 
     /// Takes the register out, and another sum in its place.
@@ -154,85 +219,111 @@ impl<'a> Sum<'a> {
         self.add(value, times)
     }
 
-    /// Whether both are the same number whatever the registers hold.
-    pub fn is_same(&self, other: &Sum<'a>) -> Result<bool, AllocError> {
-        let difference = self.copy()?.less(other)?;
-        Ok(difference.is_number() && difference.constant == 0)
+    /// How many registers stand in the sum.
+    fn size(&self) -> usize {
+        let mut size = 0usize;
+        for term in &self.terms {
+            if term.1 != 0 {
+                size = size.saturating_add(1);
+            }
+        }
+        size
+    }
+
+    /// Whether a form may have coefficients as great.
+    fn is_light(&self) -> bool {
+        for term in &self.terms {
+            if !is_within(term.1, MOST_COEFFICIENT) {
+                return false;
+            }
+        }
+        true
     }
 
     /// Whether a form may be as long and have numbers as great.
     pub fn is_form(&self) -> bool {
-        let terms = self.terms.iter().filter(|term| term.1 != 0).count();
-        terms <= MOST_TERMS
-            && self
-                .terms
-                .iter()
-                .all(|term| is_within(term.1, MOST_COEFFICIENT))
-            && is_within(self.constant, MOST_CONSTANT)
+        self.size() <= MOST_TERMS && self.is_light() && is_within(self.constant, MOST_CONSTANT)
+    }
+
+    /// The terms in the order of their names.
+    fn sorted(&self) -> Result<Vec<(&'a str, i128)>, AllocError> {
+        let mut terms = Vec::new(self.alloc);
+        for term in &self.terms {
+            terms.push(*term)?;
+        }
+        terms.sort()?;
+        Ok(terms)
     }
 
     /// Adds the form's canonical spelling.
     pub fn spell(&self, out: &mut String) -> Result<(), AllocError> {
-        let mut terms = self.terms()?;
-        terms.sort()?;
-        spell_side(out, terms.as_slice(), self.constant)
-    }
-
-    /// The terms of the lesser side where the sum is at least 0, those with a minus, or of the other side.
-    fn side(&self, is_lesser: bool) -> Result<Vec<(&'a str, i128)>, AllocError> {
-        let mut side = Vec::new(self.alloc);
-        for (name, coefficient) in &self.terms {
-            if is_lesser && *coefficient < 0 {
-                side.push((*name, coefficient.saturating_neg()))?;
-            } else if !is_lesser && *coefficient > 0 {
-                side.push((*name, *coefficient))?;
-            }
-        }
-        side.sort()?;
-        Ok(side)
+        let terms = self.sorted()?;
+        spell_side(out, terms.as_slice(), Side::Whole, self.constant)
     }
 
     /// Adds that the sum is at least 0: what has a minus on the lesser side, the rest on the other.
     pub fn spell_inequality(&self, out: &mut String) -> Result<(), AllocError> {
-        let less = self.side(true)?;
-        let more = self.side(false)?;
-        let below = 0i128.saturating_sub(self.constant).max(0);
-        let above = self.constant.max(0);
-        if less.is_empty() {
-            spell_sides(out, more.as_slice(), above, " >= ", less.as_slice(), below)
-        } else {
-            spell_sides(out, less.as_slice(), below, " <= ", more.as_slice(), above)
+        let terms = self.sorted()?;
+        spell_sides(out, terms.as_slice(), self.constant)
+    }
+}
+
+/// What is spelled of a sum: all, or where it is at least 0 what is added to its lesser side or what stands on the greater one.
+#[derive(Clone, Copy)]
+enum Side {
+    Whole,
+    Lesser,
+    Greater,
+}
+
+impl Side {
+    fn part_of(self, number: i128) -> i128 {
+        match self {
+            Side::Whole => number,
+            Side::Lesser => number.saturating_neg().max(0),
+            Side::Greater => number.max(0),
         }
     }
 }
 
-/// Two sides, each of terms and a number, with a relation between them.
-fn spell_sides(
-    out: &mut String,
-    left: &[(&str, i128)],
-    left_constant: i128,
-    relation: &str,
-    right: &[(&str, i128)],
-    right_constant: i128,
-) -> Result<(), AllocError> {
-    spell_side(out, left, left_constant)?;
-    out.push_str(relation)?;
-    spell_side(out, right, right_constant)
+fn has_minus(terms: &[(&str, i128)]) -> bool {
+    for (_name, coefficient) in terms {
+        if *coefficient < 0 {
+            return true;
+        }
+    }
+    false
 }
 
-/// Terms in the order of their names, and a number.
-fn spell_side(out: &mut String, terms: &[(&str, i128)], constant: i128) -> Result<(), AllocError> {
+/// Both sides with the relation between them; what has registers stands first.
+fn spell_sides(out: &mut String, terms: &[(&str, i128)], constant: i128) -> Result<(), AllocError> {
+    if has_minus(terms) {
+        spell_side(out, terms, Side::Lesser, constant)?;
+        out.push_str(" <= ")?;
+        spell_side(out, terms, Side::Greater, constant)
+    } else {
+        spell_side(out, terms, Side::Greater, constant)?;
+        out.push_str(" >= ")?;
+        spell_side(out, terms, Side::Lesser, constant)
+    }
+}
+
+/// The part of terms, which are in the order of their names, and of a number.
+fn spell_side(
+    out: &mut String,
+    terms: &[(&str, i128)],
+    side: Side,
+    constant: i128,
+) -> Result<(), AllocError> {
     let mut is_first = true;
     for (name, coefficient) in terms {
-        spell_term(out, is_first, name, *coefficient)?;
-        is_first = false;
+        let coefficient = side.part_of(*coefficient);
+        if coefficient != 0 {
+            spell_term(out, is_first, name, coefficient)?;
+            is_first = false;
+        }
     }
-    if is_first || constant != 0 {
-        let sign = sign_of(is_first, constant);
-        let size = constant.unsigned_abs();
-        write!(out, "{sign}{size}")?;
-    }
-    Ok(())
+    spell_constant(out, is_first, side.part_of(constant))
 }
 
 fn is_within(number: i128, most: i128) -> bool {
@@ -249,17 +340,27 @@ fn sign_of(is_first: bool, number: i128) -> &'static str {
     }
 }
 
+/// The number behind the terms, unless it is 0 and there are some.
+fn spell_constant(out: &mut String, is_first: bool, constant: i128) -> Result<(), AllocError> {
+    if !is_first && constant == 0 {
+        return Ok(());
+    }
+    out.push_str(sign_of(is_first, constant))?;
+    let size = constant.unsigned_abs();
+    write!(out, "{size}")
+}
+
 fn spell_term(
     out: &mut String,
     is_first: bool,
     name: &str,
     coefficient: i128,
 ) -> Result<(), AllocError> {
-    let sign = sign_of(is_first, coefficient);
+    out.push_str(sign_of(is_first, coefficient))?;
     let size = coefficient.unsigned_abs();
-    if size == 1 {
-        write!(out, "{sign}%{name}")
-    } else {
-        write!(out, "{sign}{size}*%{name}")
+    if size != 1 {
+        write!(out, "{size}*")?;
     }
+    out.push_str("%")?;
+    out.push_str(name)
 }

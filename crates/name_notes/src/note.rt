@@ -24,21 +24,48 @@ fn label_at<'a>(function: &[Row<'a>], line: u32) -> &'a str {
     label
 }
 
-/// A line, with its block where it has one.
-fn push_row(out: &mut String, row: &Row<'_>, label: &str) -> Result<(), AllocError> {
+/// The block of a line that is no label itself.
+fn push_block(out: &mut String, row: &Row<'_>, label: &str) -> Result<(), AllocError> {
+    if label.is_empty() || row.label().is_some() {
+        return Ok(());
+    }
+    write!(out, " (in %{label})")
+}
+
+/// A line, with its block where it stands in one of this function.
+fn push_row(out: &mut String, row: &Row<'_>, function: &[Row<'_>]) -> Result<(), AllocError> {
     let number = row.number;
     let code = row.code();
     write!(out, "line {number}, {code}")?;
-    if !label.is_empty() && row.label().is_none() {
-        write!(out, " (in %{label})")?;
+    push_block(out, row, label_at(function, number))?;
+    out.push_str("\n")
+}
+
+/// A line that defines the name, unless it is the line itself.
+fn push_definition(
+    out: &mut String,
+    site: Site<'_, '_>,
+    name: &str,
+    row: &Row<'_>,
+) -> Result<(), AllocError> {
+    if row.number == site.line {
+        return Ok(());
     }
-    writeln!(out)
+    write!(out, "    {name}: ")?;
+    if is_of_module(name) {
+        push_row(out, row, &[])
+    } else {
+        push_row(out, row, site.function)
+    }
+}
+
+fn is_of_module(name: &str) -> bool {
+    name.starts_with('@')
 }
 
 /// Where the name is defined beside the line itself; or that it is not.
 fn push_definitions(out: &mut String, site: Site<'_, '_>, name: &str) -> Result<(), AllocError> {
-    let is_of_module = name.starts_with('@');
-    let rows = if is_of_module {
+    let rows = if is_of_module(name) {
         site.rows
     } else {
         site.function
@@ -47,15 +74,7 @@ fn push_definitions(out: &mut String, site: Site<'_, '_>, name: &str) -> Result<
     for row in rows {
         if row.defines(name) {
             is_defined = true;
-            if row.number != site.line {
-                let label = if is_of_module {
-                    ""
-                } else {
-                    label_at(site.function, row.number)
-                };
-                write!(out, "    {name}: ")?;
-                push_row(out, row, label)?;
-            }
+            push_definition(out, site, name, row)?;
         }
     }
     if is_defined {
@@ -65,13 +84,19 @@ fn push_definitions(out: &mut String, site: Site<'_, '_>, name: &str) -> Result<
     }
 }
 
-/// Where each name of the line is defined.
+/// Where each name of a line is defined.
+fn push_names_of(out: &mut String, site: Site<'_, '_>, row: &Row<'_>) -> Result<(), AllocError> {
+    for name in &row.names()? {
+        push_definitions(out, site, name)?;
+    }
+    Ok(())
+}
+
+/// Where each name of the site's line is defined.
 fn push_names(out: &mut String, site: Site<'_, '_>) -> Result<(), AllocError> {
     for row in site.rows {
         if row.number == site.line {
-            for name in &row.names()? {
-                push_definitions(out, site, name)?;
-            }
+            push_names_of(out, site, row)?;
         }
     }
     Ok(())
@@ -82,22 +107,31 @@ fn is_ending(row: &Row<'_>) -> bool {
     matches!(row.word(0), "br" | "switch" | "detach" | "sync")
 }
 
+/// A line that leads to the block of this label.
+fn push_way(
+    out: &mut String,
+    site: Site<'_, '_>,
+    label: &str,
+    row: &Row<'_>,
+) -> Result<(), AllocError> {
+    write!(out, "    to %{label} leads ")?;
+    push_row(out, row, site.function)
+}
+
 /// What leads to the block of the line.
-fn push_ways(alloc: Global, out: &mut String, site: Site<'_, '_>) -> Result<(), AllocError> {
+fn push_ways(out: &mut String, site: Site<'_, '_>) -> Result<(), AllocError> {
     let label = label_at(site.function, site.line);
-    let name = format!(in alloc; "%{label}")?;
     let mut is_reached = false;
     for row in site.function {
-        if is_ending(row) && row.has(name.as_str()) {
+        if is_ending(row) && row.has_local(label) {
             is_reached = true;
-            write!(out, "    to {name} leads ")?;
-            push_row(out, row, label_at(site.function, row.number))?;
+            push_way(out, site, label, row)?;
         }
     }
     if is_reached {
         Ok(())
     } else {
-        writeln!(out, "    nothing leads to {name}")
+        writeln!(out, "    nothing leads to %{label}")
     }
 }
 
@@ -112,10 +146,26 @@ fn push_regions(out: &mut String, site: Site<'_, '_>) -> Result<(), AllocError> 
     for row in site.function {
         if is_of_region(row) {
             out.push_str("      ")?;
-            push_row(out, row, label_at(site.function, row.number))?;
+            push_row(out, row, site.function)?;
         }
     }
     Ok(())
+}
+
+fn push_ways_and_regions(out: &mut String, site: Site<'_, '_>) -> Result<(), AllocError> {
+    push_ways(out, site)?;
+    push_regions(out, site)
+}
+
+/// Adds what there is to say of a line that breaks the rule of this number.
+fn push_notes(out: &mut String, site: Site<'_, '_>, number: u16) -> Result<(), AllocError> {
+    match number {
+        201..=206 | 401 => push_names(out, site),
+        211 | 212 | 307 => push_ways(out, site),
+        301..=305 => push_regions(out, site),
+        306 => push_ways_and_regions(out, site),
+        _ => Ok(()),
+    }
 }
 
 /// What there is to say of a line that breaks this rule: from 201 to 206 and at 401 where its names are defined, of the graph what leads to its
@@ -126,23 +176,18 @@ pub fn name_notes(
     number: u16,
     line: u32,
 ) -> Result<String, OutOfMemory> {
-    let mut out = String::new(alloc);
     let rows = rows_of(alloc, source.text)?;
-    let function = function_of(rows.as_slice(), line);
-    let site = Site {
-        rows: rows.as_slice(),
-        function,
-        line,
-    };
-    match number {
-        201..=206 | 401 => push_names(&mut out, site)?,
-        211 | 212 | 307 => push_ways(alloc, &mut out, site)?,
-        301..=305 => push_regions(&mut out, site)?,
-        306 => {
-            push_ways(alloc, &mut out, site)?;
-            push_regions(&mut out, site)?;
-        }
-        _ => {}
-    }
+    let rows = rows.as_slice();
+    let function = function_of(rows, line);
+    let mut out = String::new(alloc);
+    push_notes(
+        &mut out,
+        Site {
+            rows,
+            function,
+            line,
+        },
+        number,
+    )?;
     Ok(out)
 }

@@ -53,9 +53,19 @@ impl<'a> Row<'a> {
     }
 
     /// Whether the name stands in the line, as a token of its own.
-    pub fn has(&self, name: &str) -> bool {
+    fn has(&self, name: &str) -> bool {
         for token in &self.tokens {
             if token.kind == Kind::Name && self.part(*token) == name {
+                return true;
+            }
+        }
+        false
+    }
+
+    /// Whether the name of a register or a block stands in the line, given without its `%`.
+    pub fn has_local(&self, name: &str) -> bool {
+        for token in &self.tokens {
+            if token.kind == Kind::Name && self.part(*token).strip_prefix('%') == Some(name) {
                 return true;
             }
         }

@@ -7,7 +7,7 @@ use ir_lex::{Kind, Token, lex};
 use ir_reader::read;
 use lists::OutOfMemory;
 use refusal::Refused;
-use std::alloc::Global;
+use std::alloc::{AllocError, Global};
 
 /// What may stand in a line that is no annotation. The first three stand for all of their kind.
 const WORDS: &str =
@@ -46,6 +46,13 @@ struct Row<'a> {
     text: &'a str,
 }
 
+impl<'a> Row<'a> {
+    /// The bytes of a token of the line.
+    fn part(self, token: &Token) -> &'a str {
+        self.text.get(token.from..token.to).unwrap_or("")
+    }
+}
+
 /// The fault of a line by itself.
 fn fault_of(alloc: Global, row: Row<'_>) -> Result<Option<u16>, OutOfMemory> {
     match read_line(alloc, row.text.as_bytes(), row.number) {
@@ -72,10 +79,10 @@ fn edited(
     from: usize,
     to: usize,
     word: &str,
-) -> Result<String, OutOfMemory> {
+) -> Result<String, AllocError> {
     let before = line.get(..from).unwrap_or("");
     let after = line.get(to..).unwrap_or("");
-    Ok(format!(in alloc; "{before} {word} {after}")?)
+    format!(in alloc; "{before} {word} {after}")
 }
 
 /// Whether a line with a word in place of its bytes from one place to before another is right.
@@ -95,14 +102,13 @@ fn fits(
 }
 
 /// How a word is told.
-fn push_word(out: &mut String, word: &str) -> Result<(), OutOfMemory> {
+fn push_word(out: &mut String, word: &str) -> Result<(), AllocError> {
     match word {
-        "%x" => out.push_str(" a register")?,
-        "@x" => out.push_str(" a global's name")?,
-        "1" => out.push_str(" a number")?,
-        word => write!(out, " `{word}`")?,
+        "%x" => out.push_str(" a register"),
+        "@x" => out.push_str(" a global's name"),
+        "1" => out.push_str(" a number"),
+        word => write!(out, " `{word}`"),
     }
-    Ok(())
 }
 
 /// The words with which the line is right, where they stand from one place to before another.
@@ -122,6 +128,52 @@ fn words_that_fit(
     Ok(fitting)
 }
 
+/// What could stand before a token.
+fn push_before(
+    alloc: Global,
+    row: Row<'_>,
+    token: &Token,
+    words: &str,
+    notes: &mut String,
+) -> Result<(), OutOfMemory> {
+    let before = words_that_fit(alloc, row, token.from, token.from, words)?;
+    if !before.is_empty() {
+        let found = row.part(token);
+        writeln!(notes, "    before `{found}` could stand:{before}")?;
+    }
+    Ok(())
+}
+
+/// What could stand in place of a token.
+fn push_instead(
+    alloc: Global,
+    row: Row<'_>,
+    token: &Token,
+    words: &str,
+    notes: &mut String,
+) -> Result<(), OutOfMemory> {
+    let instead = words_that_fit(alloc, row, token.from, token.to, words)?;
+    if !instead.is_empty() {
+        let found = row.part(token);
+        writeln!(notes, "    in place of `{found}` could stand:{instead}")?;
+    }
+    Ok(())
+}
+
+/// Whether the line is right without a token.
+fn push_without(
+    alloc: Global,
+    row: Row<'_>,
+    token: &Token,
+    notes: &mut String,
+) -> Result<(), OutOfMemory> {
+    if fits(alloc, row, token.from, token.to, "")? {
+        let found = row.part(token);
+        writeln!(notes, "    without `{found}` the line is right")?;
+    }
+    Ok(())
+}
+
 /// What could stand in place of a token, or before it, and whether the line is right without it.
 fn push_token_notes(
     alloc: Global,
@@ -130,19 +182,9 @@ fn push_token_notes(
     words: &str,
     notes: &mut String,
 ) -> Result<(), OutOfMemory> {
-    let found = row.text.get(token.from..token.to).unwrap_or("");
-    let before = words_that_fit(alloc, row, token.from, token.from, words)?;
-    if !before.is_empty() {
-        writeln!(notes, "    before `{found}` could stand:{before}")?;
-    }
-    let instead = words_that_fit(alloc, row, token.from, token.to, words)?;
-    if !instead.is_empty() {
-        writeln!(notes, "    in place of `{found}` could stand:{instead}")?;
-    }
-    if fits(alloc, row, token.from, token.to, "")? {
-        writeln!(notes, "    without `{found}` the line is right")?;
-    }
-    Ok(())
+    push_before(alloc, row, token, words, notes)?;
+    push_instead(alloc, row, token, words, notes)?;
+    push_without(alloc, row, token, notes)
 }
 
 /// What could stand at the line's end.
@@ -169,12 +211,12 @@ fn push_left_out_words(
     notes: &mut String,
 ) -> Result<(), OutOfMemory> {
     for token in tokens {
-        push_left_out(row.text.get(token.from..token.to).unwrap_or(""), notes)?;
+        push_left_out(row.part(token), notes)?;
     }
     Ok(())
 }
 
-/// What one word more, less or other mends in a line.
+/// What one word more, less or other mends in a line; of a very long one nothing is told.
 fn push_edits(
     alloc: Global,
     row: Row<'_>,
@@ -182,6 +224,9 @@ fn push_edits(
     words: &str,
     notes: &mut String,
 ) -> Result<(), OutOfMemory> {
+    if tokens.len() > MOST_TOKENS {
+        return Ok(());
+    }
     let count = notes.len();
     for token in tokens {
         push_token_notes(alloc, row, token, words, notes)?;
@@ -193,25 +238,40 @@ fn push_edits(
     Ok(())
 }
 
+/// What is wrong with the tokens of a line that is no annotation.
+fn push_code(
+    alloc: Global,
+    row: Row<'_>,
+    tokens: &[Token],
+    notes: &mut String,
+) -> Result<(), OutOfMemory> {
+    push_left_out_words(row, tokens, notes)?;
+    push_edits(alloc, row, tokens, WORDS, notes)
+}
+
+/// What is wrong with the tokens of a line.
+fn push_tokens(
+    alloc: Global,
+    row: Row<'_>,
+    tokens: &[Token],
+    notes: &mut String,
+) -> Result<(), OutOfMemory> {
+    match tokens.first() {
+        None => Ok(()),
+        Some(first) if first.kind == Kind::Note => {
+            push_edits(alloc, row, tokens, NOTE_WORDS, notes)
+        }
+        Some(_) => push_code(alloc, row, tokens, notes),
+    }
+}
+
 /// What is wrong with the words of a line.
 fn push_words(alloc: Global, row: Row<'_>, notes: &mut String) -> Result<(), OutOfMemory> {
-    let tokens = match lex(alloc, row.text.as_bytes(), row.number) {
-        Ok(tokens) => tokens,
-        Err(Refused::Fault { .. }) => return push_bad_tokens(alloc, row, notes),
-        Err(Refused::Memory) => return Err(OutOfMemory),
-    };
-    let Some(first) = tokens.first() else {
-        return Ok(());
-    };
-    let is_note = first.kind == Kind::Note;
-    if !is_note {
-        push_left_out_words(row, tokens.as_slice(), notes)?;
+    match lex(alloc, row.text.as_bytes(), row.number) {
+        Ok(tokens) => push_tokens(alloc, row, tokens.as_slice(), notes),
+        Err(Refused::Fault { .. }) => push_bad_tokens(alloc, row, notes),
+        Err(Refused::Memory) => Err(OutOfMemory),
     }
-    if tokens.len() > MOST_TOKENS {
-        return Ok(());
-    }
-    let words = if is_note { NOTE_WORDS } else { WORDS };
-    push_edits(alloc, row, tokens.as_slice(), words, notes)
 }
 
 /// Whether a run of bytes is no token by itself.
@@ -223,17 +283,28 @@ fn is_bad(alloc: Global, word: &str, number: u32) -> Result<bool, OutOfMemory> {
     }
 }
 
+/// A run of bytes, if it is no token.
+fn push_if_bad(
+    alloc: Global,
+    word: &str,
+    number: u32,
+    notes: &mut String,
+) -> Result<(), OutOfMemory> {
+    if !is_bad(alloc, word, number)? {
+        return Ok(());
+    }
+    let found = word.escape_debug();
+    writeln!(notes, "  found: `{found}`")?;
+    push_left_out(word, notes)
+}
+
 /// The runs of bytes that are no tokens.
 fn push_bad_tokens(alloc: Global, row: Row<'_>, notes: &mut String) -> Result<(), OutOfMemory> {
     if row.text.ends_with('\r') {
         notes.push_str("  found: a carriage return at the line's end\n")?;
     }
     for word in row.text.split_whitespace() {
-        if is_bad(alloc, word, row.number)? {
-            let found = word.escape_debug();
-            writeln!(notes, "  found: `{found}`")?;
-            push_left_out(word, notes)?;
-        }
+        push_if_bad(alloc, word, row.number, notes)?;
     }
     Ok(())
 }
@@ -262,6 +333,23 @@ fn may_stand(
     }
 }
 
+/// A row of the kinds of lines, if its line may go on behind the text before.
+fn push_kind(
+    alloc: Global,
+    source: Source<'_>,
+    before: &str,
+    row: &str,
+    number: u32,
+    notes: &mut String,
+) -> Result<(), OutOfMemory> {
+    if let Some((kind, line)) = row.split_once(" | ") {
+        if may_stand(alloc, source, before, line, number)? {
+            writeln!(notes, "    {kind}")?;
+        }
+    }
+    Ok(())
+}
+
 /// The kinds of lines that could stand where a right one may not.
 fn push_kinds(
     alloc: Global,
@@ -272,36 +360,39 @@ fn push_kinds(
     let before = lines_before(alloc, source.text, number)?;
     notes.push_str("  the line is right by itself, and may not stand here; here could stand:\n")?;
     for row in KINDS.lines() {
-        if let Some((kind, line)) = row.split_once(" | ") {
-            if may_stand(alloc, source, before.as_str(), line, number)? {
-                writeln!(notes, "    {kind}")?;
-            }
-        }
+        push_kind(alloc, source, before.as_str(), row, number, notes)?;
     }
     Ok(())
 }
 
+/// What there is to say of a line that may not stand where it does: of its place, or of its words.
+fn push_misplaced(
+    alloc: Global,
+    source: Source<'_>,
+    row: Row<'_>,
+    notes: &mut String,
+) -> Result<(), OutOfMemory> {
+    if is_right(alloc, row)? {
+        push_kinds(alloc, source, row.number, notes)
+    } else {
+        push_words(alloc, row, notes)
+    }
+}
+
 /// What there is to say of a line with this fault.
-fn notes_of(
+fn push_notes(
     alloc: Global,
     source: Source<'_>,
     row: Row<'_>,
     rule: u16,
-) -> Result<String, OutOfMemory> {
-    let mut notes = String::new(alloc);
+    notes: &mut String,
+) -> Result<(), OutOfMemory> {
     match rule {
-        102 => push_bad_tokens(alloc, row, &mut notes)?,
-        107 => push_words(alloc, row, &mut notes)?,
-        103 => {
-            if is_right(alloc, row)? {
-                push_kinds(alloc, source, row.number, &mut notes)?;
-            } else {
-                push_words(alloc, row, &mut notes)?;
-            }
-        }
-        _ => {}
+        102 => push_bad_tokens(alloc, row, notes),
+        103 => push_misplaced(alloc, source, row, notes),
+        107 => push_words(alloc, row, notes),
+        _ => Ok(()),
     }
-    Ok(notes)
 }
 
 /// Adds the fault of a line: the one that the reader names there, else that of the line by itself.
@@ -317,11 +408,10 @@ fn push_row(
         None => fault_of(alloc, row)?,
     };
     if let Some(number) = fault {
-        let notes = if findings.len() < MOST_TOLD {
-            notes_of(alloc, source, row, number)?
-        } else {
-            String::new(alloc)
-        };
+        let mut notes = String::new(alloc);
+        if findings.len() < MOST_TOLD {
+            push_notes(alloc, source, row, number, &mut notes)?;
+        }
         push_finding(findings, number, row.number, notes)?;
     }
     Ok(())
