@@ -80,6 +80,12 @@ fn count_enough(facts: &[Fact], form: &Form) -> usize {
     facts.len()
 }
 
+/// Adds that a form is at least 0.
+fn push_form(alloc: Global, form: &Form, facts: &mut Vec<Fact>) -> Result<(), OutOfMemory> {
+    let form = form.copy(alloc)?;
+    Ok(facts.push(Fact { form })?)
+}
+
 /// Adds the fact at a place once more.
 fn push_copy(
     alloc: Global,
@@ -87,12 +93,10 @@ fn push_copy(
     place: usize,
     copies: &mut Vec<Fact>,
 ) -> Result<(), OutOfMemory> {
-    if let Some(fact) = facts.get(place) {
-        copies.push(Fact {
-            form: fact.form.copy(alloc)?,
-        })?;
+    match facts.get(place) {
+        Some(fact) => push_form(alloc, &fact.form, copies),
+        None => Ok(()),
     }
-    Ok(())
 }
 
 /// Whether the facts at two places show the form.
@@ -143,15 +147,18 @@ fn rest_of(alloc: Global, form: &Form, fact: &Fact) -> Result<Option<Form>, OutO
     }
 }
 
+fn push_copies(alloc: Global, facts: &[Fact], copies: &mut Vec<Fact>) -> Result<(), OutOfMemory> {
+    for fact in facts {
+        push_form(alloc, &fact.form, copies)?;
+    }
+    Ok(())
+}
+
 /// The facts, and that one form more is at least 0.
 fn facts_and(alloc: Global, facts: &[Fact], form: &Form) -> Result<Vec<Fact>, OutOfMemory> {
     let mut more: Vec<Fact> = Vec::new(alloc);
-    for place in 0..facts.len() {
-        push_copy(alloc, facts, place, &mut more)?;
-    }
-    more.push(Fact {
-        form: form.copy(alloc)?,
-    })?;
+    push_copies(alloc, facts, &mut more)?;
+    push_form(alloc, form, &mut more)?;
     Ok(more)
 }
 

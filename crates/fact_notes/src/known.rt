@@ -41,13 +41,43 @@ pub fn start_lines(
     index: usize,
     block: &Block,
 ) -> Result<Vec<u32>, OutOfMemory> {
-    let mut lines: Vec<u32> = Vec::new(alloc);
-    if index == 0 {
-        push_lines(&mut lines, function.requirements.as_slice())?;
+    let known = if index == 0 {
+        function.requirements.as_slice()
     } else {
-        push_lines(&mut lines, block.keeps.as_slice())?;
-    }
+        block.keeps.as_slice()
+    };
+    let mut lines: Vec<u32> = Vec::new(alloc);
+    push_lines(&mut lines, known)?;
     Ok(lines)
+}
+
+/// Adds the lines of the facts behind `shows` lines: what was learned before them has the line before.
+fn push_shows(
+    lines: &mut Vec<u32>,
+    count: usize,
+    shows: &[Inequality],
+    before: u32,
+) -> Result<(), OutOfMemory> {
+    fill(lines, count.saturating_sub(shows.len()), before)?;
+    push_lines(lines, shows)
+}
+
+/// Adds the lines of what is learned in a block.
+fn push_learned(
+    lines: &mut Vec<u32>,
+    block: &Block,
+    table: &BlockFacts,
+) -> Result<(), OutOfMemory> {
+    let mut before = block.line;
+    for (place, step) in block.steps.as_slice().iter().enumerate() {
+        let count = table.at_step(place).len();
+        push_shows(lines, count, step.shows.as_slice(), before)?;
+        before = step.line;
+    }
+    match &block.ending {
+        Some(ending) => push_shows(lines, table.facts.len(), ending.shows.as_slice(), before),
+        None => Ok(()),
+    }
 }
 
 /// The lines of what is known at a block's end.
@@ -59,19 +89,7 @@ pub fn fact_lines(
     table: &BlockFacts,
 ) -> Result<Vec<u32>, OutOfMemory> {
     let mut lines = start_lines(alloc, function, index, block)?;
-    let mut before = block.line;
-    for (place, step) in block.steps.as_slice().iter().enumerate() {
-        let known = table.at_step(place).len();
-        let learned = known.saturating_sub(step.shows.len());
-        fill(&mut lines, learned, before)?;
-        push_lines(&mut lines, step.shows.as_slice())?;
-        before = step.line;
-    }
-    if let Some(ending) = &block.ending {
-        let learned = table.facts.len().saturating_sub(ending.shows.len());
-        fill(&mut lines, learned, before)?;
-        push_lines(&mut lines, ending.shows.as_slice())?;
-    }
+    push_learned(&mut lines, block, table)?;
     Ok(lines)
 }
 
@@ -101,6 +119,12 @@ impl Known<'_> {
         Ok(())
     }
 
+    fn push_known(&self, alloc: Global, place: usize, out: &mut String) -> Result<(), OutOfMemory> {
+        out.push_str("    known: ")?;
+        self.push_fact(alloc, place, out)?;
+        Ok(out.push_str("\n")?)
+    }
+
     /// The facts that name a register of the form.
     fn push_related(
         &self,
@@ -110,12 +134,33 @@ impl Known<'_> {
     ) -> Result<(), OutOfMemory> {
         for (place, fact) in self.facts.iter().enumerate() {
             if share_register(&fact.form, form) {
-                out.push_str("    known: ")?;
-                self.push_fact(alloc, place, out)?;
-                out.push_str("\n")?;
+                self.push_known(alloc, place, out)?;
             }
         }
         Ok(())
+    }
+
+    /// The facts at two places, or at one that stands for both.
+    fn push_pair(
+        &self,
+        alloc: Global,
+        first: usize,
+        last: usize,
+        out: &mut String,
+    ) -> Result<(), OutOfMemory> {
+        if first != last {
+            self.push_fact(alloc, first, out)?;
+            out.push_str(" and ")?;
+        }
+        self.push_fact(alloc, last, out)
+    }
+
+    /// The facts that show a form.
+    fn push_used(&self, alloc: Global, form: &Form, out: &mut String) -> Result<(), OutOfMemory> {
+        match facts_used(alloc, self.facts, form)? {
+            Some((first, last)) => self.push_pair(alloc, first, last, out),
+            None => Ok(out.push_str("no fact helps")?),
+        }
     }
 
     /// The facts that come nearest to a form that they are short of by this much.
@@ -126,22 +171,39 @@ impl Known<'_> {
         short: i128,
         out: &mut String,
     ) -> Result<(), OutOfMemory> {
-        let Some(nearest) = raised(alloc, form, short)? else {
-            return Ok(());
-        };
-        out.push_str("    nearest: ")?;
-        match facts_used(alloc, self.facts, &nearest)? {
-            Some((first, last)) => {
-                self.push_fact(alloc, first, out)?;
-                if first != last {
-                    out.push_str(" and ")?;
-                    self.push_fact(alloc, last, out)?;
-                }
+        match raised(alloc, form, short)? {
+            Some(nearest) => {
+                out.push_str("    nearest: ")?;
+                self.push_used(alloc, &nearest, out)?;
+                Ok(writeln!(out, ", short by {short}")?)
             }
-            None => out.push_str("no fact helps")?,
+            None => Ok(()),
         }
-        writeln!(out, ", short by {short}")?;
-        Ok(())
+    }
+
+    /// What of the facts comes nearest to a form that they do not show.
+    fn push_shortfall(
+        &self,
+        alloc: Global,
+        form: &Form,
+        out: &mut String,
+    ) -> Result<(), OutOfMemory> {
+        match shortfall(alloc, self.facts, form)? {
+            Some(short) => self.push_nearest(alloc, form, short, out),
+            None => Ok(out.push_str("    no one or two facts have just these registers\n")?),
+        }
+    }
+
+    fn push_try(
+        &self,
+        alloc: Global,
+        step: &Form,
+        before: u32,
+        out: &mut String,
+    ) -> Result<(), OutOfMemory> {
+        out.push_str("    try: ;! shows ")?;
+        push_inequality(alloc, self.scene, step, out)?;
+        Ok(writeln!(out, ", before line {before}")?)
     }
 
     /// A `shows` line with which the form is shown, where there is one.
@@ -153,30 +215,60 @@ impl Known<'_> {
         out: &mut String,
     ) -> Result<(), OutOfMemory> {
         let stated = first_facts(self.facts, self.stated);
-        if let Some(step) = step_between(alloc, stated, self.facts, form)? {
-            if step.terms.len() <= 4 {
-                out.push_str("    try: ;! shows ")?;
-                push_inequality(alloc, self.scene, &step, out)?;
-                writeln!(out, ", before line {before}")?;
-            }
+        let step = step_between(alloc, stated, self.facts, form)?;
+        match &step {
+            Some(step) if step.terms.len() <= 4 => self.push_try(alloc, step, before, out),
+            _ => Ok(()),
         }
-        Ok(())
+    }
+
+    /// How far what is known is from showing a form.
+    fn push_form_gap(
+        &self,
+        alloc: Global,
+        form: &Form,
+        out: &mut String,
+    ) -> Result<(), OutOfMemory> {
+        if !form.terms.is_empty() {
+            push_inequality(alloc, self.scene, form, out)?;
+            out.push_str(" is ")?;
+        }
+        match shortfall(alloc, self.facts, form)? {
+            Some(short) => Ok(write!(out, "short by {short}")?),
+            None => Ok(out.push_str("shown by no one or two facts")?),
+        }
     }
 
     /// How far what is known is from showing a sum, in a few words.
     pub fn push_gap(&self, alloc: Global, sum: &Sum, out: &mut String) -> Result<(), OutOfMemory> {
-        let Some(form) = sum_form(alloc, sum)? else {
-            return Ok(out.push_str("a number past the bounds of a form")?);
-        };
-        if !form.terms.is_empty() {
-            push_inequality(alloc, self.scene, &form, out)?;
-            out.push_str(" is ")?;
+        match sum_form(alloc, sum)? {
+            Some(form) => self.push_form_gap(alloc, &form, out),
+            None => Ok(out.push_str("a number past the bounds of a form")?),
         }
-        match shortfall(alloc, self.facts, &form)? {
-            Some(short) => write!(out, "short by {short}")?,
-            None => out.push_str("shown by no one or two facts")?,
-        }
-        Ok(())
+    }
+
+    fn push_to_show(
+        &self,
+        alloc: Global,
+        form: &Form,
+        out: &mut String,
+    ) -> Result<(), OutOfMemory> {
+        out.push_str("  to show: ")?;
+        push_inequality(alloc, self.scene, form, out)?;
+        Ok(out.push_str("\n")?)
+    }
+
+    fn push_unshown_form(
+        &self,
+        alloc: Global,
+        form: &Form,
+        before: u32,
+        out: &mut String,
+    ) -> Result<(), OutOfMemory> {
+        self.push_to_show(alloc, form, out)?;
+        self.push_related(alloc, form, out)?;
+        self.push_shortfall(alloc, form, out)?;
+        self.push_step_between(alloc, form, before, out)
     }
 
     /// What is to be shown at a line, what is known of it, and how near that comes.
@@ -187,17 +279,9 @@ impl Known<'_> {
         before: u32,
         out: &mut String,
     ) -> Result<(), OutOfMemory> {
-        let Some(form) = sum_form(alloc, sum)? else {
-            return Ok(out.push_str("  to show: a form past its bounds\n")?);
-        };
-        out.push_str("  to show: ")?;
-        push_inequality(alloc, self.scene, &form, out)?;
-        out.push_str("\n")?;
-        self.push_related(alloc, &form, out)?;
-        match shortfall(alloc, self.facts, &form)? {
-            Some(short) => self.push_nearest(alloc, &form, short, out)?,
-            None => out.push_str("    no one or two facts have just these registers\n")?,
+        match sum_form(alloc, sum)? {
+            Some(form) => self.push_unshown_form(alloc, &form, before, out),
+            None => Ok(out.push_str("  to show: a form past its bounds\n")?),
         }
-        self.push_step_between(alloc, &form, before, out)
     }
 }

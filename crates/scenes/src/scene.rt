@@ -1,8 +1,8 @@
 //! A function beside the names of its text.
 
 use lists::{Name, OutOfMemory};
-use program::{BlockId, Function, ObjectName, Program, RegisterId};
-use std::alloc::Global;
+use program::{AllocaId, BlockId, Function, GlobalId, ObjectName, Program, RegisterId};
+use std::alloc::{AllocError, Global};
 use syntax::{Instruction, Module, Parameter};
 
 /// A function of a program, and the names that its text gives to registers, in their order.
@@ -39,10 +39,14 @@ fn register_of(instruction: &Instruction) -> Option<&Name> {
     }
 }
 
-fn push_block<'a>(names: &mut Vec<&'a Name>, block: &'a syntax::Block) -> Result<(), OutOfMemory> {
+fn push_phis<'a>(names: &mut Vec<&'a Name>, block: &'a syntax::Block) -> Result<(), AllocError> {
     for phi in block.phis.as_slice() {
         names.push(&phi.register)?;
     }
+    Ok(())
+}
+
+fn push_steps<'a>(names: &mut Vec<&'a Name>, block: &'a syntax::Block) -> Result<(), AllocError> {
     for step in block.steps.as_slice() {
         if let Some(name) = register_of(&step.instruction) {
             names.push(name)?;
@@ -51,19 +55,27 @@ fn push_block<'a>(names: &mut Vec<&'a Name>, block: &'a syntax::Block) -> Result
     Ok(())
 }
 
-/// The names of the registers: parameters first, then in the order of the text.
-fn register_names<'a>(
-    alloc: Global,
-    function: &'a syntax::Function,
-) -> Result<Vec<&'a Name>, OutOfMemory> {
-    let mut names: Vec<&'a Name> = Vec::new(alloc);
-    for parameter in function.parameters.as_slice() {
+fn push_parameters<'a>(
+    names: &mut Vec<&'a Name>,
+    parameters: &'a [Parameter],
+) -> Result<(), AllocError> {
+    for parameter in parameters {
         names.push(parameter_name(parameter))?;
     }
+    Ok(())
+}
+
+/// Adds the names of the registers: parameters first, then in the order of the text.
+fn push_registers<'a>(
+    names: &mut Vec<&'a Name>,
+    function: &'a syntax::Function,
+) -> Result<(), AllocError> {
+    push_parameters(names, function.parameters.as_slice())?;
     for block in function.blocks.as_slice() {
-        push_block(&mut names, block)?;
+        push_phis(names, block)?;
+        push_steps(names, block)?;
     }
-    Ok(names)
+    Ok(())
 }
 
 impl<'a> Scene<'a> {
@@ -76,16 +88,18 @@ impl<'a> Scene<'a> {
     ) -> Result<Option<Scene<'a>>, OutOfMemory> {
         let function = program.functions.as_slice().get(index);
         let written = whole.functions.as_slice().get(index);
-        match (function, written) {
-            (Some(function), Some(written)) => Ok(Some(Scene {
-                program,
-                index,
-                function,
-                written,
-                registers: register_names(alloc, written)?,
-            })),
-            _ => Ok(None),
-        }
+        let (Some(function), Some(written)) = (function, written) else {
+            return Ok(None);
+        };
+        let mut registers: Vec<&'a Name> = Vec::new(alloc);
+        push_registers(&mut registers, written)?;
+        Ok(Some(Scene {
+            program,
+            index,
+            function,
+            written,
+            registers,
+        }))
     }
 
     /// The name of a register without its sigil. The result of the function stands after the last one.
@@ -112,17 +126,25 @@ impl<'a> Scene<'a> {
         }
     }
 
+    fn global(&self, global: GlobalId) -> &str {
+        match self.program.globals.as_slice().get(global.0) {
+            Some(global) => global.name.as_str(),
+            None => "?",
+        }
+    }
+
+    fn alloca(&self, alloca: AllocaId) -> &str {
+        match self.function.allocas.as_slice().get(alloca.0) {
+            Some(alloca) => self.register(alloca.register),
+            None => "?",
+        }
+    }
+
     /// The sigil and the name of an object.
     pub fn object(&self, object: ObjectName) -> (&str, &str) {
         match object {
-            ObjectName::Global(global) => match self.program.globals.as_slice().get(global.0) {
-                Some(global) => ("@", global.name.as_str()),
-                None => ("@", "?"),
-            },
-            ObjectName::Alloca(alloca) => match self.function.allocas.as_slice().get(alloca.0) {
-                Some(alloca) => ("%", self.register(alloca.register)),
-                None => ("%", "?"),
-            },
+            ObjectName::Global(global) => ("@", self.global(global)),
+            ObjectName::Alloca(alloca) => ("%", self.alloca(alloca)),
             ObjectName::Parameter(register) => ("%", self.register(register)),
         }
     }

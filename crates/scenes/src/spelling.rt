@@ -3,7 +3,7 @@
 use crate::scene::Scene;
 use linear::{Form, Term, side_of};
 use lists::OutOfMemory;
-use std::alloc::Global;
+use std::alloc::{AllocError, Global};
 
 /// Registers times numbers in the order of the registers' names, and a number.
 #[derive(Drop)]
@@ -12,40 +12,71 @@ struct Spelled<'a> {
     constant: i128,
 }
 
-/// The terms whose coefficients are of one sign, or those of the other without their sign.
-fn one_side<'a>(
-    alloc: Global,
-    scene: &'a Scene<'a>,
-    terms: &[Term],
-    is_negative: bool,
-) -> Result<Vec<(&'a str, i64)>, OutOfMemory> {
-    let mut parts: Vec<(&'a str, i64)> = Vec::new(alloc);
-    for term in terms {
-        let name = scene.register(term.register);
-        if is_negative && term.coefficient < 0 {
-            parts.push((name, 0i64.saturating_sub(term.coefficient)))?;
-        }
-        if !is_negative && term.coefficient > 0 {
-            parts.push((name, term.coefficient))?;
-        }
-    }
-    parts.sort()?;
-    Ok(parts)
+/// What is spelled of a form.
+#[derive(Clone, Copy)]
+enum Part {
+    Whole,
+    Positive,
+    /// What has a minus, without it.
+    Negative,
 }
 
-fn all_terms<'a>(
-    alloc: Global,
-    scene: &'a Scene<'a>,
-    terms: &[Term],
-) -> Result<Vec<(&'a str, i64)>, OutOfMemory> {
-    let mut parts: Vec<(&'a str, i64)> = Vec::new(alloc);
-    for term in terms {
-        if term.coefficient != 0 {
-            parts.push((scene.register(term.register), term.coefficient))?;
+impl Part {
+    fn of_coefficient(self, coefficient: i64) -> i64 {
+        match self {
+            Part::Whole => coefficient,
+            Part::Positive => coefficient.max(0),
+            Part::Negative => 0i64.saturating_sub(coefficient).max(0),
         }
     }
-    parts.sort()?;
-    Ok(parts)
+
+    fn of_constant(self, constant: i128) -> i128 {
+        match self {
+            Part::Whole => constant,
+            Part::Positive => constant.max(0),
+            Part::Negative => 0i128.saturating_sub(constant).max(0),
+        }
+    }
+}
+
+fn push_parts<'a>(
+    parts: &mut Vec<(&'a str, i64)>,
+    scene: &'a Scene<'a>,
+    terms: &[Term],
+    part: Part,
+) -> Result<(), AllocError> {
+    for term in terms {
+        let coefficient = part.of_coefficient(term.coefficient);
+        if coefficient != 0 {
+            parts.push((scene.register(term.register), coefficient))?;
+        }
+    }
+    parts.sort()
+}
+
+fn spell<'a>(
+    alloc: Global,
+    scene: &'a Scene<'a>,
+    form: &Form,
+    part: Part,
+) -> Result<Spelled<'a>, OutOfMemory> {
+    let side = side_of(form);
+    let mut parts: Vec<(&'a str, i64)> = Vec::new(alloc);
+    push_parts(&mut parts, scene, side.terms, part)?;
+    Ok(Spelled {
+        parts,
+        constant: part.of_constant(side.constant),
+    })
+}
+
+fn sign_of(is_first: bool, is_negative: bool) -> &'static str {
+    if is_negative {
+        "-"
+    } else if is_first {
+        ""
+    } else {
+        "+"
+    }
 }
 
 fn push_term(
@@ -53,40 +84,31 @@ fn push_term(
     is_first: bool,
     name: &str,
     coefficient: i64,
-) -> Result<(), OutOfMemory> {
-    let sign = if coefficient < 0 {
-        "-"
-    } else if is_first {
-        ""
-    } else {
-        "+"
-    };
-    let size: u64 = coefficient.unsigned_abs();
-    if size == 1 {
-        write!(out, "{sign}%{name}")?;
-    } else {
-        write!(out, "{sign}{size}*%{name}")?;
+) -> Result<(), AllocError> {
+    out.push_str(sign_of(is_first, coefficient < 0))?;
+    let size = coefficient.unsigned_abs();
+    if size != 1 {
+        write!(out, "{size}*")?;
     }
-    Ok(())
+    write!(out, "%{name}")
 }
 
 /// The number after the registers.
-fn push_constant(out: &mut String, constant: i128) -> Result<(), OutOfMemory> {
+fn push_constant(out: &mut String, constant: i128) -> Result<(), AllocError> {
+    if constant == 0 {
+        return Ok(());
+    }
     if constant > 0 {
-        write!(out, "+{constant}")?;
+        out.push_str("+")?;
     }
-    if constant < 0 {
-        write!(out, "{constant}")?;
-    }
-    Ok(())
+    write!(out, "{constant}")
 }
 
 impl Spelled<'_> {
-    fn push_to(&self, out: &mut String) -> Result<(), OutOfMemory> {
+    fn push_to(&self, out: &mut String) -> Result<(), AllocError> {
         let constant = self.constant;
         if self.parts.is_empty() {
-            write!(out, "{constant}")?;
-            return Ok(());
+            return write!(out, "{constant}");
         }
         for (index, part) in self.parts.iter().enumerate() {
             push_term(out, index == 0, part.0, part.1)?;
@@ -102,12 +124,7 @@ pub fn push_form(
     form: &Form,
     out: &mut String,
 ) -> Result<(), OutOfMemory> {
-    let side = side_of(form);
-    let spelled = Spelled {
-        parts: all_terms(alloc, scene, side.terms)?,
-        constant: side.constant,
-    };
-    spelled.push_to(out)
+    Ok(spell(alloc, scene, form, Part::Whole)?.push_to(out)?)
 }
 
 /// That a form is at least 0: what has a minus on the lesser side, the rest on the other.
@@ -117,21 +134,16 @@ pub fn push_inequality(
     form: &Form,
     out: &mut String,
 ) -> Result<(), OutOfMemory> {
-    let side = side_of(form);
-    let negative = side.constant < 0;
-    let size = 0i128.saturating_sub(side.constant);
-    let low = Spelled {
-        parts: one_side(alloc, scene, side.terms, true)?,
-        constant: if negative { size } else { 0 },
-    };
-    let high = Spelled {
-        parts: one_side(alloc, scene, side.terms, false)?,
-        constant: if negative { 0 } else { side.constant },
-    };
+    let low = spell(alloc, scene, form, Part::Negative)?;
+    let high = spell(alloc, scene, form, Part::Positive)?;
+    Ok(push_sides(&low, &high, out)?)
+}
+
+fn push_sides(low: &Spelled<'_>, high: &Spelled<'_>, out: &mut String) -> Result<(), AllocError> {
     if low.parts.is_empty() {
-        push_both(&high, " >= ", &low, out)
+        push_both(high, " >= ", low, out)
     } else {
-        push_both(&low, " <= ", &high, out)
+        push_both(low, " <= ", high, out)
     }
 }
 
@@ -140,7 +152,7 @@ fn push_both(
     relation: &str,
     right: &Spelled<'_>,
     out: &mut String,
-) -> Result<(), OutOfMemory> {
+) -> Result<(), AllocError> {
     left.push_to(out)?;
     out.push_str(relation)?;
     right.push_to(out)

@@ -11,10 +11,10 @@ use footprints::{
 use linear::RegisterId;
 use lists::OutOfMemory;
 use program::{
-    Address, Argument, Block, Ending, Function, Instruction, Mode, ObjectName, Operand, Pending,
-    Step, Terminator, Zone,
+    Address, Argument, Block, BlockId, Ending, Function, Instruction, Mode, ObjectName, Operand,
+    Pending, Step, Terminator, Zone,
 };
-use ranges::{EdgeFacts, Move, Task, Way, argument_moves, block_facts};
+use ranges::{BlockFacts, EdgeFacts, Task, Way, argument_moves, block_facts};
 use std::alloc::Global;
 
 /// A place of a block, with what is known there and what it may touch.
@@ -24,6 +24,17 @@ struct Spot<'s, 'a> {
     known: Known<'a>,
     place: Place<'a>,
     block: &'a Block,
+}
+
+/// A block of a task, with what is known in it and the lines of that.
+#[derive(Clone, Copy)]
+struct Tasked<'s, 'a> {
+    source: Source<'s>,
+    scene: &'a Scene<'a>,
+    task: Task,
+    block: &'a Block,
+    table: &'a BlockFacts,
+    lines: &'a [u32],
 }
 
 /// What there is to say of a missing cover, and of a conflict.
@@ -67,8 +78,7 @@ fn is_own_block(task: Task) -> bool {
 }
 
 impl Spot<'_, '_> {
-    /// Why none of the zones covers this one.
-    fn push_uncovered(
+    fn push_touched(
         &self,
         alloc: Global,
         y: &PlacedZone<'_>,
@@ -76,17 +86,38 @@ impl Spot<'_, '_> {
     ) -> Result<(), OutOfMemory> {
         out.push_str("  touched: ")?;
         push_zone(alloc, self.known.scene, y, out)?;
-        out.push_str("\n")?;
+        Ok(out.push_str("\n")?)
+    }
+
+    /// Why the zones of its object do not cover this one; false where there are none.
+    fn push_covering(
+        &self,
+        alloc: Global,
+        y: &PlacedZone<'_>,
+        out: &mut String,
+    ) -> Result<bool, OutOfMemory> {
         let mut is_any = false;
         for zone in self.place.covering {
             let z = as_written(zone);
             let is_same = push_why_not(alloc, self.source.text, self.known, &z, y, out)?;
             is_any = is_any || is_same;
         }
-        if !is_any {
-            out.push_str("    no zone here is of that object\n")?;
+        Ok(is_any)
+    }
+
+    /// Why none of the zones covers this one.
+    fn push_uncovered(
+        &self,
+        alloc: Global,
+        y: &PlacedZone<'_>,
+        out: &mut String,
+    ) -> Result<(), OutOfMemory> {
+        self.push_touched(alloc, y, out)?;
+        if self.push_covering(alloc, y, out)? {
+            Ok(())
+        } else {
+            Ok(out.push_str("    no zone here is of that object\n")?)
         }
-        Ok(())
     }
 
     /// What is pending and conflicts with this zone.
@@ -96,9 +127,7 @@ impl Spot<'_, '_> {
         y: &PlacedZone<'_>,
         out: &mut String,
     ) -> Result<(), OutOfMemory> {
-        out.push_str("  touched: ")?;
-        push_zone(alloc, self.known.scene, y, out)?;
-        out.push_str("\n")?;
+        self.push_touched(alloc, y, out)?;
         for item in self.place.pending {
             let z = as_written(&item.zone);
             if conflict(alloc, self.place.facts, &z, y)? {
@@ -264,6 +293,30 @@ impl Spot<'_, '_> {
         self.push_used(findings, used, notes)
     }
 
+    /// Why the zones of its object that are pending at the target of an edge do not cover this one; false where there are none.
+    fn push_waiting(
+        &self,
+        alloc: Global,
+        edge: &EdgeFacts,
+        region: RegisterId,
+        y: &PlacedZone<'_>,
+        out: &mut String,
+    ) -> Result<bool, OutOfMemory> {
+        let known = Known {
+            facts: edge.facts.as_slice(),
+            ..self.known
+        };
+        let mut is_any = false;
+        for item in pending_at(known.scene.function, edge) {
+            if item.region.0 == region.0 {
+                let z = placed_on(edge, item);
+                let is_same = push_why_not(alloc, self.source.text, known, &z, y, out)?;
+                is_any = is_any || is_same;
+            }
+        }
+        Ok(is_any)
+    }
+
     /// Why a zone that may still be touched is not pending at the target of an edge.
     fn push_unpassed(
         &self,
@@ -273,36 +326,36 @@ impl Spot<'_, '_> {
         zone: &Zone,
         out: &mut String,
     ) -> Result<(), OutOfMemory> {
+        let scene = self.known.scene;
         let y = as_written(zone);
-        let known = Known {
-            facts: edge.facts.as_slice(),
-            ..self.known
-        };
-        let label = known.scene.label(edge.to);
-        write!(out, "  still pending on the edge to %{label}: ")?;
-        push_zone(alloc, known.scene, &y, out)?;
-        out.push_str("\n")?;
-        let waiting = pending_at(known.scene.function, edge);
-        let mut is_any = false;
-        for item in waiting {
-            let z = PlacedZone {
-                object: item.zone.object,
-                moves: edge.moves.as_slice(),
-                zone: &item.zone,
-            };
-            if item.region.0 == region.0 {
-                let is_same = push_why_not(alloc, self.source.text, known, &z, &y, out)?;
-                is_any = is_any || is_same;
+        push_still_pending(alloc, scene, edge.to, &y, out)?;
+        if self.push_waiting(alloc, edge, region, &y, out)? {
+            Ok(())
+        } else {
+            push_none_pending(scene, edge.to, region, out)
+        }
+    }
+
+    /// Whether a zone is empty, or one that is pending at the target of an edge covers it.
+    fn is_passed(
+        &self,
+        alloc: Global,
+        facts: &KnownFacts<'_>,
+        edge: &EdgeFacts,
+        region: RegisterId,
+        zone: &Zone,
+    ) -> Result<bool, OutOfMemory> {
+        let y = as_written(zone);
+        if is_empty(alloc, facts, &y)? {
+            return Ok(true);
+        }
+        for item in pending_at(self.known.scene.function, edge) {
+            let z = placed_on(edge, item);
+            if item.region.0 == region.0 && covers(alloc, facts, &z, &y)? {
+                return Ok(true);
             }
         }
-        if !is_any {
-            let name = known.scene.register(region);
-            writeln!(
-                out,
-                "    %{label} has no `pending %{name}` line of that object"
-            )?;
-        }
-        Ok(())
+        Ok(false)
     }
 
     /// Says why a zone is not pending at the target of an edge, if it is not.
@@ -317,21 +370,11 @@ impl Spot<'_, '_> {
         let mut cursor = FactCursor::new(alloc, edge.facts.as_slice());
         cursor.index()?;
         let facts = cursor.known();
-        let y = as_written(zone);
-        if is_empty(alloc, &facts, &y)? {
-            return Ok(());
+        if self.is_passed(alloc, &facts, edge, region, zone)? {
+            Ok(())
+        } else {
+            self.push_unpassed(alloc, edge, region, zone, out)
         }
-        for item in pending_at(self.known.scene.function, edge) {
-            let z = PlacedZone {
-                object: item.zone.object,
-                moves: edge.moves.as_slice(),
-                zone: &item.zone,
-            };
-            if item.region.0 == region.0 && covers(alloc, &facts, &z, &y)? {
-                return Ok(());
-            }
-        }
-        self.push_unpassed(alloc, edge, region, zone, out)
     }
 
     fn push_edge_notes(
@@ -388,6 +431,42 @@ fn pending_at<'a>(function: &'a Function, edge: &EdgeFacts) -> &'a [Pending] {
     }
 }
 
+/// What is pending at the target of an edge, with what phis take there put in.
+fn placed_on<'a>(edge: &'a EdgeFacts, item: &'a Pending) -> PlacedZone<'a> {
+    PlacedZone {
+        object: item.zone.object,
+        moves: edge.moves.as_slice(),
+        zone: &item.zone,
+    }
+}
+
+fn push_still_pending(
+    alloc: Global,
+    scene: &Scene<'_>,
+    to: BlockId,
+    y: &PlacedZone<'_>,
+    out: &mut String,
+) -> Result<(), OutOfMemory> {
+    let label = scene.label(to);
+    write!(out, "  still pending on the edge to %{label}: ")?;
+    push_zone(alloc, scene, y, out)?;
+    Ok(out.push_str("\n")?)
+}
+
+fn push_none_pending(
+    scene: &Scene<'_>,
+    to: BlockId,
+    region: RegisterId,
+    out: &mut String,
+) -> Result<(), OutOfMemory> {
+    let label = scene.label(to);
+    let name = scene.register(region);
+    Ok(writeln!(
+        out,
+        "    %{label} has no `pending %{name}` line of that object"
+    )?)
+}
+
 /// The caller's object for a callee's name.
 fn object_put(arguments: &[Argument], object: ObjectName) -> Option<ObjectName> {
     match object {
@@ -422,6 +501,41 @@ fn push_end(
     Ok(())
 }
 
+impl Tasked<'_, '_> {
+    /// Adds the faults of the steps.
+    fn push_steps(
+        &self,
+        alloc: Global,
+        cursor: &mut FactCursor<'_>,
+        findings: &mut Vec<Finding>,
+    ) -> Result<(), OutOfMemory> {
+        for (place, step) in self.block.steps.as_slice().iter().enumerate() {
+            cursor.seek(self.table.count_at(place));
+            cursor.index()?;
+            let known = cursor.known();
+            spot_at(&*self, &known, step.line).push_step(alloc, step, findings)?;
+        }
+        Ok(())
+    }
+
+    /// Adds the faults of the end.
+    fn push_ending(
+        &self,
+        alloc: Global,
+        cursor: &mut FactCursor<'_>,
+        findings: &mut Vec<Finding>,
+    ) -> Result<(), OutOfMemory> {
+        let Some(ending) = &self.block.ending else {
+            return Ok(());
+        };
+        cursor.seek(self.table.facts.len());
+        cursor.index()?;
+        let known = cursor.known();
+        let spot = spot_at(&*self, &known, ending.line);
+        push_end(alloc, spot, ending, self.table.edges.as_slice(), findings)
+    }
+}
+
 /// Adds the faults of a block of a task.
 fn push_block<'a>(
     alloc: Global,
@@ -434,66 +548,41 @@ fn push_block<'a>(
 ) -> Result<(), OutOfMemory> {
     let (table, _) = block_facts(alloc, scene.program, scene.function, index, block)?;
     let lines = fact_lines(alloc, scene.function, index, block, &table)?;
+    let tasked = Tasked {
+        source,
+        scene: &*scene,
+        task,
+        block: &*block,
+        table: &table,
+        lines: lines.as_slice(),
+    };
     let mut cursor = FactCursor::new(alloc, table.facts.as_slice());
-    for (place, step) in block.steps.as_slice().iter().enumerate() {
-        cursor.seek(table.count_at(place));
-        cursor.index()?;
-        let known = cursor.known();
-        let spot = spot_at(
-            source,
-            &*scene,
-            task,
-            &*block,
-            &known,
-            lines.as_slice(),
-            step.line,
-        );
-        spot.push_step(alloc, step, findings)?;
-    }
-    if let Some(ending) = &block.ending {
-        cursor.seek(table.facts.len());
-        cursor.index()?;
-        let known = cursor.known();
-        let spot = spot_at(
-            source,
-            &*scene,
-            task,
-            &*block,
-            &known,
-            lines.as_slice(),
-            ending.line,
-        );
-        push_end(alloc, spot, ending, table.edges.as_slice(), findings)?;
-    }
-    Ok(())
+    tasked.push_steps(alloc, &mut cursor, findings)?;
+    tasked.push_ending(alloc, &mut cursor, findings)
 }
 
 fn spot_at<'s, 'a>(
-    source: Source<'s>,
-    scene: &'a Scene<'a>,
-    task: Task,
-    block: &'a Block,
+    tasked: &'a Tasked<'s, 'a>,
     known: &'a KnownFacts<'a>,
-    lines: &'a [u32],
     line: u32,
 ) -> Spot<'s, 'a> {
     let facts = known.facts();
     Spot {
-        source,
+        source: tasked.source,
         known: Known {
-            scene,
+            scene: tasked.scene,
             facts,
-            lines,
+            lines: tasked.lines,
             stated: facts.len(),
             line,
         },
         place: Place {
             facts: known,
-            covering: covering_of(scene.function, task),
-            own: is_own_block(task),
-            pending: block.pending.as_slice(),
+            covering: covering_of(tasked.scene.function, tasked.task),
+            own: is_own_block(tasked.task),
+            pending: tasked.block.pending.as_slice(),
         },
-        block,
+        block: tasked.block,
     }
 }
 

@@ -88,25 +88,66 @@ pub fn between(
 /// The annotation's line as the text has it.
 fn push_candidate(text: &str, line: u32, out: &mut String) -> Result<(), OutOfMemory> {
     let words = line_at(text, line).unwrap_or("").trim();
-    writeln!(out, "    line {line}, {words}")?;
-    Ok(())
+    Ok(writeln!(out, "    line {line}, {words}")?)
 }
 
-/// An end of a zone that is not shown to reach as far.
+/// A line on how far what is known is from showing a sum.
+fn push_gap_line(
+    alloc: Global,
+    known: Known<'_>,
+    what: &str,
+    sum: &Sum,
+    out: &mut String,
+) -> Result<(), OutOfMemory> {
+    out.push_str(what)?;
+    known.push_gap(alloc, sum, out)?;
+    Ok(out.push_str("\n")?)
+}
+
+/// An end of a zone, where it is not shown to reach as far.
 fn push_end(
     alloc: Global,
     known: Known<'_>,
+    what: &str,
     sum: &Sum,
-    end: &str,
     out: &mut String,
-) -> Result<bool, OutOfMemory> {
+) -> Result<(), OutOfMemory> {
     if shows(alloc, known.facts, sum)? {
-        return Ok(false);
+        Ok(())
+    } else {
+        push_gap_line(alloc, known, what, sum, out)
     }
-    write!(out, "      its {end} end: ")?;
-    known.push_gap(alloc, sum, out)?;
-    out.push_str("\n")?;
-    Ok(true)
+}
+
+fn push_low_end(
+    alloc: Global,
+    known: Known<'_>,
+    z: &PlacedZone<'_>,
+    y: &PlacedZone<'_>,
+    out: &mut String,
+) -> Result<(), OutOfMemory> {
+    let low = between(alloc, y.moves, &y.zone.low, z.moves, &z.zone.low)?;
+    push_end(alloc, known, "      its low end: ", &low, out)
+}
+
+fn push_high_end(
+    alloc: Global,
+    known: Known<'_>,
+    z: &PlacedZone<'_>,
+    y: &PlacedZone<'_>,
+    out: &mut String,
+) -> Result<(), OutOfMemory> {
+    let high = between(alloc, z.moves, &z.zone.high, y.moves, &y.zone.high)?;
+    push_end(alloc, known, "      its high end: ", &high, out)
+}
+
+/// A mode that a zone's own does not let.
+fn push_mode(own: Mode, wanted: Mode, out: &mut String) -> Result<(), OutOfMemory> {
+    if !mode_covers(own, wanted) {
+        let mode = mode_word(wanted);
+        writeln!(out, "      its mode does not let {mode}")?;
+    }
+    Ok(())
 }
 
 /// Why `z`, which stands on a line of the text, does not cover `y`. Says nothing of another object.
@@ -122,15 +163,29 @@ pub fn push_why_not(
         return Ok(false);
     }
     push_candidate(text, z.zone.line, out)?;
-    if !mode_covers(z.zone.mode, y.zone.mode) {
-        let mode = mode_word(y.zone.mode);
-        writeln!(out, "      its mode does not let {mode}")?;
-    }
-    let low = between(alloc, y.moves, &y.zone.low, z.moves, &z.zone.low)?;
-    push_end(alloc, known, &low, "low", out)?;
-    let high = between(alloc, z.moves, &z.zone.high, y.moves, &y.zone.high)?;
-    push_end(alloc, known, &high, "high", out)?;
+    push_mode(z.zone.mode, y.zone.mode, out)?;
+    push_low_end(alloc, known, z, y, out)?;
+    push_high_end(alloc, known, z, y, out)?;
     Ok(true)
+}
+
+/// What would have to be shown for one zone to begin behind another.
+fn push_behind(
+    alloc: Global,
+    known: Known<'_>,
+    what: &str,
+    later: &PlacedZone<'_>,
+    earlier: &PlacedZone<'_>,
+    out: &mut String,
+) -> Result<(), OutOfMemory> {
+    let room = between(
+        alloc,
+        later.moves,
+        &later.zone.low,
+        earlier.moves,
+        &earlier.zone.high,
+    )?;
+    push_gap_line(alloc, known, what, &room, out)
 }
 
 /// What would have to be shown for two zones to be apart.
@@ -143,12 +198,6 @@ pub fn push_why_beside(
     out: &mut String,
 ) -> Result<(), OutOfMemory> {
     push_candidate(text, z.zone.line, out)?;
-    out.push_str("      to end before it: ")?;
-    let before = between(alloc, z.moves, &z.zone.low, y.moves, &y.zone.high)?;
-    known.push_gap(alloc, &before, out)?;
-    out.push_str("\n      to begin after it: ")?;
-    let after = between(alloc, y.moves, &y.zone.low, z.moves, &z.zone.high)?;
-    known.push_gap(alloc, &after, out)?;
-    out.push_str("\n")?;
-    Ok(())
+    push_behind(alloc, known, "      to end before it: ", z, y, out)?;
+    push_behind(alloc, known, "      to begin after it: ", y, z, out)
 }
