@@ -38,10 +38,14 @@ zone_of line mode (object ∷ low ∷ high ∷ []) =
     })
 zone_of line mode _ = Err 103
 
--- F max N, N up to 4096
+-- max N, N up to 4096
+abbrev pub bound_of : List ℕ → List ℕ → Result (Limited ℕ) ℕ
+bound_of max bound = if bytes_eq max (codes "max") then number_of 4096 bound else Err 103
+
+-- F max N
 unfoldable pub measure_of : ℕ → List (List ℕ) → Result (Limited Measure) ℕ
 measure_of line (form ∷ max ∷ bound ∷ []) =
-    form_of form >>= λ f. (if bytes_eq max (codes "max") then number_of 4096 bound else Err 103) >>= λ n.
+    form_of form >>= λ f. bound_of max bound >>= λ n.
     Ok (record { value = record { line = line; form = f.value; bound = n.value }; is_within_limits = f.is_within_limits && n.is_within_limits })
 measure_of line _ = Err 103
 
@@ -73,6 +77,13 @@ pending_of line (region ∷ words) =
 
 abbrev pub as_line : {A : Type 0} → (A → Annotation) → Limited A → AnnotationLine
 as_line kind found = record { annotation = kind found.value; is_within_limits = found.is_within_limits }
+
+-- what an inequality says behind these words, and behind shows
+abbrev pub compared : Keyword → Inequality → Annotation
+compared keyword.Requires = annotation.Requires
+compared keyword.Ensures = annotation.Ensures
+compared keyword.Keeps = annotation.Keeps
+compared _ = annotation.Shows
 
 -- behind the first word
 unfoldable pub annotation_behind : ℕ → Keyword → List (List ℕ) → Result AnnotationLine ℕ

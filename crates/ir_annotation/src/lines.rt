@@ -3,7 +3,7 @@
 ghost use Rattle.std.specs.Prelude.{◌≡◌};
 ghost use Rattle.ir_annotation.specs.Reading.{Gives, made};
 ghost use Rattle.ir_annotation.specs.Lines.{as_line, inequality_of, zone_of, measure_of, budget_from_words, left_of, moded_zone_of, pending_of};
-ghost use Rattle.ir_annotation.specs.Lines.{annotation_behind, annotation_of};
+ghost use Rattle.ir_annotation.specs.Lines.{compared, bound_of, annotation_behind, annotation_of};
 
 use crate::forms::read_form;
 use crate::keywords::{Keyword, read_keyword};
@@ -14,6 +14,16 @@ use lists::Name;
 use refusal::Refused;
 use std::alloc::Global;
 use syntax::{Budget, Inequality, Left, Measure, Mode, Pending, Zone};
+
+/// An annotation's line, within the limits or not.
+fn line_of(annotation: Annotation, is_within_limits: bool) -> AnnotationLine
+    ensures { result ≡ record { annotation = annotation; is_within_limits = is_within_limits } }
+{
+    AnnotationLine {
+        annotation,
+        is_within_limits,
+    }
+}
 
 /// `F R F`
 #[tactic(auto, unfolding(crate::specs::Lines::inequality_of))]
@@ -60,67 +70,78 @@ fn read_zone(alloc: Global, mode: Mode, words: &[Name], line: u32) -> Result<Lim
     })
 }
 
+/// `max N`
+fn read_bound(max: &[u8], bound: &[u8], line: u32) -> Result<Limited<u64>, Refused>
+    ensures { Gives (λ n. n) line result (bound_of max.now bound.now) }
+{
+    if max == b"max".as_slice() {
+        read_number(MEASURE_MOST, bound, line)
+    } else {
+        Err(unexpected(line))
+    }
+}
+
 /// `F max N`
 #[tactic(auto, unfolding(crate::specs::Lines::measure_of))]
-fn read_measure(alloc: Global, words: &[Name], line: u32) -> Result<Limited<Measure>, Refused>
-    ensures { Gives (λ m. m) line result (measure_of line words.now) }
+fn read_measure(alloc: Global, words: &[Name], line: u32) -> Result<AnnotationLine, Refused>
+    ensures { Gives (λ a. a) line result (made (as_line Annotation.Measure) (measure_of line words.now)) }
 {
     let [form, max, bound] = words else {
         return Err(unexpected(line));
     };
     let form = read_form(alloc, form.as_bytes(), line)?;
-    if max.as_bytes() != b"max".as_slice() {
-        return Err(unexpected(line));
-    }
-    let bound = read_number(MEASURE_MOST, bound.as_bytes(), line)?;
-    Ok(Limited {
-        value: Measure {
-            line,
-            form: form.value,
-            bound: bound.value,
-        },
-        is_within_limits: form.is_within_limits && bound.is_within_limits,
-    })
+    let bound = read_bound(max.as_bytes(), bound.as_bytes(), line)?;
+    let measure = Measure {
+        line,
+        form: form.value,
+        bound: bound.value,
+    };
+    Ok(line_of(
+        Annotation::Measure(measure),
+        form.is_within_limits && bound.is_within_limits,
+    ))
 }
 
 /// `K S`
 #[tactic(auto, unfolding(crate::specs::Lines::budget_from_words))]
-fn read_budget(words: &[Name], line: u32) -> Result<Limited<Budget>, Refused>
-    ensures { Gives (λ b. b) line result (budget_from_words line words.now) }
+fn read_budget(words: &[Name], line: u32) -> Result<AnnotationLine, Refused>
+    ensures { Gives (λ a. a) line result (made (as_line Annotation.Budget) (budget_from_words line words.now)) }
 {
     let [calls, instructions] = words else {
         return Err(unexpected(line));
     };
     let calls = read_number(BUDGET_MOST, calls.as_bytes(), line)?;
     let instructions = read_number(BUDGET_MOST, instructions.as_bytes(), line)?;
-    Ok(Limited {
-        value: Budget {
-            line,
-            self_calls: calls.value,
-            instructions: instructions.value,
-        },
-        is_within_limits: calls.is_within_limits && instructions.is_within_limits,
-    })
+    let budget = Budget {
+        line,
+        self_calls: calls.value,
+        instructions: instructions.value,
+    };
+    Ok(line_of(
+        Annotation::Budget(budget),
+        calls.is_within_limits && instructions.is_within_limits,
+    ))
 }
 
 /// `F F`
 #[tactic(auto, unfolding(crate::specs::Lines::left_of))]
-fn read_left(alloc: Global, words: &[Name], line: u32) -> Result<Limited<Left>, Refused>
-    ensures { Gives (λ l. l) line result (left_of line words.now) }
+fn read_left(alloc: Global, words: &[Name], line: u32) -> Result<AnnotationLine, Refused>
+    ensures { Gives (λ a. a) line result (made (as_line Annotation.Left) (left_of line words.now)) }
 {
     let [calls, instructions] = words else {
         return Err(unexpected(line));
     };
     let calls = read_form(alloc, calls.as_bytes(), line)?;
     let instructions = read_form(alloc, instructions.as_bytes(), line)?;
-    Ok(Limited {
-        value: Left {
-            line,
-            self_calls: calls.value,
-            instructions: instructions.value,
-        },
-        is_within_limits: calls.is_within_limits && instructions.is_within_limits,
-    })
+    let left = Left {
+        line,
+        self_calls: calls.value,
+        instructions: instructions.value,
+    };
+    Ok(line_of(
+        Annotation::Left(left),
+        calls.is_within_limits && instructions.is_within_limits,
+    ))
 }
 
 /// `MODE O F F`
@@ -137,31 +158,22 @@ fn read_moded_zone(alloc: Global, words: &[Name], line: u32) -> Result<Limited<Z
 
 /// `%s MODE O F F`
 #[tactic(auto, unfolding(crate::specs::Lines::pending_of))]
-fn read_pending(alloc: Global, words: &[Name], line: u32) -> Result<Limited<Pending>, Refused>
-    ensures { Gives (λ p. p) line result (pending_of line words.now) }
+fn read_pending(alloc: Global, words: &[Name], line: u32) -> Result<AnnotationLine, Refused>
+    ensures { Gives (λ a. a) line result (made (as_line Annotation.Pending) (pending_of line words.now)) }
 {
     let [region, words @ ..] = words else {
         return Err(unexpected(line));
     };
     let region = read_register(alloc, region.as_bytes(), line)?;
     let zone = read_moded_zone(alloc, words, line)?;
-    Ok(Limited {
-        value: Pending {
-            region: region.value,
-            zone: zone.value,
-        },
-        is_within_limits: region.is_within_limits && zone.is_within_limits,
-    })
-}
-
-/// An annotation's line, within the limits or not.
-fn line_of(annotation: Annotation, is_within_limits: bool) -> AnnotationLine
-    ensures { result ≡ record { annotation = annotation; is_within_limits = is_within_limits } }
-{
-    AnnotationLine {
-        annotation,
-        is_within_limits,
-    }
+    let pending = Pending {
+        region: region.value,
+        zone: zone.value,
+    };
+    Ok(line_of(
+        Annotation::Pending(pending),
+        region.is_within_limits && zone.is_within_limits,
+    ))
 }
 
 /// A zone of a function behind its mode.
@@ -180,6 +192,39 @@ fn read_function_zone(
     ))
 }
 
+/// A zone of a block behind `foot`.
+fn read_foot(alloc: Global, words: &[Name], line: u32) -> Result<AnnotationLine, Refused>
+    ensures { Gives (λ a. a) line result (made (as_line Annotation.Foot) (moded_zone_of line words.now)) }
+{
+    let found = read_moded_zone(alloc, words, line)?;
+    Ok(line_of(Annotation::Foot(found.value), found.is_within_limits))
+}
+
+/// What an inequality says behind `requires`, `ensures` and `keeps`, and behind `shows`.
+fn compared(keyword: Keyword, inequality: Inequality) -> Annotation
+    ensures { result ≡ compared keyword inequality }
+{
+    match keyword {
+        Keyword::Requires => Annotation::Requires(inequality),
+        Keyword::Ensures => Annotation::Ensures(inequality),
+        Keyword::Keeps => Annotation::Keeps(inequality),
+        _ => Annotation::Shows(inequality),
+    }
+}
+
+/// An inequality behind its word.
+fn read_compared(
+    alloc: Global,
+    keyword: Keyword,
+    words: &[Name],
+    line: u32,
+) -> Result<AnnotationLine, Refused>
+    ensures { Gives (λ a. a) line result (made (as_line (compared keyword)) (inequality_of line words.now)) }
+{
+    let found = read_inequality(alloc, words, line)?;
+    Ok(line_of(compared(keyword, found.value), found.is_within_limits))
+}
+
 /// What stands behind the first word.
 #[tactic(auto, unfolding(crate::specs::Lines::annotation_behind))]
 fn read_behind(
@@ -191,45 +236,18 @@ fn read_behind(
     ensures { Gives (λ a. a) line result (annotation_behind line keyword words.now) }
 {
     match keyword {
-        Keyword::Requires => {
-            let found = read_inequality(alloc, words, line)?;
-            Ok(line_of(Annotation::Requires(found.value), found.is_within_limits))
-        }
-        Keyword::Ensures => {
-            let found = read_inequality(alloc, words, line)?;
-            Ok(line_of(Annotation::Ensures(found.value), found.is_within_limits))
-        }
-        Keyword::Keeps => {
-            let found = read_inequality(alloc, words, line)?;
-            Ok(line_of(Annotation::Keeps(found.value), found.is_within_limits))
-        }
-        Keyword::Shows => {
-            let found = read_inequality(alloc, words, line)?;
-            Ok(line_of(Annotation::Shows(found.value), found.is_within_limits))
-        }
+        Keyword::Requires => read_compared(alloc, Keyword::Requires, words, line),
+        Keyword::Ensures => read_compared(alloc, Keyword::Ensures, words, line),
+        Keyword::Keeps => read_compared(alloc, Keyword::Keeps, words, line),
+        Keyword::Shows => read_compared(alloc, Keyword::Shows, words, line),
         Keyword::Reads => read_function_zone(alloc, Mode::Reads, words, line),
         Keyword::Writes => read_function_zone(alloc, Mode::Writes, words, line),
         Keyword::Adds => read_function_zone(alloc, Mode::Adds, words, line),
-        Keyword::Measure => {
-            let found = read_measure(alloc, words, line)?;
-            Ok(line_of(Annotation::Measure(found.value), found.is_within_limits))
-        }
-        Keyword::Budget => {
-            let found = read_budget(words, line)?;
-            Ok(line_of(Annotation::Budget(found.value), found.is_within_limits))
-        }
-        Keyword::Pending => {
-            let found = read_pending(alloc, words, line)?;
-            Ok(line_of(Annotation::Pending(found.value), found.is_within_limits))
-        }
-        Keyword::Left => {
-            let found = read_left(alloc, words, line)?;
-            Ok(line_of(Annotation::Left(found.value), found.is_within_limits))
-        }
-        Keyword::Foot => {
-            let found = read_moded_zone(alloc, words, line)?;
-            Ok(line_of(Annotation::Foot(found.value), found.is_within_limits))
-        }
+        Keyword::Measure => read_measure(alloc, words, line),
+        Keyword::Budget => read_budget(words, line),
+        Keyword::Pending => read_pending(alloc, words, line),
+        Keyword::Left => read_left(alloc, words, line),
+        Keyword::Foot => read_foot(alloc, words, line),
     }
 }
 

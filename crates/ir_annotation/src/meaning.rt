@@ -1,7 +1,7 @@
 use syntax::{Budget, Inequality, Left, Measure, Pending, Zone};
 
 /// What an annotation says.
-#[derive(Debug, Drop)]
+#[derive(Drop)]
 pub enum Annotation {
     /// `requires F R F`
     Requires(Inequality),
@@ -27,7 +27,7 @@ pub enum Annotation {
 
 /// An annotation, and whether the names and numbers of its line are within the limits of a module's text. A number past its limit
 /// stands in it as 0.
-#[derive(Debug, Drop)]
+#[derive(Drop)]
 pub struct AnnotationLine {
     pub annotation: Annotation,
     pub is_within_limits: bool,

@@ -2,7 +2,7 @@
 //!
 //! A public call writes its words to a text of their own first, so the text that it is lent gets all of them or none.
 
-ghost use Rattle.std.specs.Prelude.{◌≡◌, ◌++◌, OnOk, OnErr, string_bytes, flat_map, false};
+ghost use Rattle.std.specs.Prelude.{◌≡◌, ◌++◌, OnOk, OnErr, string_bytes, codes, flat_map, false};
 ghost use Rattle.ir_annotation.specs.Spelling.{sign_text, factor_text, term_text, constant_text, terms_text, form_text, relation_text, mode_text};
 ghost use Rattle.ir_annotation.specs.Spelling.{object_text, inequality_text, zone_text, measure_text, budget_text, pending_text, left_text};
 ghost use Rattle.ir_annotation.specs.Spelling.{foot_text};
@@ -80,12 +80,27 @@ fn write_form(out: &mut String, form: &Form) -> Result<(), AllocError>
     }
 }
 
-fn relation_text(relation: Relation) -> &'static str
-    ensures { result.now ≡ relation_text relation }
+/// Two forms, and what stands between them.
+fn write_forms(
+    out: &mut String,
+    first: &Form,
+    between: &str,
+    second: &Form,
+) -> Result<(), AllocError>
+    ensures { OnOk result (string_bytes out.new ≡ string_bytes out.old ++ form_text first.now ++ between.now ++ form_text second.now) }
+{
+    write_form(out, first)?;
+    out.push_str(between)?;
+    write_form(out, second)
+}
+
+/// A relation between spaces.
+fn spaced_relation(relation: Relation) -> &'static str
+    ensures { result.now ≡ codes " " ++ relation_text relation ++ codes " " }
 {
     match relation {
-        Relation::AtMost => "<=",
-        Relation::AtLeast => ">=",
+        Relation::AtMost => " <= ",
+        Relation::AtLeast => " >= ",
     }
 }
 
@@ -120,24 +135,30 @@ fn write_inequality(out: &mut String, word: &str, inequality: &Inequality) -> Re
 {
     out.push_str(word)?;
     out.push_str(" ")?;
-    write_form(out, &inequality.left)?;
+    write_forms(
+        out,
+        &inequality.left,
+        spaced_relation(inequality.relation),
+        &inequality.right,
+    )
+}
+
+/// `MODE O`
+fn write_moded_object(out: &mut String, mode: Mode, object: &Address) -> Result<(), AllocError>
+    ensures { OnOk result (string_bytes out.new ≡ string_bytes out.old ++ mode_text mode ++ codes " " ++ object_text object.now) }
+{
+    out.push_str(mode_text(mode))?;
     out.push_str(" ")?;
-    out.push_str(relation_text(inequality.relation))?;
-    out.push_str(" ")?;
-    write_form(out, &inequality.right)
+    write_object(out, object)
 }
 
 #[tactic(auto, unfolding(crate::specs::Spelling::zone_text))]
 fn write_zone(out: &mut String, zone: &Zone) -> Result<(), AllocError>
     ensures { OnOk result (string_bytes out.new ≡ string_bytes out.old ++ zone_text zone.now) }
 {
-    out.push_str(mode_text(zone.mode))?;
+    write_moded_object(out, zone.mode, &zone.object)?;
     out.push_str(" ")?;
-    write_object(out, &zone.object)?;
-    out.push_str(" ")?;
-    write_form(out, &zone.low)?;
-    out.push_str(" ")?;
-    write_form(out, &zone.high)
+    write_forms(out, &zone.low, " ", &zone.high)
 }
 
 #[tactic(auto, unfolding(crate::specs::Spelling::measure_text))]
@@ -175,9 +196,7 @@ fn write_left(out: &mut String, left: &Left) -> Result<(), AllocError>
     ensures { OnOk result (string_bytes out.new ≡ string_bytes out.old ++ left_text left.now) }
 {
     out.push_str("left ")?;
-    write_form(out, &left.self_calls)?;
-    out.push_str(" ")?;
-    write_form(out, &left.instructions)
+    write_forms(out, &left.self_calls, " ", &left.instructions)
 }
 
 #[tactic(auto, unfolding(crate::specs::Spelling::foot_text))]

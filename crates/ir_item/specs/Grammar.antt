@@ -1,6 +1,8 @@
 -- The kinds of items: which one a line is, and what it says.
-use Rattle.std.specs.Prelude.{ℕ, ◌==◌, List, [], ◌∷◌, codes, Option, None, if◌then◌else◌, option_map}
+use Rattle.std.specs.Prelude.{ℕ, ◌==◌, List, [], ◌∷◌, codes, Option, None, Result, Ok, Err, if◌then◌else◌, option_map}
 use Rattle.std.specs.Str.{bytes_eq}
+use Rattle.syntax.specs.declared.instruction.Instruction.{Instruction}
+use Rattle.ir_instruction.specs.declared.fault.LineFault.{LineFault}
 use Rattle.ir_instruction.specs.declared.symbol.Symbol.{Symbol}
 use Rattle.ir_instruction.specs.declared.symbol.Symbol.TheVariants.{Register, Global, Word, Mark}
 use Rattle.ir_instruction.specs.Outcome.{◌>>=◌}
@@ -17,14 +19,23 @@ global_from at name g = item.Global (record { line = at; name = name; cells = g.
 abbrev pub define_from : Gaps define_shape → Item
 define_from g = item.Define g.1.0 g.0 g.1.1.0
 
+-- what was read of an instruction, as the item of its line
+abbrev pub as_item : Result Instruction LineFault → Result Item LineFault
+as_item (Ok instruction) = Ok (item.Instruction instruction)
+as_item (Err fault) = Err fault
+
 -- Which kind a line is
 
--- behind '%d ='
-unfoldable pub definition : ℕ → List ℕ → List Symbol → Option Item
-definition at d (Word text ∷ rest) =
+-- behind '%d =' and a word
+abbrev pub worded_definition : ℕ → List ℕ → List ℕ → List Symbol → Option Item
+worded_definition at d text rest =
     if bytes_eq text (codes "phi") then option_map (λ g. item.Phi (phi_from at d g)) (gaps_of phi_shape rest)
     else if bytes_eq text (codes "call") then option_map item.Instruction (call d rest)
     else option_map item.Instruction (fixed d text rest)
+
+-- behind '%d ='
+unfoldable pub definition : ℕ → List ℕ → List Symbol → Option Item
+definition at d (Word text ∷ rest) = worded_definition at d text rest
 definition at d _ = None
 
 -- behind a first word that is no label

@@ -3,7 +3,7 @@ use lists::{Name, Seq};
 use syntax::{Global, Instruction, Parameter, Phi, ResultType, Terminator};
 
 /// What a line of the text says. Lines that are blank or hold only a comment say nothing.
-#[derive(Debug, Drop)]
+#[derive(Drop)]
 pub enum Item {
     Global(Global),
     /// `define T @f(..) {`

@@ -18,7 +18,7 @@ use refusal::Refused;
 use std::alloc::Global;
 
 /// An item with the judgement of its numbers and names.
-#[derive(Debug, Drop)]
+#[derive(Drop)]
 pub struct Line {
     pub item: Item,
     /// Whether each number is in its range and each name has at most 64 bytes. A number outside its range is any number in it.

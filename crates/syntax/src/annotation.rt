@@ -3,28 +3,28 @@ use crate::operator::Mode;
 use lists::{Name, Seq};
 
 /// A register times a number; the number is not 0.
-#[derive(Debug, Drop)]
+#[derive(Drop)]
 pub struct Term {
     pub register: Name,
     pub coefficient: i64,
 }
 
 /// A sum of registers times numbers, and a number. The terms rise by the bytes of their names; no number is -2^63.
-#[derive(Debug, Drop)]
+#[derive(Drop)]
 pub struct Form {
     pub terms: Seq<Term>,
     pub constant: i64,
 }
 
 /// `<=` or `>=`
-#[derive(Clone, Copy, Debug, PartialEq, Eq)]
+#[derive(Clone, Copy, PartialEq, Eq)]
 pub enum Relation {
     AtMost,
     AtLeast,
 }
 
 /// `F R F` of `requires`, `ensures`, `keeps` and `shows`.
-#[derive(Debug, Drop)]
+#[derive(Drop)]
 pub struct Inequality {
     pub line: u32,
     pub left: Form,
@@ -33,7 +33,7 @@ pub struct Inequality {
 }
 
 /// Cells of an object from `low` to before `high`: `O F F`.
-#[derive(Debug, Drop)]
+#[derive(Drop)]
 pub struct Zone {
     pub line: u32,
     pub mode: Mode,
@@ -43,14 +43,14 @@ pub struct Zone {
 }
 
 /// `pending %s MODE O F F`
-#[derive(Debug, Drop)]
+#[derive(Drop)]
 pub struct Pending {
     pub region: Name,
     pub zone: Zone,
 }
 
 /// `measure F max N`. Where it is left out it is `0 max 0` on the function's line.
-#[derive(Debug, Drop)]
+#[derive(Drop)]
 pub struct Measure {
     pub line: u32,
     pub form: Form,
@@ -58,7 +58,7 @@ pub struct Measure {
 }
 
 /// `budget K S`: self calls and instructions. Where it is left out it is `0 0` on the function's line.
-#[derive(Debug, Drop)]
+#[derive(Drop)]
 pub struct Budget {
     pub line: u32,
     pub self_calls: u64,
@@ -66,7 +66,7 @@ pub struct Budget {
 }
 
 /// `left F F`: self calls and instructions. Where it is left out it is `0 0` on the label's line.
-#[derive(Debug, Drop)]
+#[derive(Drop)]
 pub struct Left {
     pub line: u32,
     pub self_calls: Form,
@@ -74,7 +74,7 @@ pub struct Left {
 }
 
 /// The annotations of a function, each kind in the order of the text.
-#[derive(Debug, Drop)]
+#[derive(Drop)]
 pub struct FunctionNotes {
     pub requirements: Seq<Inequality>,
     pub guarantees: Seq<Inequality>,
@@ -86,7 +86,7 @@ pub struct FunctionNotes {
 }
 
 /// The annotations at the head of a block, each kind in the order of the text.
-#[derive(Debug, Drop)]
+#[derive(Drop)]
 pub struct BlockNotes {
     pub keeps: Seq<Inequality>,
     pub pending: Seq<Pending>,

@@ -6,28 +6,28 @@ use crate::operator::{BinaryOperator, Conversion, Predicate, Width};
 use lists::{Name, Seq};
 
 /// A value of a number's type as the text writes it: a number or a register.
-#[derive(Debug, Drop)]
+#[derive(Drop)]
 pub enum Operand {
     Number(i64),
     Register(Name),
 }
 
 /// A value of type `ptr` as the text writes it: a register or a global.
-#[derive(Debug, Drop)]
+#[derive(Drop)]
 pub enum Address {
     Register(Name),
     Global(Name),
 }
 
 /// An argument of a call: `i64 V` or `ptr P`.
-#[derive(Debug, Drop)]
+#[derive(Drop)]
 pub enum Argument {
     Number(Operand),
     Pointer(Address),
 }
 
 /// How an `alloca` spells its size: `i64` or `[N x i64]`.
-#[derive(Clone, Copy, Debug, PartialEq, Eq)]
+#[derive(Clone, Copy, PartialEq, Eq)]
 pub enum AllocaSize {
     One,
     Array(u64),
@@ -46,14 +46,14 @@ impl AllocaSize {
 }
 
 /// `[ V, %l ]` of a phi.
-#[derive(Debug, Drop)]
+#[derive(Drop)]
 pub struct PhiEntry {
     pub value: Operand,
     pub predecessor: Name,
 }
 
 /// `%d = phi T [ V, %l ], ..`
-#[derive(Debug, Drop)]
+#[derive(Drop)]
 pub struct Phi {
     pub line: u32,
     pub register: Name,
@@ -62,7 +62,7 @@ pub struct Phi {
 }
 
 /// An instruction that is neither a phi nor a terminator. `register` is the register that it defines.
-#[derive(Debug, Drop)]
+#[derive(Drop)]
 pub enum Instruction {
     /// `%d = OP T V, V`
     Binary {
@@ -130,7 +130,7 @@ pub enum Instruction {
 }
 
 /// An instruction with the `shows` lines directly before it.
-#[derive(Debug, Drop)]
+#[derive(Drop)]
 pub struct Step {
     pub line: u32,
     pub shows: Seq<Inequality>,

@@ -4,7 +4,7 @@ use crate::terminator::Ending;
 use lists::{Name, Seq};
 
 /// `@a = global [N x i64] zeroinitializer`
-#[derive(Debug, Drop)]
+#[derive(Drop)]
 pub struct Global {
     pub line: u32,
     pub name: Name,
@@ -12,14 +12,14 @@ pub struct Global {
 }
 
 /// `i64` or `void`
-#[derive(Clone, Copy, Debug, PartialEq, Eq)]
+#[derive(Clone, Copy, PartialEq, Eq)]
 pub enum ResultType {
     Number,
     Void,
 }
 
 /// A parameter, on the line of its `define`. A pointer's bytes are eight times its cells.
-#[derive(Debug, Drop)]
+#[derive(Drop)]
 pub enum Parameter {
     /// `i64 %x`
     Number { name: Name },
@@ -28,7 +28,7 @@ pub enum Parameter {
 }
 
 /// A label with all that stands up to the next one. A block without an ending is refused by the layers above.
-#[derive(Debug, Drop)]
+#[derive(Drop)]
 pub struct Block {
     pub line: u32,
     pub label: Name,
@@ -39,7 +39,6 @@ pub struct Block {
 }
 
 /// A function; its first block is the entry.
-#[derive(Debug)]
 pub struct Function {
     pub line: u32,
     pub name: Name,
@@ -64,7 +63,7 @@ impl Drop for Function {
 }
 
 /// A module as its text spells it.
-#[derive(Debug, Drop)]
+#[derive(Drop)]
 pub struct Module {
     pub globals: Seq<Global>,
     pub functions: Seq<Function>,

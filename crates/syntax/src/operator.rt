@@ -1,12 +1,12 @@
 /// The width of a number's type: `i64` or `i32`.
-#[derive(Clone, Copy, Debug, PartialEq, Eq)]
+#[derive(Clone, Copy, PartialEq, Eq)]
 pub enum Width {
     Bits64,
     Bits32,
 }
 
 /// A binary operation on integers (LLVM Language Reference, "Binary Operations" and "Bitwise Binary Operations").
-#[derive(Clone, Copy, Debug, PartialEq, Eq)]
+#[derive(Clone, Copy, PartialEq, Eq)]
 pub enum BinaryOperator {
     /// `add`
     Add,
@@ -43,7 +43,7 @@ pub enum BinaryOperator {
 }
 
 /// How `icmp` compares (LLVM Language Reference, "icmp").
-#[derive(Clone, Copy, Debug, PartialEq, Eq)]
+#[derive(Clone, Copy, PartialEq, Eq)]
 pub enum Predicate {
     /// `eq`
     Equal,
@@ -68,7 +68,7 @@ pub enum Predicate {
 }
 
 /// A conversion between the two widths (LLVM Language Reference, "Conversion Operations").
-#[derive(Clone, Copy, Debug, PartialEq, Eq)]
+#[derive(Clone, Copy, PartialEq, Eq)]
 pub enum Conversion {
     /// `trunc i64 V to i32`
     Truncate,
@@ -79,7 +79,7 @@ pub enum Conversion {
 }
 
 /// What a zone's cells may be used for.
-#[derive(Clone, Copy, Debug, PartialEq, Eq)]
+#[derive(Clone, Copy, PartialEq, Eq)]
 pub enum Mode {
     /// `reads`
     Reads,

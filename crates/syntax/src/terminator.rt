@@ -4,14 +4,14 @@ use crate::operator::Width;
 use lists::{Name, Seq};
 
 /// `T N, label %l` of a switch.
-#[derive(Debug, Drop)]
+#[derive(Drop)]
 pub struct Case {
     pub number: i64,
     pub target: Name,
 }
 
 /// What ends a block. Targets are labels; a region is named by its register.
-#[derive(Debug, Drop)]
+#[derive(Drop)]
 pub enum Terminator {
     /// `br label %l`
     Jump {
@@ -53,7 +53,7 @@ pub enum Terminator {
 }
 
 /// A terminator with the `shows` lines directly before it.
-#[derive(Debug, Drop)]
+#[derive(Drop)]
 pub struct Ending {
     pub line: u32,
     pub shows: Seq<Inequality>,
