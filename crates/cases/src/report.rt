@@ -3,6 +3,9 @@ use std::io;
 use std::io::Write;
 use std::process::ExitCode;
 
+/// The lines of the cases, in memory.
+pub type Lines = Report<Vec<u8>>;
+
 /// Writes a line of each case, and counts them.
 #[derive(Drop)]
 pub struct Report<W: Write + Drop> {
@@ -73,6 +76,11 @@ impl<W: Write + Drop> Report<W> {
     /// Where the lines were written.
     pub fn output(&self) -> &W {
         &self.output
+    }
+
+    /// Where lines are written that the stored output alone judges.
+    pub fn output_mut(&mut self) -> &mut W {
+        &mut self.output
     }
 
     /// The number of cases, and the status: 0 where all are as expected.

@@ -1,54 +1,50 @@
-//! Cases of the machine: counts of children, machines between events, the debugger, boards, answers without threads, and transcripts of the program.
-//! `machine_cases WORD..` answers those that each word names: `steps` and `unthreaded` are groups of cases, any other word is a file of cases, whose
-//! folder is its kind, `boards` or `transcripts`; each is told of in the module of its name. It prints a line of each case, and fails where one is not
-//! answered as it is to be. What is expected is worked by hand. The last line names the call at a board that was refused memory, and made once more.
+//! Cases of the program and of all below it. `machine_cases WORD..` answers those that each word names: `shown`, `steps`, `schedules`, `unthreaded` and
+//! `threads` are groups of cases, any other word is a file of cases, whose folder is its kind. The libraries of cases tell of them; this program gives
+//! them what `tapirvm` does on a request. It prints a line of each case, and fails where one is not answered as it is to be. What is expected
+//! is worked by hand. The last line names the call at a board that was refused memory, and made once more.
 #![tactic(auto)]
 
-mod asked;
-mod boards;
-mod modules;
-mod numbers;
-mod steps;
-mod transcripts;
-mod unthreaded;
+mod tapirvm;
 
-use boards::Notes;
-use cases::Report;
+use board_cases::boards::Notes;
+use cases::{Lines, Report};
 use std::hash::RandomState;
 use std::io::Write;
 use std::process::ExitCode;
+use std::rt::{Env, Files};
 use std::sync::Wait;
 use std::thread::Threads;
 use std::time::Clock;
 use std::{env, io};
-use transcripts::Program;
-
-/// The lines of the cases, in memory.
-type Lines = Report<Vec<u8>>;
+use tapirvm::Tapirvm;
 
 /// Answers the cases that a word names.
-fn answer_word<T: Threads + Wait + Clock + Sync>(
-    rt: &HostRuntime,
-    program: &Program<'_, T>,
+fn answer_word<R: AllocGlobal + Files + Threads + Wait + Clock + Sync>(
+    rt: &R,
+    program: &Tapirvm<'_, R>,
     word: &str,
     notes: &mut Notes,
     report: &mut Lines,
 ) -> io::Result<()> {
     report.file(word)?;
+    let state = program.state;
     let (kind, _) = word.split_once("/").unwrap_or((word, ""));
     match kind {
-        "steps" => steps::answer(rt, program.state, report),
-        "unthreaded" => unthreaded::answer(rt, program.state, report),
-        "boards" => boards::answer(rt, program.state, word, notes, report),
-        "transcripts" => transcripts::answer(rt, program, word, report),
-        _ => report.case("a word of no kind", word, false),
+        "shown" => shown_cases::answer(rt.alloc(), report),
+        "steps" => board_cases::steps::answer(rt, state, report),
+        "schedules" => board_cases::schedules::answer(rt.alloc(), report),
+        "boards" => board_cases::boards::answer(rt, state, word, notes, report),
+        "unthreaded" => command_cases::unthreaded::answer(rt, program, report),
+        "transcripts" => command_cases::transcripts::answer(rt, program, word, report),
+        "threads" => thread_cases::answer(rt, state, report),
+        _ => text_cases::answer(rt, state, kind, word, report),
     }
 }
 
 /// Answers the cases that the program's words name.
-fn answer<T: Threads + Wait + Clock + Sync>(
-    rt: &HostRuntime,
-    program: &Program<'_, T>,
+fn answer<R: AllocGlobal + Env + Files + Threads + Wait + Clock + Sync>(
+    rt: &R,
+    program: &Tapirvm<'_, R>,
     notes: &mut Notes,
     report: &mut Lines,
 ) -> io::Result<ExitCode> {
@@ -60,7 +56,7 @@ fn answer<T: Threads + Wait + Clock + Sync>(
 
 fn main(rt: HostRuntime) -> io::Result<ExitCode> {
     let alloc = rt.alloc();
-    let program = Program {
+    let program = Tapirvm {
         state: RandomState::new(&rt)?,
         rt: &rt,
     };

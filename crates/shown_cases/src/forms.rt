@@ -1,9 +1,11 @@
 //! How forms are made.
 
 use crate::numbers::{I, N, Numbers};
+use cases::Lines;
 use linear::{Form, FormFault, RegisterId};
 use std::alloc::Global;
 use std::io;
+use std::io::Write;
 
 fn coefficient(form: &Form, register: RegisterId) -> i64 {
     for term in form.terms.as_slice() {
@@ -14,17 +16,21 @@ fn coefficient(form: &Form, register: RegisterId) -> i64 {
     0
 }
 
-fn print_form(rt: &impl Print, what: &str, form: &Form) -> io::Result<()> {
+fn print_form(report: &mut Lines, what: &str, form: &Form) -> io::Result<()> {
     let i = coefficient(form, I);
     let n = coefficient(form, N);
-    println!(rt; "{what}: {i}*%i+{n}*%n+{}", form.constant)
+    writeln!(
+        report.output_mut(),
+        "{what}: {i}*%i+{n}*%n+{}",
+        form.constant
+    )
 }
 
-fn print_made(rt: &impl Print, what: &str, made: Result<Form, FormFault>) -> io::Result<()> {
+fn print_made(report: &mut Lines, what: &str, made: Result<Form, FormFault>) -> io::Result<()> {
     match made {
-        Ok(form) => print_form(rt, what, &form),
-        Err(FormFault::Bounds) => println!(rt; "{what}: past the bounds"),
-        Err(FormFault::Memory) => println!(rt; "out of memory"),
+        Ok(form) => print_form(report, what, &form),
+        Err(FormFault::Bounds) => writeln!(report.output_mut(), "{what}: past the bounds"),
+        Err(FormFault::Memory) => writeln!(report.output_mut(), "out of memory"),
     }
 }
 
@@ -45,7 +51,7 @@ fn greatest_and_one(alloc: Global) -> Result<Form, FormFault> {
 }
 
 /// Prints what is made of 2*%i-%n+5 and -2*%i+3*%n+1.
-pub fn print_forms(rt: &impl Print, alloc: Global) -> io::Result<()> {
-    print_made(rt, "difference", difference(alloc))?;
-    print_made(rt, "16777215*%i+%i", greatest_and_one(alloc))
+pub fn print_forms(report: &mut Lines, alloc: Global) -> io::Result<()> {
+    print_made(report, "difference", difference(alloc))?;
+    print_made(report, "16777215*%i+%i", greatest_and_one(alloc))
 }

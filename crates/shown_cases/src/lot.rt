@@ -1,18 +1,16 @@
 use crate::numbers::Numbers;
+use cases::drawn;
 
-/// Numbers without a pattern, the same in each run (a linear congruential generator; Knuth's MMIX).
+/// Numbers without a pattern, the same in each run.
 #[derive(Drop)]
 pub struct Lot {
     pub state: u64,
 }
 
 impl Lot {
+    /// The next number.
     pub fn next(&mut self) -> u64 {
-        self.state = self
-            .state
-            .wrapping_mul(6_364_136_223_846_793_005)
-            .wrapping_add(1_442_695_040_888_963_407);
-        self.state >> 33
+        drawn(&mut self.state)
     }
 
     /// From -2 to 2.

@@ -2,9 +2,11 @@
 
 use crate::lot::Lot;
 use crate::numbers::{Numbers, is_shown};
+use cases::Lines;
 use linear::FormFault;
 use std::alloc::Global;
 use std::io;
+use std::io::Write;
 
 /// a * x + b * y
 fn sum(a: i64, x: i64, b: i64, y: i64) -> i64 {
@@ -91,11 +93,14 @@ fn counts(alloc: Global, lot: &mut Lot, cases: u64) -> Result<(u64, u64), FormFa
     Ok((shown, other))
 }
 
-pub fn print_cases(rt: &impl Print, alloc: Global, lot: &mut Lot) -> io::Result<()> {
+pub fn print_cases(report: &mut Lines, alloc: Global, lot: &mut Lot) -> io::Result<()> {
     match counts(alloc, lot, 20_000) {
         Ok((shown, other)) => {
-            println!(rt; "20000 cases: {shown} shown, {other} other than searched")
+            writeln!(
+                report.output_mut(),
+                "20000 cases: {shown} shown, {other} other than searched"
+            )
         }
-        Err(_) => println!(rt; "no cases"),
+        Err(_) => writeln!(report.output_mut(), "no cases"),
     }
 }

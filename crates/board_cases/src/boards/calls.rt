@@ -1,0 +1,89 @@
+//! The calls of a worker, as lines ask for them.
+
+use cases::number_in;
+use shared_run::Ticket;
+
+/// A call of a worker at the board, or of its strand.
+#[derive(Clone, Copy)]
+pub enum Call {
+    Step,
+    Commit,
+    Claim,
+    ClaimFirst,
+    Clear,
+    Fetch,
+    Advance,
+    /// Clears the strand, fetches, and advances with each cell that is needed.
+    Go,
+}
+
+impl Call {
+    fn of_word(word: &str) -> Option<Call> {
+        match word {
+            "step" => Some(Call::Step),
+            "commit" => Some(Call::Commit),
+            "claim" => Some(Call::Claim),
+            "first" => Some(Call::ClaimFirst),
+            "clear" => Some(Call::Clear),
+            "fetch" => Some(Call::Fetch),
+            "advance" => Some(Call::Advance),
+            "go" => Some(Call::Go),
+            _ => None,
+        }
+    }
+
+    /// The name of a call that takes memory.
+    pub fn name(self) -> &'static str {
+        match self {
+            Call::Step => "Board::step",
+            Call::Commit => "Board::commit",
+            Call::Claim => "Board::claim",
+            Call::ClaimFirst => "Board::claim_first",
+            _ => "a call that takes no memory",
+        }
+    }
+}
+
+/// What a line asks for: the worker's call, how often, and by which ticket.
+#[derive(Clone, Copy)]
+pub struct Asked {
+    pub worker: usize,
+    pub call: Call,
+    pub times: u64,
+    pub ticket: Ticket,
+}
+
+/// The ticket that a word means: `2`, the second one that was got, or `9:0`, one with this slot and generation.
+fn meant(tickets: &[Ticket], word: &str) -> Option<Ticket> {
+    match word.split_once(":") {
+        Some((slot, generation)) => Some(Ticket {
+            slot: number_in(slot)? as usize,
+            generation: number_in(generation)?,
+        }),
+        None => {
+            let before = number_in(word)?.checked_sub(1)?;
+            tickets.get(before as usize).copied()
+        }
+    }
+}
+
+/// What is asked by `step 0 6`, which is six steps of worker 0, `claim 1 2`, by the second ticket, or a call with a worker alone.
+pub fn asked_in(line: &str, tickets: &[Ticket]) -> Option<Asked> {
+    let (word, rest) = line.split_once(" ")?;
+    let (worker, rest) = rest.split_once(" ").unwrap_or((rest, ""));
+    let call = Call::of_word(word)?;
+    let times = match call {
+        Call::Step => number_in(rest).unwrap_or(1),
+        _ => 1,
+    };
+    let none = Ticket {
+        slot: usize::MAX,
+        generation: 0,
+    };
+    Some(Asked {
+        worker: number_in(worker)? as usize,
+        call,
+        times,
+        ticket: meant(tickets, rest).unwrap_or(none),
+    })
+}

@@ -1,0 +1,127 @@
+//! What the calls of a board come to, in words.
+
+use debugger::Machine;
+use frame::Path;
+use shared_run::{Claimed, Committed, Entry, Fetched, History, Pause, Stepped, Ticket};
+use std::alloc::AllocError;
+
+/// What a call came to.
+#[derive(Clone, Copy)]
+pub enum Answer {
+    Done(&'static str),
+    /// A child was detached, and its parent's task is ready.
+    Ready(Ticket),
+    /// Where a strand stands, and how many instructions it did.
+    Paused(Pause, u64),
+    /// Nothing was done.
+    Not(&'static str),
+    OutOfMemory,
+}
+
+impl Answer {
+    /// Whether something was done.
+    pub fn is_done(self) -> bool {
+        match self {
+            Answer::Not(_) | Answer::OutOfMemory => false,
+            _ => true,
+        }
+    }
+
+    pub fn write(self, text: &mut String, machine: &Machine<'_>) -> Result<(), AllocError> {
+        match self {
+            Answer::Done(word) | Answer::Not(word) => text.push_str(word),
+            Answer::Ready(ticket) => match machine.path_at(ticket.slot, ticket.generation) {
+                Some(path) => {
+                    text.push_str("done, ")?;
+                    write_path(text, path)?;
+                    text.push_str(" ready")
+                }
+                None => text.push_str("done, nothing ready"),
+            },
+            Answer::Paused(pause, done) => write_paused(text, pause, done),
+            Answer::OutOfMemory => text.push_str("out of memory"),
+        }
+    }
+}
+
+/// Writes a path as schedules spell it.
+fn write_path(text: &mut String, path: &Path) -> Result<(), AllocError> {
+    text.push_str("root")?;
+    for number in path.numbers.as_slice() {
+        write!(text, ".{number}")?;
+    }
+    Ok(())
+}
+
+fn write_paused(text: &mut String, pause: Pause, done: u64) -> Result<(), AllocError> {
+    match pause {
+        Pause::Blank => text.push_str("blank"),
+        Pause::Border => write!(text, "border after {done}"),
+        Pause::Limit => write!(text, "limit after {done}"),
+        Pause::Full => write!(text, "full after {done}"),
+        Pause::Need { at } => write!(text, "needs cell {at} after {done}"),
+    }
+}
+
+/// Events were done: a task is ready, `main` has returned, the worker is idle, or it goes on.
+fn done(ready: Option<Ticket>, idle: bool, ended: bool) -> Answer {
+    match (ready, idle, ended) {
+        (Some(ticket), false, false) => Answer::Ready(ticket),
+        (None, false, false) => Answer::Done("done"),
+        (None, true, false) => Answer::Done("done, idle"),
+        (None, true, true) => Answer::Done("done, idle, ended"),
+        _ => Answer::Done("done, and it cannot be"),
+    }
+}
+
+pub fn stepped(stepped: Stepped) -> Answer {
+    match stepped {
+        Stepped::Done { ready, idle, ended } => done(ready, idle, ended),
+        Stepped::Idle => Answer::Not("idle"),
+        Stepped::OutOfMemory => Answer::OutOfMemory,
+    }
+}
+
+pub fn committed(committed: Committed) -> Answer {
+    match committed {
+        Committed::After { ready, idle, ended } => done(ready, idle, ended),
+        Committed::Stranger => Answer::Not("stranger"),
+        Committed::OutOfMemory => Answer::OutOfMemory,
+    }
+}
+
+pub fn claimed(claimed: Claimed) -> Answer {
+    match claimed {
+        Claimed::Taken => Answer::Done("taken"),
+        Claimed::Gone => Answer::Not("gone"),
+        Claimed::OutOfMemory => Answer::OutOfMemory,
+    }
+}
+
+pub fn fetched(fetched: Fetched) -> Answer {
+    match fetched {
+        Fetched::Frame => Answer::Done("frame"),
+        Fetched::Cell => Answer::Done("cell"),
+        Fetched::Idle => Answer::Not("idle"),
+        Fetched::Stranger => Answer::Not("stranger"),
+    }
+}
+
+fn write_entry(text: &mut String, entry: &Entry) -> Result<(), AllocError> {
+    match entry {
+        Entry::Steps { worker, count } => write!(text, ", step {worker} {count}"),
+        Entry::Steal { worker, path } => {
+            write!(text, ", steal {worker} ")?;
+            write_path(text, path)
+        }
+    }
+}
+
+/// Writes the events of a history as a schedule does.
+pub fn write_history(text: &mut String, history: &History) -> Result<(), AllocError> {
+    write!(text, "{} events", history.total())?;
+    for entry in history.entries() {
+        write_entry(text, entry)?;
+    }
+    Ok(())
+}

@@ -1,0 +1,52 @@
+//! What stands on a line, told by its kind and its canonical spelling, which is read back as the same item.
+
+use crate::texts::printed;
+use std::alloc::{AllocError, Global};
+use std::hash::RandomState;
+
+/// What stands before an instruction in the canonical text of a function that has no other, and what behind it.
+const BEFORE: &str =
+    "define void @f() {\n  ;! measure 0 max 0\n  ;! budget 0 0\na:\n  ;! left 0 0\n  ";
+
+const BEHIND: &str = "\n  ret void\n}\n";
+
+/// The instruction of such a text.
+fn instruction_of(text: &str) -> Option<&str> {
+    text.strip_prefix(BEFORE)?.strip_suffix(BEHIND)
+}
+
+fn push_global(
+    found: &mut String,
+    alloc: Global,
+    state: RandomState,
+    line: &str,
+) -> Result<(), AllocError> {
+    let text = printed(alloc, state, line.as_bytes())?;
+    write!(found, "global: {}", text.as_str().trim_end())
+}
+
+fn push_instruction(
+    found: &mut String,
+    alloc: Global,
+    state: RandomState,
+    line: &str,
+) -> Result<(), AllocError> {
+    let text = format!(in alloc; "{BEFORE}{line}{BEHIND}")?;
+    let text = printed(alloc, state, text.as_bytes())?;
+    let spelled = instruction_of(text.as_str()).unwrap_or("none");
+    write!(found, "instruction: {spelled}")
+}
+
+/// The global or the instruction of a line.
+pub fn push_parts(
+    found: &mut String,
+    alloc: Global,
+    state: RandomState,
+    line: &str,
+) -> Result<(), AllocError> {
+    if line.starts_with("@") {
+        push_global(found, alloc, state, line)
+    } else {
+        push_instruction(found, alloc, state, line)
+    }
+}

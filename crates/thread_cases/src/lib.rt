@@ -1,0 +1,27 @@
+//! Cases on threads: runs on each number of workers, two workers inside at once, gates before strands, two threads at their seats, and lists of tickets
+//! that several threads take from. Each comes to the same whatever the threads do.
+#![tactic(auto)]
+
+mod endings;
+mod runs;
+mod seats;
+mod ticket_lists;
+
+use cases::Lines;
+use std::hash::RandomState;
+use std::io;
+use std::rt::Files;
+use std::sync::Wait;
+use std::thread::Threads;
+use std::time::Clock;
+
+/// Answers the cases.
+pub fn answer<R: AllocGlobal + Files + Threads + Wait + Clock + Sync>(
+    rt: &R,
+    state: RandomState,
+    report: &mut Lines,
+) -> io::Result<()> {
+    ticket_lists::answer(rt, rt.alloc(), report)?;
+    runs::answer(rt, state, report)?;
+    seats::answer(rt, state, report)
+}

@@ -1,0 +1,238 @@
+//! Runs on threads: the serial answer for each number of workers, two workers inside at once, and gates before strands.
+
+use crate::endings::{Ending, TURNS, is_so};
+use cases::{Lines, verified_file};
+use deque_pool::{Gate, OpenGate, run};
+use shared_run::{Memory, Verified};
+use std::alloc::Global;
+use std::hash::RandomState;
+use std::rt::Files;
+use std::sync::Wait;
+use std::sync::atomic::{AtomicBool, AtomicU64, Ordering};
+use std::thread::Threads;
+use std::time::Clock;
+use std::{io, thread};
+
+/// Whether a run of the module on so many workers under a gate comes to the answer.
+fn comes_to<G: Gate + Sync, R: Threads + Wait + Clock + Sync>(
+    rt: &R,
+    alloc: Global,
+    verified: &Verified,
+    arguments: &[i64],
+    workers: usize,
+    gate: &G,
+    wanted: Ending,
+) -> bool {
+    let Ok(memory) = Memory::zeroed(alloc, verified) else {
+        return false;
+    };
+    match run(rt, alloc, verified, arguments, memory, workers, gate) {
+        Ok(done) => is_so(&done, wanted),
+        Err(_) => false,
+    }
+}
+
+/// A module, its argument, and what each run of it comes to.
+#[derive(Clone, Copy)]
+struct Sample {
+    file: &'static str,
+    argument: i64,
+    /// How often it is run on each number of workers.
+    times: u64,
+    ending: Ending,
+}
+
+const SAMPLES: [Sample; 4] = [
+    Sample {
+        file: "examples/pair.ll",
+        argument: 7,
+        times: 20,
+        ending: (14, 14, 2),
+    },
+    Sample {
+        file: "examples/parallel-for.ll",
+        argument: 64,
+        times: 20,
+        ending: (64, 518, 2),
+    },
+    Sample {
+        file: "examples/adding.ll",
+        argument: 64,
+        times: 20,
+        ending: (64, 518, 2),
+    },
+    Sample {
+        file: "examples/fib.ll",
+        argument: 10,
+        times: 1,
+        ending: (55, 1767, 20),
+    },
+];
+
+/// How many of the runs of a module on so many workers come to its ending.
+fn runs_as_wanted<R: Threads + Wait + Clock + Sync>(
+    rt: &R,
+    alloc: Global,
+    verified: &Verified,
+    workers: usize,
+    sample: &Sample,
+) -> u64 {
+    let arguments = [sample.argument];
+    let mut count: u64 = 0;
+    for _time in 0..sample.times {
+        let arguments = arguments.as_slice();
+        if comes_to(
+            rt,
+            alloc,
+            verified,
+            arguments,
+            workers,
+            &OpenGate,
+            sample.ending,
+        ) {
+            count = count.saturating_add(1);
+        }
+    }
+    count
+}
+
+/// Runs a module on each number of workers.
+fn answer_verified<R: Threads + Wait + Clock + Sync>(
+    rt: &R,
+    alloc: Global,
+    verified: &Verified,
+    sample: &Sample,
+    report: &mut Lines,
+) -> io::Result<()> {
+    report.title(sample.file)?;
+    for workers in [1usize, 2, 3, 4, 8, 64] {
+        let count = runs_as_wanted(rt, alloc, verified, workers, sample);
+        let asked = format!(in alloc; "runs on {workers} give the serial answer")?;
+        report.count(asked.as_str(), sample.times, count)?;
+    }
+    Ok(())
+}
+
+fn answer_sample<R: AllocGlobal + Files + Threads + Wait + Clock + Sync>(
+    rt: &R,
+    state: RandomState,
+    sample: &Sample,
+    report: &mut Lines,
+) -> io::Result<()> {
+    let verified = verified_file(rt, state, sample.file)?;
+    answer_verified(rt, rt.alloc(), &verified, sample, report)
+}
+
+/// Says that one is there, and waits until the other is.
+fn meet(one: &AtomicBool, other: &AtomicBool) {
+    one.store(true, Ordering::SeqCst);
+    for _turn in 0..TURNS {
+        if other.load(Ordering::SeqCst) {
+            return;
+        }
+        thread::yield_now();
+    }
+}
+
+/// Holds worker 0 before its strand 1, and worker 1 before its strand 0, until the other is held there too.
+#[derive(Drop)]
+struct Meeting {
+    first: AtomicBool,
+    second: AtomicBool,
+}
+
+impl Gate for Meeting {
+    fn pass(&self, worker: u8, strand: u64) {
+        match (worker, strand) {
+            (0, 1) => meet(&self.first, &self.second),
+            (1, 0) => meet(&self.second, &self.first),
+            _ => {}
+        }
+    }
+}
+
+/// Whether two workers of `pair.ll` wait for each other in their gates, and both come.
+fn is_met<R: Threads + Wait + Clock + Sync>(rt: &R, alloc: Global, pair: &Verified) -> bool {
+    let meeting = Meeting {
+        first: AtomicBool::new(false),
+        second: AtomicBool::new(false),
+    };
+    comes_to(rt, alloc, pair, &[7], 2, &meeting, (14, 14, 2))
+        && meeting.first.load(Ordering::SeqCst)
+        && meeting.second.load(Ordering::SeqCst)
+}
+
+/// Counts how often it is passed before the strands 0 and 1 of worker 0, and before any other.
+#[derive(Drop)]
+struct Counting {
+    first: AtomicU64,
+    second: AtomicU64,
+    other: AtomicU64,
+}
+
+impl Counting {
+    fn is_passed_by_two(&self) -> bool {
+        self.first.load(Ordering::SeqCst) == 1
+            && self.second.load(Ordering::SeqCst) == 1
+            && self.other.load(Ordering::SeqCst) == 0
+    }
+}
+
+impl Gate for Counting {
+    fn pass(&self, worker: u8, strand: u64) {
+        let count = match (worker, strand) {
+            (0, 0) => &self.first,
+            (0, 1) => &self.second,
+            _ => &self.other,
+        };
+        let _before = count.fetch_add(1, Ordering::SeqCst);
+    }
+}
+
+/// Whether `loop-of-stores.ll` fills one strand and ends in the next, each with its gate before it.
+fn has_two_strands<R: Threads + Wait + Clock + Sync>(
+    rt: &R,
+    alloc: Global,
+    stores: &Verified,
+) -> bool {
+    let counting = Counting {
+        first: AtomicU64::new(0),
+        second: AtomicU64::new(0),
+        other: AtomicU64::new(0),
+    };
+    comes_to(rt, alloc, stores, &[], 1, &counting, (0, 1546, 1)) && counting.is_passed_by_two()
+}
+
+fn answer_pair<R: AllocGlobal + Files + Threads + Wait + Clock + Sync>(
+    rt: &R,
+    state: RandomState,
+    report: &mut Lines,
+) -> io::Result<()> {
+    let pair = verified_file(rt, state, "examples/pair.ll")?;
+    let is_met = is_met(rt, rt.alloc(), &pair);
+    report.holds("two workers are inside at once", is_met)
+}
+
+fn answer_stores<R: AllocGlobal + Files + Threads + Wait + Clock + Sync>(
+    rt: &R,
+    state: RandomState,
+    report: &mut Lines,
+) -> io::Result<()> {
+    let stores = verified_file(rt, state, "modules/loop-of-stores.ll")?;
+    let has_two = has_two_strands(rt, rt.alloc(), &stores);
+    report.holds("each of two strands is after its gate", has_two)
+}
+
+/// Answers the cases of runs.
+pub fn answer<R: AllocGlobal + Files + Threads + Wait + Clock + Sync>(
+    rt: &R,
+    state: RandomState,
+    report: &mut Lines,
+) -> io::Result<()> {
+    for sample in &SAMPLES {
+        answer_sample(rt, state, sample, report)?;
+    }
+    report.title("gates")?;
+    answer_pair(rt, state, report)?;
+    answer_stores(rt, state, report)
+}
