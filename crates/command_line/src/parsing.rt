@@ -98,11 +98,16 @@ fn setting(alloc: Global, text: &str) -> Result<Option<Setting>, AllocError> {
     }
 }
 
-fn wrong_value(alloc: Global, option: &str, text: &str) -> WordsFault {
-    match format!(in alloc; "error: invalid value '{text}' for '{option}'\n") {
+/// The fault that this text tells, if there was memory for it.
+fn fault_with(text: Result<String, AllocError>) -> WordsFault {
+    match text {
         Ok(text) => WordsFault::told(text),
         Err(_) => WordsFault::out_of_memory(),
     }
+}
+
+fn wrong_value(alloc: Global, option: &str, text: &str) -> WordsFault {
+    fault_with(format!(in alloc; "error: invalid value '{text}' for '{option}'\n"))
 }
 
 fn args_of(alloc: Global, matches: &ArgMatches<'_>) -> Result<Vec<i64>, WordsFault> {
@@ -176,10 +181,7 @@ fn fault_of(alloc: Global, error: Error) -> WordsFault {
     if error.kind() == ErrorKind::OutOfMemory {
         return WordsFault::out_of_memory();
     }
-    match format!(in alloc; "{error}") {
-        Ok(text) => WordsFault::told(text),
-        Err(_) => WordsFault::out_of_memory(),
-    }
+    fault_with(format!(in alloc; "{error}"))
 }
 
 /// How a word or an option of a command is given.
@@ -292,6 +294,21 @@ const PICTURE: Part = Part {
     help: "writes a picture of the run to a file, as SVG",
 };
 
+/// The words and options of the commands, as their help lists them; a command that only reads a module takes its file alone.
+const MODULE_PARTS: [Part; 1] = [FILE];
+
+const VERIFY_PARTS: [Part; 2] = [FILE, TABLE];
+
+const EXPLAIN_PARTS: [Part; 1] = [FILE_OR_NUMBER];
+
+const SERIAL_PARTS: [Part; 4] = [FILE, ARG, SET, SHOW];
+
+const RUN_PARTS: [Part; 7] = [FILE, ARG, SET, SHOW, WORKERS, SEED, SAVE];
+
+const REPLAY_PARTS: [Part; 8] = [FILE, ARG, SET, SHOW, SCHEDULE, WORKERS, TRACE, PICTURE];
+
+const DEBUG_PARTS: [Part; 6] = [FILE, ARG, SET, SHOW, SCHEDULE, WORKERS];
+
 /// An option with a value.
 fn option<'a>(arg: Arg<'a>, part: &Part) -> Arg<'a> {
     arg.long(part.name)
@@ -343,51 +360,48 @@ fn command_with<'a>(
 
 fn verify_command<'a>(alloc: Global) -> Result<Command<'a>, AllocError> {
     let about = "verifies a module, and tells its budget and depth";
-    command_with(alloc, "verify", about, STATUSES, &[FILE, TABLE])
+    command_with(alloc, "verify", about, STATUSES, &VERIFY_PARTS)
 }
 
 fn explain_command<'a>(alloc: Global) -> Result<Command<'a>, AllocError> {
     let about =
         "says why a module is refused and what was to be shown, or what an accepted one could do without; or prints a rule";
-    command_with(alloc, "explain", about, STATUSES, &[FILE_OR_NUMBER])
+    command_with(alloc, "explain", about, STATUSES, &EXPLAIN_PARTS)
 }
 
 fn serial_command<'a>(alloc: Global) -> Result<Command<'a>, AllocError> {
     let about = "runs the serial elision of a module";
-    command_with(alloc, "serial", about, STATUSES, &[FILE, ARG, SET, SHOW])
+    command_with(alloc, "serial", about, STATUSES, &SERIAL_PARTS)
 }
 
 fn run_command<'a>(alloc: Global) -> Result<Command<'a>, AllocError> {
     let about = "runs a module on workers";
-    let parts = [FILE, ARG, SET, SHOW, WORKERS, SEED, SAVE];
-    command_with(alloc, "run", about, STATUSES, &parts)
+    command_with(alloc, "run", about, STATUSES, &RUN_PARTS)
 }
 
 fn replay_command<'a>(alloc: Global) -> Result<Command<'a>, AllocError> {
     let about = "runs a module by a schedule";
-    let parts = [FILE, ARG, SET, SHOW, SCHEDULE, WORKERS, TRACE, PICTURE];
-    command_with(alloc, "replay", about, STATUSES, &parts)
+    command_with(alloc, "replay", about, STATUSES, &REPLAY_PARTS)
 }
 
 fn debug_command<'a>(alloc: Global) -> Result<Command<'a>, AllocError> {
     let about = "goes forwards and backwards through a schedule, by commands from standard input";
-    let parts = [FILE, ARG, SET, SHOW, SCHEDULE, WORKERS];
-    command_with(alloc, "debug", about, DIALOGUE, &parts)
+    command_with(alloc, "debug", about, DIALOGUE, &DEBUG_PARTS)
 }
 
 fn print_command<'a>(alloc: Global) -> Result<Command<'a>, AllocError> {
     let about = "prints the canonical text of a module";
-    command_with(alloc, "print", about, STATUSES, &[FILE])
+    command_with(alloc, "print", about, STATUSES, &MODULE_PARTS)
 }
 
 fn show_command<'a>(alloc: Global) -> Result<Command<'a>, AllocError> {
     let about = "tells what the verifier knows of each block of a module";
-    command_with(alloc, "show", about, STATUSES, &[FILE])
+    command_with(alloc, "show", about, STATUSES, &MODULE_PARTS)
 }
 
 fn annotate_command<'a>(alloc: Global) -> Result<Command<'a>, AllocError> {
     let about = "prints a module with annotations put in that follow from others";
-    command_with(alloc, "annotate", about, STATUSES, &[FILE])
+    command_with(alloc, "annotate", about, STATUSES, &MODULE_PARTS)
 }
 
 /// The command of a verb.
@@ -437,6 +451,10 @@ fn file_of(alloc: Global, matches: &ArgMatches<'_>) -> Result<String, WordsFault
     }
 }
 
+fn no_rule(alloc: Global, word: &str) -> WordsFault {
+    fault_with(format!(in alloc; "error: no rule has the number {word}\n"))
+}
+
 /// The number of a rule, where the word is a number; a fault where no rule has it.
 fn rule_of(alloc: Global, word: &str) -> Result<Option<u16>, WordsFault> {
     if !word.bytes().all(|byte| byte.is_ascii_digit()) {
@@ -445,10 +463,7 @@ fn rule_of(alloc: Global, word: &str) -> Result<Option<u16>, WordsFault> {
     let number = word.parse::<u16>().unwrap_or(0);
     match rule_text(alloc, number) {
         Ok(Some(_)) => Ok(Some(number)),
-        Ok(None) => match format!(in alloc; "error: no rule has the number {word}\n") {
-            Ok(text) => Err(WordsFault::told(text)),
-            Err(_) => Err(WordsFault::out_of_memory()),
-        },
+        Ok(None) => Err(no_rule(alloc, word)),
         Err(_) => Err(WordsFault::out_of_memory()),
     }
 }

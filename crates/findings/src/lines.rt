@@ -1,7 +1,12 @@
 //! The lines of a text, counted from 1.
 
 use lists::OutOfMemory;
-use std::alloc::Global;
+use std::alloc::{AllocError, Global};
+
+fn push_line(out: &mut String, line: &str) -> Result<(), AllocError> {
+    out.push_str(line)?;
+    out.push_str("\n")
+}
 
 /// The line of this number, without its LF.
 pub fn line_at(text: &str, number: u32) -> Option<&str> {
@@ -27,9 +32,9 @@ pub fn with_line_before(
     for line in text.split('\n') {
         at = at.saturating_add(1);
         if at == number {
-            writeln!(changed, "{new}")?;
+            push_line(&mut changed, new)?;
         }
-        writeln!(changed, "{line}")?;
+        push_line(&mut changed, line)?;
     }
     Ok(changed)
 }
@@ -45,11 +50,8 @@ pub fn with_line_at(
     let mut at: u32 = 0;
     for line in text.split('\n') {
         at = at.saturating_add(1);
-        if at == number {
-            writeln!(changed, "{new}")?;
-        } else {
-            writeln!(changed, "{line}")?;
-        }
+        let line = if at == number { new } else { line };
+        push_line(&mut changed, line)?;
     }
     Ok(changed)
 }
@@ -61,7 +63,7 @@ pub fn lines_before(alloc: Global, text: &str, number: u32) -> Result<String, Ou
     for line in text.split('\n') {
         at = at.saturating_add(1);
         if at < number {
-            writeln!(before, "{line}")?;
+            push_line(&mut before, line)?;
         }
     }
     Ok(before)

@@ -2,7 +2,7 @@
 
 use crate::texts::RULES;
 use lists::OutOfMemory;
-use std::alloc::Global;
+use std::alloc::{AllocError, Global};
 
 /// A row of the rules: where it is told, what it means, how to mend it, an example.
 #[derive(Clone, Copy)]
@@ -13,36 +13,40 @@ struct Row<'a> {
     example: &'a str,
 }
 
+/// The row of a line without its number.
+fn row_in(text: &str) -> Option<Row<'_>> {
+    let (told_at, rest) = text.split_once(" | ")?;
+    let (means, rest) = rest.split_once(" | ")?;
+    let (mend, example) = rest.split_once(" | ")?;
+    Some(Row {
+        told_at,
+        means,
+        mend,
+        example,
+    })
+}
+
 /// The row of a line, if it is of this number.
 fn row_of(line: &str, number: u16) -> Option<Row<'_>> {
     let (its, rest) = line.split_once(" | ")?;
-    let (told_at, rest) = rest.split_once(" | ")?;
-    let (means, rest) = rest.split_once(" | ")?;
-    let (mend, example) = rest.split_once(" | ")?;
     if its.parse::<u16>().ok() == Some(number) {
-        Some(Row {
-            told_at,
-            means,
-            mend,
-            example,
-        })
+        row_in(rest)
     } else {
         None
     }
 }
 
-fn push_rule(out: &mut String, number: u16, row: Row<'_>) -> Result<(), OutOfMemory> {
-    let Row {
-        told_at,
-        means,
-        mend,
-        example,
-    } = row;
+/// Adds a part of a rule, in a line of its own.
+fn push_part(out: &mut String, name: &str, text: &str) -> Result<(), AllocError> {
+    writeln!(out, "  {name}: {text}")
+}
+
+fn push_rule(out: &mut String, number: u16, row: Row<'_>) -> Result<(), AllocError> {
+    let means = row.means;
     writeln!(out, "{number}: {means}")?;
-    writeln!(out, "  told at: {told_at}")?;
-    writeln!(out, "  mend: {mend}")?;
-    writeln!(out, "  example: {example}")?;
-    Ok(())
+    push_part(out, "told at", row.told_at)?;
+    push_part(out, "mend", row.mend)?;
+    push_part(out, "example", row.example)
 }
 
 /// The rule of a number with an example and how to mend it, in lines that end with LF; none where no rule has the number.
@@ -71,8 +75,7 @@ pub fn push_meanings(out: &mut String, number: u16) -> Result<(), OutOfMemory> {
 pub fn push_mends(out: &mut String, number: u16) -> Result<(), OutOfMemory> {
     for line in RULES.lines() {
         if let Some(row) = row_of(line, number) {
-            let mend = row.mend;
-            writeln!(out, "  mend: {mend}")?;
+            push_part(out, "mend", row.mend)?;
         }
     }
     Ok(())
