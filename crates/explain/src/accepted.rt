@@ -24,6 +24,20 @@ fn is_unneeded(alloc: Global, source: Source<'_>, number: u32) -> Result<bool, O
     }
 }
 
+/// A line of this number, where the module is accepted as well without it.
+fn push_if_unneeded(
+    alloc: Global,
+    source: Source<'_>,
+    number: u32,
+    words: &str,
+    out: &mut String,
+) -> Result<(), OutOfMemory> {
+    if is_unneeded(alloc, source, number)? {
+        writeln!(out, "accepted without line {number}: {words}")?;
+    }
+    Ok(())
+}
+
 /// The annotations without which the module is accepted as well, each taken away alone.
 fn push_unneeded(alloc: Global, source: Source<'_>, out: &mut String) -> Result<(), OutOfMemory> {
     let mut number: u32 = 0;
@@ -33,9 +47,7 @@ fn push_unneeded(alloc: Global, source: Source<'_>, out: &mut String) -> Result<
         let words = line.trim();
         if words.starts_with(";!") && tried < MOST_TRIED {
             tried = tried.saturating_add(1);
-            if is_unneeded(alloc, source, number)? {
-                writeln!(out, "accepted without line {number}: {words}")?;
-            }
+            push_if_unneeded(alloc, source, number, words, out)?;
         }
     }
     Ok(())

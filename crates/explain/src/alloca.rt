@@ -3,9 +3,9 @@
 use findings::{Source, with_line_before};
 use footprints::address_cell;
 use lists::OutOfMemory;
-use program::{Address, AllocaId, Argument, Block, Instruction, ObjectName, Step};
+use program::{Address, Alloca, AllocaId, Argument, Block, Instruction, ObjectName, Step};
 use scenes::{Matched, Scene, match_text};
-use std::alloc::Global;
+use std::alloc::{AllocError, Global};
 use verifier::{Refused, verify};
 
 fn alloca_of(object: ObjectName) -> Option<AllocaId> {
@@ -60,6 +60,46 @@ fn is_better(
     }
 }
 
+/// A store of zeros to all cells of an alloca of this name.
+fn store_line(alloc: Global, name: &str, cells: u64) -> Result<String, AllocError> {
+    if cells == 1 {
+        format!(in alloc; "store i64 0, ptr %{name}")
+    } else {
+        format!(in alloc; "store [{cells} x i64] zeroinitializer, ptr %{name}")
+    }
+}
+
+/// Which alloca is read in a line, and what has to be stored to it.
+fn push_read(notes: &mut String, name: &str, alloca: &Alloca, line: u32) -> Result<(), AllocError> {
+    let cells = alloca.cells;
+    let made = alloca.line;
+    writeln!(
+        notes,
+        "  read: %{name}, of {cells} cells, made in line {made}; each path from there to line {line} has to store it whole"
+    )?;
+    if cells > 1 {
+        notes.push_str("    a store to one of several cells does not count\n")?;
+    }
+    Ok(())
+}
+
+/// A store behind the alloca, where the text with it is refused no more for what this line reads.
+fn push_store(
+    alloc: Global,
+    source: Source<'_>,
+    name: &str,
+    alloca: &Alloca,
+    line: u32,
+    notes: &mut String,
+) -> Result<(), OutOfMemory> {
+    let after = alloca.line;
+    let new = store_line(alloc, name, alloca.cells)?;
+    if is_better(alloc, source, line, after, new.as_str())? {
+        writeln!(notes, "    try: {new}, after line {after}")?;
+    }
+    Ok(())
+}
+
 /// What would have to be stored, and where.
 fn push_alloca_notes(
     alloc: Global,
@@ -76,24 +116,8 @@ fn push_alloca_notes(
         return Ok(());
     };
     let name = scene.register(found.register);
-    let after = found.line;
-    let cells = found.cells;
-    let new = if cells == 1 {
-        format!(in alloc; "store i64 0, ptr %{name}")?
-    } else {
-        format!(in alloc; "store [{cells} x i64] zeroinitializer, ptr %{name}")?
-    };
-    writeln!(
-        notes,
-        "  read: %{name}, of {cells} cells, made in line {after}; each path from there to line {line} has to store it whole"
-    )?;
-    if cells > 1 {
-        notes.push_str("    a store to one of several cells does not count\n")?;
-    }
-    if is_better(alloc, source, line, after, new.as_str())? {
-        writeln!(notes, "    try: {new}, after line {after}")?;
-    }
-    Ok(())
+    push_read(notes, name, found, line)?;
+    push_store(alloc, source, name, found, line, notes)
 }
 
 fn push_step_notes(
@@ -106,11 +130,7 @@ fn push_step_notes(
 ) -> Result<(), OutOfMemory> {
     let steps = block.steps.as_slice();
     match &step.instruction {
-        Instruction::Load { address, .. } => {
-            let read = alloca_at(steps, *address);
-            push_alloca_notes(alloc, source, scene, step.line, read, notes)
-        }
-        Instruction::AtomicAdd { address, .. } => {
+        Instruction::Load { address, .. } | Instruction::AtomicAdd { address, .. } => {
             let read = alloca_at(steps, *address);
             push_alloca_notes(alloc, source, scene, step.line, read, notes)
         }

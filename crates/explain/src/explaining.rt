@@ -9,12 +9,28 @@ use findings::{Finding, Source, push_finding};
 use lists::{OutOfMemory, Seq};
 use name_notes::name_notes;
 use number_notes::number_findings;
-use scenes::match_text;
-use std::alloc::Global;
+use scenes::{Matched, match_text};
+use std::alloc::{AllocError, Global};
 use std::hash::RandomState;
 use verifier::{Refused, verify};
 use word_notes::word_findings;
 use zone_notes::zone_findings;
+
+/// The faults of a phase over the program: that of numbers, of zones or of costs.
+fn matched_findings(
+    alloc: Global,
+    source: Source<'_>,
+    matched: &Matched,
+    number: u16,
+) -> Result<Vec<Finding>, OutOfMemory> {
+    if number < 600 {
+        number_findings(alloc, source, matched)
+    } else if number < 700 {
+        zone_findings(alloc, source, matched)
+    } else {
+        cost_findings(alloc, matched)
+    }
+}
 
 /// The faults of the phase of numbers, zones or costs.
 fn program_findings(
@@ -22,15 +38,9 @@ fn program_findings(
     source: Source<'_>,
     number: u16,
 ) -> Result<Vec<Finding>, OutOfMemory> {
-    let Some(whole) = match_text(alloc, source.state, source.text.as_bytes(), true)? else {
-        return Ok(Vec::new(alloc));
-    };
-    if number < 600 {
-        number_findings(alloc, source, &whole)
-    } else if number < 700 {
-        zone_findings(alloc, source, &whole)
-    } else {
-        cost_findings(alloc, &whole)
+    match match_text(alloc, source.state, source.text.as_bytes(), true)? {
+        Some(matched) => matched_findings(alloc, source, &matched, number),
+        None => Ok(Vec::new(alloc)),
     }
 }
 
@@ -57,6 +67,24 @@ fn findings_of(
     Ok(findings)
 }
 
+/// Adds what is said of the fault that the verifier names to its notes, and the other faults to the others.
+fn part(
+    findings: Vec<Finding>,
+    number: u16,
+    line: u32,
+    notes: &mut String,
+    others: &mut Vec<Finding>,
+) -> Result<(), AllocError> {
+    for finding in findings {
+        if finding.number == number && finding.line == line {
+            notes.push_str(finding.notes.as_str())?;
+        } else {
+            others.push(finding)?;
+        }
+    }
+    Ok(())
+}
+
 /// What is said of the fault that the verifier names, and the other faults in the order of their lines.
 fn parted(
     alloc: Global,
@@ -66,15 +94,20 @@ fn parted(
 ) -> Result<(String, Vec<Finding>), OutOfMemory> {
     let mut notes = String::new(alloc);
     let mut others: Vec<Finding> = Vec::new(alloc);
-    for finding in findings {
-        if finding.number == number && finding.line == line {
-            notes.push_str(finding.notes.as_str())?;
-        } else {
-            others.push(finding)?;
-        }
-    }
+    part(findings, number, line, &mut notes, &mut others)?;
     others.sort_by_key(|finding| (finding.line, finding.number))?;
     Ok((notes, others))
+}
+
+/// What is to be told where the verifier names this fault: of it, and of the others of its phase.
+fn told_of(
+    alloc: Global,
+    source: Source<'_>,
+    number: u16,
+    line: u32,
+) -> Result<(String, Vec<Finding>), OutOfMemory> {
+    let findings = findings_of(alloc, source, number, line)?;
+    parted(alloc, findings, number, line)
 }
 
 /// Why a module's text is refused, or what it could do without. Its names are hashed with `state`.
@@ -93,8 +126,7 @@ pub fn explain(alloc: Global, state: RandomState, text: &[u8]) -> Result<Explana
             remarks: remarks(alloc, source, verified.program())?,
         }),
         Err(Refused::Fault { number, line }) => {
-            let findings = findings_of(alloc, source, number, line)?;
-            let (notes, others) = parted(alloc, findings, number, line)?;
+            let (notes, others) = told_of(alloc, source, number, line)?;
             Ok(Explanation::Refused {
                 first: Finding {
                     number,

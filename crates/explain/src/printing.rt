@@ -23,23 +23,46 @@ fn push_finding_text(out: &mut String, text: &str, finding: &Finding) -> Result<
     push_mends(out, finding.number)
 }
 
+/// The fault that the verifier names, and those that are told beside it.
+fn push_refused(
+    out: &mut String,
+    text: &str,
+    first: &Finding,
+    others: &[Finding],
+) -> Result<(), OutOfMemory> {
+    writeln!(out, "refused {} line {}", first.number, first.line)?;
+    push_finding_text(out, text, first)?;
+    for other in others {
+        push_other(out, text, other)?;
+    }
+    Ok(())
+}
+
+fn push_other(out: &mut String, text: &str, other: &Finding) -> Result<(), OutOfMemory> {
+    writeln!(out, "also {} line {}", other.number, other.line)?;
+    push_finding_text(out, text, other)
+}
+
+fn push_accepted(out: &mut String, remarks: &str) -> Result<(), OutOfMemory> {
+    out.push_str("accepted\n")?;
+    Ok(out.push_str(remarks)?)
+}
+
+fn push_explanation(
+    out: &mut String,
+    text: &str,
+    explanation: &Explanation,
+) -> Result<(), OutOfMemory> {
+    match explanation {
+        Explanation::Accepted { remarks } => push_accepted(out, remarks.as_str()),
+        Explanation::Refused { first, others } => push_refused(out, text, first, others.as_slice()),
+    }
+}
+
 /// An explanation of a text as it is printed. What it begins with is what `verify` prints of a refused module.
 pub fn told(alloc: Global, text: &[u8], explanation: &Explanation) -> Result<String, OutOfMemory> {
     let mut out = String::new(alloc);
     let text = str::from_utf8(text).unwrap_or("");
-    match explanation {
-        Explanation::Accepted { remarks } => {
-            out.push_str("accepted\n")?;
-            out.push_str(remarks.as_str())?;
-        }
-        Explanation::Refused { first, others } => {
-            writeln!(out, "refused {} line {}", first.number, first.line)?;
-            push_finding_text(&mut out, text, first)?;
-            for other in others.as_slice() {
-                writeln!(out, "also {} line {}", other.number, other.line)?;
-                push_finding_text(&mut out, text, other)?;
-            }
-        }
-    }
+    push_explanation(&mut out, text, explanation)?;
     Ok(out)
 }

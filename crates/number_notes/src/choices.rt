@@ -1,6 +1,6 @@
 //! Faults of numbers, each with what was to be shown.
 
-use crate::unmet::{Unmet, all_unmet};
+use crate::unmet::{Site, Unmet, all_unmet};
 use fact_notes::{
     Known, Matched, Scene, fact_lines, first_facts, is_against, match_text, push_inequality,
 };
@@ -8,8 +8,8 @@ use findings::{Finding, Source, line_at, push_finding, with_line_before};
 use linear::{Fact, Form};
 use lists::OutOfMemory;
 use program::{Block, BlockId};
-use ranges::{BlockFacts, block_facts, sum_form};
-use std::alloc::Global;
+use ranges::{BlockFacts, Sum, block_facts, sum_form};
+use std::alloc::{AllocError, Global};
 
 /// Whether a fault stands among those of the text, where one line more stands from this one on.
 fn is_old(unmet: &Unmet, old: &[Unmet], added: u32) -> bool {
@@ -50,6 +50,30 @@ fn is_better(
     }
 }
 
+/// The annotation that says what is known at the start of a block, and the line behind which it stands.
+fn start_of(scene: &Scene<'_>, block: BlockId) -> (&'static str, u32) {
+    if block.0 == 0 {
+        ("requires", scene.function.line)
+    } else {
+        ("keeps", scene.label_line(block))
+    }
+}
+
+/// An annotation to try, where the text is better with it behind a line.
+fn push_if_better(
+    alloc: Global,
+    source: Source<'_>,
+    annotation: &str,
+    after: u32,
+    old: &[Unmet],
+    notes: &mut String,
+) -> Result<(), OutOfMemory> {
+    if is_better(alloc, source, old, annotation, after.saturating_add(1))? {
+        writeln!(notes, "    try: {annotation}, after line {after}")?;
+    }
+    Ok(())
+}
+
 /// A `keeps` line of the block, or a `requires` line of its function, with which the form is shown and nothing new is owed.
 fn push_start_line(
     alloc: Global,
@@ -60,16 +84,20 @@ fn push_start_line(
     old: &[Unmet],
     notes: &mut String,
 ) -> Result<(), OutOfMemory> {
-    let (word, after) = if block.0 == 0 {
-        ("requires", scene.function.line)
-    } else {
-        ("keeps", scene.label_line(block))
-    };
+    let (word, after) = start_of(scene, block);
     let mut line = format!(in alloc; ";! {word} ")?;
     push_inequality(alloc, scene, form, &mut line)?;
-    let before = after.saturating_add(1);
-    if is_better(alloc, source, old, line.as_str(), before)? {
-        writeln!(notes, "    try: {line}, after line {after}")?;
+    push_if_better(alloc, source, line.as_str(), after, old, notes)
+}
+
+fn push_edge_to(
+    scene: &Scene<'_>,
+    edge: Option<BlockId>,
+    notes: &mut String,
+) -> Result<(), OutOfMemory> {
+    if let Some(target) = edge {
+        let label = scene.label(target);
+        write!(notes, ", on the edge to %{label}")?;
     }
     Ok(())
 }
@@ -87,12 +115,51 @@ fn push_asked(
     };
     let text = line_at(source.text, line).unwrap_or("").trim();
     write!(notes, "  asked by line {line}: {text}")?;
-    if let Some(target) = edge {
-        let label = scene.label(target);
-        write!(notes, ", on the edge to %{label}")?;
+    push_edge_to(scene, edge, notes)?;
+    Ok(notes.push_str("\n")?)
+}
+
+/// What there is to choose, where it is not one sum alone.
+fn push_choice_head(count: usize, notes: &mut String) -> Result<(), AllocError> {
+    match count {
+        0 => notes.push_str("  one operand must be a number from -1000000 to 1000000\n"),
+        1 => Ok(()),
+        _ => notes.push_str("  one of these is to be shown:\n"),
     }
-    writeln!(notes)?;
-    Ok(())
+}
+
+/// A line at the block's start that shows a form, unless the form is known to be below 0.
+fn push_mending(
+    alloc: Global,
+    source: Source<'_>,
+    known: Known<'_>,
+    block: BlockId,
+    form: &Form,
+    old: &[Unmet],
+    notes: &mut String,
+) -> Result<(), OutOfMemory> {
+    if is_against(alloc, known.facts, form)? {
+        Ok(())
+    } else {
+        push_start_line(alloc, source, known.scene, block, form, old, notes)
+    }
+}
+
+fn push_choice(
+    alloc: Global,
+    source: Source<'_>,
+    known: Known<'_>,
+    site: Site,
+    sum: &Sum,
+    old: &[Unmet],
+    notes: &mut String,
+) -> Result<(), OutOfMemory> {
+    known.push_unshown(alloc, sum, site.line, notes)?;
+    let block = BlockId(site.block);
+    match sum_form(alloc, sum)? {
+        Some(form) => push_mending(alloc, source, known, block, &form, old, notes),
+        None => Ok(()),
+    }
 }
 
 /// Each sum of which one is to be shown.
@@ -105,20 +172,9 @@ fn push_choices(
     notes: &mut String,
 ) -> Result<(), OutOfMemory> {
     let choices = unmet.choices.as_slice();
-    if choices.is_empty() {
-        notes.push_str("  one operand must be a number from -1000000 to 1000000\n")?;
-    }
-    if choices.len() > 1 {
-        notes.push_str("  one of these is to be shown:\n")?;
-    }
-    let block = BlockId(unmet.site.block);
+    push_choice_head(choices.len(), notes)?;
     for sum in choices {
-        known.push_unshown(alloc, sum, unmet.site.line, notes)?;
-        if let Some(form) = sum_form(alloc, sum)? {
-            if !is_against(alloc, known.facts, &form)? {
-                push_start_line(alloc, source, known.scene, block, &form, old, notes)?;
-            }
-        }
+        push_choice(alloc, source, known, unmet.site, sum, old, notes)?;
     }
     Ok(())
 }

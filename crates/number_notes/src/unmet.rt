@@ -45,6 +45,26 @@ fn line_of(inequalities: &[Inequality], place: usize) -> Option<u32> {
     }
 }
 
+/// Adds an obligation, if the facts do not meet it.
+fn push_if_unmet(
+    alloc: Global,
+    site: Site,
+    facts: &[Fact],
+    obligation: Obligation,
+    asked: Option<u32>,
+    unmet: &mut Vec<Unmet>,
+) -> Result<(), OutOfMemory> {
+    if is_met(alloc, facts, &obligation)? {
+        return Ok(());
+    }
+    Ok(unmet.push(Unmet {
+        site,
+        number: obligation.number,
+        choices: obligation.choices,
+        asked,
+    })?)
+}
+
 /// Adds what the facts do not meet. The inequalities, if there are any, are those that ask it, in the same order.
 fn push_unmet(
     alloc: Global,
@@ -56,14 +76,8 @@ fn push_unmet(
 ) -> Result<(), OutOfMemory> {
     let mut place: usize = 0;
     for obligation in obligations {
-        if !is_met(alloc, facts, &obligation)? {
-            unmet.push(Unmet {
-                site,
-                number: obligation.number,
-                choices: obligation.choices,
-                asked: line_of(asking, place),
-            })?;
-        }
+        let asked = line_of(asking, place);
+        push_if_unmet(alloc, site, facts, obligation, asked, unmet)?;
         place = place.saturating_add(1);
     }
     Ok(())
@@ -103,13 +117,8 @@ fn push_one(
 ) -> Result<(), OutOfMemory> {
     let mut at: usize = 0;
     for obligation in obligations {
-        if at == place && !is_met(alloc, facts, &obligation)? {
-            unmet.push(Unmet {
-                site,
-                number: obligation.number,
-                choices: obligation.choices,
-                asked: None,
-            })?;
+        if at == place {
+            push_if_unmet(alloc, site, facts, obligation, None, unmet)?;
         }
         at = at.saturating_add(1);
     }
@@ -158,6 +167,23 @@ fn push_edge(
     push_unmet(alloc, site, edge.facts.as_slice(), owed, keeps, unmet)
 }
 
+/// Adds what is not shown of the edges' targets.
+fn push_edges(
+    alloc: Global,
+    judged: Judged<'_>,
+    site: Site,
+    unmet: &mut Vec<Unmet>,
+) -> Result<(), OutOfMemory> {
+    for (place, edge) in judged.table.edges.as_slice().iter().enumerate() {
+        let at = Site {
+            edge: Some(place),
+            ..site
+        };
+        push_edge(alloc, judged, at, edge, unmet)?;
+    }
+    Ok(())
+}
+
 fn push_end(
     alloc: Global,
     judged: Judged<'_>,
@@ -170,14 +196,7 @@ fn push_end(
     let owed = owed_at_end(alloc, judged.function, &ending.terminator)?;
     let asking = judged.function.guarantees.as_slice();
     push_unmet(alloc, site, facts, owed, asking, unmet)?;
-    for (place, edge) in judged.table.edges.as_slice().iter().enumerate() {
-        let at = Site {
-            edge: Some(place),
-            ..site
-        };
-        push_edge(alloc, judged, at, edge, unmet)?;
-    }
-    Ok(())
+    push_edges(alloc, judged, site, unmet)
 }
 
 /// Adds what is not shown in a block.
