@@ -1,14 +1,15 @@
 //! How instructions are spelled.
 
-ghost use Rattle.std.specs.Prelude.{◌≡◌, ◌++◌, OnOk, string_bytes, flat_map};
+ghost use Rattle.std.specs.Prelude.{◌≡◌, ◌++◌, OnOk, string_bytes, codes, flat_map};
 ghost use Rattle.ir_spelling.specs.InstructionText.{conversion_texts, binary_text, compare_text, convert_text, alloca_text, element_pointer_text};
 ghost use Rattle.ir_spelling.specs.InstructionText.{load_text, store_text, store_zeros_text, atomic_add_text, call_text, call_void_text};
 ghost use Rattle.ir_spelling.specs.InstructionText.{start_region_text, instruction_text, entry_text, entries_text, phi_text};
-ghost use Rattle.ir_spelling.specs.Spelling.{behind_comma};
+ghost use Rattle.ir_spelling.specs.Spelling.{operand_text, arguments_text, behind_comma};
+ghost use Rattle.ir_instruction.specs.Spelling.{width_word};
 
 use crate::spelling::{
     operator_text, predicate_word, push_address, push_arguments, push_array, push_operand,
-    push_register, width_word,
+    push_register, push_typed, width_word,
 };
 use lists::Name;
 use std::alloc::AllocError;
@@ -16,6 +17,22 @@ use syntax::{
     Address, AllocaSize, Argument, BinaryOperator, Conversion, Instruction, Operand, Phi, PhiEntry,
     Predicate, Width,
 };
+
+/// ` T V, V`
+fn push_operands(
+    out: &mut String,
+    width: Width,
+    left: &Operand,
+    right: &Operand,
+) -> Result<(), AllocError>
+    ensures { OnOk result (string_bytes out.new ≡ string_bytes out.old
+        ++ codes " " ++ width_word width ++ codes " " ++ operand_text left.now ++ codes ", " ++ operand_text right.now) }
+{
+    out.push_str(" ")?;
+    push_typed(out, width, left)?;
+    out.push_str(", ")?;
+    push_operand(out, right)
+}
 
 fn push_binary(
     out: &mut String,
@@ -30,12 +47,7 @@ fn push_binary(
     push_register(out, register)?;
     out.push_str(" = ")?;
     out.push_str(operator_text(operator))?;
-    out.push_str(" ")?;
-    out.push_str(width_word(width))?;
-    out.push_str(" ")?;
-    push_operand(out, left)?;
-    out.push_str(", ")?;
-    push_operand(out, right)
+    push_operands(out, width, left, right)
 }
 
 fn push_compare(
@@ -51,12 +63,7 @@ fn push_compare(
     push_register(out, register)?;
     out.push_str(" = icmp ")?;
     out.push_str(predicate_word(predicate))?;
-    out.push_str(" ")?;
-    out.push_str(width_word(width))?;
-    out.push_str(" ")?;
-    push_operand(out, left)?;
-    out.push_str(", ")?;
-    push_operand(out, right)
+    push_operands(out, width, left, right)
 }
 
 /// What stands before and behind the value.
@@ -148,6 +155,16 @@ fn push_atomic_add(out: &mut String, address: &Address, value: &Operand) -> Resu
     out.push_str(" seq_cst")
 }
 
+/// `f(ARG, ..)`
+fn push_callee(out: &mut String, callee: &Name, arguments: &[Argument]) -> Result<(), AllocError>
+    ensures { OnOk result (string_bytes out.new ≡ string_bytes out.old ++ callee.now ++ codes "(" ++ arguments_text arguments.now ++ codes ")") }
+{
+    out.push_str(callee.as_str())?;
+    out.push_str("(")?;
+    push_arguments(out, arguments)?;
+    out.push_str(")")
+}
+
 #[tactic(auto, unfolding(crate::specs::InstructionText::call_text))]
 fn push_call(
     out: &mut String,
@@ -159,10 +176,7 @@ fn push_call(
 {
     push_register(out, register)?;
     out.push_str(" = call i64 @")?;
-    out.push_str(callee.as_str())?;
-    out.push_str("(")?;
-    push_arguments(out, arguments)?;
-    out.push_str(")")
+    push_callee(out, callee, arguments)
 }
 
 #[tactic(auto, unfolding(crate::specs::InstructionText::call_void_text))]
@@ -170,10 +184,7 @@ fn push_call_void(out: &mut String, callee: &Name, arguments: &[Argument]) -> Re
     ensures { OnOk result (string_bytes out.new ≡ string_bytes out.old ++ call_void_text callee.now arguments.now) }
 {
     out.push_str("call void @")?;
-    out.push_str(callee.as_str())?;
-    out.push_str("(")?;
-    push_arguments(out, arguments)?;
-    out.push_str(")")
+    push_callee(out, callee, arguments)
 }
 
 fn push_start_region(out: &mut String, register: &Name) -> Result<(), AllocError>

@@ -110,15 +110,23 @@ pub fn push_feet(out: &mut String, feet: &[Zone]) -> Result<(), AllocError>
     Ok(())
 }
 
+/// The lines of what a function reads, writes and adds to.
+fn push_function_zones(out: &mut String, notes: &FunctionNotes) -> Result<(), AllocError>
+    ensures { OnOk result (string_bytes out.new ≡ string_bytes out.old
+        ++ flat_map zone_line notes.now.reads ++ flat_map zone_line notes.now.writes ++ flat_map zone_line notes.now.adds) }
+{
+    push_zones(out, notes.reads.as_slice())?;
+    push_zones(out, notes.writes.as_slice())?;
+    push_zones(out, notes.adds.as_slice())
+}
+
 #[tactic(auto, unfolding(crate::specs::LineText::function_notes_lines))]
 pub fn push_function_notes(out: &mut String, notes: &FunctionNotes) -> Result<(), AllocError>
     ensures { OnOk result (string_bytes out.new ≡ string_bytes out.old ++ function_notes_lines notes.now) }
 {
     push_inequalities(out, "requires", notes.requirements.as_slice())?;
     push_inequalities(out, "ensures", notes.guarantees.as_slice())?;
-    push_zones(out, notes.reads.as_slice())?;
-    push_zones(out, notes.writes.as_slice())?;
-    push_zones(out, notes.adds.as_slice())?;
+    push_function_zones(out, notes)?;
     push_measure_line(out, &notes.measure)?;
     push_budget_line(out, &notes.budget)
 }

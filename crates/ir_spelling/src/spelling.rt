@@ -82,6 +82,14 @@ pub fn push_label(out: &mut String, name: &Name) -> Result<(), AllocError>
     out.push_str(name.as_str())
 }
 
+/// `, label %l`
+pub fn push_target(out: &mut String, name: &Name) -> Result<(), AllocError>
+    ensures { OnOk result (string_bytes out.new ≡ string_bytes out.old ++ codes ", " ++ label_text name.now) }
+{
+    out.push_str(", ")?;
+    push_label(out, name)
+}
+
 pub fn push_operand(out: &mut String, operand: &Operand) -> Result<(), AllocError>
     ensures { OnOk result (string_bytes out.new ≡ string_bytes out.old ++ operand_text operand.now) }
 {
@@ -89,6 +97,15 @@ pub fn push_operand(out: &mut String, operand: &Operand) -> Result<(), AllocErro
         Operand::Number(number) => out.push_str(Buffer::new().format(*number)),
         Operand::Register(name) => push_register(out, name),
     }
+}
+
+/// `T V`
+pub fn push_typed(out: &mut String, width: Width, value: &Operand) -> Result<(), AllocError>
+    ensures { OnOk result (string_bytes out.new ≡ string_bytes out.old ++ width_word width ++ codes " " ++ operand_text value.now) }
+{
+    out.push_str(width_word(width))?;
+    out.push_str(" ")?;
+    push_operand(out, value)
 }
 
 /// `ptr P`

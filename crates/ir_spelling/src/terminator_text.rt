@@ -1,10 +1,12 @@
 //! How terminators are spelled.
 
-ghost use Rattle.std.specs.Prelude.{◌≡◌, ◌++◌, OnOk, string_bytes, flat_map};
+ghost use Rattle.std.specs.Prelude.{◌≡◌, ◌++◌, OnOk, string_bytes, codes, flat_map};
 ghost use Rattle.ir_spelling.specs.TerminatorText.{jump_text, branch_text, case_text, switch_text, return_text, detach_text, reattach_text, sync_text};
 ghost use Rattle.ir_spelling.specs.TerminatorText.{terminator_text};
 
-use crate::spelling::{push_label, push_operand, push_register, width_word};
+use crate::spelling::{
+    push_label, push_operand, push_register, push_target, push_typed, width_word,
+};
 use itoa::Buffer;
 use lists::Name;
 use std::alloc::AllocError;
@@ -27,10 +29,8 @@ fn push_branch(
 {
     out.push_str("br i1 ")?;
     push_register(out, condition)?;
-    out.push_str(", ")?;
-    push_label(out, when_true)?;
-    out.push_str(", ")?;
-    push_label(out, when_false)
+    push_target(out, when_true)?;
+    push_target(out, when_false)
 }
 
 /// ` T N, label %l`
@@ -41,8 +41,7 @@ fn push_case(out: &mut String, width: Width, case: &Case) -> Result<(), AllocErr
     out.push_str(width_word(width))?;
     out.push_str(" ")?;
     out.push_str(Buffer::new().format(case.number))?;
-    out.push_str(", ")?;
-    push_label(out, &case.target)
+    push_target(out, &case.target)
 }
 
 fn push_cases(out: &mut String, width: Width, cases: &[Case]) -> Result<(), AllocError>
@@ -52,6 +51,15 @@ fn push_cases(out: &mut String, width: Width, cases: &[Case]) -> Result<(), Allo
         push_case(out, width, case)?;
     }
     Ok(())
+}
+
+/// ` [ T N, label %l .. ]`
+fn push_case_list(out: &mut String, width: Width, cases: &[Case]) -> Result<(), AllocError>
+    ensures { OnOk result (string_bytes out.new ≡ string_bytes out.old ++ codes " [" ++ flat_map (case_text width) cases.now ++ codes " ]") }
+{
+    out.push_str(" [")?;
+    push_cases(out, width, cases)?;
+    out.push_str(" ]")
 }
 
 fn push_switch(
@@ -64,14 +72,9 @@ fn push_switch(
     ensures { OnOk result (string_bytes out.new ≡ string_bytes out.old ++ switch_text width value.now default.now cases.now) }
 {
     out.push_str("switch ")?;
-    out.push_str(width_word(width))?;
-    out.push_str(" ")?;
-    push_operand(out, value)?;
-    out.push_str(", ")?;
-    push_label(out, default)?;
-    out.push_str(" [")?;
-    push_cases(out, width, cases)?;
-    out.push_str(" ]")
+    push_typed(out, width, value)?;
+    push_target(out, default)?;
+    push_case_list(out, width, cases)
 }
 
 fn push_return(out: &mut String, value: &Option<Operand>) -> Result<(), AllocError>
@@ -96,10 +99,8 @@ fn push_detach(
 {
     out.push_str("detach within ")?;
     push_register(out, region)?;
-    out.push_str(", ")?;
-    push_label(out, body)?;
-    out.push_str(", ")?;
-    push_label(out, continuation)
+    push_target(out, body)?;
+    push_target(out, continuation)
 }
 
 #[tactic(auto, unfolding(crate::specs::TerminatorText::reattach_text))]
@@ -108,8 +109,7 @@ fn push_reattach(out: &mut String, region: &Name, continuation: &Name) -> Result
 {
     out.push_str("reattach within ")?;
     push_register(out, region)?;
-    out.push_str(", ")?;
-    push_label(out, continuation)
+    push_target(out, continuation)
 }
 
 fn push_sync(out: &mut String, region: &Name, target: &Name) -> Result<(), AllocError>
@@ -117,8 +117,7 @@ fn push_sync(out: &mut String, region: &Name, target: &Name) -> Result<(), Alloc
 {
     out.push_str("sync within ")?;
     push_register(out, region)?;
-    out.push_str(", ")?;
-    push_label(out, target)
+    push_target(out, target)
 }
 
 pub fn push_terminator(out: &mut String, terminator: &Terminator) -> Result<(), AllocError>
