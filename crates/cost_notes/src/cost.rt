@@ -140,6 +140,41 @@ impl Doing<'_> {
         Ok(rest)
     }
 
+    /// What is left at the block's start, and what it does of that.
+    fn push_own(
+        &self,
+        alloc: Global,
+        counted: Counted,
+        out: &mut String,
+    ) -> Result<(), OutOfMemory> {
+        let word = counted.word();
+        let done = counted.of_work(self.work);
+        write!(out, "  {word}: left ")?;
+        push_form(alloc, self.known.scene, counted.of_left(self.left), out)?;
+        Ok(write!(out, ", the block does {done}")?)
+    }
+
+    fn push_share(
+        &self,
+        alloc: Global,
+        counted: Counted,
+        share: &Share<'_>,
+        out: &mut String,
+    ) -> Result<(), OutOfMemory> {
+        let label = self.known.scene.label(share.to);
+        write!(out, ", left at %{label} ")?;
+        push_form(alloc, self.known.scene, counted.of_left(share.left), out)
+    }
+
+    /// The edge, where there is only one.
+    fn push_edge_to(&self, shares: &[Share<'_>], out: &mut String) -> Result<(), OutOfMemory> {
+        if let [only] = shares {
+            let label = self.known.scene.label(only.to);
+            write!(out, " on the edge to %{label}")?;
+        }
+        Ok(())
+    }
+
     /// Both sides of what is not covered.
     fn push_sides(
         &self,
@@ -149,24 +184,14 @@ impl Doing<'_> {
         rest: &Sum,
         out: &mut String,
     ) -> Result<(), OutOfMemory> {
-        let word = counted.word();
-        let done = counted.of_work(self.work);
-        write!(out, "  {word}: left ")?;
-        push_form(alloc, self.known.scene, counted.of_left(self.left), out)?;
-        write!(out, ", the block does {done}")?;
+        self.push_own(alloc, counted, out)?;
         for share in shares {
-            let label = self.known.scene.label(share.to);
-            write!(out, ", left at %{label} ")?;
-            push_form(alloc, self.known.scene, counted.of_left(share.left), out)?;
+            self.push_share(alloc, counted, share, out)?;
         }
         out.push_str("\n    ")?;
         self.known.push_gap(alloc, rest, out)?;
-        if let [only] = shares {
-            let label = self.known.scene.label(only.to);
-            write!(out, " on the edge to %{label}")?;
-        }
-        out.push_str("\n")?;
-        Ok(())
+        self.push_edge_to(shares, out)?;
+        Ok(out.push_str("\n")?)
     }
 
     fn push_counted(
@@ -265,7 +290,19 @@ fn push_ending(
     }
 }
 
-/// A form that is to be at least 0, where it is not shown to be.
+fn push_unshown(
+    alloc: Global,
+    known: Known<'_>,
+    what: &str,
+    sum: &Sum,
+    notes: &mut String,
+) -> Result<(), OutOfMemory> {
+    write!(notes, "  {what}: ")?;
+    known.push_gap(alloc, sum, notes)?;
+    Ok(notes.push_str("\n")?)
+}
+
+/// A sum that is to be at least 0, where it is not shown to be.
 fn push_sum(
     alloc: Global,
     known: Known<'_>,
@@ -273,12 +310,36 @@ fn push_sum(
     sum: &Sum,
     notes: &mut String,
 ) -> Result<(), OutOfMemory> {
-    if !shows(alloc, known.facts, sum)? {
-        write!(notes, "  {what}: ")?;
-        known.push_gap(alloc, sum, notes)?;
-        notes.push_str("\n")?;
+    if shows(alloc, known.facts, sum)? {
+        Ok(())
+    } else {
+        push_unshown(alloc, known, what, sum, notes)
     }
-    Ok(())
+}
+
+/// A form that is to be at least 0, where it is not shown to be.
+fn push_low(
+    alloc: Global,
+    known: Known<'_>,
+    what: &str,
+    form: &Form,
+    notes: &mut String,
+) -> Result<(), OutOfMemory> {
+    let sum = put_in(alloc, &[], form)?;
+    push_sum(alloc, known, what, &sum, notes)
+}
+
+/// A form that is to be at most a number, where it is not shown to be.
+fn push_high(
+    alloc: Global,
+    known: Known<'_>,
+    what: &str,
+    number: u64,
+    form: &Form,
+    notes: &mut String,
+) -> Result<(), OutOfMemory> {
+    let sum = number_less(alloc, i128::from(number), &[], form)?;
+    push_sum(alloc, known, what, &sum, notes)
 }
 
 fn push_if_any(
@@ -312,10 +373,8 @@ fn push_left_notes(
     left: &Left,
     notes: &mut String,
 ) -> Result<(), OutOfMemory> {
-    let calls = put_in(alloc, &[], &left.self_calls)?;
-    push_sum(alloc, known, "self calls left", &calls, notes)?;
-    let instructions = put_in(alloc, &[], &left.instructions)?;
-    push_sum(alloc, known, "instructions left", &instructions, notes)
+    push_low(alloc, known, "self calls left", &left.self_calls, notes)?;
+    push_low(alloc, known, "instructions left", &left.instructions, notes)
 }
 
 /// 703 of a self call.
@@ -351,14 +410,25 @@ fn push_call_notes(
     let form = &known.scene.function.measure.form;
     let moves = argument_moves(alloc, arguments)?;
     let next = put_in(alloc, moves.as_slice(), form)?;
+    push_next_notes(alloc, known, form, &next, notes)
+}
+
+/// What is not shown of a measure beside that of the next call.
+fn push_next_notes(
+    alloc: Global,
+    known: Known<'_>,
+    form: &Form,
+    next: &Sum,
+    notes: &mut String,
+) -> Result<(), OutOfMemory> {
     push_sum(
         alloc,
         known,
         "the call's measure is at least 0",
-        &next,
+        next,
         notes,
     )?;
-    let falls = less_sum(less_number(alloc, form, 1)?, &next)?;
+    let falls = less_sum(less_number(alloc, form, 1)?, next)?;
     push_sum(alloc, known, "it is below the measure here", &falls, notes)
 }
 
@@ -402,16 +472,10 @@ fn push_measure_notes(
     measure: &Measure,
     notes: &mut String,
 ) -> Result<(), OutOfMemory> {
-    let low = put_in(alloc, &[], &measure.form)?;
-    push_sum(alloc, known, "the measure is at least 0", &low, notes)?;
-    let high = number_less(alloc, i128::from(measure.bound), &[], &measure.form)?;
-    push_sum(
-        alloc,
-        known,
-        "the measure is at most its bound",
-        &high,
-        notes,
-    )
+    let form = &measure.form;
+    push_low(alloc, known, "the measure is at least 0", form, notes)?;
+    let what = "the measure is at most its bound";
+    push_high(alloc, known, what, measure.bound, form, notes)
 }
 
 fn push_budget(
@@ -433,16 +497,22 @@ fn push_budget_notes(
     left: &Left,
     notes: &mut String,
 ) -> Result<(), OutOfMemory> {
-    let number = i128::from(budget.self_calls);
-    let calls = number_less(alloc, number, &[], &left.self_calls)?;
-    push_sum(alloc, known, "self calls left at the entry", &calls, notes)?;
-    let number = i128::from(budget.instructions);
-    let instructions = number_less(alloc, number, &[], &left.instructions)?;
-    push_sum(
+    let what = "self calls left at the entry";
+    push_high(
         alloc,
         known,
-        "instructions left at the entry",
-        &instructions,
+        what,
+        budget.self_calls,
+        &left.self_calls,
+        notes,
+    )?;
+    let what = "instructions left at the entry";
+    push_high(
+        alloc,
+        known,
+        what,
+        budget.instructions,
+        &left.instructions,
         notes,
     )
 }
@@ -477,16 +547,28 @@ fn push_block<'a>(
     findings: &mut Vec<Finding>,
 ) -> Result<(), OutOfMemory> {
     let (table, _) = block_facts(alloc, scene.program, scene.function, index, block)?;
-    let lines = fact_lines(alloc, scene.function, index, block, &table)?;
+    push_tabled_block(alloc, &*scene, index, &*block, &table, findings)
+}
+
+/// Adds the faults inside a block with this table of facts.
+fn push_tabled_block<'a>(
+    alloc: Global,
+    scene: &'a Scene<'a>,
+    index: usize,
+    block: &'a Block,
+    table: &BlockFacts,
+    findings: &mut Vec<Finding>,
+) -> Result<(), OutOfMemory> {
+    let lines = fact_lines(alloc, scene.function, index, block, table)?;
     let start = start_facts(alloc, scene.function, index, block)?;
     let known = Known {
-        scene,
+        scene: &*scene,
         facts: start.as_slice(),
         lines: lines.as_slice(),
         stated: start.len(),
         line: block.line,
     };
-    push_known_block(alloc, known, block, &table, findings)
+    push_known_block(alloc, known, block, table, findings)
 }
 
 /// Adds the faults inside a block, of which `known` says what is known at its start.

@@ -6,7 +6,7 @@ use lists::OutOfMemory;
 use program::{Block, Function, Inequality, RegisterId};
 use ranges::{BlockFacts, Sum, sum_form};
 use scenes::{Scene, push_inequality};
-use std::alloc::Global;
+use std::alloc::{AllocError, Global};
 
 /// The facts at a place with their lines: `line` is that of the facts after those of `lines`. The first `stated` of them are known to a
 /// `shows` line at the place.
@@ -108,6 +108,13 @@ fn share_register(left: &Form, right: &Form) -> bool {
         .any(|term| has_register(right, term.register))
 }
 
+fn push_short(out: &mut String, short: Option<i128>) -> Result<(), AllocError> {
+    match short {
+        Some(short) => write!(out, "short by {short}"),
+        None => out.push_str("shown by no one or two facts"),
+    }
+}
+
 impl Known<'_> {
     /// The fact at a place, and its line.
     fn push_fact(&self, alloc: Global, place: usize, out: &mut String) -> Result<(), OutOfMemory> {
@@ -163,6 +170,19 @@ impl Known<'_> {
         }
     }
 
+    /// The facts that show a form, and by how much they are short of the one that it was raised from.
+    fn push_nearest_facts(
+        &self,
+        alloc: Global,
+        nearest: &Form,
+        short: i128,
+        out: &mut String,
+    ) -> Result<(), OutOfMemory> {
+        out.push_str("    nearest: ")?;
+        self.push_used(alloc, nearest, out)?;
+        Ok(writeln!(out, ", short by {short}")?)
+    }
+
     /// The facts that come nearest to a form that they are short of by this much.
     fn push_nearest(
         &self,
@@ -172,11 +192,7 @@ impl Known<'_> {
         out: &mut String,
     ) -> Result<(), OutOfMemory> {
         match raised(alloc, form, short)? {
-            Some(nearest) => {
-                out.push_str("    nearest: ")?;
-                self.push_used(alloc, &nearest, out)?;
-                Ok(writeln!(out, ", short by {short}")?)
-            }
+            Some(nearest) => self.push_nearest_facts(alloc, &nearest, short, out),
             None => Ok(()),
         }
     }
@@ -233,10 +249,8 @@ impl Known<'_> {
             push_inequality(alloc, self.scene, form, out)?;
             out.push_str(" is ")?;
         }
-        match shortfall(alloc, self.facts, form)? {
-            Some(short) => Ok(write!(out, "short by {short}")?),
-            None => Ok(out.push_str("shown by no one or two facts")?),
-        }
+        let short = shortfall(alloc, self.facts, form)?;
+        Ok(push_short(out, short)?)
     }
 
     /// How far what is known is from showing a sum, in a few words.
