@@ -1,12 +1,11 @@
 //! Annotations, each put behind those of its kind.
 
-ghost use Rattle.std.specs.Prelude.{◌≡◌, IfOk};
-ghost use Rattle.ir_reader.specs.Annotating.{with_zone, annotated_function, annotated_block, with_requirement, with_guarantee, with_measure};
-ghost use Rattle.ir_reader.specs.Annotating.{with_budget, with_keeps, with_pending, with_foot, with_left};
+ghost use Rattle.std.specs.Prelude.{◌≡◌, IfOk, OnOk, Some, None, if◌then◌else◌};
+ghost use Rattle.ir_reader.specs.Annotating.{with_zone, annotated_function, annotated_block};
 
 use ir_annotation::Annotation;
 use lists::OutOfMemory;
-use syntax::{Block, Budget, Function, Inequality, Left, Measure, Mode, Pending, Zone};
+use syntax::{Block, Function, Mode, Zone};
 
 /// A function of which no label has been read, and whether its `measure` and `budget` are written.
 #[derive(Drop)]
@@ -23,59 +22,51 @@ pub struct BlockHead {
     pub has_left: bool,
 }
 
-fn with_zone(mut function: Function, zone: Zone) -> Result<Function, OutOfMemory>
-    ensures { IfOk result (λ f. f ≡ with_zone function zone) }
+fn add_zone(function: &mut Function, zone: Zone) -> Result<(), OutOfMemory>
+    ensures { OnOk result (function.new ≡ with_zone function.old zone) }
 {
-    let pushed = match zone.mode {
-        Mode::Reads => function.notes.reads.push(zone),
-        Mode::Writes => function.notes.writes.push(zone),
-        Mode::Adds => function.notes.adds.push(zone),
-    };
-    match pushed {
-        Ok(()) => Ok(function),
-        Err(refused) => {
-            drop(function);
-            Err(refused.into())
-        }
+    match zone.mode {
+        Mode::Reads => Ok(function.notes.reads.push(zone)?),
+        Mode::Writes => Ok(function.notes.writes.push(zone)?),
+        Mode::Adds => Ok(function.notes.adds.push(zone)?),
     }
 }
 
-fn with_requirement(mut function: Function, inequality: Inequality) -> Result<Function, OutOfMemory>
-    ensures { IfOk result (λ f. f ≡ with_requirement function inequality) }
+/// Puts an annotation into the head, unless it does not stand at a function, or stands there already: then false.
+fn annotate_function_head(
+    head: &mut FunctionHead,
+    annotation: Annotation,
+) -> Result<bool, OutOfMemory>
+    ensures { IfOk result (λ stands. annotated_function head.old annotation ≡ (if stands then Some head.new else None)) }
 {
-    match function.notes.requirements.push(inequality) {
-        Ok(()) => Ok(function),
-        Err(refused) => {
-            drop(function);
-            Err(refused.into())
+    match annotation {
+        Annotation::Requires(inequality) => {
+            head.function.notes.requirements.push(inequality)?;
+            Ok(true)
+        }
+        Annotation::Ensures(inequality) => {
+            head.function.notes.guarantees.push(inequality)?;
+            Ok(true)
+        }
+        Annotation::FunctionZone(zone) => {
+            add_zone(&mut head.function, zone)?;
+            Ok(true)
+        }
+        Annotation::Measure(measure) if !head.has_measure => {
+            head.function.notes.measure = measure;
+            head.has_measure = true;
+            Ok(true)
+        }
+        Annotation::Budget(budget) if !head.has_budget => {
+            head.function.notes.budget = budget;
+            head.has_budget = true;
+            Ok(true)
+        }
+        other => {
+            drop(other);
+            Ok(false)
         }
     }
-}
-
-fn with_guarantee(mut function: Function, inequality: Inequality) -> Result<Function, OutOfMemory>
-    ensures { IfOk result (λ f. f ≡ with_guarantee function inequality) }
-{
-    match function.notes.guarantees.push(inequality) {
-        Ok(()) => Ok(function),
-        Err(refused) => {
-            drop(function);
-            Err(refused.into())
-        }
-    }
-}
-
-fn with_measure(mut function: Function, measure: Measure) -> Function
-    ensures { result ≡ with_measure function measure }
-{
-    function.notes.measure = measure;
-    function
-}
-
-fn with_budget(mut function: Function, budget: Budget) -> Function
-    ensures { result ≡ with_budget function budget }
-{
-    function.notes.budget = budget;
-    function
 }
 
 /// The head with one more annotation. None: the annotation does not stand at a function, or stands there already.
@@ -85,86 +76,41 @@ pub fn annotated_function(
 ) -> Result<Option<FunctionHead>, OutOfMemory>
     ensures { IfOk result (λ h. h ≡ annotated_function head annotation) }
 {
-    let FunctionHead {
-        function,
-        has_measure,
-        has_budget,
-    } = head;
+    let mut head = head;
+    if annotate_function_head(&mut head, annotation)? {
+        Ok(Some(head))
+    } else {
+        Ok(None)
+    }
+}
+
+/// Puts an annotation into the head, unless it does not stand at a block, or stands there already: then false.
+fn annotate_block_head(head: &mut BlockHead, annotation: Annotation) -> Result<bool, OutOfMemory>
+    ensures { IfOk result (λ stands. annotated_block head.old annotation ≡ (if stands then Some head.new else None)) }
+{
     match annotation {
-        Annotation::Requires(inequality) => Ok(Some(FunctionHead {
-            function: with_requirement(function, inequality)?,
-            has_measure,
-            has_budget,
-        })),
-        Annotation::Ensures(inequality) => Ok(Some(FunctionHead {
-            function: with_guarantee(function, inequality)?,
-            has_measure,
-            has_budget,
-        })),
-        Annotation::FunctionZone(zone) => Ok(Some(FunctionHead {
-            function: with_zone(function, zone)?,
-            has_measure,
-            has_budget,
-        })),
-        Annotation::Measure(measure) if !has_measure => Ok(Some(FunctionHead {
-            function: with_measure(function, measure),
-            has_measure: true,
-            has_budget,
-        })),
-        Annotation::Budget(budget) if !has_budget => Ok(Some(FunctionHead {
-            function: with_budget(function, budget),
-            has_measure,
-            has_budget: true,
-        })),
+        Annotation::Keeps(inequality) => {
+            head.block.notes.keeps.push(inequality)?;
+            Ok(true)
+        }
+        Annotation::Pending(pending) => {
+            head.block.notes.pending.push(pending)?;
+            Ok(true)
+        }
+        Annotation::Foot(zone) => {
+            head.block.notes.foot.push(zone)?;
+            Ok(true)
+        }
+        Annotation::Left(left) if !head.has_left => {
+            head.block.notes.left = left;
+            head.has_left = true;
+            Ok(true)
+        }
         other => {
             drop(other);
-            drop(function);
-            Ok(None)
+            Ok(false)
         }
     }
-}
-
-fn with_keeps(mut block: Block, inequality: Inequality) -> Result<Block, OutOfMemory>
-    ensures { IfOk result (λ b. b ≡ with_keeps block inequality) }
-{
-    match block.notes.keeps.push(inequality) {
-        Ok(()) => Ok(block),
-        Err(refused) => {
-            drop(block);
-            Err(refused.into())
-        }
-    }
-}
-
-fn with_pending(mut block: Block, pending: Pending) -> Result<Block, OutOfMemory>
-    ensures { IfOk result (λ b. b ≡ with_pending block pending) }
-{
-    match block.notes.pending.push(pending) {
-        Ok(()) => Ok(block),
-        Err(refused) => {
-            drop(block);
-            Err(refused.into())
-        }
-    }
-}
-
-fn with_foot(mut block: Block, zone: Zone) -> Result<Block, OutOfMemory>
-    ensures { IfOk result (λ b. b ≡ with_foot block zone) }
-{
-    match block.notes.foot.push(zone) {
-        Ok(()) => Ok(block),
-        Err(refused) => {
-            drop(block);
-            Err(refused.into())
-        }
-    }
-}
-
-fn with_left(mut block: Block, left: Left) -> Block
-    ensures { result ≡ with_left block left }
-{
-    block.notes.left = left;
-    block
 }
 
 /// The head with one more annotation. None: the annotation does not stand at a block, or stands there already.
@@ -174,28 +120,10 @@ pub fn annotated_block(
 ) -> Result<Option<BlockHead>, OutOfMemory>
     ensures { IfOk result (λ h. h ≡ annotated_block head annotation) }
 {
-    let BlockHead { block, has_left } = head;
-    match annotation {
-        Annotation::Keeps(inequality) => Ok(Some(BlockHead {
-            block: with_keeps(block, inequality)?,
-            has_left,
-        })),
-        Annotation::Pending(pending) => Ok(Some(BlockHead {
-            block: with_pending(block, pending)?,
-            has_left,
-        })),
-        Annotation::Foot(zone) => Ok(Some(BlockHead {
-            block: with_foot(block, zone)?,
-            has_left,
-        })),
-        Annotation::Left(left) if !has_left => Ok(Some(BlockHead {
-            block: with_left(block, left),
-            has_left: true,
-        })),
-        other => {
-            drop(other);
-            drop(block);
-            Ok(None)
-        }
+    let mut head = head;
+    if annotate_block_head(&mut head, annotation)? {
+        Ok(Some(head))
+    } else {
+        Ok(None)
     }
 }
