@@ -48,6 +48,23 @@ fn sorted_terms<'a>(
     Ok(sorted)
 }
 
+fn push_terms(out: &mut String, terms: &[(&str, i64)]) -> Result<(), AllocError> {
+    for (index, (name, coefficient)) in terms.iter().enumerate() {
+        push_term(out, index == 0, name, *coefficient)?;
+    }
+    Ok(())
+}
+
+/// The number behind the terms, unless it is 0 and there are some.
+fn push_constant(out: &mut String, is_first: bool, constant: i128) -> Result<(), AllocError> {
+    if constant == 0 && !is_first {
+        return Ok(());
+    }
+    let sign = sign_of(is_first, constant < 0);
+    let size = constant.unsigned_abs();
+    write!(out, "{sign}{size}")
+}
+
 /// `F >= 0`: what a fact says.
 pub fn push_fact(
     alloc: Global,
@@ -56,16 +73,7 @@ pub fn push_fact(
     fact: &Fact,
 ) -> Result<(), AllocError> {
     let terms = sorted_terms(alloc, names, fact.form.terms.as_slice())?;
-    let mut is_first = true;
-    for (name, coefficient) in &terms {
-        push_term(out, is_first, name, *coefficient)?;
-        is_first = false;
-    }
-    let constant = fact.form.constant;
-    if is_first || constant != 0 {
-        let sign = sign_of(is_first, constant < 0);
-        let size = constant.unsigned_abs();
-        write!(out, "{sign}{size}")?;
-    }
-    write!(out, " >= 0")
+    push_terms(out, terms.as_slice())?;
+    push_constant(out, terms.is_empty(), fact.form.constant)?;
+    out.push_str(" >= 0")
 }
