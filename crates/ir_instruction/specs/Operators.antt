@@ -11,6 +11,17 @@ use Rattle.syntax.specs.declared.operator.Predicate.TheVariants.{SignedGreater, 
 use Rattle.ir_instruction.specs.declared.symbol.Symbol.{Symbol}
 use Rattle.ir_instruction.specs.declared.symbol.Symbol.TheVariants.{Word}
 
+-- the operation on bits that a word names
+abbrev pub bitwise_operator_of : List ℕ → Option BinaryOperator
+bitwise_operator_of word =
+    if bytes_eq word (codes "shl") then Some ShiftLeft
+    else if bytes_eq word (codes "lshr") then Some LogicalShiftRight
+    else if bytes_eq word (codes "ashr") then Some ArithmeticShiftRight
+    else if bytes_eq word (codes "and") then Some And
+    else if bytes_eq word (codes "or") then Some Or
+    else if bytes_eq word (codes "xor") then Some ExclusiveOr
+    else None
+
 -- the operation that a word names without nsw
 unfoldable pub operator_of : List ℕ → Option BinaryOperator
 operator_of word =
@@ -21,13 +32,7 @@ operator_of word =
     else if bytes_eq word (codes "udiv") then Some UnsignedDivide
     else if bytes_eq word (codes "srem") then Some SignedRemainder
     else if bytes_eq word (codes "urem") then Some UnsignedRemainder
-    else if bytes_eq word (codes "shl") then Some ShiftLeft
-    else if bytes_eq word (codes "lshr") then Some LogicalShiftRight
-    else if bytes_eq word (codes "ashr") then Some ArithmeticShiftRight
-    else if bytes_eq word (codes "and") then Some And
-    else if bytes_eq word (codes "or") then Some Or
-    else if bytes_eq word (codes "xor") then Some ExclusiveOr
-    else None
+    else bitwise_operator_of word
 
 -- the same operation with nsw, where it has one
 abbrev pub without_wrap : BinaryOperator → Option BinaryOperator
@@ -35,6 +40,15 @@ without_wrap Add = Some AddNoWrap
 without_wrap Subtract = Some SubtractNoWrap
 without_wrap Multiply = Some MultiplyNoWrap
 without_wrap _ = None
+
+-- the comparison of signed numbers that a word names
+abbrev pub signed_predicate_of : List ℕ → Option Predicate
+signed_predicate_of word =
+    if bytes_eq word (codes "sgt") then Some SignedGreater
+    else if bytes_eq word (codes "sge") then Some SignedAtLeast
+    else if bytes_eq word (codes "slt") then Some SignedLess
+    else if bytes_eq word (codes "sle") then Some SignedAtMost
+    else None
 
 unfoldable pub predicate_of : List ℕ → Option Predicate
 predicate_of word =
@@ -44,11 +58,7 @@ predicate_of word =
     else if bytes_eq word (codes "uge") then Some UnsignedAtLeast
     else if bytes_eq word (codes "ult") then Some UnsignedLess
     else if bytes_eq word (codes "ule") then Some UnsignedAtMost
-    else if bytes_eq word (codes "sgt") then Some SignedGreater
-    else if bytes_eq word (codes "sge") then Some SignedAtLeast
-    else if bytes_eq word (codes "slt") then Some SignedLess
-    else if bytes_eq word (codes "sle") then Some SignedAtMost
-    else None
+    else signed_predicate_of word
 
 abbrev pub predicate_at : List Symbol → Option (Predicate × List Symbol)
 predicate_at (Word word ∷ rest) = option_map (λ predicate. (predicate, rest)) (predicate_of word)

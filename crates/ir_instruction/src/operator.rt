@@ -2,12 +2,34 @@
 
 ghost use Rattle.std.specs.Prelude.{◌≡◌};
 ghost use Rattle.ir_instruction.specs.Outcome.{Gives};
-ghost use Rattle.ir_instruction.specs.Operators.{operator_of, without_wrap, predicate_of, predicate_at};
+ghost use Rattle.ir_instruction.specs.Operators.{bitwise_operator_of, operator_of, without_wrap};
+ghost use Rattle.ir_instruction.specs.Operators.{signed_predicate_of, predicate_of, predicate_at};
 
 use crate::fault::LineFault;
 use crate::front::is_text;
 use crate::symbol::Symbol;
 use syntax::{BinaryOperator, Predicate};
+
+/// The operation on bits that a word names.
+fn bitwise_operator_of(word: &[u8]) -> Option<BinaryOperator>
+    ensures { result ≡ bitwise_operator_of word.now }
+{
+    if is_text(word, b"shl") {
+        Some(BinaryOperator::ShiftLeft)
+    } else if is_text(word, b"lshr") {
+        Some(BinaryOperator::LogicalShiftRight)
+    } else if is_text(word, b"ashr") {
+        Some(BinaryOperator::ArithmeticShiftRight)
+    } else if is_text(word, b"and") {
+        Some(BinaryOperator::And)
+    } else if is_text(word, b"or") {
+        Some(BinaryOperator::Or)
+    } else if is_text(word, b"xor") {
+        Some(BinaryOperator::ExclusiveOr)
+    } else {
+        None
+    }
+}
 
 /// The operation that a word names without `nsw`.
 #[tactic(auto, unfolding(crate::specs::Operators::operator_of))]
@@ -28,20 +50,8 @@ pub fn operator_of(word: &[u8]) -> Option<BinaryOperator>
         Some(BinaryOperator::SignedRemainder)
     } else if is_text(word, b"urem") {
         Some(BinaryOperator::UnsignedRemainder)
-    } else if is_text(word, b"shl") {
-        Some(BinaryOperator::ShiftLeft)
-    } else if is_text(word, b"lshr") {
-        Some(BinaryOperator::LogicalShiftRight)
-    } else if is_text(word, b"ashr") {
-        Some(BinaryOperator::ArithmeticShiftRight)
-    } else if is_text(word, b"and") {
-        Some(BinaryOperator::And)
-    } else if is_text(word, b"or") {
-        Some(BinaryOperator::Or)
-    } else if is_text(word, b"xor") {
-        Some(BinaryOperator::ExclusiveOr)
     } else {
-        None
+        bitwise_operator_of(word)
     }
 }
 
@@ -54,6 +64,23 @@ pub fn without_wrap(operator: BinaryOperator) -> Option<BinaryOperator>
         BinaryOperator::Subtract => Some(BinaryOperator::SubtractNoWrap),
         BinaryOperator::Multiply => Some(BinaryOperator::MultiplyNoWrap),
         _ => None,
+    }
+}
+
+/// The comparison of signed numbers that a word names.
+fn signed_predicate_of(word: &[u8]) -> Option<Predicate>
+    ensures { result ≡ signed_predicate_of word.now }
+{
+    if is_text(word, b"sgt") {
+        Some(Predicate::SignedGreater)
+    } else if is_text(word, b"sge") {
+        Some(Predicate::SignedAtLeast)
+    } else if is_text(word, b"slt") {
+        Some(Predicate::SignedLess)
+    } else if is_text(word, b"sle") {
+        Some(Predicate::SignedAtMost)
+    } else {
+        None
     }
 }
 
@@ -73,16 +100,8 @@ fn predicate_of(word: &[u8]) -> Option<Predicate>
         Some(Predicate::UnsignedLess)
     } else if is_text(word, b"ule") {
         Some(Predicate::UnsignedAtMost)
-    } else if is_text(word, b"sgt") {
-        Some(Predicate::SignedGreater)
-    } else if is_text(word, b"sge") {
-        Some(Predicate::SignedAtLeast)
-    } else if is_text(word, b"slt") {
-        Some(Predicate::SignedLess)
-    } else if is_text(word, b"sle") {
-        Some(Predicate::SignedAtMost)
     } else {
-        None
+        signed_predicate_of(word)
     }
 }
 
