@@ -4,8 +4,11 @@
 //! is worked by hand. The last line names the call at a board that was refused memory, and made once more.
 #![tactic(auto)]
 
-mod tapirvm;
+mod asked;
+mod transcripts;
+mod unthreaded;
 
+use asked::Program;
 use board_cases::boards::Notes;
 use cases::{Lines, Report};
 use std::hash::RandomState;
@@ -16,12 +19,11 @@ use std::sync::Wait;
 use std::thread::Threads;
 use std::time::Clock;
 use std::{env, io};
-use tapirvm::Tapirvm;
 
 /// Answers the cases that a word names.
 fn answer_word<R: AllocGlobal + Files + Threads + Wait + Clock + Sync>(
     rt: &R,
-    program: &Tapirvm<'_, R>,
+    program: &Program<'_, R>,
     word: &str,
     notes: &mut Notes,
     report: &mut Lines,
@@ -34,8 +36,8 @@ fn answer_word<R: AllocGlobal + Files + Threads + Wait + Clock + Sync>(
         "steps" => board_cases::steps::answer(rt, state, report),
         "schedules" => board_cases::schedules::answer(rt.alloc(), report),
         "boards" => board_cases::boards::answer(rt, state, word, notes, report),
-        "unthreaded" => command_cases::unthreaded::answer(rt, program, report),
-        "transcripts" => command_cases::transcripts::answer(rt, program, word, report),
+        "unthreaded" => unthreaded::answer(rt, program, report),
+        "transcripts" => transcripts::answer(rt, program, word, report),
         "threads" => thread_cases::answer(rt, state, report),
         _ => text_cases::answer(rt, state, kind, word, report),
     }
@@ -44,7 +46,7 @@ fn answer_word<R: AllocGlobal + Files + Threads + Wait + Clock + Sync>(
 /// Answers the cases that the program's words name.
 fn answer<R: AllocGlobal + Env + Files + Threads + Wait + Clock + Sync>(
     rt: &R,
-    program: &Tapirvm<'_, R>,
+    program: &Program<'_, R>,
     notes: &mut Notes,
     report: &mut Lines,
 ) -> io::Result<ExitCode> {
@@ -56,7 +58,7 @@ fn answer<R: AllocGlobal + Env + Files + Threads + Wait + Clock + Sync>(
 
 fn main(rt: HostRuntime) -> io::Result<ExitCode> {
     let alloc = rt.alloc();
-    let program = Tapirvm {
+    let program = Program {
         state: RandomState::new(&rt)?,
         rt: &rt,
     };

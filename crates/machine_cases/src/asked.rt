@@ -1,10 +1,13 @@
 //! Command lines, and what they come to.
 
-use command_line::{Request, WordsFault, words};
-use module_answers::Beside;
+use commands::{Beside, Request, WordsFault, act, words};
 use std::alloc::{AllocError, Global};
+use std::hash::RandomState;
 use std::io;
 use std::io::{Read, Write};
+use std::sync::Wait;
+use std::thread::Threads;
+use std::time::Clock;
 
 /// The status of the words of no command.
 const WORDS: u8 = 2;
@@ -43,18 +46,11 @@ impl Answer {
     }
 }
 
-/// A program of commands: what it does on a request over the bytes of files, `None` for one that cannot be read. It answers the status.
-pub trait Program {
-    fn act<I: Read, O: Write>(
-        &self,
-        alloc: Global,
-        request: &Request,
-        module: Option<&[u8]>,
-        schedule: Option<&[u8]>,
-        input: &mut I,
-        output: &mut O,
-        beside: &mut Beside,
-    ) -> u8;
+/// The program `tapirvm`: what names are hashed with, and what starts threads.
+#[derive(Drop)]
+pub struct Program<'a, T: Threads + Wait + Clock + Sync> {
+    pub state: RandomState,
+    pub rt: &'a T,
 }
 
 /// What a command line asks for.
@@ -72,9 +68,9 @@ fn tell_fault(fault: &WordsFault, beside: &mut Beside) -> io::Result<u8> {
 }
 
 /// The status of a command line, with what is written.
-pub fn told<P: Program, I: Read, O: Write>(
+pub fn told<T: Threads + Wait + Clock + Sync, I: Read, O: Write>(
     alloc: Global,
-    program: &P,
+    program: &Program<'_, T>,
     asked: Asked<'_>,
     input: &mut I,
     output: &mut O,
@@ -82,15 +78,27 @@ pub fn told<P: Program, I: Read, O: Write>(
 ) -> io::Result<u8> {
     let (module, schedule) = (asked.module, asked.schedule);
     match request_of(alloc, asked.line) {
-        Ok(request) => { Ok(program.act(alloc, &request, module, schedule, input, output, beside)) }
+        Ok(request) => {
+            Ok(act(
+                program.rt,
+                alloc,
+                program.state,
+                &request,
+                module,
+                schedule,
+                input,
+                output,
+                beside,
+            ))
+        }
         Err(fault) => tell_fault(&fault, beside),
     }
 }
 
 /// Takes what the program answers to a text as its input.
-fn tell<P: Program>(
+fn tell<T: Threads + Wait + Clock + Sync>(
     alloc: Global,
-    program: &P,
+    program: &Program<'_, T>,
     asked: Asked<'_>,
     input: &[u8],
     answer: &mut Answer,
@@ -108,9 +116,9 @@ fn tell<P: Program>(
 }
 
 /// What the program answers to a text as its input.
-pub fn answered<P: Program>(
+pub fn answered<T: Threads + Wait + Clock + Sync>(
     alloc: Global,
-    program: &P,
+    program: &Program<'_, T>,
     asked: Asked<'_>,
     input: &[u8],
 ) -> io::Result<Answer> {

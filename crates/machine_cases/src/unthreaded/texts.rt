@@ -2,11 +2,13 @@
 
 use crate::asked::{Asked, Program, answered};
 use cases::Lines;
-use command_line::{bytes_of, text_of};
-use module_answers::{read_file, read_text};
+use commands::{bytes_of, read_file, read_text, text_of};
 use std::alloc::{AllocError, Global};
 use std::io::ErrorKind;
 use std::rt::Files;
+use std::sync::Wait;
+use std::thread::Threads;
+use std::time::Clock;
 use std::{fs, io};
 
 /// What is read of a line that comes so often that the text has more than twice the bytes of the limit.
@@ -16,16 +18,20 @@ fn read_long(alloc: Global, line: &str) -> io::Result<Vec<u8>> {
 }
 
 /// The status and the output of a command line, as one text.
-fn told<P: Program>(alloc: Global, program: &P, asked: Asked<'_>) -> io::Result<String> {
+fn told<T: Threads + Wait + Clock + Sync>(
+    alloc: Global,
+    program: &Program<'_, T>,
+    asked: Asked<'_>,
+) -> io::Result<String> {
     let answer = answered(alloc, program, asked, b"")?;
     let output = String::from_utf8_lossy(alloc, answer.output.as_slice())?;
     Ok(format!(in alloc; "{output}status {}", answer.status)?)
 }
 
 /// What is told of a command line is to be this.
-fn compare<P: Program>(
+fn compare<T: Threads + Wait + Clock + Sync>(
     alloc: Global,
-    program: &P,
+    program: &Program<'_, T>,
     asked: Asked<'_>,
     wanted: &str,
     report: &mut Lines,
@@ -35,7 +41,11 @@ fn compare<P: Program>(
 }
 
 /// A long module.
-fn answer_module<P: Program>(alloc: Global, program: &P, report: &mut Lines) -> io::Result<()> {
+fn answer_module<T: Threads + Wait + Clock + Sync>(
+    alloc: Global,
+    program: &Program<'_, T>,
+    report: &mut Lines,
+) -> io::Result<()> {
     let module = read_long(alloc, "; é\n")?;
     report.count("a module", 1_048_580, module.len() as u64)?;
     let asked = Asked {
@@ -48,9 +58,9 @@ fn answer_module<P: Program>(alloc: Global, program: &P, report: &mut Lines) -> 
 }
 
 /// A long schedule.
-fn answer_schedule<P: Program>(
+fn answer_schedule<T: Threads + Wait + Clock + Sync>(
     alloc: Global,
-    program: &P,
+    program: &Program<'_, T>,
     pair: &[u8],
     report: &mut Lines,
 ) -> io::Result<()> {
@@ -66,9 +76,9 @@ fn answer_schedule<P: Program>(
 }
 
 /// A long text is read to the end of the line that passes the limit, so it answers as it would whole.
-fn answer_long<P: Program>(
+fn answer_long<T: Threads + Wait + Clock + Sync>(
     alloc: Global,
-    program: &P,
+    program: &Program<'_, T>,
     pair: &[u8],
     report: &mut Lines,
 ) -> io::Result<()> {
@@ -127,9 +137,9 @@ fn answer_files<R: AllocGlobal + Files>(rt: &R, report: &mut Lines) -> io::Resul
 }
 
 /// Answers the cases of texts, words and files.
-pub fn answer<R: AllocGlobal + Files, P: Program>(
+pub fn answer<R: AllocGlobal + Files, T: Threads + Wait + Clock + Sync>(
     rt: &R,
-    program: &P,
+    program: &Program<'_, T>,
     report: &mut Lines,
 ) -> io::Result<()> {
     let pair = fs::read(rt, "examples/pair.ll")?;

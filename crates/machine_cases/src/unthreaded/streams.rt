@@ -2,10 +2,13 @@
 
 use crate::asked::{Asked, Program, told};
 use cases::Lines;
-use module_answers::Beside;
+use commands::Beside;
 use std::alloc::Global;
 use std::io::{ErrorKind, Read, Write};
 use std::rt::Files;
+use std::sync::Wait;
+use std::thread::Threads;
+use std::time::Clock;
 use std::{fs, io};
 
 /// A reader of a text that fails at its end.
@@ -92,7 +95,12 @@ const DIALOGUES: [Dialogue<'static>; 4] = [
 
 impl Dialogue<'_> {
     /// Whether the program goes through the dialogue so.
-    fn is_met<P: Program>(&self, alloc: Global, program: &P, module: &[u8]) -> io::Result<bool> {
+    fn is_met<T: Threads + Wait + Clock + Sync>(
+        &self,
+        alloc: Global,
+        program: &Program<'_, T>,
+        module: &[u8],
+    ) -> io::Result<bool> {
         let schedule = b"step 0 2\nsteal 1 root\nstep 1 3\nstep 0 9\n";
         let mut input = Cut { text: self.said };
         let mut output = Full {
@@ -111,9 +119,9 @@ impl Dialogue<'_> {
 }
 
 /// Goes through the dialogues over a module.
-fn answer_over<P: Program>(
+fn answer_over<T: Threads + Wait + Clock + Sync>(
     alloc: Global,
-    program: &P,
+    program: &Program<'_, T>,
     module: &[u8],
     report: &mut Lines,
 ) -> io::Result<()> {
@@ -125,9 +133,9 @@ fn answer_over<P: Program>(
 }
 
 /// Goes through the dialogues.
-pub fn answer<R: AllocGlobal + Files, P: Program>(
+pub fn answer<R: AllocGlobal + Files, T: Threads + Wait + Clock + Sync>(
     rt: &R,
-    program: &P,
+    program: &Program<'_, T>,
     report: &mut Lines,
 ) -> io::Result<()> {
     report.title("dialogues over streams that fail")?;

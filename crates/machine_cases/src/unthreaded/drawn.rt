@@ -4,15 +4,18 @@ use crate::asked::{Answer, Asked, Program, answered};
 use cases::Lines;
 use std::alloc::Global;
 use std::rt::Files;
+use std::sync::Wait;
+use std::thread::Threads;
+use std::time::Clock;
 use std::{fs, io};
 
 /// How many seeds draw events for each module.
 const SEEDS: u64 = 20;
 
 /// What a command line answers over a module and a schedule.
-fn answer_over<P: Program>(
+fn answer_over<T: Threads + Wait + Clock + Sync>(
     alloc: Global,
-    program: &P,
+    program: &Program<'_, T>,
     line: &str,
     module: &[u8],
     schedule: Option<&[u8]>,
@@ -26,15 +29,20 @@ fn answer_over<P: Program>(
 }
 
 /// What a run answers whose events a seed draws, which it writes too.
-fn drawn<P: Program>(alloc: Global, program: &P, module: &[u8], seed: u64) -> io::Result<Answer> {
+fn drawn<T: Threads + Wait + Clock + Sync>(
+    alloc: Global,
+    program: &Program<'_, T>,
+    module: &[u8],
+    seed: u64,
+) -> io::Result<Answer> {
     let line = format!(in alloc; "tapirvm run m.ll --workers 4 --arg 3 --seed {seed} --save o")?;
     answer_over(alloc, program, line.as_str(), module, None)
 }
 
 /// Whether a replay of the events writes what the serial run does.
-fn is_replayed<P: Program>(
+fn is_replayed<T: Threads + Wait + Clock + Sync>(
     alloc: Global,
-    program: &P,
+    program: &Program<'_, T>,
     module: &[u8],
     events: &[u8],
     serial: &[u8],
@@ -45,9 +53,9 @@ fn is_replayed<P: Program>(
 }
 
 /// Whether the events that a seed draws are a schedule of which the drawn run and a replay both write what the serial run does.
-fn is_as_serial<P: Program>(
+fn is_as_serial<T: Threads + Wait + Clock + Sync>(
     alloc: Global,
-    program: &P,
+    program: &Program<'_, T>,
     module: &[u8],
     serial: &[u8],
     seed: u64,
@@ -60,9 +68,9 @@ fn is_as_serial<P: Program>(
 }
 
 /// How many seeds draw a schedule that answers as the serial run, which wrote this.
-fn seeds_as<P: Program>(
+fn seeds_as<T: Threads + Wait + Clock + Sync>(
     alloc: Global,
-    program: &P,
+    program: &Program<'_, T>,
     module: &[u8],
     serial: &[u8],
 ) -> io::Result<u64> {
@@ -76,7 +84,11 @@ fn seeds_as<P: Program>(
 }
 
 /// How many seeds draw a schedule that answers as the serial run; none where that fails.
-fn seeds_as_serial<P: Program>(alloc: Global, program: &P, module: &[u8]) -> io::Result<u64> {
+fn seeds_as_serial<T: Threads + Wait + Clock + Sync>(
+    alloc: Global,
+    program: &Program<'_, T>,
+    module: &[u8],
+) -> io::Result<u64> {
     let line = "tapirvm serial m.ll --arg 3";
     let serial = answer_over(alloc, program, line, module, None)?;
     if serial.status == 0 {
@@ -87,9 +99,9 @@ fn seeds_as_serial<P: Program>(alloc: Global, program: &P, module: &[u8]) -> io:
 }
 
 /// Draws runs of a module.
-fn answer_file<R: AllocGlobal + Files, P: Program>(
+fn answer_file<R: AllocGlobal + Files, T: Threads + Wait + Clock + Sync>(
     rt: &R,
-    program: &P,
+    program: &Program<'_, T>,
     file: &str,
     report: &mut Lines,
 ) -> io::Result<()> {
@@ -99,9 +111,9 @@ fn answer_file<R: AllocGlobal + Files, P: Program>(
 }
 
 /// Draws runs of modules with regions.
-pub fn answer<R: AllocGlobal + Files, P: Program>(
+pub fn answer<R: AllocGlobal + Files, T: Threads + Wait + Clock + Sync>(
     rt: &R,
-    program: &P,
+    program: &Program<'_, T>,
     report: &mut Lines,
 ) -> io::Result<()> {
     report.title("drawn events are a schedule that answers as the serial run")?;

@@ -8,11 +8,14 @@ use crate::asked::Program;
 use cases::Lines;
 use std::io;
 use std::rt::Files;
+use std::sync::Wait;
+use std::thread::Threads;
+use std::time::Clock;
 
 /// Answers the cases.
-pub fn answer<R: AllocGlobal + Files, P: Program>(
+pub fn answer<R: AllocGlobal + Files, T: Threads + Wait + Clock + Sync>(
     rt: &R,
-    program: &P,
+    program: &Program<'_, T>,
     report: &mut Lines,
 ) -> io::Result<()> {
     drawn::answer(rt, program, report)?;

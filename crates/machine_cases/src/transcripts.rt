@@ -13,6 +13,9 @@ use case::{Case, is_refused_by, number_of};
 use cases::Lines;
 use std::alloc::{AllocError, Global};
 use std::rt::Files;
+use std::sync::Wait;
+use std::thread::Threads;
+use std::time::Clock;
 use std::{fs, io};
 
 /// An answer as a failed case tells it.
@@ -35,9 +38,9 @@ fn judge(
 }
 
 /// What the program answers over a module.
-fn answer_over<P: Program>(
+fn answer_over<T: Threads + Wait + Clock + Sync>(
     alloc: Global,
-    program: &P,
+    program: &Program<'_, T>,
     case: &Case,
     line: &str,
     module: Option<&[u8]>,
@@ -47,9 +50,9 @@ fn answer_over<P: Program>(
 }
 
 /// Answers one of the commands.
-fn check_command<P: Program>(
+fn check_command<T: Threads + Wait + Clock + Sync>(
     alloc: Global,
-    program: &P,
+    program: &Program<'_, T>,
     case: &Case,
     line: &str,
     status: u64,
@@ -60,9 +63,9 @@ fn check_command<P: Program>(
 }
 
 /// Answers each of the commands.
-fn check<P: Program>(
+fn check<T: Threads + Wait + Clock + Sync>(
     alloc: Global,
-    program: &P,
+    program: &Program<'_, T>,
     case: &Case,
     status: &str,
     report: &mut Lines,
@@ -99,9 +102,9 @@ impl Refusal<'_> {
 }
 
 /// How many beginnings of the module, each at least two bytes shorter, are refused so.
-fn beginnings<P: Program>(
+fn beginnings<T: Threads + Wait + Clock + Sync>(
     alloc: Global,
-    program: &P,
+    program: &Program<'_, T>,
     case: &Case,
     line: &str,
     refusal: Refusal<'_>,
@@ -118,9 +121,9 @@ fn beginnings<P: Program>(
 }
 
 /// Answers each of the commands over each beginning of the module.
-fn check_beginnings<P: Program>(
+fn check_beginnings<T: Threads + Wait + Clock + Sync>(
     alloc: Global,
-    program: &P,
+    program: &Program<'_, T>,
     case: &Case,
     words: &str,
     report: &mut Lines,
@@ -136,9 +139,9 @@ fn check_beginnings<P: Program>(
 }
 
 /// Answers a line of a transcript.
-fn answer_line<R: AllocGlobal + Files, P: Program>(
+fn answer_line<R: AllocGlobal + Files, T: Threads + Wait + Clock + Sync>(
     rt: &R,
-    program: &P,
+    program: &Program<'_, T>,
     case: &mut Case,
     line: &str,
     report: &mut Lines,
@@ -159,9 +162,9 @@ fn answer_line<R: AllocGlobal + Files, P: Program>(
 }
 
 /// Answers the lines of a file.
-fn answer_lines<R: AllocGlobal + Files, P: Program>(
+fn answer_lines<R: AllocGlobal + Files, T: Threads + Wait + Clock + Sync>(
     rt: &R,
-    program: &P,
+    program: &Program<'_, T>,
     case: &mut Case,
     file: &str,
     report: &mut Lines,
@@ -174,9 +177,9 @@ fn answer_lines<R: AllocGlobal + Files, P: Program>(
 }
 
 /// Answers the transcripts of a file.
-pub fn answer<R: AllocGlobal + Files, P: Program>(
+pub fn answer<R: AllocGlobal + Files, T: Threads + Wait + Clock + Sync>(
     rt: &R,
-    program: &P,
+    program: &Program<'_, T>,
     file: &str,
     report: &mut Lines,
 ) -> io::Result<()> {
