@@ -1,4 +1,4 @@
-ghost use Rattle.std.specs.Prelude.{Some, IfOk, IfErr, OnOk, slice_get};
+ghost use Rattle.std.specs.Prelude.{◌≡◌, Some, IfOk, IfErr, OnOk, slice_get};
 ghost use Rattle.refusal.specs.declared.broken.Broken.{Broken};
 ghost use Rattle.refusal.specs.Earliest.{IsEarliest, NamesEarliest};
 ghost use Rattle.ranges.specs.Places.{IsFunctionTable, AreFacts, facts_in_table};
@@ -7,14 +7,16 @@ ghost use Rattle.cost_table.specs.Rules.{IsCostBroken};
 ghost use Rattle.cost_table.specs.Tables.{IsTable};
 
 use crate::CostFault;
+use crate::callee::callee_of;
 use crate::judge::{
     budget_fault, cost_fault, measure_fault, start_fault, step_fault, uncovered_fault,
 };
 use crate::table::{Table, make_table};
 use crate::work::work_of;
+use entailment::FactCursor;
 use linear::Fact;
 use lists::OutOfMemory;
-use program::{Block, Function, Program};
+use program::{Block, Function, Program, Step};
 use ranges::{BlockFacts, Facts, FunctionFacts, Graph, Regions, start_facts, stated};
 use refusal::{Broken, lower};
 use std::alloc::Global;
@@ -41,6 +43,16 @@ fn ending_fault(
     }
 }
 
+/// Brings the index of what is known up to date where a step calls its own function, which alone asks.
+fn index_for(cursor: &mut FactCursor<'_>, index: usize, step: &Step) -> Result<(), OutOfMemory>
+    ensures { cursor.new ≡ cursor.old }
+{
+    if callee_of(&step.instruction) == Some(index) {
+        cursor.index()?;
+    }
+    Ok(())
+}
+
 /// What is broken at the steps of a block.
 fn steps_fault(
     alloc: Global,
@@ -52,10 +64,13 @@ fn steps_fault(
     ensures { IfOk result (IsEarliest (AreStepsNotFalling function.now index block.now (facts_in_table table.now))) }
 {
     let mut named: Option<Broken> = None;
+    let mut cursor = FactCursor::new(alloc, table.facts.as_slice());
     let steps = block.steps.as_slice();
     for (place, step) in steps.iter().enumerate() {
-        let known = table.at_step(place);
-        let broken = step_fault(alloc, function, index, known, step)?;
+        cursor.seek(table.count_at(place));
+        index_for(&mut cursor, index, step)?;
+        let known = cursor.known();
+        let broken = step_fault(alloc, function, index, &known, step)?;
         named = lower(named, broken);
     }
     Ok(named)

@@ -10,6 +10,7 @@ ghost use Rattle.cost_table.specs.Doing.{IsWork};
 
 use crate::sum::{covers_both, covers_next, covers_work, is_at_least_zero, is_at_most};
 use crate::work::{Work, whole_cost};
+use entailment::{FactCursor, Known};
 use linear::{Fact, Form};
 use lists::OutOfMemory;
 use program::{Argument, Block, BlockId, Ending, Function, Instruction, Step, Terminator};
@@ -82,14 +83,16 @@ fn edge_fault(
     let none = Form::from_constant(alloc, 0);
     let left = &block.left;
     let blocks = function.blocks.as_slice();
-    let facts = edge.facts.as_slice();
+    let mut cursor = FactCursor::new(alloc, edge.facts.as_slice());
+    cursor.index()?;
+    let facts = cursor.known();
     let moves = edge.moves.as_slice();
     let next = left_calls(blocks, edge.to, &none);
-    let calls = covers_next(alloc, facts, &left.self_calls, work.calls, moves, next)?;
+    let calls = covers_next(alloc, &facts, &left.self_calls, work.calls, moves, next)?;
     let next = left_instructions(blocks, edge.to, &none);
     let instructions = covers_next(
         alloc,
-        facts,
+        &facts,
         &left.instructions,
         work.instructions,
         moves,
@@ -226,7 +229,7 @@ fn falling_fault(
     alloc: Global,
     function: &Function,
     line: u32,
-    known: &[Fact],
+    known: &Known<'_>,
     arguments: &[Argument],
 ) -> Result<Option<Broken>, OutOfMemory>
     ensures { IfOk result (IsEarliest (IsNotFalling function.now line known.now arguments.now)) }
@@ -243,7 +246,7 @@ pub fn step_fault(
     alloc: Global,
     function: &Function,
     index: usize,
-    known: &[Fact],
+    known: &Known<'_>,
     step: &Step,
 ) -> Result<Option<Broken>, OutOfMemory>
     ensures { IfOk result (IsEarliest (IsCallNotFalling function.now index step.now.line known.now step.now.instruction)) }

@@ -3,9 +3,10 @@ ghost use Rattle.ranges.specs.Sums.{shows};
 ghost use Rattle.cost_table.specs.Rules.{left_behind, less_form, put_in, number_less};
 ghost use Rattle.cost_table.specs.Tables.{as_u128};
 
+use entailment::Known;
 use linear::{Fact, Form, side_of};
 use lists::{OutOfMemory, Seq};
-use ranges::{Move, Sum, push_parts, shows};
+use ranges::{Move, Sum, push_parts, shows, shows_at};
 use std::alloc::Global;
 
 /// With so much done nothing is left, whatever the forms are: their constants are below 2^100, and this is 2^104.
@@ -74,7 +75,7 @@ pub fn covers_work(
 /// Whether a form is shown to cover what is done, and another form with the moves' operands put in.
 pub fn covers_next(
     alloc: Global,
-    facts: &[Fact],
+    facts: &Known<'_>,
     left: &Form,
     done: u128,
     moves: &[Move],
@@ -94,7 +95,7 @@ pub fn covers_next(
         constant: constant_left(left.constant, done, next.constant, 0),
         parts: Seq::from_vec(parts),
     };
-    shows(alloc, facts, &sum)
+    shows_at(alloc, facts, &sum)
 }
 
 /// Whether a form is shown to cover what is done, and two other forms.
@@ -128,14 +129,14 @@ pub fn covers_both(
 /// Whether a form with the moves' operands put in is shown to be at least 0.
 pub fn is_at_least_zero(
     alloc: Global,
-    facts: &[Fact],
+    facts: &Known<'_>,
     moves: &[Move],
     form: &Form,
 ) -> Result<bool, OutOfMemory>
     ensures { IfOk result (λ b. b ≡ shows facts.now (put_in moves.now form.now)) }
 {
     let sum = put_in(alloc, moves, form)?;
-    shows(alloc, facts, &sum)
+    shows_at(alloc, facts, &sum)
 }
 
 /// Whether a form is shown to be at most a number.

@@ -13,7 +13,7 @@ use linear::{Fact, Side, side_of};
 use std::alloc::{AllocError, Global};
 
 /// Up to so many facts are tried two by two, without an index.
-pub const FEW: usize = 16;
+pub const FEW: usize = 4;
 
 /// A fact by its place: 0 stands for an absent one, 1 for the first.
 #[derive(Clone, Copy)]

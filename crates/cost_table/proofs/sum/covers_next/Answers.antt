@@ -24,7 +24,7 @@ returns c =
     let facts = c.args.facts.now in
     let constant : ℤ = c.constant_left.result in
     let fits : FitsSigned w128 constant = search rules in
-    let shown = rw (to_z-of_z w128 c.constant_left.result fits) at c.shows.ensures in
+    let shown = rw (to_z-of_z w128 c.constant_left.result fits) at c.shows_at.ensures in
     let sum : Sum = record { constant = constant; parts = c.from_vec.result } in
     let terms = c.args.left.now.terms in
     let first : c.push_parts.new.parts.items ≡ parts_of [] (pos 1) terms =
@@ -33,7 +33,7 @@ returns c =
     let parts : c.from_vec.result ≡ parts_of [] (pos 1) terms ++ parts_of moves (negsuc 0) c.args.next.now.terms =
     c.from_vec.ensures ∙ c.in_ok-push_parts-2.ensures.ok ∙ ap (λ (ps : List Part). ps ++ parts_of moves (negsuc 0) c.side_of-next.result.terms.now) first
     ∙ ap (λ (ts : List Term). parts_of [] (pos 1) terms ++ parts_of moves (negsuc 0) ts) c.side_of-next.ensures.terms in
-    if_ok_to (λ (b : Bool). b ≡ shows facts sum) (λ (b : Bool). (n : ℕ) → c.args.done ≡ as_u128 n → b ≡ shows facts (less_form (left_behind c.args.left.now n) c.args.moves.now c.args.next.now)) c.shows.result
+    if_ok_to (λ (b : Bool). b ≡ shows facts sum) (λ (b : Bool). (n : ℕ) → c.args.done ≡ as_u128 n → b ≡ shows facts (less_form (left_behind c.args.left.now n) c.args.moves.now c.args.next.now)) c.shows_at.result
     (λ b e. λ n is.
     let same : c.args.done ≡ n = exact c.args.done n is c.if-done-ge-TOO_MUCH.false in
     let value : constant ≡ (c.args.left.now.constant -ℤ pos n) -ℤ c.args.next.now.constant = omega (arith, ints, c.constant_left.ensures, c.side_of-left.ensures.constant, c.side_of-next.ensures.constant) in
