@@ -3,7 +3,7 @@
 ghost use Rattle.std.specs.Prelude.{◌≡◌};
 ghost use Rattle.ir_annotation.specs.Keywords.{keyword_of, block_keyword_of};
 
-use crate::words::is_text;
+use ir_lex::is_text;
 
 /// An annotation's word.
 #[derive(Clone, Copy)]

@@ -1,12 +1,11 @@
 //! The words of an annotation but forms.
 
 ghost use Rattle.std.specs.Prelude.{◌≡◌, ◌≤◌, true, IfOk};
-ghost use Rattle.std.specs.Str.{bytes_eq};
 ghost use Rattle.ir_annotation.specs.Reading.{Gives};
 ghost use Rattle.ir_annotation.specs.Words.{is_numeral, small_value, number_of, name_of, register_of, object_of, relation_of, mode_of};
 
 use crate::limits::{Limited, NAME_MOST, up_to};
-use ir_lex::{is_name, is_positive};
+use ir_lex::{is_name, is_positive, is_text};
 use lists::Name;
 use refusal::Refused;
 use std::alloc::Global;
@@ -17,12 +16,6 @@ pub fn unexpected(line: u32) -> Refused
     ensures { result ≡ Refused.Fault 103 line }
 {
     Refused::Fault { number: 103, line }
-}
-
-pub fn is_text(word: &[u8], text: &[u8]) -> bool
-    ensures { result ≡ bytes_eq word.now text.now }
-{
-    word == text
 }
 
 fn is_numeral(bytes: &[u8]) -> bool

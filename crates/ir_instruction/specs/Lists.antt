@@ -8,7 +8,8 @@ use Rattle.syntax.specs.declared.module.Parameter.TheVariants as parameter
 use Rattle.ir_instruction.specs.declared.symbol.Symbol.{Symbol}
 use Rattle.ir_instruction.specs.declared.switch.SpelledCase.{SpelledCase}
 use Rattle.ir_instruction.specs.Outcome.{◌>>=◌}
-use Rattle.ir_instruction.specs.Fronts.{mark_at, word_at, is_word, is_mark, behind, register_at, label_at, numeral_at, operand_at, pointer_at, bytes_at, width_at}
+use Rattle.ir_instruction.specs.Fronts.{mark_at, word_at, is_word, is_mark, behind, register_at}
+use Rattle.ir_instruction.specs.Fronts.{label_at, numeral_at, operand_at, pointer_at, bytes_at, width_at}
 
 -- the first element, and the others where more of them begin
 abbrev pub more_at : {A : Type 0} → A × List Symbol → (List Symbol → Option (List A × List Symbol)) → Option (List Symbol) → Option (List A × List Symbol)

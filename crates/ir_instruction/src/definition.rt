@@ -11,12 +11,12 @@ ghost use Rattle.ir_instruction.specs.Grammar.{phi_shape, phi_from, binary, allo
 use crate::ends::{callee_at, last_index_at, last_operands_at, last_pointer_at, last_word_at};
 use crate::fault::LineFault;
 use crate::front::{
-    array_at, behind, end_at, is_text, is_word, mark_at, named_at, operand_at, pointer_at,
-    width_at, word_at,
+    array_at, behind, end_at, is_word, mark_at, named_at, operand_at, pointer_at, width_at, word_at,
 };
 use crate::list::entries_at;
 use crate::operator::{operator_of, predicate_at, without_wrap};
 use crate::symbol::Symbol;
+use ir_lex::is_text;
 use lists::Name;
 use std::alloc::Global;
 use syntax::{Address, AllocaSize, BinaryOperator, Conversion, Instruction, Operand, Phi};

@@ -1,7 +1,6 @@
 //! What stands at the front of the rest of a line, and what is left behind it.
 
 ghost use Rattle.std.specs.Prelude.{◌≡◌, codes};
-ghost use Rattle.std.specs.Str.{bytes_eq};
 ghost use Rattle.ir_instruction.specs.Outcome.{Gives, ◌>>=◌ as ◌▷◌};
 ghost use Rattle.ir_instruction.specs.Fronts.{mark_at, word_at, named_at, end_at, is_word, is_mark, behind, register_at, global_at, label_at, numeral_at};
 ghost use Rattle.ir_instruction.specs.Fronts.{operand_at, address_at, pointer_at, count_at, array_at, bytes_at, width_at, result_type_at};
@@ -11,12 +10,6 @@ use crate::numeral::{cells_of_bytes, copy_of, count_of, value_of};
 use crate::symbol::{Numeral, Symbol};
 use lists::Name;
 use syntax::{Address, Operand, ResultType, Width};
-
-pub fn is_text(word: &[u8], text: &[u8]) -> bool
-    ensures { result ≡ bytes_eq word.now text.now }
-{
-    word == text
-}
 
 pub fn mark_at(mark: u8, symbols: &[Symbol]) -> Result<&[Symbol], LineFault>
     ensures { Gives (λ rest. rest.now) result (mark_at mark symbols.now) }

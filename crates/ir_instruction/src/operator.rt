@@ -5,8 +5,8 @@ ghost use Rattle.ir_instruction.specs.Outcome.{Gives};
 ghost use Rattle.ir_instruction.specs.Operators.{operator_of, without_wrap, predicate_of, predicate_at};
 
 use crate::fault::LineFault;
-use crate::front::is_text;
 use crate::symbol::Symbol;
+use ir_lex::is_text;
 use syntax::{BinaryOperator, Predicate};
 
 /// The operation that a word names without `nsw`.

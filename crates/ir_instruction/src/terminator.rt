@@ -11,10 +11,11 @@ use crate::ends::{
     last_operand_at, last_targets_at, last_word_at, register_and_label_at, register_and_labels_at,
 };
 use crate::fault::LineFault;
-use crate::front::{end_at, is_text, is_word, label_at, operand_at, width_at, word_at};
+use crate::front::{end_at, is_word, label_at, operand_at, width_at, word_at};
 use crate::numeral::is_same_name;
 use crate::switch::{SpelledCase, are_cases_of, cases_from};
 use crate::symbol::Symbol;
+use ir_lex::is_text;
 use lists::{Name, Seq};
 use std::alloc::Global;
 use syntax::{Case, Terminator, Width};

@@ -7,5 +7,5 @@ mod token;
 
 pub use refusal::Refused as TextFault;
 pub use scan::lex;
-pub use spelling::{is_name, is_positive};
+pub use spelling::{is_name, is_positive, is_text};
 pub use token::{Kind, Token};

@@ -3,10 +3,18 @@
 ghost use Rattle.std.specs.Prelude.{◌≡◌, ◌≤◌, length};
 ghost use Rattle.std.specs.List.{prefix_len, list_all};
 ghost use Rattle.std.specs.Char.{is_ascii_digit};
+ghost use Rattle.std.specs.Str.{bytes_eq};
 ghost use Rattle.ir_lex.specs.Spelling.{is_space, is_mark, is_run_byte, is_word_byte, begins_name, continues_name, is_name, is_positive, is_number};
 ghost use Rattle.ir_lex.specs.Spelling.{is_marked_name, kind_of, is_printed, is_note_mark};
 
 use crate::token::Kind;
+
+/// Whether a word is this text.
+pub fn is_text(word: &[u8], text: &[u8]) -> bool
+    ensures { result ≡ bytes_eq word.now text.now }
+{
+    word == text
+}
 
 pub fn is_space(byte: u8) -> bool
     ensures { result ≡ is_space byte }

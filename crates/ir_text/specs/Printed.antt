@@ -4,7 +4,8 @@ use Rattle.syntax.specs.declared.annotation.BlockNotes.{BlockNotes}
 use Rattle.syntax.specs.declared.module.Block.{Block}
 use Rattle.syntax.specs.declared.module.Function.{Function}
 use Rattle.syntax.specs.declared.module.Module.{Module}
-use Rattle.ir_spelling.specs.LineText.{inequality_line, pending_line, left_line, foot_line, phi_line, step_lines, ending_lines, label_line, function_notes_lines, define_line, global_line}
+use Rattle.ir_spelling.specs.LineText.{inequality_line, pending_line, left_line, foot_line, phi_line, step_lines}
+use Rattle.ir_spelling.specs.LineText.{ending_lines, label_line, function_notes_lines, define_line, global_line}
 
 unfoldable pub block_notes_lines : BlockNotes → List ℕ
 block_notes_lines n = flat_map (inequality_line (codes "keeps")) n.keeps ++ flat_map pending_line n.pending ++ left_line n.left ++ flat_map foot_line n.foot

@@ -1,14 +1,9 @@
-//! Cases of the program and of all below it. `machine_cases WORD..` answers those that each word names: `shown`, `steps`, `schedules`, `unthreaded` and
-//! `threads` are groups of cases, any other word is a file of cases, whose folder is its kind. The libraries of cases tell of them; this program gives
-//! them what `tapirvm` does on a request. It prints a line of each case, and fails where one is not answered as it is to be. What is expected
-//! is worked by hand. The last line names the call at a board that was refused memory, and made once more.
+//! Cases of all below the program. `machine_cases WORD..` answers those that each word names: `shown`, `steps`, `schedules` and `threads` are groups of
+//! cases, any other word is a file of cases, whose folder is its kind. The libraries of cases tell of them. It prints a line of each case, and fails
+//! where one is not answered as it is to be. What is expected is worked by hand. The last line names the call at a board that was refused memory, and
+//! made once more.
 #![tactic(auto)]
 
-mod asked;
-mod transcripts;
-mod unthreaded;
-
-use asked::Program;
 use board_cases::boards::Notes;
 use cases::{Lines, Report};
 use std::hash::RandomState;
@@ -23,21 +18,18 @@ use std::{env, io};
 /// Answers the cases that a word names.
 fn answer_word<R: AllocGlobal + Files + Threads + Wait + Clock + Sync>(
     rt: &R,
-    program: &Program<'_, R>,
+    state: RandomState,
     word: &str,
     notes: &mut Notes,
     report: &mut Lines,
 ) -> io::Result<()> {
     report.file(word)?;
-    let state = program.state;
     let (kind, _) = word.split_once("/").unwrap_or((word, ""));
     match kind {
         "shown" => shown_cases::answer(rt.alloc(), report),
         "steps" => board_cases::steps::answer(rt, state, report),
         "schedules" => board_cases::schedules::answer(rt.alloc(), report),
         "boards" => board_cases::boards::answer(rt, state, word, notes, report),
-        "unthreaded" => unthreaded::answer(rt, program, report),
-        "transcripts" => transcripts::answer(rt, program, word, report),
         "threads" => thread_cases::answer(rt, state, report),
         _ => text_cases::answer(rt, state, kind, word, report),
     }
@@ -46,25 +38,22 @@ fn answer_word<R: AllocGlobal + Files + Threads + Wait + Clock + Sync>(
 /// Answers the cases that the program's words name.
 fn answer<R: AllocGlobal + Env + Files + Threads + Wait + Clock + Sync>(
     rt: &R,
-    program: &Program<'_, R>,
+    state: RandomState,
     notes: &mut Notes,
     report: &mut Lines,
 ) -> io::Result<ExitCode> {
     for word in env::args(rt)?.skip(1) {
-        answer_word(rt, program, word.as_str(), notes, report)?;
+        answer_word(rt, state, word.as_str(), notes, report)?;
     }
     report.finish()
 }
 
 fn main(rt: HostRuntime) -> io::Result<ExitCode> {
     let alloc = rt.alloc();
-    let program = Program {
-        state: RandomState::new(&rt)?,
-        rt: &rt,
-    };
+    let state = RandomState::new(&rt)?;
     let mut notes = Notes::new(alloc);
     let mut report = Report::new(alloc, Vec::new(alloc));
-    let status = answer(&rt, &program, &mut notes, &mut report);
+    let status = answer(&rt, state, &mut notes, &mut report);
     io::writer(&rt).write_all(report.output().as_slice())?;
     println!(rt; "refused and made once more: {}", notes.refused)?;
     status

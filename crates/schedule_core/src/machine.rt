@@ -4,7 +4,8 @@ ghost use Rattle.running.specs.Replay.{CountsFrames, has_ended};
 ghost use Rattle.crew_promise.specs.outcome.Requirements.{unmet_in};
 ghost use Rattle.crew_promise.specs.store.declared.memory.Memory.{Memory};
 ghost use Rattle.schedule_core.specs.Spots.{KeepsSpots};
-ghost use Rattle.schedule_core.specs.Replaying.{GrowsOnly, Happens, IsMachine, IsNumberOfWorkers, LeavesAsBefore, Replays, ReplaysOneMore, StandsAsWell, event_of};
+ghost use Rattle.schedule_core.specs.Replaying.{GrowsOnly, Happens, IsMachine, IsNumberOfWorkers, LeavesAsBefore};
+ghost use Rattle.schedule_core.specs.Replaying.{Replays, ReplaysOneMore, StandsAsWell, event_of};
 ghost use Rattle.crew_promise.specs.store.Made.{IsMadeFor};
 ghost use Rattle.schedule_core.specs.Stages.{IsState, program_of};
 

@@ -6,7 +6,8 @@ ghost use Rattle.running.specs.Events as running;
 ghost use Rattle.crew.specs.Tasks.{IsReady};
 ghost use Rattle.schedule_core.specs.Replaying.{HasLine};
 ghost use Rattle.schedule_core.specs.Stages.{IsState, workers_of};
-ghost use Rattle.schedule_core.specs.Viewed.{Advances, IsFirstReady, IsLesser, IsNamedBelow, IsNoneReady, IsReadyAt, IsRunBy, IsTask, Shows, place_in, status_in};
+ghost use Rattle.schedule_core.specs.Viewed.{Advances, IsFirstReady, IsLesser, IsNamedBelow, IsNoneReady, IsReadyAt};
+ghost use Rattle.schedule_core.specs.Viewed.{IsRunBy, IsTask, Shows, place_in, status_in};
 
 use crate::machine::Machine;
 use crate::task::{TaskView, line, standing};

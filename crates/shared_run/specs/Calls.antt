@@ -1,5 +1,6 @@
 -- What the calls of a board do.
-use Rattle.std.specs.Prelude.{◌≡◌, ◌↔◌, ℕ, ℤ, ◌+◌, List, [], ◌∷◌, ◌++◌, length, replicate, Option, Some, None, Bool, true, false, is_none, is_some, IsSome, IfSome}
+use Rattle.std.specs.Prelude.{◌≡◌, ◌↔◌, ℕ, ℤ, ◌+◌, List, [], ◌∷◌, ◌++◌, length, replicate}
+use Rattle.std.specs.Prelude.{Option, Some, None, Bool, true, false, is_none, is_some, IsSome, IfSome}
 use Rattle.std.specs.Option.{option_map}
 use Rattle.running.specs.Paths.{Path as RunningPath}
 use Rattle.running.specs.Frames.{Frame}

@@ -121,3 +121,52 @@ chained_push heads entries y c was h n is at same lt = record {
         let ne = q.1 in
         let lt2 : j < length entries = omega (arith, ne) in
         latest_kept entries y (slot e.at) j e.earlier (omega arith) (c.earlier_are j e (sym (get_before entries y j lt2) ∙ g))
+
+-- ---- an address less
+
+-- the last address's chain is led to as it was before that one was added
+latest_before : (entries : List Entry) (y : Entry) (chain n : ℕ) → IsLatest (entries ++ y ∷ []) chain (length entries) n → IsLatest entries chain (length entries) n
+latest_before entries y chain n l = record {
+  within = l.within;
+  last = λ i e lt h. l.last i e lt (get_before entries y i lt ∙ h);
+  there = λ i q. let (e, h, t) = l.there i q in let w = l.within in (e, sym (get_before entries y i (omega arith)) ∙ h, t);
+}
+
+-- each other chain has none less
+latest_without : (entries : List Entry) (y : Entry) (chain n : ℕ) → slot y.at ≢ chain → IsLatest (entries ++ y ∷ []) chain (length (entries ++ y ∷ [])) n → IsLatest entries chain (length entries) n
+latest_without entries y chain n apart l =
+    let more = length_push entries y in
+    let w = l.within in
+    record {
+      within = from (eqb_tells n (length entries + 1)) (omega arith);
+      last = λ i e lt h. l.last i e (omega arith) (get_before entries y i lt ∙ h);
+      there = λ i q. let (e, h, t) = l.there i q in let v = from (eqb_tells n (length entries + 1)) (omega arith) in (e, sym (get_before entries y i (omega arith)) ∙ h, t);
+    }
+  where
+    from : ((eqb n (length entries + 1) ≡ true) × (n ≡ length entries + 1)) ⊎ ((eqb n (length entries + 1) ≡ false) × (n ≢ length entries + 1)) → n ≤ length entries + 1 → n ≤ length entries
+    from (inl k) le =
+        let is = k.1 in
+        let (e, h, t) = l.there (length entries) (omega arith) in
+        absurd (apart (ap (λ (x : Entry). slot x.at) (same_Some y e (sym (get_last entries y) ∙ h)) ∙ t))
+    from (inr k) le = let ne = k.1 in omega (arith, ne)
+
+pub chained_pop : (heads : List ℕ) (entries : List Entry) (y : Entry) → IsChained heads (entries ++ y ∷ []) → (h : ℕ) → h ≡ slot y.at → length (slice_set heads h y.earlier) ≡ length heads → h < length heads → IsChained (slice_set heads h y.earlier) entries
+chained_pop heads entries y c h at same lt = record {
+  chains = same ∙ c.chains;
+  heads_are = λ k m g. head k m g (eqb_tells k h);
+  earlier_are = λ j e g.
+      let less = slice_get_within entries j e g in
+      let l = c.earlier_are j e (get_before entries y j less ∙ g) in
+      record {
+        within = l.within;
+        last = λ i x b q. l.last i x b (get_before entries y i (omega arith) ∙ q);
+        there = λ i q. let (x, b, t) = l.there i q in let w = l.within in (x, sym (get_before entries y i (omega arith)) ∙ b, t);
+      };
+}
+  where
+    head : (k m : ℕ) → slice_get (slice_set heads h y.earlier) k ≡ Some m → ((eqb k h ≡ true) × (k ≡ h)) ⊎ ((eqb k h ≡ false) × (k ≢ h)) → IsLatest entries k (length entries) m
+    head k m g (inl q) =
+        let e : m ≡ y.earlier = same_Some m y.earlier (sym g ∙ ap (slice_get (slice_set heads h y.earlier)) q.1 ∙ get_set heads h y.earlier lt) in
+        let chain : slot y.at ≡ k = sym (q.1 ∙ at) in
+        subst (λ (x : ℕ). IsLatest entries k (length entries) x) (sym e) (subst (λ (x : ℕ). IsLatest entries x (length entries) y.earlier) chain (latest_before entries y (slot y.at) y.earlier (c.earlier_are (length entries) y (get_last entries y))))
+    head k m g (inr q) = latest_without entries y k m (λ z. q.1 (sym (at ∙ z))) (c.heads_are k m (sym (get_other heads h k y.earlier q.1) ∙ g))

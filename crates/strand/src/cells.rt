@@ -1,4 +1,5 @@
-ghost use Rattle.std.specs.Prelude.{◌≡◌, ◌<◌, ◌++◌, ◌∷◌, ℤ, [], map, IfErr, IfNone, IfOk, IfSome, OnErr, OnOk, None, Some, if◌then◌else◌, length, nat_le, slice_get};
+ghost use Rattle.std.specs.Prelude.{◌≡◌, ◌<◌, ◌++◌, ◌∷◌, ℤ, [], map, IfErr, IfNone, IfOk};
+ghost use Rattle.std.specs.Prelude.{IfSome, OnErr, OnOk, None, Some, if◌then◌else◌, length, nat_le, slice_get};
 ghost use Rattle.strand.specs.Buffers.{IsPut, LacksPlace, change_in, held_in, raised_change, settled_changes, value_in};
 ghost use Rattle.strand.specs.Keeping.{AreDifferent};
 ghost use Rattle.strand.specs.Showing.{Becomes, with_add, with_store};

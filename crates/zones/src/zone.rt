@@ -1,6 +1,7 @@
 ghost use Rattle.std.specs.Prelude.{◌≡◌, ◌<◌, IfOk};
 ghost use Rattle.std.specs.List.{list_any};
-ghost use Rattle.zones.specs.Zones.{span, as_written, same_object, mode_covers, modes_agree, between, shows_order, is_empty, covers, is_apart, conflict, is_covered};
+ghost use Rattle.zones.specs.Zones.{span, as_written, same_object, mode_covers, modes_agree, between};
+ghost use Rattle.zones.specs.Zones.{shows_order, is_empty, covers, is_apart, conflict, is_covered};
 
 use entailment::Known;
 use linear::{Form, side_of};
