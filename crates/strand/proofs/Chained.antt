@@ -170,3 +170,7 @@ chained_pop heads entries y c h at same lt = record {
         let chain : slot y.at ≡ k = sym (q.1 ∙ at) in
         subst (λ (x : ℕ). IsLatest entries k (length entries) x) (sym e) (subst (λ (x : ℕ). IsLatest entries x (length entries) y.earlier) chain (latest_before entries y (slot y.at) y.earlier (c.earlier_are (length entries) y (get_last entries y))))
     head k m g (inr q) = latest_without entries y k m (λ z. q.1 (sym (at ∙ z))) (c.heads_are k m (sym (get_other heads h k y.earlier q.1) ∙ g))
+
+pub nil_of : {X : Type 0} (xs : List X) → length xs ≡ 0 → xs ≡ []
+nil_of [] h = refl
+nil_of (x ∷ xs) h = absurd (omega arith)

@@ -1,5 +1,6 @@
-ghost use Rattle.std.specs.Prelude.{◌≡◌, ◌≢◌, ◌<◌, ◌++◌, ◌∷◌, ℕ, [], IfNone, IfOk, IfSome, Some, length, replicate, slice_get, vec_len};
+ghost use Rattle.std.specs.Prelude.{◌≡◌, ◌≢◌, ◌<◌, ◌++◌, ◌∷◌, ℕ, [], IfNone, IfOk, IfSome, Some, length, replicate, slice_get, vec_capacity, vec_len};
 ghost use Rattle.strand.specs.Chains.{slot};
+ghost use Rattle.strand.specs.Indexing.{IsChained};
 
 use lists::OutOfMemory;
 use std::alloc::Global;
@@ -60,6 +61,20 @@ fn entry_at(entries: &[Entry], place: usize) -> Entry
     entries[place]
 }
 
+/// Takes the addresses out of their chains, from the latest on: each chain is led to as it was before its address was put there. Most strands
+/// have few addresses, and there are many chains.
+fn unchain(heads: &mut Vec<u16>, entries: &mut Vec<Entry>)
+    requires { IsChained heads.old.items entries.old.items }
+    ensures chained { IsChained heads.new.items [] }
+    ensures empty { entries.new.items ≡ [] }
+    ensures room { vec_capacity entries.new ≡ vec_capacity entries.old }
+{
+    while let Some(entry) = entries.pop() {
+        let slot = slot(&entry.at);
+        heads[slot] = entry.earlier;
+    }
+}
+
 /// All chains are empty.
 fn empty(heads: &mut Vec<u16>)
     ensures items { heads.new.items ≡ replicate (vec_len heads.old) 0 }
@@ -112,10 +127,6 @@ impl Index {
     pub fn clear(&mut self)
         ensures { self.new ≡ [] }
     {
-        // Without addresses all chains are empty already, and most strands have none.
-        if !self.entries.is_empty() {
-            self.entries.clear();
-            empty(&mut self.heads);
-        }
+        unchain(&mut self.heads, &mut self.entries);
     }
 }

@@ -1,8 +1,8 @@
-//! Runs on threads: the serial answer for each number of workers, two workers inside at once, and gates before strands.
+//! Runs on threads: two workers inside at once, and gates before strands.
 
 use crate::endings::{Ending, TURNS, is_so};
 use cases::{Lines, verified_file};
-use deque_pool::{Gate, OpenGate, run};
+use deque_pool::{Gate, run};
 use shared_run::{Memory, Verified};
 use std::alloc::Global;
 use std::hash::RandomState;
@@ -30,97 +30,6 @@ fn comes_to<G: Gate + Sync, R: Threads + Wait + Clock + Sync>(
         Ok(done) => is_so(&done, wanted),
         Err(_) => false,
     }
-}
-
-/// A module, its argument, and what each run of it comes to.
-#[derive(Clone, Copy)]
-struct Sample {
-    file: &'static str,
-    argument: i64,
-    /// How often it is run on each number of workers.
-    times: u64,
-    ending: Ending,
-}
-
-const SAMPLES: [Sample; 4] = [
-    Sample {
-        file: "examples/pair.ll",
-        argument: 7,
-        times: 20,
-        ending: (14, 14, 2),
-    },
-    Sample {
-        file: "examples/parallel-for.ll",
-        argument: 64,
-        times: 20,
-        ending: (64, 518, 2),
-    },
-    Sample {
-        file: "examples/adding.ll",
-        argument: 64,
-        times: 20,
-        ending: (64, 518, 2),
-    },
-    Sample {
-        file: "examples/fib.ll",
-        argument: 10,
-        times: 1,
-        ending: (55, 1767, 20),
-    },
-];
-
-/// How many of the runs of a module on so many workers come to its ending.
-fn runs_as_wanted<R: Threads + Wait + Clock + Sync>(
-    rt: &R,
-    alloc: Global,
-    verified: &Verified,
-    workers: usize,
-    sample: &Sample,
-) -> u64 {
-    let arguments = [sample.argument];
-    let mut count: u64 = 0;
-    for _time in 0..sample.times {
-        let arguments = arguments.as_slice();
-        if comes_to(
-            rt,
-            alloc,
-            verified,
-            arguments,
-            workers,
-            &OpenGate,
-            sample.ending,
-        ) {
-            count = count.saturating_add(1);
-        }
-    }
-    count
-}
-
-/// Runs a module on each number of workers.
-fn answer_verified<R: Threads + Wait + Clock + Sync>(
-    rt: &R,
-    alloc: Global,
-    verified: &Verified,
-    sample: &Sample,
-    report: &mut Lines,
-) -> io::Result<()> {
-    report.title(sample.file)?;
-    for workers in [1usize, 2, 3, 4, 8, 64] {
-        let count = runs_as_wanted(rt, alloc, verified, workers, sample);
-        let asked = format!(in alloc; "runs on {workers} give the serial answer")?;
-        report.count(asked.as_str(), sample.times, count)?;
-    }
-    Ok(())
-}
-
-fn answer_sample<R: AllocGlobal + Files + Threads + Wait + Clock + Sync>(
-    rt: &R,
-    state: RandomState,
-    sample: &Sample,
-    report: &mut Lines,
-) -> io::Result<()> {
-    let verified = verified_file(rt, state, sample.file)?;
-    answer_verified(rt, rt.alloc(), &verified, sample, report)
 }
 
 /// Says that one is there, and waits until the other is.
@@ -229,9 +138,6 @@ pub fn answer<R: AllocGlobal + Files + Threads + Wait + Clock + Sync>(
     state: RandomState,
     report: &mut Lines,
 ) -> io::Result<()> {
-    for sample in &SAMPLES {
-        answer_sample(rt, state, sample, report)?;
-    }
     report.title("gates")?;
     answer_pair(rt, state, report)?;
     answer_stores(rt, state, report)

@@ -2,5 +2,5 @@ use Rattle.std.proofs.Common.{◌≡◌, take}
 use Rattle.std.specs.Prelude.{vec_capacity}
 use Rattle.strand.proofs.standing.refill.Given as goal
 
-abbrev pub invariant-loop-each : goal.invariant-loop-each
-invariant-loop-each g l = (l.target.items ≡ take l.each-index l.source) × (vec_capacity l.target ≡ vec_capacity l.fn.target)
+abbrev pub invariant-loop-place : goal.invariant-loop-place
+invariant-loop-place g l = (l.target.items ≡ take l.place l.source) × (vec_capacity l.target ≡ vec_capacity l.fn.target)
