@@ -1,9 +1,1 @@
-pub mod Children
-pub mod Cuts
-pub mod Numerals
-pub mod OneText
-pub mod Parts
-pub mod Printed
-pub mod Progress
-pub mod Spelled
 pub mod Walking

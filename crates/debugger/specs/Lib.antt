@@ -1,4 +1,1 @@
-pub mod Printing
-pub mod Reading
-pub mod ScheduleText
 pub mod Sessions
