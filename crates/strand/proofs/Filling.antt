@@ -16,7 +16,7 @@ use Rattle.strands.specs.Strands as strands
 use Rattle.strands.specs.Strands.{Access, IsStrand, is_filled, access_of, is_border, is_full, need, next_of, pause_at, pause_of}
 use Rattle.engine.specs.declared.activation.Places.{Places}
 use Rattle.strand.specs.Alone.{GoesAlone}
-use Rattle.strand.specs.Along.{IsAlong, IsGoing, IsKept, NeedsLiving, PausesAt, pause_in}
+use Rattle.strand.specs.Along.{IsAlong, IsGoing, IsStrandKept, NeedsLiving, PausesAt, pause_in}
 use Rattle.strand.specs.Buffers.{Buffers, held_in}
 use Rattle.strand.specs.Showing.{AreApart}
 use Rattle.strand.specs.Standing.{ShowsStrand}
@@ -144,7 +144,7 @@ module _ (prog : Program) (places : Places) (x : Course) (at : ℤ) (going : IsG
           stands_free prog l (strands.filled a.strand n.cell value) (free_after prog a.strand n.cell n.pauses value);
     }
 
-pub needed_going : (prog : Program) (places : Places) (x : Course) (pause : Option Pause) (at : ℤ) → pause ≡ Some (Need at) → IsKept prog places x pause → IsGoing prog places x (Some (Need at))
+pub needed_going : (prog : Program) (places : Places) (x : Course) (pause : Option Pause) (at : ℤ) → pause ≡ Some (Need at) → IsStrandKept prog places x pause → IsGoing prog places x (Some (Need at))
 needed_going prog places x pause at is kept = subst (IsGoing prog places x) is (kept.going (λ e. let bad = sym is ∙ e in cc))
 
 pub same_need : (at other : ℤ) → Some (Need at) ≡ Some (Need other) → at ≡ other

@@ -6,7 +6,7 @@ use Rattle.engine.specs.Activation.{FrameFits, ProgramFits}
 use Rattle.engine.specs.declared.activation.Frame.{Frame}
 use Rattle.engine.specs.declared.activation.Places.{Places}
 use Rattle.engine.proofs.Turns.{there_is}
-use Rattle.strand.specs.Along.{HasRegisters, HasRoom, IsGoing, IsKept}
+use Rattle.strand.specs.Along.{HasRegisters, HasRoom, IsGoing, IsStrandKept}
 use Rattle.strand.specs.declared.standing.Course.{Course}
 use Rattle.strand.specs.declared.standing.Pause.{Pause}
 

@@ -83,6 +83,6 @@ pub record HasRoom (prog : Program) (places : Places) (x : Course) : Type 0 wher
   pub loaded : HasRegisters prog (vec_capacity x.loaded.registers)
   pub present : HasRegisters prog (vec_capacity x.present.registers)
 
-pub record IsKept (prog : Program) (places : Places) (x : Course) (pause : Option Pause) : Type 0 where
+pub record IsStrandKept (prog : Program) (places : Places) (x : Course) (pause : Option Pause) : Type 0 where
   pub room : HasRoom prog places x
   pub going : pause ≢ Some Blank → IsGoing prog places x pause

@@ -1,6 +1,6 @@
 ghost use Rattle.std.specs.Prelude.{◌≡◌, ◌≢◌, ◌≤◌, [], map, ◌++◌, ◌∷◌, ℕ, ℤ, IfOk, None, Some, length, vec_capacity};
 ghost use Rattle.engine.specs.Activation.{FrameFits, ProgramFits};
-ghost use Rattle.strand.specs.Along.{HasRegisters, IsGoing, IsKept, MayBegin};
+ghost use Rattle.strand.specs.Along.{HasRegisters, IsGoing, IsStrandKept, MayBegin};
 ghost use Rattle.strand.specs.Keeping.{AreDifferent};
 ghost use Rattle.strand.specs.Standing.{IsCopy};
 
@@ -18,7 +18,7 @@ pub struct Strand<'p> {
     pub(crate) course: Course,
     /// Where it stands; None where it can go on.
     pub(crate) pause: Option<Pause>,
-    pub ghost kept: { ∥ IsKept program.now places.now course pause ∥₁ },
+    pub ghost kept: { ∥ IsStrandKept program.now places.now course pause ∥₁ },
 }
 
 /// Written out, so that no crate above proves it anew.

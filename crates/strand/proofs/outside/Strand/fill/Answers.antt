@@ -3,7 +3,7 @@ use Rattle.std.specs.Prelude.{FitsSigned, vec_capacity}
 use Rattle.std.proofs.lemmas.Int.{to_z-of_z}
 use Rattle.std.proofs.Math.Logic.{∥∥₁_elim, ∥∥₁_map}
 use Rattle.std.proofs.Props.{props}
-use Rattle.strand.specs.Along.{IsGoing, IsKept}
+use Rattle.strand.specs.Along.{IsGoing, IsStrandKept}
 use Rattle.strand.specs.Buffers.{held_in}
 use Rattle.strand.specs.declared.cells.Read.{Read}
 use Rattle.strand.specs.declared.standing.Course.{Course}
