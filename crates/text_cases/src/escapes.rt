@@ -1,6 +1,6 @@
-//! Escapes in texts: `\n`, `\t`, `\r`, `\xHH` for a byte, and `\*N(TEXT\)` for N times TEXT; each `#` in TEXT is its place among them, from 0.
+//! Escapes in texts: `\n`, `\t`, `\r`, and `\xHH` for a byte.
 
-use std::alloc::{AllocError, Global};
+use std::alloc::AllocError;
 
 /// The byte of the two hexadecimal digits after the `x` of a text.
 fn hexadecimal(text: &str) -> Option<u8> {
@@ -28,58 +28,14 @@ fn push_marked(bytes: &mut Vec<u8>, text: &str) -> Result<(), AllocError> {
     bytes.extend_from_slice(text.as_bytes().get(length..).unwrap_or(b""))
 }
 
-/// Pushes a text that repeats nothing.
-fn push_escaped(bytes: &mut Vec<u8>, text: &str) -> Result<(), AllocError> {
+/// Pushes the bytes that a text with escapes means.
+pub fn push_unescaped(bytes: &mut Vec<u8>, text: &str) -> Result<(), AllocError> {
     let mut is_marked = false;
     for part in text.split("\\") {
         if is_marked {
             push_marked(bytes, part)?;
         } else {
             bytes.extend_from_slice(part.as_bytes())?;
-        }
-        is_marked = true;
-    }
-    Ok(())
-}
-
-/// Pushes what is repeated, with digits in place of each `#`.
-fn push_filled(bytes: &mut Vec<u8>, repeated: &[u8], digits: &[u8]) -> Result<(), AllocError> {
-    for byte in repeated {
-        if *byte == b'#' {
-            bytes.extend_from_slice(digits)?;
-        } else {
-            bytes.push(*byte)?;
-        }
-    }
-    Ok(())
-}
-
-fn push_times(bytes: &mut Vec<u8>, times: u32, repeated: &[u8]) -> Result<(), AllocError> {
-    for place in 0..times {
-        let mut digits = itoa::Buffer::new();
-        push_filled(bytes, repeated, digits.format(place).as_bytes())?;
-    }
-    Ok(())
-}
-
-/// Pushes what stands after a `\*`, up to the next one.
-fn push_repeating(bytes: &mut Vec<u8>, alloc: Global, text: &str) -> Result<(), AllocError> {
-    let (times, text) = text.split_once("(").unwrap_or(("", text));
-    let (text, rest) = text.split_once("\\)").unwrap_or((text, ""));
-    let mut repeated = Vec::new(alloc);
-    push_escaped(&mut repeated, text)?;
-    push_times(bytes, times.parse().unwrap_or(0), repeated.as_slice())?;
-    push_escaped(bytes, rest)
-}
-
-/// Pushes the bytes that a text with escapes means.
-pub fn push_unescaped(bytes: &mut Vec<u8>, alloc: Global, text: &str) -> Result<(), AllocError> {
-    let mut is_marked = false;
-    for part in text.split("\\*") {
-        if is_marked {
-            push_repeating(bytes, alloc, part)?;
-        } else {
-            push_escaped(bytes, part)?;
         }
         is_marked = true;
     }

@@ -1,6 +1,6 @@
 //! What stands on a line, told by its kind and its canonical spelling, which is read back as the same item.
 
-use crate::texts::printed;
+use ir_text::{print, read};
 use std::alloc::{AllocError, Global};
 use std::hash::RandomState;
 
@@ -9,6 +9,14 @@ const BEFORE: &str =
     "define void @f() {\n  ;! measure 0 max 0\n  ;! budget 0 0\na:\n  ;! left 0 0\n  ";
 
 const BEHIND: &str = "\n  ret void\n}\n";
+
+/// The canonical text of a text that is read, or its fault.
+fn printed(alloc: Global, state: RandomState, text: &[u8]) -> Result<String, AllocError> {
+    match read(alloc, state, text) {
+        Ok(module) => print(alloc, &module).or(Err(AllocError)),
+        Err(fault) => fault.to_string(alloc),
+    }
+}
 
 /// The instruction of such a text.
 fn instruction_of(text: &str) -> Option<&str> {
