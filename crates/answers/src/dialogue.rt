@@ -1,7 +1,7 @@
 //! The dialogue of `tapirvm debug`: a command a line, and a line in answer.
 
 use command_line::is_name;
-use debugger::{Debugger, Status as Standing, read_number, read_task};
+use debugger::{Debugger, Status as Standing, TaskView, read_number, read_task};
 use frame::Path;
 use lists::OutOfMemory;
 use module_answers::Status;
@@ -76,23 +76,33 @@ fn position_line(alloc: Global, debugger: &Debugger<'_>) -> Result<String, OutOf
     Ok(format!(in alloc; "at {position} of {length}\n")?)
 }
 
+fn push_standing(out: &mut String, standing: Standing) -> Result<(), AllocError> {
+    match standing {
+        Standing::Running(worker) => write!(out, "running {worker}"),
+        Standing::Ready => out.push_str("ready"),
+        Standing::Stalled(_) => out.push_str("stalled"),
+    }
+}
+
+/// How a task stands and where, or that there is none.
+fn push_task(out: &mut String, task: Option<TaskView<'_>>) -> Result<(), AllocError> {
+    let Some(task) = task else {
+        return out.push_str("none\n");
+    };
+    let line = task.line;
+    push_standing(out, task.status)?;
+    writeln!(out, " line {line}")
+}
+
 fn task_line(
     alloc: Global,
     debugger: &Debugger<'_>,
     name: &str,
     path: &Path,
 ) -> Result<String, OutOfMemory> {
-    let Some(task) = debugger.show_task(path) else {
-        return Ok(format!(in alloc; "task {name} none\n")?);
-    };
-    let line = task.line;
-    match task.status {
-        Standing::Running(worker) => {
-            Ok(format!(in alloc; "task {name} running {worker} line {line}\n")?)
-        }
-        Standing::Ready => Ok(format!(in alloc; "task {name} ready line {line}\n")?),
-        Standing::Stalled(_) => Ok(format!(in alloc; "task {name} stalled line {line}\n")?),
-    }
+    let mut line = format!(in alloc; "task {name} ")?;
+    push_task(&mut line, debugger.show_task(path))?;
+    Ok(line)
 }
 
 fn cell_line(
@@ -164,6 +174,21 @@ fn answer_line<W: Write>(
     Ok(true)
 }
 
+/// Answers the next line; false where there is none, and at `quit`.
+fn answer_next<B: BufRead, W: Write>(
+    alloc: Global,
+    debugger: &mut Debugger<'_>,
+    input: &mut B,
+    line: &mut Vec<u8>,
+    output: &mut W,
+) -> io::Result<bool> {
+    if next_line(input, line)? {
+        answer_line(alloc, debugger, line.as_slice(), output)
+    } else {
+        Ok(false)
+    }
+}
+
 /// Answers each line.
 fn answer_all<R: Read + Drop, W: Write>(
     alloc: Global,
@@ -174,10 +199,7 @@ fn answer_all<R: Read + Drop, W: Write>(
     let mut input = BufReader::new(alloc, input)?;
     let mut line = Vec::new(alloc);
     for _ in 0..u64::MAX {
-        if !next_line(&mut input, &mut line)? {
-            return Ok(());
-        }
-        if !answer_line(alloc, debugger, line.as_slice(), output)? {
+        if !answer_next(alloc, debugger, &mut input, &mut line, output)? {
             return Ok(());
         }
     }

@@ -180,9 +180,12 @@ fn print_unfinished<W: Write>(
     cells: &[CellWord],
     output: &mut W,
 ) -> io::Result<Status> {
-    writeln!(output, "not ended")?;
-    writeln!(output, "instructions {}", machine.instructions())?;
-    writeln!(output, "frames {}", machine.live_frames())?;
+    let instructions = machine.instructions();
+    let frames = machine.live_frames();
+    writeln!(
+        output,
+        "not ended\ninstructions {instructions}\nframes {frames}"
+    )?;
     for cell in cells {
         let value = machine.get_global(cell.name.as_str(), cell.index);
         print_cell(cell, value, output)?;
@@ -241,9 +244,13 @@ fn print_finished<W: Write>(
     cells: &[CellWord],
     output: &mut W,
 ) -> io::Result<Status> {
-    writeln!(output, "result {}", finished.result)?;
-    writeln!(output, "instructions {}", finished.instructions)?;
-    writeln!(output, "peak {}", finished.peak)?;
+    let result = finished.result;
+    let instructions = finished.instructions;
+    let peak = finished.peak;
+    writeln!(
+        output,
+        "result {result}\ninstructions {instructions}\npeak {peak}"
+    )?;
     print_cells(&finished.memory, cells, output)?;
     Ok(Status::Done)
 }

@@ -9,7 +9,12 @@ use verifier::Verified;
 /// The number of a function.
 fn find_function(verified: &Verified, name: &str) -> Option<usize> {
     let functions = verified.program().functions.as_slice();
-    functions.iter().position(|f| f.name.as_str() == name)
+    for number in 0..functions.len() {
+        if functions[number].name.as_str() == name {
+            return Some(number);
+        }
+    }
+    None
 }
 
 /// Prints budget and depth of a module, and the table of a function where one is asked for; a name of none is a wrong word.
@@ -31,9 +36,9 @@ pub fn print_verified<W: Write>(
 }
 
 fn print_accepted<W: Write>(verified: &Verified, output: &mut W) -> io::Result<()> {
-    writeln!(output, "accepted")?;
-    writeln!(output, "budget {}", verified.budget())?;
-    writeln!(output, "depth {}", verified.depth())
+    let budget = verified.budget();
+    let depth = verified.depth();
+    writeln!(output, "accepted\nbudget {budget}\ndepth {depth}")
 }
 
 /// The entries of a function, from measure 0 to its bound.

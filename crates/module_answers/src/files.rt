@@ -9,16 +9,21 @@ use std::{fs, io};
 /// The most bytes that a module and a schedule may have.
 const MOST: u64 = 1_048_576;
 
+fn read_to_limit<R: BufRead>(reader: &mut R, text: &mut Vec<u8>) -> io::Result<()> {
+    reader.by_ref().take(MOST + 1).read_to_end(text)?;
+    let is_over = text.len() as u64 > MOST;
+    if is_over && !text.as_slice().ends_with(b"\n") {
+        reader.by_ref().take(MOST).read_until(b'\n', text)?;
+    }
+    Ok(())
+}
+
 /// Reads a text up to one byte past its limit, and then what is left of the line, since a lower fault of that line comes first;
 /// of an endless line no more than as many bytes again.
 pub fn read_text<R: Read + Drop>(alloc: Global, reader: R) -> io::Result<Vec<u8>> {
     let mut reader = BufReader::new(alloc, reader)?;
     let mut text = Vec::new(alloc);
-    reader.by_ref().take(MOST + 1).read_to_end(&mut text)?;
-    let is_over = text.len() as u64 > MOST;
-    if is_over && !text.as_slice().ends_with(b"\n") {
-        reader.take(MOST).read_until(b'\n', &mut text)?;
-    }
+    read_to_limit(&mut reader, &mut text)?;
     Ok(text)
 }
 

@@ -32,7 +32,7 @@ pub fn print_explanation<W: Write>(
 ) -> io::Result<Status> {
     match explained(alloc, state, text) {
         Ok((told, status)) => {
-            write!(output, "{told}")?;
+            output.write_all(told.as_bytes())?;
             Ok(status)
         }
         Err(OutOfMemory) => stop_for_memory(output),
@@ -43,7 +43,7 @@ pub fn print_explanation<W: Write>(
 pub fn print_rule<W: Write>(alloc: Global, number: u16, output: &mut W) -> io::Result<Status> {
     match rule_text(alloc, number) {
         Ok(Some(text)) => {
-            write!(output, "{text}")?;
+            output.write_all(text.as_bytes())?;
             Ok(Status::Done)
         }
         Ok(None) => Ok(Status::Words),

@@ -16,7 +16,7 @@ use views::{printed, show};
 fn print_text<W: Write>(text: Result<String, Refused>, output: &mut W) -> io::Result<Status> {
     match text {
         Ok(text) => {
-            write!(output, "{text}")?;
+            output.write_all(text.as_bytes())?;
             Ok(Status::Done)
         }
         Err(refused) => print_refused(&refused, output),

@@ -44,15 +44,16 @@ pub enum Hindrance {
 
 impl fmt::Display for Hindrance {
     fn fmt<W: fmt::Write>(&self, f: &mut fmt::Formatter<W>) -> fmt::Result {
-        match self {
-            Hindrance::Ended => write!(f, "the run has ended"),
-            Hindrance::NoWorker => write!(f, "there is no such worker"),
-            Hindrance::Idle => write!(f, "the worker is idle"),
-            Hindrance::Busy => write!(f, "the worker runs a task"),
-            Hindrance::NoTask => write!(f, "no such task lives"),
-            Hindrance::Running(worker) => write!(f, "worker {worker} runs the task"),
-            Hindrance::Stalled => write!(f, "the task waits at a sync"),
-        }
+        let told = match self {
+            Hindrance::Ended => "the run has ended",
+            Hindrance::NoWorker => "there is no such worker",
+            Hindrance::Idle => "the worker is idle",
+            Hindrance::Busy => "the worker runs a task",
+            Hindrance::NoTask => "no such task lives",
+            Hindrance::Running(worker) => return write!(f, "worker {worker} runs the task"),
+            Hindrance::Stalled => "the task waits at a sync",
+        };
+        f.write_str(told)
     }
 }
 

@@ -1,6 +1,6 @@
 //! What a picture shows: who runs which task from when to when, and who took it from whom.
 
-use crate::moment::{Hindrance, Moment, Outcome, Place};
+use crate::moment::{Moment, Outcome, Place};
 use frame::{Event, Path};
 use lists::OutOfMemory;
 use std::alloc::Global;
@@ -54,23 +54,10 @@ pub struct Scene {
     runners: Vec<usize>,
 }
 
-fn worker_of(event: &Event) -> usize {
-    match event {
-        Event::Step(worker) | Event::Steal(worker, _) => usize::from(*worker),
-    }
-}
-
-fn is_steal(event: &Event) -> bool {
-    matches!(event, Event::Steal(_, _))
-}
-
 impl Scene {
     /// The scene before the first event: worker 0 runs the root.
     pub fn new(alloc: Global, workers: usize) -> Result<Scene, OutOfMemory> {
-        let mut hands = Vec::new(alloc);
-        for _worker in 0..workers {
-            hands.push(None)?;
-        }
+        let hands = vec![in alloc; None; workers]?;
         let mut scene = Scene {
             alloc,
             tasks: Vec::new(alloc),
@@ -87,22 +74,17 @@ impl Scene {
         Ok(scene)
     }
 
-    pub fn workers(&self) -> usize {
-        self.hands.len()
-    }
-
     /// The task's number; a task that has none gets the next one.
     fn number(&mut self, task: &Path) -> Result<usize, OutOfMemory> {
-        let known = self.tasks.iter().position(|other| other.is_same(task));
-        match known {
-            Some(number) => Ok(number),
-            None => {
-                let number = self.tasks.len();
-                self.tasks.push(task.copy(self.alloc)?)?;
-                self.runners.push(0)?;
-                Ok(number)
+        for number in 0..self.tasks.len() {
+            if self.tasks[number].is_same(task) {
+                return Ok(number);
             }
         }
+        let number = self.tasks.len();
+        self.tasks.push(task.copy(self.alloc)?)?;
+        self.runners.push(0)?;
+        Ok(number)
     }
 
     fn hand(&self, worker: usize) -> Option<Stay> {
@@ -115,20 +97,12 @@ impl Scene {
         }
     }
 
-    fn runner(&self, task: usize) -> usize {
-        self.runners.as_slice().get(task).copied().unwrap_or(0)
-    }
-
-    fn set_runner(&mut self, task: usize, worker: usize) {
-        if task < self.runners.len() {
-            self.runners[task] = worker;
-        }
-    }
-
     /// The worker has the task in its hand from this event on.
     fn begin(&mut self, worker: usize, task: &Path, from: usize) -> Result<(), OutOfMemory> {
         let task = self.number(task)?;
-        self.set_runner(task, worker);
+        if task < self.runners.len() {
+            self.runners[task] = worker;
+        }
         let stay = Stay {
             worker,
             task,
@@ -173,7 +147,7 @@ impl Scene {
     /// The worker takes the task of this place from the one that ran it last.
     fn steal(&mut self, thief: usize, place: &Place, at: usize) -> Result<(), OutOfMemory> {
         let task = self.number(&place.task)?;
-        let victim = self.runner(task);
+        let victim = self.runners.as_slice().get(task).copied().unwrap_or(0);
         self.thefts.push(Theft {
             at,
             thief,
@@ -201,51 +175,32 @@ impl Scene {
         }
     }
 
-    fn miss(&mut self, worker: usize, at: usize) -> Result<(), OutOfMemory> {
-        self.misses.push(Miss { at, worker })?;
-        Ok(())
-    }
-
-    /// An event that was enabled.
-    fn done(
-        &mut self,
-        worker: usize,
-        event: &Event,
-        moment: &Moment,
-        at: usize,
-    ) -> Result<(), OutOfMemory> {
-        match &moment.place {
-            Some(place) if is_steal(event) => self.steal(worker, place, at),
-            _ => self.step(worker, &moment.outcome, at),
-        }
-    }
-
     /// The next event.
     fn add(&mut self, event: &Event, moment: &Moment) -> Result<(), OutOfMemory> {
         let at = self.events;
         self.events = at.saturating_add(1);
-        let worker = worker_of(event);
-        match &moment.outcome {
-            Outcome::NotEnabled(_) => self.miss(worker, at),
-            _ => self.done(worker, event, moment, at),
+        let worker = match event {
+            Event::Step(worker) | Event::Steal(worker, _) => usize::from(*worker),
+        };
+        if matches!(&moment.outcome, Outcome::NotEnabled(_)) {
+            return Ok(self.misses.push(Miss { at, worker })?);
+        }
+        match (event, &moment.place) {
+            (Event::Steal(_, _), Some(place)) => self.steal(worker, place, at),
+            _ => self.step(worker, &moment.outcome, at),
         }
     }
 
-    /// Closes the stays that still last.
-    fn finish(&mut self) -> Result<(), OutOfMemory> {
-        for worker in 0..self.hands.len() {
-            self.leave(worker, self.events)?;
-        }
-        Ok(())
-    }
-
-    /// A whole run.
+    /// A whole run; its end closes the stays that still last.
     pub fn add_all(&mut self, events: &[Event], moments: &[Moment]) -> Result<(), OutOfMemory> {
         for index in 0..events.len() {
             if index < moments.len() {
                 self.add(&events[index], &moments[index])?;
             }
         }
-        self.finish()
+        for worker in 0..self.hands.len() {
+            self.leave(worker, self.events)?;
+        }
+        Ok(())
     }
 }

@@ -36,13 +36,13 @@ struct Grid {
 }
 
 impl Grid {
-    fn of(scene: &Scene) -> Grid {
+    fn of(scene: &Scene, workers: usize) -> Grid {
         let events = scene.events.max(1);
         let unit = (ACROSS / events).min(WIDEST).max(NARROWEST);
         Grid {
             unit,
             events,
-            workers: scene.workers(),
+            workers,
         }
     }
 
@@ -61,49 +61,28 @@ impl Grid {
         TOP.saturating_add(rows).saturating_add(ROW / 2)
     }
 
-    fn width(self) -> usize {
-        self.x(self.events).saturating_add(MARGIN)
-    }
-
     /// The lower edge of the last row.
     fn bottom(self) -> usize {
         TOP.saturating_add(self.workers.saturating_mul(ROW))
     }
 
-    fn height(self) -> usize {
-        self.bottom().saturating_add(MARGIN)
-    }
-
-    /// How many events stand between two numbers on the axis.
+    /// How many events stand between two numbers on the axis: 40 pixels at least.
     fn stride(self) -> usize {
-        let mut stride = 1usize;
-        for _digit in 0..7 {
-            for factor in [1usize, 2, 5] {
-                let each = stride.saturating_mul(factor);
-                if self.across(each) >= 40 {
-                    return each;
-                }
-            }
-            stride = stride.saturating_mul(10);
+        match self.unit {
+            0..=3 => 20,
+            4..=7 => 10,
+            8..=19 => 5,
+            _ => 2,
         }
-        stride
     }
 }
 
 fn push_head(out: &mut String, grid: Grid) -> Result<(), AllocError> {
-    let width = grid.width();
-    let height = grid.height();
+    let width = grid.x(grid.events).saturating_add(MARGIN);
+    let height = grid.bottom().saturating_add(MARGIN);
     writeln!(
         out,
-        "<svg xmlns=\"http://www.w3.org/2000/svg\" width=\"{width}\" height=\"{height}\" font-family=\"sans-serif\" font-size=\"12\">"
-    )?;
-    writeln!(
-        out,
-        "<defs><marker id=\"head\" markerWidth=\"8\" markerHeight=\"8\" refX=\"7\" refY=\"4\" orient=\"auto\"><path d=\"M0,0 L8,4 L0,8 z\" fill=\"#222222\"/></marker></defs>"
-    )?;
-    writeln!(
-        out,
-        "<rect width=\"{width}\" height=\"{height}\" fill=\"#ffffff\"/>"
+        "<svg xmlns=\"http://www.w3.org/2000/svg\" width=\"{width}\" height=\"{height}\" font-family=\"sans-serif\" font-size=\"12\">\n<defs><marker id=\"head\" markerWidth=\"8\" markerHeight=\"8\" refX=\"7\" refY=\"4\" orient=\"auto\"><path d=\"M0,0 L8,4 L0,8 z\" fill=\"#222222\"/></marker></defs>\n<rect width=\"{width}\" height=\"{height}\" fill=\"#ffffff\"/>"
     )
 }
 
@@ -303,8 +282,13 @@ fn push_end(out: &mut String, grid: Grid, scene: &Scene) -> Result<(), AllocErro
     )
 }
 
-fn push_scene(alloc: Global, out: &mut String, scene: &Scene) -> Result<(), AllocError> {
-    let grid = Grid::of(scene);
+fn push_scene(
+    alloc: Global,
+    out: &mut String,
+    scene: &Scene,
+    workers: usize,
+) -> Result<(), AllocError> {
+    let grid = Grid::of(scene, workers);
     push_head(out, grid)?;
     push_axis(out, grid)?;
     push_workers(out, grid)?;
@@ -328,6 +312,6 @@ pub fn picture(
     let mut scene = Scene::new(alloc, workers)?;
     scene.add_all(events, moments)?;
     let mut out = String::new(alloc);
-    push_scene(alloc, &mut out, &scene)?;
+    push_scene(alloc, &mut out, &scene, workers)?;
     Ok(out)
 }

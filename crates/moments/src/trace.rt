@@ -6,20 +6,13 @@ use std::alloc::Global;
 use std::io;
 use std::io::Write;
 
-/// A line of the module without its comment.
-fn instruction_of(line: &str) -> &str {
-    match line.split_once(";") {
-        Some((instruction, _comment)) => instruction.trim(),
-        None => line.trim(),
-    }
-}
-
-/// The instruction on a line of the module, counted from 1.
+/// The instruction on a line of the module, counted from 1, without the line's comment.
 fn instruction_at<'a>(lines: &[&'a str], line: u32) -> &'a str {
     let index = (line as usize).saturating_sub(1);
-    match lines.get(index) {
-        Some(text) => instruction_of(text),
-        None => "",
+    let text = lines.get(index).copied().unwrap_or("");
+    match text.split_once(";") {
+        Some((instruction, _comment)) => instruction.trim(),
+        None => text.trim(),
     }
 }
 

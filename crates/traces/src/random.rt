@@ -32,23 +32,12 @@ fn task_of(alloc: Global, machine: &Machine<'_>, worker: u8) -> Result<Option<Pa
 }
 
 impl Draw {
-    fn new(alloc: Global) -> Draw {
-        Draw {
-            alloc,
-            script: Script::new(alloc),
-            ready: Vec::new(alloc),
-        }
-    }
-
-    /// Where the task stands among those that may be taken.
-    fn place_of(&self, task: &Path) -> Option<usize> {
-        self.ready.iter().position(|other| other.is_same(task))
-    }
-
+    /// The task may not be taken any more.
     fn forget(&mut self, task: &Path) {
-        if let Some(place) = self.place_of(task) {
-            if place < self.ready.len() {
+        for place in 0..self.ready.len() {
+            if self.ready[place].is_same(task) {
                 let _task = self.ready.swap_remove(place);
+                return;
             }
         }
     }
@@ -79,10 +68,12 @@ impl Draw {
         }
     }
 
-    /// Writes a steal that was done.
-    fn write_steal(&mut self, event: &Event) -> Result<(), OutOfMemory> {
-        if let Event::Steal(worker, task) = event {
-            self.script.steal(*worker, task)?;
+    /// Does a steal, and writes it where it was enabled.
+    fn apply_steal(&mut self, machine: &mut Machine<'_>, event: &Event) -> Result<(), OutOfMemory> {
+        if machine.apply(event)? {
+            if let Event::Steal(worker, task) = event {
+                self.script.steal(*worker, task)?;
+            }
         }
         Ok(())
     }
@@ -99,10 +90,7 @@ impl Draw {
         }
         let place = dice.below(self.ready.len());
         let event = Event::Steal(worker, self.ready.swap_remove(place));
-        if machine.apply(&event)? {
-            self.write_steal(&event)?;
-        }
-        Ok(())
+        self.apply_steal(machine, &event)
     }
 
     /// An event of the worker.
@@ -117,10 +105,6 @@ impl Draw {
             None => self.steal(machine, worker, dice),
         }
     }
-
-    fn is_over(&self, machine: &Machine<'_>) -> bool {
-        machine.ended() || self.script.events() > MOST_EVENTS
-    }
 }
 
 /// Draws events until the run has ended, or has one more than a schedule may have.
@@ -133,7 +117,7 @@ fn draw_all(
     requires { 0 < workers }
 {
     for _event in 0..u64::MAX {
-        if draw.is_over(machine) {
+        if machine.ended() || draw.script.events() > MOST_EVENTS {
             return Ok(());
         }
         let worker = dice.below(usize::from(workers));
@@ -151,7 +135,11 @@ fn drawn_text(
 ) -> Result<String, OutOfMemory>
     requires { 0 < workers }
 {
-    let mut draw = Draw::new(alloc);
+    let mut draw = Draw {
+        alloc,
+        script: Script::new(alloc),
+        ready: Vec::new(alloc),
+    };
     let mut dice = Dice::new(seed);
     draw_all(&mut draw, machine, workers, &mut dice)?;
     Ok(draw.script.into_text()?)

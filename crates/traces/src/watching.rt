@@ -8,11 +8,15 @@ use moments::{Hindrance, Moment, Outcome, Place};
 use schedule_core::{Event, Machine, Memory, RunFault, Status, TaskView, Verified};
 use std::alloc::Global;
 
-fn place_of(alloc: Global, view: &TaskView<'_>) -> Result<Place, OutOfMemory> {
-    Ok(Place {
-        task: view.path.copy(alloc)?,
-        line: view.line,
-    })
+/// Where a task stands.
+fn place_of(alloc: Global, view: Option<TaskView<'_>>) -> Result<Option<Place>, OutOfMemory> {
+    match view {
+        Some(view) => Ok(Some(Place {
+            task: view.path.copy(alloc)?,
+            line: view.line,
+        })),
+        None => Ok(None),
+    }
 }
 
 /// The path of the worker's task.
@@ -20,30 +24,6 @@ pub fn path_of<'m>(machine: &'m Machine<'_>, worker: u8) -> Option<&'m Path> {
     match machine.task_of(worker) {
         Some(view) => Some(view.path),
         None => None,
-    }
-}
-
-/// Where the worker's task stands.
-fn worker_place(
-    alloc: Global,
-    machine: &Machine<'_>,
-    worker: u8,
-) -> Result<Option<Place>, OutOfMemory> {
-    match machine.task_of(worker) {
-        Some(view) => Ok(Some(place_of(alloc, &view)?)),
-        None => Ok(None),
-    }
-}
-
-/// Where the task of this path stands.
-fn task_place(
-    alloc: Global,
-    machine: &Machine<'_>,
-    task: &Path,
-) -> Result<Option<Place>, OutOfMemory> {
-    match machine.task(task) {
-        Some(view) => Ok(Some(place_of(alloc, &view)?)),
-        None => Ok(None),
     }
 }
 
@@ -86,10 +66,6 @@ fn worker_hindrance(machine: &Machine<'_>, workers: usize, worker: u8) -> Option
     }
 }
 
-fn step_hindrance(machine: &Machine<'_>, workers: usize, worker: u8) -> Hindrance {
-    worker_hindrance(machine, workers, worker).unwrap_or(Hindrance::Idle)
-}
-
 /// What hinders a steal of the task.
 fn task_hindrance(machine: &Machine<'_>, task: &Path) -> Hindrance {
     match machine.task(task) {
@@ -119,19 +95,11 @@ fn step_outcome(
     worker: u8,
     task: Option<&Path>,
 ) -> Result<Outcome, OutOfMemory> {
-    let hindrance = step_hindrance(machine, workers, worker);
+    let hindrance = worker_hindrance(machine, workers, worker).unwrap_or(Hindrance::Idle);
     let done = machine.apply(event)?;
     match task {
         Some(task) if done => after_step(alloc, machine, worker, task),
         _ => Ok(Outcome::NotEnabled(hindrance)),
-    }
-}
-
-/// The task that an event found.
-fn task_at(place: &Option<Place>) -> Option<&Path> {
-    match place {
-        Some(place) => Some(&place.task),
-        None => None,
     }
 }
 
@@ -142,8 +110,12 @@ fn watch_step(
     event: &Event,
     worker: u8,
 ) -> Result<Moment, OutOfMemory> {
-    let place = worker_place(alloc, machine, worker)?;
-    let outcome = step_outcome(alloc, machine, workers, event, worker, task_at(&place))?;
+    let place = place_of(alloc, machine.task_of(worker))?;
+    let task = match &place {
+        Some(place) => Some(&place.task),
+        None => None,
+    };
+    let outcome = step_outcome(alloc, machine, workers, event, worker, task)?;
     Ok(Moment { place, outcome })
 }
 
@@ -171,7 +143,7 @@ fn watch_steal(
     worker: u8,
     task: &Path,
 ) -> Result<Moment, OutOfMemory> {
-    let place = task_place(alloc, machine, task)?;
+    let place = place_of(alloc, machine.task(task))?;
     let outcome = steal_outcome(machine, workers, event, worker, task)?;
     Ok(Moment { place, outcome })
 }

@@ -48,6 +48,21 @@ fn sorted_terms<'a>(
     Ok(sorted)
 }
 
+/// The terms, and behind them the number, unless it is 0 and there are some.
+fn push_form(out: &mut String, terms: &[(&str, i64)], constant: i128) -> Result<(), AllocError> {
+    let mut is_first = true;
+    for (name, coefficient) in terms {
+        push_term(out, is_first, name, *coefficient)?;
+        is_first = false;
+    }
+    if constant == 0 && !is_first {
+        return Ok(());
+    }
+    let sign = sign_of(is_first, constant < 0);
+    let size = constant.unsigned_abs();
+    write!(out, "{sign}{size}")
+}
+
 /// `F >= 0`: what a fact says.
 pub fn push_fact(
     alloc: Global,
@@ -56,16 +71,6 @@ pub fn push_fact(
     fact: &Fact,
 ) -> Result<(), AllocError> {
     let terms = sorted_terms(alloc, names, fact.form.terms.as_slice())?;
-    let mut is_first = true;
-    for (name, coefficient) in &terms {
-        push_term(out, is_first, name, *coefficient)?;
-        is_first = false;
-    }
-    let constant = fact.form.constant;
-    if is_first || constant != 0 {
-        let sign = sign_of(is_first, constant < 0);
-        let size = constant.unsigned_abs();
-        write!(out, "{sign}{size}")?;
-    }
-    write!(out, " >= 0")
+    push_form(out, terms.as_slice(), fact.form.constant)?;
+    out.push_str(" >= 0")
 }

@@ -93,12 +93,23 @@ pub fn open_regions(alloc: Global, blocks: Blocks<'_>) -> Result<Vec<Vec<Registe
         open.push(Vec::new(alloc))?;
     }
     for detach in 0..blocks.bodies.len() {
-        if let Some((region, continuation)) = blocks.detach(detach) {
-            let marks = unsynced(alloc, blocks, region, continuation)?;
-            put_region(&mut open, blocks, detach, region, marks.as_slice())?;
-        }
+        put_detached(alloc, &mut open, blocks, detach)?;
     }
     Ok(open)
+}
+
+/// Puts the region of a block that detaches to each block in which the child may still run.
+fn put_detached(
+    alloc: Global,
+    open: &mut Vec<Vec<RegisterId>>,
+    blocks: Blocks<'_>,
+    detach: usize,
+) -> Result<(), AllocError> {
+    let Some((region, continuation)) = blocks.detach(detach) else {
+        return Ok(());
+    };
+    let marks = unsynced(alloc, blocks, region, continuation)?;
+    put_region(open, blocks, detach, region, marks.as_slice())
 }
 
 /// Puts the region to each marked block of the detach's task.
@@ -119,7 +130,7 @@ fn put_region(
 }
 
 fn put_once(regions: &mut Vec<RegisterId>, region: RegisterId) -> Result<(), AllocError> {
-    if !regions.iter().any(|other| *other == region) {
+    if !regions.as_slice().contains(&region) {
         regions.push(region)?;
     }
     Ok(())

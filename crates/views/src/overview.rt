@@ -44,9 +44,10 @@ fn push_totals(out: &mut String, subject: Subject<'_>) -> Result<(), AllocError>
     let budget = subject.verified.budget();
     let depth = subject.verified.depth();
     let cells = most_cells(subject.program, depth);
-    writeln!(out, "budget {budget}")?;
-    writeln!(out, "depth {depth}")?;
-    writeln!(out, "cells of frames {cells} for each worker")
+    writeln!(
+        out,
+        "budget {budget}\ndepth {depth}\ncells of frames {cells} for each worker"
+    )
 }
 
 fn push_globals(out: &mut String, program: &Program) -> Result<(), AllocError> {
@@ -153,24 +154,46 @@ fn push_feet(out: &mut String, notes: &BlockNotes) -> Result<(), AllocError> {
     Ok(())
 }
 
-/// What is left at the block's start, and what it uses of that itself.
-fn push_costs(
-    out: &mut String,
-    part: Part<'_>,
-    block: usize,
-    notes: &BlockNotes,
-) -> Result<(), AllocError> {
+fn push_left_line(out: &mut String, notes: &BlockNotes) -> Result<(), AllocError> {
     out.push_str("    ")?;
     push_left(out, &notes.left)?;
-    out.push_str("\n")?;
-    if let Some(body) = part.blocks.bodies.get(block) {
-        let subject = part.subject;
-        let usage = usage_of(subject.program, subject.verified.table(), part.index, body);
-        let calls = usage.self_calls;
-        let instructions = usage.instructions;
-        writeln!(out, "    uses {calls} {instructions}")?;
-    }
-    Ok(())
+    out.push_str("\n")
+}
+
+/// What the block uses itself.
+fn push_usage(out: &mut String, part: Part<'_>, block: usize) -> Result<(), AllocError> {
+    let Some(body) = part.blocks.bodies.get(block) else {
+        return Ok(());
+    };
+    let subject = part.subject;
+    let usage = usage_of(subject.program, subject.verified.table(), part.index, body);
+    let calls = usage.self_calls;
+    let instructions = usage.instructions;
+    writeln!(out, "    uses {calls} {instructions}")
+}
+
+/// What is known at the block's start.
+fn push_start(out: &mut String, part: Part<'_>, block: usize) -> Result<(), Refused> {
+    let Some(body) = part.blocks.bodies.get(block) else {
+        return Ok(());
+    };
+    let alloc = part.subject.alloc;
+    let facts = start_facts(alloc, part.function, block, body)?;
+    Ok(push_facts(alloc, out, part.names, facts.as_slice())?)
+}
+
+/// The block's task, the regions that are open, and its zones.
+fn push_places(
+    out: &mut String,
+    part: Part<'_>,
+    index: usize,
+    notes: &BlockNotes,
+    open: Option<&Vec<RegisterId>>,
+) -> Result<(), AllocError> {
+    push_task(out, part, index)?;
+    push_open(out, part.names, open)?;
+    push_all_pending(out, notes)?;
+    push_feet(out, notes)
 }
 
 fn push_block(
@@ -180,20 +203,13 @@ fn push_block(
     block: &syntax::Block,
     open: Option<&Vec<RegisterId>>,
 ) -> Result<(), Refused> {
-    let alloc = part.subject.alloc;
     let label = block.label.as_str();
     let line = block.line;
     writeln!(out, "  block %{label} line {line}")?;
-    push_task(out, part, index)?;
-    push_open(out, part.names, open)?;
-    push_all_pending(out, &block.notes)?;
-    push_feet(out, &block.notes)?;
-    if let Some(body) = part.blocks.bodies.get(index) {
-        let facts = start_facts(alloc, part.function, index, body)?;
-        push_facts(alloc, out, part.names, facts.as_slice())?;
-    }
-    push_costs(out, part, index, &block.notes)?;
-    Ok(())
+    push_places(out, part, index, &block.notes, open)?;
+    push_start(out, part, index)?;
+    push_left_line(out, &block.notes)?;
+    Ok(push_usage(out, part, index)?)
 }
 
 fn push_blocks(out: &mut String, part: Part<'_>) -> Result<(), Refused> {
@@ -211,28 +227,28 @@ fn push_function(
     spelled: &syntax::Function,
     function: &Function,
 ) -> Result<(), Refused> {
-    let names = register_names(subject.alloc, spelled)?;
-    let edges = subject.graph.functions.as_slice().get(index);
-    let tasks = subject.regions.functions.as_slice().get(index);
     let name = spelled.name.as_str();
     let line = spelled.line;
     writeln!(out, "function @{name} line {line}")?;
-    if let (Some(edges), Some(tasks)) = (edges, tasks) {
-        let part = Part {
-            subject,
-            index,
-            spelled,
-            function,
-            names: names.as_slice(),
-            blocks: Blocks {
-                bodies: function.blocks.as_slice(),
-                edges: edges.blocks.as_slice(),
-                tasks: tasks.tasks.as_slice(),
-            },
-        };
-        push_blocks(out, part)?;
-    }
-    Ok(())
+    let edges = subject.graph.functions.as_slice().get(index);
+    let tasks = subject.regions.functions.as_slice().get(index);
+    let (Some(edges), Some(tasks)) = (edges, tasks) else {
+        return Ok(());
+    };
+    let names = register_names(subject.alloc, spelled)?;
+    let part = Part {
+        subject,
+        index,
+        spelled,
+        function,
+        names: names.as_slice(),
+        blocks: Blocks {
+            bodies: function.blocks.as_slice(),
+            edges: edges.blocks.as_slice(),
+            tasks: tasks.tasks.as_slice(),
+        },
+    };
+    push_blocks(out, part)
 }
 
 fn push_functions(out: &mut String, subject: Subject<'_>) -> Result<(), Refused> {

@@ -10,14 +10,6 @@ pub struct Range {
 }
 
 impl Range {
-    /// What an `i64` may be.
-    fn whole() -> Range {
-        Range {
-            low: i128::from(i64::MIN),
-            high: i128::from(i64::MAX),
-        }
-    }
-
     /// The range in which `coefficient * x + constant >= 0` too.
     fn narrowed(self, coefficient: i64, constant: i128) -> Range {
         let size = i128::from(coefficient.unsigned_abs());
@@ -36,22 +28,21 @@ impl Range {
             }
         }
     }
-
-    fn narrowed_by(self, register: RegisterId, fact: &Fact) -> Range {
-        match fact.form.terms.as_slice() {
-            [term] if term.register == register => {
-                self.narrowed(term.coefficient, fact.form.constant)
-            }
-            _ => self,
-        }
-    }
 }
 
 /// The numbers that a register of type `i64` may hold by the facts that name it alone. The range is empty where `high` is below `low`.
 pub fn range_of(register: RegisterId, facts: &[Fact]) -> Range {
-    let mut range = Range::whole();
+    let mut range = Range {
+        low: i128::from(i64::MIN),
+        high: i128::from(i64::MAX),
+    };
     for fact in facts {
-        range = range.narrowed_by(register, fact);
+        match fact.form.terms.as_slice() {
+            [term] if term.register == register => {
+                range = range.narrowed(term.coefficient, fact.form.constant);
+            }
+            _ => {}
+        }
     }
     range
 }

@@ -1,7 +1,7 @@
 //! What a block itself uses.
 
 use cost_table::Table;
-use program::{Block, Function, Instruction, Program};
+use program::{Block, Instruction, Program};
 
 /// Self calls, and instructions with all that calls of other functions cost; the greatest number stands for more.
 #[derive(Clone, Copy)]
@@ -56,21 +56,16 @@ pub fn usage_of(program: &Program, table: &Table, function: usize, block: &Block
     usage
 }
 
-/// The cells that the allocas of a function's frame take.
-fn frame_cells(function: &Function) -> u64 {
-    let mut cells = 0u64;
-    for alloca in function.allocas.as_slice() {
-        cells = cells.saturating_add(alloca.cells);
-    }
-    cells
-}
-
 /// The cells that the frames of a serial run take at most at once, and so those of each worker's share: those of the largest frame, in each
 /// frame of the depth.
 pub fn most_cells(program: &Program, depth: u64) -> u64 {
     let mut most = 0u64;
     for function in program.functions.as_slice() {
-        most = most.max(frame_cells(function));
+        let mut cells = 0u64;
+        for alloca in function.allocas.as_slice() {
+            cells = cells.saturating_add(alloca.cells);
+        }
+        most = most.max(cells);
     }
     most.saturating_mul(depth)
 }
