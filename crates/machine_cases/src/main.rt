@@ -27,8 +27,8 @@ fn answer_word<R: AllocGlobal + Files + Threads + Wait + Clock + Sync>(
     let (kind, _) = word.split_once("/").unwrap_or((word, ""));
     match kind {
         "shown" => shown_cases::answer(rt.alloc(), report),
-        "steps" => board_cases::steps::answer(rt, state, report),
-        "schedules" => board_cases::schedules::answer(rt.alloc(), report),
+        "steps" => step_cases::steps::answer(rt, state, report),
+        "schedules" => step_cases::schedules::answer(rt.alloc(), report),
         "boards" => board_cases::boards::answer(rt, state, word, notes, report),
         "threads" => thread_cases::answer(rt, state, report),
         _ => text_cases::answer(rt, state, kind, word, report),

@@ -1,7 +1,7 @@
 //! A machine that is given the events of a board's history one by one.
 
-use debugger::{Event, Machine, TaskView};
 use lists::OutOfMemory;
+use schedule_core::{Event, Machine, TaskView};
 use shared_run::{Bench, Board, Entry, History};
 use std::alloc::Global;
 

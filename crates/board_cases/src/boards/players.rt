@@ -5,8 +5,8 @@ ghost use Rattle.shared_run.specs.schedule_core.Strands.{IsMadeOf};
 
 use crate::boards::calls::Call;
 use crate::boards::replies::{Answer, claimed, committed, fetched, stepped};
-use debugger::{Machine, Status};
 use lists::OutOfMemory;
+use schedule_core::{Machine, Status};
 use shared_run::{
     Bench, Board, Fetched, Pause, Places, Seat, Strand, Ticket, Verified, advance, blank_strand,
     clear,

@@ -1,7 +1,7 @@
 //! What the calls of a board come to, in words.
 
-use debugger::Machine;
 use frame::Path;
+use schedule_core::Machine;
 use shared_run::{Claimed, Committed, Entry, Fetched, History, Pause, Stepped, Ticket};
 use std::alloc::AllocError;
 
