@@ -34,11 +34,7 @@ fn bound_of(facts: &[Sum<'_>], name: &str, is_greatest: bool) -> Option<i128> {
     let mut closest = None;
     for fact in facts {
         let bound = bound_by(fact, name, is_greatest);
-        closest = if is_greatest {
-            lesser(closest, bound)
-        } else {
-            greater(closest, bound)
-        };
+        closest = bound_among(closest, bound, is_greatest);
     }
     closest
 }
@@ -55,16 +51,10 @@ fn greatest_apart(facts: &[Sum<'_>], sum: &Sum<'_>) -> Option<i128> {
     Some(most)
 }
 
-fn lesser(one: Option<i128>, other: Option<i128>) -> Option<i128> {
+/// The lesser of two bounds, or the greater one; the one that there is.
+fn bound_among(one: Option<i128>, other: Option<i128>, is_lesser: bool) -> Option<i128> {
     match (one, other) {
-        (Some(one), Some(other)) => Some(one.min(other)),
-        (Some(one), None) => Some(one),
-        (None, other) => other,
-    }
-}
-
-fn greater(one: Option<i128>, other: Option<i128>) -> Option<i128> {
-    match (one, other) {
+        (Some(one), Some(other)) if is_lesser => Some(one.min(other)),
         (Some(one), Some(other)) => Some(one.max(other)),
         (Some(one), None) => Some(one),
         (None, other) => other,
@@ -101,7 +91,7 @@ fn greatest_by<'a>(
 ) -> Result<Option<i128>, AllocError> {
     let mut most = None;
     for (name, _coefficient) in &fact.terms {
-        most = lesser(most, greatest_without(facts, sum, fact, name)?);
+        most = bound_among(most, greatest_without(facts, sum, fact, name)?, true);
     }
     Ok(most)
 }
@@ -110,7 +100,7 @@ fn greatest_by<'a>(
 fn greatest<'a>(facts: &[Sum<'a>], sum: &Sum<'a>) -> Result<Option<u64>, AllocError> {
     let mut most = greatest_apart(facts, sum);
     for fact in facts {
-        most = lesser(most, greatest_by(facts, sum, fact)?);
+        most = bound_among(most, greatest_by(facts, sum, fact)?, true);
     }
     match most {
         Some(most) if most <= MOST => Ok(u64::try_from(most).ok()),

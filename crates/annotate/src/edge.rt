@@ -2,9 +2,7 @@
 
 use lists::Name;
 use std::alloc::{AllocError, Global};
-use syntax::{
-    Argument, Block, Case, Function, Instruction, Operand, Phi, PhiEntry, Step, Terminator,
-};
+use syntax::{Argument, Block, Function, Instruction, Operand, Phi, Terminator};
 
 /// How a path goes along an edge. None goes along a reattach.
 #[derive(Clone, Copy)]
@@ -86,13 +84,6 @@ fn second_of(terminator: &Terminator) -> Option<Exit<'_>> {
     }
 }
 
-fn cases_of(terminator: &Terminator) -> &[Case] {
-    match terminator {
-        Terminator::Switch { cases, .. } => cases.as_slice(),
-        _ => &[],
-    }
-}
-
 /// Adds the edge of an exit; where no block has its label there is none.
 fn push_edge<'a>(
     edges: &mut Vec<Edge<'a>>,
@@ -103,20 +94,6 @@ fn push_edge<'a>(
     if let Some(to) = block_of(blocks, exit.label) {
         let way = exit.way;
         edges.push(Edge { from, to, way })?;
-    }
-    Ok(())
-}
-
-fn push_cases<'a>(
-    edges: &mut Vec<Edge<'a>>,
-    blocks: &[Block],
-    from: usize,
-    cases: &'a [Case],
-) -> Result<(), AllocError> {
-    for case in cases {
-        let label = &case.target;
-        let way = Way::Branch;
-        push_edge(edges, blocks, from, Exit { label, way })?;
     }
     Ok(())
 }
@@ -134,13 +111,11 @@ fn push_edges<'a>(
     if let Some(exit) = second_of(terminator) {
         push_edge(edges, blocks, from, exit)?;
     }
-    push_cases(edges, blocks, from, cases_of(terminator))
-}
-
-fn push_all_edges<'a>(edges: &mut Vec<Edge<'a>>, blocks: &'a [Block]) -> Result<(), AllocError> {
-    for from in 0..blocks.len() {
-        if let Some(ending) = &blocks[from].ending {
-            push_edges(edges, blocks, from, &ending.terminator)?;
+    if let Terminator::Switch { cases, .. } = terminator {
+        for case in cases.as_slice() {
+            let label = &case.target;
+            let way = Way::Branch;
+            push_edge(edges, blocks, from, Exit { label, way })?;
         }
     }
     Ok(())
@@ -148,18 +123,23 @@ fn push_all_edges<'a>(edges: &mut Vec<Edge<'a>>, blocks: &'a [Block]) -> Result<
 
 /// The edges of a function, in the order of its blocks and terminators.
 pub fn edges_of<'a>(alloc: Global, function: &'a Function) -> Result<Vec<Edge<'a>>, AllocError> {
+    let blocks = function.blocks.as_slice();
     let mut edges = Vec::new(alloc);
-    push_all_edges(&mut edges, function.blocks.as_slice())?;
+    for from in 0..blocks.len() {
+        if let Some(ending) = &blocks[from].ending {
+            push_edges(&mut edges, blocks, from, &ending.terminator)?;
+        }
+    }
     Ok(edges)
 }
 
-/// The instructions of a block; none where the function has no such block.
-pub fn steps_at(function: &Function, block: usize) -> &[Step] {
+/// The block of this number, where the function has one.
+pub fn block_at(function: &Function, number: usize) -> Option<&Block> {
     let blocks = function.blocks.as_slice();
-    if block < blocks.len() {
-        blocks[block].steps.as_slice()
+    if number < blocks.len() {
+        Some(&blocks[number])
     } else {
-        &[]
+        None
     }
 }
 
@@ -239,18 +219,6 @@ pub fn is_used_beside(function: &Function, own: usize, name: &str) -> bool {
     false
 }
 
-/// Whether an instruction of the block, no phi, defines the register.
-fn is_made(block: &Block, name: &str) -> bool {
-    for step in block.steps.as_slice() {
-        if let Some(register) = register_of(&step.instruction) {
-            if register == name {
-                return true;
-            }
-        }
-    }
-    false
-}
-
 /// The phi that defines the register.
 fn phi_of<'a>(phis: &'a [Phi], name: &str) -> Option<&'a Phi> {
     for phi in phis {
@@ -263,22 +231,25 @@ fn phi_of<'a>(phis: &'a [Phi], name: &str) -> Option<&'a Phi> {
 
 /// Whether the block defines the register.
 pub fn defines(block: &Block, name: &str) -> bool {
-    phi_of(block.phis.as_slice(), name).is_some() || is_made(block, name)
+    for step in block.steps.as_slice() {
+        if let Some(register) = register_of(&step.instruction) {
+            if register == name {
+                return true;
+            }
+        }
+    }
+    phi_of(block.phis.as_slice(), name).is_some()
 }
 
-fn value_from<'a>(entries: &'a [PhiEntry], predecessor: &Name) -> Option<&'a Operand> {
-    for entry in entries {
+/// What a phi takes where the run comes from a block of this label.
+pub fn phi_value<'a>(phis: &'a [Phi], name: &str, predecessor: &Name) -> Option<&'a Operand> {
+    let Some(phi) = phi_of(phis, name) else {
+        return None;
+    };
+    for entry in phi.entries.as_slice() {
         if entry.predecessor.is_same(predecessor) {
             return Some(&entry.value);
         }
     }
     None
-}
-
-/// What a phi takes where the run comes from a block of this label.
-pub fn phi_value<'a>(phis: &'a [Phi], name: &str, predecessor: &Name) -> Option<&'a Operand> {
-    match phi_of(phis, name) {
-        Some(phi) => value_from(phi.entries.as_slice(), predecessor),
-        None => None,
-    }
 }

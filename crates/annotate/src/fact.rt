@@ -1,6 +1,6 @@
 //! What inequalities, and the conditions of branches, say.
 
-use crate::edge::{Edge, Way, is_used_beside, register_of, steps_at};
+use crate::edge::{Edge, Way, block_at, is_used_beside, register_of};
 use crate::left::definition_of;
 use crate::sum::Sum;
 use std::alloc::{AllocError, Global};
@@ -36,7 +36,7 @@ impl<'a> Facts<'a> {
     /// The number of a fact that is stated already.
     fn find(&self, sum: &Sum<'a>) -> Option<usize> {
         for number in 0..self.sums.len() {
-            if self.sums[number].is_same(sum) {
+            if matches!(self.sums[number].number_with(sum, -1), Some(0)) {
                 return Some(number);
             }
         }
@@ -46,14 +46,11 @@ impl<'a> Facts<'a> {
     /// States that a sum is at least 0.
     fn add(&mut self, sum: Sum<'a>) -> Result<(), AllocError> {
         if let Some(number) = self.find(&sum) {
-            return self.push(number);
+            self.stated.push(number)?;
+            return Ok(());
         }
         let number = self.sums.len();
         self.sums.push(sum)?;
-        self.push(number)
-    }
-
-    fn push(&mut self, number: usize) -> Result<(), AllocError> {
         self.stated.push(number)?;
         Ok(())
     }
@@ -78,28 +75,6 @@ impl<'a> Facts<'a> {
         sum.add_operand(high, 1)?;
         sum.add_operand(low, -1)?;
         self.add(sum)
-    }
-
-    /// States what an instruction says where it compares into this register and has this outcome.
-    fn decide(
-        &mut self,
-        instruction: &'a Instruction,
-        condition: &str,
-        holds: bool,
-    ) -> Result<(), AllocError> {
-        if let Instruction::Compare {
-            register,
-            predicate,
-            left,
-            right,
-            ..
-        } = instruction
-        {
-            if register.as_str() == condition {
-                return self.compare(*predicate, left, right, holds);
-            }
-        }
-        Ok(())
     }
 
     /// States what a comparison says of signed numbers where it holds, or where it does not.
@@ -127,7 +102,18 @@ impl<'a> Facts<'a> {
         holds: bool,
     ) -> Result<(), AllocError> {
         for step in steps {
-            self.decide(&step.instruction, condition, holds)?;
+            if let Instruction::Compare {
+                register,
+                predicate,
+                left,
+                right,
+                ..
+            } = &step.instruction
+            {
+                if register.as_str() == condition {
+                    self.compare(*predicate, left, right, holds)?;
+                }
+            }
         }
         Ok(())
     }
@@ -143,19 +129,14 @@ impl<'a> Facts<'a> {
         self.add(below)
     }
 
-    /// States what an exact instruction says of the register that it makes.
-    fn define(&mut self, name: &'a str, instruction: &'a Instruction) -> Result<(), AllocError> {
-        match definition_of(self.alloc, instruction)? {
-            Some(value) => self.equate(name, &value),
-            None => Ok(()),
-        }
-    }
-
     /// States what an instruction says of a register that blocks beside its own take.
     fn make(&mut self, index: usize, instruction: &'a Instruction) -> Result<(), AllocError> {
         match register_of(instruction) {
             Some(name) if is_exact(instruction) && is_used_beside(self.function, index, name) => {
-                self.define(name, instruction)
+                match definition_of(self.alloc, instruction)? {
+                    Some(value) => self.equate(name, &value),
+                    None => Ok(()),
+                }
             }
             _ => Ok(()),
         }
@@ -163,8 +144,10 @@ impl<'a> Facts<'a> {
 
     /// States what a block's own instructions make of registers that other blocks take.
     pub fn make_all(&mut self, index: usize) -> Result<(), AllocError> {
-        for step in steps_at(self.function, index) {
-            self.make(index, &step.instruction)?;
+        if let Some(block) = block_at(self.function, index) {
+            for step in block.steps.as_slice() {
+                self.make(index, &step.instruction)?;
+            }
         }
         Ok(())
     }
@@ -178,20 +161,18 @@ impl<'a> Facts<'a> {
         }
     }
 
-    /// States what the steps show.
-    fn show(&mut self, steps: &'a [Step]) -> Result<(), AllocError> {
-        for step in steps {
-            self.state(step.shows.as_slice())?;
-        }
-        Ok(())
-    }
-
     /// States what a block adds on one of its edges: its `shows`, and the outcome of its branch.
     pub fn pass(&mut self, edge: Edge<'a>) -> Result<(), AllocError> {
-        let steps = steps_at(self.function, edge.from);
-        self.show(steps)?;
-        self.state(shows_at_end(self.function, edge.from))?;
-        self.branch(steps, edge.way)
+        let Some(block) = block_at(self.function, edge.from) else {
+            return Ok(());
+        };
+        for step in block.steps.as_slice() {
+            self.state(step.shows.as_slice())?;
+        }
+        if let Some(ending) = &block.ending {
+            self.state(ending.shows.as_slice())?;
+        }
+        self.branch(block.steps.as_slice(), edge.way)
     }
 }
 
@@ -207,17 +188,6 @@ fn order_of(predicate: Predicate, holds: bool, is_turned: bool) -> Option<bool> 
         Predicate::NotEqual if !holds => Some(false),
         _ => None,
     }
-}
-
-/// What a block shows at its end.
-fn shows_at_end(function: &Function, block: usize) -> &[Inequality] {
-    let blocks = function.blocks.as_slice();
-    if block < blocks.len() {
-        if let Some(ending) = &blocks[block].ending {
-            return ending.shows.as_slice();
-        }
-    }
-    &[]
 }
 
 /// Whether an instruction makes its sum or product as it is, without a remainder by the width.

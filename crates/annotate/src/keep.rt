@@ -4,7 +4,7 @@ use crate::edge::{Edge, defines, edges_of};
 use crate::fact::Facts;
 use crate::sum::Sum;
 use std::alloc::{AllocError, Global};
-use syntax::{Block, Function, Inequality};
+use syntax::{Block, Function};
 
 /// The facts of a function, and which of them hold where.
 #[derive(Drop)]
@@ -23,92 +23,47 @@ pub struct Known<'a> {
     marks: Vec<Vec<bool>>,
 }
 
-fn has(numbers: &[usize], number: usize) -> bool {
-    for other in numbers {
-        if *other == number {
-            return true;
+/// Whether a row of numbers has this one; a row that is not there has none.
+fn row_has(rows: &[Vec<usize>], row: usize, number: usize) -> bool {
+    if row < rows.len() {
+        for other in rows[row].as_slice() {
+            if *other == number {
+                return true;
+            }
         }
     }
     false
 }
 
-/// Whether a row of numbers has this one; a row that is not there has none.
-fn row_has(rows: &[Vec<usize>], row: usize, number: usize) -> bool {
-    row < rows.len() && has(rows[row].as_slice(), number)
-}
-
-/// What a block's head keeps.
-fn keeps_at(function: &Function, block: usize) -> &[Inequality] {
-    let blocks = function.blocks.as_slice();
-    if block < blocks.len() {
-        blocks[block].notes.keeps.as_slice()
-    } else {
-        &[]
-    }
-}
-
 impl<'a> Known<'a> {
-    fn new(alloc: Global, function: &'a Function, edges: Vec<Edge<'a>>) -> Known<'a> {
-        Known {
-            alloc,
-            function,
-            edges,
-            facts: Facts::new(alloc, function),
-            given: Vec::new(alloc),
-            added: Vec::new(alloc),
-            made: Vec::new(alloc),
-            marks: Vec::new(alloc),
-        }
-    }
-
-    /// States what a block's head says; at the entry what the function asks of its parameters too.
-    fn give(&mut self, block: usize) -> Result<(), AllocError> {
-        if block == 0 {
-            self.facts
-                .state(self.function.notes.requirements.as_slice())?;
-        }
-        self.facts.state(keeps_at(self.function, block))?;
-        let given = self.facts.take();
-        self.given.push(given)?;
-        Ok(())
-    }
-
-    /// States what the edge of this number adds.
-    fn add(&mut self, number: usize) -> Result<(), AllocError> {
-        if number < self.edges.len() {
-            let edge = self.edges[number];
-            self.facts.pass(edge)?;
-        }
-        let added = self.facts.take();
-        self.added.push(added)?;
-        Ok(())
-    }
-
-    /// States what the instructions of a block make.
-    fn make(&mut self, block: usize) -> Result<(), AllocError> {
-        self.facts.make_all(block)?;
-        let made = self.facts.take();
-        self.made.push(made)?;
-        Ok(())
-    }
-
+    /// States what the blocks' heads say; at the entry what the function asks of its parameters too.
     fn give_all(&mut self) -> Result<(), AllocError> {
-        for block in 0..self.function.blocks.len() {
-            self.give(block)?;
+        let function = self.function;
+        self.facts.state(function.notes.requirements.as_slice())?;
+        for block in function.blocks.as_slice() {
+            self.facts.state(block.notes.keeps.as_slice())?;
+            let given = self.facts.take();
+            self.given.push(given)?;
         }
         Ok(())
     }
 
+    /// States what the edges add.
     fn add_all(&mut self) -> Result<(), AllocError> {
-        for number in 0..self.edges.len() {
-            self.add(number)?;
+        for edge in &self.edges {
+            self.facts.pass(*edge)?;
+            let added = self.facts.take();
+            self.added.push(added)?;
         }
         Ok(())
     }
 
+    /// States what the instructions of the blocks make.
     fn make_all(&mut self) -> Result<(), AllocError> {
         for block in 0..self.function.blocks.len() {
-            self.make(block)?;
+            self.facts.make_all(block)?;
+            let made = self.facts.take();
+            self.made.push(made)?;
         }
         Ok(())
     }
@@ -126,18 +81,15 @@ impl<'a> Known<'a> {
         fact < marks.len() && marks[fact]
     }
 
-    /// Whether the edge of this number brings the fact to its target.
-    fn is_along(&self, number: usize, from: usize, fact: usize) -> bool {
-        self.is_known(from, fact)
-            || row_has(self.added.as_slice(), number, fact)
-            || row_has(self.made.as_slice(), from, fact)
-    }
-
     /// Whether another fact that is known at the block says more of the same registers with the same coefficients.
     pub fn is_weaker(&self, block: usize, fact: &Sum<'a>) -> bool {
         for number in 0..self.facts.sums.len() {
-            if self.is_known(block, number) && is_above(fact, &self.facts.sums[number]) {
-                return true;
+            if self.is_known(block, number) {
+                if let Some(apart) = fact.number_with(&self.facts.sums[number], -1) {
+                    if apart > 0 {
+                        return true;
+                    }
+                }
             }
         }
         false
@@ -206,7 +158,11 @@ impl<'a> Known<'a> {
         for number in 0..self.edges.len() {
             if self.edges[number].to == block {
                 is_reached = true;
-                if !self.is_along(number, self.edges[number].from, fact) {
+                let from = self.edges[number].from;
+                let is_along = self.is_known(from, fact)
+                    || row_has(self.added.as_slice(), number, fact)
+                    || row_has(self.made.as_slice(), from, fact);
+                if !is_along {
                     return false;
                 }
             }
@@ -264,25 +220,12 @@ impl<'a> Known<'a> {
         self.add_all()?;
         self.make_all()?;
         self.mark_all()?;
-        self.settle_down();
-        Ok(())
-    }
-
-    /// Takes away all marks that do not stand.
-    fn settle_down(&mut self) {
         for _round in 0..self.function.blocks.len() {
             if !self.settle_all() {
-                return;
+                return Ok(());
             }
         }
-    }
-}
-
-/// Whether one sum is the other and a number above 0.
-fn is_above<'a>(sum: &Sum<'a>, other: &Sum<'a>) -> bool {
-    match sum.number_with(other, -1) {
-        Some(number) => number > 0,
-        None => false,
+        Ok(())
     }
 }
 
@@ -315,7 +258,16 @@ pub fn names_own(block: &Block, sum: &Sum<'_>) -> bool {
 /// anew is not brought along to it.
 pub fn known_of<'a>(alloc: Global, function: &'a Function) -> Result<Known<'a>, AllocError> {
     let edges = edges_of(alloc, function)?;
-    let mut known = Known::new(alloc, function, edges);
+    let mut known = Known {
+        alloc,
+        function,
+        edges,
+        facts: Facts::new(alloc, function),
+        given: Vec::new(alloc),
+        added: Vec::new(alloc),
+        made: Vec::new(alloc),
+        marks: Vec::new(alloc),
+    };
     known.find()?;
     Ok(known)
 }

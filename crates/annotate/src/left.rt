@@ -1,6 +1,6 @@
 //! What a block needs, from its own instructions and from what is left behind it.
 
-use crate::edge::{Edge, Way, phi_value, register_of, steps_at};
+use crate::edge::{Edge, Way, block_at, phi_value, register_of};
 use crate::keep::Known;
 use crate::sum::Sum;
 use lists::Name;
@@ -33,10 +33,6 @@ fn cost_of(costs: &[(&str, u128)], callee: &str) -> u128 {
     0
 }
 
-fn signed(number: u128) -> i128 {
-    i128::try_from(number).unwrap_or(i128::MAX)
-}
-
 impl<'a> Need<'a> {
     fn none(alloc: Global) -> Need<'a> {
         Need {
@@ -48,10 +44,6 @@ impl<'a> Need<'a> {
     fn add(&mut self, other: &Need<'a>) -> Result<(), AllocError> {
         self.calls.add(&other.calls, 1)?;
         self.instructions.add(&other.instructions, 1)
-    }
-
-    fn is_form(&self) -> bool {
-        self.calls.is_form() && self.instructions.is_form()
     }
 
     /// Makes each of its sums the greater one of it and the other's, as far as that is known at the block.
@@ -66,42 +58,25 @@ impl<'a> Need<'a> {
         Ok(())
     }
 
-    /// Adds what an instruction does.
-    fn add_work(&mut self, instruction: &Instruction, own: &Name, costs: &[(&str, u128)]) {
-        self.instructions.add_number(1);
-        if let Instruction::Call { callee, .. } = instruction {
-            if callee.is_same(own) {
-                self.calls.add_number(1);
-            } else {
-                let cost = signed(cost_of(costs, callee.as_str()));
-                self.instructions.add_number(cost);
-            }
-        }
-    }
-
     /// Adds what the instructions of a block do, and its terminator.
     fn add_steps(&mut self, steps: &[Step], own: &Name, costs: &[(&str, u128)]) {
         self.instructions.add_number(1);
         for step in steps {
-            self.add_work(&step.instruction, own, costs);
+            self.instructions.add_number(1);
+            if let Instruction::Call { callee, .. } = &step.instruction {
+                if callee.is_same(own) {
+                    self.calls.add_number(1);
+                } else {
+                    let cost = cost_of(costs, callee.as_str());
+                    self.instructions
+                        .add_number(i128::try_from(cost).unwrap_or(i128::MAX));
+                }
+            }
         }
     }
 }
 
-/// Adds a term of a sum at a block's start, with what its phis take on an edge from a block of this label put in.
-fn move_term<'a>(
-    moved: &mut Sum<'a>,
-    name: &'a str,
-    coefficient: i128,
-    label: &Name,
-    phis: &'a [Phi],
-) -> Result<(), AllocError> {
-    match phi_value(phis, name, label) {
-        Some(value) => moved.add_operand(value, coefficient),
-        None => moved.add_term(name, coefficient),
-    }
-}
-
+/// Adds the terms of a sum at a block's start, with what its phis take on an edge from a block of this label put in.
 fn move_terms<'a>(
     moved: &mut Sum<'a>,
     sum: &Sum<'a>,
@@ -110,7 +85,10 @@ fn move_terms<'a>(
 ) -> Result<(), AllocError> {
     for (name, coefficient) in &sum.terms {
         if *coefficient != 0 {
-            move_term(moved, name, *coefficient, label, phis)?;
+            match phi_value(phis, name, label) {
+                Some(value) => moved.add_operand(value, *coefficient)?,
+                None => moved.add_term(name, *coefficient)?,
+            }
         }
     }
     Ok(())
@@ -123,38 +101,19 @@ fn put_in<'a>(
     instruction: &'a Instruction,
 ) -> Result<bool, AllocError> {
     match register_of(instruction) {
-        Some(name) if sum.has(name) => put_definition(alloc, sum, name, instruction),
+        Some(name) if sum.has(name) => match definition_of(alloc, instruction)? {
+            Some(value) => {
+                sum.put(name, &value)?;
+                Ok(true)
+            }
+            None => Ok(false),
+        },
         _ => Ok(true),
     }
 }
 
-fn put_definition<'a>(
-    alloc: Global,
-    sum: &mut Sum<'a>,
-    name: &str,
-    instruction: &'a Instruction,
-) -> Result<bool, AllocError> {
-    match definition_of(alloc, instruction)? {
-        Some(value) => {
-            sum.put(name, &value)?;
-            Ok(true)
-        }
-        None => Ok(false),
-    }
-}
-
-/// Makes a sum at the end of a block one at its start: what the instructions define is replaced by what it is made of. Whether it is still
-/// a sum.
-fn draw_back<'a>(alloc: Global, sum: &mut Sum<'a>, steps: &'a [Step]) -> Result<bool, AllocError> {
-    for index in (0..steps.len()).rev() {
-        if !put_in(alloc, sum, &steps[index].instruction)? {
-            return Ok(false);
-        }
-    }
-    Ok(true)
-}
-
-/// Adds to nothing a sum at a block's start, as it is at the start of another from which an edge leads there. Whether it is still a sum.
+/// Adds to nothing a sum at a block's start, as it is at the start of another from which an edge leads there: what that block's
+/// instructions define is replaced by what it is made of. Whether it is still a sum.
 fn add_along<'a>(
     alloc: Global,
     moved: &mut Sum<'a>,
@@ -164,7 +123,13 @@ fn add_along<'a>(
 ) -> Result<bool, AllocError> {
     moved.add_number(sum.constant);
     move_terms(moved, sum, &from.label, phis)?;
-    draw_back(alloc, moved, from.steps.as_slice())
+    let steps = from.steps.as_slice();
+    for index in (0..steps.len()).rev() {
+        if !put_in(alloc, moved, &steps[index].instruction)? {
+            return Ok(false);
+        }
+    }
+    Ok(true)
 }
 
 /// What a block needs that has these phis, at the start of another from which an edge leads there.
@@ -232,11 +197,15 @@ impl<'a> Finder<'_, 'a> {
 
     /// What a block needs. None where that is not known, or no form of its start's registers.
     fn need(&self, block: usize) -> Result<Option<Need<'a>>, AllocError> {
+        let function = self.known.function;
+        let Some(own) = block_at(function, block) else {
+            return Ok(None);
+        };
         let mut need = Need::none(self.known.alloc);
         let is_known = self.join_all(block, &mut need)?;
-        let function = self.known.function;
-        need.add_steps(steps_at(function, block), &function.name, self.costs);
-        Ok(if is_known && need.is_form() {
+        need.add_steps(own.steps.as_slice(), &function.name, self.costs);
+        let is_form = need.calls.is_form() && need.instructions.is_form();
+        Ok(if is_known && is_form {
             Some(need)
         } else {
             None
@@ -265,16 +234,6 @@ impl<'a> Finder<'_, 'a> {
         Ok(is_new)
     }
 
-    /// Finds what follows from the ends back.
-    fn draw_down(&mut self) -> Result<(), AllocError> {
-        for _round in 0..self.lefts.len() {
-            if !self.draw_all()? {
-                return Ok(());
-            }
-        }
-        Ok(())
-    }
-
     /// Begins with what the lines of the blocks say.
     fn begin(&mut self) -> Result<(), AllocError> {
         for block in self.known.function.blocks.as_slice() {
@@ -299,36 +258,27 @@ fn times_of(operator: BinaryOperator, right: &Operand) -> Option<(i128, i128)> {
     }
 }
 
-/// The sum that an operator makes; none where it makes no sum.
-fn combined<'a>(
+/// The sum that an instruction makes; none where it makes no sum.
+pub fn definition_of<'a>(
     alloc: Global,
-    operator: BinaryOperator,
-    left: &'a Operand,
-    right: &'a Operand,
+    instruction: &'a Instruction,
 ) -> Result<Option<Sum<'a>>, AllocError> {
-    let Some((of_left, of_right)) = times_of(operator, right) else {
+    let Instruction::Binary {
+        operator,
+        left,
+        right,
+        ..
+    } = instruction
+    else {
+        return Ok(None);
+    };
+    let Some((of_left, of_right)) = times_of(*operator, right) else {
         return Ok(None);
     };
     let mut sum = Sum::number(alloc, 0);
     sum.add_operand(left, of_left)?;
     sum.add_operand(right, of_right)?;
     Ok(Some(sum))
-}
-
-/// The sum that an instruction makes; none where it makes no sum.
-pub fn definition_of<'a>(
-    alloc: Global,
-    instruction: &'a Instruction,
-) -> Result<Option<Sum<'a>>, AllocError> {
-    match instruction {
-        Instruction::Binary {
-            operator,
-            left,
-            right,
-            ..
-        } => combined(alloc, *operator, left, right),
-        _ => Ok(None),
-    }
 }
 
 /// The `left` line of a block, where it has one.
@@ -354,6 +304,10 @@ pub fn needs_of<'a>(
         lefts: Vec::new(known.alloc),
     };
     finder.begin()?;
-    finder.draw_down()?;
+    for _round in 0..finder.lefts.len() {
+        if !finder.draw_all()? {
+            break;
+        }
+    }
     Ok(finder.lefts)
 }

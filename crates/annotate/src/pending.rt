@@ -1,9 +1,8 @@
 //! The zones that children may still touch where a block begins, because they are handed on to it.
 
-use crate::edge::{Edge, Way, edges_of};
+use crate::edge::{Edge, Way, block_at, edges_of};
 use crate::keep::names_own;
 use crate::sum::Sum;
-use lists::Name;
 use std::alloc::{AllocError, Global};
 use syntax::{Address, Block, Form, Function, Pending, Zone};
 
@@ -14,25 +13,19 @@ pub struct Handed<'a> {
     pub zone: &'a Zone,
 }
 
-/// The name of an object, and whether it is a register's.
-fn name_of(object: &Address) -> (&Name, bool) {
-    match object {
-        Address::Register(name) => (name, true),
-        Address::Global(name) => (name, false),
-    }
-}
-
 fn is_same_object(one: &Address, other: &Address) -> bool {
-    let (one, is_register) = name_of(one);
-    let (other, is_other_register) = name_of(other);
-    is_register == is_other_register && one.is_same(other)
+    match (one, other) {
+        (Address::Register(one), Address::Register(other)) => one.is_same(other),
+        (Address::Global(one), Address::Global(other)) => one.is_same(other),
+        _ => false,
+    }
 }
 
 /// Whether two forms are the same number whatever the registers hold.
 fn are_same(alloc: Global, one: &Form, other: &Form) -> Result<bool, AllocError> {
     let mut difference = Sum::of_form(alloc, one)?;
     difference.add_form(other, -1)?;
-    Ok(difference.is_zero())
+    Ok(matches!(difference.as_number(), Some(0)))
 }
 
 /// Whether a form names a register that the block defines.
@@ -42,18 +35,6 @@ fn form_names_own(alloc: Global, block: &Block, form: &Form) -> Result<bool, All
 }
 
 impl<'a> Handed<'a> {
-    /// Whether the block itself says what is pending of the region's object.
-    fn is_told(self, block: &Block) -> bool {
-        for pending in block.notes.pending.as_slice() {
-            if pending.region.as_str() == self.region
-                && is_same_object(&pending.zone.object, &self.zone.object)
-            {
-                return true;
-            }
-        }
-        false
-    }
-
     /// Whether both are of one region and zone.
     fn is_same(self, alloc: Global, other: Handed<'a>) -> Result<bool, AllocError> {
         let one = self.zone;
@@ -73,6 +54,18 @@ impl<'a> Handed<'a> {
             form_names_own(alloc, block, &self.zone.low)?
                 || form_names_own(alloc, block, &self.zone.high)?,
         )
+    }
+
+    /// Whether a block says itself what is pending of the region's object, or a register of the zone is another one there.
+    fn is_kept_out(self, alloc: Global, block: &Block) -> Result<bool, AllocError> {
+        for pending in block.notes.pending.as_slice() {
+            if pending.region.as_str() == self.region
+                && is_same_object(&pending.zone.object, &self.zone.object)
+            {
+                return Ok(true);
+            }
+        }
+        self.is_renamed(alloc, block)
     }
 }
 
@@ -101,7 +94,7 @@ impl<'a> Waiting<'a> {
         if to >= blocks.len() || to >= self.handed.len() {
             return Ok(false);
         }
-        if is_kept_out(self.alloc, &blocks[to], next)?
+        if next.is_kept_out(self.alloc, &blocks[to])?
             || is_put(self.alloc, self.handed[to].as_slice(), next)?
         {
             return Ok(false);
@@ -119,7 +112,9 @@ impl<'a> Waiting<'a> {
     ) -> Result<(), AllocError> {
         for edge in &self.edges {
             if edge.from == from && matches!(edge.way, Way::Detached) {
-                push_foot(along, region, foot_at(self.function, edge.to))?;
+                if let Some(child) = block_at(self.function, edge.to) {
+                    push_foot(along, region, child.notes.foot.as_slice())?;
+                }
             }
         }
         Ok(())
@@ -127,7 +122,9 @@ impl<'a> Waiting<'a> {
 
     /// Adds the zones that go on along an edge.
     fn push_along(&self, along: &mut Vec<Handed<'a>>, edge: Edge<'a>) -> Result<(), AllocError> {
-        push_pending(along, edge.way, pending_at(self.function, edge.from))?;
+        if let Some(from) = block_at(self.function, edge.from) {
+            push_pending(along, edge.way, from.notes.pending.as_slice())?;
+        }
         if edge.from < self.handed.len() {
             push_handed(along, edge.way, self.handed[edge.from].as_slice())?;
         }
@@ -189,11 +186,6 @@ impl<'a> Waiting<'a> {
     }
 }
 
-/// Whether a block says itself what is pending there, or a register of the zone is another one there.
-fn is_kept_out(alloc: Global, block: &Block, next: Handed<'_>) -> Result<bool, AllocError> {
-    Ok(next.is_told(block) || next.is_renamed(alloc, block)?)
-}
-
 fn is_put<'a>(alloc: Global, handed: &[Handed<'a>], next: Handed<'a>) -> Result<bool, AllocError> {
     for other in handed {
         if other.is_same(alloc, next)? {
@@ -201,26 +193,6 @@ fn is_put<'a>(alloc: Global, handed: &[Handed<'a>], next: Handed<'a>) -> Result<
         }
     }
     Ok(false)
-}
-
-/// The zones that a block says are pending where it begins.
-fn pending_at(function: &Function, block: usize) -> &[Pending] {
-    let blocks = function.blocks.as_slice();
-    if block < blocks.len() {
-        blocks[block].notes.pending.as_slice()
-    } else {
-        &[]
-    }
-}
-
-/// The zones of the child that begins at a block.
-fn foot_at(function: &Function, block: usize) -> &[Zone] {
-    let blocks = function.blocks.as_slice();
-    if block < blocks.len() {
-        blocks[block].notes.foot.as_slice()
-    } else {
-        &[]
-    }
 }
 
 fn push_pending<'a>(

@@ -31,12 +31,6 @@ struct Draft<'a> {
     costs: Vec<(&'a str, u128)>,
 }
 
-fn push_keep(out: &mut String, fact: &Sum<'_>) -> Result<(), AllocError> {
-    out.push_str("  ;! keeps ")?;
-    fact.spell_inequality(out)?;
-    out.push_str("\n")
-}
-
 /// Whether a fact is known at a block, but not by its head or by a fact that says more.
 fn is_kept<'a>(known: &Known<'a>, index: usize, number: usize, fact: &Sum<'a>) -> bool {
     known.is_known(index, number)
@@ -56,7 +50,9 @@ fn push_keeps(
     for number in 0..known.facts.sums.len() {
         let fact = &known.facts.sums[number];
         if lines < MOST_LINES && is_kept(known, index, number, fact) {
-            push_keep(out, fact)?;
+            out.push_str("  ;! keeps ")?;
+            fact.spell_inequality(out)?;
+            out.push_str("\n")?;
             lines = lines.saturating_add(1);
         }
     }
@@ -91,12 +87,6 @@ fn push_left(out: &mut String, block: &Block, need: &Need<'_>) -> Result<(), All
     out.push_str(" ")?;
     need.instructions.spell(out)?;
     out.push_str("\n")
-}
-
-fn push_budget(out: &mut String, total: Total) -> Result<(), AllocError> {
-    let calls = total.self_calls;
-    let instructions = total.instructions;
-    write!(out, "  ;! budget {calls} {instructions}\n")
 }
 
 /// Adds the lines for the head of a block. What an entry knows stands at the function's head already.
@@ -141,8 +131,10 @@ impl<'a> Draft<'a> {
     }
 
     fn propose_total(&mut self, behind: u32, total: Total) -> Result<(), AllocError> {
+        let calls = total.self_calls;
+        let instructions = total.instructions;
         let mut line = String::new(self.alloc);
-        push_budget(&mut line, total)?;
+        write!(line, "  ;! budget {calls} {instructions}\n")?;
         self.propose(behind, line)
     }
 
@@ -161,35 +153,21 @@ impl<'a> Draft<'a> {
         Ok(total)
     }
 
-    /// The budget of a function: what its text gives, else what is proposed.
-    fn budget(
-        &mut self,
-        function: &'a Function,
-        entry: &Option<Need<'a>>,
-    ) -> Result<Option<Total>, AllocError> {
-        let total = given(function);
-        match entry {
-            Some(entry) if total.is_none() => self.propose_budget(function, entry),
-            _ => Ok(total),
-        }
-    }
-
     /// Proposes the budget, where the function has none, and keeps what calls of it cost.
     fn add_budget(
         &mut self,
         function: &'a Function,
         entry: &Option<Need<'a>>,
     ) -> Result<(), AllocError> {
-        if let Some(total) = self.budget(function, entry)? {
+        let total = match (given(function), entry) {
+            (None, Some(entry)) => self.propose_budget(function, entry)?,
+            (total, _) => total,
+        };
+        if let Some(total) = total {
             let cost = cost_of(total, function.notes.measure.bound);
             self.costs.push((function.name.as_str(), cost))?;
         }
         Ok(())
-    }
-
-    fn add_function(&mut self, function: &'a Function) -> Result<(), AllocError> {
-        let known = known_of(self.alloc, function)?;
-        self.add_known(&known)
     }
 
     /// Proposes the lines for a function in which this is known.
@@ -220,34 +198,26 @@ impl<'a> Draft<'a> {
         let blocks = known.function.blocks.as_slice();
         for index in 0..blocks.len() {
             if index < handed.len() {
-                self.add_head(
+                let block = &blocks[index];
+                let mut lines = String::new(self.alloc);
+                push_head(
+                    &mut lines,
                     known,
                     handed[index].as_slice(),
                     needs,
                     index,
-                    &blocks[index],
+                    block,
                 )?;
+                self.propose(block.line, lines)?;
             }
         }
         Ok(())
     }
 
-    fn add_head(
-        &mut self,
-        known: &Known<'a>,
-        handed: &[Handed<'a>],
-        needs: &[Option<Need<'a>>],
-        index: usize,
-        block: &Block,
-    ) -> Result<(), AllocError> {
-        let mut lines = String::new(self.alloc);
-        push_head(&mut lines, known, handed, needs, index, block)?;
-        self.propose(block.line, lines)
-    }
-
     fn add_functions(&mut self, functions: &'a [Function]) -> Result<(), AllocError> {
         for function in functions {
-            self.add_function(function)?;
+            let known = known_of(self.alloc, function)?;
+            self.add_known(&known)?;
         }
         Ok(())
     }

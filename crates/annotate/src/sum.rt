@@ -34,30 +34,16 @@ impl<'a> Sum<'a> {
         Ok(sum)
     }
 
-    pub fn of_operand(alloc: Global, operand: &'a Operand) -> Result<Sum<'a>, AllocError> {
-        let mut sum = Sum::number(alloc, 0);
-        sum.add_operand(operand, 1)?;
-        Ok(sum)
-    }
-
     /// What an inequality says is at least 0.
     pub fn of_inequality(alloc: Global, inequality: &'a Inequality) -> Result<Sum<'a>, AllocError> {
+        let (greater, lesser) = match inequality.relation {
+            Relation::AtMost => (&inequality.right, &inequality.left),
+            Relation::AtLeast => (&inequality.left, &inequality.right),
+        };
         let mut sum = Sum::number(alloc, 0);
-        sum.add_inequality(inequality)?;
+        sum.add_form(greater, 1)?;
+        sum.add_form(lesser, -1)?;
         Ok(sum)
-    }
-
-    fn add_inequality(&mut self, inequality: &'a Inequality) -> Result<(), AllocError> {
-        match inequality.relation {
-            Relation::AtMost => {
-                self.add_form(&inequality.right, 1)?;
-                self.add_form(&inequality.left, -1)
-            }
-            Relation::AtLeast => {
-                self.add_form(&inequality.left, 1)?;
-                self.add_form(&inequality.right, -1)
-            }
-        }
     }
 
     pub fn add_number(&mut self, number: i128) {
@@ -160,13 +146,6 @@ impl<'a> Sum<'a> {
         }
     }
 
-    pub fn is_zero(&self) -> bool {
-        match self.as_number() {
-            Some(number) => number == 0,
-            None => false,
-        }
-    }
-
     /// The number that the sum and so many times another one are, not 0; none where a register stands in that.
     pub fn number_with(&self, other: &Sum<'a>, times: i128) -> Option<i128> {
         if self.has_all(other) && self.is_cancelled(other, times) {
@@ -200,14 +179,6 @@ impl<'a> Sum<'a> {
         true
     }
 
-    /// Whether both are the same number whatever the registers hold.
-    pub fn is_same(&self, other: &Sum<'a>) -> bool {
-        match self.number_with(other, -1) {
-            Some(number) => number == 0,
-            None => false,
-        }
-    }
-
     /// Takes the register out, and another sum in its place.
     pub fn put(&mut self, name: &str, value: &Sum<'a>) -> Result<(), AllocError> {
         let times = self.coefficient(name);
@@ -219,30 +190,18 @@ impl<'a> Sum<'a> {
         self.add(value, times)
     }
 
-    /// How many registers stand in the sum.
-    fn size(&self) -> usize {
+    /// Whether a form may be as long and have numbers as great.
+    pub fn is_form(&self) -> bool {
         let mut size = 0usize;
-        for term in &self.terms {
-            if term.1 != 0 {
-                size = size.saturating_add(1);
-            }
-        }
-        size
-    }
-
-    /// Whether a form may have coefficients as great.
-    fn is_light(&self) -> bool {
         for term in &self.terms {
             if !is_within(term.1, MOST_COEFFICIENT) {
                 return false;
             }
+            if term.1 != 0 {
+                size = size.saturating_add(1);
+            }
         }
-        true
-    }
-
-    /// Whether a form may be as long and have numbers as great.
-    pub fn is_form(&self) -> bool {
-        self.size() <= MOST_TERMS && self.is_light() && is_within(self.constant, MOST_CONSTANT)
+        size <= MOST_TERMS && is_within(self.constant, MOST_CONSTANT)
     }
 
     /// The terms in the order of their names.
@@ -297,15 +256,14 @@ fn has_minus(terms: &[(&str, i128)]) -> bool {
 
 /// Both sides with the relation between them; what has registers stands first.
 fn spell_sides(out: &mut String, terms: &[(&str, i128)], constant: i128) -> Result<(), AllocError> {
-    if has_minus(terms) {
-        spell_side(out, terms, Side::Lesser, constant)?;
-        out.push_str(" <= ")?;
-        spell_side(out, terms, Side::Greater, constant)
+    let (first, relation, second) = if has_minus(terms) {
+        (Side::Lesser, " <= ", Side::Greater)
     } else {
-        spell_side(out, terms, Side::Greater, constant)?;
-        out.push_str(" >= ")?;
-        spell_side(out, terms, Side::Lesser, constant)
-    }
+        (Side::Greater, " >= ", Side::Lesser)
+    };
+    spell_side(out, terms, first, constant)?;
+    out.push_str(relation)?;
+    spell_side(out, terms, second, constant)
 }
 
 /// The part of terms, which are in the order of their names, and of a number.

@@ -41,7 +41,7 @@ Example:
 Statuses:
   as those of run --help";
 
-const VERBS: [Verb; 9] = [
+static VERBS: [Verb; 9] = [
     Verb::Verify,
     Verb::Explain,
     Verb::Serial,
@@ -55,12 +55,15 @@ const VERBS: [Verb; 9] = [
 
 /// Whether a text is a name by the rules of the module's text, without its sigil.
 pub fn is_name(text: &str) -> bool {
-    match text.as_bytes() {
-        [] => false,
-        [first, rest @ ..] => {
-            begins_name(*first) && rest.iter().all(|b| begins_name(*b) || b.is_ascii_digit())
+    let [first, rest @ ..] = text.as_bytes() else {
+        return false;
+    };
+    for byte in rest {
+        if !begins_name(*byte) && !byte.is_ascii_digit() {
+            return false;
         }
     }
+    begins_name(*first)
 }
 
 fn begins_name(byte: u8) -> bool {
@@ -159,21 +162,14 @@ fn workers_of(alloc: Global, matches: &ArgMatches<'_>) -> Result<usize, WordsFau
     }
 }
 
-/// Reads `@f`.
-fn function_word(alloc: Global, text: &str) -> Result<Option<String>, AllocError> {
+/// Reads `@f`, where a table is asked for.
+fn table_of(alloc: Global, matches: &ArgMatches<'_>) -> Result<Option<String>, WordsFault> {
+    let Some(text) = matches.get_str("table") else {
+        return Ok(None);
+    };
     match text.strip_prefix("@") {
         Some(name) if is_name(name) => Ok(Some(String::from_str(alloc, name)?)),
-        _ => Ok(None),
-    }
-}
-
-fn table_of(alloc: Global, matches: &ArgMatches<'_>) -> Result<Option<String>, WordsFault> {
-    match matches.get_str("table") {
-        None => Ok(None),
-        Some(text) => match function_word(alloc, text)? {
-            Some(name) => Ok(Some(name)),
-            None => Err(wrong_value(alloc, "--table <@f>", text)),
-        },
+        _ => Err(wrong_value(alloc, "--table <@f>", text)),
     }
 }
 
@@ -295,42 +291,33 @@ const PICTURE: Part = Part {
 };
 
 /// The words and options of the commands, as their help lists them; a command that only reads a module takes its file alone.
-const MODULE_PARTS: [Part; 1] = [FILE];
+static MODULE_PARTS: [Part; 1] = [FILE];
 
-const VERIFY_PARTS: [Part; 2] = [FILE, TABLE];
+static VERIFY_PARTS: [Part; 2] = [FILE, TABLE];
 
-const EXPLAIN_PARTS: [Part; 1] = [FILE_OR_NUMBER];
+static EXPLAIN_PARTS: [Part; 1] = [FILE_OR_NUMBER];
 
-const SERIAL_PARTS: [Part; 4] = [FILE, ARG, SET, SHOW];
+static SERIAL_PARTS: [Part; 4] = [FILE, ARG, SET, SHOW];
 
-const RUN_PARTS: [Part; 7] = [FILE, ARG, SET, SHOW, WORKERS, SEED, SAVE];
+static RUN_PARTS: [Part; 7] = [FILE, ARG, SET, SHOW, WORKERS, SEED, SAVE];
 
-const REPLAY_PARTS: [Part; 8] = [FILE, ARG, SET, SHOW, SCHEDULE, WORKERS, TRACE, PICTURE];
+static REPLAY_PARTS: [Part; 8] = [FILE, ARG, SET, SHOW, SCHEDULE, WORKERS, TRACE, PICTURE];
 
-const DEBUG_PARTS: [Part; 6] = [FILE, ARG, SET, SHOW, SCHEDULE, WORKERS];
+static DEBUG_PARTS: [Part; 6] = [FILE, ARG, SET, SHOW, SCHEDULE, WORKERS];
 
 /// An option with a value.
-fn option<'a>(arg: Arg<'a>, part: &Part) -> Arg<'a> {
-    arg.long(part.name)
-        .value_name(part.value)
-        .action(ArgAction::Set)
-}
-
-/// An option with a value, which may be given more than once.
-fn repeated<'a>(arg: Arg<'a>, part: &Part) -> Arg<'a> {
-    arg.long(part.name)
-        .value_name(part.value)
-        .action(ArgAction::Append)
+fn option<'a>(arg: Arg<'a>, part: &Part, action: ArgAction) -> Arg<'a> {
+    arg.long(part.name).value_name(part.value).action(action)
 }
 
 fn arg_of<'a>(alloc: Global, part: &Part) -> Result<Arg<'a>, AllocError> {
     let arg = Arg::new(alloc, part.name).help(part.help);
     match part.given {
         Given::Word => Ok(arg.value_name(part.value).required(true)),
-        Given::Option => Ok(option(arg, part)),
-        Given::Required => Ok(option(arg, part).required(true)),
-        Given::Repeated => Ok(repeated(arg, part)),
-        Given::With(other) => option(arg, part).requires_arg(other),
+        Given::Option => Ok(option(arg, part, ArgAction::Set)),
+        Given::Required => Ok(option(arg, part, ArgAction::Set).required(true)),
+        Given::Repeated => Ok(option(arg, part, ArgAction::Append)),
+        Given::With(other) => option(arg, part, ArgAction::Set).requires_arg(other),
         Given::Flag => Ok(arg.long(part.name).action(ArgAction::SetTrue)),
     }
 }
@@ -343,80 +330,52 @@ fn args_for<'a>(alloc: Global, parts: &[Part]) -> Result<Vec<Arg<'a>>, AllocErro
     Ok(args)
 }
 
-/// A command of these words and options; its help ends by `ending`.
-fn command_with<'a>(
-    alloc: Global,
-    name: &'a str,
-    about: &'a str,
-    ending: &'a str,
-    parts: &[Part],
-) -> Result<Command<'a>, AllocError> {
-    let args = args_for(alloc, parts)?;
-    Command::new(alloc, name)
-        .about(about)
-        .after_help(ending)
-        .args(args)
+/// What the help tells of a verb first.
+fn about_of(verb: Verb) -> &'static str {
+    match verb {
+        Verb::Verify => "verifies a module, and tells its budget and depth",
+        Verb::Explain => {
+            "says why a module is refused and what was to be shown, or what an accepted one could do without; or prints a rule"
+        }
+        Verb::Serial => "runs the serial elision of a module",
+        Verb::Run => "runs a module on workers",
+        Verb::Replay => "runs a module by a schedule",
+        Verb::Debug => {
+            "goes forwards and backwards through a schedule, by commands from standard input"
+        }
+        Verb::Print => "prints the canonical text of a module",
+        Verb::Show => "tells what the verifier knows of each block of a module",
+        Verb::Annotate => "prints a module with annotations put in that follow from others",
+    }
 }
 
-fn verify_command<'a>(alloc: Global) -> Result<Command<'a>, AllocError> {
-    let about = "verifies a module, and tells its budget and depth";
-    command_with(alloc, "verify", about, STATUSES, &VERIFY_PARTS)
-}
-
-fn explain_command<'a>(alloc: Global) -> Result<Command<'a>, AllocError> {
-    let about =
-        "says why a module is refused and what was to be shown, or what an accepted one could do without; or prints a rule";
-    command_with(alloc, "explain", about, STATUSES, &EXPLAIN_PARTS)
-}
-
-fn serial_command<'a>(alloc: Global) -> Result<Command<'a>, AllocError> {
-    let about = "runs the serial elision of a module";
-    command_with(alloc, "serial", about, STATUSES, &SERIAL_PARTS)
-}
-
-fn run_command<'a>(alloc: Global) -> Result<Command<'a>, AllocError> {
-    let about = "runs a module on workers";
-    command_with(alloc, "run", about, STATUSES, &RUN_PARTS)
-}
-
-fn replay_command<'a>(alloc: Global) -> Result<Command<'a>, AllocError> {
-    let about = "runs a module by a schedule";
-    command_with(alloc, "replay", about, STATUSES, &REPLAY_PARTS)
-}
-
-fn debug_command<'a>(alloc: Global) -> Result<Command<'a>, AllocError> {
-    let about = "goes forwards and backwards through a schedule, by commands from standard input";
-    command_with(alloc, "debug", about, DIALOGUE, &DEBUG_PARTS)
-}
-
-fn print_command<'a>(alloc: Global) -> Result<Command<'a>, AllocError> {
-    let about = "prints the canonical text of a module";
-    command_with(alloc, "print", about, STATUSES, &MODULE_PARTS)
-}
-
-fn show_command<'a>(alloc: Global) -> Result<Command<'a>, AllocError> {
-    let about = "tells what the verifier knows of each block of a module";
-    command_with(alloc, "show", about, STATUSES, &MODULE_PARTS)
-}
-
-fn annotate_command<'a>(alloc: Global) -> Result<Command<'a>, AllocError> {
-    let about = "prints a module with annotations put in that follow from others";
-    command_with(alloc, "annotate", about, STATUSES, &MODULE_PARTS)
+/// The words and options of a verb.
+fn parts_of(verb: Verb) -> &'static [Part] {
+    match verb {
+        Verb::Verify => &VERIFY_PARTS,
+        Verb::Explain => &EXPLAIN_PARTS,
+        Verb::Serial => &SERIAL_PARTS,
+        Verb::Run => &RUN_PARTS,
+        Verb::Replay => &REPLAY_PARTS,
+        Verb::Debug => &DEBUG_PARTS,
+        Verb::Print | Verb::Show | Verb::Annotate => &MODULE_PARTS,
+    }
 }
 
 /// The command of a verb.
 fn verb_command<'a>(alloc: Global, verb: Verb) -> Result<Command<'a>, AllocError> {
-    match verb {
-        Verb::Verify => verify_command(alloc),
-        Verb::Explain => explain_command(alloc),
-        Verb::Serial => serial_command(alloc),
-        Verb::Run => run_command(alloc),
-        Verb::Replay => replay_command(alloc),
-        Verb::Debug => debug_command(alloc),
-        Verb::Print => print_command(alloc),
-        Verb::Show => show_command(alloc),
-        Verb::Annotate => annotate_command(alloc),
-    }
+    let args = args_for(alloc, parts_of(verb))?;
+    let name: &'a str = verb.word();
+    let about: &'a str = about_of(verb);
+    let ending: &'a str = if verb == Verb::Debug {
+        DIALOGUE
+    } else {
+        STATUSES
+    };
+    Command::new(alloc, name)
+        .about(about)
+        .after_help(ending)
+        .args(args)
 }
 
 /// The commands of the verbs, in their order.
@@ -437,33 +396,37 @@ fn command<'a>(alloc: Global) -> Result<Command<'a>, AllocError> {
         .subcommands(commands)
 }
 
-fn schedule_of(alloc: Global, matches: &ArgMatches<'_>) -> Result<String, WordsFault> {
-    match matches.get_str("schedule") {
-        Some(schedule) => Ok(String::from_str(alloc, schedule)?),
-        None => Err(wrong_value(alloc, "<SCHEDULE>", "")),
+/// The word of this name, which the help shows as `shown`.
+fn word_named(
+    alloc: Global,
+    matches: &ArgMatches<'_>,
+    name: &str,
+    shown: &str,
+) -> Result<String, WordsFault> {
+    match matches.get_str(name) {
+        Some(word) => Ok(String::from_str(alloc, word)?),
+        None => Err(wrong_value(alloc, shown, "")),
     }
 }
 
-fn file_of(alloc: Global, matches: &ArgMatches<'_>) -> Result<String, WordsFault> {
-    match matches.get_str("file") {
-        Some(file) => Ok(String::from_str(alloc, file)?),
-        None => Err(wrong_value(alloc, "<FILE>", "")),
+fn is_number(word: &str) -> bool {
+    for byte in word.as_bytes() {
+        if !byte.is_ascii_digit() {
+            return false;
+        }
     }
-}
-
-fn no_rule(alloc: Global, word: &str) -> WordsFault {
-    fault_with(format!(in alloc; "error: no rule has the number {word}\n"))
+    true
 }
 
 /// The number of a rule, where the word is a number; a fault where no rule has it.
 fn rule_of(alloc: Global, word: &str) -> Result<Option<u16>, WordsFault> {
-    if !word.bytes().all(|byte| byte.is_ascii_digit()) {
+    if !is_number(word) {
         return Ok(None);
     }
     let number = word.parse::<u16>().unwrap_or(0);
     match rule_text(alloc, number) {
         Ok(Some(_)) => Ok(Some(number)),
-        Ok(None) => Err(no_rule(alloc, word)),
+        Ok(None) => Err(fault_with(format!(in alloc; "error: no rule has the number {word}\n"))),
         Err(_) => Err(WordsFault::out_of_memory()),
     }
 }
@@ -528,7 +491,7 @@ fn read_scheduled(
     ensures { request.new.verb ≡ request.old.verb }
 {
     read_running(alloc, matches, request)?;
-    request.schedule = Some(schedule_of(alloc, matches)?);
+    request.schedule = Some(word_named(alloc, matches, "schedule", "<SCHEDULE>")?);
     Ok(())
 }
 
@@ -582,7 +545,8 @@ fn verb_of(word: &str) -> Option<Verb>
 fn request_for(alloc: Global, verb: Verb, matches: &ArgMatches<'_>) -> Result<Request, WordsFault>
     ensures { IfOk result (λ r. r.verb ≡ verb) }
 {
-    let mut request = Request::of_file(alloc, verb, file_of(alloc, matches)?);
+    let file = word_named(alloc, matches, "file", "<FILE>")?;
+    let mut request = Request::of_file(alloc, verb, file);
     read_options(alloc, matches, &mut request)?;
     Ok(request)
 }

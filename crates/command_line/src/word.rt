@@ -23,7 +23,7 @@ fn stand_in(byte: u8) -> char {
 /// The text of a word.
 pub fn text_of(alloc: Global, word: &[u8]) -> Result<String, AllocError> {
     if let Ok(text) = str::from_utf8(word) {
-        if !text.chars().any(is_stand_in) {
+        if !is_raw(text) {
             return String::from_str(alloc, text);
         }
     }
@@ -36,7 +36,12 @@ pub fn text_of(alloc: Global, word: &[u8]) -> Result<String, AllocError> {
 
 /// Whether the word is not its text.
 pub fn is_raw(text: &str) -> bool {
-    text.chars().any(is_stand_in)
+    for c in text.chars() {
+        if is_stand_in(c) {
+            return true;
+        }
+    }
+    false
 }
 
 /// The word of a text.
