@@ -4,6 +4,7 @@
 #![tactic(auto)]
 
 mod foot;
+mod order;
 mod place;
 mod zone;
 

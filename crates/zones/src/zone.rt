@@ -1,13 +1,13 @@
 ghost use Rattle.std.specs.Prelude.{◌≡◌, ◌<◌, IfOk};
 ghost use Rattle.std.specs.List.{list_any};
-ghost use Rattle.zones.specs.Zones.{span, as_written, same_object, mode_covers, modes_agree, between};
-ghost use Rattle.zones.specs.Zones.{shows_order, is_empty, covers, is_apart, conflict, is_covered};
+ghost use Rattle.zones.specs.Zones.{span, as_written, same_object, mode_covers, modes_agree};
+ghost use Rattle.zones.specs.Zones.{is_empty, covers, is_apart, conflict, is_covered};
 
+use crate::order::shows_order;
 use entailment::Known;
-use linear::{Form, side_of};
-use lists::{OutOfMemory, Seq};
+use lists::OutOfMemory;
 use program::{Mode, ObjectName, Zone};
-use ranges::{Move, Sum, push_parts, shows_at};
+use ranges::Move;
 use std::alloc::Global;
 
 /// A zone at a place: the object that it is of there, and the operands that stand for its registers there.
@@ -54,43 +54,6 @@ pub fn modes_agree(left: Mode, right: Mode) -> bool
         | (Mode::Reads, Mode::Writes | Mode::Adds)
         | (Mode::Adds, Mode::Reads | Mode::Writes) => false,
     }
-}
-
-/// high - low, each with the operands of its own zone put in.
-fn between(
-    alloc: Global,
-    for_high: &[Move],
-    high: &Form,
-    for_low: &[Move],
-    low: &Form,
-) -> Result<Sum, OutOfMemory>
-    ensures { IfOk result (λ s. s ≡ between for_high.now high.now for_low.now low.now) }
-{
-    let high = side_of(high);
-    let low = side_of(low);
-    let mut parts = Vec::new(alloc);
-    push_parts(&mut parts, for_high, 1, high.terms)?;
-    push_parts(&mut parts, for_low, -1, low.terms)?;
-    Ok(Sum {
-        constant: high.constant - low.constant,
-        parts: Seq::from_vec(parts),
-    })
-}
-
-/// Whether high >= low is shown.
-#[tactic(auto, unfolding(crate::specs::Zones::shows_order))]
-fn shows_order(
-    alloc: Global,
-    facts: &Known<'_>,
-    for_high: &[Move],
-    high: &Form,
-    for_low: &[Move],
-    low: &Form,
-) -> Result<bool, OutOfMemory>
-    ensures { IfOk result (λ b. b ≡ shows_order facts.now for_high.now high.now for_low.now low.now) }
-{
-    let sum = between(alloc, for_high, high, for_low, low)?;
-    shows_at(alloc, facts, &sum)
 }
 
 /// Whether a zone is shown to have no cell.
