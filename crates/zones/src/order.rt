@@ -1,10 +1,15 @@
-ghost use Rattle.std.specs.Prelude.{◌≡◌, ◌<◌, ◌^◌, IfOk, unsigned_abs};
-ghost use Rattle.ranges.specs.Sums.{start_of, shows_form};
+ghost use Rattle.std.specs.Prelude.{◌≡◌, ◌<◌, ◌^◌, ◌⊎◌, ◌*ℤ◌, pos, negsuc, IfOk, IfSome, Some, unsigned_abs};
+ghost use Rattle.linear.specs.Forms.{AreSmall, constant_form};
+ghost use Rattle.program.specs.declared.instruction.Operand.TheVariants.{Number};
+ghost use Rattle.entailment.specs.Tested.{is_shown};
+ghost use Rattle.ranges.specs.obligations.Inequalities.{operand_for, parts_of};
+ghost use Rattle.ranges.specs.Sums.{with_operand, with_parts, sum_form};
 ghost use Rattle.zones.specs.Zones.{between, shows_order};
 
 use entailment::Known;
-use linear::{Form, side_of};
+use linear::{Form, RegisterId, Term, side_of};
 use lists::{OutOfMemory, Seq};
+use program::Operand;
 use ranges::{Move, Sum, push_parts, shows_at};
 use std::alloc::Global;
 
@@ -29,25 +34,104 @@ fn between(
     })
 }
 
-/// Whether it is shown that a number is at least 0; one past the bounds of a form is not shown. Of a number below 0 only facts that
-/// contradict each other show it.
-fn shows_constant(alloc: Global, facts: &Known<'_>, constant: i128) -> bool
-    ensures { result ≡ shows_form facts.now (start_of constant) }
+/// The number that the moves put in for a register, if they do.
+fn number_for(moves: &[Move], register: RegisterId) -> Option<i64>
+    ensures { IfSome result (λ number. operand_for moves.now register ≡ Number number) }
 {
-    if 1_267_650_600_228_229_401_496_703_205_376 <= constant.unsigned_abs() {
-        return false;
+    for item in moves {
+        if item.register.0 == register.0 {
+            return match item.value {
+                Operand::Number(number) => Some(number),
+                Operand::Register(_) => None,
+            };
+        }
     }
-    if 0 <= constant {
+    None
+}
+
+/// A number times a coefficient.
+fn product(factor: i64, other: i64) -> i128
+    requires { unsigned_abs factor < 2 ^ 24 }
+    ensures value { result ≡ factor *ℤ other }
+    ensures small { unsigned_abs result < 2 ^ 125 }
+{
+    i128::from(factor) * i128::from(other)
+}
+
+/// A number and a multiple of another, within the bounds of a form.
+fn plus_product(number: i128, factor: i64, other: i64) -> Option<i128>
+    requires number { unsigned_abs number < 2 ^ 100 }
+    requires factor { unsigned_abs factor < 2 ^ 24 }
+    ensures made { IfSome result (λ sum. with_operand (constant_form number) factor (Number other) ≡ Some (constant_form sum)) }
+    ensures small { IfSome result (λ sum. unsigned_abs sum < 2 ^ 100) }
+{
+    let sum = product(factor, other) + number;
+    if sum.unsigned_abs() < 1_267_650_600_228_229_401_496_703_205_376 {
+        Some(sum)
+    } else {
+        None
+    }
+}
+
+/// A coefficient, or its opposite.
+fn signed(sign: i64, coefficient: i64) -> i64
+    requires sign { (sign ≡ pos 1) ⊎ (sign ≡ negsuc 0) }
+    requires coefficient { unsigned_abs coefficient < 2 ^ 24 }
+    ensures value { result ≡ sign *ℤ coefficient }
+    ensures small { unsigned_abs result < 2 ^ 24 }
+{
+    sign * coefficient
+}
+
+/// A number and some terms or their opposites, where numbers are put in for all their registers and the bounds of a form are kept.
+fn plus_terms(number: i128, moves: &[Move], sign: i64, terms: &[Term]) -> Option<i128>
+    requires number { unsigned_abs number < 2 ^ 100 }
+    requires sign { (sign ≡ pos 1) ⊎ (sign ≡ negsuc 0) }
+    requires small { AreSmall terms.now }
+    ensures made { IfSome result
+        (λ sum. with_parts (parts_of moves.now sign terms.now) (Some (constant_form number)) ≡ Some (constant_form sum)) }
+    ensures small { IfSome result (λ sum. unsigned_abs sum < 2 ^ 100) }
+{
+    let mut sum = number;
+    for term in terms {
+        let other = number_for(moves, term.register)?;
+        sum = plus_product(sum, signed(sign, term.coefficient), other)?;
+    }
+    Some(sum)
+}
+
+/// high - low, where that is a number within the bounds of a form: it is not where a register is left.
+fn number_between(for_high: &[Move], high: &Form, for_low: &[Move], low: &Form) -> Option<i128>
+    ensures made { IfSome result
+        (λ number. sum_form (between for_high.now high.now for_low.now low.now) ≡ Some (constant_form number)) }
+    ensures small { IfSome result (λ number. unsigned_abs number < 2 ^ 100) }
+{
+    let high = side_of(high);
+    let low = side_of(low);
+    let start = high.constant - low.constant;
+    if 1_267_650_600_228_229_401_496_703_205_376 <= start.unsigned_abs() {
+        return None;
+    }
+    let upper = plus_terms(start, for_high, 1, high.terms)?;
+    plus_terms(upper, for_low, -1, low.terms)
+}
+
+/// Whether it is shown that a number is at least 0. Of a number below 0 only facts that contradict each other show it.
+fn shows_number(alloc: Global, facts: &Known<'_>, number: i128) -> bool
+    requires { unsigned_abs number < 2 ^ 100 }
+    ensures { result ≡ is_shown facts.now (constant_form number) }
+{
+    if 0 <= number {
         return true;
     }
     if facts.facts().is_empty() {
         return false;
     }
-    facts.shows(&Form::from_constant(alloc, constant))
+    facts.shows(&Form::from_constant(alloc, number))
 }
 
+/// Whether high >= low is shown. Of a number no form is built.
 #[tactic(auto, unfolding(crate::specs::Zones::shows_order))]
-/// Whether high >= low is shown. Most ends are numbers: of these no sum is built.
 pub fn shows_order(
     alloc: Global,
     facts: &Known<'_>,
@@ -58,11 +142,11 @@ pub fn shows_order(
 ) -> Result<bool, OutOfMemory>
     ensures { IfOk result (λ b. b ≡ shows_order facts.now for_high.now high.now for_low.now low.now) }
 {
-    let upper = side_of(high);
-    let lower = side_of(low);
-    if upper.terms.is_empty() && lower.terms.is_empty() {
-        return Ok(shows_constant(alloc, facts, upper.constant - lower.constant));
+    match number_between(for_high, high, for_low, low) {
+        Some(number) => Ok(shows_number(alloc, facts, number)),
+        None => {
+            let sum = between(alloc, for_high, high, for_low, low)?;
+            shows_at(alloc, facts, &sum)
+        }
     }
-    let sum = between(alloc, for_high, high, for_low, low)?;
-    shows_at(alloc, facts, &sum)
 }
