@@ -43,13 +43,10 @@ number_unshown facts z below none = rw none (below_zero z below)
 
 -- ---- sums in which numbers are put in for all registers
 
-nothing_added : (parts : List Part) → with_parts parts None ≡ None
-nothing_added [] = refl
-nothing_added (p ∷ parts) = refl
-
 parts_in_two : (first second : List Part) (form : Option Combination) → with_parts (first ++ second) form ≡ with_parts second (with_parts first form)
 parts_in_two [] second form = refl
-parts_in_two (p ∷ first) second None = sym (nothing_added second)
+parts_in_two (p ∷ first) [] None = refl
+parts_in_two (p ∷ first) (q ∷ second) None = refl
 parts_in_two (p ∷ first) second (Some f) = parts_in_two first second (with_operand f p.factor p.operand)
 
 pub product_added : (number factor other product : ℤ) → product ≡ factor *ℤ other → unsigned_abs factor < 16777216 → unsigned_abs (product +ℤ number) < 1267650600228229401496703205376 → with_operand (constant_form number) factor (Number other) ≡ Some (constant_form (product +ℤ number))
@@ -62,6 +59,7 @@ term_added moves sign terms k d sum factor other after whole within is put made 
     let step : with_parts (parts_of moves sign (drop (k + 1) terms)) (with_operand (constant_form sum) factor (Number other)) ≡ whole = rw (drop_more terms k d within, sym is, put) at before in
     subst (λ o. with_parts (parts_of moves sign (drop (k + 1) terms)) o ≡ whole) made step
 
+-- high - low is a number where both of its runs of terms are
 pub number_of_sum : (for_high : List Move) (high : Combination) (for_low : List Move) (low : Combination) (upper number : ℤ) → unsigned_abs (high.constant -ℤ low.constant) < 1267650600228229401496703205376 → with_parts (parts_of for_high (pos 1) high.terms) (Some (constant_form (high.constant -ℤ low.constant))) ≡ Some (constant_form upper) → with_parts (parts_of for_low (negsuc 0) low.terms) (Some (constant_form upper)) ≡ Some (constant_form number) → sum_form (between for_high high for_low low) ≡ Some (constant_form number)
 unfolding sum_form
 number_of_sum for_high high for_low low upper number small of_high of_low =
