@@ -3,7 +3,7 @@
 use crate::report::Explanation;
 use findings::{Finding, line_at};
 use lists::OutOfMemory;
-use rules::{push_meanings, push_mends};
+use rules::{push_heads, push_meanings, push_mends};
 use std::alloc::Global;
 
 /// The line that breaks a rule, as the text has it; what is not printed is escaped.
@@ -17,9 +17,15 @@ fn push_line(out: &mut String, text: &str, number: u32) -> Result<(), OutOfMemor
 
 /// What a rule means, and after the notes how to mend it.
 fn push_finding_text(out: &mut String, text: &str, finding: &Finding) -> Result<(), OutOfMemory> {
+    let notes = finding.notes.as_str();
     push_line(out, text, finding.line)?;
-    push_meanings(out, finding.number)?;
-    out.push_str(finding.notes.as_str())?;
+    // of a rule's causes only the one that the notes tell
+    if notes.starts_with("  here: ") {
+        push_heads(out, finding.number)?;
+    } else {
+        push_meanings(out, finding.number)?;
+    }
+    out.push_str(notes)?;
     push_mends(out, finding.number)
 }
 

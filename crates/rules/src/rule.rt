@@ -36,6 +36,14 @@ fn row_of(line: &str, number: u16) -> Option<Row<'_>> {
     }
 }
 
+/// The text before its first colon.
+fn head_of(text: &str) -> &str {
+    match text.split_once(": ") {
+        Some((head, _)) => head,
+        None => text,
+    }
+}
+
 /// Adds a part of a rule, in a line of its own.
 fn push_part(out: &mut String, name: &str, text: &str) -> Result<(), AllocError> {
     writeln!(out, "  {name}: {text}")
@@ -66,6 +74,17 @@ pub fn push_meanings(out: &mut String, number: u16) -> Result<(), OutOfMemory> {
         if let Some(row) = row_of(line, number) {
             let means = row.means;
             writeln!(out, "  {number}: {means}")?;
+        }
+    }
+    Ok(())
+}
+
+/// Adds what the rule means, without its causes, which stand behind a colon: it is for where the one that applies is told.
+pub fn push_heads(out: &mut String, number: u16) -> Result<(), OutOfMemory> {
+    for line in RULES.lines() {
+        if let Some(row) = row_of(line, number) {
+            let head = head_of(row.means);
+            writeln!(out, "  {number}: {head}")?;
         }
     }
     Ok(())
