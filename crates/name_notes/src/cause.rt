@@ -75,9 +75,9 @@ fn call_cause(
     } else if is_named_by_callee(rows, row, pointers) {
         "a global is passed to a function that names it"
     } else if pointers.iter().any(|name| name.starts_with('@')) {
-        "an object is smaller than its parameter, or what the callee calls names a global that is passed"
+        "an object is smaller than its parameter asks, or what the callee calls names a global that is passed"
     } else {
-        "an object is smaller than its parameter"
+        "an object is smaller than its parameter asks"
     })
 }
 
@@ -101,7 +101,7 @@ fn pointer_cause(
         (";!", _, _) => Some("a zone names an element, and not its object"),
         ("call", _, _) | (_, _, "call") => Some(call_cause(rows, function, row)?),
         ("store", "[", _) => Some(array_cause(function, row)?),
-        ("store" | "atomicrmw", _, _) | (_, _, "load" | "atomicrmw") => {
+        ("store" | "atomicrmw", _, _) | (_, _, "load") => {
             Some("an element of another block; take it again in this one")
         }
         (_, _, "alloca") => Some("an `alloca` outside the entry block"),
