@@ -288,9 +288,12 @@ const TYPED_POINTERS: &str = "i64* i32* i16* i8* i1* i64]*";
 
 /// Whether a word begins with the type of a pointer that says to what it points.
 fn is_typed_pointer(word: &str) -> bool {
-    TYPED_POINTERS
-        .split(' ')
-        .any(|pointer| word.starts_with(pointer))
+    for pointer in TYPED_POINTERS.split(' ') {
+        if word.starts_with(pointer) {
+            return true;
+        }
+    }
+    false
 }
 
 /// Says of a run of bytes with the type of a pointer that says to what it points how it is written.
