@@ -395,9 +395,38 @@ fn push_call(
     if callee.0 != known.scene.index {
         return Ok(());
     }
-    let mut notes = String::new(alloc);
-    push_call_notes(alloc, known, arguments.as_slice(), &mut notes)?;
+    let notes = call_notes(alloc, known, arguments.as_slice())?;
     push_if_any(findings, 703, step.line, notes)
+}
+
+/// Whether the function has a `measure` line: where it has none, the measure stands on the function's own.
+fn has_measure(function: &Function) -> bool {
+    function.measure.line != function.line
+}
+
+/// What there is to say of a self call of a function without a `measure` line.
+fn without_measure(alloc: Global, scene: &Scene<'_>) -> Result<String, OutOfMemory> {
+    let name = scene.written.name.as_str();
+    let after = scene.function.line;
+    Ok(format!(in alloc;
+        "  @{name} has no `measure` line, without which no self call is taken\n    \
+write ;! measure F max N, after line {after}: F is a form of the parameters that each self call makes less, N the most that it may be\n"
+    )?)
+}
+
+/// What is not shown of a self call.
+fn call_notes(
+    alloc: Global,
+    known: Known<'_>,
+    arguments: &[Argument],
+) -> Result<String, OutOfMemory> {
+    let mut notes = String::new(alloc);
+    push_call_notes(alloc, known, arguments, &mut notes)?;
+    if notes.is_empty() || has_measure(known.scene.function) {
+        Ok(notes)
+    } else {
+        without_measure(alloc, known.scene)
+    }
 }
 
 /// What is not shown of the measure that a self call has.

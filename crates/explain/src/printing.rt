@@ -3,24 +3,35 @@
 use crate::report::Explanation;
 use findings::{Finding, line_at};
 use lists::OutOfMemory;
-use rules::{push_meanings, push_mends};
+use rules::{push_heads, push_meanings, push_mends};
 use std::alloc::Global;
 
 /// The line that breaks a rule, as the text has it; what is not printed is escaped.
-fn push_line(out: &mut String, text: &str, number: u32) -> Result<(), OutOfMemory> {
-    if let Some(line) = line_at(text, number) {
+fn push_line(out: &mut String, line: Option<&str>) -> Result<(), OutOfMemory> {
+    if let Some(line) = line {
         let shown = line.trim().escape_debug();
         writeln!(out, "  | {shown}")?;
     }
     Ok(())
 }
 
+/// What a rule means that this line breaks; of its causes only the one that the notes tell, where they tell one.
+fn push_meaning(out: &mut String, line: &str, finding: &Finding) -> Result<(), OutOfMemory> {
+    if finding.notes.as_str().starts_with("  here: ") {
+        push_heads(out, finding.number, line)
+    } else {
+        push_meanings(out, finding.number, line)
+    }
+}
+
 /// What a rule means, and after the notes how to mend it.
 fn push_finding_text(out: &mut String, text: &str, finding: &Finding) -> Result<(), OutOfMemory> {
-    push_line(out, text, finding.line)?;
-    push_meanings(out, finding.number)?;
+    let line = line_at(text, finding.line);
+    push_line(out, line)?;
+    let broken = line.unwrap_or("").trim();
+    push_meaning(out, broken, finding)?;
     out.push_str(finding.notes.as_str())?;
-    push_mends(out, finding.number)
+    push_mends(out, finding.number, broken)
 }
 
 /// The fault that the verifier names, and those that are told beside it.

@@ -183,6 +183,35 @@ fn is_step(
     Ok(shown(&more, form))
 }
 
+/// A number from here on only keeps a form off the least values of a width: of i32 the least is about twice as far.
+const FAR_ABOVE: i128 = 1_000_000_000;
+
+/// A form without its number, where that is far above 0: what a reader would write.
+fn plainer(alloc: Global, form: &Form) -> Result<Option<Form>, OutOfMemory> {
+    if form.constant >= FAR_ABOVE {
+        raised(alloc, form, 0i128.saturating_sub(form.constant))
+    } else {
+        Ok(None)
+    }
+}
+
+/// A step from a rest, if it is one: without its number where that does.
+fn step_of(
+    alloc: Global,
+    stated: &[Fact],
+    facts: &[Fact],
+    rest: Form,
+    form: &Form,
+) -> Result<Option<Form>, OutOfMemory> {
+    if let Some(plain) = plainer(alloc, &rest)? {
+        if is_step(alloc, stated, facts, &plain, form)? {
+            return Ok(Some(plain));
+        }
+    }
+    let is_taken = is_step(alloc, stated, facts, &rest, form)?;
+    Ok(if is_taken { Some(rest) } else { None })
+}
+
 /// What the facts that are `stated` show and what makes all facts show the form: a line to write before it.
 pub fn step_between(
     alloc: Global,
@@ -192,8 +221,9 @@ pub fn step_between(
 ) -> Result<Option<Form>, OutOfMemory> {
     for fact in facts {
         if let Some(rest) = rest_of(alloc, form, fact)? {
-            if is_step(alloc, stated, facts, &rest, form)? {
-                return Ok(Some(rest));
+            let step = step_of(alloc, stated, facts, rest, form)?;
+            if step.is_some() {
+                return Ok(step);
             }
         }
     }

@@ -1,5 +1,6 @@
 //! What there is to say of a line that breaks a rule of names, blocks or regions.
 
+use crate::cause::cause_of;
 use crate::row::{Row, function_of, rows_of};
 use findings::Source;
 use lists::OutOfMemory;
@@ -157,6 +158,29 @@ fn push_ways_and_regions(out: &mut String, site: Site<'_, '_>) -> Result<(), All
     push_regions(out, site)
 }
 
+/// Which of the rule's causes a line has, where the rule has several and the line says which.
+fn push_cause(
+    out: &mut String,
+    site: Site<'_, '_>,
+    row: &Row<'_>,
+    number: u16,
+) -> Result<(), AllocError> {
+    match cause_of(site.rows, site.function, row, number)? {
+        Some(cause) => writeln!(out, "  here: {cause}"),
+        None => Ok(()),
+    }
+}
+
+/// The same of the site's line.
+fn push_causes(out: &mut String, site: Site<'_, '_>, number: u16) -> Result<(), AllocError> {
+    for row in site.rows {
+        if row.number == site.line {
+            push_cause(out, site, row, number)?;
+        }
+    }
+    Ok(())
+}
+
 /// Adds what there is to say of a line that breaks the rule of this number.
 fn push_notes(out: &mut String, site: Site<'_, '_>, number: u16) -> Result<(), AllocError> {
     match number {
@@ -169,7 +193,7 @@ fn push_notes(out: &mut String, site: Site<'_, '_>, number: u16) -> Result<(), A
 }
 
 /// What there is to say of a line that breaks this rule: from 201 to 206 and at 401 where its names are defined, of the graph what leads to its
-/// block, of the regions what the function does with them.
+/// block, of the regions what the function does with them. Of a rule with several causes its first line says which one it is, if the line tells.
 pub fn name_notes(
     alloc: Global,
     source: Source<'_>,
@@ -178,16 +202,13 @@ pub fn name_notes(
 ) -> Result<String, OutOfMemory> {
     let rows = rows_of(alloc, source.text)?;
     let rows = rows.as_slice();
-    let function = function_of(rows, line);
+    let site = Site {
+        rows,
+        function: function_of(rows, line),
+        line,
+    };
     let mut out = String::new(alloc);
-    push_notes(
-        &mut out,
-        Site {
-            rows,
-            function,
-            line,
-        },
-        number,
-    )?;
+    push_causes(&mut out, site, number)?;
+    push_notes(&mut out, site, number)?;
     Ok(out)
 }

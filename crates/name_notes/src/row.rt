@@ -53,7 +53,7 @@ impl<'a> Row<'a> {
     }
 
     /// Whether the name stands in the line, as a token of its own.
-    fn has(&self, name: &str) -> bool {
+    pub fn has(&self, name: &str) -> bool {
         for token in &self.tokens {
             if token.kind == Kind::Name && self.part(*token) == name {
                 return true;
@@ -81,6 +81,17 @@ impl<'a> Row<'a> {
             Some(label) => name.strip_prefix('%') == Some(label),
             None => self.word(0) == name && self.word(1) == "=",
         }
+    }
+
+    /// What stands behind each word `ptr` of the line.
+    pub fn pointers(&self) -> Result<Vec<&'a str>, AllocError> {
+        let mut pointers = Vec::new(self.alloc);
+        for index in 1..self.tokens.len() {
+            if self.word(index - 1) == "ptr" {
+                pointers.push(self.word(index))?;
+            }
+        }
+        Ok(pointers)
     }
 
     /// The names of the line, each once. Forms of annotations are taken apart.

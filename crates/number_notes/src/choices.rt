@@ -5,7 +5,7 @@ use fact_notes::{
     Known, Matched, Scene, fact_lines, first_facts, is_against, match_text, push_inequality,
 };
 use findings::{Finding, Source, line_at, push_finding, with_line_before};
-use linear::{Fact, Form};
+use linear::{Fact, Form, FormFault, RegisterId};
 use lists::OutOfMemory;
 use program::{Block, BlockId};
 use ranges::{BlockFacts, Sum, block_facts, sum_form};
@@ -128,8 +128,46 @@ fn push_choice_head(count: usize, notes: &mut String) -> Result<(), AllocError> 
     }
 }
 
-/// A line at the block's start that shows a form, unless the form is known to be below 0.
+/// A bound so far below 0 only keeps a register off the least values of its width: of i32 the least is about twice as far.
+const FAR_BELOW: i128 = 1_000_000_000;
+
+/// That a register is not negative.
+fn not_negative(alloc: Global, register: RegisterId) -> Result<Option<Form>, OutOfMemory> {
+    match Form::from_constant(alloc, 0).plus_term(register, 1) {
+        Ok(form) => Ok(Some(form)),
+        Err(FormFault::Bounds) => Ok(None),
+        Err(FormFault::Memory) => Err(OutOfMemory),
+    }
+}
+
+/// What a reader would write in place of a form, where that is another: of a register's bound far below 0 that it is not negative.
+fn plainer(alloc: Global, form: &Form) -> Result<Option<Form>, OutOfMemory> {
+    match form.terms.as_slice() {
+        [only] if only.coefficient == 1 && form.constant >= FAR_BELOW => {
+            not_negative(alloc, only.register)
+        }
+        _ => Ok(None),
+    }
+}
+
+/// A line at the block's start that shows a form, as a reader would write it.
 fn push_mending(
+    alloc: Global,
+    source: Source<'_>,
+    known: Known<'_>,
+    block: BlockId,
+    form: &Form,
+    old: &[Unmet],
+    notes: &mut String,
+) -> Result<(), OutOfMemory> {
+    match plainer(alloc, form)? {
+        Some(plain) => push_if_possible(alloc, source, known, block, &plain, old, notes),
+        None => push_if_possible(alloc, source, known, block, form, old, notes),
+    }
+}
+
+/// A line at the block's start that says a form, unless the form is known to be below 0.
+fn push_if_possible(
     alloc: Global,
     source: Source<'_>,
     known: Known<'_>,

@@ -4,4 +4,4 @@
 mod rule;
 mod texts;
 
-pub use rule::{push_meanings, push_mends, rule_text};
+pub use rule::{push_heads, push_meanings, push_mends, rule_text};

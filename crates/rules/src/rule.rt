@@ -36,6 +36,33 @@ fn row_of(line: &str, number: u16) -> Option<Row<'_>> {
     }
 }
 
+/// Whether a row is for a line of a module that breaks the rule: of the two of 703 the line says which.
+fn is_told_at(row: Row<'_>, broken: &str) -> bool {
+    match row.told_at {
+        "the `measure` line" => broken.starts_with(";!"),
+        "the self call" => !broken.starts_with(";!"),
+        _ => true,
+    }
+}
+
+/// The row of a line, if it is of this number and for this line of a module.
+fn row_at<'a>(line: &'a str, number: u16, broken: &str) -> Option<Row<'a>> {
+    let row = row_of(line, number)?;
+    if is_told_at(row, broken) {
+        Some(row)
+    } else {
+        None
+    }
+}
+
+/// The text before its first colon.
+fn head_of(text: &str) -> &str {
+    match text.split_once(": ") {
+        Some((head, _)) => head,
+        None => text,
+    }
+}
+
 /// Adds a part of a rule, in a line of its own.
 fn push_part(out: &mut String, name: &str, text: &str) -> Result<(), AllocError> {
     writeln!(out, "  {name}: {text}")
@@ -60,10 +87,10 @@ pub fn rule_text(alloc: Global, number: u16) -> Result<Option<String>, OutOfMemo
     Ok(if out.is_empty() { None } else { Some(out) })
 }
 
-/// Adds what the rule means, in a line of its own.
-pub fn push_meanings(out: &mut String, number: u16) -> Result<(), OutOfMemory> {
+/// Adds what the rule means that this line of a module breaks.
+pub fn push_meanings(out: &mut String, number: u16, broken: &str) -> Result<(), OutOfMemory> {
     for line in RULES.lines() {
-        if let Some(row) = row_of(line, number) {
+        if let Some(row) = row_at(line, number, broken) {
             let means = row.means;
             writeln!(out, "  {number}: {means}")?;
         }
@@ -71,10 +98,21 @@ pub fn push_meanings(out: &mut String, number: u16) -> Result<(), OutOfMemory> {
     Ok(())
 }
 
-/// Adds how the rule is mended, in a line of its own.
-pub fn push_mends(out: &mut String, number: u16) -> Result<(), OutOfMemory> {
+/// The same without its causes, which stand behind a colon: it is for where the one that applies is told.
+pub fn push_heads(out: &mut String, number: u16, broken: &str) -> Result<(), OutOfMemory> {
     for line in RULES.lines() {
-        if let Some(row) = row_of(line, number) {
+        if let Some(row) = row_at(line, number, broken) {
+            let head = head_of(row.means);
+            writeln!(out, "  {number}: {head}")?;
+        }
+    }
+    Ok(())
+}
+
+/// Adds how the rule is mended that this line of a module breaks.
+pub fn push_mends(out: &mut String, number: u16, broken: &str) -> Result<(), OutOfMemory> {
+    for line in RULES.lines() {
+        if let Some(row) = row_at(line, number, broken) {
             push_part(out, "mend", row.mend)?;
         }
     }

@@ -48,10 +48,10 @@ path before the task ends | `ret i64 0` where no sync follows a detach; right af
 306 | the label | two paths give the block different tasks: a child goes on into its parent's code by a branch, or a branch leads into a \
 child | end the child with `reattach`; give each task its own blocks | `br label %j` in a child, where `j` is a block of its parent; right \
 is `reattach within %s, label %c`
-307 | the instruction, the phi, the `foot` line or the label | `syncregion.start` elsewhere than in an entry block or a detached block; a \
-phi in a detached block or a continuation; `foot` on a block that is not detached; a detached block that something else leads to as well | \
-move it; carry a value into a continuation by a register that is defined before the detach | `%s = call token @llvm.syncregion.start()` in a \
-loop; right in the entry block
+307 | the instruction, the phi, the `foot` line or the label | a block has what one of its kind may not have: `syncregion.start` in neither an \
+entry block nor a detached one; a phi in a detached block or a continuation; `foot` in a block that is not detached; another way to a detached \
+block than its detach | move it; carry a value into a continuation by a register that is defined before the detach | `%s = call token \
+@llvm.syncregion.start()` in a loop; right in the entry block
 401 | the use, the phi or the annotation | on some path from the entry to the use no definition of the register stands before it | define it \
 before the branch, or take it by a phi; what a child defines is not defined in its parent | `%t = add i64 %r, %y` after a continuation, \
 where the child defines `%r`
@@ -59,13 +59,14 @@ where the child defines `%r`
 x i64] zeroinitializer`, store to a single cell through its own name, on every path; read what a child stores after the sync | `%x = load \
 i64, ptr %a` right after `%a = alloca [2 x i64]`; right after `store [2 x i64] zeroinitializer, ptr %a`
 501 | the instruction | the index of a `getelementptr` is not shown to be at least 0 and at most the extent less 1 | `keeps` with both \
-bounds; `and` with a mask | `%p = getelementptr inbounds i64, ptr @a, i64 2`, where `@a` has 2 cells; right is an index from 0 to 1
+bounds, in the entry block `requires`; `and` with a mask | `%p = getelementptr inbounds i64, ptr @a, i64 2`, where `@a` has 2 cells; right is \
+an index from 0 to 1
 502 | the instruction | a divisor is not shown to be at least 1 or at most -1; or, at `sdiv` and `srem`, neither the divisor to be at least \
 0 or at most -2 nor the dividend to be above the least value | branch on the divisor; `requires` for the dividend | `%q = urem i64 %a, %b` \
 with `;! requires %b >= 0`; right is `;! requires %b >= 1`
 503 | the instruction | the exact result of an `nsw` operation is not shown to lie in its width; a `mul nsw` without a number within a \
-million | bound the operands by `keeps`; leave `nsw` out where a fact is not needed | `%s = add nsw i64 %a, 1` with `;! requires %a >= 0` \
-alone; right with `;! requires %a <= 9` too
+million | bound the operands by `keeps`, in the entry block by `requires`; leave `nsw` out where a fact is not needed | `%s = add nsw \
+i64 %a, 1` with `;! requires %a >= 0` alone; right with `;! requires %a <= 9` too
 504 | the instruction | the amount of a shift is not shown to be from 0 to 63 (31 at i32) | shift by a number, or by an `and` with 63 | `%s \
 = shl i64 %a, %b` with `;! requires %b >= 0` alone; right with `;! requires %b <= 63` too
 505 | the terminator of the edge's source | a block's `keeps` is not shown on an edge to it, with what its phis take there put in | add \

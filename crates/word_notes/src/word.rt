@@ -283,6 +283,27 @@ fn is_bad(alloc: Global, word: &str, number: u32) -> Result<bool, OutOfMemory> {
     }
 }
 
+/// Types of pointers that LLVM had before `ptr`; of an array's the end.
+const TYPED_POINTERS: &str = "i64* i32* i16* i8* i1* i64]*";
+
+/// Whether a word begins with the type of a pointer that says to what it points.
+fn is_typed_pointer(word: &str) -> bool {
+    for pointer in TYPED_POINTERS.split(' ') {
+        if word.starts_with(pointer) {
+            return true;
+        }
+    }
+    false
+}
+
+/// Says of a run of bytes with the type of a pointer that says to what it points how it is written.
+fn push_typed_pointer(run: &str, notes: &mut String) -> Result<(), OutOfMemory> {
+    if run.split('(').any(is_typed_pointer) {
+        notes.push_str("    a pointer's type is `ptr`, whatever it points to\n")?;
+    }
+    Ok(())
+}
+
 /// A run of bytes, if it is no token.
 fn push_if_bad(
     alloc: Global,
@@ -295,6 +316,7 @@ fn push_if_bad(
     }
     let found = word.escape_debug();
     writeln!(notes, "  found: `{found}`")?;
+    push_typed_pointer(word, notes)?;
     push_left_out(word, notes)
 }
 

@@ -1,0 +1,125 @@
+//! Which of a rule's causes it is, where a rule has several.
+
+use crate::row::{Row, function_of};
+use std::alloc::AllocError;
+
+/// What a line that breaks 307 has in its block.
+fn place_cause(row: &Row<'_>) -> Option<&'static str> {
+    if row.label().is_some() {
+        return Some("another way to a detached block than its detach");
+    }
+    match (row.word(0), row.word(2)) {
+        (";!", _) => Some("`foot` in a block that is not detached"),
+        (_, "phi") => Some("a phi in a detached block or a continuation"),
+        (_, "call") => Some("`syncregion.start` in neither an entry block nor a detached one"),
+        _ => None,
+    }
+}
+
+/// Whether the function makes the register by `getelementptr`.
+fn is_element(function: &[Row<'_>], name: &str) -> bool {
+    function
+        .iter()
+        .any(|row| row.word(2) == "getelementptr" && row.defines(name))
+}
+
+fn has_element(function: &[Row<'_>], pointers: &[&str]) -> bool {
+    pointers.iter().any(|name| is_element(function, name))
+}
+
+/// Whether a name stands twice among these.
+fn has_twice(pointers: &[&str]) -> bool {
+    for index in 0..pointers.len() {
+        if pointers[..index]
+            .iter()
+            .any(|name| *name == pointers[index])
+        {
+            return true;
+        }
+    }
+    false
+}
+
+/// Whether one of these names stands in a line.
+fn has_any(row: &Row<'_>, names: &[&str]) -> bool {
+    names
+        .iter()
+        .any(|name| name.starts_with('@') && row.has(name))
+}
+
+/// Whether the function that a line calls names one of these itself.
+fn is_named_by_callee(rows: &[Row<'_>], call: &Row<'_>, pointers: &[&str]) -> bool {
+    let head = rows
+        .iter()
+        .find(|row| row.word(0) == "define" && call.has(row.word(2)));
+    match head {
+        Some(head) => function_of(rows, head.number)
+            .iter()
+            .any(|row| has_any(row, pointers)),
+        None => false,
+    }
+}
+
+/// What of a call breaks 204.
+fn call_cause(
+    rows: &[Row<'_>],
+    function: &[Row<'_>],
+    row: &Row<'_>,
+) -> Result<&'static str, AllocError> {
+    let pointers = row.pointers()?;
+    let pointers = pointers.as_slice();
+    Ok(if has_element(function, pointers) {
+        "an element is passed, where a call takes whole objects"
+    } else if has_twice(pointers) {
+        "one object is passed twice"
+    } else if is_named_by_callee(rows, row, pointers) {
+        "a global is passed to a function that names it"
+    } else if pointers.iter().any(|name| name.starts_with('@')) {
+        "an object is smaller than its parameter asks, or what the callee calls names a global that is passed"
+    } else {
+        "an object is smaller than its parameter asks"
+    })
+}
+
+/// What of an array store breaks 204.
+fn array_cause(function: &[Row<'_>], row: &Row<'_>) -> Result<&'static str, AllocError> {
+    let pointers = row.pointers()?;
+    Ok(if has_element(function, pointers.as_slice()) {
+        "an array is stored to an element, and not to its object"
+    } else {
+        "the array has not as many cells as its object"
+    })
+}
+
+/// What of a line breaks 204.
+fn pointer_cause(
+    rows: &[Row<'_>],
+    function: &[Row<'_>],
+    row: &Row<'_>,
+) -> Result<Option<&'static str>, AllocError> {
+    Ok(match (row.word(0), row.word(1), row.word(2)) {
+        (";!", _, _) => Some("a zone names an element, and not its object"),
+        ("call", _, _) | (_, _, "call") => Some(call_cause(rows, function, row)?),
+        ("store", "[", _) => Some(array_cause(function, row)?),
+        ("store" | "atomicrmw", _, _) | (_, _, "load") => {
+            Some("an element of another block; take it again in this one")
+        }
+        (_, _, "alloca") => Some("an `alloca` outside the entry block"),
+        (_, _, "getelementptr") => Some("an element of an element; take it of the object"),
+        _ => None,
+    })
+}
+
+/// Which cause of the rule of this number the line has, where the rule has several and the line says which.
+pub fn cause_of(
+    rows: &[Row<'_>],
+    function: &[Row<'_>],
+    row: &Row<'_>,
+    number: u16,
+) -> Result<Option<&'static str>, AllocError> {
+    match number {
+        204 => pointer_cause(rows, function, row),
+        307 => Ok(place_cause(row)),
+        _ => Ok(None),
+    }
+}
