@@ -1,24 +1,23 @@
 -- What stands for the facts in an index, and what it makes up.
-use Rattle.std.proofs.Common.{◌≡◌, ◌∙◌, ℕ, zero, suc, ◌<◌, ◌≤◌, ◌+◌, ◌*◌, ◌^◌, ℤ, pos, ◌+ℤ◌, ◌*ℤ◌, ◌-ℤ◌, ◌≤ℤ◌, true, List, [], ◌∷◌, ◌++◌, length, get_or, insert, set, map, take, drop, Option, None, Some, inl, inr, sym, ap, refl, subst, arith}
+use Rattle.std.proofs.Common.{◌≡◌, ◌∙◌, ℕ, zero, suc, ◌<◌, ◌≤◌, ◌+◌, ◌*◌, ◌^◌, ℤ, pos, ◌+ℤ◌, ◌*ℤ◌, ◌-ℤ◌, ◌≤ℤ◌, List, [], ◌∷◌, ◌++◌, length, get_or, insert, set, map, take, drop, None, inl, inr, sym, ap, refl, subst, arith}
 use Rattle.std.specs.List.{All, Contains}
 use Rattle.std.specs.List.Sorted.{IsNonDecreasingBy}
-use Rattle.std.specs.Option.{IfSome}
 use Rattle.std.proofs.Math.IntN.{zero-*ℤ}
 use Rattle.std.proofs.Math.ListN.{get_or-append}
 use Rattle.std.proofs.lemmas.Int.{ints}
-use Rattle.std.proofs.lemmas.Bool.{cases_eq, cases_lt}
+use Rattle.std.proofs.lemmas.Bool.{cases_eq}
 use Rattle.std.proofs.lemmas.List.{length-map, length-append, map-append, take-append-drop, length-set, get_or_default, get_or-set_same, get_or-set_other}
 use Rattle.std.proofs.lemmas.List.Edits.{length-insert, get_or-insert_at}
 use Rattle.std.proofs.lemmas.List.Elements.{All-contains, All-cons, Contains-get_or, Contains-append_right}
 use Rattle.std.proofs.lemmas.List.Sorted.{IsNonDecreasingBy-insert, IsNonDecreasingBy-short, IsPermutation-insert, All-permutation, Contains-permutation}
-use Rattle.linear.specs.declared.form.RegisterId.{RegisterId}
 use Rattle.linear.specs.declared.form.Fact.{Fact}
 use Rattle.linear.specs.Forms.{Combination, coefficient_of, constant_form, IsRising}
 use Rattle.entailment.specs.declared.index.Entry.{Entry}
 use Rattle.entailment.specs.Shown.{IsSum, IsShown, sides}
-use Rattle.entailment.specs.Search.{factors, has_some, IsLeft, IsFound}
-use Rattle.entailment.specs.Index.{weight, weigh, IsKeyOf, place_at, IsEntry, IsAsStrong, IsIndexed, IsIndex, IsBegun, IsMadeUp, IsMadeUpWith, IsMadeUpByA}
+use Rattle.entailment.specs.Search.{factors, IsFound}
+use Rattle.entailment.specs.Index.{weight, weigh, IsKeyOf, place_at, IsEntry, IsAsStrong, IsIndexed, IsIndex, IsBegun, IsMadeUp, IsMadeUpWith, IsMadeUpByB, IsMadeUpByA, AreNotB}
 use Rattle.linear.proofs.Values.{distributes, value_combines}
+use Rattle.entailment.proofs.Left.{swapped}
 use Rattle.entailment.proofs.Sound.{keeps_sign}
 use Rattle.entailment.proofs.Newest.{in_newest, in_sides}
 use Rattle.entailment.proofs.Found.{is_factor, found_shown, shown_found}
@@ -56,10 +55,6 @@ stronger_second e a f b g g' p s = record {
   terms = λ r. s.terms r ∙ ap (λ z. (pos a *ℤ coefficient_of f.terms r) +ℤ (pos b *ℤ z)) (sym (p.terms r));
   constant = less_after (pos b *ℤ g'.constant) (pos b *ℤ g.constant) (pos a *ℤ f.constant) e.constant (keeps_order b g'.constant g.constant p.constant) s.constant;
 }
-
-same_some : (f g : Combination) (lead : Option RegisterId) → IsAsStrong f g → has_some g.terms lead ≡ true → has_some f.terms lead ≡ true
-same_some f g None p h = h
-same_some f g (Some r) p h = rw (p.terms r.0) h
 
 -- ---- keys
 
@@ -167,7 +162,7 @@ place_of_side : (facts : List Fact) (g : Combination) (c : Contains (sides facts
 place_of_side facts g (p, within, is) =
     (omega (arith, within, length-map facts (λ (f : Fact). f.form)), get_or_default (sides facts) p (constant_form (pos 0)) g within ∙ is)
 
-kept_side : (facts : List Fact) (es : List Entry) → IsIndex facts (suc (length facts)) es → (g : Combination) → Contains (sides facts) g →
+pub kept_side : (facts : List Fact) (es : List Entry) → IsIndex facts (suc (length facts)) es → (g : Combination) → Contains (sides facts) g →
     (e : Entry) × Contains es e × IsAsStrong (place_at facts e.place) g
 kept_side facts es index g c =
     let p = place_of_side facts g c in
@@ -176,31 +171,6 @@ kept_side facts es index g c =
 
 pub side_of_entry : (facts : List Fact) (e : Entry) → IsEntry facts e → Contains (sides facts) (place_at facts e.place)
 side_of_entry facts e is = Contains-get_or (sides facts) e.place (constant_form (pos 0)) (omega (arith, is.within, length-map facts (λ (f : Fact). f.form)))
-
--- what makes a form up has an entry that does, of the key that is wanted
-pub made_up_by_entry : (facts : List Fact) (es : List Entry) → IsIndex facts (suc (length facts)) es → (e : Combination) (a : ℕ) (first : Entry) (b key : ℕ) → IsKeyOf e.terms key → IsEntry facts first →
-    IsMadeUp facts e (place_at facts first.place) a b →
-    (second : Entry) × Contains es second × (b * second.key + a * first.key + 2 ^ 61 ≡ (a + b) * 2 ^ 61 + key) × IsSum e a (place_at facts first.place) b (place_at facts second.place)
-made_up_by_entry facts es index e a first b key is entry (g, c, sum) =
-    let k = kept_side facts es index g c in
-    let s = stronger_second e a (place_at facts first.place) b g (place_at facts k.0.place) k.2 sum in
-    let own = All-contains (IsEntry facts) es k.0 index.own k.1 in
-    (k.0, k.1, key_of_sum e a (place_at facts first.place) b (place_at facts k.0.place) key first.key k.0.key is entry.key own.key s, s)
-
--- it is in a run of the first entries, which holds all of the wanted key, where the other entries are past it
-pub second_in_run : (facts : List Fact) (es run : List Entry) (e : Combination) (a : ℕ) (first : Entry) (b key wanted upto : ℕ) → IsIndex facts (suc (length facts)) es → IsKeyOf e.terms key → IsEntry facts first →
-    wanted + a * first.key + 2 ^ 61 ≡ (a + b) * 2 ^ 61 + key → ((k : ℕ) (d : Entry) → upto ≤ k → k < length es → wanted < b * (get_or es k d).key) →
-    ((k : ℕ) (d : Entry) → k < upto → b * (get_or es k d).key ≡ wanted → Contains run (get_or es k d)) → IsMadeUp facts e (place_at facts first.place) a b →
-    (second : Entry) × Contains run second × IsSum e a (place_at facts first.place) b (place_at facts second.place)
-second_in_run facts es run e a first b key wanted upto index is entry want past all made =
-    let s = made_up_by_entry facts es index e a first b key is entry made in
-    let at_is : get_or es s.1.0 s.0 ≡ s.0 = s.1.2 in
-    let key_is : b * s.0.key ≡ wanted = omega (arith, s.2, want) in
-    let same : b * (get_or es s.1.0 s.0).key ≡ b * s.0.key = ap (λ (x : Entry). b * x.key) at_is in
-    elim (cases_lt s.1.0 upto) [
-      | inl less ↦ (s.0, subst (λ (x : Entry). Contains run x) at_is (all s.1.0 s.0 less (same ∙ key_is)), s.3)
-      | inr more ↦ absurd (omega (arith, past s.1.0 s.0 more s.1.1, same, key_is))
-    ]
 
 -- one fact alone shows a form
 pub alone_shown : (facts : List Fact) (e : Combination) (b : ℕ) → IsRising e.terms → Contains (factors e.terms) b → IsMadeUp facts e (place_at facts 0) 1 b → IsShown facts e
@@ -225,27 +195,40 @@ second_nothing facts e f a (g, in_g, sum) =
     } in
     (constant_form (pos 0), (0, omega arith, refl), with_one)
 
-with_nothing : (facts : List Fact) (e : Combination) (lead : Option RegisterId) (es : List Entry) (a : ℕ) → IsMadeUpWith facts e lead es a 0 → IsMadeUpWith facts e lead es a 1
-with_nothing facts e lead es a (first, c, (leads, second)) = (first, c, (leads, second_nothing facts e (place_at facts first.place) a second))
+with_nothing : (facts : List Fact) (e : Combination) (es : List Entry) (a : ℕ) → IsMadeUpWith facts e es a 0 → IsMadeUpWith facts e es a 1
+with_nothing facts e es a (first, c, second) = (first, c, second_nothing facts e (place_at facts first.place) a second)
 
 -- so a factor 0 need not be tried after the factor 1
-pub nothing_not : (facts : List Fact) (e : Combination) (lead : Option RegisterId) (es : List Entry) (a k : ℕ) → get_or (factors e.terms) k 0 ≡ 0 →
-    All (λ b. IsMadeUpWith facts e lead es a b → ⊥) (take k (factors e.terms)) → IsMadeUpWith facts e lead es a (get_or (factors e.terms) k 0) → ⊥
-nothing_not facts e lead es a zero is none made = absurd (omega (arith, is))
-nothing_not facts e lead es a (suc k) is none made = none 0 0 (omega arith) (with_nothing facts e lead es a (rw is at made))
+pub nothing_not : (facts : List Fact) (e : Combination) (es : List Entry) (a k : ℕ) → get_or (factors e.terms) k 0 ≡ 0 →
+    AreNotB facts e es a k → IsMadeUpWith facts e es a (get_or (factors e.terms) k 0) → ⊥
+nothing_not facts e es a zero is none made = absurd (omega (arith, is))
+nothing_not facts e es a (suc k) is none made = none 0 0 (omega arith) (with_nothing facts e es a (rw is at made))
 
-pub shown_by_index : (facts : List Fact) (es : List Entry) → IsIndex facts (suc (length facts)) es → (e : Combination) (lead : Option RegisterId) → IsRising e.terms → IsMadeUpByA facts e lead es → IsShown facts e
-shown_by_index facts es index e lead rising (a, in_a, (b, in_b, (entry, c, (leads, (g, in_g, sum))))) =
+-- two factors make the form up in either order
+pub either_order : (facts : List Fact) (es : List Entry) → IsIndex facts (suc (length facts)) es → (e : Combination) (a b : ℕ) → IsMadeUpWith facts e es a b → IsMadeUpWith facts e es b a
+either_order facts es index e a b (first, c, (g, in_g, sum)) =
+    let k = kept_side facts es index g in_g in
+    let f = place_at facts first.place in
+    let own = All-contains (IsEntry facts) es first index.own c in
+    (k.0, k.1, (f, side_of_entry facts first own, swapped e a f b (place_at facts k.0.place) (stronger_second e a f b g (place_at facts k.0.place) k.2 sum)))
+
+-- so of a first factor no second one need be tried that stands before it
+pub not_before : (facts : List Fact) (es : List Entry) → IsIndex facts (suc (length facts)) es → (e : Combination) (a i : ℕ) → Contains (factors e.terms) a →
+    All (λ a. IsMadeUpByB facts e es a → ⊥) (take i (factors e.terms)) → AreNotB facts e es a i
+not_before facts es index e a i in_a none = λ k d l made. none k d l (a, in_a, either_order facts es index e a (get_or (take i (factors e.terms)) k d) made)
+
+pub shown_by_index : (facts : List Fact) (es : List Entry) → IsIndex facts (suc (length facts)) es → (e : Combination) → IsRising e.terms → IsMadeUpByA facts e es → IsShown facts e
+shown_by_index facts es index e rising (a, in_a, (b, in_b, (entry, c, (g, in_g, sum)))) =
     let own = All-contains (IsEntry facts) es entry index.own c in
-    found_shown facts e lead rising (place_at facts entry.place, in_newest facts (place_at facts entry.place) (side_of_entry facts entry own), (leads, (a, in_a, (g, in_newest facts g in_g, (b, in_b, sum)))))
+    found_shown facts e None rising (place_at facts entry.place, in_newest facts (place_at facts entry.place) (side_of_entry facts entry own), (refl, (a, in_a, (g, in_newest facts g in_g, (b, in_b, sum)))))
 
-by_index : (facts : List Fact) (es : List Entry) → IsIndex facts (suc (length facts)) es → (e : Combination) (lead : Option RegisterId) → IsFound facts e lead → IsMadeUpByA facts e lead es
-by_index facts es index e lead (f, in_f, (leads, (a, in_a, (g, in_g, (b, in_b, sum))))) =
+by_index : (facts : List Fact) (es : List Entry) → IsIndex facts (suc (length facts)) es → (e : Combination) → IsFound facts e None → IsMadeUpByA facts e es
+by_index facts es index e (f, in_f, (leads, (a, in_a, (g, in_g, (b, in_b, sum))))) =
     let k = kept_side facts es index f (in_sides facts f in_f) in
-    (a, in_a, (b, in_b, (k.0, k.1, (same_some (place_at facts k.0.place) f lead k.2 leads, (g, in_sides facts g in_g, stronger_first e a f (place_at facts k.0.place) b g k.2 sum)))))
+    (a, in_a, (b, in_b, (k.0, k.1, (g, in_sides facts g in_g, stronger_first e a f (place_at facts k.0.place) b g k.2 sum))))
 
-pub index_shows : (facts : List Fact) (es : List Entry) → IsIndex facts (suc (length facts)) es → (e : Combination) (lead : Option RegisterId) → IfSome lead (IsLeft e.terms 1 []) → IsRising e.terms → IsShown facts e → IsMadeUpByA facts e lead es
-index_shows facts es index e lead leads rising s = by_index facts es index e lead (shown_found facts e lead leads rising s)
+pub index_shows : (facts : List Fact) (es : List Entry) → IsIndex facts (suc (length facts)) es → (e : Combination) → IsRising e.terms → IsShown facts e → IsMadeUpByA facts e es
+index_shows facts es index e rising s = by_index facts es index e (shown_found facts e None tt rising s)
 
 -- ---- some of the facts
 
