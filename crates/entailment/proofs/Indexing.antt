@@ -1,22 +1,25 @@
 -- What stands for the facts in an index, and what it makes up.
-use Rattle.std.proofs.Common.{◌≡◌, ◌∙◌, ℕ, zero, suc, ◌<◌, ◌≤◌, ◌+◌, ◌*◌, ◌^◌, ℤ, pos, ◌+ℤ◌, ◌*ℤ◌, ◌-ℤ◌, ◌≤ℤ◌, List, [], ◌∷◌, ◌++◌, length, get_or, insert, set, map, take, drop, None, inl, inr, sym, ap, refl, subst, arith}
+use Rattle.std.proofs.Common.{◌≡◌, ◌∙◌, ℕ, zero, suc, ◌<◌, ◌≤◌, ◌+◌, ◌*◌, ◌^◌, ℤ, pos, negsuc, ◌+ℤ◌, ◌*ℤ◌, ◌-ℤ◌, ◌≤ℤ◌, Bool, true, false, List, [], ◌∷◌, ◌++◌, length, get_or, insert, set, map, take, drop, None, inl, inr, sym, ap, refl, subst, arith}
 use Rattle.std.specs.List.{All, Contains}
 use Rattle.std.specs.List.Sorted.{IsNonDecreasingBy}
 use Rattle.std.proofs.Math.IntN.{zero-*ℤ}
 use Rattle.std.proofs.Math.ListN.{get_or-append}
 use Rattle.std.proofs.lemmas.Int.{ints}
-use Rattle.std.proofs.lemmas.Bool.{cases_eq}
+use Rattle.std.proofs.lemmas.Bool.{cases_eq, cases_Bool}
 use Rattle.std.proofs.lemmas.List.{length-map, length-append, map-append, take-append-drop, length-set, get_or_default, get_or-set_same, get_or-set_other}
 use Rattle.std.proofs.lemmas.List.Edits.{length-insert, get_or-insert_at}
 use Rattle.std.proofs.lemmas.List.Elements.{All-contains, All-cons, Contains-get_or, Contains-append_right}
 use Rattle.std.proofs.lemmas.List.Sorted.{IsNonDecreasingBy-insert, IsNonDecreasingBy-short, IsPermutation-insert, All-permutation, Contains-permutation}
+use Rattle.linear.specs.declared.form.Term.{Term}
 use Rattle.linear.specs.declared.form.Fact.{Fact}
 use Rattle.linear.specs.Forms.{Combination, coefficient_of, constant_form, IsRising}
 use Rattle.entailment.specs.declared.index.Entry.{Entry}
 use Rattle.entailment.specs.Shown.{IsSum, IsShown, sides}
 use Rattle.entailment.specs.Search.{factors, IsFound}
-use Rattle.entailment.specs.Index.{weight, weigh, IsKeyOf, place_at, IsEntry, IsAsStrong, IsIndexed, IsIndex, IsBegun, IsMadeUp, IsMadeUpWith, IsMadeUpByB, IsMadeUpByA, AreNotB}
+use Rattle.entailment.specs.Index.{weight, weigh, IsKeyOf, place_at, IsEntry, IsAsStrong, IsIndexed, IsIndex, IsBegun, IsContradiction, AreConsistent, IsNegative, IsMadeUp, IsMadeUpWith, IsMadeUpByB, IsMadeUpByA, AreNotB}
 use Rattle.linear.proofs.Values.{distributes, value_combines}
+use Rattle.entailment.specs.Tested.{is_shown}
+use Rattle.entailment.proofs.Tested.{shown_from_test}
 use Rattle.entailment.proofs.Left.{swapped}
 use Rattle.entailment.proofs.Sound.{keeps_sign}
 use Rattle.entailment.proofs.Newest.{in_newest, in_sides}
@@ -271,8 +274,8 @@ entry_more facts more e is = record {
   key = rw (place_more facts more e.place is.within) is.key;
 }
 
-pub begun_more : (facts more : List Fact) (n : ℕ) (es : List Entry) → IsBegun facts n es → IsBegun (facts ++ more) n es
-begun_more facts more n es begun = record {
+pub begun_more : (facts more : List Fact) (n : ℕ) (es : List Entry) (b : Bool) → IsBegun facts n es b → IsBegun (facts ++ more) n es b
+begun_more facts more n es b begun = record {
   within = rw (length-append facts more) (omega (arith, begun.within));
   index = record {
     sorted = begun.index.sorted;
@@ -282,17 +285,16 @@ begun_more facts more n es begun = record {
         let own = All-contains (IsEntry facts) es k.0 begun.index.own k.1 in
         (k.0, k.1, rw (place_more facts more k.0.place own.within, place_more facts more place (omega (arith, begun.within, l))) k.2);
   };
+  consistent = λ is p q lp lq.
+      rw (place_more facts more p (omega (arith, begun.within, lp)), place_more facts more q (omega (arith, begun.within, lq))) (begun.consistent is p q lp lq);
 }
 
-pub begun_none : (facts : List Fact) → IsBegun facts 0 []
-begun_none facts = record { within = omega arith; index = index_none facts }
-
 -- the first facts, and more of them
-pub begun_later : (facts : List Fact) (count later : ℕ) (n : ℕ) (es : List Entry) → count ≤ later → IsBegun (take count facts) n es → IsBegun (take later facts) n es
-begun_later facts count later n es le begun =
+pub begun_later : (facts : List Fact) (count later : ℕ) (n : ℕ) (es : List Entry) (b : Bool) → count ≤ later → IsBegun (take count facts) n es b → IsBegun (take later facts) n es b
+begun_later facts count later n es b le begun =
     let first : take count (take later facts) ≡ take count facts = take-take-le count later facts le in
     let whole : take count facts ++ drop count (take later facts) ≡ take later facts = ap (λ xs. xs ++ drop count (take later facts)) (sym first) ∙ take-append-drop count (take later facts) in
-    rw whole at (begun_more (take count facts) (drop count (take later facts)) n es begun)
+    rw whole at (begun_more (take count facts) (drop count (take later facts)) n es b begun)
   where
     take-take-le : (n m : ℕ) (xs : List Fact) → n ≤ m → take n (take m xs) ≡ take n xs
     take-take-le zero m xs l = refl
@@ -300,8 +302,72 @@ begun_later facts count later n es le begun =
     take-take-le (suc n) (suc m) [] l = refl
     take-take-le (suc n) (suc m) (x ∷ xs) l = ap (λ ys. x ∷ ys) (take-take-le n m xs (omega (arith, l)))
 
--- an index of all the facts
-pub begun_whole : (facts : List Fact) (n : ℕ) (es : List Entry) → length facts < n → IsBegun facts n es → IsIndex facts (suc (length facts)) es
-begun_whole facts n es all begun =
-    let e : n ≡ suc (length facts) = omega (arith, all, begun.within) in
-    rw e at begun.index
+-- ---- consistency
+
+-- two places that contradict each other have keys that come to the middle one's, twice
+pub contradiction_keys : (f g : Combination) (fk gk : ℕ) → IsKeyOf f.terms fk → IsKeyOf g.terms gk → IsContradiction f g → gk + fk ≡ 2 ^ 62
+contradiction_keys f g fk gk kf kg s =
+    let none : IsKeyOf [] (2 ^ 61) = omega (arith, ints) in
+    let keys = key_of_sum (constant_form (negsuc 0)) 1 f 1 g (2 ^ 61) fk gk none kf kg s in
+    omega (arith, keys)
+
+-- a key that is not this, where none is less from there on, is past it
+pub past_key : (es : List Entry) (key at : ℕ) (e : Entry) → IsNonDecreasingBy (λ (e : Entry). e.key) es → at < length es → key ≤ (get_or es at e).key → ((get_or es at e).key ≡ key → ⊥) →
+    (k : ℕ) (d : Entry) → at ≤ k → k < length es → (get_or es k d).key ≡ key → ⊥
+past_key es key at e up within least other k d later l is =
+    let same : (get_or es at d).key ≡ (get_or es at e).key = ap (λ (x : Entry). x.key) (get_or_default es at d e within) in
+    other (omega (arith, same, up at k d later l, least, is))
+
+-- the next place, which none of the entries contradicts
+consistent_next : (facts : List Fact) (es : List Entry) (entry : Entry) → AreConsistent facts entry.place → IsIndex facts (suc entry.place) es →
+    ((d : Entry) → Contains es d → IsContradiction (place_at facts entry.place) (place_at facts d.place) → ⊥) → AreConsistent facts (suc entry.place)
+consistent_next facts es entry old index none p q lp lq s =
+    let here = place_at facts entry.place in
+    let beside : (r : ℕ) → r < suc entry.place → IsContradiction here (place_at facts r) → ⊥ = λ r l t.
+    let k = index.kept r l in
+    none k.0 k.1 (stronger_second (constant_form (negsuc 0)) 1 here 1 (place_at facts r) (place_at facts k.0.place) k.2 t) in
+    elim (cases_eq p entry.place) [
+      | inl e ↦ beside q lq (subst (λ (n : ℕ). IsContradiction (place_at facts n) (place_at facts q)) e s)
+      | inr ne ↦ elim (cases_eq q entry.place) [
+        | inl e ↦ beside p lp (swapped (constant_form (negsuc 0)) 1 (place_at facts p) 1 here (subst (λ (n : ℕ). IsContradiction (place_at facts p) (place_at facts n)) e s))
+        | inr other ↦ old p q (omega (arith, lp, ne)) (omega (arith, lq, other)) s
+      ]
+    ]
+
+pub begun_next : (facts : List Fact) (old es : List Entry) (entry : Entry) (b r : Bool) → IsBegun facts entry.place old b → IsEntry facts entry → IsIndex facts (suc entry.place) es →
+    (r ≡ true → b ≡ true) → (r ≡ true → (d : Entry) → Contains es d → IsContradiction (place_at facts entry.place) (place_at facts d.place) → ⊥) → IsBegun facts (suc entry.place) es r
+begun_next facts old es entry b r begun own index before none = record {
+  within = omega (arith, own.within);
+  index = index;
+  consistent = λ is. consistent_next facts es entry (begun.consistent (before is)) index (none is);
+}
+
+only_one : (n : ℕ) → Contains (factors []) n → n ≡ 1
+only_one n (zero, within, is) = sym is
+only_one n (suc k, within, is) = absurd (omega (arith, within))
+
+less_yet : (x c : ℤ) → x ≤ℤ c → c ≤ℤ negsuc 0 → x ≤ℤ negsuc 0
+less_yet x c h k = omega (arith, ints, h, k)
+
+-- consistent facts show nothing below 0
+none_negative : (facts : List Fact) (es : List Entry) → IsBegun facts (suc (length facts)) es true → (c : ℤ) → c ≤ℤ negsuc 0 → IsShown facts (constant_form c) → ⊥
+none_negative facts es begun c below s =
+    let made = index_shows facts es begun.index (constant_form c) tt s in
+    let with_b = made.2 in
+    let with = with_b.2 in
+    let f = place_at facts with.0.place in
+    let g = with.2.0 in
+    let own = All-contains (IsEntry facts) es with.0 begun.index.own with.1 in
+    let at_g = place_of_side facts g with.2.1 in
+    let one : IsSum (constant_form c) 1 f with_b.0 g = subst (λ (n : ℕ). IsSum (constant_form c) n f with_b.0 g) (only_one made.0 made.1) with.2.2 in
+    let both : IsSum (constant_form c) 1 f 1 g = subst (λ (n : ℕ). IsSum (constant_form c) 1 f n g) (only_one with_b.0 with_b.1) one in
+    let against : IsContradiction f g = record { terms = both.terms; constant = less_yet ((pos 1 *ℤ f.constant) +ℤ (pos 1 *ℤ g.constant)) c both.constant below } in
+    begun.consistent refl with.0.place with.2.1.0 (omega (arith, own.within)) at_g.0 (subst (λ (x : Combination). IsContradiction f x) (sym at_g.1) against)
+
+pub negative_not_shown : (facts : List Fact) (es : List Entry) → IsBegun facts (suc (length facts)) es true → (e : Combination) → IsNegative e → is_shown facts e ≡ false
+negative_not_shown facts es begun e negative = elim (cases_Bool (is_shown facts e)) [
+  | inl shows ↦
+      let s : IsShown facts (constant_form e.constant) = subst (λ (ts : List Term). IsShown facts (record { terms = ts; constant = e.constant })) negative.terms (shown_from_test facts e shows) in
+      absurd (none_negative facts es begun e.constant negative.constant s)
+  | inr not ↦ not
+]

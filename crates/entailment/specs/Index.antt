@@ -1,5 +1,5 @@
 -- Facts by the values of their terms: of those with the same coefficients the strongest alone is kept.
-use Rattle.std.specs.Prelude.{◌≡◌, ℕ, suc, ◌<◌, ◌≤◌, ◌+◌, ◌*◌, ◌%◌, ◌^◌, ℤ, pos, ◌+ℤ◌, ◌≤ℤ◌, List, length, take, All, Contains, slice_index_or}
+use Rattle.std.specs.Prelude.{◌≡◌, ℕ, suc, ◌<◌, ◌≤◌, ◌+◌, ◌*◌, ◌%◌, ◌^◌, ℤ, pos, negsuc, ◌+ℤ◌, ◌≤ℤ◌, Bool, true, List, [], length, take, All, Contains, slice_index_or}
 use Rattle.std.specs.List.Sorted.{IsNonDecreasingBy}
 use Rattle.linear.specs.declared.form.Term.{Term}
 use Rattle.linear.specs.declared.form.Fact.{Fact}
@@ -43,10 +43,24 @@ pub record IsIndex (facts : List Fact) (count : ℕ) (entries : List Entry) : Ty
   pub own : All (IsEntry facts) entries
   pub kept : (place : ℕ) → place < count → IsIndexed facts entries place
 
--- an index of the first places, which more may join
-pub record IsBegun (facts : List Fact) (count : ℕ) (entries : List Entry) : Type 0 where
+-- the two say that something below 0 is not below 0
+abbrev pub IsContradiction : Combination → Combination → Type 0
+IsContradiction f g = IsSum (constant_form (negsuc 0)) 1 f 1 g
+
+-- no two of the first places contradict each other
+abbrev pub AreConsistent : List Fact → ℕ → Type 0
+AreConsistent facts count = (p q : ℕ) → p < count → q < count → IsContradiction (place_at facts p) (place_at facts q) → ⊥
+
+-- an index of the first places, which more may join, and whether these are known to be consistent
+pub record IsBegun (facts : List Fact) (count : ℕ) (entries : List Entry) (is_consistent : Bool) : Type 0 where
   pub within : count ≤ suc (length facts)
   pub index : IsIndex facts count entries
+  pub consistent : is_consistent ≡ true → AreConsistent facts count
+
+-- something below 0, without terms
+pub record IsNegative (e : Combination) : Type 0 where
+  pub terms : e.terms ≡ []
+  pub constant : e.constant ≤ℤ negsuc 0
 
 -- ---- the search: some first factor, some second factor, some first fact, some second fact
 

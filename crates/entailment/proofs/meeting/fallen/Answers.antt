@@ -1,4 +1,4 @@
-use Rattle.std.proofs.Common.{◌∙◌, ◌<◌, ◌+◌, ◌-◌, ◌*◌, length, get_or, arith}
+use Rattle.std.proofs.Common.{◌<◌, ◌-◌, length, arith}
 use Rattle.entailment.specs.declared.index.Entry.{Entry}
 use Rattle.entailment.proofs.Passing.{above_from}
 use Rattle.entailment.proofs.meeting.fallen.Goals as goal

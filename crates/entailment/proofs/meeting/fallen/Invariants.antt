@@ -1,4 +1,4 @@
-use Rattle.std.proofs.Common.{ℕ, ◌<◌, ◌≤◌, ◌+◌, ◌-◌, ◌*◌, get_or, length}
+use Rattle.std.proofs.Common.{ℕ, ◌<◌, ◌≤◌, ◌+◌, ◌-◌, ◌*◌, get_or}
 use Rattle.entailment.specs.declared.index.Entry.{Entry}
 use Rattle.entailment.proofs.meeting.fallen.Given as goal
 
