@@ -1,24 +1,26 @@
 -- What stands for the facts in an index, and what it makes up.
-use Rattle.std.proofs.Common.{◌≡◌, ◌∙◌, ℕ, zero, suc, ◌<◌, ◌≤◌, ◌+◌, ◌*◌, ◌^◌, ℤ, pos, ◌+ℤ◌, ◌*ℤ◌, ◌-ℤ◌, ◌≤ℤ◌, true, List, [], ◌∷◌, ◌++◌, length, get_or, insert, set, map, take, drop, Option, None, Some, inl, inr, sym, ap, refl, subst, arith}
+use Rattle.std.proofs.Common.{◌≡◌, ◌∙◌, ℕ, zero, suc, ◌<◌, ◌≤◌, ◌+◌, ◌*◌, ◌^◌, ℤ, pos, negsuc, ◌+ℤ◌, ◌*ℤ◌, ◌-ℤ◌, ◌≤ℤ◌, Bool, true, false, List, [], ◌∷◌, ◌++◌, length, get_or, insert, set, map, take, drop, None, inl, inr, sym, ap, refl, subst, arith}
 use Rattle.std.specs.List.{All, Contains}
 use Rattle.std.specs.List.Sorted.{IsNonDecreasingBy}
-use Rattle.std.specs.Option.{IfSome}
 use Rattle.std.proofs.Math.IntN.{zero-*ℤ}
 use Rattle.std.proofs.Math.ListN.{get_or-append}
 use Rattle.std.proofs.lemmas.Int.{ints}
-use Rattle.std.proofs.lemmas.Bool.{cases_eq, cases_lt}
+use Rattle.std.proofs.lemmas.Bool.{cases_eq, cases_Bool}
 use Rattle.std.proofs.lemmas.List.{length-map, length-append, map-append, take-append-drop, length-set, get_or_default, get_or-set_same, get_or-set_other}
 use Rattle.std.proofs.lemmas.List.Edits.{length-insert, get_or-insert_at}
 use Rattle.std.proofs.lemmas.List.Elements.{All-contains, All-cons, Contains-get_or, Contains-append_right}
 use Rattle.std.proofs.lemmas.List.Sorted.{IsNonDecreasingBy-insert, IsNonDecreasingBy-short, IsPermutation-insert, All-permutation, Contains-permutation}
-use Rattle.linear.specs.declared.form.RegisterId.{RegisterId}
+use Rattle.linear.specs.declared.form.Term.{Term}
 use Rattle.linear.specs.declared.form.Fact.{Fact}
 use Rattle.linear.specs.Forms.{Combination, coefficient_of, constant_form, IsRising}
 use Rattle.entailment.specs.declared.index.Entry.{Entry}
 use Rattle.entailment.specs.Shown.{IsSum, IsShown, sides}
-use Rattle.entailment.specs.Search.{factors, has_some, IsLeft, IsFound}
-use Rattle.entailment.specs.Index.{weight, weigh, IsKeyOf, place_at, IsEntry, IsAsStrong, IsIndexed, IsIndex, IsBegun, IsMadeUp, IsMadeUpWith, IsMadeUpByA}
+use Rattle.entailment.specs.Search.{factors, IsFound}
+use Rattle.entailment.specs.Index.{weight, weigh, IsKeyOf, place_at, IsEntry, IsAsStrong, IsIndexed, IsIndex, IsBegun, IsContradiction, AreConsistent, IsNegative, IsMadeUp, IsMadeUpWith, IsMadeUpByB, IsMadeUpByA, AreNotB}
 use Rattle.linear.proofs.Values.{distributes, value_combines}
+use Rattle.entailment.specs.Tested.{is_shown}
+use Rattle.entailment.proofs.Tested.{shown_from_test}
+use Rattle.entailment.proofs.Left.{swapped}
 use Rattle.entailment.proofs.Sound.{keeps_sign}
 use Rattle.entailment.proofs.Newest.{in_newest, in_sides}
 use Rattle.entailment.proofs.Found.{is_factor, found_shown, shown_found}
@@ -56,10 +58,6 @@ stronger_second e a f b g g' p s = record {
   terms = λ r. s.terms r ∙ ap (λ z. (pos a *ℤ coefficient_of f.terms r) +ℤ (pos b *ℤ z)) (sym (p.terms r));
   constant = less_after (pos b *ℤ g'.constant) (pos b *ℤ g.constant) (pos a *ℤ f.constant) e.constant (keeps_order b g'.constant g.constant p.constant) s.constant;
 }
-
-same_some : (f g : Combination) (lead : Option RegisterId) → IsAsStrong f g → has_some g.terms lead ≡ true → has_some f.terms lead ≡ true
-same_some f g None p h = h
-same_some f g (Some r) p h = rw (p.terms r.0) h
 
 -- ---- keys
 
@@ -167,7 +165,7 @@ place_of_side : (facts : List Fact) (g : Combination) (c : Contains (sides facts
 place_of_side facts g (p, within, is) =
     (omega (arith, within, length-map facts (λ (f : Fact). f.form)), get_or_default (sides facts) p (constant_form (pos 0)) g within ∙ is)
 
-kept_side : (facts : List Fact) (es : List Entry) → IsIndex facts (suc (length facts)) es → (g : Combination) → Contains (sides facts) g →
+pub kept_side : (facts : List Fact) (es : List Entry) → IsIndex facts (suc (length facts)) es → (g : Combination) → Contains (sides facts) g →
     (e : Entry) × Contains es e × IsAsStrong (place_at facts e.place) g
 kept_side facts es index g c =
     let p = place_of_side facts g c in
@@ -176,31 +174,6 @@ kept_side facts es index g c =
 
 pub side_of_entry : (facts : List Fact) (e : Entry) → IsEntry facts e → Contains (sides facts) (place_at facts e.place)
 side_of_entry facts e is = Contains-get_or (sides facts) e.place (constant_form (pos 0)) (omega (arith, is.within, length-map facts (λ (f : Fact). f.form)))
-
--- what makes a form up has an entry that does, of the key that is wanted
-pub made_up_by_entry : (facts : List Fact) (es : List Entry) → IsIndex facts (suc (length facts)) es → (e : Combination) (a : ℕ) (first : Entry) (b key : ℕ) → IsKeyOf e.terms key → IsEntry facts first →
-    IsMadeUp facts e (place_at facts first.place) a b →
-    (second : Entry) × Contains es second × (b * second.key + a * first.key + 2 ^ 61 ≡ (a + b) * 2 ^ 61 + key) × IsSum e a (place_at facts first.place) b (place_at facts second.place)
-made_up_by_entry facts es index e a first b key is entry (g, c, sum) =
-    let k = kept_side facts es index g c in
-    let s = stronger_second e a (place_at facts first.place) b g (place_at facts k.0.place) k.2 sum in
-    let own = All-contains (IsEntry facts) es k.0 index.own k.1 in
-    (k.0, k.1, key_of_sum e a (place_at facts first.place) b (place_at facts k.0.place) key first.key k.0.key is entry.key own.key s, s)
-
--- it is in a run of the first entries, which holds all of the wanted key, where the other entries are past it
-pub second_in_run : (facts : List Fact) (es run : List Entry) (e : Combination) (a : ℕ) (first : Entry) (b key wanted upto : ℕ) → IsIndex facts (suc (length facts)) es → IsKeyOf e.terms key → IsEntry facts first →
-    wanted + a * first.key + 2 ^ 61 ≡ (a + b) * 2 ^ 61 + key → ((k : ℕ) (d : Entry) → upto ≤ k → k < length es → wanted < b * (get_or es k d).key) →
-    ((k : ℕ) (d : Entry) → k < upto → b * (get_or es k d).key ≡ wanted → Contains run (get_or es k d)) → IsMadeUp facts e (place_at facts first.place) a b →
-    (second : Entry) × Contains run second × IsSum e a (place_at facts first.place) b (place_at facts second.place)
-second_in_run facts es run e a first b key wanted upto index is entry want past all made =
-    let s = made_up_by_entry facts es index e a first b key is entry made in
-    let at_is : get_or es s.1.0 s.0 ≡ s.0 = s.1.2 in
-    let key_is : b * s.0.key ≡ wanted = omega (arith, s.2, want) in
-    let same : b * (get_or es s.1.0 s.0).key ≡ b * s.0.key = ap (λ (x : Entry). b * x.key) at_is in
-    elim (cases_lt s.1.0 upto) [
-      | inl less ↦ (s.0, subst (λ (x : Entry). Contains run x) at_is (all s.1.0 s.0 less (same ∙ key_is)), s.3)
-      | inr more ↦ absurd (omega (arith, past s.1.0 s.0 more s.1.1, same, key_is))
-    ]
 
 -- one fact alone shows a form
 pub alone_shown : (facts : List Fact) (e : Combination) (b : ℕ) → IsRising e.terms → Contains (factors e.terms) b → IsMadeUp facts e (place_at facts 0) 1 b → IsShown facts e
@@ -225,27 +198,40 @@ second_nothing facts e f a (g, in_g, sum) =
     } in
     (constant_form (pos 0), (0, omega arith, refl), with_one)
 
-with_nothing : (facts : List Fact) (e : Combination) (lead : Option RegisterId) (es : List Entry) (a : ℕ) → IsMadeUpWith facts e lead es a 0 → IsMadeUpWith facts e lead es a 1
-with_nothing facts e lead es a (first, c, (leads, second)) = (first, c, (leads, second_nothing facts e (place_at facts first.place) a second))
+with_nothing : (facts : List Fact) (e : Combination) (es : List Entry) (a : ℕ) → IsMadeUpWith facts e es a 0 → IsMadeUpWith facts e es a 1
+with_nothing facts e es a (first, c, second) = (first, c, second_nothing facts e (place_at facts first.place) a second)
 
 -- so a factor 0 need not be tried after the factor 1
-pub nothing_not : (facts : List Fact) (e : Combination) (lead : Option RegisterId) (es : List Entry) (a k : ℕ) → get_or (factors e.terms) k 0 ≡ 0 →
-    All (λ b. IsMadeUpWith facts e lead es a b → ⊥) (take k (factors e.terms)) → IsMadeUpWith facts e lead es a (get_or (factors e.terms) k 0) → ⊥
-nothing_not facts e lead es a zero is none made = absurd (omega (arith, is))
-nothing_not facts e lead es a (suc k) is none made = none 0 0 (omega arith) (with_nothing facts e lead es a (rw is at made))
+pub nothing_not : (facts : List Fact) (e : Combination) (es : List Entry) (a k : ℕ) → get_or (factors e.terms) k 0 ≡ 0 →
+    AreNotB facts e es a k → IsMadeUpWith facts e es a (get_or (factors e.terms) k 0) → ⊥
+nothing_not facts e es a zero is none made = absurd (omega (arith, is))
+nothing_not facts e es a (suc k) is none made = none 0 0 (omega arith) (with_nothing facts e es a (rw is at made))
 
-pub shown_by_index : (facts : List Fact) (es : List Entry) → IsIndex facts (suc (length facts)) es → (e : Combination) (lead : Option RegisterId) → IsRising e.terms → IsMadeUpByA facts e lead es → IsShown facts e
-shown_by_index facts es index e lead rising (a, in_a, (b, in_b, (entry, c, (leads, (g, in_g, sum))))) =
+-- two factors make the form up in either order
+pub either_order : (facts : List Fact) (es : List Entry) → IsIndex facts (suc (length facts)) es → (e : Combination) (a b : ℕ) → IsMadeUpWith facts e es a b → IsMadeUpWith facts e es b a
+either_order facts es index e a b (first, c, (g, in_g, sum)) =
+    let k = kept_side facts es index g in_g in
+    let f = place_at facts first.place in
+    let own = All-contains (IsEntry facts) es first index.own c in
+    (k.0, k.1, (f, side_of_entry facts first own, swapped e a f b (place_at facts k.0.place) (stronger_second e a f b g (place_at facts k.0.place) k.2 sum)))
+
+-- so of a first factor no second one need be tried that stands before it
+pub not_before : (facts : List Fact) (es : List Entry) → IsIndex facts (suc (length facts)) es → (e : Combination) (a i : ℕ) → Contains (factors e.terms) a →
+    All (λ a. IsMadeUpByB facts e es a → ⊥) (take i (factors e.terms)) → AreNotB facts e es a i
+not_before facts es index e a i in_a none = λ k d l made. none k d l (a, in_a, either_order facts es index e a (get_or (take i (factors e.terms)) k d) made)
+
+pub shown_by_index : (facts : List Fact) (es : List Entry) → IsIndex facts (suc (length facts)) es → (e : Combination) → IsRising e.terms → IsMadeUpByA facts e es → IsShown facts e
+shown_by_index facts es index e rising (a, in_a, (b, in_b, (entry, c, (g, in_g, sum)))) =
     let own = All-contains (IsEntry facts) es entry index.own c in
-    found_shown facts e lead rising (place_at facts entry.place, in_newest facts (place_at facts entry.place) (side_of_entry facts entry own), (leads, (a, in_a, (g, in_newest facts g in_g, (b, in_b, sum)))))
+    found_shown facts e None rising (place_at facts entry.place, in_newest facts (place_at facts entry.place) (side_of_entry facts entry own), (refl, (a, in_a, (g, in_newest facts g in_g, (b, in_b, sum)))))
 
-by_index : (facts : List Fact) (es : List Entry) → IsIndex facts (suc (length facts)) es → (e : Combination) (lead : Option RegisterId) → IsFound facts e lead → IsMadeUpByA facts e lead es
-by_index facts es index e lead (f, in_f, (leads, (a, in_a, (g, in_g, (b, in_b, sum))))) =
+by_index : (facts : List Fact) (es : List Entry) → IsIndex facts (suc (length facts)) es → (e : Combination) → IsFound facts e None → IsMadeUpByA facts e es
+by_index facts es index e (f, in_f, (leads, (a, in_a, (g, in_g, (b, in_b, sum))))) =
     let k = kept_side facts es index f (in_sides facts f in_f) in
-    (a, in_a, (b, in_b, (k.0, k.1, (same_some (place_at facts k.0.place) f lead k.2 leads, (g, in_sides facts g in_g, stronger_first e a f (place_at facts k.0.place) b g k.2 sum)))))
+    (a, in_a, (b, in_b, (k.0, k.1, (g, in_sides facts g in_g, stronger_first e a f (place_at facts k.0.place) b g k.2 sum))))
 
-pub index_shows : (facts : List Fact) (es : List Entry) → IsIndex facts (suc (length facts)) es → (e : Combination) (lead : Option RegisterId) → IfSome lead (IsLeft e.terms 1 []) → IsRising e.terms → IsShown facts e → IsMadeUpByA facts e lead es
-index_shows facts es index e lead leads rising s = by_index facts es index e lead (shown_found facts e lead leads rising s)
+pub index_shows : (facts : List Fact) (es : List Entry) → IsIndex facts (suc (length facts)) es → (e : Combination) → IsRising e.terms → IsShown facts e → IsMadeUpByA facts e es
+index_shows facts es index e rising s = by_index facts es index e (shown_found facts e None tt rising s)
 
 -- ---- some of the facts
 
@@ -288,8 +274,8 @@ entry_more facts more e is = record {
   key = rw (place_more facts more e.place is.within) is.key;
 }
 
-pub begun_more : (facts more : List Fact) (n : ℕ) (es : List Entry) → IsBegun facts n es → IsBegun (facts ++ more) n es
-begun_more facts more n es begun = record {
+pub begun_more : (facts more : List Fact) (n : ℕ) (es : List Entry) (b : Bool) → IsBegun facts n es b → IsBegun (facts ++ more) n es b
+begun_more facts more n es b begun = record {
   within = rw (length-append facts more) (omega (arith, begun.within));
   index = record {
     sorted = begun.index.sorted;
@@ -299,17 +285,16 @@ begun_more facts more n es begun = record {
         let own = All-contains (IsEntry facts) es k.0 begun.index.own k.1 in
         (k.0, k.1, rw (place_more facts more k.0.place own.within, place_more facts more place (omega (arith, begun.within, l))) k.2);
   };
+  consistent = λ is p q lp lq.
+      rw (place_more facts more p (omega (arith, begun.within, lp)), place_more facts more q (omega (arith, begun.within, lq))) (begun.consistent is p q lp lq);
 }
 
-pub begun_none : (facts : List Fact) → IsBegun facts 0 []
-begun_none facts = record { within = omega arith; index = index_none facts }
-
 -- the first facts, and more of them
-pub begun_later : (facts : List Fact) (count later : ℕ) (n : ℕ) (es : List Entry) → count ≤ later → IsBegun (take count facts) n es → IsBegun (take later facts) n es
-begun_later facts count later n es le begun =
+pub begun_later : (facts : List Fact) (count later : ℕ) (n : ℕ) (es : List Entry) (b : Bool) → count ≤ later → IsBegun (take count facts) n es b → IsBegun (take later facts) n es b
+begun_later facts count later n es b le begun =
     let first : take count (take later facts) ≡ take count facts = take-take-le count later facts le in
     let whole : take count facts ++ drop count (take later facts) ≡ take later facts = ap (λ xs. xs ++ drop count (take later facts)) (sym first) ∙ take-append-drop count (take later facts) in
-    rw whole at (begun_more (take count facts) (drop count (take later facts)) n es begun)
+    rw whole at (begun_more (take count facts) (drop count (take later facts)) n es b begun)
   where
     take-take-le : (n m : ℕ) (xs : List Fact) → n ≤ m → take n (take m xs) ≡ take n xs
     take-take-le zero m xs l = refl
@@ -317,8 +302,72 @@ begun_later facts count later n es le begun =
     take-take-le (suc n) (suc m) [] l = refl
     take-take-le (suc n) (suc m) (x ∷ xs) l = ap (λ ys. x ∷ ys) (take-take-le n m xs (omega (arith, l)))
 
--- an index of all the facts
-pub begun_whole : (facts : List Fact) (n : ℕ) (es : List Entry) → length facts < n → IsBegun facts n es → IsIndex facts (suc (length facts)) es
-begun_whole facts n es all begun =
-    let e : n ≡ suc (length facts) = omega (arith, all, begun.within) in
-    rw e at begun.index
+-- ---- consistency
+
+-- two places that contradict each other have keys that come to the middle one's, twice
+pub contradiction_keys : (f g : Combination) (fk gk : ℕ) → IsKeyOf f.terms fk → IsKeyOf g.terms gk → IsContradiction f g → gk + fk ≡ 2 ^ 62
+contradiction_keys f g fk gk kf kg s =
+    let none : IsKeyOf [] (2 ^ 61) = omega (arith, ints) in
+    let keys = key_of_sum (constant_form (negsuc 0)) 1 f 1 g (2 ^ 61) fk gk none kf kg s in
+    omega (arith, keys)
+
+-- a key that is not this, where none is less from there on, is past it
+pub past_key : (es : List Entry) (key at : ℕ) (e : Entry) → IsNonDecreasingBy (λ (e : Entry). e.key) es → at < length es → key ≤ (get_or es at e).key → ((get_or es at e).key ≡ key → ⊥) →
+    (k : ℕ) (d : Entry) → at ≤ k → k < length es → (get_or es k d).key ≡ key → ⊥
+past_key es key at e up within least other k d later l is =
+    let same : (get_or es at d).key ≡ (get_or es at e).key = ap (λ (x : Entry). x.key) (get_or_default es at d e within) in
+    other (omega (arith, same, up at k d later l, least, is))
+
+-- the next place, which none of the entries contradicts
+consistent_next : (facts : List Fact) (es : List Entry) (entry : Entry) → AreConsistent facts entry.place → IsIndex facts (suc entry.place) es →
+    ((d : Entry) → Contains es d → IsContradiction (place_at facts entry.place) (place_at facts d.place) → ⊥) → AreConsistent facts (suc entry.place)
+consistent_next facts es entry old index none p q lp lq s =
+    let here = place_at facts entry.place in
+    let beside : (r : ℕ) → r < suc entry.place → IsContradiction here (place_at facts r) → ⊥ = λ r l t.
+    let k = index.kept r l in
+    none k.0 k.1 (stronger_second (constant_form (negsuc 0)) 1 here 1 (place_at facts r) (place_at facts k.0.place) k.2 t) in
+    elim (cases_eq p entry.place) [
+      | inl e ↦ beside q lq (subst (λ (n : ℕ). IsContradiction (place_at facts n) (place_at facts q)) e s)
+      | inr ne ↦ elim (cases_eq q entry.place) [
+        | inl e ↦ beside p lp (swapped (constant_form (negsuc 0)) 1 (place_at facts p) 1 here (subst (λ (n : ℕ). IsContradiction (place_at facts p) (place_at facts n)) e s))
+        | inr other ↦ old p q (omega (arith, lp, ne)) (omega (arith, lq, other)) s
+      ]
+    ]
+
+pub begun_next : (facts : List Fact) (old es : List Entry) (entry : Entry) (b r : Bool) → IsBegun facts entry.place old b → IsEntry facts entry → IsIndex facts (suc entry.place) es →
+    (r ≡ true → b ≡ true) → (r ≡ true → (d : Entry) → Contains es d → IsContradiction (place_at facts entry.place) (place_at facts d.place) → ⊥) → IsBegun facts (suc entry.place) es r
+begun_next facts old es entry b r begun own index before none = record {
+  within = omega (arith, own.within);
+  index = index;
+  consistent = λ is. consistent_next facts es entry (begun.consistent (before is)) index (none is);
+}
+
+only_one : (n : ℕ) → Contains (factors []) n → n ≡ 1
+only_one n (zero, within, is) = sym is
+only_one n (suc k, within, is) = absurd (omega (arith, within))
+
+less_yet : (x c : ℤ) → x ≤ℤ c → c ≤ℤ negsuc 0 → x ≤ℤ negsuc 0
+less_yet x c h k = omega (arith, ints, h, k)
+
+-- consistent facts show nothing below 0
+none_negative : (facts : List Fact) (es : List Entry) → IsBegun facts (suc (length facts)) es true → (c : ℤ) → c ≤ℤ negsuc 0 → IsShown facts (constant_form c) → ⊥
+none_negative facts es begun c below s =
+    let made = index_shows facts es begun.index (constant_form c) tt s in
+    let with_b = made.2 in
+    let with = with_b.2 in
+    let f = place_at facts with.0.place in
+    let g = with.2.0 in
+    let own = All-contains (IsEntry facts) es with.0 begun.index.own with.1 in
+    let at_g = place_of_side facts g with.2.1 in
+    let one : IsSum (constant_form c) 1 f with_b.0 g = subst (λ (n : ℕ). IsSum (constant_form c) n f with_b.0 g) (only_one made.0 made.1) with.2.2 in
+    let both : IsSum (constant_form c) 1 f 1 g = subst (λ (n : ℕ). IsSum (constant_form c) 1 f n g) (only_one with_b.0 with_b.1) one in
+    let against : IsContradiction f g = record { terms = both.terms; constant = less_yet ((pos 1 *ℤ f.constant) +ℤ (pos 1 *ℤ g.constant)) c both.constant below } in
+    begun.consistent refl with.0.place with.2.1.0 (omega (arith, own.within)) at_g.0 (subst (λ (x : Combination). IsContradiction f x) (sym at_g.1) against)
+
+pub negative_not_shown : (facts : List Fact) (es : List Entry) → IsBegun facts (suc (length facts)) es true → (e : Combination) → IsNegative e → is_shown facts e ≡ false
+negative_not_shown facts es begun e negative = elim (cases_Bool (is_shown facts e)) [
+  | inl shows ↦
+      let s : IsShown facts (constant_form e.constant) = subst (λ (ts : List Term). IsShown facts (record { terms = ts; constant = e.constant })) negative.terms (shown_from_test facts e shows) in
+      absurd (none_negative facts es begun e.constant negative.constant s)
+  | inr not ↦ not
+]

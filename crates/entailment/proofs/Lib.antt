@@ -10,3 +10,4 @@ pub mod Newest
 pub mod Left
 pub mod Indexing
 pub mod Looking
+pub mod Passing

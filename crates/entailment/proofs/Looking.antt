@@ -10,7 +10,6 @@ use Rattle.linear.specs.declared.form.Term.{Term}
 use Rattle.linear.specs.Forms.{coefficient_of, IsRising}
 use Rattle.entailment.specs.declared.index.Entry.{Entry}
 use Rattle.entailment.specs.Search.{Agrees}
-use Rattle.entailment.specs.Index.{ArePast}
 use Rattle.entailment.proofs.Coefficients.{agree_sums, sums_agree}
 
 one_and_nothing : (x y : ℤ) → x ≡ (pos 1 *ℤ y) +ℤ (pos 0 *ℤ pos 0) → x ≡ y
@@ -56,11 +55,3 @@ below_run b w es from upto within le some up last x e is other k d l =
       | inl e ↦ absurd (other e)
       | inr ne ↦ omega (arith, one, less, more, end, ne)
     ]
-
--- keys that are too great beside a first key are so beside a greater one
-pub past_more : (es : List Entry) (key a b i upto : ℕ) (e : Entry) → IsNonDecreasingBy (λ (e : Entry). e.key) es → i < length es → ArePast es key a b (get_or es i e).key upto →
-    (m : ℕ) (d : Entry) → i ≤ m → m < length es → ArePast es key a b (get_or es m d).key upto
-past_more es key a b i upto e up within past m d le l = λ k d' more below.
-    let same : get_or es i d ≡ get_or es i e = get_or_default es i d e within in
-    let rises : (get_or es i e).key ≤ (get_or es m d).key = rw (← same) (up i m d le l) in
-    omega (arith, past k d' more below, mul-le-mul_left a rises)

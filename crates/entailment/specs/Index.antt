@@ -1,12 +1,11 @@
 -- Facts by the values of their terms: of those with the same coefficients the strongest alone is kept.
-use Rattle.std.specs.Prelude.{◌≡◌, ℕ, suc, ◌<◌, ◌≤◌, ◌+◌, ◌*◌, ◌%◌, ◌^◌, ℤ, pos, ◌+ℤ◌, ◌≤ℤ◌, true, List, length, All, Contains, Option, slice_index_or}
+use Rattle.std.specs.Prelude.{◌≡◌, ℕ, suc, ◌<◌, ◌≤◌, ◌+◌, ◌*◌, ◌%◌, ◌^◌, ℤ, pos, negsuc, ◌+ℤ◌, ◌≤ℤ◌, Bool, true, List, [], length, take, All, Contains, slice_index_or}
 use Rattle.std.specs.List.Sorted.{IsNonDecreasingBy}
-use Rattle.linear.specs.declared.form.RegisterId.{RegisterId}
 use Rattle.linear.specs.declared.form.Term.{Term}
 use Rattle.linear.specs.declared.form.Fact.{Fact}
 use Rattle.linear.specs.Forms.{Combination, coefficient_of, constant_form, value_of}
 use Rattle.entailment.specs.declared.index.Entry.{Entry}
-use Rattle.entailment.specs.Search.{factors, has_some}
+use Rattle.entailment.specs.Search.{factors}
 use Rattle.entailment.specs.Shown.{IsSum, sides}
 
 abbrev pub spread : ℕ → ℕ
@@ -44,30 +43,54 @@ pub record IsIndex (facts : List Fact) (count : ℕ) (entries : List Entry) : Ty
   pub own : All (IsEntry facts) entries
   pub kept : (place : ℕ) → place < count → IsIndexed facts entries place
 
--- an index of the first places, which more may join
-pub record IsBegun (facts : List Fact) (count : ℕ) (entries : List Entry) : Type 0 where
+-- the two say that something below 0 is not below 0
+abbrev pub IsContradiction : Combination → Combination → Type 0
+IsContradiction f g = IsSum (constant_form (negsuc 0)) 1 f 1 g
+
+-- no two of the first places contradict each other
+abbrev pub AreConsistent : List Fact → ℕ → Type 0
+AreConsistent facts count = (p q : ℕ) → p < count → q < count → IsContradiction (place_at facts p) (place_at facts q) → ⊥
+
+-- an index of the first places, which more may join, and whether these are known to be consistent
+pub record IsBegun (facts : List Fact) (count : ℕ) (entries : List Entry) (is_consistent : Bool) : Type 0 where
   pub within : count ≤ suc (length facts)
   pub index : IsIndex facts count entries
+  pub consistent : is_consistent ≡ true → AreConsistent facts count
 
--- ---- the search: some first factor, some second factor, some first fact that has some of a register, some second fact
+-- something below 0, without terms
+pub record IsNegative (e : Combination) : Type 0 where
+  pub terms : e.terms ≡ []
+  pub constant : e.constant ≤ℤ negsuc 0
+
+-- ---- the search: some first factor, some second factor, some first fact, some second fact
 
 abbrev pub IsMadeUp : List Fact → Combination → Combination → ℕ → ℕ → Type 0
 IsMadeUp facts e f a b = (g : Combination) × Contains (sides facts) g × IsSum e a f b g
 
-abbrev pub IsMadeUpFirst : List Fact → Combination → Option RegisterId → ℕ → ℕ → Entry → Type 0
-IsMadeUpFirst facts e lead a b first =
-    (has_some (place_at facts first.place).terms lead ≡ true) × IsMadeUp facts e (place_at facts first.place) a b
+abbrev pub IsMadeUpWith : List Fact → Combination → List Entry → ℕ → ℕ → Type 0
+IsMadeUpWith facts e entries a b = (first : Entry) × Contains entries first × IsMadeUp facts e (place_at facts first.place) a b
 
-abbrev pub IsMadeUpWith : List Fact → Combination → Option RegisterId → List Entry → ℕ → ℕ → Type 0
-IsMadeUpWith facts e lead entries a b = (first : Entry) × Contains entries first × IsMadeUpFirst facts e lead a b first
+abbrev pub IsMadeUpByB : List Fact → Combination → List Entry → ℕ → Type 0
+IsMadeUpByB facts e entries a = (b : ℕ) × Contains (factors e.terms) b × IsMadeUpWith facts e entries a b
 
-abbrev pub IsMadeUpByB : List Fact → Combination → Option RegisterId → List Entry → ℕ → Type 0
-IsMadeUpByB facts e lead entries a = (b : ℕ) × Contains (factors e.terms) b × IsMadeUpWith facts e lead entries a b
+abbrev pub IsMadeUpByA : List Fact → Combination → List Entry → Type 0
+IsMadeUpByA facts e entries = (a : ℕ) × Contains (factors e.terms) a × IsMadeUpByB facts e entries a
 
-abbrev pub IsMadeUpByA : List Fact → Combination → Option RegisterId → List Entry → Type 0
-IsMadeUpByA facts e lead entries = (a : ℕ) × Contains (factors e.terms) a × IsMadeUpByB facts e lead entries a
+-- none of the first factors is a second one
+abbrev pub AreNotB : List Fact → Combination → List Entry → ℕ → ℕ → Type 0
+AreNotB facts e entries a count = All (λ b. IsMadeUpWith facts e entries a b → ⊥) (take count (factors e.terms))
 
--- from a place on the keys are too great for what a form of this key lacks beside a times a first key
-abbrev pub ArePast : List Entry → ℕ → ℕ → ℕ → ℕ → ℕ → Type 0
-ArePast entries key a b first upto = (k : ℕ) (d : Entry) → upto ≤ k → k < length entries
-    → (a + b) * 2 ^ 61 + key < b * (slice_index_or entries k d).key + a * first + 2 ^ 61
+-- the keys of two entries come to a total
+abbrev pub Meet : List Entry → ℕ → ℕ → ℕ → ℕ → ℕ → Type 0
+Meet entries a b total i k = (d : Entry) → a * (slice_index_or entries i d).key + b * (slice_index_or entries k d).key ≡ total
+
+-- a first one is left from a place on, and a second one before another; those in either order count once where the factors are the same
+pub record IsOpen (many a b first count : ℕ) : Type 0 where
+  pub within : first < many
+  pub some : 0 < count
+  pub order : a ≡ b → first < count
+
+-- what makes the form up is left
+abbrev pub AreLeft : List Fact → Combination → List Entry → ℕ → ℕ → ℕ → ℕ → Type 0
+AreLeft facts e entries a b at upto = (f g : Entry) (f_in : Contains entries f) (g_in : Contains entries g)
+    → IsSum e a (place_at facts f.place) b (place_at facts g.place) → (at ≤ f_in.0) × (g_in.0 < upto)

@@ -2,7 +2,7 @@
 
 ghost use Rattle.std.specs.Prelude.{◌≡◌, length, take};
 
-use crate::index::{Entry, FEW, enter_from};
+use crate::index::{Entered, Entry, FEW, enter_from, nothing_entered};
 use crate::known::Known;
 use linear::Fact;
 use std::alloc::{AllocError, Global};
@@ -14,8 +14,8 @@ pub struct FactCursor<'a> {
     facts: &'a [Fact],
     count: usize,
     entries: Vec<Entry>,
-    /// How many places have entries.
-    entered: usize,
+    /// How many places have entries, and whether they are consistent.
+    entered: Entered,
 }
 
 impl<'a> Model for FactCursor<'a> {
@@ -27,7 +27,7 @@ impl<'a> Model for FactCursor<'a> {
 
     ghost view = { λ c. (c.facts.now, c.count) };
 
-    ghost invariant = { λ c. IsBegun (take c.count c.facts.now) c.entered c.entries.items };
+    ghost invariant = { λ c. IsBegun (take c.count c.facts.now) c.entered.count c.entries.items c.entered.is_consistent };
 }
 
 /// The first of the facts.
@@ -50,7 +50,7 @@ impl<'a> FactCursor<'a> {
             facts,
             count: facts.len(),
             entries: Vec::new(alloc),
-            entered: 0,
+            entered: nothing_entered(),
         }
     }
 
@@ -60,7 +60,7 @@ impl<'a> FactCursor<'a> {
     {
         if count < self.count {
             self.entries.clear();
-            self.entered = 0;
+            self.entered = nothing_entered();
             self.count = count;
         } else {
             self.count = count;
@@ -82,7 +82,7 @@ impl<'a> FactCursor<'a> {
             }
             Err(refused) => {
                 self.entries.clear();
-                self.entered = 0;
+                self.entered = nothing_entered();
                 Err(refused)
             }
         }
@@ -97,7 +97,8 @@ impl<'a> FactCursor<'a> {
         Known {
             facts,
             entries: self.entries.as_slice(),
-            is_indexed: self.entered > facts.len(),
+            is_indexed: self.entered.count > facts.len(),
+            is_consistent: self.entered.is_consistent,
         }
     }
 }

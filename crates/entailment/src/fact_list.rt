@@ -2,7 +2,7 @@
 
 ghost use Rattle.std.specs.Prelude.{◌≡◌, ◌++◌, ◌∷◌, [], IfOk, OnOk, length};
 
-use crate::index::{Entry, FEW, enter_from};
+use crate::index::{Entered, Entry, FEW, enter_from, nothing_entered};
 use crate::known::Known;
 use linear::Fact;
 use std::alloc::{AllocError, Global};
@@ -12,8 +12,8 @@ use std::marker::Model;
 pub struct FactList {
     facts: Vec<Fact>,
     entries: Vec<Entry>,
-    /// How many places have entries.
-    entered: usize,
+    /// How many places have entries, and whether they are consistent.
+    entered: Entered,
 }
 
 /// Written out, so that no crate above proves it anew.
@@ -36,7 +36,7 @@ impl Model for FactList {
 
     ghost view = { λ l. l.facts.items };
 
-    ghost invariant = { λ l. IsBegun l.facts.items l.entered l.entries.items };
+    ghost invariant = { λ l. IsBegun l.facts.items l.entered.count l.entries.items l.entered.is_consistent };
 }
 
 impl FactList {
@@ -47,7 +47,7 @@ impl FactList {
         FactList {
             facts: Vec::new(alloc),
             entries: Vec::new(alloc),
-            entered: 0,
+            entered: nothing_entered(),
         }
     }
 
@@ -58,7 +58,7 @@ impl FactList {
         FactList {
             facts,
             entries: Vec::new(alloc),
-            entered: 0,
+            entered: nothing_entered(),
         }
     }
 
@@ -96,7 +96,7 @@ impl FactList {
             }
             Err(refused) => {
                 self.entries.clear();
-                self.entered = 0;
+                self.entered = nothing_entered();
                 Err(refused)
             }
         }
@@ -109,7 +109,8 @@ impl FactList {
         Known {
             facts: self.facts.as_slice(),
             entries: self.entries.as_slice(),
-            is_indexed: self.entered > self.facts.len(),
+            is_indexed: self.entered.count > self.facts.len(),
+            is_consistent: self.entered.is_consistent,
         }
     }
 

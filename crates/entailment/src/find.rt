@@ -4,21 +4,21 @@ ghost use Rattle.std.specs.Prelude.{◌≡◌, ◌-◌, suc, true, IfOk, IfSome,
 ghost use Rattle.entailment.specs.Index.{IsKeyOf, IsIndex};
 ghost use Rattle.entailment.specs.Tested.{is_shown};
 
-use crate::index::{Entry, index_of};
+use crate::index::{Entry, FEW, index_of};
 use crate::lookup::{Search, made_up, made_up_alone};
-use crate::show::{left_over, shown};
+use crate::show::shown;
 use crate::weight::key_of;
 use linear::{Fact, Form, side_of};
 use std::alloc::{AllocError, Global};
 
-/// The newest facts, among which most forms find what shows them.
+/// The newest facts, among which many forms find what shows them.
 fn newest(facts: &[Fact]) -> &[Fact]
-    ensures { result.now ≡ drop (length facts.now - 16) facts.now }
+    ensures { result.now ≡ drop (length facts.now - 4) facts.now }
 {
-    if facts.len() <= 16 {
+    if facts.len() <= FEW {
         facts
     } else {
-        &facts[facts.len() - 16..]
+        &facts[facts.len() - FEW..]
     }
 }
 
@@ -37,11 +37,15 @@ fn shown_by_one(search: &Search<'_>) -> bool
     made_up_alone(search)
 }
 
-/// Whether two of the newest facts show the form.
+/// Whether two of the newest facts show the form. They are tried where there are so many entries that the search among them all takes longer.
 fn shown_by_newest(search: &Search<'_>) -> bool
     ensures { IsTrue result → is_shown search.now.facts.now search.now.form.now ≡ true }
 {
-    shown(newest(search.facts), search.form)
+    if search.entries.len() > 64 {
+        shown(newest(search.facts), search.form)
+    } else {
+        false
+    }
 }
 
 /// Whether the facts show the form.
@@ -50,8 +54,7 @@ fn shown_by_two(search: &Search<'_>) -> bool
     requires key { IsKeyOf search.now.form.now.terms search.now.key }
     ensures { result ≡ is_shown search.now.facts.now search.now.form.now }
 {
-    let lead = left_over(side_of(search.form).terms, 1, &[]);
-    made_up(search, lead)
+    made_up(search)
 }
 
 /// Whether the facts show the form, by their index. Most forms are shown by one fact, or by two of the newest.
@@ -102,7 +105,7 @@ pub fn find_shown(alloc: Global, facts: &[Fact], form: &Form) -> Result<bool, Al
     if shown(newest(facts), form) {
         return Ok(true);
     }
-    if facts.len() <= 16 {
+    if facts.len() <= FEW {
         return Ok(false);
     }
     shown_by_many(alloc, facts, form)

@@ -1,13 +1,13 @@
 //! Facts by the values of their terms, so that one is looked up. Of facts with the same coefficients the strongest alone decides.
 
 ghost use Rattle.std.specs.Prelude.{◌≡◌, ◌<◌, ◌≤◌, ◌+◌, ◌*◌, ◌^◌, ◌↔◌, ℕ, suc, All, Contains, IsTrue, IfSome, IfNone, IfOk, OnOk, length};
-ghost use Rattle.std.specs.Prelude.{unsigned_abs, ◌≤ℤ◌, false, slice_index_or};
+ghost use Rattle.std.specs.Prelude.{unsigned_abs, ◌≤ℤ◌, false, true, slice_index_or};
 ghost use Rattle.std.specs.List.Sorted.{IsNonDecreasingBy};
 ghost use Rattle.linear.specs.Forms.{AreSmall, IsRising, coefficient_of};
-ghost use Rattle.entailment.specs.Index.{place_at, IsKeyOf, IsEntry, IsIndex, IsBegun, IsAsStrong};
+ghost use Rattle.entailment.specs.Index.{place_at, IsKeyOf, IsEntry, IsIndex, IsBegun, IsAsStrong, IsContradiction};
 ghost use Rattle.entailment.specs.declared.index.Entry.{Entry};
 
-use crate::show::agree;
+use crate::show::{agree, is_at_most};
 use crate::weight::key_of;
 use linear::{Fact, Side, side_of};
 use std::alloc::{AllocError, Global};
@@ -113,23 +113,114 @@ fn enter(facts: &[Fact], entries: &mut Vec<Entry>, entry: Entry) -> Result<(), A
     Ok(())
 }
 
+/// Whether two places contradict each other: their terms cancel, and their constants come to less than 0.
+fn is_contradiction(facts: &[Fact], one: usize, other: usize) -> bool
+    requires one { one ≤ length facts.now }
+    requires other { other ≤ length facts.now }
+    ensures { IsTrue result ↔ IsContradiction (place_at facts.now one) (place_at facts.now other) }
+{
+    let f = side_of_place(facts, one);
+    let g = side_of_place(facts, other);
+    is_at_most(1, f.constant, 1, g.constant, -1) && agree(&[], 1, f.terms, 1, g.terms)
+}
+
+/// Whether one of the entries from a place on that have this key contradicts what stands at a place.
+fn contradicted_from(facts: &[Fact], entries: &[Entry], from: usize, key: u64, place: usize) -> bool
+    requires place { place ≤ length facts.now }
+    requires own { All (IsEntry facts.now) entries.now }
+    requires sorted { IsNonDecreasingBy (λ (e : Entry). e.key) entries.now }
+    requires above { (k : ℕ) (d : Entry) → from ≤ k → k < length entries.now → key ≤ (slice_index_or entries.now k d).key }
+    ensures { (k : ℕ) (d : Entry) → result ≡ false → from ≤ k → k < length entries.now → (slice_index_or entries.now k d).key ≡ key
+        → IsContradiction (place_at facts.now place) (place_at facts.now (slice_index_or entries.now k d).place) → ⊥ }
+{
+    for k in from..entries.len() {
+        let other = entries[k];
+        if other.key != key {
+            return false;
+        }
+        if is_contradiction(facts, place, other.place) {
+            return true;
+        }
+    }
+    false
+}
+
+/// Whether one of the entries contradicts what stands at another's place.
+fn contradicts(facts: &[Fact], entries: &[Entry], entry: Entry) -> bool
+    requires entry { IsEntry facts.now entry }
+    requires own { All (IsEntry facts.now) entries.now }
+    requires sorted { IsNonDecreasingBy (λ (e : Entry). e.key) entries.now }
+    ensures { (d : Entry) → result ≡ false → Contains entries.now d → IsContradiction (place_at facts.now entry.place) (place_at facts.now d.place) → ⊥ }
+{
+    if entry.key > 4_611_686_018_427_387_904 {
+        return false;
+    }
+    let wanted = 4_611_686_018_427_387_904 - entry.key;
+    let from = entries.partition_point(|other| other.key < wanted);
+    contradicted_from(facts, entries, from, wanted, entry.place)
+}
+
+/// Enters the next place, and answers whether those that are entered are still known to be consistent.
+fn enter_next(
+    facts: &[Fact],
+    entries: &mut Vec<Entry>,
+    entry: Entry,
+    is_consistent: bool,
+) -> Result<bool, AllocError>
+    requires entry { IsEntry facts.now entry }
+    requires begun { IsBegun facts.now entry.place entries.old.items is_consistent }
+    ensures { IfOk result (λ b. IsBegun facts.now (suc entry.place) entries.new.items b) }
+{
+    enter(facts, entries, entry)?;
+    Ok(is_consistent && !contradicts(facts, entries.as_slice(), entry))
+}
+
+/// How many places have entries, and whether they are known to be consistent: no two of them contradict each other.
+#[derive(Clone, Copy)]
+pub struct Entered {
+    pub count: usize,
+    pub is_consistent: bool,
+}
+
+/// Before anything is entered.
+pub fn nothing_entered() -> Entered
+    ensures count { result.count ≡ 0 }
+    ensures consistent { result.is_consistent ≡ true }
+{
+    Entered {
+        count: 0,
+        is_consistent: true,
+    }
+}
+
 /// Enters the facts from a place on, and answers up to where: one past the range of keys stops it.
 pub fn enter_from(
     facts: &[Fact],
     entries: &mut Vec<Entry>,
-    from: usize,
-) -> Result<usize, AllocError>
-    requires { IsBegun facts.now from entries.old.items }
-    ensures { IfOk result (λ count. IsBegun facts.now count entries.new.items) }
+    from: Entered,
+) -> Result<Entered, AllocError>
+    requires { IsBegun facts.now from.count entries.old.items from.is_consistent }
+    ensures { IfOk result (λ r. IsBegun facts.now r.count entries.new.items r.is_consistent) }
 {
     let count = facts.len() + 1;
-    for place in from..count {
+    let mut is_consistent = from.is_consistent;
+    for place in from.count..count {
         match entry_at(facts, place) {
-            Some(entry) => enter(facts, entries, entry)?,
-            None => return Ok(place),
+            Some(entry) => {
+                is_consistent = enter_next(facts, entries, entry, is_consistent)?;
+            }
+            None => {
+                return Ok(Entered {
+                    count: place,
+                    is_consistent,
+                });
+            }
         }
     }
-    Ok(count)
+    Ok(Entered {
+        count,
+        is_consistent,
+    })
 }
 
 /// The strongest facts by their keys; none where one is past the range of keys.
@@ -137,8 +228,8 @@ pub fn index_of(alloc: Global, facts: &[Fact]) -> Result<Option<Vec<Entry>>, All
     ensures { IfOk result (λ index. IfSome index (λ entries. IsIndex facts.now (suc (length facts.now)) entries.items)) }
 {
     let mut entries: Vec<Entry> = Vec::new(alloc);
-    let count = enter_from(facts, &mut entries, 0)?;
-    if count > facts.len() {
+    let entered = enter_from(facts, &mut entries, nothing_entered())?;
+    if entered.count > facts.len() {
         Ok(Some(entries))
     } else {
         Ok(None)

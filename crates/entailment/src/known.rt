@@ -1,12 +1,13 @@
 //! What is known at a place, with an index of it where it is much.
 
-ghost use Rattle.std.specs.Prelude.{◌≡◌};
+ghost use Rattle.std.specs.Prelude.{◌≡◌, IsTrue};
+ghost use Rattle.entailment.specs.Index.{IsNegative};
 ghost use Rattle.entailment.specs.Tested.{is_shown};
 
 use crate::find::shown_by_index;
 use crate::index::Entry;
 use crate::show::shown;
-use linear::{Fact, Form};
+use linear::{Fact, Form, side_of};
 use std::marker::Model;
 
 /// Facts, lent with an index of them all, if there is one. Contracts see the facts.
@@ -15,18 +16,28 @@ pub struct Known<'a> {
     pub(crate) facts: &'a [Fact],
     pub(crate) entries: &'a [Entry],
     pub(crate) is_indexed: bool,
+    /// Whether the facts are known to be consistent, where they are indexed.
+    pub(crate) is_consistent: bool,
 }
 
 impl<'a> Model for Known<'a> {
     ghost use Rattle.std.specs.Prelude.{◌≡◌, true, List, suc, length};
     ghost use Rattle.linear.specs.declared.form.Fact.{Fact};
-    ghost use Rattle.entailment.specs.Index.{IsIndex};
+    ghost use Rattle.entailment.specs.Index.{IsBegun};
 
     ghost Value = { List Fact };
 
     ghost view = { λ k. k.facts.now };
 
-    ghost invariant = { λ k. k.is_indexed ≡ true → IsIndex k.facts.now (suc (length k.facts.now)) k.entries.now };
+    ghost invariant = { λ k. k.is_indexed ≡ true → IsBegun k.facts.now (suc (length k.facts.now)) k.entries.now k.is_consistent };
+}
+
+/// Whether the form is below 0 whatever its registers are, as it has no terms.
+fn is_negative(form: &Form) -> bool
+    ensures { IsTrue result → IsNegative form.now }
+{
+    let side = side_of(form);
+    side.terms.is_empty() && side.constant < 0
 }
 
 impl<'a> Known<'a> {
@@ -38,6 +49,7 @@ impl<'a> Known<'a> {
             facts,
             entries: &[],
             is_indexed: false,
+            is_consistent: false,
         }
     }
 
@@ -48,14 +60,16 @@ impl<'a> Known<'a> {
         self.facts
     }
 
-    /// Whether the facts show the form.
+    /// Whether the facts show the form. Consistent facts show nothing below 0.
     pub fn shows(&self, form: &Form) -> bool
         ensures { result ≡ is_shown self.now form.now }
     {
-        if self.is_indexed {
-            shown_by_index(self.facts, self.entries, form)
-        } else {
-            shown(self.facts, form)
+        if !self.is_indexed {
+            return shown(self.facts, form);
         }
+        if self.is_consistent && is_negative(form) {
+            return false;
+        }
+        shown_by_index(self.facts, self.entries, form)
     }
 }

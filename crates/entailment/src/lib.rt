@@ -10,6 +10,7 @@ mod index;
 mod known;
 pub mod laws;
 mod lookup;
+mod meeting;
 mod show;
 mod weight;
 

@@ -1,17 +1,18 @@
-//! The search for what shows a form, by an index: two factors, and then both facts along the index, the first one up and the second one down.
+//! The search for what shows a form, by an index: two factors, and then both facts along the index.
 
-ghost use Rattle.std.specs.Prelude.{◌≡◌, ◌<◌, ◌≤◌, ◌+◌, ◌-◌, ◌*◌, ◌^◌, ◌↔◌, ℕ, suc, All, Contains, IsTrue, IfSome, IfNone, length};
+ghost use Rattle.std.specs.Prelude.{◌≡◌, ◌<◌, ◌≤◌, ◌+◌, ◌-◌, ◌*◌, ◌^◌, ◌↔◌, ℕ, suc, false, All, Contains, IsTrue, IfSome, length};
 ghost use Rattle.std.specs.Prelude.{slice_index, slice_index_or};
 ghost use Rattle.std.specs.List.Sorted.{IsNonDecreasingBy};
 ghost use Rattle.linear.specs.Forms.{AreSmall};
 ghost use Rattle.entailment.specs.Search.{factors};
-ghost use Rattle.entailment.specs.Index.{place_at, IsKeyOf, IsEntry, IsIndex, ArePast, IsMadeUp, IsMadeUpFirst, IsMadeUpWith, IsMadeUpByB, IsMadeUpByA};
+ghost use Rattle.entailment.specs.Index.{place_at, IsKeyOf, IsEntry, IsIndex, IsMadeUp, IsMadeUpWith, IsMadeUpByB, AreNotB};
 ghost use Rattle.entailment.specs.Shown.{IsSum, IsShown};
 ghost use Rattle.entailment.specs.declared.index.Entry.{Entry};
 
 use crate::index::{Entry, side_of_place};
-use crate::show::{agree, factor, has_some, is_at_most};
-use linear::{Fact, Form, RegisterId, Term, side_of};
+use crate::meeting::{is_open, next_meeting, times, total_of};
+use crate::show::{agree, factor, is_at_most};
+use linear::{Fact, Form, Term, side_of};
 
 /// A form with its key, and the facts with their index.
 #[derive(Clone, Copy)]
@@ -22,42 +23,15 @@ pub struct Search<'a> {
     pub key: u64,
 }
 
-/// What b times the key of the second fact has to be; none where it would be below 0.
-fn wanted(key: u64, a: u32, first: u64, b: u32) -> Option<u128>
-    ensures some { IfSome result (λ wanted. wanted + a * first + 2 ^ 61 ≡ (a + b) * 2 ^ 61 + key) }
-    ensures none { IfNone result ((a + b) * 2 ^ 61 + key < a * first + 2 ^ 61) }
+/// What b times a key has to be where one fact makes up a form of this key; none where it would be below 0.
+fn wanted(key: u64, b: u32) -> Option<u128>
+    ensures some { IfSome result (λ wanted. wanted + 2 ^ 61 ≡ b * 2 ^ 61 + key) }
 {
-    let whole = (u128::from(a) + u128::from(b)) * 2_305_843_009_213_693_952 + u128::from(key);
-    let taken = u128::from(a) * u128::from(first) + 2_305_843_009_213_693_952;
-    if whole < taken {
+    let whole = u128::from(b) * 2_305_843_009_213_693_952 + u128::from(key);
+    if whole < 2_305_843_009_213_693_952 {
         return None;
     }
-    Some(whole - taken)
-}
-
-/// A key times a factor.
-fn times(b: u32, key: u64) -> u128
-    ensures { result ≡ b * key }
-{
-    u128::from(b) * u128::from(key)
-}
-
-/// How many of the first entries are left where those at the end are not counted of which b times the key is past this.
-fn fallen(entries: &[Entry], upto: usize, b: u32, wanted: u128) -> usize
-    requires { upto ≤ length entries.now }
-    ensures within { result ≤ upto }
-    ensures past { (k : ℕ) (d : Entry) → result ≤ k → k < upto → wanted < b * (slice_index_or entries.now k d).key }
-    ensures last { (d : Entry) → 0 < result → b * (slice_index_or entries.now (result - 1) d).key ≤ wanted }
-{
-    let mut count = upto;
-    while count > 0 {
-        let at_end = times(b, entries[count - 1].key);
-        if at_end <= wanted {
-            return count;
-        }
-        count -= 1;
-    }
-    0
+    Some(whole - 2_305_843_009_213_693_952)
 }
 
 /// Those at the end of the first entries of which b times the key is this.
@@ -111,78 +85,49 @@ fn some_makes_up(search: &Search<'_>, run: &[Entry], first: usize, a: u32, b: u3
     false
 }
 
-/// Whether b times some fact makes the form up with the first one, which has some of the register that leads. The entries past the first ones have
-/// keys that are too great.
-fn is_made_up(
-    search: &Search<'_>,
-    lead: Option<RegisterId>,
-    first: Entry,
-    a: u32,
-    b: u32,
-    wanted: u128,
-    upto: usize,
-) -> bool
+/// Whether the first fact makes the form up with one of those whose key is that of the second one, and which stand before it.
+fn is_made_up(search: &Search<'_>, first: usize, count: usize, a: u32, b: u32) -> bool
     requires index { IsIndex search.now.facts.now (suc (length search.now.facts.now)) search.now.entries.now }
-    requires key { IsKeyOf search.now.form.now.terms search.now.key }
-    requires first { IsEntry search.now.facts.now first }
+    requires first { first < length search.now.entries.now }
+    requires some { 0 < count }
+    requires count { count ≤ length search.now.entries.now }
     requires a { a ≤ 2 ^ 24 }
     requires b { b ≤ 2 ^ 24 }
-    requires wanted { wanted + a * first.key + 2 ^ 61 ≡ (a + b) * 2 ^ 61 + search.now.key }
-    requires upto { upto ≤ length search.now.entries.now }
-    requires last { (d : Entry) → 0 < upto → b * (slice_index_or search.now.entries.now (upto - 1) d).key ≤ wanted }
-    requires past { (k : ℕ) (d : Entry) → upto ≤ k → k < length search.now.entries.now → wanted < b * (slice_index_or search.now.entries.now k d).key }
-    ensures { IsTrue result ↔ IsMadeUpFirst search.now.facts.now search.now.form.now lead a b first }
+    ensures made { (d : Entry) → IsTrue result → IsMadeUp search.now.facts.now search.now.form.now
+        (place_at search.now.facts.now (slice_index_or search.now.entries.now first d).place) a b }
+    ensures none { (d : Entry) (k : ℕ) → result ≡ false → k < count
+        → b * (slice_index_or search.now.entries.now k d).key ≡ b * (slice_index_or search.now.entries.now (count - 1) d).key
+        → IsSum search.now.form.now a (place_at search.now.facts.now (slice_index_or search.now.entries.now first d).place)
+        b (place_at search.now.facts.now (slice_index_or search.now.entries.now k d).place) → ⊥ }
 {
-    let run = run_before(search.entries, upto, b, wanted);
-    some_makes_up(search, run, first.place, a, b)
-        && has_some(side_of_place(search.facts, first.place).terms, lead)
+    let wanted = times(b, search.entries[count - 1].key);
+    let run = run_before(search.entries, count, b, wanted);
+    some_makes_up(search, run, search.entries[first].place, a, b)
 }
 
-/// Whether the first fact is one with which b times another makes the form up, and how many entries may do so with facts of greater keys.
-fn tried(
-    search: &Search<'_>,
-    lead: Option<RegisterId>,
-    first: Entry,
-    a: u32,
-    b: u32,
-    upto: usize,
-) -> (bool, usize)
+/// Whether a times a fact and b times another one make the form up. As the key of the first one rises, that of the second one falls.
+fn made_up_with(search: &Search<'_>, a: u32, b: u32) -> bool
     requires index { IsIndex search.now.facts.now (suc (length search.now.facts.now)) search.now.entries.now }
     requires key { IsKeyOf search.now.form.now.terms search.now.key }
-    requires first { IsEntry search.now.facts.now first }
     requires a { a ≤ 2 ^ 24 }
     requires b { b ≤ 2 ^ 24 }
-    requires upto { upto ≤ length search.now.entries.now }
-    requires past { ArePast search.now.entries.now search.now.key a b first.key upto }
-    ensures made { IsTrue result.0 ↔ IsMadeUpFirst search.now.facts.now search.now.form.now lead a b first }
-    ensures within { result.1 ≤ upto }
-    ensures past { ArePast search.now.entries.now search.now.key a b first.key result.1 }
+    requires some { 0 < b }
+    ensures { IsTrue result ↔ IsMadeUpWith search.now.facts.now search.now.form.now search.now.entries.now a b }
 {
-    match wanted(search.key, a, first.key, b) {
-        Some(wanted) => {
-            let count = fallen(search.entries, upto, b, wanted);
-            (is_made_up(search, lead, first, a, b, wanted, count), count)
+    let many = search.entries.len();
+    let total = total_of(search.key, a, b);
+    let mut at = 0;
+    let mut upto = many;
+    while is_open(many, a, b, at, upto) {
+        let (first, count) = next_meeting(search.entries, a, b, total, at, upto);
+        if !is_open(many, a, b, first, count) {
+            return false;
         }
-        None => (false, upto),
-    }
-}
-
-/// Whether a times a fact that has some of the register that leads, and b times another one, make the form up. As the key of the first one
-/// rises, that of the second one falls.
-fn made_up_with(search: &Search<'_>, lead: Option<RegisterId>, a: u32, b: u32) -> bool
-    requires index { IsIndex search.now.facts.now (suc (length search.now.facts.now)) search.now.entries.now }
-    requires key { IsKeyOf search.now.form.now.terms search.now.key }
-    requires a { a ≤ 2 ^ 24 }
-    requires b { b ≤ 2 ^ 24 }
-    ensures { IsTrue result ↔ IsMadeUpWith search.now.facts.now search.now.form.now lead search.now.entries.now a b }
-{
-    let mut upto = search.entries.len();
-    for first in search.entries {
-        let (is_found, rest) = tried(search, lead, *first, a, b, upto);
-        if is_found {
+        if is_made_up(search, first, count, a, b) {
             return true;
         }
-        upto = rest;
+        at = first + 1;
+        upto = count;
     }
     false
 }
@@ -193,7 +138,7 @@ fn is_made_up_alone(search: &Search<'_>, b: u32) -> bool
     requires b { b ≤ 2 ^ 24 }
     ensures { IsTrue result → IsMadeUp search.now.facts.now search.now.form.now (place_at search.now.facts.now 0) 1 b }
 {
-    match wanted(search.key, 1, 2_305_843_009_213_693_952, b) {
+    match wanted(search.key, b) {
         Some(wanted) => {
             let upto = search
                 .entries
@@ -235,17 +180,18 @@ fn is_repeated(terms: &[Term], index: usize) -> bool
     false
 }
 
-/// Whether the facts make the form up with this first factor. A second factor 0, which a register that cancels has, is passed over: the fact would
-/// count for nothing, as the absent one does with the factor 1.
-fn made_up_by_b(search: &Search<'_>, lead: Option<RegisterId>, a: u32) -> bool
+/// Whether the facts make the form up with this first factor, where none of the second factors before a place does so. A second factor 0, which a
+/// register that cancels has, is passed over: the fact would count for nothing, as the absent one does with the factor 1.
+fn made_up_by_b(search: &Search<'_>, a: u32, from: usize) -> bool
     requires index { IsIndex search.now.facts.now (suc (length search.now.facts.now)) search.now.entries.now }
     requires key { IsKeyOf search.now.form.now.terms search.now.key }
     requires a { a ≤ 2 ^ 24 }
-    ensures { IsTrue result ↔ IsMadeUpByB search.now.facts.now search.now.form.now lead search.now.entries.now a }
+    requires from { AreNotB search.now.facts.now search.now.form.now search.now.entries.now a from }
+    ensures { IsTrue result ↔ IsMadeUpByB search.now.facts.now search.now.form.now search.now.entries.now a }
 {
     let terms = side_of(search.form).terms;
     let count = terms.len() + 1;
-    for index in 0..count {
+    for index in from..count {
         let b = factor(terms, index);
         if b == 0 {
             continue;
@@ -253,18 +199,18 @@ fn made_up_by_b(search: &Search<'_>, lead: Option<RegisterId>, a: u32) -> bool
         if is_repeated(terms, index) {
             continue;
         }
-        if made_up_with(search, lead, a, b) {
+        if made_up_with(search, a, b) {
             return true;
         }
     }
     false
 }
 
-/// Whether the facts make the form up.
-pub fn made_up(search: &Search<'_>, lead: Option<RegisterId>) -> bool
+/// Whether the facts make the form up. Two factors make it up in either order, or in none: each pair is tried once.
+pub fn made_up(search: &Search<'_>) -> bool
     requires index { IsIndex search.now.facts.now (suc (length search.now.facts.now)) search.now.entries.now }
     requires key { IsKeyOf search.now.form.now.terms search.now.key }
-    ensures { IsTrue result ↔ IsMadeUpByA search.now.facts.now search.now.form.now lead search.now.entries.now }
+    ensures { IsTrue result ↔ IsShown search.now.facts.now search.now.form.now }
 {
     let terms = side_of(search.form).terms;
     let count = terms.len() + 1;
@@ -272,7 +218,7 @@ pub fn made_up(search: &Search<'_>, lead: Option<RegisterId>) -> bool
         if is_repeated(terms, index) {
             continue;
         }
-        if made_up_by_b(search, lead, factor(terms, index)) {
+        if made_up_by_b(search, factor(terms, index), index) {
             return true;
         }
     }

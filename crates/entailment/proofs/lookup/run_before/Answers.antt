@@ -7,7 +7,7 @@ pub returns-then-at_end-wanted-clause-all : goal.returns-then-at_end-wanted-clau
 returns-then-at_end-wanted-clause-all c = λ last k d l is.
     let es = c.args.entries.now in
     in_run c.args.b c.args.wanted es c.loop-from.from c.args.upto c.requires.upto c.loop-from.invariant
-    (below_run c.args.b c.args.wanted es c.loop-from.from c.args.upto c.requires.upto c.loop-from.invariant (omega (arith, c.loop-from-test.true)) c.requires.sorted last c.times-at_end.result _ c.times-at_end.ensures (λ same. omega (arith, same, c.if-at_end-wanted.true)))
+    (below_run c.args.b c.args.wanted es c.loop-from.from c.args.upto c.requires.upto c.loop-from.invariant (omega (arith, c.loop-from-test.true)) c.requires.sorted last c.times-at_end.result _ c.times-at_end.ensures.value (λ same. omega (arith, same, c.if-at_end-wanted.true)))
     k d l is
 
 pub returns-clause-all : goal.returns-clause-all
