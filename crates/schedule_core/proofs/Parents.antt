@@ -1,6 +1,6 @@
 -- The slot of a child's parent is that of the task whose top detached it.
 use Rattle.std.proofs.Common.{◌≡◌, ◌≢◌, ℕ, List, [], ◌∷◌, reverse, Option, Some, None, true, refl, sym, ap, ◌∙◌, subst}
-use Rattle.std.specs.Prelude.{IfNone, IfSome, IsSomeAnd}
+use Rattle.std.specs.Prelude.{IfSome, IsSomeAnd}
 use Rattle.running.specs.Paths.{Path as RunningPath}
 use Rattle.running.specs.Frames as defined
 use Rattle.running.specs.Events as running
@@ -12,9 +12,11 @@ use Rattle.frame.specs.declared.frame.Role.{Role}
 use Rattle.frame.specs.declared.frame.Role.TheVariants as role
 use Rattle.frame.specs.Reading.{role_of}
 use Rattle.cactus.specs.declared.node.Node.{Node}
-use Rattle.cactus.specs.Frames.{node_at, frame_at, HasPath, HasNoPath}
+use Rattle.cactus.specs.Frames.{node_at, frame_at, HasPath, Lives}
+use Rattle.cactus.proofs.FramesLemmas.{node_of_use-own}
 use Rattle.crew.specs.declared.activation.Activation.{Activation}
 use Rattle.crew.specs.declared.run.Run.{Run}
+use Rattle.crew.specs.Lowest.{IsLowestBelow}
 use Rattle.crew.specs.Scheduling.{hand_of}
 use Rattle.crew.specs.Shown.{CalleeStands, place_of}
 use Rattle.crew.specs.Tasks.{IsReady}
@@ -95,10 +97,13 @@ module _ (stage : Stage) (m : Machine) (state : IsState stage m) (worker : ℕ) 
 
   -- ---- what the calls answer
 
-  pub shown : (slot : ℕ) (path : Path) (o : Option (ℕ × ℕ)) → IsParentSlot stage.run worker slot → IsReadyAt stage.run.cactus slot path → IfSome o (λ spot. HasPath stage.run.cactus spot.0 spot.1 path) → IfSome o (λ spot. IsReadyParent stage.run m worker spot.0 spot.1)
-  shown slot path None p r has = tt
-  shown slot path (Some spot) p r has = parent_of slot path spot.1 spot.0 p r has
+  pub shown : (slot low : ℕ) (top node : Node Activation) → IsParentSlot stage.run worker slot → node_at stage.run.cactus slot ≡ Some top → IsReady top.frame →
+      IsLowestBelow stage.run.cactus slot low → node_at stage.run.cactus low ≡ Some node → IsReadyParent stage.run m worker low node.generation
+  shown slot low top node p stands ready below lowest =
+      parent_of slot node.path node.generation low p
+      (record { top = top; stands = stands; ready = ready; task = record { low = low; below = below; lowest = node; stands = lowest; named = refl } })
+      (rw (node_of_use-own stage.run.cactus low node lowest) refl)
 
-  pub found : (slot : ℕ) (path : Path) (o : Option (ℕ × ℕ)) → IsReadyAt stage.run.cactus slot path → IfNone o (HasNoPath stage.run.cactus path) → IfNone o (HasNoReadyParent (workers_of stage) m worker)
-  found slot path (Some spot) r none = tt
-  found slot path None r none = absurd (none r.task.low r.task.lowest r.task.stands r.task.named)
+  -- the parent's frame lives
+  pub parent_lives : (slot : ℕ) → IsParentSlot stage.run worker slot → Lives stage.run.cactus slot
+  parent_lives slot p = let (above, number, there, place) = below_place stage m state p.top slot p.child p.stands p.parent in rw there refl

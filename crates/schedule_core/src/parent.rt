@@ -38,7 +38,12 @@ impl Machine<'_> {
         ensures none { (m : running.Machine) → IsState self.now.stage m → IfNone result (HasNoReadyParent (workers_of self.now.stage) m worker) }
     {
         let parent = self.parent_slot(worker)?;
-        let path = self.ready_task(parent)?;
-        self.stage.run.cactus.spot(path)
+        let top = self.stage.run.cactus.node(parent)?;
+        if !top.frame.is_ready() {
+            return None;
+        }
+        let lowest = self.stage.run.lowest_below(parent)?;
+        let node = self.stage.run.cactus.node(lowest)?;
+        Some((lowest, node.generation))
     }
 }

@@ -82,7 +82,7 @@ impl Machine<'_> {
     }
 
     /// The path of the task of which the slot's frame is the top, where the task is ready.
-    pub(crate) fn ready_task(&self, slot: usize) -> Option<&Path>
+    fn ready_task(&self, slot: usize) -> Option<&Path>
         ensures shown { IfSome (option_copied result) (IsReadyAt self.now.stage.run.cactus slot) }
         ensures absent { IsTree self.now.stage.run.cactus → IfNone (option_copied result) (¬ IsSomeAnd (frame_at self.now.stage.run.cactus slot) IsReady) }
     {
