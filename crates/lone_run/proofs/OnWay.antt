@@ -45,6 +45,7 @@ module _ (program : Program) (arguments : List ℤ) (memory : List NamedCells) (
     globals = w.globals;
     allocas = w.allocas;
     small = w.small;
+    few = w.few;
     text = subst (λ (x : ℕ). TextFits program places x) (sym moves) w.text;
     safe = ∥∥₁_map w.safe (goes_on_here program places (budget_of program) n k m j on);
     first = w.first;
@@ -64,6 +65,7 @@ module _ (program : Program) (arguments : List ℤ) (memory : List NamedCells) (
         globals = w.globals;
         allocas = w.allocas;
         small = w.small;
+        few = w.few;
         text = subst (λ (x : ℕ). TextFits program places x) (sym moves) w.text;
         safe = ∥∥₁_map w.safe (may_go_on program places (budget_of program) n m (suc (length j.below.items)) k j on);
         first = w.first;

@@ -29,6 +29,7 @@ pub record IsOnWay (program : Program) (arguments : List ℤ) (memory : List Nam
   pub globals : places.globals ≡ starts_from 0 (sizes_of memory)
   pub allocas : places.allocas ≡ map (λ (f : Function). alloca_starts f.allocas) program.functions
   pub small : length (row_of memory) < 9223372036854775808
+  pub few : budget_of program < 18446744073709551616
   pub text : TextFits program places (length stack.moves.items)
   pub safe : GoesSafely program places (budget_of program) done stack
   pub first : Stack
@@ -37,8 +38,8 @@ pub record IsOnWay (program : Program) (arguments : List ℤ) (memory : List Nam
       HasWalked globals program places start 0 1 first → HasWalked globals program places start done peak stack
 
 abbrev pub IsUnderWay : LoneRun → Type 0
-IsUnderWay r = IsOnWay r.verified.now r.arguments.now r.memory r.places r.stack r.done r.peak
+IsUnderWay r = IsOnWay r.program.now r.arguments.now r.memory r.places r.stack r.done r.peak
 
 -- a run of this program, from these arguments and this memory
 abbrev pub BeginsWith : Program → List ℤ → List NamedCells → LoneRun → Type 0
-BeginsWith program arguments memory r = (r.verified.now ≡ program) × (r.arguments.now ≡ arguments) × (r.memory ≡ memory) × IsUnderWay r
+BeginsWith program arguments memory r = (r.program.now ≡ program) × (r.arguments.now ≡ arguments) × (r.memory ≡ memory) × IsUnderWay r

@@ -65,13 +65,9 @@ impl Cells for CountedCells {
 
     #[inline(always)]
     fn load(&mut self, at: i64) -> Result<i64, Full> {
-        match self.flat.load(at) {
-            Ok(value) => {
-                count_load(&mut self.cells, at, value)?;
-                Ok(value)
-            }
-            Err(never) => match never {},
-        }
+        let value = self.flat.cells[at as usize];
+        count_load(&mut self.cells, at, value)?;
+        Ok(value)
     }
 
     #[inline(always)]

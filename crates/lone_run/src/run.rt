@@ -1,6 +1,8 @@
-ghost use Rattle.std.specs.Prelude.{◌≡◌, ℕ, Err, IfErr, IfNone, IfOk, IfSome, None, Some};
+ghost use Rattle.std.specs.Prelude.{◌≡◌, ◌<◌, ℕ, Err, IfErr, IfNone, IfOk, IfSome, None, Some};
 ghost use Rattle.outcome.specs.Requirements.{unmet_in};
 ghost use Rattle.outcome.specs.store.Made.{HasGlobalCells, IsMadeFor};
+ghost use Rattle.outcome.specs.verifier.Accepted.{IsAccepted};
+ghost use Rattle.outcome.specs.verifier.Budgets.{budget_of};
 ghost use Rattle.serial_machine.specs.Promise.{EndsWithinBudget};
 ghost use Rattle.serial_machine.specs.Safe.{HasMoves};
 ghost use Rattle.lone_run.specs.UnderWay.{BeginsWith, IsUnderWay};
@@ -17,7 +19,7 @@ use strand::{MOST, StrandCells};
 
 /// A run of one worker alone, between two strands.
 pub struct LoneRun<'v> {
-    verified: &'v Verified,
+    program: &'v Program,
     arguments: &'v [i64],
     /// What it began with.
     memory: Memory,
@@ -35,7 +37,7 @@ pub struct LoneRun<'v> {
 impl Drop for LoneRun<'_> {
     fn drop(self) {
         let LoneRun {
-            verified: _,
+            program: _,
             arguments: _,
             memory: _,
             places: _,
@@ -71,22 +73,23 @@ impl<'v> LoneRun<'v> {
     /// The run of arguments that the program takes, before its first strand.
     fn of_taken(
         alloc: Global,
-        verified: &'v Verified,
+        program: &'v Program,
         arguments: &'v [i64],
         memory: Memory,
     ) -> Result<LoneRun<'v>, OutOfMemory>
-        requires taken { unmet_in verified.now arguments.now ≡ None }
-        requires made { IsMadeFor verified.now memory }
-        requires cells { HasGlobalCells verified.now memory }
-        ensures { IfOk result (BeginsWith verified.now arguments.now memory) }
+        requires accepted { IsAccepted program.now }
+        requires few { budget_of program.now < 18446744073709551616 }
+        requires taken { unmet_in program.now arguments.now ≡ None }
+        requires made { IsMadeFor program.now memory }
+        requires cells { HasGlobalCells program.now memory }
+        ensures { IfOk result (BeginsWith program.now arguments.now memory) }
     {
-        let program = verified.program();
         let places = Places::of_program(alloc, program)?;
         let row = memory.row()?;
         let stack = Stack::begin(alloc, program, arguments, row, most_moves(program))?;
         let counted = blank(alloc)?;
         Ok(LoneRun {
-            verified,
+            program,
             arguments,
             memory,
             places,
@@ -115,13 +118,16 @@ impl<'v> LoneRun<'v> {
             → result ≡ Err (RunFault.BadArguments requirement memory) }
         ensures lacks_memory { unmet_in verified.now arguments.now ≡ None → IfErr result (λ fault. fault ≡ RunFault.OutOfMemory) }
     {
-        if let Some(requirement) = unmet_requirement(verified.program(), arguments) {
+        let program = verified.program();
+        // A number of 64 bits.
+        let _budget = verified.budget();
+        if let Some(requirement) = unmet_requirement(program, arguments) {
             return Err(RunFault::BadArguments {
                 requirement,
                 memory,
             });
         }
-        match LoneRun::of_taken(alloc, verified, arguments, memory) {
+        match LoneRun::of_taken(alloc, program, arguments, memory) {
             Ok(run) => Ok(run),
             Err(OutOfMemory) => Err(RunFault::OutOfMemory),
         }
@@ -134,13 +140,13 @@ impl<'v> LoneRun<'v> {
     /// Memory was refused: the run cannot go on.
     pub fn strand(&mut self) -> Result<Option<Finished>, OutOfMemory>
         requires goes { IsUnderWay self.old }
-        ensures program { self.new.verified.now ≡ self.old.verified.now }
+        ensures program { self.new.program.now ≡ self.old.program.now }
         ensures arguments { self.new.arguments.now ≡ self.old.arguments.now }
         ensures memory { self.new.memory ≡ self.old.memory }
-        ensures ends { IfOk result (λ end. IfSome end (EndsWithinBudget self.old.verified.now self.old.arguments.now self.old.memory)) }
+        ensures ends { IfOk result (λ end. IfSome end (EndsWithinBudget self.old.program.now self.old.arguments.now self.old.memory)) }
         ensures goes { IfOk result (λ end. IfNone end (IsUnderWay self.new)) }
     {
-        let program = self.verified.program();
+        let program = self.program;
         self.counted.cells.clear();
         let limit = self.done.saturating_add(MOST);
         let pause = advance(
