@@ -1,10 +1,10 @@
 //! The run of one worker alone: there is nobody to share with.
-ghost use Rattle.std.specs.Prelude.{◌≡◌, ◌≢◌, ℕ, None, Some, Err, IfOk, OnOk};
+ghost use Rattle.std.specs.Prelude.{◌≡◌, ℕ, None, IfErr, IfOk, OnOk};
 ghost use Rattle.shared_run.specs.outcome.Requirements.{unmet_in};
 ghost use Rattle.shared_run.specs.store.Made.{IsMadeFor};
-ghost use Rattle.shared_run.specs.store.declared.memory.Memory.{Memory};
 ghost use Rattle.shared_run.specs.Answer.{IsSerialAnswer};
 ghost use Rattle.shared_run.specs.Story.{origin};
+ghost use Rattle.lone_run.specs.UnderWay.{IsRefusal};
 
 use crate::gate::Gate;
 use lists::OutOfMemory;
@@ -27,13 +27,9 @@ pub(crate) fn run_alone<G: Gate, R: Wait>(
     gate: &G,
 ) -> Result<Finished, RunFault>
     requires made { IsMadeFor verified.now memory }
-    ensures answer { (workers : ℕ) → IfOk result (IsSerialAnswer (origin verified.now arguments.now memory workers)) }
+    ensures answer { IfOk result (λ done. IsSerialAnswer (origin verified.now arguments.now memory 1) done) }
     ensures met { OnOk result (unmet_in verified.now arguments.now ≡ None) }
-    ensures bad_arguments { (requirement : ℕ) → unmet_in verified.now arguments.now ≡ Some requirement
-        → result ≡ Err (RunFault.BadArguments requirement memory) }
-    ensures only_bad_arguments { (requirement : ℕ) (m : Memory) → result ≡ Err (RunFault.BadArguments requirement m)
-        → unmet_in verified.now arguments.now ≡ Some requirement }
-    ensures no_bad_workers { (m : Memory) → result ≢ Err (RunFault.BadWorkers m) }
+    ensures refused { IfErr result (IsRefusal verified.now arguments.now memory) }
 {
     let mut run = LoneRun::begin(alloc, verified, arguments, memory)?;
     let mut strand: u64 = 0;

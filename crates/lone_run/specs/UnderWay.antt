@@ -1,8 +1,10 @@
 -- A run of one worker alone between two strands: it is the serial run, as far as it has come.
-use Rattle.std.specs.Prelude.{◌≡◌, ℕ, ◌<◌, List, length, map, None, ℤ}
+use Rattle.std.specs.Prelude.{◌≡◌, ℕ, ◌<◌, List, length, map, None, Some, ℤ}
 use Rattle.program.specs.declared.function.Function.{Function}
 use Rattle.program.specs.declared.function.Program.{Program}
 use Rattle.outcome.specs.Requirements.{unmet_in}
+use Rattle.outcome.specs.declared.outcome.RunFault.{RunFault}
+use Rattle.outcome.specs.declared.outcome.RunFault.TheVariants.{BadArguments, BadWorkers, OutOfMemory}
 use Rattle.outcome.specs.store.Cells.{NamedCells}
 use Rattle.outcome.specs.store.Made.{HasGlobalCells}
 use Rattle.outcome.specs.store.Rows.{row_of, sizes_of}
@@ -40,6 +42,12 @@ pub record IsOnWay (program : Program) (arguments : List ℤ) (memory : List Nam
 abbrev pub IsUnderWay : LoneRun → Type 0
 IsUnderWay r = IsOnWay r.program.now r.arguments.now r.memory r.places r.stack r.done r.peak
 
--- a run of this program, from these arguments and this memory
-abbrev pub BeginsWith : Program → List ℤ → List NamedCells → LoneRun → Type 0
-BeginsWith program arguments memory r = (r.program.now ≡ program) × (r.arguments.now ≡ arguments) × (r.memory ≡ memory) × IsUnderWay r
+-- of this program, from these arguments and this memory
+abbrev pub IsRunOf : Program → List ℤ → List NamedCells → LoneRun → Type 0
+IsRunOf program arguments memory r = (r.program.now ≡ program) × (r.arguments.now ≡ arguments) × (r.memory ≡ memory) × IsUnderWay r
+
+-- why it does not begin: 801 hands the memory back, and 803 is the only other fault
+abbrev pub IsRefusal : Program → List ℤ → List NamedCells → RunFault → Type 0
+IsRefusal program arguments memory (BadArguments requirement m) = (unmet_in program arguments ≡ Some requirement) × (m ≡ memory)
+IsRefusal program arguments memory (BadWorkers m) = ⊥
+IsRefusal program arguments memory OutOfMemory = unmet_in program arguments ≡ None

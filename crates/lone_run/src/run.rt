@@ -1,11 +1,11 @@
-ghost use Rattle.std.specs.Prelude.{◌≡◌, ◌<◌, ℕ, Err, IfErr, IfNone, IfOk, IfSome, None, Some};
+ghost use Rattle.std.specs.Prelude.{◌≡◌, ◌<◌, IfErr, IfNone, IfOk, IfSome, None};
 ghost use Rattle.outcome.specs.Requirements.{unmet_in};
 ghost use Rattle.outcome.specs.store.Made.{HasGlobalCells, IsMadeFor};
 ghost use Rattle.outcome.specs.verifier.Accepted.{IsAccepted};
 ghost use Rattle.outcome.specs.verifier.Budgets.{budget_of};
 ghost use Rattle.serial_machine.specs.Promise.{EndsWithinBudget};
 ghost use Rattle.serial_machine.specs.Safe.{HasMoves};
-ghost use Rattle.lone_run.specs.UnderWay.{BeginsWith, IsUnderWay};
+ghost use Rattle.lone_run.specs.UnderWay.{IsRefusal, IsRunOf, IsUnderWay};
 
 use crate::counted::CountedCells;
 use crate::steps::{advance, border, is_at_border};
@@ -82,7 +82,7 @@ impl<'v> LoneRun<'v> {
         requires taken { unmet_in program.now arguments.now ≡ None }
         requires made { IsMadeFor program.now memory }
         requires cells { HasGlobalCells program.now memory }
-        ensures { IfOk result (BeginsWith program.now arguments.now memory) }
+        ensures { IfOk result (IsRunOf program.now arguments.now memory) }
     {
         let places = Places::of_program(alloc, program)?;
         let row = memory.row()?;
@@ -113,10 +113,8 @@ impl<'v> LoneRun<'v> {
     ) -> Result<LoneRun<'v>, RunFault>
         requires made { IsMadeFor verified.now memory }
         requires cells { HasGlobalCells verified.now memory }
-        ensures begins { IfOk result (BeginsWith verified.now arguments.now memory) }
-        ensures refused { (requirement : ℕ) → unmet_in verified.now arguments.now ≡ Some requirement
-            → result ≡ Err (RunFault.BadArguments requirement memory) }
-        ensures lacks_memory { unmet_in verified.now arguments.now ≡ None → IfErr result (λ fault. fault ≡ RunFault.OutOfMemory) }
+        ensures begins { IfOk result (IsRunOf verified.now arguments.now memory) }
+        ensures refused { IfErr result (IsRefusal verified.now arguments.now memory) }
     {
         let program = verified.program();
         // A number of 64 bits.
@@ -139,12 +137,9 @@ impl<'v> LoneRun<'v> {
     ///
     /// Memory was refused: the run cannot go on.
     pub fn strand(&mut self) -> Result<Option<Finished>, OutOfMemory>
-        requires goes { IsUnderWay self.old }
-        ensures program { self.new.program.now ≡ self.old.program.now }
-        ensures arguments { self.new.arguments.now ≡ self.old.arguments.now }
-        ensures memory { self.new.memory ≡ self.old.memory }
+        requires { IsUnderWay self.old }
         ensures ends { IfOk result (λ end. IfSome end (EndsWithinBudget self.old.program.now self.old.arguments.now self.old.memory)) }
-        ensures goes { IfOk result (λ end. IfNone end (IsUnderWay self.new)) }
+        ensures goes { IfOk result (λ end. IfNone end (IsRunOf self.old.program.now self.old.arguments.now self.old.memory self.new)) }
     {
         let program = self.program;
         self.counted.cells.clear();

@@ -24,17 +24,21 @@ returns c =
     let places = c.in_ok-places.places in
     let k = c.in_ok-stack.stack in
     let globals : places.globals ≡ starts_from 0 (sizes_of m) = c.in_ok-places.ensures.globals ∙ ap (λ (xs : List ℕ). starts_from 0 xs) (sym c.requires.made) in
-    let begun : Begins program arguments (row_of m) k = subst (λ (xs : List ℤ). Begins program arguments xs k) c.in_ok-row.ensures c.in_ok-stack.ensures.begins in
-    (refl, refl, refl, record {
-      may = record { accepted = c.requires.accepted; taken = c.requires.taken; cells = c.requires.cells };
-      globals = globals;
-      allocas = c.in_ok-places.ensures.allocas;
-      small = subst (λ (xs : List ℤ). length xs < 9223372036854775808) c.in_ok-row.ensures (vec_small c.in_ok-row.row);
-      few = c.requires.few;
-      text = subst (λ (n : ℕ). TextFits program places n) (sym c.in_ok-stack.ensures.moves)
-        (fits program c.requires.accepted arguments m c.requires.taken c.requires.cells places globals c.in_ok-places.ensures.allocas c.most_moves.result c.most_moves.ensures);
-      safe = goes program c.requires.accepted arguments m c.requires.taken c.requires.cells places globals c.in_ok-places.ensures.allocas k begun;
-      first = k;
-      begun = begun;
-      walked = λ globals start safe h. h;
-    })
+    let begun : Begins program arguments (row_of m) k = subst (λ (xs : List ℤ). Begins program arguments xs k) c.in_ok-row.ensures c.in_ok-stack.ensures.begins in (
+      refl,
+      refl,
+      refl,
+      record {
+        may = record { accepted = c.requires.accepted; taken = c.requires.taken; cells = c.requires.cells };
+        globals = globals;
+        allocas = c.in_ok-places.ensures.allocas;
+        small = subst (λ (xs : List ℤ). length xs < 9223372036854775808) c.in_ok-row.ensures (vec_small c.in_ok-row.row);
+        few = c.requires.few;
+        text = subst (λ (n : ℕ). TextFits program places n) (sym c.in_ok-stack.ensures.moves)
+            (fits program c.requires.accepted arguments m c.requires.taken c.requires.cells places globals c.in_ok-places.ensures.allocas c.most_moves.result c.most_moves.ensures);
+        safe = goes program c.requires.accepted arguments m c.requires.taken c.requires.cells places globals c.in_ok-places.ensures.allocas k begun;
+        first = k;
+        begun = begun;
+        walked = λ globals start safe h. h;
+      },
+    )
