@@ -1,15 +1,14 @@
 -- A strand leads the run on, or to its end.
-use Rattle.std.proofs.Common.{◌≡◌, ℕ, suc, ◌+◌, ◌<◌, ◌≤◌, max, List, length, refl, arith, sym, subst, ℤ, Option, Some, None}
+use Rattle.std.proofs.Common.{◌≡◌, ℕ, suc, ◌+◌, ◌<◌, max, List, length, sym, subst, ℤ, Some, None}
 use Rattle.std.proofs.Math.Logic.{∥∥₁_elim, ∥∥₁_map}
 use Rattle.std.proofs.Props.{props}
 use Rattle.program.specs.declared.function.Program.{Program}
-use Rattle.outcome.specs.declared.outcome.Finished.{Finished}
 use Rattle.outcome.specs.store.Cells.{NamedCells}
-use Rattle.outcome.specs.store.Rows.{refilled, row_of}
+use Rattle.outcome.specs.store.Rows.{refilled}
 use Rattle.outcome.specs.verifier.Budgets.{budget_of}
 use Rattle.engine.specs.Activation.{FrameFits}
 use Rattle.engine.specs.declared.activation.Places.{Places}
-use Rattle.serial_steps.specs.Runs.{HasEnded, HasWalked, RunsTo, Turned}
+use Rattle.serial_steps.specs.Runs.{HasWalked, RunsTo}
 use Rattle.serial_steps.specs.Shown.{Advances, HasNumbers, Returns, RunsSafely, StandsSafely, StaysSafely, TextFits}
 use Rattle.serial_steps.specs.Steps.{Run}
 use Rattle.serial_steps.specs.declared.run.Ended.{Ended}

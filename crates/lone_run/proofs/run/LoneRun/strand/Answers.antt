@@ -1,13 +1,11 @@
-use Rattle.std.proofs.Common.{rules, ◌≡◌, ◌+◌, ◌<◌, ◌∙◌, ap, arith, max, refl, suc, sym, subst, ℕ, List, length, FitsSigned, None, Option, Some, ℤ}
+use Rattle.std.proofs.Common.{rules, ◌≡◌, ◌+◌, ◌∙◌, ap, arith, max, refl, suc, sym, subst, ℕ, List, length, FitsSigned, Option, ℤ}
 use Rattle.std.specs.Int.{w64}
 use mir.Val.{to_z, of_z}
 use Rattle.std.proofs.lemmas.Int.{to_z-of_z}
 use Rattle.outcome.specs.declared.outcome.Finished.{Finished}
 use Rattle.outcome.specs.store.Rows.{refilled}
-use Rattle.outcome.specs.verifier.Budgets.{budget_of}
 use Rattle.serial_steps.specs.Shown.{Returns}
 use Rattle.serial_machine.specs.Promise.{EndsWithinBudget}
-use Rattle.lone_run.specs.UnderWay.{IsOnWay}
 use Rattle.lone_run.proofs.OnWay.{fits, numbers, over, passed, stands, stays, went_on, within}
 use Rattle.lone_run.proofs.run.LoneRun.strand.Goals as goal
 
@@ -48,8 +46,8 @@ returns-in-None-clause-goes c =
           (subst (λ (r : Option ℤ). Returns program places c.advance-pause.new.stack new r) c.in-None.is c.in_ok-result.ensures.goes),
     )
 
-pub returns-in-Some-clause-ends : goal.returns-in-Some-clause-ends
-returns-in-Some-clause-ends c =
+pub returns-in_ok-memory-in-Some-clause-ends : goal.returns-in_ok-memory-in-Some-clause-ends
+returns-in_ok-memory-in-Some-clause-ends c =
     let program = c.args.self.now.program.now in
     let places = c.args.self.now.places in
     let m = c.args.self.now.memory in
@@ -59,9 +57,9 @@ returns-in-Some-clause-ends c =
     let z = c.in-Some.result in
     let fit : FitsSigned w64 z = search rules in
     let number : to_z w64 (of_z w64 z) ≡ z = to_z-of_z w64 z fit in
-    let kept : c.in_ok-memory.memory ≡ refilled m new.cells.cells.items = c.in_ok-memory.ensures ∙ ap (λ (xs : List ℤ). refilled m xs) c.as_slice.ensures.value in
+    let kept : c.in_ok-memory-in-Some.memory ≡ refilled m new.cells.cells.items = c.in_ok-memory-in-Some.ensures ∙ ap (λ (xs : List ℤ). refilled m xs) c.as_slice.ensures.value in
     let same : ◌≡◌ {A = Finished} (record { result = z; memory = refilled m new.cells.cells.items; instructions = n; peak = peak })
-    (record { result = to_z w64 (of_z w64 z); memory = c.in_ok-memory.memory; instructions = n; peak = peak }) =
+    (record { result = to_z w64 (of_z w64 z); memory = c.in_ok-memory-in-Some.memory; instructions = n; peak = peak }) =
     λ i. record { result = sym number i; memory = sym kept i; instructions = n; peak = peak } in
     subst (λ (d : Finished). EndsWithinBudget program c.args.self.now.arguments.now m d) same
     (over _ _ _ _ _ _ _ (went_on _ _ _ _ _ _ _ c.requires _ _ c.advance-pause.ensures.moves c.advance-pause.ensures.led) new _ z refl
