@@ -5,6 +5,7 @@
 //! thief's taking of the oldest. `specs/TicketList.antt` says what is known of it at each moment, however the threads run.
 #![tactic(auto)]
 
+mod alone;
 mod gate;
 mod hands;
 mod law;

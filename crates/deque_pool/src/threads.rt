@@ -7,6 +7,7 @@ ghost use Rattle.shared_run.specs.schedule_core.Replaying.{IsNumberOfWorkers};
 ghost use Rattle.shared_run.specs.Answer.{IsSerialAnswer};
 ghost use Rattle.shared_run.specs.Story.{origin};
 
+use crate::alone::run_alone;
 use crate::gate::Gate;
 use crate::work::work;
 use crate::workers::{Worker, crew_of, seats_of};
@@ -49,6 +50,9 @@ pub fn run<G: Gate + Sync, R: Threads + Wait + Clock + Sync>(
         → unmet_in verified.now arguments.now ≡ Some requirement }
     ensures only_bad_workers { (m : Memory) → result ≡ Err (RunFault.BadWorkers m) → ¬ IsNumberOfWorkers workers }
 {
+    if workers == 1 {
+        return run_alone(rt, alloc, verified, arguments, memory, gate);
+    }
     run_by::<Brand, G, R>(
         rt,
         alloc,

@@ -80,9 +80,10 @@ struct Counting {
 }
 
 impl Counting {
-    fn is_passed_by_two(&self) -> bool {
+    /// Whether it was passed once before strand 0, so often before strand 1, and before no other.
+    fn is_passed(&self, second: u64) -> bool {
         self.first.load(Ordering::SeqCst) == 1
-            && self.second.load(Ordering::SeqCst) == 1
+            && self.second.load(Ordering::SeqCst) == second
             && self.other.load(Ordering::SeqCst) == 0
     }
 }
@@ -98,18 +99,21 @@ impl Gate for Counting {
     }
 }
 
-/// Whether `loop-of-stores.ll` fills one strand and ends in the next, each with its gate before it.
-fn has_two_strands<R: Threads + Wait + Clock + Sync>(
+/// Whether a run of the module on one worker comes to the answer in strand 0, and strand 1 where there is to be one, each with its gate before it.
+fn has_strands<R: Threads + Wait + Clock + Sync>(
     rt: &R,
     alloc: Global,
-    stores: &Verified,
+    verified: &Verified,
+    arguments: &[i64],
+    wanted: Ending,
+    second: u64,
 ) -> bool {
     let counting = Counting {
         first: AtomicU64::new(0),
         second: AtomicU64::new(0),
         other: AtomicU64::new(0),
     };
-    comes_to(rt, alloc, stores, &[], 1, &counting, (0, 1546, 1)) && counting.is_passed_by_two()
+    comes_to(rt, alloc, verified, arguments, 1, &counting, wanted) && counting.is_passed(second)
 }
 
 fn answer_pair<R: AllocGlobal + Files + Threads + Wait + Clock + Sync>(
@@ -128,8 +132,22 @@ fn answer_stores<R: AllocGlobal + Files + Threads + Wait + Clock + Sync>(
     report: &mut Lines,
 ) -> io::Result<()> {
     let stores = verified_file(rt, state, "modules/loop-of-stores.ll")?;
-    let has_two = has_two_strands(rt, rt.alloc(), &stores);
+    // The 257th cell is the second strand's.
+    let has_two = has_strands(rt, rt.alloc(), &stores, &[], (0, 1546, 1), 1);
     report.holds("each of two strands is after its gate", has_two)
+}
+
+fn answer_limit<R: AllocGlobal + Files + Threads + Wait + Clock + Sync>(
+    rt: &R,
+    state: RandomState,
+    report: &mut Lines,
+) -> io::Result<()> {
+    let long = verified_file(rt, state, "modules/long-loop.ll")?;
+    // After 65,536 instructions stands the return.
+    let has_one = has_strands(rt, rt.alloc(), &long, &[16_383], (16_383, 65_537, 1), 0);
+    report.holds("a border at the limit is the strand's", has_one)?;
+    let has_two = has_strands(rt, rt.alloc(), &long, &[16_384], (16_384, 65_541, 1), 1);
+    report.holds("past the limit goes the next strand", has_two)
 }
 
 /// Answers the cases of runs.
@@ -140,5 +158,6 @@ pub fn answer<R: AllocGlobal + Files + Threads + Wait + Clock + Sync>(
 ) -> io::Result<()> {
     report.title("gates")?;
     answer_pair(rt, state, report)?;
-    answer_stores(rt, state, report)
+    answer_stores(rt, state, report)?;
+    answer_limit(rt, state, report)
 }

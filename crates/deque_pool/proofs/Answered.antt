@@ -1,0 +1,30 @@
+-- What one worker alone answers.
+use Rattle.std.proofs.Common.{◌≡◌, ℕ, List, ℤ, Option, Some, refl, subst}
+use Rattle.std.specs.Prelude.{IfSome}
+use Rattle.running.specs.SerialMeaning.{Gave}
+use Rattle.program.specs.declared.function.Program.{Program}
+use Rattle.shared_run.specs.outcome.Serially.{memory_of_globals}
+use Rattle.shared_run.specs.outcome.declared.outcome.Finished.{Finished}
+use Rattle.shared_run.specs.store.Cells.{NamedCells}
+use Rattle.shared_run.specs.Answer.{IsSerialAnswer}
+use Rattle.shared_run.specs.Story.{origin}
+use Rattle.lone_run.specs.serial_machine.Promise.{EndsWithinBudget}
+
+pub answered : (program : Program) (arguments : List ℤ) (memory : List NamedCells) (workers : ℕ) (done : Finished) → EndsWithinBudget program arguments memory done → IsSerialAnswer (origin program arguments memory workers) done
+answered program arguments memory workers done e = record {
+  serial = record { ending = Gave (Some done.result); memory = memory_of_globals done.memory; count = done.instructions; depth = done.peak };
+  is_serial = e.meant.meant;
+  result = refl;
+  memory = λ g i. refl;
+  count = refl;
+  peak = refl;
+}
+
+-- by a run of the same start
+pub answered_by : (p program : Program) (a arguments : List ℤ) (m memory : List NamedCells) (workers : ℕ) → p ≡ program → a ≡ arguments → m ≡ memory → (end : Option Finished) (done : Finished) → end ≡ Some done →
+    IfSome end (EndsWithinBudget p a m) → IsSerialAnswer (origin program arguments memory workers) done
+answered_by p program a arguments m memory workers same_program same_arguments same_memory end done is ends =
+    let e : EndsWithinBudget p a m done = subst (λ (x : Option Finished). IfSome x (EndsWithinBudget p a m)) is ends in
+    let f : EndsWithinBudget program a m done = subst (λ (x : Program). EndsWithinBudget x a m done) same_program e in
+    let g : EndsWithinBudget program arguments m done = subst (λ (x : List ℤ). EndsWithinBudget program x m done) same_arguments f in
+    answered program arguments memory workers done (subst (λ (x : List NamedCells). EndsWithinBudget program arguments x done) same_memory g)

@@ -1,0 +1,46 @@
+//! The run of one worker alone: there is nobody to share with.
+ghost use Rattle.std.specs.Prelude.{◌≡◌, ℕ, None, IfErr, IfOk, OnOk};
+ghost use Rattle.shared_run.specs.outcome.Requirements.{unmet_in};
+ghost use Rattle.shared_run.specs.store.Made.{IsMadeFor};
+ghost use Rattle.shared_run.specs.Answer.{IsSerialAnswer};
+ghost use Rattle.shared_run.specs.Story.{origin};
+ghost use Rattle.lone_run.specs.UnderWay.{IsRefusal};
+
+use crate::gate::Gate;
+use lists::OutOfMemory;
+use lone_run::LoneRun;
+use shared_run::{Finished, Memory, RunFault, Verified};
+use std::alloc::Global;
+use std::sync::Wait;
+
+/// Runs a module on one worker, strand by strand, each after its gate.
+///
+/// # Errors
+///
+/// 801 where the arguments are not those of `main`; the memory is handed back. 803 where memory is refused.
+pub(crate) fn run_alone<G: Gate, R: Wait>(
+    rt: &R,
+    alloc: Global,
+    verified: &Verified,
+    arguments: &[i64],
+    memory: Memory,
+    gate: &G,
+) -> Result<Finished, RunFault>
+    requires made { IsMadeFor verified.now memory }
+    ensures answer { IfOk result (λ done. IsSerialAnswer (origin verified.now arguments.now memory 1) done) }
+    ensures met { OnOk result (unmet_in verified.now arguments.now ≡ None) }
+    ensures refused { IfErr result (IsRefusal verified.now arguments.now memory) }
+{
+    let mut run = LoneRun::begin(alloc, verified, arguments, memory)?;
+    let mut strand: u64 = 0;
+    for _ in rt.forever() {
+        gate.pass(0, strand);
+        strand = strand.saturating_add(1);
+        match run.strand() {
+            Ok(Some(finished)) => return Ok(finished),
+            Ok(None) => {}
+            Err(OutOfMemory) => return Err(RunFault::OutOfMemory),
+        }
+    }
+    unreachable!()
+}

@@ -1,0 +1,11 @@
+//! The run of one worker alone: strand by strand over the serial run's stack, with no board, lock or copy.
+//!
+//! A strand ends where one of the board's workers would: `CountedCells` counts the cells that it reads and writes, and `LoneRun::strand` does one.
+#![tactic(auto)]
+
+mod counted;
+mod run;
+mod steps;
+
+pub use counted::{CountedCells, Full};
+pub use run::LoneRun;
