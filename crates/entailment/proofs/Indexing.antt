@@ -1,5 +1,5 @@
 -- What stands for the facts in an index, and what it makes up.
-use Rattle.std.proofs.Common.{◌≡◌, ◌∙◌, ℕ, zero, suc, ◌<◌, ◌≤◌, ◌+◌, ◌*◌, ◌^◌, ℤ, pos, negsuc, ◌+ℤ◌, ◌*ℤ◌, ◌-ℤ◌, ◌≤ℤ◌, Bool, true, false, List, [], ◌∷◌, ◌++◌, length, get_or, insert, set, map, take, drop, None, inl, inr, sym, ap, refl, subst, arith}
+use Rattle.std.proofs.Common.{◌≡◌, ◌∙◌, ℕ, zero, suc, ◌<◌, ◌≤◌, ◌+◌, ◌*◌, ◌^◌, ℤ, pos, negsuc, ◌+ℤ◌, ◌*ℤ◌, ◌-ℤ◌, ◌≤ℤ◌, ◌⊎◌, Bool, true, false, List, [], ◌∷◌, ◌++◌, length, get_or, insert, set, map, take, drop, None, inl, inr, sym, ap, refl, subst, arith}
 use Rattle.std.specs.List.{All, Contains}
 use Rattle.std.specs.List.Sorted.{IsNonDecreasingBy}
 use Rattle.std.proofs.Math.IntN.{zero-*ℤ}
@@ -8,15 +8,15 @@ use Rattle.std.proofs.lemmas.Int.{ints}
 use Rattle.std.proofs.lemmas.Bool.{cases_eq, cases_Bool}
 use Rattle.std.proofs.lemmas.List.{length-map, length-append, map-append, take-append-drop, length-set, get_or_default, get_or-set_same, get_or-set_other}
 use Rattle.std.proofs.lemmas.List.Edits.{length-insert, get_or-insert_at}
-use Rattle.std.proofs.lemmas.List.Elements.{All-contains, All-cons, Contains-get_or, Contains-append_right}
-use Rattle.std.proofs.lemmas.List.Sorted.{IsNonDecreasingBy-insert, IsNonDecreasingBy-short, IsPermutation-insert, All-permutation, Contains-permutation}
+use Rattle.std.proofs.lemmas.List.Elements.{All-contains, All-cons, Contains-get_or, Contains-append_right, Contains-append_cases}
+use Rattle.std.proofs.lemmas.List.Sorted.{IsNonDecreasingBy-insert, IsNonDecreasingBy-short, IsPermutation-insert, IsPermutation-sym, All-permutation, Contains-permutation}
 use Rattle.linear.specs.declared.form.Term.{Term}
 use Rattle.linear.specs.declared.form.Fact.{Fact}
 use Rattle.linear.specs.Forms.{Combination, coefficient_of, constant_form, IsRising}
 use Rattle.entailment.specs.declared.index.Entry.{Entry}
 use Rattle.entailment.specs.Shown.{IsSum, IsShown, sides}
 use Rattle.entailment.specs.Search.{factors, IsFound}
-use Rattle.entailment.specs.Index.{weight, weigh, IsKeyOf, place_at, IsEntry, IsAsStrong, IsIndexed, IsIndex, IsBegun, IsContradiction, AreConsistent, IsNegative, IsMadeUp, IsMadeUpWith, IsMadeUpByB, IsMadeUpByA, AreNotB}
+use Rattle.entailment.specs.Index.{weight, weigh, IsKeyOf, place_at, IsEntry, IsAsStrong, IsIndexed, IsIndex, AreEntries, IsJoined, IsBegun, IsContradiction, AreConsistent, IsNegative, IsMadeUp, IsMadeUpWith, IsMadeUpByB, IsMadeUpByA, AreNotB}
 use Rattle.linear.proofs.Values.{distributes, value_combines}
 use Rattle.entailment.specs.Tested.{is_shown}
 use Rattle.entailment.proofs.Tested.{shown_from_test}
@@ -84,25 +84,21 @@ index_none facts = record {
 }
 
 -- what is kept, in a list that keeps what was there
-more_kept : (facts : List Fact) (old new : List Entry) (n : ℕ) → ((e : Entry) → Contains old e → (e' : Entry) × Contains new e' × IsAsStrong (place_at facts e'.place) (place_at facts e.place)) →
-    IsIndexed facts new n → ((p : ℕ) → p < n → IsIndexed facts old p) → (p : ℕ) → p < suc n → IsIndexed facts new p
-more_kept facts old new n on last before p l = elim (cases_eq p n) [
-  | inl same ↦ rw same last
-  | inr other ↦
-      let k = before p (omega (arith, l, other)) in
-      let m = on k.0 k.1 in
-      (m.0, m.1, stronger (place_at facts m.0.place) (place_at facts k.0.place) (place_at facts p) m.2 k.2)
-]
+pub moved : (facts : List Fact) (old new : List Entry) → ((e : Entry) → Contains old e → (e' : Entry) × Contains new e' × IsAsStrong (place_at facts e'.place) (place_at facts e.place)) →
+    (place : ℕ) → IsIndexed facts old place → IsIndexed facts new place
+moved facts old new on place (e, c, strong) =
+    let m = on e c in
+    (m.0, m.1, stronger (place_at facts m.0.place) (place_at facts e.place) (place_at facts place) m.2 strong)
 
 -- as strong an entry is there already
-pub index_same : (facts : List Fact) (es : List Entry) (entry : Entry) (k : ℕ) → IsIndex facts entry.place es → k < length es →
+pub joined_same : (facts : List Fact) (es : List Entry) (entry : Entry) (k : ℕ) → AreEntries facts es → k < length es →
     ((r : ℕ) → coefficient_of (place_at facts (get_or es k entry).place).terms r ≡ coefficient_of (place_at facts entry.place).terms r) →
-    (place_at facts (get_or es k entry).place).constant ≤ℤ (place_at facts entry.place).constant → IsIndex facts (suc entry.place) es
-index_same facts es entry k index within same le = record {
-  sorted = index.sorted;
-  own = index.own;
-  kept = more_kept facts es es entry.place (λ e c. (e, c, strong_itself (place_at facts e.place)))
-      (get_or es k entry, Contains-get_or es k entry within, record { terms = same; constant = le }) index.kept;
+    (place_at facts (get_or es k entry).place).constant ≤ℤ (place_at facts entry.place).constant → IsJoined facts es es entry
+joined_same facts es entry k are within same le = record {
+  entries = are;
+  kept = λ place i. i;
+  entered = (get_or es k entry, Contains-get_or es k entry within, record { terms = same; constant = le });
+  within = λ e c. inl c;
 }
 
 key_stays : (es : List Entry) (entry d : Entry) (k i : ℕ) → k < length es → (get_or es k entry).key ≡ entry.key → (get_or (set es k entry) i d).key ≡ (get_or es i d).key
@@ -131,32 +127,65 @@ set_keeps facts es entry k within strong e (i, l, at_i) = elim (cases_eq i k) [
   | inr ne ↦ (e, (i, rw (length-set es k entry) l, get_or-set_other es k i entry e ne ∙ at_i), strong_itself (place_at facts e.place))
 ]
 
+set_within : (es : List Entry) (entry : Entry) (k : ℕ) → k < length es → (e : Entry) → Contains (set es k entry) e → Contains es e ⊎ (e ≡ entry)
+set_within es entry k within e (i, l, at_i) = elim (cases_eq i k) [
+  | inl s ↦ inr (sym at_i ∙ ap (λ n. get_or (set es k entry) n e) s ∙ get_or-set_same es k entry e within)
+  | inr ne ↦ inl (i, (rw (length-set es k entry) at l), sym (get_or-set_other es k i entry e ne) ∙ at_i)
+]
+
 -- a weaker entry gives way
-pub index_set : (facts : List Fact) (es : List Entry) (entry : Entry) (k : ℕ) → IsIndex facts entry.place es → IsEntry facts entry → k < length es →
+pub joined_set : (facts : List Fact) (es : List Entry) (entry : Entry) (k : ℕ) → AreEntries facts es → IsEntry facts entry → k < length es →
     (get_or es k entry).key ≡ entry.key →
     ((r : ℕ) → coefficient_of (place_at facts (get_or es k entry).place).terms r ≡ coefficient_of (place_at facts entry.place).terms r) →
-    (place_at facts entry.place).constant ≤ℤ (place_at facts (get_or es k entry).place).constant → IsIndex facts (suc entry.place) (set es k entry)
-index_set facts es entry k index is within key same le = record {
-  sorted = set_rises es entry k index.sorted within key;
-  own = all_set (IsEntry facts) es entry k index.own is within;
-  kept = more_kept facts es (set es k entry) entry.place
-      (set_keeps facts es entry k within (record { terms = λ r. sym (same r); constant = le }))
-      (entry, (k, rw (length-set es k entry) within, get_or-set_same es k entry entry within), strong_itself (place_at facts entry.place)) index.kept;
+    (place_at facts entry.place).constant ≤ℤ (place_at facts (get_or es k entry).place).constant → IsJoined facts es (set es k entry) entry
+joined_set facts es entry k are is within key same le = record {
+  entries = record {
+    sorted = set_rises es entry k are.sorted within key;
+    own = all_set (IsEntry facts) es entry k are.own is within;
+  };
+  kept = moved facts es (set es k entry) (set_keeps facts es entry k within (record { terms = λ r. sym (same r); constant = le }));
+  entered = (entry, (k, rw (length-set es k entry) within, get_or-set_same es k entry entry within), strong_itself (place_at facts entry.place));
+  within = set_within es entry k within;
 }
 
 all_insert : (P : Entry → Type 0) (es : List Entry) (entry : Entry) (at : ℕ) → at ≤ length es → All P es → P entry → All P (insert es at entry)
 all_insert P es entry at le all here = All-permutation P (entry ∷ es) (insert es at entry) (IsPermutation-insert es at entry) (All-cons P entry es here all)
 
+insert_within : (es : List Entry) (entry : Entry) (at : ℕ) → (e : Entry) → Contains (insert es at entry) e → Contains es e ⊎ (e ≡ entry)
+insert_within es entry at e c =
+    one (Contains-append_cases (entry ∷ []) es e (Contains-permutation (insert es at entry) (entry ∷ es) e (IsPermutation-sym (entry ∷ es) (insert es at entry) (IsPermutation-insert es at entry)) c))
+  where
+    only : Contains (entry ∷ []) e → e ≡ entry
+    only (zero, l, is) = sym is
+    only (suc k, l, is) = absurd (omega (arith, l))
+    one : Contains (entry ∷ []) e ⊎ Contains es e → Contains es e ⊎ (e ≡ entry)
+    one (inl here) = inr (only here)
+    one (inr there) = inl there
+
 -- a new entry before those of its key and above
-pub index_insert : (facts : List Fact) (es : List Entry) (entry : Entry) (at : ℕ) → IsIndex facts entry.place es → IsEntry facts entry → at ≤ length es →
+pub joined_insert : (facts : List Fact) (es : List Entry) (entry : Entry) (at : ℕ) → AreEntries facts es → IsEntry facts entry → at ≤ length es →
     ((k : ℕ) (d : Entry) → k < at → (get_or es k d).key ≤ entry.key) → ((k : ℕ) (d : Entry) → at ≤ k → k < length es → entry.key ≤ (get_or es k d).key) →
-    IsIndex facts (suc entry.place) (insert es at entry)
-index_insert facts es entry at index is le below above = record {
-  sorted = IsNonDecreasingBy-insert (λ (e : Entry). e.key) es at entry index.sorted le below above;
-  own = all_insert (IsEntry facts) es entry at le index.own is;
-  kept = more_kept facts es (insert es at entry) entry.place
-      (λ e c. (e, Contains-permutation (entry ∷ es) (insert es at entry) e (IsPermutation-insert es at entry) (Contains-append_right (entry ∷ []) es e c), strong_itself (place_at facts e.place)))
-      (entry, (at, rw (length-insert es at entry le) (omega (arith, le)), get_or-insert_at es at entry entry le), strong_itself (place_at facts entry.place)) index.kept;
+    IsJoined facts es (insert es at entry) entry
+joined_insert facts es entry at are is le below above = record {
+  entries = record {
+    sorted = IsNonDecreasingBy-insert (λ (e : Entry). e.key) es at entry are.sorted le below above;
+    own = all_insert (IsEntry facts) es entry at le are.own is;
+  };
+  kept = moved facts es (insert es at entry)
+      (λ e c. (e, Contains-permutation (entry ∷ es) (insert es at entry) e (IsPermutation-insert es at entry) (Contains-append_right (entry ∷ []) es e c), strong_itself (place_at facts e.place)));
+  entered = (entry, (at, rw (length-insert es at entry le) (omega (arith, le)), get_or-insert_at es at entry entry le), strong_itself (place_at facts entry.place));
+  within = insert_within es entry at;
+}
+
+-- the next place has joined
+pub index_joined : (facts : List Fact) (old es : List Entry) (entry : Entry) → IsIndex facts entry.place old → IsJoined facts old es entry → IsIndex facts (suc entry.place) es
+index_joined facts old es entry index joined = record {
+  sorted = joined.entries.sorted;
+  own = joined.entries.own;
+  kept = λ place l. elim (cases_eq place entry.place) [
+    | inl same ↦ rw same joined.entered
+    | inr other ↦ joined.kept place (index.kept place (omega (arith, l, other)))
+  ];
 }
 
 -- ---- what an index makes up
@@ -172,8 +201,11 @@ kept_side facts es index g c =
     let k = index.kept c.0 p.0 in
     (k.0, k.1, rw p.1 at k.2)
 
+pub place_is_side : (facts : List Fact) (place : ℕ) → place ≤ length facts → Contains (sides facts) (place_at facts place)
+place_is_side facts place le = Contains-get_or (sides facts) place (constant_form (pos 0)) (omega (arith, le, length-map facts (λ (f : Fact). f.form)))
+
 pub side_of_entry : (facts : List Fact) (e : Entry) → IsEntry facts e → Contains (sides facts) (place_at facts e.place)
-side_of_entry facts e is = Contains-get_or (sides facts) e.place (constant_form (pos 0)) (omega (arith, is.within, length-map facts (λ (f : Fact). f.form)))
+side_of_entry facts e is = place_is_side facts e.place is.within
 
 -- one fact alone shows a form
 pub alone_shown : (facts : List Fact) (e : Combination) (b : ℕ) → IsRising e.terms → Contains (factors e.terms) b → IsMadeUp facts e (place_at facts 0) 1 b → IsShown facts e

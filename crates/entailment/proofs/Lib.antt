@@ -11,3 +11,4 @@ pub mod Left
 pub mod Indexing
 pub mod Looking
 pub mod Passing
+pub mod Merging

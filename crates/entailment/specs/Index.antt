@@ -1,5 +1,5 @@
 -- Facts by the values of their terms: of those with the same coefficients the strongest alone is kept.
-use Rattle.std.specs.Prelude.{◌≡◌, ℕ, suc, ◌<◌, ◌≤◌, ◌+◌, ◌*◌, ◌%◌, ◌^◌, ℤ, pos, negsuc, ◌+ℤ◌, ◌≤ℤ◌, Bool, true, List, [], length, take, All, Contains, slice_index_or}
+use Rattle.std.specs.Prelude.{◌≡◌, ℕ, suc, ◌<◌, ◌≤◌, ◌+◌, ◌*◌, ◌%◌, ◌^◌, ℤ, pos, negsuc, ◌+ℤ◌, ◌≤ℤ◌, ◌⊎◌, Bool, true, List, [], length, take, All, Contains, slice_index_or}
 use Rattle.std.specs.List.Sorted.{IsNonDecreasingBy}
 use Rattle.linear.specs.declared.form.Term.{Term}
 use Rattle.linear.specs.declared.form.Fact.{Fact}
@@ -20,6 +20,11 @@ weigh terms = value_of (λ r. pos (weight r)) terms
 abbrev pub IsKeyOf : List Term → ℕ → Type 0
 IsKeyOf terms key = pos key ≡ weigh terms +ℤ pos (2 ^ 61)
 
+-- 1 with the sign of a coefficient
+abbrev pub one_of : ℤ → ℤ
+one_of (pos n) = pos 1
+one_of (negsuc n) = negsuc 0
+
 -- an absent fact at 0, and then the facts in their order
 abbrev pub place_at : List Fact → ℕ → Combination
 place_at facts place = slice_index_or (sides facts) place (constant_form (pos 0))
@@ -36,6 +41,31 @@ pub record IsAsStrong (f g : Combination) : Type 0 where
 -- some entry is as strong as what stands at the place
 abbrev pub IsIndexed : List Fact → List Entry → ℕ → Type 0
 IsIndexed facts entries place = (entry : Entry) × Contains entries entry × IsAsStrong (place_at facts entry.place) (place_at facts place)
+
+-- entries by rising keys
+pub record AreEntries (facts : List Fact) (entries : List Entry) : Type 0 where
+  pub sorted : IsNonDecreasingBy (λ (e : Entry). e.key) entries
+  pub own : All (IsEntry facts) entries
+
+-- the entry has joined them: each place that had an entry as strong still has one, and so has its own
+pub record IsJoined (facts : List Fact) (old new : List Entry) (entry : Entry) : Type 0 where
+  pub entries : AreEntries facts new
+  pub kept : (place : ℕ) → IsIndexed facts old place → IsIndexed facts new place
+  pub entered : IsIndexed facts new entry.place
+  pub within : (e : Entry) → Contains new e → Contains old e ⊎ (e ≡ entry)
+
+-- entries of all places from one on
+pub record HasPlaces (facts : List Fact) (from upto : ℕ) (entries : List Entry) : Type 0 where
+  pub own : All (IsEntry facts) entries
+  pub each : (place : ℕ) → from ≤ place → place < upto → (e : Entry) × Contains entries e × (e.place ≡ place)
+
+-- entries that are merged with fresh ones: these are in, and so is each of the others that is not among the rest, which all come after
+pub record IsMerging (facts : List Fact) (entries fresh rest merged : List Entry) : Type 0 where
+  pub waiting : AreEntries facts rest
+  pub in_order : AreEntries facts merged
+  pub below : (m e : Entry) → Contains merged m → Contains rest e → m.key ≤ e.key
+  pub kept : (e : Entry) → Contains entries e → Contains rest e ⊎ IsIndexed facts merged e.place
+  pub entered : All (λ (e : Entry). IsIndexed facts merged e.place) fresh
 
 -- entries of the first places, by rising keys
 pub record IsIndex (facts : List Fact) (count : ℕ) (entries : List Entry) : Type 0 where

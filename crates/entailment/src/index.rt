@@ -4,9 +4,10 @@ ghost use Rattle.std.specs.Prelude.{◌≡◌, ◌<◌, ◌≤◌, ◌+◌, ◌*
 ghost use Rattle.std.specs.Prelude.{unsigned_abs, ◌≤ℤ◌, false, true, slice_index_or};
 ghost use Rattle.std.specs.List.Sorted.{IsNonDecreasingBy};
 ghost use Rattle.linear.specs.Forms.{AreSmall, IsRising, coefficient_of};
-ghost use Rattle.entailment.specs.Index.{place_at, IsKeyOf, IsEntry, IsIndex, IsBegun, IsAsStrong, IsContradiction};
+ghost use Rattle.entailment.specs.Index.{place_at, IsKeyOf, IsEntry, IsIndex, IsBegun, IsContradiction, AreEntries, IsJoined};
 ghost use Rattle.entailment.specs.declared.index.Entry.{Entry};
 
+use crate::merge::enter_many;
 use crate::show::{agree, is_at_most};
 use crate::weight::key_of;
 use linear::{Fact, Side, side_of};
@@ -14,6 +15,9 @@ use std::alloc::{AllocError, Global};
 
 /// Up to so many facts are tried two by two, without an index.
 pub const FEW: usize = 4;
+
+/// So many facts and more are entered at once: the entries are copied then, and not moved anew for each.
+const MANY: usize = 8;
 
 /// A fact by its place: 0 stands for an absent one, 1 for the first.
 #[derive(Clone, Copy)]
@@ -41,7 +45,7 @@ pub fn side_of_place(facts: &[Fact], place: usize) -> Side<'_>
 }
 
 /// The entry of what stands at a place; none where its value is past the range of keys.
-fn entry_at(facts: &[Fact], place: usize) -> Option<Entry>
+pub fn entry_at(facts: &[Fact], place: usize) -> Option<Entry>
     requires { place ≤ length facts.now }
     ensures entry { IfSome result (IsEntry facts.now) }
     ensures place { IfSome result (λ entry. entry.place ≡ place) }
@@ -95,11 +99,11 @@ fn is_below(facts: &[Fact], one: usize, other: usize) -> bool
     side_of_place(facts, one).constant < side_of_place(facts, other).constant
 }
 
-/// Adds the entry of the next place, unless one with the same coefficients is as strong; a weaker one gives way.
-fn enter(facts: &[Fact], entries: &mut Vec<Entry>, entry: Entry) -> Result<(), AllocError>
+/// Adds an entry, unless one with the same coefficients is as strong; a weaker one gives way.
+pub fn enter(facts: &[Fact], entries: &mut Vec<Entry>, entry: Entry) -> Result<(), AllocError>
     requires entry { IsEntry facts.now entry }
-    requires index { IsIndex facts.now entry.place entries.old.items }
-    ensures { OnOk result (IsIndex facts.now (suc entry.place) entries.new.items) }
+    requires entries { AreEntries facts.now entries.old.items }
+    ensures { OnOk result (IsJoined facts.now entries.old.items entries.new.items entry) }
 {
     let from = entries.partition_point(|other| other.key < entry.key);
     match found_same(facts, entries.as_slice(), from, entry) {
@@ -146,7 +150,7 @@ fn contradicted_from(facts: &[Fact], entries: &[Entry], from: usize, key: u64, p
 }
 
 /// Whether one of the entries contradicts what stands at another's place.
-fn contradicts(facts: &[Fact], entries: &[Entry], entry: Entry) -> bool
+pub fn contradicts(facts: &[Fact], entries: &[Entry], entry: Entry) -> bool
     requires entry { IsEntry facts.now entry }
     requires own { All (IsEntry facts.now) entries.now }
     requires sorted { IsNonDecreasingBy (λ (e : Entry). e.key) entries.now }
@@ -193,8 +197,8 @@ pub fn nothing_entered() -> Entered
     }
 }
 
-/// Enters the facts from a place on, and answers up to where: one past the range of keys stops it.
-pub fn enter_from(
+/// Enters the facts from a place on one by one, and answers up to where: one past the range of keys stops it.
+fn enter_each(
     facts: &[Fact],
     entries: &mut Vec<Entry>,
     from: Entered,
@@ -221,6 +225,23 @@ pub fn enter_from(
         count,
         is_consistent,
     })
+}
+
+/// Enters the facts from a place on, many of them at once, and answers up to where: one past the range of keys stops it.
+pub fn enter_from(
+    facts: &[Fact],
+    entries: &mut Vec<Entry>,
+    from: Entered,
+) -> Result<Entered, AllocError>
+    requires { IsBegun facts.now from.count entries.old.items from.is_consistent }
+    ensures { IfOk result (λ r. IsBegun facts.now r.count entries.new.items r.is_consistent) }
+{
+    if from.count.saturating_add(MANY) <= facts.len() {
+        if let Some(entered) = enter_many(facts, entries, from)? {
+            return Ok(entered);
+        }
+    }
+    enter_each(facts, entries, from)
 }
 
 /// The strongest facts by their keys; none where one is past the range of keys.

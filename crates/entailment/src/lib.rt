@@ -11,6 +11,7 @@ mod known;
 pub mod laws;
 mod lookup;
 mod meeting;
+mod merge;
 mod show;
 mod weight;
 

@@ -12,6 +12,7 @@ ghost use Rattle.entailment.specs.declared.index.Entry.{Entry};
 use crate::index::{Entry, side_of_place};
 use crate::meeting::{is_open, next_meeting, times, total_of};
 use crate::show::{agree, factor, is_at_most};
+use crate::weight::bound_key;
 use linear::{Fact, Form, Term, side_of};
 
 /// A form with its key, and the facts with their index.
@@ -206,23 +207,32 @@ fn made_up_by_b(search: &Search<'_>, a: u32, from: usize) -> bool
     false
 }
 
-/// Whether the form has two terms, and a fact times the size of the one coefficient and another times that of the other make it up: a bound for each
-/// register shows most such forms.
-pub fn made_up_by_terms(search: &Search<'_>) -> bool
+/// A place that an entry of this key stands for; 0 where there is none.
+fn place_of_key(search: &Search<'_>, key: u64) -> usize
     requires index { IsIndex search.now.facts.now (suc (length search.now.facts.now)) search.now.entries.now }
-    requires key { IsKeyOf search.now.form.now.terms search.now.key }
+    ensures { result ≤ length search.now.facts.now }
+{
+    let from = search.entries.partition_point(|e| e.key < key);
+    match search.entries.get(from) {
+        Some(entry) if entry.key == key => entry.place,
+        Some(_) | None => 0,
+    }
+}
+
+/// Whether the form has two terms, and for each of their registers a fact that bounds it alone makes the form up: they show most such forms.
+pub fn made_up_by_bounds(search: &Search<'_>) -> bool
+    requires index { IsIndex search.now.facts.now (suc (length search.now.facts.now)) search.now.entries.now }
     ensures { IsTrue result → IsShown search.now.facts.now search.now.form.now }
 {
     let terms = side_of(search.form).terms;
     if terms.len() != 2 {
         return false;
     }
+    let first = place_of_key(search, bound_key(&terms[0]));
+    let second = place_of_key(search, bound_key(&terms[1]));
     let a = factor(terms, 1);
     let b = factor(terms, 2);
-    if b == 0 {
-        return false;
-    }
-    made_up_with(search, a, b)
+    is_sum(search.facts, search.form, first, a, second, b)
 }
 
 /// Whether the facts make the form up. Two factors make it up in either order, or in none: each pair is tried once.

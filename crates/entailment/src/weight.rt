@@ -1,8 +1,8 @@
 //! A number for the terms of a form, by which forms are looked up: their value where each register has its weight.
 
-ghost use Rattle.std.specs.Prelude.{◌≡◌, ◌<◌, ◌≤◌, ◌+◌, ◌^◌, pos, ◌+ℤ◌, ◌*ℤ◌, unsigned_abs, IfSome};
+ghost use Rattle.std.specs.Prelude.{◌≡◌, ◌<◌, ◌≤◌, ◌+◌, ◌^◌, pos, ◌+ℤ◌, ◌*ℤ◌, ◌∷◌, [], unsigned_abs, IfSome};
 ghost use Rattle.linear.specs.Forms.{AreSmall};
-ghost use Rattle.entailment.specs.Index.{weight, weigh, IsKeyOf};
+ghost use Rattle.entailment.specs.Index.{weight, weigh, one_of, IsKeyOf};
 
 use crate::show::scaled;
 use linear::{RegisterId, Term};
@@ -52,5 +52,17 @@ pub fn key_of(terms: &[Term]) -> Option<u64>
     match weigh(terms) {
         Some(sum) => Some((sum + 2_305_843_009_213_693_952) as u64),
         None => None,
+    }
+}
+
+/// The key of a term's register alone, with the sign of the term.
+pub fn bound_key(term: &Term) -> u64
+    ensures { IsKeyOf (record { register = term.now.register; coefficient = one_of term.now.coefficient } ∷ []) result }
+{
+    let weight = u64::from(weight(term.register));
+    if term.coefficient < 0 {
+        2_305_843_009_213_693_952 - weight
+    } else {
+        2_305_843_009_213_693_952 + weight
     }
 }

@@ -1,5 +1,5 @@
 use Rattle.entailment.specs.Index.{IsBegun}
-use Rattle.entailment.proofs.index.enter_from.Given as goal
+use Rattle.entailment.proofs.index.enter_each.Given as goal
 
 abbrev pub invariant-loop-place : goal.invariant-loop-place
 invariant-loop-place l = IsBegun l.facts l.place l.entries.items l.is_consistent

@@ -1,6 +1,6 @@
 use Rattle.std.proofs.Common.{◌≡◌, ℕ, suc, ◌+◌, subst, arith}
 use Rattle.entailment.specs.Index.{IsBegun}
-use Rattle.entailment.proofs.index.enter_from.Goals as goal
+use Rattle.entailment.proofs.index.enter_each.Goals as goal
 
 pub loop-place-preserved : goal.loop-place-preserved
 loop-place-preserved c =

@@ -1,14 +1,17 @@
-use Rattle.std.proofs.Common.{◌≡◌, ◌∙◌, ◌<◌, ℕ, get_or, length, ap, arith}
+use Rattle.std.proofs.Common.{◌≡◌, ◌∙◌, ◌<◌, get_or, length, ap, arith}
 use Rattle.std.specs.List.{Contains}
 use Rattle.std.proofs.lemmas.List.Elements.{Contains-get_or}
 use Rattle.linear.specs.Forms.{IsRising}
 use Rattle.entailment.specs.Search.{factors}
-use Rattle.entailment.proofs.Indexing.{shown_by_index}
+use Rattle.entailment.specs.Index.{place_at}
+use Rattle.entailment.proofs.Found.{is_factor}
+use Rattle.entailment.proofs.Indexing.{place_is_side}
 use Rattle.entailment.proofs.Parts.{length_factors}
-use Rattle.entailment.proofs.lookup.made_up_by_terms.Goals as goal
+use Rattle.entailment.proofs.lookup.made_up_by_bounds.Goals as goal
 
 pub returns : goal.returns
 returns c = λ h.
+    let facts = c.args.search.now.facts.now in
     let e = c.args.search.now.form.now in
     let same = c.side_of.ensures.terms in
     let rises : IsRising e.terms = rw same at c.side_of.ensures.rising in
@@ -18,4 +21,14 @@ returns c = λ h.
     let long : 2 < length (factors e.terms) = rw (length_factors e.terms) (omega (arith, two, ap length same)) in
     let in_a : Contains (factors e.terms) c.factor-a.result = rw is_a (Contains-get_or (factors e.terms) 1 0 (omega (arith, long))) in
     let in_b : Contains (factors e.terms) c.factor-b.result = rw is_b (Contains-get_or (factors e.terms) 2 0 long) in
-    shown_by_index c.args.search.now.facts.now c.args.search.now.entries.now c.requires.index e rises (c.factor-a.result, in_a, (c.factor-b.result, in_b, c.made_up_with.ensures.0 h))
+    record {
+      f = place_at facts c.place_of_key-first.result;
+      g = place_at facts c.place_of_key-second.result;
+      a = c.factor-a.result;
+      b = c.factor-b.result;
+      f_is = place_is_side facts c.place_of_key-first.result c.place_of_key-first.ensures;
+      g_is = place_is_side facts c.place_of_key-second.result c.place_of_key-second.ensures;
+      a_is = is_factor e c.factor-a.result rises in_a;
+      b_is = is_factor e c.factor-b.result rises in_b;
+      sum = c.is_sum.ensures.0 h;
+    }
