@@ -1,4 +1,6 @@
-ghost use Rattle.std.specs.Prelude.{◌≡◌, ◌+ℤ◌, pos, IfOk};
+ghost use Rattle.std.specs.Prelude.{◌≡◌, ◌+ℤ◌, pos, List, IfOk};
+ghost use Rattle.program.specs.declared.instruction.Step.{Step as StepKind};
+ghost use Rattle.footprints.specs.Pointers.{defined_pointer, pointers_of, pointed_by};
 ghost use Rattle.footprints.specs.Footprints.{pointer_of, pointed, first_cell, address_cell, operand_terms, operand_constant, form_at, cells_zone};
 
 use linear::{Form, RegisterId, Term};
@@ -11,6 +13,13 @@ use std::alloc::Global;
 pub struct Cell {
     pub object: ObjectName,
     pub index: Operand,
+}
+
+/// A `getelementptr`: the register that it defines, and the cell that this points to.
+#[derive(Clone, Copy)]
+pub struct Pointer {
+    pub register: RegisterId,
+    pub cell: Cell,
 }
 
 fn pointer_of(register: RegisterId, instruction: &Instruction) -> Option<Cell>
@@ -56,6 +65,60 @@ fn pointed(register: RegisterId, steps: &[Step]) -> Option<Cell>
     None
 }
 
+/// The pointer that an instruction defines.
+fn defined_pointer(instruction: &Instruction) -> Option<Pointer>
+    ensures { result ≡ defined_pointer instruction.now }
+{
+    match instruction {
+        Instruction::ElementPointer {
+            register,
+            object,
+            index,
+        } => Some(Pointer {
+            register: *register,
+            cell: Cell {
+                object: *object,
+                index: *index,
+            },
+        }),
+        Instruction::Binary { .. }
+        | Instruction::Compare { .. }
+        | Instruction::Convert { .. }
+        | Instruction::Alloca { .. }
+        | Instruction::Load { .. }
+        | Instruction::Store { .. }
+        | Instruction::StoreZeros { .. }
+        | Instruction::AtomicAdd { .. }
+        | Instruction::Call { .. }
+        | Instruction::StartRegion { .. } => None,
+    }
+}
+
+/// The pointers that the steps of a block define, in their order: few among very many steps.
+pub fn pointers_of(alloc: Global, steps: &[Step]) -> Result<Vec<Pointer>, OutOfMemory>
+    ensures { IfOk result (λ pointers. pointers.items ≡ pointers_of steps.now) }
+{
+    let mut pointers = Vec::new(alloc);
+    for step in steps {
+        if let Some(pointer) = defined_pointer(&step.instruction) {
+            pointers.push(pointer)?;
+        }
+    }
+    Ok(pointers)
+}
+
+/// What the first of the pointers with this register points to.
+fn pointed_by(register: RegisterId, pointers: &[Pointer]) -> Option<Cell>
+    ensures { result ≡ pointed_by register pointers.now }
+{
+    for pointer in pointers {
+        if pointer.register.0 == register.0 {
+            return Some(pointer.cell);
+        }
+    }
+    None
+}
+
 /// The first cell of an object.
 pub fn first_cell(object: ObjectName) -> Cell
     ensures { result ≡ first_cell object }
@@ -73,6 +136,16 @@ pub fn address_cell(steps: &[Step], address: Address) -> Option<Cell>
     match address {
         Address::First(object) => Some(first_cell(object)),
         Address::Element(register) => pointed(register, steps),
+    }
+}
+
+/// The first cell of an object, or what one of the block's pointers points to.
+pub fn cell_of(pointers: &[Pointer], address: Address) -> Option<Cell>
+    ensures { (steps : List StepKind) → pointers.now ≡ pointers_of steps → result ≡ address_cell steps address }
+{
+    match address {
+        Address::First(object) => Some(first_cell(object)),
+        Address::Element(register) => pointed_by(register, pointers),
     }
 }
 

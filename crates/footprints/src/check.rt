@@ -5,11 +5,13 @@ ghost use Rattle.ranges.specs.region_match.Rules.{ending_at};
 ghost use Rattle.ranges.specs.region_match.Tasks.{task_at};
 ghost use Rattle.ranges.specs.Places.{IsBlockTable, IsFunctionTable, AreFacts, facts_in_table};
 ghost use Rattle.footprints.specs.Footprints.{place_of};
+ghost use Rattle.footprints.specs.Pointers.{pointers_of};
 ghost use Rattle.ranges.specs.region_match.Tasks.{tasks_in};
 ghost use Rattle.footprints.specs.Rules.{foot_at_end, covering_of, is_own_block, place_in, IsStepBroken, AreStepsBroken, IsEndBroken};
 ghost use Rattle.footprints.specs.Rules.{IsBlockBrokenBy, IsBlockBroken, IsFunctionBroken, IsZoneBroken};
 
 use crate::ZoneFault;
+use crate::access::{Pointer, pointers_of};
 use crate::judge::{edges_fault, step_fault, use_fault};
 use crate::touch::{child_foot, end_use};
 use entailment::{FactCursor, Known};
@@ -91,21 +93,22 @@ fn place_in<'a>(
     }
 }
 
-/// What is broken at a step of a block.
+/// What is broken at a step of a block with these pointers.
 fn step_in_block(
     alloc: Global,
     functions: &[Function],
     function: &Function,
     task: Task,
     block: &Block,
+    pointers: &[Pointer],
     facts: &Known<'_>,
     step: &Step,
 ) -> Result<Option<Broken>, OutOfMemory>
+    requires { pointers.now ≡ pointers_of block.now.steps }
     ensures { IfOk result (IsEarliest (IsStepBroken functions.now function.now task block.now facts.now step.now)) }
 {
     let place = place_in(function, task, block, facts);
-    let steps = block.steps.as_slice();
-    step_fault(alloc, &place, functions, steps, step)
+    step_fault(alloc, &place, functions, pointers, step)
 }
 
 /// Whether an instruction may touch cells.
@@ -139,11 +142,14 @@ fn steps_fault(
     let mut named: Option<Broken> = None;
     let mut cursor = FactCursor::new(alloc, table.facts.as_slice());
     let steps = block.steps.as_slice();
+    let pointers = pointers_of(alloc, steps)?;
     for (index, step) in steps.iter().enumerate() {
         cursor.seek(table.count_at(index));
         index_for(&mut cursor, has_zones(&step.instruction))?;
         let facts = cursor.known();
-        let broken = step_in_block(alloc, functions, function, task, block, &facts, step)?;
+        let broken = step_in_block(
+            alloc, functions, function, task, block, &pointers, &facts, step,
+        )?;
         named = lower(named, broken);
     }
     Ok(named)

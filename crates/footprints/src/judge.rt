@@ -1,10 +1,12 @@
 ghost use Rattle.std.specs.Prelude.{◌≡◌, ℕ, List, Any, Some, IfOk, false, slice_get, slice_index_or, take};
-ghost use Rattle.program.specs.declared.instruction.Step.{Step};
+ghost use Rattle.program.specs.declared.instruction.Step.{Step as StepKind};
 ghost use Rattle.refusal.specs.declared.broken.Broken.{Broken};
 ghost use Rattle.refusal.specs.Earliest.{IsEarliest};
+ghost use Rattle.footprints.specs.Pointers.{pointers_of};
 ghost use Rattle.footprints.specs.Footprints.{place_of, step_use, end_use, passes_on};
 ghost use Rattle.footprints.specs.Rules.{IsUseBroken, IsEdgeBroken};
 
+use crate::access::Pointer;
 use crate::pass::passes_on;
 use crate::touch::{end_use, step_use};
 use lists::OutOfMemory;
@@ -34,19 +36,19 @@ pub fn use_fault(line: u32, used: Use) -> Option<Broken>
     lower(uncovered, unclear)
 }
 
-/// What is broken at a step.
+/// What is broken at a step of a block with these pointers.
 pub fn step_fault(
     alloc: Global,
     place: &Place<'_>,
     functions: &[Function],
-    steps: &[Step],
+    pointers: &[Pointer],
     step: &Step,
 ) -> Result<Option<Broken>, OutOfMemory>
-    ensures { IfOk result (IsEarliest (IsUseBroken step.now.line (step_use
+    ensures { (steps : List StepKind) → pointers.now ≡ pointers_of steps → IfOk result (IsEarliest (IsUseBroken step.now.line (step_use
         (place_of place.now.facts.now place.now.covering.now place.now.own place.now.pending.now)
-        functions.now steps.now step.now.line step.now.instruction))) }
+        functions.now steps step.now.line step.now.instruction))) }
 {
-    let used = step_use(alloc, place, functions, steps, step.line, &step.instruction)?;
+    let used = step_use(alloc, place, functions, pointers, step.line, &step.instruction)?;
     Ok(use_fault(step.line, used))
 }
 

@@ -18,7 +18,7 @@ pub mod laws;
 mod pass;
 mod touch;
 
-pub use access::{Cell, address_cell, cells_zone};
+pub use access::{Cell, Pointer, address_cell, cells_zone, pointers_of};
 pub use check::check_zones;
 pub use pass::passes_on;
 pub use refusal::Refused as ZoneFault;

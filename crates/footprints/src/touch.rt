@@ -1,18 +1,20 @@
-ghost use Rattle.std.specs.Prelude.{◌≡◌, Some, IfOk, slice_get};
+ghost use Rattle.std.specs.Prelude.{◌≡◌, List, Some, IfOk, slice_get};
 ghost use Rattle.std.specs.List.{list_all};
 ghost use Rattle.syntax.specs.declared.operator.Mode.TheVariants.{Writes};
 ghost use Rattle.program.specs.declared.annotation.Zone.{Zone as ZoneKind};
 ghost use Rattle.zones.specs.Zones.{as_written};
 ghost use Rattle.ranges.specs.obligations.Inequalities.{argument_moves};
+ghost use Rattle.program.specs.declared.instruction.Step.{Step as StepKind};
+ghost use Rattle.footprints.specs.Pointers.{pointers_of};
 ghost use Rattle.footprints.specs.Footprints.{place_of, address_cell, first_cell, cells_zone, is_allowed, is_clear, cell_use, access_use, put_object};
 ghost use Rattle.footprints.specs.Footprints.{put_in, is_put_allowed, is_put_clear, no_use, callee_use, call_use, foot_use, step_use, child_foot};
 ghost use Rattle.footprints.specs.Footprints.{end_use};
 
-use crate::access::{Cell, address_cell, cells_zone, first_cell};
+use crate::access::{Cell, Pointer, cell_of, cells_zone, first_cell};
 use lists::OutOfMemory;
 use program::{
-    Address, Argument, Block, Function, FunctionId, Instruction, Mode, ObjectName, Step,
-    Terminator, Zone,
+    Address, Argument, Block, Function, FunctionId, Instruction, Mode, ObjectName, Terminator,
+    Zone,
 };
 use ranges::{Move, argument_moves};
 use std::alloc::Global;
@@ -64,20 +66,20 @@ fn cell_use(
     }
 }
 
-/// 601: of an access through an address of a block of these steps.
+/// 601: of an access through an address of a block with these pointers.
 fn address_use(
     alloc: Global,
     place: &Place<'_>,
-    steps: &[Step],
+    pointers: &[Pointer],
     line: u32,
     mode: Mode,
     address: Address,
 ) -> Result<Use, OutOfMemory>
-    ensures { IfOk result (λ u. u ≡ cell_use
+    ensures { (steps : List StepKind) → pointers.now ≡ pointers_of steps → IfOk result (λ u. u ≡ cell_use
         (place_of place.now.facts.now place.now.covering.now place.now.own place.now.pending.now) line mode
-        (address_cell steps.now address)) }
+        (address_cell steps address)) }
 {
-    let cell = address_cell(steps, address);
+    let cell = cell_of(pointers, address);
     cell_use(alloc, place, line, mode, cell)
 }
 
@@ -242,27 +244,27 @@ fn call_use(
     }
 }
 
-/// What an instruction touches.
+/// What an instruction of a block with these pointers touches.
 pub fn step_use(
     alloc: Global,
     place: &Place<'_>,
     functions: &[Function],
-    steps: &[Step],
+    pointers: &[Pointer],
     line: u32,
     instruction: &Instruction,
 ) -> Result<Use, OutOfMemory>
-    ensures { IfOk result (λ u. u ≡ step_use
-        (place_of place.now.facts.now place.now.covering.now place.now.own place.now.pending.now) functions.now steps.now line instruction.now) }
+    ensures { (steps : List StepKind) → pointers.now ≡ pointers_of steps → IfOk result (λ u. u ≡ step_use
+        (place_of place.now.facts.now place.now.covering.now place.now.own place.now.pending.now) functions.now steps line instruction.now) }
 {
     match instruction {
         Instruction::Load { address, .. } => {
-            address_use(alloc, place, steps, line, Mode::Reads, *address)
+            address_use(alloc, place, pointers, line, Mode::Reads, *address)
         }
         Instruction::Store { address, .. } => {
-            address_use(alloc, place, steps, line, Mode::Writes, *address)
+            address_use(alloc, place, pointers, line, Mode::Writes, *address)
         }
         Instruction::AtomicAdd { address, .. } => {
-            address_use(alloc, place, steps, line, Mode::Adds, *address)
+            address_use(alloc, place, pointers, line, Mode::Adds, *address)
         }
         Instruction::StoreZeros { cells, object } => {
             array_use(alloc, place, line, *object, *cells)

@@ -6,7 +6,7 @@ use fact_notes::{Known, Matched, Scene, fact_lines};
 use findings::{Finding, Source, push_finding};
 use footprints::{
     Cell, Place, PlacedZone, address_cell, cells_zone, conflict, covers, end_use, is_allowed,
-    is_clear, is_empty, passes_on, step_use,
+    is_clear, is_empty, passes_on, pointers_of, step_use,
 };
 use linear::RegisterId;
 use lists::OutOfMemory;
@@ -261,12 +261,12 @@ impl Spot<'_, '_> {
         findings: &mut Vec<Finding>,
     ) -> Result<(), OutOfMemory> {
         let functions = self.known.scene.program.functions.as_slice();
-        let steps = self.block.steps.as_slice();
+        let pointers = pointers_of(alloc, self.block.steps.as_slice())?;
         let used = step_use(
             alloc,
             &self.place,
             functions,
-            steps,
+            &pointers,
             step.line,
             &step.instruction,
         )?;

@@ -5,4 +5,4 @@ use Rattle.footprints.specs.Rules.{IsUseBroken}
 use Rattle.footprints.proofs.judge.step_fault.Goals as goal
 
 pub returns : goal.returns
-returns c = subst (λ (u : Use). IsEarliest (IsUseBroken c.args.step.now.line u) c.use_fault.result) c.in_ok-used.ensures c.use_fault.ensures
+returns c = λ steps is. subst (λ (u : Use). IsEarliest (IsUseBroken c.args.step.now.line u) c.use_fault.result) (c.in_ok-used.ensures steps is) c.use_fault.ensures

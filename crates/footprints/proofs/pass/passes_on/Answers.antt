@@ -1,4 +1,4 @@
-use Rattle.std.proofs.Common.{◌≡◌, ◌∙◌, ℕ, List, length, ap, sym}
+use Rattle.std.proofs.Common.{◌∙◌, ℕ, List, length, ap, sym}
 use Rattle.linear.specs.declared.form.Fact.{Fact}
 use Rattle.footprints.proofs.pass.passes_on.Goals as goal
 
