@@ -1,5 +1,6 @@
 -- Ends between which no register is left.
-use Rattle.std.proofs.Common.{◌≡◌, ◌∙◌, ◌<◌, ◌≤◌, ◌^◌, ℕ, suc, ℤ, pos, negsuc, ◌+ℤ◌, ◌*ℤ◌, Bool, true, false, cond, eqb, eq-eqb, List, [], ◌∷◌, ◌++◌, length, get_or, Option, Some, None, refl, sym, ap, arith, unsigned_abs}
+use Rattle.std.proofs.Common.{◌≡◌, ◌∙◌, ◌<◌, ◌≤◌, ◌^◌, ℕ, suc, ℤ, pos, negsuc, ◌+ℤ◌, ◌-ℤ◌, ◌*ℤ◌, ◌≤ℤ◌, ◌<ℤ◌, Bool, true, false, cond, eqb, eq-eqb, List, [], ◌∷◌, ◌++◌, length, get_or, Option, Some, None, refl, sym, ap, arith, unsigned_abs}
+use Rattle.std.specs.Prelude.{nat_lt}
 use Rattle.std.specs.Bool.{Decides}
 use Rattle.std.proofs.lemmas.Bool.{lt-ltb, le-ltb}
 use Rattle.std.proofs.lemmas.Bool.Decides.{same_from_decides}
@@ -18,7 +19,9 @@ use Rattle.entailment.proofs.Respects.{shown_same}
 use Rattle.program.specs.declared.instruction.Operand.TheVariants.{Register}
 use Rattle.ranges.specs.cfg.declared.structure.Move.{Move}
 use Rattle.ranges.specs.obligations.Inequalities.{operand_for, parts_of}
-use Rattle.ranges.specs.Sums.{with_parts, shows, sum_form}
+use Rattle.ranges.specs.Sums.{with_parts, start_of, shows, shows_form, sum_form}
+use Rattle.zones.specs.Zones.{between}
+use Rattle.zones.proofs.Orders.{number_shown, number_unshown}
 use Rattle.zones.specs.Levels.{IsSameTerm, IsLevel}
 
 -- ---- what is shown of two forms that are the same
@@ -92,3 +95,25 @@ level_of_only_terms for_high (h ∷ i ∷ high) for_low low d high_least high_mo
 level_of_only_terms for_high (h ∷ []) for_low [] d high_least high_most low_least low_most small same = absurd (omega arith)
 level_of_only_terms for_high (h ∷ []) for_low (l ∷ k ∷ low) d high_least high_most low_least low_most small same = absurd (omega arith)
 level_of_only_terms for_high (h ∷ []) for_low (l ∷ []) d high_least high_most low_least low_most small same = level_of_same_term for_high h for_low l (small 0 d (omega arith)) same
+
+-- ---- numbers alone
+
+pub sum_of_constants : (high low : Combination) → high.terms ≡ [] → low.terms ≡ [] → (for_high for_low : List Move) → sum_form (between for_high high for_low low) ≡ start_of (high.constant -ℤ low.constant)
+unfolding sum_form
+sum_of_constants high low no_high no_low for_high for_low =
+    ap (λ (ts : List Term). sum_form (record { constant = high.constant -ℤ low.constant; parts = parts_of for_high (pos 1) ts ++ parts_of for_low (negsuc 0) low.terms })) no_high
+    ∙ ap (λ (ts : List Term). sum_form (record { constant = high.constant -ℤ low.constant; parts = parts_of for_low (negsuc 0) ts })) no_low
+
+pub constant_shown : (facts : List Fact) (z : ℤ) → pos 0 ≤ℤ z → nat_lt (unsigned_abs z) 1267650600228229401496703205376 ≡ shows_form facts (start_of z)
+constant_shown facts z least = by (nat_lt (unsigned_abs z) 1267650600228229401496703205376)
+  where
+    by : (b : Bool) → b ≡ shows_form facts (cond b (Some (constant_form z)) None)
+    by true = sym (number_shown facts z least)
+    by false = refl
+
+pub constant_unshown : (facts : List Fact) (z : ℤ) → z <ℤ pos 0 → facts ≡ [] → false ≡ shows_form facts (start_of z)
+constant_unshown facts z below none = by (nat_lt (unsigned_abs z) 1267650600228229401496703205376)
+  where
+    by : (b : Bool) → false ≡ shows_form facts (cond b (Some (constant_form z)) None)
+    by true = sym (number_unshown facts z below none)
+    by false = refl

@@ -4,7 +4,8 @@ ghost use Rattle.linear.specs.Forms.{AreSmall, constant_form};
 ghost use Rattle.program.specs.declared.instruction.Operand.TheVariants.{Number};
 ghost use Rattle.entailment.specs.Tested.{is_shown};
 ghost use Rattle.ranges.specs.obligations.Inequalities.{operand_for, parts_of};
-ghost use Rattle.ranges.specs.Sums.{with_operand, with_parts, shows};
+ghost use Rattle.ranges.specs.cfg.declared.structure.Move.{Move as MoveKind};
+ghost use Rattle.ranges.specs.Sums.{with_operand, with_parts, start_of, sum_form, shows, shows_form};
 ghost use Rattle.zones.specs.Zones.{between, shows_order};
 ghost use Rattle.zones.specs.Levels.{IsSameTerm, IsLevel};
 
@@ -37,7 +38,6 @@ fn between(
 }
 
 /// What the moves put in for a register; a register that they do not name stays.
-#[inline]
 fn operand_for(moves: &[Move], register: RegisterId) -> Operand
     ensures { result ≡ operand_for moves.now register }
 {
@@ -111,7 +111,6 @@ fn plus_terms(number: i128, moves: &[Move], sign: i64, terms: &[Term]) -> Option
 }
 
 /// Whether two terms are of one register, with the operands put in, and have one coefficient.
-#[inline]
 fn is_same_term(for_high: &[Move], high: Term, for_low: &[Move], low: Term) -> bool
     ensures { IsTrue result → IsSameTerm for_high.now high for_low.now low }
 {
@@ -128,7 +127,6 @@ fn is_same_term(for_high: &[Move], high: Term, for_low: &[Move], low: Term) -> b
 }
 
 /// Whether no register is left of high - low: there are no terms, or there is one at each end and these cancel.
-#[inline]
 fn is_level(for_high: &[Move], high: &[Term], for_low: &[Move], low: &[Term]) -> bool
     requires { AreSmall high.now }
     ensures { IsTrue result → IsLevel for_high.now high.now for_low.now low.now }
@@ -144,7 +142,6 @@ fn is_level(for_high: &[Move], high: &[Term], for_low: &[Move], low: &[Term]) ->
 }
 
 /// high - low, where that is a number within the bounds of a form: it is not where a register is left.
-#[inline]
 fn number_between(for_high: &[Move], high: &Form, for_low: &[Move], low: &Form) -> Option<i128>
     ensures made { IfSome result (λ number. (facts : List Fact)
         → shows facts (between for_high.now high.now for_low.now low.now) ≡ is_shown facts (constant_form number)) }
@@ -164,7 +161,6 @@ fn number_between(for_high: &[Move], high: &Form, for_low: &[Move], low: &Form) 
 }
 
 /// Whether it is shown that a number is at least 0. Of a number below 0 only facts that contradict each other show it.
-#[inline]
 fn shows_number(alloc: Global, facts: &Known<'_>, number: i128) -> bool
     requires { unsigned_abs number < 2 ^ 100 }
     ensures { result ≡ is_shown facts.now (constant_form number) }
@@ -178,7 +174,7 @@ fn shows_number(alloc: Global, facts: &Known<'_>, number: i128) -> bool
     facts.shows(&Form::from_constant(alloc, number))
 }
 
-/// Whether high - low is shown to be at least 0, by its form.
+/// Whether high >= low is shown, for all ends. Of a number no form is built.
 #[inline(never)]
 fn shows_between(
     alloc: Global,
@@ -190,12 +186,46 @@ fn shows_between(
 ) -> Result<bool, OutOfMemory>
     ensures { IfOk result (λ b. b ≡ shows facts.now (between for_high.now high.now for_low.now low.now)) }
 {
-    let sum = between(alloc, for_high, high, for_low, low)?;
-    shows_at(alloc, facts, &sum)
+    match number_between(for_high, high, for_low, low) {
+        Some(number) => Ok(shows_number(alloc, facts, number)),
+        None => {
+            let sum = between(alloc, for_high, high, for_low, low)?;
+            shows_at(alloc, facts, &sum)
+        }
+    }
 }
 
-/// Whether high >= low is shown. Of a number no form is built.
-#[inline]
+/// high - low, where neither has a term.
+#[inline(always)]
+fn constant_between(high: &Form, low: &Form) -> Option<i128>
+    ensures { IfSome result (λ number. (for_high for_low : List MoveKind)
+        → sum_form (between for_high high.now for_low low.now) ≡ start_of number) }
+{
+    let high = side_of(high);
+    let low = side_of(low);
+    if high.terms.is_empty() && low.terms.is_empty() {
+        Some(high.constant - low.constant)
+    } else {
+        None
+    }
+}
+
+/// Whether it is shown that a number is at least 0, unless facts might contradict each other.
+#[inline(always)]
+fn shows_constant(facts: &Known<'_>, number: i128) -> Option<bool>
+    ensures { IfSome result (λ b. b ≡ shows_form facts.now (start_of number)) }
+{
+    if 0 <= number {
+        return Some(number.unsigned_abs() < 1_267_650_600_228_229_401_496_703_205_376);
+    }
+    if facts.facts().is_empty() {
+        return Some(false);
+    }
+    None
+}
+
+/// Whether high >= low is shown. Most ends are numbers, which are compared where this is called.
+#[inline(always)]
 #[tactic(auto, unfolding(crate::specs::Zones::shows_order))]
 pub fn shows_order(
     alloc: Global,
@@ -207,8 +237,10 @@ pub fn shows_order(
 ) -> Result<bool, OutOfMemory>
     ensures { IfOk result (λ b. b ≡ shows_order facts.now for_high.now high.now for_low.now low.now) }
 {
-    match number_between(for_high, high, for_low, low) {
-        Some(number) => Ok(shows_number(alloc, facts, number)),
-        None => shows_between(alloc, facts, for_high, high, for_low, low),
+    if let Some(number) = constant_between(high, low) {
+        if let Some(is_shown) = shows_constant(facts, number) {
+            return Ok(is_shown);
+        }
     }
+    shows_between(alloc, facts, for_high, high, for_low, low)
 }

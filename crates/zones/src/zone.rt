@@ -60,6 +60,7 @@ pub fn modes_agree(left: Mode, right: Mode) -> bool
 }
 
 /// Whether a zone is shown to have no cell.
+#[inline(never)]
 #[tactic(auto, unfolding(crate::specs::Zones::is_empty))]
 pub fn is_empty(alloc: Global, facts: &Known<'_>, z: &PlacedZone<'_>) -> Result<bool, OutOfMemory>
     ensures { IfOk result (λ b. b ≡ is_empty facts.now (span z.now.object z.now.moves.now z.now.zone.now)) }
