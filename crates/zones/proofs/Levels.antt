@@ -1,7 +1,6 @@
 -- Ends between which no register is left.
-use Rattle.std.proofs.Common.{◌≡◌, ◌∙◌, ◌<◌, ◌≤◌, ◌^◌, ℕ, suc, ℤ, pos, negsuc, ◌+ℤ◌, ◌-ℤ◌, ◌*ℤ◌, ◌≤ℤ◌, ◌<ℤ◌, Bool, true, false, cond, eqb, eq-eqb, List, [], ◌∷◌, ◌++◌, length, get_or, Option, Some, None, refl, sym, ap, arith, unsigned_abs}
+use Rattle.std.proofs.Common.{◌≡◌, ◌∙◌, ◌<◌, ◌≤◌, ◌^◌, suc, ℤ, pos, negsuc, ◌+ℤ◌, ◌-ℤ◌, ◌*ℤ◌, ◌≤ℤ◌, ◌<ℤ◌, Bool, true, false, cond, eqb, eq-eqb, List, [], ◌∷◌, ◌++◌, length, get_or, Option, Some, None, refl, sym, ap, arith, unsigned_abs}
 use Rattle.std.specs.Prelude.{nat_lt}
-use Rattle.std.specs.Bool.{Decides}
 use Rattle.std.proofs.lemmas.Bool.{lt-ltb, le-ltb}
 use Rattle.std.proofs.lemmas.Bool.Decides.{same_from_decides}
 use Rattle.std.proofs.lemmas.Int.{ints}
@@ -9,7 +8,7 @@ use Rattle.std.proofs.lemmas.List.{length-map, get_or-map}
 use Rattle.linear.specs.declared.form.Fact.{Fact}
 use Rattle.linear.specs.declared.form.RegisterId.{RegisterId}
 use Rattle.linear.specs.declared.form.Term.{Term}
-use Rattle.linear.specs.Forms.{Combination, AreSmall, coefficient_of, constant_form, Same}
+use Rattle.linear.specs.Forms.{Combination, AreSmall, constant_form, Same}
 use Rattle.linear.specs.Made.{placed, with_terms}
 use Rattle.linear.proofs.Making.{same_of, same_back}
 use Rattle.entailment.specs.Shown.{IsShown, SameFacts}
@@ -18,8 +17,8 @@ use Rattle.entailment.proofs.Tested.{shown_from_test, shown_passes, decides_show
 use Rattle.entailment.proofs.Respects.{shown_same}
 use Rattle.program.specs.declared.instruction.Operand.TheVariants.{Register}
 use Rattle.ranges.specs.cfg.declared.structure.Move.{Move}
-use Rattle.ranges.specs.obligations.Inequalities.{operand_for, parts_of}
-use Rattle.ranges.specs.Sums.{with_parts, start_of, shows, shows_form, sum_form}
+use Rattle.ranges.specs.obligations.Inequalities.{parts_of}
+use Rattle.ranges.specs.Sums.{with_parts, start_of, shows_form, sum_form}
 use Rattle.zones.specs.Zones.{between}
 use Rattle.zones.proofs.Orders.{number_shown, number_unshown}
 use Rattle.zones.specs.Levels.{IsSameTerm, IsLevel}
@@ -35,8 +34,7 @@ same_facts facts = λ k d l. (
 
 shown_alike : (facts : List Fact) (e f : Combination) → Same e f → is_shown facts e ≡ is_shown facts f
 shown_alike facts e f same =
-    same_from_decides {P = IsShown facts e} (is_shown facts e) (is_shown facts f) (decides_shown facts e)
-    (
+    same_from_decides {P = IsShown facts e} (is_shown facts e) (is_shown facts f) (decides_shown facts e) (
       λ h. shown_same facts facts f e (same_back e f same) (same_facts facts) (shown_from_test facts f h),
       λ s. shown_passes facts f (shown_same facts facts e f same (same_facts facts) s),
     )

@@ -60,7 +60,7 @@ pub fn modes_agree(left: Mode, right: Mode) -> bool
 }
 
 /// Whether a zone is shown to have no cell.
-#[inline(never)]
+#[inline(always)]
 #[tactic(auto, unfolding(crate::specs::Zones::is_empty))]
 pub fn is_empty(alloc: Global, facts: &Known<'_>, z: &PlacedZone<'_>) -> Result<bool, OutOfMemory>
     ensures { IfOk result (λ b. b ≡ is_empty facts.now (span z.now.object z.now.moves.now z.now.zone.now)) }
@@ -69,7 +69,7 @@ pub fn is_empty(alloc: Global, facts: &Known<'_>, z: &PlacedZone<'_>) -> Result<
 }
 
 /// Whether `z` is shown to have each cell of `y`, for each use that `y` has them for.
-#[inline]
+#[inline(always)]
 #[tactic(auto, unfolding(crate::specs::Zones::covers))]
 pub fn covers(
     alloc: Global,
@@ -92,7 +92,7 @@ pub fn covers(
 }
 
 /// Whether the ends of two zones of one object show that they have no cell in common.
-#[inline]
+#[inline(always)]
 fn is_beside(
     alloc: Global,
     facts: &Known<'_>,
@@ -149,7 +149,7 @@ pub fn conflict(
 
 /// Whether two zones may have a cell in common, where `y` has any, and the order of its uses may matter. Few pairs get as far as the question
 /// whether `z` is empty, and who asks of many zones beside one `y` asks once whether that is.
-#[inline]
+#[inline(always)]
 #[tactic(auto, unfolding(crate::specs::Zones::meets))]
 pub fn meets(
     alloc: Global,
