@@ -1,1 +1,3 @@
+mod Clears
+mod Levels
 mod Orders

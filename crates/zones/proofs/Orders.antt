@@ -1,5 +1,5 @@
 -- What facts show of two numbers' order.
-use Rattle.std.proofs.Common.{◌≡◌, ◌<◌, ℤ, pos, negsuc, ◌-ℤ◌, ◌≤ℤ◌, ◌<ℤ◌, true, false, List, [], ◌∷◌, ◌++◌, Option, Some, None, ◌*ℤ◌, ◌+ℤ◌, ℕ, ◌+◌, length, drop, get_or, inl, refl, sym, subst, arith, unsigned_abs}
+use Rattle.std.proofs.Common.{◌≡◌, ◌<◌, ℤ, pos, negsuc, ◌-ℤ◌, ◌≤ℤ◌, ◌<ℤ◌, true, false, List, [], ◌∷◌, ◌++◌, Option, Some, None, ◌*ℤ◌, ◌+ℤ◌, ℕ, ◌+◌, length, drop, get_or, inl, refl, sym, ap, subst, arith, unsigned_abs}
 use Rattle.std.proofs.lemmas.Bool.{lt-ltb}
 use Rattle.std.proofs.lemmas.Int.{ints}
 use Rattle.std.proofs.lemmas.List.{drop_more}
@@ -13,7 +13,7 @@ use Rattle.program.specs.declared.instruction.Operand.TheVariants.{Number}
 use Rattle.ranges.specs.cfg.declared.structure.Move.{Move}
 use Rattle.ranges.specs.obligations.declared.sum.Part.{Part}
 use Rattle.ranges.specs.obligations.Inequalities.{operand_for, parts_of}
-use Rattle.ranges.specs.Sums.{with_operand, with_parts, start_of, sum_form}
+use Rattle.ranges.specs.Sums.{with_operand, with_parts, start_of, sum_form, shows, shows_form}
 use Rattle.zones.specs.Zones.{between}
 
 -- absent facts add up to 0, which is at most the number
@@ -68,3 +68,9 @@ number_of_sum for_high high for_low low upper number small of_high of_low =
       lt-ltb (unsigned_abs (high.constant -ℤ low.constant)) 1267650600228229401496703205376 small,
       of_high,
     ) of_low
+
+-- the same of what is shown
+pub shown_of_sum : (for_high : List Move) (high : Combination) (for_low : List Move) (low : Combination) (upper number : ℤ) → unsigned_abs (high.constant -ℤ low.constant) < 1267650600228229401496703205376 → with_parts (parts_of for_high (pos 1) high.terms) (Some (constant_form (high.constant -ℤ low.constant))) ≡ Some (constant_form upper) → with_parts (parts_of for_low (negsuc 0) low.terms) (Some (constant_form upper)) ≡ Some (constant_form number) →
+    (facts : List Fact) → shows facts (between for_high high for_low low) ≡ is_shown facts (constant_form number)
+shown_of_sum for_high high for_low low upper number small of_high of_low facts =
+    ap (shows_form facts) (number_of_sum for_high high for_low low upper number small of_high of_low)

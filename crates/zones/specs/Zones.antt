@@ -95,6 +95,15 @@ is_apart facts z y =
 unfoldable pub conflict : List Fact → Span → Span → Bool
 conflict facts z y = not (modes_agree z.zone.mode y.zone.mode || is_apart facts z y)
 
+-- they may, where the second has any cell, and the order of its uses may matter
+unfoldable pub meets : List Fact → Span → Span → Bool
+meets facts z y =
+    not (modes_agree z.zone.mode y.zone.mode
+    || (not (same_object z.object y.object)
+    || (is_empty facts z
+    || (shows_order facts z.moves z.zone.low y.moves y.zone.high
+    || shows_order facts y.moves y.zone.low z.moves z.zone.high))))
+
 -- one of the zones covers it, or it is empty
 unfoldable pub is_covered : List Fact → List Zone → Span → Bool
 is_covered facts zones y = is_empty facts y || list_any (λ z. covers facts (as_written z) y) zones

@@ -1,10 +1,13 @@
-ghost use Rattle.std.specs.Prelude.{◌≡◌, ◌<◌, ◌^◌, ◌⊎◌, ◌*ℤ◌, pos, negsuc, IfOk, IfSome, Some, unsigned_abs};
+ghost use Rattle.std.specs.Prelude.{◌≡◌, ◌<◌, ◌^◌, ◌⊎◌, ◌*ℤ◌, pos, negsuc, List, IsTrue, IfOk, IfSome, Some, unsigned_abs};
+ghost use Rattle.linear.specs.declared.form.Fact.{Fact};
 ghost use Rattle.linear.specs.Forms.{AreSmall, constant_form};
 ghost use Rattle.program.specs.declared.instruction.Operand.TheVariants.{Number};
 ghost use Rattle.entailment.specs.Tested.{is_shown};
 ghost use Rattle.ranges.specs.obligations.Inequalities.{operand_for, parts_of};
-ghost use Rattle.ranges.specs.Sums.{with_operand, with_parts, sum_form};
+ghost use Rattle.ranges.specs.cfg.declared.structure.Move.{Move as MoveKind};
+ghost use Rattle.ranges.specs.Sums.{with_operand, with_parts, start_of, sum_form, shows, shows_form};
 ghost use Rattle.zones.specs.Zones.{between, shows_order};
+ghost use Rattle.zones.specs.Levels.{IsSameTerm, IsLevel};
 
 use entailment::Known;
 use linear::{Form, RegisterId, Term, side_of};
@@ -34,19 +37,26 @@ fn between(
     })
 }
 
+/// What the moves put in for a register; a register that they do not name stays.
+fn operand_for(moves: &[Move], register: RegisterId) -> Operand
+    ensures { result ≡ operand_for moves.now register }
+{
+    for item in moves {
+        if item.register.0 == register.0 {
+            return item.value;
+        }
+    }
+    Operand::Register(register)
+}
+
 /// The number that the moves put in for a register, if they do.
 fn number_for(moves: &[Move], register: RegisterId) -> Option<i64>
     ensures { IfSome result (λ number. operand_for moves.now register ≡ Number number) }
 {
-    for item in moves {
-        if item.register.0 == register.0 {
-            return match item.value {
-                Operand::Number(number) => Some(number),
-                Operand::Register(_) => None,
-            };
-        }
+    match operand_for(moves, register) {
+        Operand::Number(number) => Some(number),
+        Operand::Register(_) => None,
     }
-    None
 }
 
 /// A number times a coefficient.
@@ -100,10 +110,41 @@ fn plus_terms(number: i128, moves: &[Move], sign: i64, terms: &[Term]) -> Option
     Some(sum)
 }
 
+/// Whether two terms are of one register, with the operands put in, and have one coefficient.
+fn is_same_term(for_high: &[Move], high: Term, for_low: &[Move], low: Term) -> bool
+    ensures { IsTrue result → IsSameTerm for_high.now high for_low.now low }
+{
+    if high.coefficient != low.coefficient {
+        return false;
+    }
+    match operand_for(for_high, high.register) {
+        Operand::Register(left) => match operand_for(for_low, low.register) {
+            Operand::Register(right) => left.0 == right.0,
+            Operand::Number(_) => false,
+        },
+        Operand::Number(_) => false,
+    }
+}
+
+/// Whether no register is left of high - low: there are no terms, or there is one at each end and these cancel.
+fn is_level(for_high: &[Move], high: &[Term], for_low: &[Move], low: &[Term]) -> bool
+    requires { AreSmall high.now }
+    ensures { IsTrue result → IsLevel for_high.now high.now for_low.now low.now }
+{
+    match high {
+        [] => low.is_empty(),
+        [high] => match low {
+            [low] => is_same_term(for_high, *high, for_low, *low),
+            _ => false,
+        },
+        _ => false,
+    }
+}
+
 /// high - low, where that is a number within the bounds of a form: it is not where a register is left.
 fn number_between(for_high: &[Move], high: &Form, for_low: &[Move], low: &Form) -> Option<i128>
-    ensures made { IfSome result
-        (λ number. sum_form (between for_high.now high.now for_low.now low.now) ≡ Some (constant_form number)) }
+    ensures made { IfSome result (λ number. (facts : List Fact)
+        → shows facts (between for_high.now high.now for_low.now low.now) ≡ is_shown facts (constant_form number)) }
     ensures small { IfSome result (λ number. unsigned_abs number < 2 ^ 100) }
 {
     let high = side_of(high);
@@ -111,6 +152,9 @@ fn number_between(for_high: &[Move], high: &Form, for_low: &[Move], low: &Form) 
     let start = high.constant - low.constant;
     if 1_267_650_600_228_229_401_496_703_205_376 <= start.unsigned_abs() {
         return None;
+    }
+    if is_level(for_high, high.terms, for_low, low.terms) {
+        return Some(start);
     }
     let upper = plus_terms(start, for_high, 1, high.terms)?;
     plus_terms(upper, for_low, -1, low.terms)
@@ -130,7 +174,58 @@ fn shows_number(alloc: Global, facts: &Known<'_>, number: i128) -> bool
     facts.shows(&Form::from_constant(alloc, number))
 }
 
-/// Whether high >= low is shown. Of a number no form is built.
+/// Whether high >= low is shown, for all ends. Of a number no form is built.
+#[inline(never)]
+fn shows_between(
+    alloc: Global,
+    facts: &Known<'_>,
+    for_high: &[Move],
+    high: &Form,
+    for_low: &[Move],
+    low: &Form,
+) -> Result<bool, OutOfMemory>
+    ensures { IfOk result (λ b. b ≡ shows facts.now (between for_high.now high.now for_low.now low.now)) }
+{
+    match number_between(for_high, high, for_low, low) {
+        Some(number) => Ok(shows_number(alloc, facts, number)),
+        None => {
+            let sum = between(alloc, for_high, high, for_low, low)?;
+            shows_at(alloc, facts, &sum)
+        }
+    }
+}
+
+/// high - low, where neither has a term.
+#[inline(always)]
+fn constant_between(high: &Form, low: &Form) -> Option<i128>
+    ensures { IfSome result (λ number. (for_high for_low : List MoveKind)
+        → sum_form (between for_high high.now for_low low.now) ≡ start_of number) }
+{
+    let high = side_of(high);
+    let low = side_of(low);
+    if high.terms.is_empty() && low.terms.is_empty() {
+        Some(high.constant - low.constant)
+    } else {
+        None
+    }
+}
+
+/// Whether it is shown that a number is at least 0, unless facts might contradict each other.
+#[inline(always)]
+fn shows_constant(facts: &Known<'_>, number: i128) -> Option<bool>
+    ensures { IfSome result (λ b. b ≡ shows_form facts.now (start_of number)) }
+{
+    if 0 <= number {
+        return Some(number.unsigned_abs() < 1_267_650_600_228_229_401_496_703_205_376);
+    }
+    if facts.facts().is_empty() {
+        return Some(false);
+    }
+    None
+}
+
+/// Whether high >= low is shown. Most ends are numbers, which are compared where this is called.
+#[inline(always)]
 #[tactic(auto, unfolding(crate::specs::Zones::shows_order))]
 pub fn shows_order(
     alloc: Global,
@@ -142,11 +237,10 @@ pub fn shows_order(
 ) -> Result<bool, OutOfMemory>
     ensures { IfOk result (λ b. b ≡ shows_order facts.now for_high.now high.now for_low.now low.now) }
 {
-    match number_between(for_high, high, for_low, low) {
-        Some(number) => Ok(shows_number(alloc, facts, number)),
-        None => {
-            let sum = between(alloc, for_high, high, for_low, low)?;
-            shows_at(alloc, facts, &sum)
+    if let Some(number) = constant_between(high, low) {
+        if let Some(is_shown) = shows_constant(facts, number) {
+            return Ok(is_shown);
         }
     }
+    shows_between(alloc, facts, for_high, high, for_low, low)
 }

@@ -1,8 +1,10 @@
 ghost use Rattle.std.specs.Prelude.{◌≡◌, [], IfOk};
-ghost use Rattle.zones.specs.Zones.{span};
+ghost use Rattle.std.specs.List.{list_any};
+ghost use Rattle.program.specs.declared.annotation.Pending.{Pending as PendingKind};
+ghost use Rattle.zones.specs.Zones.{span, as_written, meets};
 ghost use Rattle.zones.specs.Places.{place_of, is_own, is_allowed, is_clear};
 
-use crate::zone::{PlacedZone, conflict, is_covered};
+use crate::zone::{PlacedZone, is_covered, is_empty, meets};
 use entailment::{FactCursor, Known};
 use lists::OutOfMemory;
 use program::{ObjectName, Pending, Zone};
@@ -29,6 +31,7 @@ pub fn index_for(cursor: &mut FactCursor<'_>, is_asked: bool) -> Result<(), OutO
 }
 
 /// A zone in its own function.
+#[inline]
 pub fn as_written(zone: &Zone) -> PlacedZone<'_>
     ensures object { result.object ≡ zone.now.object }
     ensures moves { result.moves.now ≡ [] }
@@ -64,17 +67,32 @@ pub fn is_allowed(alloc: Global, place: &Place<'_>, y: &PlacedZone<'_>) -> Resul
     is_covered(alloc, place.facts, place.covering, y)
 }
 
-/// Whether nothing that is pending conflicts with it.
-#[tactic(auto, unfolding(crate::specs::Places::is_clear))]
+/// Whether something that is pending conflicts with `y`, if `y` has any cell.
+fn one_meets(
+    alloc: Global,
+    facts: &Known<'_>,
+    pending: &[Pending],
+    y: &PlacedZone<'_>,
+) -> Result<bool, OutOfMemory>
+    ensures { IfOk result (λ b. b ≡ list_any (λ (q : PendingKind). meets facts.now (as_written q.zone) (span y.now.object y.now.moves.now y.now.zone.now)) pending.now) }
+{
+    for item in pending {
+        if meets(alloc, facts, &as_written(&item.zone), y)? {
+            return Ok(true);
+        }
+    }
+    Ok(false)
+}
+
+/// Whether nothing that is pending conflicts with it. Few zones meet what is pending, and only of those it is asked whether they are empty.
+#[tactic(auto, using(crate::proofs::Clears::clear_unless_met))]
 pub fn is_clear(alloc: Global, place: &Place<'_>, y: &PlacedZone<'_>) -> Result<bool, OutOfMemory>
     ensures { IfOk result (λ b. b ≡ is_clear
         (place_of place.now.facts.now place.now.covering.now place.now.own place.now.pending.now)
         (span y.now.object y.now.moves.now y.now.zone.now)) }
 {
-    for item in place.pending {
-        if conflict(alloc, place.facts, &as_written(&item.zone), y)? {
-            return Ok(false);
-        }
+    if !one_meets(alloc, place.facts, place.pending, y)? {
+        return Ok(true);
     }
-    Ok(true)
+    is_empty(alloc, place.facts, y)
 }

@@ -1,7 +1,7 @@
-ghost use Rattle.std.specs.Prelude.{◌≡◌, ◌<◌, IfOk};
+ghost use Rattle.std.specs.Prelude.{◌≡◌, ◌||◌, IfOk};
 ghost use Rattle.std.specs.List.{list_any};
 ghost use Rattle.zones.specs.Zones.{span, as_written, same_object, mode_covers, modes_agree};
-ghost use Rattle.zones.specs.Zones.{is_empty, covers, is_apart, conflict, is_covered};
+ghost use Rattle.zones.specs.Zones.{shows_order, is_empty, covers, is_apart, conflict, meets, is_covered};
 
 use crate::order::shows_order;
 use entailment::Known;
@@ -19,6 +19,7 @@ pub struct PlacedZone<'a> {
 }
 
 /// Whether two names of a function are of one object: its own names are of different objects.
+#[inline]
 pub fn same_object(left: ObjectName, right: ObjectName) -> bool
     ensures { result ≡ same_object left right }
 {
@@ -33,6 +34,7 @@ pub fn same_object(left: ObjectName, right: ObjectName) -> bool
 }
 
 /// Whether a zone of this mode lets its cells be used by that mode: `writes` by every mode, any other only by its own.
+#[inline]
 pub fn mode_covers(cover: Mode, covered: Mode) -> bool
     ensures { result ≡ mode_covers cover covered }
 {
@@ -45,6 +47,7 @@ pub fn mode_covers(cover: Mode, covered: Mode) -> bool
 }
 
 /// Whether uses of one cell in any order come to the same: two reads, or two adds.
+#[inline]
 pub fn modes_agree(left: Mode, right: Mode) -> bool
     ensures { result ≡ modes_agree left right }
 {
@@ -57,6 +60,7 @@ pub fn modes_agree(left: Mode, right: Mode) -> bool
 }
 
 /// Whether a zone is shown to have no cell.
+#[inline(always)]
 #[tactic(auto, unfolding(crate::specs::Zones::is_empty))]
 pub fn is_empty(alloc: Global, facts: &Known<'_>, z: &PlacedZone<'_>) -> Result<bool, OutOfMemory>
     ensures { IfOk result (λ b. b ≡ is_empty facts.now (span z.now.object z.now.moves.now z.now.zone.now)) }
@@ -65,6 +69,7 @@ pub fn is_empty(alloc: Global, facts: &Known<'_>, z: &PlacedZone<'_>) -> Result<
 }
 
 /// Whether `z` is shown to have each cell of `y`, for each use that `y` has them for.
+#[inline(always)]
 #[tactic(auto, unfolding(crate::specs::Zones::covers))]
 pub fn covers(
     alloc: Global,
@@ -86,6 +91,24 @@ pub fn covers(
     shows_order(alloc, facts, z.moves, &z.zone.high, y.moves, &y.zone.high)
 }
 
+/// Whether the ends of two zones of one object show that they have no cell in common.
+#[inline(always)]
+fn is_beside(
+    alloc: Global,
+    facts: &Known<'_>,
+    z: &PlacedZone<'_>,
+    y: &PlacedZone<'_>,
+) -> Result<bool, OutOfMemory>
+    ensures { IfOk result (λ b. b ≡ (
+        shows_order facts.now z.now.moves.now z.now.zone.now.low y.now.moves.now y.now.zone.now.high
+        || shows_order facts.now y.now.moves.now y.now.zone.now.low z.now.moves.now z.now.zone.now.high)) }
+{
+    if shows_order(alloc, facts, z.moves, &z.zone.low, y.moves, &y.zone.high)? {
+        return Ok(true);
+    }
+    shows_order(alloc, facts, y.moves, &y.zone.low, z.moves, &z.zone.high)
+}
+
 /// Whether two zones are shown to have no cell in common.
 #[tactic(auto, unfolding(crate::specs::Zones::is_apart))]
 pub fn is_apart(
@@ -99,10 +122,7 @@ pub fn is_apart(
     if !same_object(z.object, y.object) {
         return Ok(true);
     }
-    if shows_order(alloc, facts, z.moves, &z.zone.low, y.moves, &y.zone.high)? {
-        return Ok(true);
-    }
-    if shows_order(alloc, facts, y.moves, &y.zone.low, z.moves, &z.zone.high)? {
+    if is_beside(alloc, facts, z, y)? {
         return Ok(true);
     }
     if is_empty(alloc, facts, z)? {
@@ -125,6 +145,27 @@ pub fn conflict(
         return Ok(false);
     }
     Ok(!is_apart(alloc, facts, z, y)?)
+}
+
+/// Whether two zones may have a cell in common, where `y` has any, and the order of its uses may matter. Few pairs get as far as the question
+/// whether `z` is empty, and who asks of many zones beside one `y` asks once whether that is.
+#[inline(always)]
+#[tactic(auto, unfolding(crate::specs::Zones::meets))]
+pub fn meets(
+    alloc: Global,
+    facts: &Known<'_>,
+    z: &PlacedZone<'_>,
+    y: &PlacedZone<'_>,
+) -> Result<bool, OutOfMemory>
+    ensures { IfOk result (λ b. b ≡ meets facts.now (span z.now.object z.now.moves.now z.now.zone.now) (span y.now.object y.now.moves.now y.now.zone.now)) }
+{
+    if modes_agree(z.zone.mode, y.zone.mode) || !same_object(z.object, y.object) {
+        return Ok(false);
+    }
+    if is_beside(alloc, facts, z, y)? {
+        return Ok(false);
+    }
+    Ok(!is_empty(alloc, facts, z)?)
 }
 
 /// Whether one of the zones covers `y`.

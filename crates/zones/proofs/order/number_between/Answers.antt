@@ -1,6 +1,6 @@
 use Rattle.std.proofs.Common.{rules}
-use Rattle.zones.proofs.Orders.{number_of_sum}
+use Rattle.zones.proofs.Orders.{shown_of_sum}
 use Rattle.zones.proofs.order.number_between.Goals as goal
 
 pub returns-clause-made : goal.returns-clause-made
-returns-clause-made c = search (rules, number_of_sum)
+returns-clause-made c = search (rules, shown_of_sum)
