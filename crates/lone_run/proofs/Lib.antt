@@ -1,1 +1,2 @@
 pub mod OnWay
+pub mod Stopping

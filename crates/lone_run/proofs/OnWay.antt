@@ -1,5 +1,5 @@
 -- A strand leads the run on, or to its end.
-use Rattle.std.proofs.Common.{◌≡◌, ℕ, suc, ◌+◌, ◌<◌, max, List, length, sym, subst, ℤ, Some, None}
+use Rattle.std.proofs.Common.{◌≡◌, ℕ, suc, ◌+◌, ◌<◌, ◌≤◌, max, List, length, sym, subst, ℤ, Some, None}
 use Rattle.std.proofs.Math.Logic.{∥∥₁_elim, ∥∥₁_map}
 use Rattle.std.proofs.Props.{props}
 use Rattle.program.specs.declared.function.Program.{Program}
@@ -13,7 +13,7 @@ use Rattle.serial_steps.specs.Shown.{Advances, HasNumbers, Returns, RunsSafely, 
 use Rattle.serial_steps.specs.Steps.{Run}
 use Rattle.serial_steps.specs.declared.run.Ended.{Ended}
 use Rattle.serial_steps.specs.declared.stack.Stack.{Stack}
-use Rattle.serial_steps.proofs.Turning.{fits_prop, goes_on_here, may_go_on, numbers_here, numbers_prop, stands_here, stays_here, turned, walked_on, within_here}
+use Rattle.serial_steps.proofs.Turning.{fits_prop, goes_on_here, may_go_on, numbers_here, no_less, numbers_prop, stands_here, stays_here, turned, walked_on, within_here}
 use Rattle.serial_machine.specs.Promise.{EndsWithinBudget}
 use Rattle.serial_machine.proofs.Engine.{ends}
 use Rattle.lone_run.specs.UnderWay.{IsOnWay}
@@ -37,6 +37,9 @@ module _ (program : Program) (arguments : List ℤ) (memory : List NamedCells) (
   within = ∥∥₁_elim w.safe (hlevel props) (within_here program places (budget_of program) n k)
 
   -- ---- plain steps
+
+  pub done_before : (j : Stack) (m : ℕ) → Advances program places k j n m → n ≤ m
+  done_before j m on = ∥∥₁_elim w.safe (hlevel props) (no_less program places (budget_of program) n k m j on)
 
   pub went_on : (j : Stack) (m : ℕ) → length j.moves.items ≡ length k.moves.items → Advances program places k j n m → IsOnWay program arguments memory places j m peak
   went_on j m moves on = record {

@@ -46,6 +46,10 @@ IsUnderWay r = IsOnWay r.program.now r.arguments.now r.memory r.places r.stack r
 abbrev pub IsRunOf : Program → List ℤ → List NamedCells → LoneRun → Type 0
 IsRunOf program arguments memory r = (r.program.now ≡ program) × (r.arguments.now ≡ arguments) × (r.memory ≡ memory) × IsUnderWay r
 
+-- at least one instruction was done, and not yet all that the budget allows
+abbrev pub GetsOn : LoneRun → LoneRun → Type 0
+GetsOn old new = (old.done < new.done) × (new.done < budget_of new.program.now)
+
 -- why it does not begin: 801 hands the memory back, and 803 is the only other fault
 abbrev pub IsRefusal : Program → List ℤ → List NamedCells → RunFault → Type 0
 IsRefusal program arguments memory (BadArguments requirement m) = (unmet_in program arguments ≡ Some requirement) × (m ≡ memory)

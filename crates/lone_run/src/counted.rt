@@ -1,5 +1,7 @@
 ghost use Rattle.std.specs.Prelude.{◌≡◌, ⊤, OnErr, Some};
+ghost use Rattle.engine.specs.Access.{Adds, Loads, Stores};
 ghost use Rattle.engine.specs.Flat.{cell_in, is_cell};
+ghost use Rattle.lone_run.specs.Counted.{IsFull};
 
 use engine::{Cells, Flat};
 use strand::{Stop, StrandCells};
@@ -18,7 +20,8 @@ pub struct CountedCells {
 /// Counts a load of the cell, which holds the value.
 #[inline(always)]
 fn count_load(cells: &mut StrandCells, at: i64, value: i64) -> Result<(), Full>
-    ensures { OnErr result (cells.new ≡ cells.old) }
+    ensures refused { OnErr result (IsFull cells.old (Loads at)) }
+    ensures unchanged { OnErr result (cells.new ≡ cells.old) }
 {
     match cells.load(at) {
         Ok(_) => Ok(()),
@@ -33,7 +36,8 @@ fn count_load(cells: &mut StrandCells, at: i64, value: i64) -> Result<(), Full>
 /// Counts a store.
 #[inline(always)]
 fn count_store(cells: &mut StrandCells, at: i64, number: i64) -> Result<(), Full>
-    ensures { OnErr result (cells.new ≡ cells.old) }
+    ensures refused { OnErr result (IsFull cells.old (Stores at number)) }
+    ensures unchanged { OnErr result (cells.new ≡ cells.old) }
 {
     match cells.store(at, number) {
         Ok(()) => Ok(()),
@@ -44,7 +48,8 @@ fn count_store(cells: &mut StrandCells, at: i64, number: i64) -> Result<(), Full
 /// Counts an addition.
 #[inline(always)]
 fn count_add(cells: &mut StrandCells, at: i64, number: i64) -> Result<(), Full>
-    ensures { OnErr result (cells.new ≡ cells.old) }
+    ensures refused { OnErr result (IsFull cells.old (Adds at number)) }
+    ensures unchanged { OnErr result (cells.new ≡ cells.old) }
 {
     match cells.add(at, number) {
         Ok(()) => Ok(()),
@@ -61,7 +66,7 @@ impl Cells for CountedCells {
 
     ghost does = { λ c a d. ⊤ };
 
-    ghost refuses = { λ c a s. ⊤ };
+    ghost refuses = { λ c a s. IsFull c.cells a };
 
     #[inline(always)]
     fn load(&mut self, at: i64) -> Result<i64, Full> {

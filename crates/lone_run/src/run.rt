@@ -5,7 +5,7 @@ ghost use Rattle.outcome.specs.verifier.Accepted.{IsAccepted};
 ghost use Rattle.outcome.specs.verifier.Budgets.{budget_of};
 ghost use Rattle.serial_machine.specs.Promise.{EndsWithinBudget};
 ghost use Rattle.serial_machine.specs.Safe.{HasMoves};
-ghost use Rattle.lone_run.specs.UnderWay.{IsRefusal, IsRunOf, IsUnderWay};
+ghost use Rattle.lone_run.specs.UnderWay.{GetsOn, IsRefusal, IsRunOf, IsUnderWay};
 
 use crate::counted::CountedCells;
 use crate::steps::{advance, border, is_at_border};
@@ -131,7 +131,8 @@ impl<'v> LoneRun<'v> {
         }
     }
 
-    /// Does one strand: up to a border and over it, or to 65,536 instructions, or to a cell past 256. What the run comes to, where it has ended.
+    /// Does one strand: up to a border and over it, or to 65,536 instructions, or to a cell past 256. What the run comes to, where it has ended; else
+    /// at least one instruction was done.
     ///
     /// # Errors
     ///
@@ -140,6 +141,7 @@ impl<'v> LoneRun<'v> {
         requires { IsUnderWay self.old }
         ensures ends { IfOk result (λ end. IfSome end (EndsWithinBudget self.old.program.now self.old.arguments.now self.old.memory)) }
         ensures goes { IfOk result (λ end. IfNone end (IsRunOf self.old.program.now self.old.arguments.now self.old.memory self.new)) }
+        ensures gets_on { IfOk result (λ end. IfNone end (GetsOn self.old self.new)) }
     {
         let program = self.program;
         self.counted.cells.clear();

@@ -6,7 +6,8 @@ use Rattle.outcome.specs.declared.outcome.Finished.{Finished}
 use Rattle.outcome.specs.store.Rows.{refilled}
 use Rattle.serial_steps.specs.Shown.{Returns}
 use Rattle.serial_machine.specs.Promise.{EndsWithinBudget}
-use Rattle.lone_run.proofs.OnWay.{fits, numbers, over, passed, stands, stays, went_on, within}
+use Rattle.lone_run.proofs.OnWay.{done_before, fits, numbers, over, passed, stands, stays, went_on, within}
+use Rattle.lone_run.proofs.Stopping.{got_on}
 use Rattle.lone_run.proofs.run.LoneRun.strand.Goals as goal
 
 pub advance-pause-requires-clause-stands : goal.advance-pause-requires-clause-stands
@@ -17,6 +18,15 @@ advance-pause-requires-clause-safe c = stays _ _ _ _ _ _ _ c.requires
 
 pub returns-then-not-is_at_border-clause-goes : goal.returns-then-not-is_at_border-clause-goes
 returns-then-not-is_at_border-clause-goes c = (refl, refl, refl, went_on _ _ _ _ _ _ _ c.requires _ _ c.advance-pause.ensures.moves c.advance-pause.ensures.led)
+
+pub returns-then-not-is_at_border-clause-gets_on : goal.returns-then-not-is_at_border-clause-gets_on
+returns-then-not-is_at_border-clause-gets_on c =
+    let low = within _ _ _ _ _ _ _ c.requires in
+    let few = c.requires.few in
+    let limit = c.saturating_add-limit.ensures in (
+      got_on c.advance-pause.result _ _ _ _ _ c.is_at_border.ensures.paused c.if-not-is_at_border.true c.advance-pause.ensures.limit (omega (arith, low, few, limit)) c.clear.ensures c.advance-pause.ensures.gets_on,
+      within _ _ _ _ _ _ _ (returns-then-not-is_at_border-clause-goes c).3,
+    )
 
 pub overflow_add-self : goal.overflow_add-self
 overflow_add-self c =
@@ -45,6 +55,11 @@ returns-in-None-clause-goes c =
           (c.max-self.ensures ∙ ap (λ (n : ℕ). max c.args.self.now.peak n) long)
           (subst (λ (r : Option ℤ). Returns program places c.advance-pause.new.stack new r) c.in-None.is c.in_ok-result.ensures.goes),
     )
+
+pub returns-in-None-clause-gets_on : goal.returns-in-None-clause-gets_on
+returns-in-None-clause-gets_on c =
+    let before = done_before _ _ _ _ _ _ _ c.requires _ _ c.advance-pause.ensures.led in
+    (omega (arith, before), within _ _ _ _ _ _ _ (returns-in-None-clause-goes c).3)
 
 pub returns-in_ok-memory-in-Some-clause-ends : goal.returns-in_ok-memory-in-Some-clause-ends
 returns-in_ok-memory-in-Some-clause-ends c =
