@@ -158,6 +158,7 @@ insert_within es entry at e c =
     only : Contains (entry ∷ []) e → e ≡ entry
     only (zero, l, is) = sym is
     only (suc k, l, is) = absurd (omega (arith, l))
+
     one : Contains (entry ∷ []) e ⊎ Contains es e → Contains es e ⊎ (e ≡ entry)
     one (inl here) = inr (only here)
     one (inr there) = inl there

@@ -84,8 +84,8 @@ pub fn enter_many(
     match entries_from(alloc, facts, from.count)? {
         Some(fresh) => {
             let all = merged(alloc, facts, entries.as_slice(), fresh.as_slice())?;
-            let is_consistent =
-                from.is_consistent && !one_contradicts(facts, all.as_slice(), fresh.as_slice());
+            let is_consistent = from.is_consistent
+                && !one_contradicts(facts, all.as_slice(), fresh.as_slice());
             *entries = all;
             Ok(Some(Entered {
                 count: facts.len() + 1,

@@ -48,7 +48,14 @@ pub fn step_fault(
         (place_of place.now.facts.now place.now.covering.now place.now.own place.now.pending.now)
         functions.now steps step.now.line step.now.instruction))) }
 {
-    let used = step_use(alloc, place, functions, pointers, step.line, &step.instruction)?;
+    let used = step_use(
+        alloc,
+        place,
+        functions,
+        pointers,
+        step.line,
+        &step.instruction,
+    )?;
     Ok(use_fault(step.line, used))
 }
 

@@ -13,8 +13,7 @@ ghost use Rattle.footprints.specs.Footprints.{end_use};
 use crate::access::{Cell, Pointer, cell_of, cells_zone, first_cell};
 use lists::OutOfMemory;
 use program::{
-    Address, Argument, Block, Function, FunctionId, Instruction, Mode, ObjectName, Terminator,
-    Zone,
+    Address, Argument, Block, Function, FunctionId, Instruction, Mode, ObjectName, Terminator, Zone,
 };
 use ranges::{Move, argument_moves};
 use std::alloc::Global;

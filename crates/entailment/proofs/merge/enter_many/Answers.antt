@@ -21,7 +21,7 @@ returns-after-from-clause-some c =
     let kept = rw c.as_slice.ensures.value at c.in_ok-all-in-Some.ensures.kept in
     let entered = rw c.as_slice-in-Some.ensures.value at c.in_ok-all-in-Some.ensures.entered in
     let begun : (r : Bool) → (r ≡ true → c.args.from.is_consistent ≡ true) →
-        (r ≡ true → (e d : Entry) → Contains fresh e → Contains all d → IsContradiction (place_at facts e.place) (place_at facts d.place) → ⊥) → IsBegun facts (length facts + 1) all r = λ r before none.
+    (r ≡ true → (e d : Entry) → Contains fresh e → Contains all d → IsContradiction (place_at facts e.place) (place_at facts d.place) → ⊥) → IsBegun facts (length facts + 1) all r = λ r before none.
     subst (λ (n : ℕ). IsBegun facts n all r) (omega arith)
     (begun_many facts c.args.from.count old fresh all c.args.from.is_consistent r c.requires has c.in_ok-all-in-Some.ensures.entries kept entered before none) in
     elim c.if-from.branch [
