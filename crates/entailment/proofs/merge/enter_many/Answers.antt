@@ -1,15 +1,11 @@
-use Rattle.std.proofs.Common.{◌≡◌, ◌∙◌, ℕ, ◌+◌, Bool, true, false, not, suc, length, List, sym, refl, subst, arith}
+use Rattle.std.proofs.Common.{◌≡◌, ◌∙◌, ℕ, ◌+◌, Bool, true, suc, length, List, sym, subst, arith}
 use Rattle.std.specs.List.{Contains}
-use Rattle.std.proofs.lemmas.Bool.{false≢true}
+use Rattle.std.proofs.lemmas.Bool.{false≢true, not-true}
 use Rattle.entailment.specs.declared.index.Entry.{Entry}
 use Rattle.entailment.specs.Index.{place_at, IsBegun, IsContradiction, HasPlaces}
 use Rattle.entailment.proofs.Merging.{begun_many}
 use Rattle.entailment.proofs.merge.enter_many.Goals.{then-from, else-from}
 use Rattle.entailment.proofs.merge.enter_many.Goals as goal
-
-not_true : (b : Bool) → not b ≡ true → b ≡ false
-not_true true h = absurd (false≢true h)
-not_true false h = refl
 
 pub returns-after-from-clause-some : goal.returns-after-from-clause-some
 returns-after-from-clause-some c =
@@ -26,7 +22,7 @@ returns-after-from-clause-some c =
     (begun_many facts c.args.from.count old fresh all c.args.from.is_consistent r c.requires has c.in_ok-all-in-Some.ensures.entries kept entered before none) in
     elim c.if-from.branch [
       | then-from w ↦ begun c.if-from.is_consistent (λ _. w.if-from.true) (λ is e d e_in d_in s.
-          w.one_contradicts.ensures e d (not_true w.one_contradicts.result (sym w.is_consistent-is ∙ is))
+          w.one_contradicts.ensures e d (not-true w.one_contradicts.result (sym w.is_consistent-is ∙ is))
           (subst (λ (xs : List Entry). Contains xs e) (sym w.as_slice-then-from-2.ensures.value) e_in)
           (subst (λ (xs : List Entry). Contains xs d) (sym w.as_slice-then-from.ensures.value) d_in) s)
       | else-from w ↦ begun c.if-from.is_consistent (λ is. sym w.is_consistent-is ∙ is) (λ is. absurd (false≢true (sym w.if-from.false ∙ (sym w.is_consistent-is ∙ is))))
