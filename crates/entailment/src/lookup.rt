@@ -235,6 +235,25 @@ pub fn made_up_by_bounds(search: &Search<'_>) -> bool
     is_sum(search.facts, search.form, first, a, second, b)
 }
 
+/// Whether the form has two terms, and a fact times the size of the one coefficient and another times that of the other make it up: a bound for each
+/// register shows most such forms.
+pub fn made_up_by_terms(search: &Search<'_>) -> bool
+    requires index { IsIndex search.now.facts.now (suc (length search.now.facts.now)) search.now.entries.now }
+    requires key { IsKeyOf search.now.form.now.terms search.now.key }
+    ensures { IsTrue result → IsShown search.now.facts.now search.now.form.now }
+{
+    let terms = side_of(search.form).terms;
+    if terms.len() != 2 {
+        return false;
+    }
+    let a = factor(terms, 1);
+    let b = factor(terms, 2);
+    if b == 0 {
+        return false;
+    }
+    made_up_with(search, a, b)
+}
+
 /// Whether the facts make the form up. Two factors make it up in either order, or in none: each pair is tried once.
 pub fn made_up(search: &Search<'_>) -> bool
     requires index { IsIndex search.now.facts.now (suc (length search.now.facts.now)) search.now.entries.now }

@@ -1,3 +1,4 @@
 pub mod CellLaws
 pub mod ByTables
 pub mod Looked
+pub mod After

@@ -18,7 +18,7 @@ use entailment::{FactCursor, Known};
 use linear::Fact;
 use lists::OutOfMemory;
 use program::{Block, BlockId, Ending, Function, Instruction, Program, Step, Zone};
-use ranges::{BlockFacts, EdgeFacts, Facts, FunctionFacts, Graph, Regions, Task};
+use ranges::{BlockFacts, EdgeFacts, Facts, FunctionFacts, Graph, Regions, Task, stands_before};
 use refusal::{Broken, lower};
 use std::alloc::Global;
 use zones::{Place, index_for};
@@ -128,7 +128,7 @@ fn has_zones(instruction: &Instruction) -> bool {
     }
 }
 
-/// What is broken at the steps of a block.
+/// What is broken at the steps of a block. Steps after a fault are not judged: it is named before theirs.
 fn steps_fault(
     alloc: Global,
     functions: &[Function],
@@ -144,6 +144,9 @@ fn steps_fault(
     let steps = block.steps.as_slice();
     let pointers = pointers_of(alloc, steps)?;
     for (index, step) in steps.iter().enumerate() {
+        if stands_before(named, step.line) {
+            continue;
+        }
         cursor.seek(table.count_at(index));
         index_for(&mut cursor, has_zones(&step.instruction))?;
         let facts = cursor.known();

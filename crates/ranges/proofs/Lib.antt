@@ -3,3 +3,4 @@ pub mod Tabling
 pub mod Walking
 pub mod Blocks
 pub mod Truth
+pub mod Passed

@@ -34,3 +34,8 @@ IsEndUnmetAt function before edges (Some ending) broken =
     AreUnshown before ending.shows broken
     ⊎ (AreUnmet (with_shows before ending.shows) ending.line (owed_at_end function ending.terminator) broken
     ⊎ Any (λ e. AreUnmet e.facts ending.line (edge_owed function.blocks e) broken) edges)
+
+-- a fault is known on a line before this one
+abbrev pub StandsBefore : Option Broken → ℕ → Type 0
+StandsBefore None line = ⊥
+StandsBefore (Some first) line = first.line < line

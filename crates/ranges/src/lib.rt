@@ -19,6 +19,7 @@ mod judge;
 mod know;
 pub mod laws;
 mod learn;
+mod past;
 mod table;
 mod walk;
 
@@ -30,6 +31,7 @@ pub use obligations::{
     Move, Obligation, Part, Sum, Way, argument_moves, call_moves, difference_of, inequalities_owed,
     owed, owed_at_end, push_parts, result_moves,
 };
+pub use past::stands_before;
 pub use refusal::Refused as RangeFault;
 pub use region_match::{Graph, Regions, Task};
 pub use table::{BlockFacts, EdgeFacts, Facts, FunctionFacts};

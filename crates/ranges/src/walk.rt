@@ -2,6 +2,8 @@ ghost use Rattle.std.specs.Prelude.{◌≡◌, ◌++◌, ◌∷◌, [], ℕ, len
 ghost use Rattle.program.specs.declared.instruction.Step.{Step};
 ghost use Rattle.refusal.specs.declared.broken.Broken.{Broken};
 ghost use Rattle.refusal.specs.Earliest.{IsEarliest};
+ghost use Rattle.ranges.specs.Learned.{learned};
+ghost use Rattle.ranges.specs.Sums.{facts_of};
 ghost use Rattle.ranges.specs.Places.{stated, start_facts, with_shows, after_step, facts_before, facts_at_step, facts_at_end, edges_known};
 ghost use Rattle.ranges.specs.Places.{ending_shows, IsBlockTable};
 ghost use Rattle.ranges.specs.Walks.{IsWalked, edges_behind, IsEndUnmetAt};
@@ -11,12 +13,13 @@ use crate::edge::{all_edge_facts, edges_out};
 use crate::judge::{edges_fault, push_shows, unmet_fault};
 use crate::know::push_facts;
 use crate::learn::learned;
+use crate::past::stands_before_step;
 use crate::table::{BlockFacts, EdgeFacts};
 use entailment::FactList;
 use linear::Fact;
 use lists::{OutOfMemory, Seq};
 use obligations::{differences_of, owed, owed_at_end};
-use program::{Block, Ending, Function, Inequality, Program, Step};
+use program::{Block, Ending, Function, Inequality, Instruction, Program, Step};
 use refusal::{Broken, lower};
 use std::alloc::Global;
 
@@ -47,6 +50,37 @@ pub fn start_facts(
     stated(alloc, inequalities)
 }
 
+/// Adds what an instruction makes known.
+fn learn(
+    alloc: Global,
+    functions: &[Function],
+    facts: &mut FactList,
+    instruction: &Instruction,
+) -> Result<(), OutOfMemory>
+    ensures { OnOk result (facts.new ≡ facts.old ++ facts_of (learned functions.now facts.old instruction.now)) }
+{
+    facts.index()?;
+    let learned = learned(alloc, functions, &facts.known(), instruction)?;
+    push_facts(alloc, facts, &learned)
+}
+
+/// Goes over a step that is not judged: counts the facts that are known at it, and adds what it makes known.
+fn pass_step(
+    alloc: Global,
+    functions: &[Function],
+    facts: &mut FactList,
+    counts: &mut Vec<usize>,
+    step: &Step,
+) -> Result<(), OutOfMemory>
+    ensures known { OnOk result (facts.new ≡ after_step functions.now facts.old step.now) }
+    ensures count { OnOk result (counts.new.items ≡ counts.old.items ++ length (with_shows facts.old step.now.shows) ∷ []) }
+{
+    let sums = differences_of(alloc, &[], step.shows.as_slice())?;
+    push_facts(alloc, facts, &sums)?;
+    counts.push(facts.len())?;
+    learn(alloc, functions, facts, &step.instruction)
+}
+
 /// Goes over a step: judges it, counts the facts that are known at it, and adds what it makes known.
 fn walk_step(
     alloc: Global,
@@ -64,15 +98,13 @@ fn walk_step(
     counts.push(facts.len())?;
     let owed = owed(alloc, program, function, &step.instruction)?;
     facts.index()?;
-    let known = facts.known();
-    let unmet = unmet_fault(alloc, &known, step.line, &owed)?;
+    let unmet = unmet_fault(alloc, &facts.known(), step.line, &owed)?;
     let functions = program.functions.as_slice();
-    let learned = learned(alloc, functions, &known, &step.instruction)?;
-    push_facts(alloc, facts, &learned)?;
+    learn(alloc, functions, facts, &step.instruction)?;
     Ok(lower(unshown, unmet))
 }
 
-/// Goes over the steps of a block, and answers how many facts are known at each.
+/// Goes over the steps of a block, and answers how many facts are known at each. Steps after a fault are not judged: it is named before theirs.
 fn walk_steps(
     alloc: Global,
     program: &Program,
@@ -87,9 +119,14 @@ fn walk_steps(
 {
     let mut counts: Vec<usize> = Vec::new(alloc);
     let mut named: Option<Broken> = None;
+    let functions = program.functions.as_slice();
     for step in steps {
-        let broken = walk_step(alloc, program, function, facts, &mut counts, step)?;
-        named = lower(named, broken);
+        if stands_before_step(named, step) {
+            pass_step(alloc, functions, facts, &mut counts, step)?;
+        } else {
+            let broken = walk_step(alloc, program, function, facts, &mut counts, step)?;
+            named = lower(named, broken);
+        }
     }
     Ok((counts, named))
 }

@@ -6,7 +6,18 @@ use Rattle.refusal.specs.Earliest.{IsEarliest}
 use Rattle.refusal.proofs.Places.{Within, below_next, below_all}
 use Rattle.ranges.specs.Places.{facts_in_table}
 use Rattle.footprints.specs.Rules.{IsStepBroken}
+use Rattle.ranges.proofs.Passed.{below_passed}
+use Rattle.footprints.proofs.After.{use_after}
 use Rattle.footprints.proofs.check.steps_fault.Goals as goal
+
+pub loop-index-preserved-then-stands_before : goal.loop-index-preserved-then-stands_before
+loop-index-preserved-then-stands_before c =
+    let step = c.index-steps-index.result in (
+      below_passed (λ (i : ℕ) (s : Step). IsStepBroken c.args.functions.now c.args.function.now c.args.task c.args.block.now (facts_in_table c.args.table.now i) s) c.as_slice-steps.result.now c.loop-index.index step c.loop-index.named c.loop-index-test.true c.index-steps-index.is
+          (use_after step.line _ c.loop-index.named (c.stands_before.ensures c.if-stands_before.true))
+          c.loop-index.invariant.0,
+      c.loop-index.invariant.1,
+    )
 
 pub loop-index-preserved : goal.loop-index-preserved
 loop-index-preserved c =

@@ -9,7 +9,7 @@ pub returns-clause-named : goal.returns-clause-named
 returns-clause-named c =
     let step = c.args.step.now in
     let before = c.args.facts.now in
-    let known : c.known-known.result ≡ with_shows before step.shows = c.known-known.ensures ∙ c.index.ensures ∙ c.in_ok-unshown.ensures.known ∙ ap (with_shows before) c.as_slice.ensures in
+    let known : c.known.result ≡ with_shows before step.shows = c.known.ensures ∙ c.index.ensures ∙ c.in_ok-unshown.ensures.known ∙ ap (with_shows before) c.as_slice.ensures in
     earliest_both (AreUnshown before step.shows) (AreUnmet (with_shows before step.shows) step.line (owed c.args.program.now c.args.function.now step.instruction)) _ _ _
     (rw c.as_slice.ensures at c.in_ok-unshown.ensures.named)
     (rw (known, c.deref.ensures.value, c.in_ok-owed.ensures) at c.in_ok-unmet.ensures)
