@@ -282,13 +282,26 @@ def crossed(count):
         lines.append(f";! shows {x}*%n{y:+}*%m >= {least}\n".replace("+0*%m", "+0*%m") + (f"%x{k} = add i64 %n, 0\n" if k % 32 == 0 else ""))
     return head + "".join(lines) + "ret i64 0\n}\n"
 
+def woven(count):
+    """So many `shows` lines that are multiples of one form of two registers, of both signs: two of the four oldest facts show each, and very many
+    two others come to its terms, and not to its constant."""
+    head = "define i64 @main(i64 %n, i64 %m) {\n;! requires %n+%m >= 0\n;! requires %m >= -9\n;! requires %n+%m <= 9\n;! requires %m <= 9\n"
+    head += f";! budget 0 {count // 32 + 2}\nentry:\n;! left 0 {count // 32 + 2}\n"
+    lines = []
+    for j in range(1, count + 1):
+        k = (j + 1) // 2
+        line = f"{k}*%n+{2 * k}*%m >= {-9 * k - 5}" if j % 2 else f"{-k}*%n-{2 * k}*%m >= {-18 * k - 5}"
+        lines.append(f";! shows {line}\n" + (f"%x{j} = add i64 %n, 0\n" if j % 32 == 0 else ""))
+    return head + "".join(lines) + "ret i64 0\n}\n"
+
 def weight(register):
     """The weight of a register in the index of facts."""
     spread = (register % 65536 * 7368787 + 12345) % 16777213
     return spread * spread % 16777213
 
 def alike(count):
-    """So many `shows` lines of four registers whose weighted sums are all 0, so that an index by such sums tells none of them apart; none is shown."""
+    """So many `shows` lines of four registers whose weighted sums are all 0, so that an index by such sums tells none of them apart: each is shown by
+    the line 30 before it and the oldest fact alone."""
     weights, halves, reach = [weight(register) for register in range(4)], {}, 330
     for x in range(-reach, reach + 1):
         for y in range(-reach, reach + 1):
@@ -296,13 +309,14 @@ def alike(count):
     pairs = [(z, w) for z in range(-reach, reach + 1) for w in range(-reach, reach + 1)]
     found = [halves[sum] + (z, w) for z, w in pairs if (sum := -weights[2] * z - weights[3] * w) in halves and (z, w) > (0, 0)]
     one, other = sorted(found, key=lambda form: max(map(abs, form)))[:2]
-    wide = int(count ** 0.5) + 1
-    forms = [[i * x + j * y for x, y in zip(one, other)] for i in range(wide, 2 * wide) for j in range(wide, 2 * wide)][:count]
-    head = f"define i64 @main(i64 %a, i64 %b, i64 %c, i64 %d) {{\n;! budget 0 {count // 32 + 2}\nentry:\n;! left 0 {count // 32 + 2}\n"
+    def at_least(i, j):
+        form = [i * x + j * y for x, y in zip(one, other)]
+        return "".join(f"{c:+}*%{r}" for c, r in zip(form, "abcd") if c).removeprefix("+") + f" >= {j * j - 5 * i}"
+    head = "define i64 @main(i64 %a, i64 %b, i64 %c, i64 %d) {\n" + "".join(f";! requires {at_least(i, j)}\n" for i, j in [(1, 0)] + [(0, j) for j in range(1, 31)])
+    head += f";! budget 0 {count // 32 + 2}\nentry:\n;! left 0 {count // 32 + 2}\n"
     lines = []
-    for k, form in enumerate(forms, 1):
-        text = "".join(f"{c:+}*%{r}" for c, r in zip(form, "abcd") if c).removeprefix("+")
-        lines.append(f";! shows {text} >= {-k}\n" + (f"%x{k} = add i64 %a, 0\n" if k % 32 == 0 else ""))
+    for k in range(count):
+        lines.append(f";! shows {at_least(k // 30 + 1, k % 30 + 1)}\n" + (f"%x{k} = add i64 %a, 0\n" if k % 32 == 31 else ""))
     return head + "".join(lines) + ("" if count % 32 == 0 else "%x = add i64 %a, 0\n") + "ret i64 0\n}\n"
 
 def pending(blocks):
