@@ -294,21 +294,10 @@ def woven(count):
         lines.append(f";! shows {line}\n" + (f"%x{j} = add i64 %n, 0\n" if j % 32 == 0 else ""))
     return head + "".join(lines) + "ret i64 0\n}\n"
 
-def weight(register):
-    """The weight of a register in the index of facts."""
-    spread = (register % 65536 * 7368787 + 12345) % 16777213
-    return spread * spread % 16777213
-
-def alike(count):
-    """So many `shows` lines of four registers whose weighted sums are all 0, so that an index by such sums tells none of them apart: each is shown by
-    the line 30 before it and the oldest fact alone."""
-    weights, halves, reach = [weight(register) for register in range(4)], {}, 330
-    for x in range(-reach, reach + 1):
-        for y in range(-reach, reach + 1):
-            halves[weights[0] * x + weights[1] * y] = (x, y)
-    pairs = [(z, w) for z in range(-reach, reach + 1) for w in range(-reach, reach + 1)]
-    found = [halves[sum] + (z, w) for z, w in pairs if (sum := -weights[2] * z - weights[3] * w) in halves and (z, w) > (0, 0)]
-    one, other = sorted(found, key=lambda form: max(map(abs, form)))[:2]
+def lattice(count):
+    """So many `shows` lines of four registers, sums of multiples of two forms, to whose terms very many two others come: each is shown by the line 30
+    before it and the oldest fact alone."""
+    one, other = (1, 2, 3, 5), (7, -1, 4, -2)
     def at_least(i, j):
         form = [i * x + j * y for x, y in zip(one, other)]
         return "".join(f"{c:+}*%{r}" for c, r in zip(form, "abcd") if c).removeprefix("+") + f" >= {j * j - 5 * i}"

@@ -61,18 +61,18 @@ stronger_second e a f b g g' p s = record {
 
 -- ---- keys
 
-scaled_key : (b k : ℕ) (z : ℤ) → pos k ≡ z +ℤ pos (2 ^ 61) → pos (b * k) ≡ (pos b *ℤ z) +ℤ pos (b * 2 ^ 61)
-scaled_key b k z h = ap (λ x. pos b *ℤ x) h ∙ distributes (pos b) z (pos (2 ^ 61))
+scaled_key : (b k : ℕ) (z : ℤ) → pos k ≡ z +ℤ pos (2 ^ 100) → pos (b * k) ≡ (pos b *ℤ z) +ℤ pos (b * 2 ^ 100)
+scaled_key b k z h = ap (λ x. pos b *ℤ x) h ∙ distributes (pos b) z (pos (2 ^ 100))
 
-keys_add : (e f g : ℤ) (x y : ℤ) (u v a b k : ℕ) → e ≡ x +ℤ y → pos k ≡ e +ℤ pos (2 ^ 61) → pos u ≡ x +ℤ pos (a * 2 ^ 61) → pos v ≡ y +ℤ pos (b * 2 ^ 61) → v + u + 2 ^ 61 ≡ (a + b) * 2 ^ 61 + k
+keys_add : (e f g : ℤ) (x y : ℤ) (u v a b k : ℕ) → e ≡ x +ℤ y → pos k ≡ e +ℤ pos (2 ^ 100) → pos u ≡ x +ℤ pos (a * 2 ^ 100) → pos v ≡ y +ℤ pos (b * 2 ^ 100) → v + u + 2 ^ 100 ≡ (a + b) * 2 ^ 100 + k
 keys_add e f g x y u v a b k h i j l = omega (arith, ints, h, i, j, l)
 
 -- a form that is made up has the key that is wanted
 pub key_of_sum : (e : Combination) (a : ℕ) (f : Combination) (b : ℕ) (g : Combination) (ek fk gk : ℕ) →
-    IsKeyOf e.terms ek → IsKeyOf f.terms fk → IsKeyOf g.terms gk → IsSum e a f b g → b * gk + a * fk + 2 ^ 61 ≡ (a + b) * 2 ^ 61 + ek
+    IsKeyOf e.terms ek → IsKeyOf f.terms fk → IsKeyOf g.terms gk → IsSum e a f b g → b * gk + a * fk + 2 ^ 100 ≡ (a + b) * 2 ^ 100 + ek
 key_of_sum e a f b g ek fk gk ke kf kg s =
     keys_add (weigh e.terms) (weigh f.terms) (weigh g.terms) (pos a *ℤ weigh f.terms) (pos b *ℤ weigh g.terms) (a * fk) (b * gk) a b ek
-    (value_combines (λ r. pos (weight r)) e.terms a f.terms b g.terms s.terms) ke (scaled_key a fk (weigh f.terms) kf) (scaled_key b gk (weigh g.terms) kg)
+    (value_combines (λ r. pos (weight r)) e.terms a f.terms b g.terms s.terms) ke.value (scaled_key a fk (weigh f.terms) kf.value) (scaled_key b gk (weigh g.terms) kg.value)
 
 -- ---- the index grows
 
@@ -305,6 +305,8 @@ entry_more : (facts more : List Fact) (e : Entry) → IsEntry facts e → IsEntr
 entry_more facts more e is = record {
   within = rw (length-append facts more) (omega (arith, is.within));
   key = rw (place_more facts more e.place is.within) is.key;
+  constant = rw (place_more facts more e.place is.within) is.constant;
+  small = is.small;
 }
 
 pub begun_more : (facts more : List Fact) (n : ℕ) (es : List Entry) (b : Bool) → IsBegun facts n es b → IsBegun (facts ++ more) n es b
@@ -338,10 +340,10 @@ begun_later facts count later n es b le begun =
 -- ---- consistency
 
 -- two places that contradict each other have keys that come to the middle one's, twice
-pub contradiction_keys : (f g : Combination) (fk gk : ℕ) → IsKeyOf f.terms fk → IsKeyOf g.terms gk → IsContradiction f g → gk + fk ≡ 2 ^ 62
+pub contradiction_keys : (f g : Combination) (fk gk : ℕ) → IsKeyOf f.terms fk → IsKeyOf g.terms gk → IsContradiction f g → gk + fk ≡ 2 ^ 101
 contradiction_keys f g fk gk kf kg s =
-    let none : IsKeyOf [] (2 ^ 61) = omega (arith, ints) in
-    let keys = key_of_sum (constant_form (negsuc 0)) 1 f 1 g (2 ^ 61) fk gk none kf kg s in
+    let none : IsKeyOf [] (2 ^ 100) = record { value = omega (arith, ints); small = omega arith } in
+    let keys = key_of_sum (constant_form (negsuc 0)) 1 f 1 g (2 ^ 100) fk gk none kf kg s in
     omega (arith, keys)
 
 -- a key that is not this, where none is less from there on, is past it

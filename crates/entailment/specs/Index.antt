@@ -1,5 +1,5 @@
 -- Facts by the values of their terms: of those with the same coefficients the strongest alone is kept.
-use Rattle.std.specs.Prelude.{◌≡◌, ℕ, suc, ◌<◌, ◌≤◌, ◌+◌, ◌*◌, ◌%◌, ◌^◌, ℤ, pos, negsuc, ◌+ℤ◌, ◌≤ℤ◌, ◌⊎◌, Bool, true, List, [], length, take, All, Contains, slice_index_or}
+use Rattle.std.specs.Prelude.{◌≡◌, ℕ, suc, ◌<◌, ◌≤◌, ◌+◌, ◌*◌, ◌%◌, ◌^◌, ℤ, pos, negsuc, ◌+ℤ◌, ◌*ℤ◌, ◌≤ℤ◌, ◌⊎◌, Bool, true, List, [], length, take, All, Contains, slice_index_or, unsigned_abs}
 use Rattle.std.specs.List.Sorted.{IsNonDecreasingBy}
 use Rattle.linear.specs.declared.form.Term.{Term}
 use Rattle.linear.specs.declared.form.Fact.{Fact}
@@ -8,17 +8,22 @@ use Rattle.entailment.specs.declared.index.Entry.{Entry}
 use Rattle.entailment.specs.Search.{factors}
 use Rattle.entailment.specs.Shown.{IsSum, sides}
 
-abbrev pub spread : ℕ → ℕ
-spread r = (r % 65536 * 7368787 + 12345) % 16777213
+abbrev pub spread : ℕ → ℕ → ℕ
+spread step r = (r % 65536 * step + 12345) % 16777213
 
+abbrev pub spread_square : ℕ → ℕ → ℕ
+spread_square step r = spread step r * spread step r % 16777213
+
+-- two numbers, so that hardly any two forms of few registers share a key
 unfoldable pub weight : ℕ → ℕ
-weight r = spread r * spread r % 16777213
+weight r = spread_square 7368787 r * 2 ^ 48 + spread_square 3141601 r
 
 abbrev pub weigh : List Term → ℤ
 weigh terms = value_of (λ r. pos (weight r)) terms
 
-abbrev pub IsKeyOf : List Term → ℕ → Type 0
-IsKeyOf terms key = pos key ≡ weigh terms +ℤ pos (2 ^ 61)
+pub record IsKeyOf (terms : List Term) (key : ℕ) : Type 0 where
+  pub value : pos key ≡ weigh terms +ℤ pos (2 ^ 100)
+  pub small : key < 2 ^ 101
 
 -- 1 with the sign of a coefficient
 abbrev pub one_of : ℤ → ℤ
@@ -32,6 +37,8 @@ place_at facts place = slice_index_or (sides facts) place (constant_form (pos 0)
 pub record IsEntry (facts : List Fact) (entry : Entry) : Type 0 where
   pub within : entry.place ≤ length facts
   pub key : IsKeyOf (place_at facts entry.place).terms entry.key
+  pub constant : entry.constant ≡ (place_at facts entry.place).constant
+  pub small : unsigned_abs entry.constant < 2 ^ 100
 
 -- it says what the other says, and maybe more
 pub record IsAsStrong (f g : Combination) : Type 0 where
@@ -110,9 +117,20 @@ IsMadeUpByA facts e entries = (a : ℕ) × Contains (factors e.terms) a × IsMad
 abbrev pub AreNotB : List Fact → Combination → List Entry → ℕ → ℕ → Type 0
 AreNotB facts e entries a count = All (λ b. IsMadeUpWith facts e entries a b → ⊥) (take count (factors e.terms))
 
+abbrev pub AreSmallKeys : List Entry → Type 0
+AreSmallKeys entries = All (λ (e : Entry). e.key < 2 ^ 101) entries
+
+abbrev pub AreSmallConstants : List Entry → Type 0
+AreSmallConstants entries = All (λ (e : Entry). unsigned_abs e.constant < 2 ^ 100) entries
+
 -- the keys of two entries come to a total
 abbrev pub Meet : List Entry → ℕ → ℕ → ℕ → ℕ → ℕ → Type 0
 Meet entries a b total i k = (d : Entry) → a * (slice_index_or entries i d).key + b * (slice_index_or entries k d).key ≡ total
+
+-- the same, where their constants come to no more than a bound, a times both
+abbrev pub MeetWithin : List Entry → ℕ → ℕ → ℤ → ℕ → ℕ → Type 0
+MeetWithin entries a total most i k = Meet entries 1 1 total i k
+    × ((d : Entry) → ((pos a *ℤ (slice_index_or entries i d).constant) +ℤ (pos a *ℤ (slice_index_or entries k d).constant)) ≤ℤ most)
 
 -- a first one is left from a place on, and a second one before another; those in either order count once where the factors are the same
 pub record IsOpen (many a b first count : ℕ) : Type 0 where

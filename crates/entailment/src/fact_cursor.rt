@@ -14,6 +14,8 @@ pub struct FactCursor<'a> {
     facts: &'a [Fact],
     count: usize,
     entries: Vec<Entry>,
+    /// Where the entries are merged with others.
+    room: Vec<Entry>,
     /// How many places have entries, and whether they are consistent.
     entered: Entered,
 }
@@ -50,6 +52,7 @@ impl<'a> FactCursor<'a> {
             facts,
             count: facts.len(),
             entries: Vec::new(alloc),
+            room: Vec::new(alloc),
             entered: nothing_entered(),
         }
     }
@@ -75,7 +78,7 @@ impl<'a> FactCursor<'a> {
         if facts.len() <= FEW {
             return Ok(());
         }
-        match enter_from(facts, &mut self.entries, self.entered) {
+        match enter_from(facts, &mut self.entries, &mut self.room, self.entered) {
             Ok(entered) => {
                 self.entered = entered;
                 Ok(())

@@ -12,6 +12,8 @@ use std::marker::Model;
 pub struct FactList {
     facts: Vec<Fact>,
     entries: Vec<Entry>,
+    /// Where the entries are merged with others.
+    room: Vec<Entry>,
     /// How many places have entries, and whether they are consistent.
     entered: Entered,
 }
@@ -22,6 +24,7 @@ impl Drop for FactList {
         let FactList {
             facts: _,
             entries: _,
+            room: _,
             entered: _,
         } = self;
     }
@@ -47,6 +50,7 @@ impl FactList {
         FactList {
             facts: Vec::new(alloc),
             entries: Vec::new(alloc),
+            room: Vec::new(alloc),
             entered: nothing_entered(),
         }
     }
@@ -58,6 +62,7 @@ impl FactList {
         FactList {
             facts,
             entries: Vec::new(alloc),
+            room: Vec::new(alloc),
             entered: nothing_entered(),
         }
     }
@@ -89,7 +94,8 @@ impl FactList {
         if self.facts.len() <= FEW {
             return Ok(());
         }
-        match enter_from(self.facts.as_slice(), &mut self.entries, self.entered) {
+        let facts = self.facts.as_slice();
+        match enter_from(facts, &mut self.entries, &mut self.room, self.entered) {
             Ok(entered) => {
                 self.entered = entered;
                 Ok(())
@@ -121,6 +127,7 @@ impl FactList {
         let FactList {
             facts,
             entries: _,
+            room: _,
             entered: _,
         } = self;
         facts

@@ -5,7 +5,7 @@ ghost use Rattle.entailment.specs.Index.{IsKeyOf, IsIndex};
 ghost use Rattle.entailment.specs.Tested.{is_shown};
 
 use crate::index::{Entry, FEW, index_of};
-use crate::lookup::{Search, made_up, made_up_alone, made_up_by_bounds, made_up_by_terms};
+use crate::lookup::{Search, made_up, made_up_alone, made_up_by_bounds};
 use crate::show::shown;
 use crate::weight::key_of;
 use linear::{Fact, Form, side_of};
@@ -23,7 +23,7 @@ fn newest(facts: &[Fact]) -> &[Fact]
 }
 
 /// The key of a form's terms.
-fn key_of_form(form: &Form) -> Option<u64>
+fn key_of_form(form: &Form) -> Option<u128>
     ensures { IfSome result (IsKeyOf form.now.terms) }
 {
     key_of(side_of(form).terms)
@@ -32,6 +32,7 @@ fn key_of_form(form: &Form) -> Option<u64>
 /// Whether one of the facts shows the form.
 fn shown_by_one(search: &Search<'_>) -> bool
     requires index { IsIndex search.now.facts.now (suc (length search.now.facts.now)) search.now.entries.now }
+    requires key { IsKeyOf search.now.form.now.terms search.now.key }
     ensures { IsTrue result → is_shown search.now.facts.now search.now.form.now ≡ true }
 {
     made_up_alone(search)
@@ -43,15 +44,6 @@ fn shown_by_bounds(search: &Search<'_>) -> bool
     ensures { IsTrue result → is_shown search.now.facts.now search.now.form.now ≡ true }
 {
     made_up_by_bounds(search)
-}
-
-/// Whether two facts show the form, one for each of its two terms.
-fn shown_by_terms(search: &Search<'_>) -> bool
-    requires index { IsIndex search.now.facts.now (suc (length search.now.facts.now)) search.now.entries.now }
-    requires key { IsKeyOf search.now.form.now.terms search.now.key }
-    ensures { IsTrue result → is_shown search.now.facts.now search.now.form.now ≡ true }
-{
-    made_up_by_terms(search)
 }
 
 /// Whether two of the newest facts show the form. They are tried where there are so many entries that the search among them all takes longer.
@@ -74,8 +66,7 @@ fn shown_by_two(search: &Search<'_>) -> bool
     made_up(search)
 }
 
-/// Whether the facts show the form, by their index. Most forms are shown by one fact, by a bound of each register, by two of the newest
-/// facts, or by one for each term.
+/// Whether the facts show the form, by their index. Most forms are shown by one fact, by a bound of each register, or by two of the newest facts.
 fn shown_by_search(search: &Search<'_>) -> bool
     requires index { IsIndex search.now.facts.now (suc (length search.now.facts.now)) search.now.entries.now }
     requires key { IsKeyOf search.now.form.now.terms search.now.key }
@@ -88,9 +79,6 @@ fn shown_by_search(search: &Search<'_>) -> bool
         return true;
     }
     if shown_by_newest(search) {
-        return true;
-    }
-    if shown_by_terms(search) {
         return true;
     }
     shown_by_two(search)

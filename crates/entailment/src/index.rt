@@ -19,10 +19,12 @@ pub const FEW: usize = 4;
 /// So many facts and more are entered at once: the entries are copied then, and not moved anew for each.
 const MANY: usize = 8;
 
-/// A fact by its place: 0 stands for an absent one, 1 for the first.
+/// A fact by its place: 0 stands for an absent one, 1 for the first. Its constant stands here, too, so that most facts that do not serve are passed
+/// over without a look at them.
 #[derive(Clone, Copy)]
 pub struct Entry {
-    pub key: u64,
+    pub key: u128,
+    pub constant: i128,
     pub place: usize,
 }
 
@@ -50,9 +52,26 @@ pub fn entry_at(facts: &[Fact], place: usize) -> Option<Entry>
     ensures entry { IfSome result (IsEntry facts.now) }
     ensures place { IfSome result (λ entry. entry.place ≡ place) }
 {
-    match key_of(side_of_place(facts, place).terms) {
-        Some(key) => Some(Entry { key, place }),
+    let side = side_of_place(facts, place);
+    match key_of(side.terms) {
+        Some(key) => Some(Entry {
+            key,
+            constant: side.constant,
+            place,
+        }),
         None => None,
+    }
+}
+
+/// The entry of an absent fact.
+pub fn no_fact(facts: &[Fact]) -> Entry
+    ensures entry { IsEntry facts.now result }
+    ensures place { result.place ≡ 0 }
+{
+    Entry {
+        key: 1_267_650_600_228_229_401_496_703_205_376,
+        constant: 0,
+        place: 0,
     }
 }
 
@@ -129,7 +148,13 @@ fn is_contradiction(facts: &[Fact], one: usize, other: usize) -> bool
 }
 
 /// Whether one of the entries from a place on that have this key contradicts what stands at a place.
-fn contradicted_from(facts: &[Fact], entries: &[Entry], from: usize, key: u64, place: usize) -> bool
+fn contradicted_from(
+    facts: &[Fact],
+    entries: &[Entry],
+    from: usize,
+    key: u128,
+    place: usize,
+) -> bool
     requires place { place ≤ length facts.now }
     requires own { All (IsEntry facts.now) entries.now }
     requires sorted { IsNonDecreasingBy (λ (e : Entry). e.key) entries.now }
@@ -156,10 +181,7 @@ pub fn contradicts(facts: &[Fact], entries: &[Entry], entry: Entry) -> bool
     requires sorted { IsNonDecreasingBy (λ (e : Entry). e.key) entries.now }
     ensures { (d : Entry) → result ≡ false → Contains entries.now d → IsContradiction (place_at facts.now entry.place) (place_at facts.now d.place) → ⊥ }
 {
-    if entry.key > 4_611_686_018_427_387_904 {
-        return false;
-    }
-    let wanted = 4_611_686_018_427_387_904 - entry.key;
+    let wanted = 2_535_301_200_456_458_802_993_406_410_752 - entry.key;
     let from = entries.partition_point(|other| other.key < wanted);
     contradicted_from(facts, entries, from, wanted, entry.place)
 }
@@ -227,17 +249,19 @@ fn enter_each(
     })
 }
 
-/// Enters the facts from a place on, many of them at once, and answers up to where: one past the range of keys stops it.
+/// Enters the facts from a place on, many of them at once, and answers up to where: one past the range of keys stops it. What stands in the room does not
+/// matter, its memory is used.
 pub fn enter_from(
     facts: &[Fact],
     entries: &mut Vec<Entry>,
+    room: &mut Vec<Entry>,
     from: Entered,
 ) -> Result<Entered, AllocError>
     requires { IsBegun facts.now from.count entries.old.items from.is_consistent }
     ensures { IfOk result (λ r. IsBegun facts.now r.count entries.new.items r.is_consistent) }
 {
     if from.count.saturating_add(MANY) <= facts.len() {
-        if let Some(entered) = enter_many(facts, entries, from)? {
+        if let Some(entered) = enter_many(facts, entries, room, from)? {
             return Ok(entered);
         }
     }
@@ -249,7 +273,8 @@ pub fn index_of(alloc: Global, facts: &[Fact]) -> Result<Option<Vec<Entry>>, All
     ensures { IfOk result (λ index. IfSome index (λ entries. IsIndex facts.now (suc (length facts.now)) entries.items)) }
 {
     let mut entries: Vec<Entry> = Vec::new(alloc);
-    let entered = enter_from(facts, &mut entries, nothing_entered())?;
+    let mut room: Vec<Entry> = Vec::new(alloc);
+    let entered = enter_from(facts, &mut entries, &mut room, nothing_entered())?;
     if entered.count > facts.len() {
         Ok(Some(entries))
     } else {

@@ -9,8 +9,8 @@ ghost use Rattle.entailment.specs.Index.{place_at, IsKeyOf, IsEntry, IsIndex, Is
 ghost use Rattle.entailment.specs.Shown.{IsSum, IsShown};
 ghost use Rattle.entailment.specs.declared.index.Entry.{Entry};
 
-use crate::index::{Entry, side_of_place};
-use crate::meeting::{is_open, next_meeting, times, total_of};
+use crate::index::{Entry, no_fact, side_of_place};
+use crate::meeting::{fallen, is_open, left_after, next_two, risen, times, total_of};
 use crate::show::{agree, factor, is_at_most};
 use crate::weight::bound_key;
 use linear::{Fact, Form, Term, side_of};
@@ -21,92 +21,122 @@ pub struct Search<'a> {
     pub facts: &'a [Fact],
     pub entries: &'a [Entry],
     pub form: &'a Form,
-    pub key: u64,
+    pub key: u128,
 }
 
-/// What b times a key has to be where one fact makes up a form of this key; none where it would be below 0.
-fn wanted(key: u64, b: u32) -> Option<u128>
-    ensures some { IfSome result (λ wanted. wanted + 2 ^ 61 ≡ b * 2 ^ 61 + key) }
-{
-    let whole = u128::from(b) * 2_305_843_009_213_693_952 + u128::from(key);
-    if whole < 2_305_843_009_213_693_952 {
-        return None;
-    }
-    Some(whole - 2_305_843_009_213_693_952)
-}
-
-/// Those at the end of the first entries of which b times the key is this.
-fn run_before(entries: &[Entry], upto: usize, b: u32, wanted: u128) -> &[Entry]
-    requires sorted { IsNonDecreasingBy (λ (e : Entry). e.key) entries.now }
-    requires upto { upto ≤ length entries.now }
-    ensures within { (e : Entry) → Contains result.now e → Contains entries.now e }
-    // All of them, where none of the first entries is past it.
-    ensures all { ((d : Entry) → 0 < upto → b * (slice_index_or entries.now (upto - 1) d).key ≤ wanted)
-        → (k : ℕ) (d : Entry) → k < upto → b * (slice_index_or entries.now k d).key ≡ wanted → Contains result.now (slice_index_or entries.now k d) }
-{
-    let mut from = upto;
-    while from > 0 {
-        let at_end = times(b, entries[from - 1].key);
-        if at_end != wanted {
-            return &entries[from..upto];
-        }
-        from -= 1;
-    }
-    &entries[..upto]
-}
-
-/// Whether the form is a times one place and b times another, and a constant that is not below 0.
-fn is_sum(facts: &[Fact], form: &Form, first: usize, a: u32, second: usize, b: u32) -> bool
-    requires first { first ≤ length facts.now }
-    requires second { second ≤ length facts.now }
-    requires a { a ≤ 2 ^ 24 }
-    requires b { b ≤ 2 ^ 24 }
-    ensures { IsTrue result ↔ IsSum form.now a (place_at facts.now first) b (place_at facts.now second) }
-{
-    let e = side_of(form);
-    let f = side_of_place(facts, first);
-    let g = side_of_place(facts, second);
-    is_at_most(a, f.constant, b, g.constant, e.constant) && agree(e.terms, a, f.terms, b, g.terms)
-}
-
-/// Whether one of the entries makes the form up with the first fact.
-fn some_makes_up(search: &Search<'_>, run: &[Entry], first: usize, a: u32, b: u32) -> bool
-    requires first { first ≤ length search.now.facts.now }
-    requires run { All (IsEntry search.now.facts.now) run.now }
+/// Whether the form is a times one entry's fact and b times another's, and a constant that is not below 0.
+fn is_sum(search: &Search<'_>, first: Entry, a: u32, second: Entry, b: u32) -> bool
+    requires first { IsEntry search.now.facts.now first }
+    requires second { IsEntry search.now.facts.now second }
     requires a { a ≤ 2 ^ 24 }
     requires b { b ≤ 2 ^ 24 }
     ensures { IsTrue result
-        ↔ ((e : Entry) × Contains run.now e × IsSum search.now.form.now a (place_at search.now.facts.now first) b (place_at search.now.facts.now e.place)) }
+        ↔ IsSum search.now.form.now a (place_at search.now.facts.now first.place) b (place_at search.now.facts.now second.place) }
 {
-    for entry in run {
-        if is_sum(search.facts, search.form, first, a, entry.place, b) {
+    let e = side_of(search.form);
+    if !is_at_most(a, first.constant, b, second.constant, e.constant) {
+        return false;
+    }
+    let f = side_of_place(search.facts, first.place);
+    let g = side_of_place(search.facts, second.place);
+    agree(e.terms, a, f.terms, b, g.terms)
+}
+
+/// Whether the first fact makes the form up with one of those whose key is that of the last before a place, and which stand before it, too.
+fn is_made_up(search: &Search<'_>, first: usize, upto: usize, a: u32, b: u32) -> bool
+    requires index { IsIndex search.now.facts.now (suc (length search.now.facts.now)) search.now.entries.now }
+    requires first { first < length search.now.entries.now }
+    requires some { 0 < upto }
+    requires upto { upto ≤ length search.now.entries.now }
+    requires a { a ≤ 2 ^ 24 }
+    requires b { b ≤ 2 ^ 24 }
+    ensures made { (d : Entry) → IsTrue result → IsMadeUp search.now.facts.now search.now.form.now
+        (place_at search.now.facts.now (slice_index_or search.now.entries.now first d).place) a b }
+    ensures none { (d : Entry) (k : ℕ) → result ≡ false → k < upto
+        → (slice_index_or search.now.entries.now k d).key ≡ (slice_index_or search.now.entries.now (upto - 1) d).key
+        → IsSum search.now.form.now a (place_at search.now.facts.now (slice_index_or search.now.entries.now first d).place)
+        b (place_at search.now.facts.now (slice_index_or search.now.entries.now k d).place) → ⊥ }
+{
+    let fact = search.entries[first];
+    let last = search.entries[upto - 1];
+    if is_sum(search, fact, a, last, b) {
+        return true;
+    }
+    let mut count = upto - 1;
+    while count > 0 {
+        let second = search.entries[count - 1];
+        if second.key != last.key {
+            return false;
+        }
+        if is_sum(search, fact, a, second, b) {
             return true;
+        }
+        count -= 1;
+    }
+    false
+}
+
+/// Whether a times a fact and b times another one make the form up. As the key of the first one rises, that of the second one falls.
+fn made_up_apart(search: &Search<'_>, a: u32, b: u32) -> bool
+    requires index { IsIndex search.now.facts.now (suc (length search.now.facts.now)) search.now.entries.now }
+    requires key { IsKeyOf search.now.form.now.terms search.now.key }
+    requires a { a ≤ 2 ^ 24 }
+    requires b { b ≤ 2 ^ 24 }
+    requires some { 0 < b }
+    ensures { IsTrue result ↔ IsMadeUpWith search.now.facts.now search.now.form.now search.now.entries.now a b }
+{
+    let entries = search.entries;
+    let total = total_of(search.key, a, b);
+    let mut at = 0;
+    let mut upto = entries.len();
+    while is_open(entries.len(), a, b, at, upto) {
+        let of_first = times(a, entries[at].key);
+        let of_second = times(b, entries[upto - 1].key);
+        let both = of_first + of_second;
+        if both < total {
+            at = risen(entries, at + 1, a, of_second, total);
+        } else if total < both {
+            upto = fallen(entries, upto - 1, b, of_first, total);
+        } else if is_made_up(search, at, upto, a, b) {
+            return true;
+        } else {
+            upto = left_after(entries, a, at, upto);
+            at += 1;
         }
     }
     false
 }
 
-/// Whether the first fact makes the form up with one of those whose key is that of the second one, and which stand before it.
-fn is_made_up(search: &Search<'_>, first: usize, count: usize, a: u32, b: u32) -> bool
+/// Whether two facts, each a times, make the form up.
+fn made_up_twice(search: &Search<'_>, a: u32) -> bool
     requires index { IsIndex search.now.facts.now (suc (length search.now.facts.now)) search.now.entries.now }
-    requires first { first < length search.now.entries.now }
-    requires some { 0 < count }
-    requires count { count ≤ length search.now.entries.now }
+    requires key { IsKeyOf search.now.form.now.terms search.now.key }
     requires a { a ≤ 2 ^ 24 }
-    requires b { b ≤ 2 ^ 24 }
-    ensures made { (d : Entry) → IsTrue result → IsMadeUp search.now.facts.now search.now.form.now
-        (place_at search.now.facts.now (slice_index_or search.now.entries.now first d).place) a b }
-    ensures none { (d : Entry) (k : ℕ) → result ≡ false → k < count
-        → b * (slice_index_or search.now.entries.now k d).key ≡ b * (slice_index_or search.now.entries.now (count - 1) d).key
-        → IsSum search.now.form.now a (place_at search.now.facts.now (slice_index_or search.now.entries.now first d).place)
-        b (place_at search.now.facts.now (slice_index_or search.now.entries.now k d).place) → ⊥ }
+    requires some { 0 < a }
+    ensures { IsTrue result ↔ IsMadeUpWith search.now.facts.now search.now.form.now search.now.entries.now a a }
 {
-    let wanted = times(b, search.entries[count - 1].key);
-    let run = run_before(search.entries, count, b, wanted);
-    some_makes_up(search, run, search.entries[first].place, a, b)
+    let whole = total_of(search.key, a, a);
+    if whole % u128::from(a) != 0 {
+        return false;
+    }
+    let total = whole / u128::from(a);
+    let mut at = 0;
+    let mut upto = search.entries.len();
+    while at < upto {
+        let (first, count) = next_two(search.entries, a, total, search.form, at, upto);
+        if count <= first {
+            return false;
+        }
+        if is_made_up(search, first, count, a, a) {
+            return true;
+        }
+        upto = left_after(search.entries, a, first, count);
+        at = first + 1;
+    }
+    false
 }
 
-/// Whether a times a fact and b times another one make the form up. As the key of the first one rises, that of the second one falls.
+/// Whether a times a fact and b times another one make the form up.
 fn made_up_with(search: &Search<'_>, a: u32, b: u32) -> bool
     requires index { IsIndex search.now.facts.now (suc (length search.now.facts.now)) search.now.entries.now }
     requires key { IsKeyOf search.now.form.now.terms search.now.key }
@@ -115,20 +145,42 @@ fn made_up_with(search: &Search<'_>, a: u32, b: u32) -> bool
     requires some { 0 < b }
     ensures { IsTrue result ↔ IsMadeUpWith search.now.facts.now search.now.form.now search.now.entries.now a b }
 {
-    let many = search.entries.len();
-    let total = total_of(search.key, a, b);
-    let mut at = 0;
-    let mut upto = many;
-    while is_open(many, a, b, at, upto) {
-        let (first, count) = next_meeting(search.entries, a, b, total, at, upto);
-        if !is_open(many, a, b, first, count) {
+    if a == b {
+        made_up_twice(search, b)
+    } else {
+        made_up_apart(search, a, b)
+    }
+}
+
+/// The key of a fact of which b times makes up a form of this key; none where no key is that.
+fn wanted(key: u128, b: u32) -> Option<u128>
+    requires key { key < 2 ^ 101 }
+    requires b { b ≤ 2 ^ 24 }
+    requires some { 0 < b }
+    ensures some { IfSome result (λ wanted. b * wanted + 2 ^ 100 ≡ b * 2 ^ 100 + key) }
+{
+    let whole = u128::from(b - 1) * 1_267_650_600_228_229_401_496_703_205_376 + key;
+    if whole % u128::from(b) == 0 {
+        Some(whole / u128::from(b))
+    } else {
+        None
+    }
+}
+
+/// Whether b times one of the entries of this key, from a place on, makes the form up.
+fn is_made_up_from(search: &Search<'_>, from: usize, key: u128, b: u32) -> bool
+    requires index { IsIndex search.now.facts.now (suc (length search.now.facts.now)) search.now.entries.now }
+    requires b { b ≤ 2 ^ 24 }
+    ensures { IsTrue result → IsMadeUp search.now.facts.now search.now.form.now (place_at search.now.facts.now 0) 1 b }
+{
+    for k in from..search.entries.len() {
+        let entry = search.entries[k];
+        if entry.key != key {
             return false;
         }
-        if is_made_up(search, first, count, a, b) {
+        if is_sum(search, no_fact(search.facts), 1, entry, b) {
             return true;
         }
-        at = first + 1;
-        upto = count;
     }
     false
 }
@@ -136,16 +188,17 @@ fn made_up_with(search: &Search<'_>, a: u32, b: u32) -> bool
 /// Whether b times a fact makes the form up.
 fn is_made_up_alone(search: &Search<'_>, b: u32) -> bool
     requires index { IsIndex search.now.facts.now (suc (length search.now.facts.now)) search.now.entries.now }
+    requires key { IsKeyOf search.now.form.now.terms search.now.key }
     requires b { b ≤ 2 ^ 24 }
     ensures { IsTrue result → IsMadeUp search.now.facts.now search.now.form.now (place_at search.now.facts.now 0) 1 b }
 {
+    if b == 0 {
+        return false;
+    }
     match wanted(search.key, b) {
-        Some(wanted) => {
-            let upto = search
-                .entries
-                .partition_point(|e| times(b, e.key) <= wanted);
-            let run = run_before(search.entries, upto, b, wanted);
-            some_makes_up(search, run, 0, 1, b)
+        Some(key) => {
+            let from = search.entries.partition_point(|e| e.key < key);
+            is_made_up_from(search, from, key, b)
         }
         None => false,
     }
@@ -154,6 +207,7 @@ fn is_made_up_alone(search: &Search<'_>, b: u32) -> bool
 /// Whether one fact makes the form up.
 pub fn made_up_alone(search: &Search<'_>) -> bool
     requires index { IsIndex search.now.facts.now (suc (length search.now.facts.now)) search.now.entries.now }
+    requires key { IsKeyOf search.now.form.now.terms search.now.key }
     ensures { IsTrue result → IsShown search.now.facts.now search.now.form.now }
 {
     let terms = side_of(search.form).terms;
@@ -207,15 +261,15 @@ fn made_up_by_b(search: &Search<'_>, a: u32, from: usize) -> bool
     false
 }
 
-/// A place that an entry of this key stands for; 0 where there is none.
-fn place_of_key(search: &Search<'_>, key: u64) -> usize
+/// An entry of this key, or that of an absent fact.
+fn entry_of_key(search: &Search<'_>, key: u128) -> Entry
     requires index { IsIndex search.now.facts.now (suc (length search.now.facts.now)) search.now.entries.now }
-    ensures { result ≤ length search.now.facts.now }
+    ensures { IsEntry search.now.facts.now result }
 {
     let from = search.entries.partition_point(|e| e.key < key);
     match search.entries.get(from) {
-        Some(entry) if entry.key == key => entry.place,
-        Some(_) | None => 0,
+        Some(entry) if entry.key == key => *entry,
+        Some(_) | None => no_fact(search.facts),
     }
 }
 
@@ -228,30 +282,9 @@ pub fn made_up_by_bounds(search: &Search<'_>) -> bool
     if terms.len() != 2 {
         return false;
     }
-    let first = place_of_key(search, bound_key(&terms[0]));
-    let second = place_of_key(search, bound_key(&terms[1]));
-    let a = factor(terms, 1);
-    let b = factor(terms, 2);
-    is_sum(search.facts, search.form, first, a, second, b)
-}
-
-/// Whether the form has two terms, and a fact times the size of the one coefficient and another times that of the other make it up: a bound for each
-/// register shows most such forms.
-pub fn made_up_by_terms(search: &Search<'_>) -> bool
-    requires index { IsIndex search.now.facts.now (suc (length search.now.facts.now)) search.now.entries.now }
-    requires key { IsKeyOf search.now.form.now.terms search.now.key }
-    ensures { IsTrue result → IsShown search.now.facts.now search.now.form.now }
-{
-    let terms = side_of(search.form).terms;
-    if terms.len() != 2 {
-        return false;
-    }
-    let a = factor(terms, 1);
-    let b = factor(terms, 2);
-    if b == 0 {
-        return false;
-    }
-    made_up_with(search, a, b)
+    let first = entry_of_key(search, bound_key(&terms[0]));
+    let second = entry_of_key(search, bound_key(&terms[1]));
+    is_sum(search, first, factor(terms, 1), second, factor(terms, 2))
 }
 
 /// Whether the facts make the form up. Two factors make it up in either order, or in none: each pair is tried once.

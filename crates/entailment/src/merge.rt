@@ -1,6 +1,6 @@
 //! The entries of many facts at once: they are sorted, and merged with those that stand.
 
-ghost use Rattle.std.specs.Prelude.{◌≡◌, ◌≤◌, suc, false, All, Contains, IfSome, IfNone, IfOk, OnOk, length};
+ghost use Rattle.std.specs.Prelude.{◌≡◌, ◌≤◌, suc, false, [], All, Contains, IfSome, IfNone, IfOk, OnOk, length};
 ghost use Rattle.std.specs.List.Sorted.{IsNonDecreasingBy};
 ghost use Rattle.entailment.specs.Index.{place_at, IsEntry, IsIndexed, IsBegun, IsContradiction, AreEntries, HasPlaces};
 ghost use Rattle.entailment.specs.declared.index.Entry.{Entry};
@@ -8,6 +8,7 @@ ghost use Rattle.entailment.specs.declared.index.Entry.{Entry};
 use crate::index::{Entered, Entry, contradicts, enter, entry_at};
 use linear::Fact;
 use std::alloc::{AllocError, Global};
+use std::mem;
 
 /// The entries of all places from one on, by rising keys; none where a value is past the range of keys.
 fn entries_from(
@@ -28,31 +29,31 @@ fn entries_from(
     Ok(Some(entries))
 }
 
-/// Entries with fresh ones among them, of which those with rising keys are entered soonest.
-fn merged(
-    alloc: Global,
+/// Makes a list of entries with fresh ones among them, of which those with rising keys are entered soonest.
+fn merge(
     facts: &[Fact],
     entries: &[Entry],
     fresh: &[Entry],
-) -> Result<Vec<Entry>, AllocError>
+    all: &mut Vec<Entry>,
+) -> Result<(), AllocError>
     requires entries { AreEntries facts.now entries.now }
     requires fresh { All (IsEntry facts.now) fresh.now }
-    ensures entries { IfOk result (λ all. AreEntries facts.now all.items) }
-    ensures kept { IfOk result (λ all. (e : Entry) → Contains entries.now e → IsIndexed facts.now all.items e.place) }
-    ensures entered { IfOk result (λ all. All (λ (e : Entry). IsIndexed facts.now all.items e.place) fresh.now) }
+    requires empty { all.old.items ≡ [] }
+    ensures entries { OnOk result (AreEntries facts.now all.new.items) }
+    ensures kept { OnOk result ((e : Entry) → Contains entries.now e → IsIndexed facts.now all.new.items e.place) }
+    ensures entered { OnOk result (All (λ (e : Entry). IsIndexed facts.now all.new.items e.place) fresh.now) }
 {
-    let count = entries.len().saturating_add(fresh.len());
-    let mut all: Vec<Entry> = Vec::with_capacity(alloc, count)?;
+    all.reserve(entries.len().saturating_add(fresh.len()))?;
     let mut rest = entries;
     for entry in fresh {
         let upto = rest.partition_point(|other| other.key <= entry.key);
         let (before, after) = rest.split_at(upto);
         all.extend_from_slice(before)?;
-        enter(facts, &mut all, *entry)?;
+        enter(facts, all, *entry)?;
         rest = after;
     }
     all.extend_from_slice(rest)?;
-    Ok(all)
+    Ok(())
 }
 
 /// Whether what stands at the place of a fresh entry contradicts one of the entries.
@@ -70,10 +71,11 @@ fn one_contradicts(facts: &[Fact], entries: &[Entry], fresh: &[Entry]) -> bool
     false
 }
 
-/// Enters all facts from a place on; nothing where one is past the range of keys.
+/// Enters all facts from a place on; nothing where one is past the range of keys. The room keeps its memory from one time to the next.
 pub fn enter_many(
     facts: &[Fact],
     entries: &mut Vec<Entry>,
+    room: &mut Vec<Entry>,
     from: Entered,
 ) -> Result<Option<Entered>, AllocError>
     requires { IsBegun facts.now from.count entries.old.items from.is_consistent }
@@ -83,10 +85,11 @@ pub fn enter_many(
     let alloc = *entries.allocator();
     match entries_from(alloc, facts, from.count)? {
         Some(fresh) => {
-            let all = merged(alloc, facts, entries.as_slice(), fresh.as_slice())?;
+            room.clear();
+            merge(facts, entries.as_slice(), fresh.as_slice(), room)?;
             let is_consistent = from.is_consistent
-                && !one_contradicts(facts, all.as_slice(), fresh.as_slice());
-            *entries = all;
+                && !one_contradicts(facts, room.as_slice(), fresh.as_slice());
+            mem::swap(entries, room);
             Ok(Some(Entered {
                 count: facts.len() + 1,
                 is_consistent,

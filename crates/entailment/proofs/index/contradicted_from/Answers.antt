@@ -1,4 +1,4 @@
-use Rattle.std.proofs.Common.{◌≡◌, ◌∙◌, get_or, inl, inr, sym, ap, subst, arith}
+use Rattle.std.proofs.Common.{◌≡◌, ◌∙◌, pos, get_or, inl, inr, sym, ap, subst, arith}
 use Rattle.std.proofs.lemmas.Bool.{false≢true, cases_eq, cases_lt}
 use Rattle.std.proofs.lemmas.List.{get_or_default}
 use Rattle.entailment.specs.declared.index.Entry.{Entry}
@@ -7,7 +7,7 @@ use Rattle.entailment.proofs.Indexing.{past_key}
 use Rattle.entailment.proofs.index.contradicted_from.Goals as goal
 
 abbrev none : Entry
-none = record { key = 0; place = 0 }
+none = record { key = 0; constant = pos 0; place = 0 }
 
 pub returns-then-other-key : goal.returns-then-other-key
 returns-then-other-key c = λ k d no le l is s.

@@ -7,16 +7,9 @@ use Rattle.entailment.specs.Index.{place_at, IsEntry, IsContradiction}
 use Rattle.entailment.proofs.Indexing.{contradiction_keys}
 use Rattle.entailment.proofs.index.contradicts.Goals as goal
 
-pub returns-then-entry-gt4611686018427387904 : goal.returns-then-entry-gt4611686018427387904
-returns-then-entry-gt4611686018427387904 c = λ d no d_in s.
-    let facts = c.args.facts.now in
-    let own = All-contains (IsEntry facts) c.args.entries.now d c.requires.own d_in in
-    let keys = contradiction_keys (place_at facts c.args.entry.place) (place_at facts d.place) c.args.entry.key d.key c.requires.entry.key own.key s in
-    omega (arith, keys, c.if-entry-gt4611686018427387904.true)
-
 pub contradicted_from-requires-clause-above : goal.contradicted_from-requires-clause-above
 contradicted_from-requires-clause-above c = λ k d le l.
-    let wanted = 4611686018427387904 - c.args.entry.key in
+    let wanted = 2535301200456458802993406410752 - c.args.entry.key in
     let point = IsPartitionPoint-from_clause (λ (e : Entry). ltb e.key wanted) _ _ c.partition_point-from.ensures.partitioned (IsPartitionedBy-ltb (λ (e : Entry). e.key) c.args.entries.now wanted c.requires.sorted) (λ a r q k. search rules) in
     ltb-false _ _ (point.1 k d le l)
 
@@ -24,7 +17,7 @@ pub returns : goal.returns
 returns c = λ d no d_in s.
     let facts = c.args.facts.now in
     let es = c.args.entries.now in
-    let wanted = 4611686018427387904 - c.args.entry.key in
+    let wanted = 2535301200456458802993406410752 - c.args.entry.key in
     let point = IsPartitionPoint-from_clause (λ (e : Entry). ltb e.key wanted) _ _ c.partition_point-from.ensures.partitioned (IsPartitionedBy-ltb (λ (e : Entry). e.key) c.args.entries.now wanted c.requires.sorted) (λ a r q k. search rules) in
     let own = All-contains (IsEntry facts) es d c.requires.own d_in in
     let keys = contradiction_keys (place_at facts c.args.entry.place) (place_at facts d.place) c.args.entry.key d.key c.requires.entry.key own.key s in

@@ -5,7 +5,7 @@ use Rattle.linear.specs.Forms.{IsRising}
 use Rattle.entailment.specs.Search.{factors}
 use Rattle.entailment.specs.Index.{place_at}
 use Rattle.entailment.proofs.Found.{is_factor}
-use Rattle.entailment.proofs.Indexing.{place_is_side}
+use Rattle.entailment.proofs.Indexing.{side_of_entry}
 use Rattle.entailment.proofs.Parts.{length_factors}
 use Rattle.entailment.proofs.lookup.made_up_by_bounds.Goals as goal
 
@@ -16,19 +16,19 @@ returns c = λ h.
     let same = c.side_of.ensures.terms in
     let rises : IsRising e.terms = rw same at c.side_of.ensures.rising in
     let two = c.if-terms-ne2.false in
-    let is_a : c.factor-a.result ≡ get_or (factors e.terms) 1 0 = c.factor-a.ensures.value ∙ ap (λ ts. get_or (factors ts) 1 0) same in
-    let is_b : c.factor-b.result ≡ get_or (factors e.terms) 2 0 = c.factor-b.ensures.value ∙ ap (λ ts. get_or (factors ts) 2 0) same in
+    let is_a : c.factor.result ≡ get_or (factors e.terms) 1 0 = c.factor.ensures.value ∙ ap (λ ts. get_or (factors ts) 1 0) same in
+    let is_b : c.factor-2.result ≡ get_or (factors e.terms) 2 0 = c.factor-2.ensures.value ∙ ap (λ ts. get_or (factors ts) 2 0) same in
     let long : 2 < length (factors e.terms) = rw (length_factors e.terms) (omega (arith, two, ap length same)) in
-    let in_a : Contains (factors e.terms) c.factor-a.result = rw is_a (Contains-get_or (factors e.terms) 1 0 (omega (arith, long))) in
-    let in_b : Contains (factors e.terms) c.factor-b.result = rw is_b (Contains-get_or (factors e.terms) 2 0 long) in
+    let in_a : Contains (factors e.terms) c.factor.result = rw is_a (Contains-get_or (factors e.terms) 1 0 (omega (arith, long))) in
+    let in_b : Contains (factors e.terms) c.factor-2.result = rw is_b (Contains-get_or (factors e.terms) 2 0 long) in
     record {
-      f = place_at facts c.place_of_key-first.result;
-      g = place_at facts c.place_of_key-second.result;
-      a = c.factor-a.result;
-      b = c.factor-b.result;
-      f_is = place_is_side facts c.place_of_key-first.result c.place_of_key-first.ensures;
-      g_is = place_is_side facts c.place_of_key-second.result c.place_of_key-second.ensures;
-      a_is = is_factor e c.factor-a.result rises in_a;
-      b_is = is_factor e c.factor-b.result rises in_b;
+      f = place_at facts c.entry_of_key-first.result.place;
+      g = place_at facts c.entry_of_key-second.result.place;
+      a = c.factor.result;
+      b = c.factor-2.result;
+      f_is = side_of_entry facts c.entry_of_key-first.result c.entry_of_key-first.ensures;
+      g_is = side_of_entry facts c.entry_of_key-second.result c.entry_of_key-second.ensures;
+      a_is = is_factor e c.factor.result rises in_a;
+      b_is = is_factor e c.factor-2.result rises in_b;
       sum = c.is_sum.ensures.0 h;
     }

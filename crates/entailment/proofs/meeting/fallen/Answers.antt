@@ -1,10 +1,10 @@
-use Rattle.std.proofs.Common.{◌<◌, ◌-◌, length, arith}
+use Rattle.std.proofs.Common.{pos, ◌<◌, ◌-◌, length, arith}
 use Rattle.entailment.specs.declared.index.Entry.{Entry}
 use Rattle.entailment.proofs.Passing.{above_from}
 use Rattle.entailment.proofs.meeting.fallen.Goals as goal
 
 abbrev none : Entry
-none = record { key = 0; place = 0 }
+none = record { key = 0; constant = pos 0; place = 0 }
 
 pub loop-step-preserved-then-total-times : goal.loop-step-preserved-then-total-times
 loop-step-preserved-then-total-times c =

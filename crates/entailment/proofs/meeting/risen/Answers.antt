@@ -1,10 +1,10 @@
-use Rattle.std.proofs.Common.{◌<◌, ◌+◌, ◌-◌, length, arith}
+use Rattle.std.proofs.Common.{pos, ◌<◌, ◌+◌, ◌-◌, length, arith}
 use Rattle.entailment.specs.declared.index.Entry.{Entry}
 use Rattle.entailment.proofs.Passing.{below_up_to}
 use Rattle.entailment.proofs.meeting.risen.Goals as goal
 
 abbrev none : Entry
-none = record { key = 0; place = 0 }
+none = record { key = 0; constant = pos 0; place = 0 }
 
 pub loop-step-preserved-then-times-beside : goal.loop-step-preserved-then-times-beside
 loop-step-preserved-then-times-beside c =

@@ -12,18 +12,18 @@ returns-after-from-clause-some c =
     let facts = c.args.facts.now in
     let old = c.args.entries.now.items in
     let fresh = c.in-Some.fresh.items in
-    let all = c.in_ok-all-in-Some.all.items in
+    let all = c.merge.new.all.items in
     let has : HasPlaces facts c.args.from.count (suc (length facts)) fresh = rw c.in-Some.is at c.in_ok-fresh.ensures in
-    let kept = rw c.as_slice.ensures.value at c.in_ok-all-in-Some.ensures.kept in
-    let entered = rw c.as_slice-in-Some.ensures.value at c.in_ok-all-in-Some.ensures.entered in
+    let kept = rw c.as_slice.ensures.value at c.in_ok-merge-in-Some.ensures.kept in
+    let entered = rw c.as_slice-in-Some.ensures.value at c.in_ok-merge-in-Some.ensures.entered in
     let begun : (r : Bool) → (r ≡ true → c.args.from.is_consistent ≡ true) →
     (r ≡ true → (e d : Entry) → Contains fresh e → Contains all d → IsContradiction (place_at facts e.place) (place_at facts d.place) → ⊥) → IsBegun facts (length facts + 1) all r = λ r before none.
     subst (λ (n : ℕ). IsBegun facts n all r) (omega arith)
-    (begun_many facts c.args.from.count old fresh all c.args.from.is_consistent r c.requires has c.in_ok-all-in-Some.ensures.entries kept entered before none) in
-    elim c.if-from.branch [
+    (begun_many facts c.args.from.count old fresh all c.args.from.is_consistent r c.requires has c.in_ok-merge-in-Some.ensures.entries kept entered before none) in
+    rw c.swap.ensures.x_after (elim c.if-from.branch [
       | then-from w ↦ begun c.if-from.is_consistent (λ _. w.if-from.true) (λ is e d e_in d_in s.
           w.one_contradicts.ensures e d (not-true w.one_contradicts.result (sym w.is_consistent-is ∙ is))
           (subst (λ (xs : List Entry). Contains xs e) (sym w.as_slice-then-from-2.ensures.value) e_in)
           (subst (λ (xs : List Entry). Contains xs d) (sym w.as_slice-then-from.ensures.value) d_in) s)
       | else-from w ↦ begun c.if-from.is_consistent (λ is. sym w.is_consistent-is ∙ is) (λ is. absurd (false≢true (sym w.if-from.false ∙ (sym w.is_consistent-is ∙ is))))
-    ]
+    ])

@@ -6,5 +6,5 @@ use Rattle.entailment.proofs.weight.weigh.Given as goal
 abbrev pub invariant-loop-term : goal.invariant-loop-term
 invariant-loop-term l = record {
   value : l.sum +ℤ weigh (drop l.term-index l.terms) ≡ weigh l.terms;
-  small : unsigned_abs l.sum < 2 ^ 61;
+  small : unsigned_abs l.sum < 2 ^ 100;
 }

@@ -1,14 +1,14 @@
-use Rattle.std.proofs.Common.{◌≡◌, ◌∙◌, ◌≤◌, ◌++◌, ◌+◌, false, take, drop, get_or, leb, sym, ap, arith, rules}
+use Rattle.std.proofs.Common.{◌≡◌, ◌∙◌, pos, ◌≤◌, ◌++◌, ◌+◌, false, take, drop, get_or, leb, sym, ap, arith, rules}
 use Rattle.std.specs.List.{Contains}
 use Rattle.std.proofs.lemmas.Bool.{leb-false}
 use Rattle.std.proofs.lemmas.List.{length-drop, get_or-drop, take_all}
 use Rattle.std.proofs.lemmas.List.Sorted.{IsPartitionPoint-from_clause, IsPartitionedBy-leb}
 use Rattle.entailment.specs.declared.index.Entry.{Entry}
 use Rattle.entailment.proofs.Merging.{merging_poured, merging_entered, all_merged, all_kept, all_entered}
-use Rattle.entailment.proofs.merge.merged.Goals as goal
+use Rattle.entailment.proofs.merge.merge.Goals as goal
 
 abbrev none : Entry
-none = record { key = 0; place = 0 }
+none = record { key = 0; constant = pos 0; place = 0 }
 
 pub enter-requires-clause-entries : goal.enter-requires-clause-entries
 enter-requires-clause-entries c =
