@@ -1,23 +1,14 @@
-//! The tickets of tasks that may be stolen: each worker has a list, to which it adds and from which it takes at one end,
-//! and from whose other end thieves take (Blumofe and Leiserson, "Scheduling multithreaded computations by work stealing").
-//!
-//! A list changes by three kinds of atomic step: the owner's offer at the back, the owner's taking of the newest, and a
-//! thief's taking of the oldest. `specs/TicketList.antt` says what is known of it at each moment, however the threads run.
+//! A run on threads: each worker does strands of its own, offers the tickets of tasks that may be stolen, and takes those of other workers when it has none
+//! (Blumofe and Leiserson, "Scheduling multithreaded computations by work stealing"). The lists of tickets are those of `ticket_lists`.
 #![tactic(auto)]
 
 mod alone;
 mod gate;
-mod hands;
-mod law;
-mod taken;
 mod threads;
-mod ticket_list;
 mod turns;
 mod work;
 mod workers;
 
 pub use gate::{Gate, OpenGate};
-pub use hands::{Hands, Thief};
-pub use law::each_as_often;
-pub use taken::Taken;
 pub use threads::run;
+pub use ticket_lists::{Hands, Taken, Thief, each_as_often};

@@ -3,12 +3,11 @@ ghost use Rattle.std.specs.Prelude.{◌≡◌, vec_len, vec_capacity, ◌≤◌,
 ghost use Rattle.shared_run.specs.crew.Starts.{ArePlaces};
 ghost use Rattle.shared_run.specs.schedule_core.Strands.{IsMadeOf};
 
-use crate::hands::{Hands, Thief};
-use crate::taken::Taken;
 use lists::OutOfMemory;
 use shared_run::{Bench, Places, Seat, Strand, Ticket, Verified, blank_strand};
 use std::alloc::Global;
 use std::sync::Mutex;
+use ticket_lists::{Hands, Taken, Thief};
 
 /// A worker: its seat, its strand, its tickets, and its ends of the others' tickets, from the next worker on.
 #[derive(Drop)]

@@ -3,9 +3,9 @@ use Rattle.std.specs.Prelude.{◌≡◌, ◌≢◌, ℕ, ◌==◌, ◌+◌, ◌�
 use mathlib.Core.Option.{some}
 use lib.ListN.{get_elem?}
 use Rattle.shared_run.specs.declared.ticket.Ticket.{Ticket}
-use Rattle.deque_pool.specs.declared.ticket_list.Move.{Move}
-use Rattle.deque_pool.specs.declared.ticket_list.Move.TheVariants.{Offer, Newest, Oldest}
-use Rattle.deque_pool.specs.declared.ticket_list.View.{View}
+use Rattle.ticket_lists.specs.declared.ticket_list.Move.{Move}
+use Rattle.ticket_lists.specs.declared.ticket_list.Move.TheVariants.{Offer, Newest, Oldest}
+use Rattle.ticket_lists.specs.declared.ticket_list.View.{View}
 
 -- a step: the seat that made it, and what it was. The seat 0 is the owner's
 abbrev pub Turn : Type 0

@@ -1,9 +1,9 @@
 -- What a thief's call does.
 use Rattle.std.specs.Prelude.{◌≡◌}
-use Rattle.deque_pool.specs.declared.ticket_list.Move.TheVariants.{Oldest}
-use Rattle.deque_pool.specs.declared.taken.Taken.{Taken}
-use Rattle.deque_pool.specs.declared.taken.Taken.TheVariants.{Ticket, Empty, Again}
-use Rattle.deque_pool.specs.TicketList.{End, HadFew, Happened, moved}
+use Rattle.ticket_lists.specs.declared.ticket_list.Move.TheVariants.{Oldest}
+use Rattle.ticket_lists.specs.declared.taken.Taken.{Taken}
+use Rattle.ticket_lists.specs.declared.taken.Taken.TheVariants.{Ticket, Empty, Again}
+use Rattle.ticket_lists.specs.TicketList.{End, HadFew, Happened, moved}
 
 -- the oldest ticket left the list; or there was one ticket at most; or nothing is known
 abbrev pub Takes : End → End → Taken → Type 0

@@ -1,4 +1,4 @@
-ghost use Rattle.deque_pool.specs.TicketList.{EachAsOften};
+ghost use Rattle.ticket_lists.specs.TicketList.{EachAsOften};
 
 /// In any order of steps that leads to a list, the tickets that were taken and the list together are those that were
 /// offered, each as often.

@@ -2,8 +2,8 @@
 use Rattle.std.proofs.Common.{[], ◌∷◌, ◌++◌, sym, ap, arith}
 use Rattle.std.specs.Prelude.{sum_by}
 use Rattle.std.proofs.lemmas.List.Sums.{sum_by-cons, sum_by_push}
-use Rattle.deque_pool.specs.declared.ticket_list.Move.TheVariants.{Offer, Newest, Oldest}
-use Rattle.deque_pool.specs.TicketList.{EachAsOften, offered_in, taken_in}
+use Rattle.ticket_lists.specs.declared.ticket_list.Move.TheVariants.{Offer, Newest, Oldest}
+use Rattle.ticket_lists.specs.TicketList.{EachAsOften, offered_in, taken_in}
 
 pub each_as_often : EachAsOften
 each_as_often [] tickets weight h = let e = ap (sum_by weight) (sym h) in omega (arith, e)

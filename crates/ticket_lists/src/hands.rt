@@ -1,7 +1,7 @@
 ghost use Rattle.std.specs.Prelude.{◌≡◌, [], All, vec_len, IfOk, IfErr, OnOk, IfSome, IfNone};
-ghost use Rattle.deque_pool.specs.TicketList.{HadFew, Happened, fresh, moved};
-ghost use Rattle.deque_pool.specs.declared.ticket_list.Move.TheVariants.{Offer, Newest};
-ghost use Rattle.deque_pool.specs.Takes.{Takes};
+ghost use Rattle.ticket_lists.specs.TicketList.{HadFew, Happened, fresh, moved};
+ghost use Rattle.ticket_lists.specs.declared.ticket_list.Move.TheVariants.{Offer, Newest};
+ghost use Rattle.ticket_lists.specs.Takes.{Takes};
 
 use crate::taken::Taken;
 use crate::ticket_list::{Offers, TakesNewest, TakesOldest, TicketList, View};
@@ -23,7 +23,7 @@ pub struct Hands {
 
 impl Model for Hands {
     ghost use Rattle.std.specs.Prelude.{◌≡◌, true};
-    ghost use Rattle.deque_pool.specs.TicketList.{End};
+    ghost use Rattle.ticket_lists.specs.TicketList.{End};
     ghost use Rattle.crossbeam_deque.specs.Handles.{worker_view, worker_flavor, worker_deque};
 
     ghost Value = { End };
@@ -43,7 +43,7 @@ pub struct Thief {
 
 impl Model for Thief {
     ghost use Rattle.std.specs.Prelude.{◌≡◌, false};
-    ghost use Rattle.deque_pool.specs.TicketList.{End};
+    ghost use Rattle.ticket_lists.specs.TicketList.{End};
     ghost use Rattle.crossbeam_deque.specs.Handles.{view as pass_view, IsPassOf, stealer_deque, stealer_flavor};
 
     ghost Value = { End };

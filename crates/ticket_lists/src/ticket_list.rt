@@ -24,7 +24,7 @@ pub struct TicketList;
 
 impl Protocol<Ticket, View> for TicketList {
     ghost use Rattle.std.specs.Prelude.{true, false, []};
-    ghost use Rattle.deque_pool.specs.TicketList.{IsPlayed, view_of};
+    ghost use Rattle.ticket_lists.specs.TicketList.{IsPlayed, view_of};
 
     ghost holds = { IsPlayed };
 
@@ -37,7 +37,7 @@ pub struct Offers;
 
 impl Outcome<Ticket, View> for Offers {
     ghost use Rattle.std.specs.Prelude.{◌≡◌};
-    ghost use Rattle.deque_pool.specs.TicketList.{with_offers};
+    ghost use Rattle.ticket_lists.specs.TicketList.{with_offers};
 
     ghost then = { λ v xs w. w ≡ with_offers v xs };
 }
@@ -46,7 +46,7 @@ pub struct TakesNewest;
 
 impl Outcome<Ticket, View> for TakesNewest {
     ghost use Rattle.std.specs.Prelude.{◌≡◌};
-    ghost use Rattle.deque_pool.specs.TicketList.{with_newest, HadFew, Happened};
+    ghost use Rattle.ticket_lists.specs.TicketList.{with_newest, HadFew, Happened};
 
     ghost then = { λ v xs w. (w ≡ with_newest v xs) × Happened w.moves };
 
@@ -57,7 +57,7 @@ pub struct TakesOldest;
 
 impl Outcome<Ticket, View> for TakesOldest {
     ghost use Rattle.std.specs.Prelude.{◌≡◌};
-    ghost use Rattle.deque_pool.specs.TicketList.{with_oldest, HadFew, Happened};
+    ghost use Rattle.ticket_lists.specs.TicketList.{with_oldest, HadFew, Happened};
 
     ghost then = { λ v xs w. (w ≡ with_oldest v xs) × Happened w.moves };
 

@@ -8,10 +8,10 @@ use lib.ListN.{get_elem?}
 use Rattle.crossbeam_deque.specs.Tasks.{Pushes, Takes, Pops, Admits}
 use Rattle.crossbeam_deque.proofs.Lists.{at_set}
 use Rattle.shared_run.specs.declared.ticket.Ticket.{Ticket}
-use Rattle.deque_pool.specs.declared.ticket_list.Move.{Move}
-use Rattle.deque_pool.specs.declared.ticket_list.Move.TheVariants.{Offer, Newest, Oldest}
-use Rattle.deque_pool.specs.declared.ticket_list.View.{View}
-use Rattle.deque_pool.specs.TicketList.{Turn, Leads, moves_of, FitsSeat, IsPlayed, Happened, view_of, with_offers, with_newest, with_oldest}
+use Rattle.ticket_lists.specs.declared.ticket_list.Move.{Move}
+use Rattle.ticket_lists.specs.declared.ticket_list.Move.TheVariants.{Offer, Newest, Oldest}
+use Rattle.ticket_lists.specs.declared.ticket_list.View.{View}
+use Rattle.ticket_lists.specs.TicketList.{Turn, Leads, moves_of, FitsSeat, IsPlayed, Happened, view_of, with_offers, with_newest, with_oldest}
 
 -- where a list longer by one has a value: it had it, or it is the last
 at_snoc_where : (l : List View) (a b : View) (j : ℕ) → get_elem? (l ++ a ∷ []) j ≡ some b → (get_elem? l j ≡ some b) ⊎ ((a ≡ b) × (j ≡ length l))
