@@ -294,20 +294,6 @@ def woven(count):
         lines.append(f";! shows {line}\n" + (f"%x{j} = add i64 %n, 0\n" if j % 32 == 0 else ""))
     return head + "".join(lines) + "ret i64 0\n}\n"
 
-def lattice(count):
-    """So many `shows` lines of four registers, sums of multiples of two forms, to whose terms very many two others come: each is shown by the line 30
-    before it and the oldest fact alone."""
-    one, other = (1, 2, 3, 5), (7, -1, 4, -2)
-    def at_least(i, j):
-        form = [i * x + j * y for x, y in zip(one, other)]
-        return "".join(f"{c:+}*%{r}" for c, r in zip(form, "abcd") if c).removeprefix("+") + f" >= {j * j - 5 * i}"
-    head = "define i64 @main(i64 %a, i64 %b, i64 %c, i64 %d) {\n" + "".join(f";! requires {at_least(i, j)}\n" for i, j in [(1, 0)] + [(0, j) for j in range(1, 31)])
-    head += f";! budget 0 {count // 32 + 2}\nentry:\n;! left 0 {count // 32 + 2}\n"
-    lines = []
-    for k in range(count):
-        lines.append(f";! shows {at_least(k // 30 + 1, k % 30 + 1)}\n" + (f"%x{k} = add i64 %a, 0\n" if k % 32 == 31 else ""))
-    return head + "".join(lines) + ("" if count % 32 == 0 else "%x = add i64 %a, 0\n") + "ret i64 0\n}\n"
-
 def pending(blocks):
     """A child that may run beside so many blocks, each with 32 `pending` lines."""
     out = ["@a = global [99 x i64] zeroinitializer\n"]

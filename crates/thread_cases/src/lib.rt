@@ -5,7 +5,7 @@
 mod endings;
 mod runs;
 mod seats;
-mod ticket_lists;
+mod tickets;
 
 use cases::Lines;
 use std::hash::RandomState;
@@ -21,7 +21,7 @@ pub fn answer<R: AllocGlobal + Files + Threads + Wait + Clock + Sync>(
     state: RandomState,
     report: &mut Lines,
 ) -> io::Result<()> {
-    ticket_lists::answer(rt, rt.alloc(), report)?;
+    tickets::answer(rt, rt.alloc(), report)?;
     runs::answer(rt, state, report)?;
     seats::answer(rt, state, report)
 }
