@@ -8,7 +8,7 @@ use Rattle.std.proofs.lemmas.Int.{ints}
 use Rattle.std.proofs.lemmas.Bool.{cases_eq, cases_Bool}
 use Rattle.std.proofs.lemmas.List.{length-map, length-append, map-append, take-append-drop, length-set, get_or_default, get_or-set_same, get_or-set_other}
 use Rattle.std.proofs.lemmas.List.Edits.{length-insert, get_or-insert_at}
-use Rattle.std.proofs.lemmas.List.Elements.{All-contains, All-cons, Contains-get_or, Contains-append_right, Contains-append_cases}
+use Rattle.std.proofs.lemmas.List.Elements.{All-contains, All-cons, Contains-get_or, Contains-append_left, Contains-append_right, Contains-append_cases}
 use Rattle.std.proofs.lemmas.List.Sorted.{IsNonDecreasingBy-insert, IsNonDecreasingBy-short, IsPermutation-insert, IsPermutation-sym, All-permutation, Contains-permutation}
 use Rattle.linear.specs.declared.form.Term.{Term}
 use Rattle.linear.specs.declared.form.Fact.{Fact}
@@ -16,11 +16,12 @@ use Rattle.linear.specs.Forms.{Combination, coefficient_of, constant_form, IsRis
 use Rattle.entailment.specs.declared.index.Entry.{Entry}
 use Rattle.entailment.specs.Shown.{IsSum, IsShown, sides}
 use Rattle.entailment.specs.Search.{factors, IsFound}
-use Rattle.entailment.specs.Index.{weight, weigh, IsKeyOf, place_at, IsEntry, IsAsStrong, IsIndexed, IsIndex, AreEntries, IsJoined, IsBegun, IsContradiction, AreConsistent, IsNegative, IsMadeUp, IsMadeUpWith, IsMadeUpByB, IsMadeUpByA, AreNotB}
+use Rattle.entailment.specs.Index.{weight, weigh, IsKeyOf, place_at, IsEntry, IsAsStrong, IsIndexed, IsIndex, AreLayers, AreEntries, IsJoined, IsBegun, IsContradiction, AreConsistent, IsNegative, IsMadeUp, IsMadeUpWith, IsMadeUpByB, IsMadeUpByA, AreNotB}
 use Rattle.linear.proofs.Values.{distributes, value_combines}
 use Rattle.entailment.specs.Tested.{is_shown}
 use Rattle.entailment.proofs.Tested.{shown_from_test}
 use Rattle.entailment.proofs.Left.{swapped}
+use Rattle.entailment.proofs.Layers.{layers_index}
 use Rattle.entailment.proofs.Sound.{keeps_sign}
 use Rattle.entailment.proofs.Newest.{in_newest, in_sides}
 use Rattle.entailment.proofs.Found.{is_factor, found_shown, shown_found}
@@ -76,11 +77,10 @@ key_of_sum e a f b g ek fk gk ke kf kg s =
 
 -- ---- the index grows
 
-pub index_none : (facts : List Fact) → IsIndex facts 0 []
-index_none facts = record {
+entries_none : (facts : List Fact) → AreEntries facts []
+entries_none facts = record {
   sorted = IsNonDecreasingBy-short (λ (e : Entry). e.key) [] (omega arith);
   own = λ k d l. absurd (omega (arith, l));
-  kept = λ place l. absurd (omega (arith, l));
 }
 
 -- what is kept, in a list that keeps what was there
@@ -178,15 +178,58 @@ joined_insert facts es entry at are is le below above = record {
   within = insert_within es entry at;
 }
 
+pub in_recent : (facts : List Fact) (settled recent : List Entry) (place : ℕ) → IsIndexed facts recent place → IsIndexed facts (settled ++ recent) place
+in_recent facts settled recent place (e, c, strong) = (e, Contains-append_right settled recent e c, strong)
+
+-- what the old recent ones keep, others keep
+pub kept_beside : (facts : List Fact) (settled old new : List Entry) → ((e : Entry) → Contains old e → IsIndexed facts new e.place) → (place : ℕ) →
+    IsIndexed facts (settled ++ old) place → IsIndexed facts (settled ++ new) place
+kept_beside facts settled old new on place (e, c, strong) = elim (Contains-append_cases settled old e c) [
+  | inl settles ↦ (e, Contains-append_left settled new e settles, strong)
+  | inr was ↦
+      let is = on e was in
+      (is.0, Contains-append_right settled new is.0 is.1, stronger (place_at facts is.0.place) (place_at facts e.place) (place_at facts place) is.2 strong)
+]
+
 -- the next place has joined
-pub index_joined : (facts : List Fact) (old es : List Entry) (entry : Entry) → IsIndex facts entry.place old → IsJoined facts old es entry → IsIndex facts (suc entry.place) es
-index_joined facts old es entry index joined = record {
-  sorted = joined.entries.sorted;
-  own = joined.entries.own;
+pub layers_joined : (facts : List Fact) (settled old new : List Entry) (entry : Entry) → AreLayers facts entry.place settled old → IsJoined facts old new entry →
+    AreLayers facts (suc entry.place) settled new
+layers_joined facts settled old new entry layers joined = record {
+  settled = layers.settled;
+  recent = joined.entries;
   kept = λ place l. elim (cases_eq place entry.place) [
-    | inl same ↦ rw same joined.entered
-    | inr other ↦ joined.kept place (index.kept place (omega (arith, l, other)))
+    | inl same ↦ rw same (in_recent facts settled new entry.place joined.entered)
+    | inr other ↦ kept_beside facts settled old new (λ e c. joined.kept e.place (e, c, strong_itself (place_at facts e.place))) place (layers.kept place (omega (arith, l, other)))
   ];
+}
+
+-- the lists change places
+pub layers_swapped : (facts : List Fact) (n : ℕ) (settled recent : List Entry) → AreLayers facts n settled recent → AreLayers facts n recent settled
+layers_swapped facts n settled recent layers = record {
+  settled = layers.recent;
+  recent = layers.settled;
+  kept = λ place l. other place (layers.kept place l);
+}
+  where
+    other : (place : ℕ) → IsIndexed facts (settled ++ recent) place → IsIndexed facts (recent ++ settled) place
+    other place (e, c, strong) = elim (Contains-append_cases settled recent e c) [
+      | inl settles ↦ (e, Contains-append_right recent settled e settles, strong)
+      | inr late ↦ (e, Contains-append_left recent settled e late, strong)
+    ]
+
+-- the recent ones are merged with those that have settled
+pub layers_settled : (facts : List Fact) (n : ℕ) (settled recent new : List Entry) → AreLayers facts n settled recent → AreEntries facts new →
+    ((e : Entry) → Contains settled e → IsIndexed facts new e.place) → All (λ (e : Entry). IsIndexed facts new e.place) recent → AreLayers facts n new []
+layers_settled facts n settled recent new layers are kept entered = record {
+  settled = are;
+  recent = entries_none facts;
+  kept = λ place l.
+      let was = layers.kept place l in
+      let is : IsIndexed facts new was.0.place = elim (Contains-append_cases settled recent was.0 was.1) [
+        | inl settles ↦ kept was.0 settles
+        | inr late ↦ All-contains (λ (e : Entry). IsIndexed facts new e.place) recent was.0 entered late
+      ] in
+      (is.0, Contains-append_left new [] is.0 is.1, stronger (place_at facts is.0.place) (place_at facts was.0.place) (place_at facts place) is.2 was.2);
 }
 
 -- ---- what an index makes up
@@ -309,15 +352,22 @@ entry_more facts more e is = record {
   small = is.small;
 }
 
-pub begun_more : (facts more : List Fact) (n : ℕ) (es : List Entry) (b : Bool) → IsBegun facts n es b → IsBegun (facts ++ more) n es b
-begun_more facts more n es b begun = record {
+entries_more : (facts more : List Fact) (es : List Entry) → AreEntries facts es → AreEntries (facts ++ more) es
+entries_more facts more es are = record {
+  sorted = are.sorted;
+  own = λ k d l. entry_more facts more (get_or es k d) (are.own k d l);
+}
+
+pub begun_more : (facts more : List Fact) (n : ℕ) (settled recent : List Entry) (b : Bool) → IsBegun facts n settled recent b → IsBegun (facts ++ more) n settled recent b
+begun_more facts more n settled recent b begun = record {
   within = rw (length-append facts more) (omega (arith, begun.within));
-  index = record {
-    sorted = begun.index.sorted;
-    own = λ k d l. entry_more facts more (get_or es k d) (begun.index.own k d l);
+  layers = record {
+    settled = entries_more facts more settled begun.layers.settled;
+    recent = entries_more facts more recent begun.layers.recent;
     kept = λ place l.
-        let k = begun.index.kept place l in
-        let own = All-contains (IsEntry facts) es k.0 begun.index.own k.1 in
+        let k = begun.layers.kept place l in
+        let index = layers_index facts n settled recent begun.layers in
+        let own = All-contains (IsEntry facts) (settled ++ recent) k.0 index.own k.1 in
         (k.0, k.1, rw (place_more facts more k.0.place own.within, place_more facts more place (omega (arith, begun.within, l))) k.2);
   };
   consistent = λ is p q lp lq.
@@ -325,11 +375,12 @@ begun_more facts more n es b begun = record {
 }
 
 -- the first facts, and more of them
-pub begun_later : (facts : List Fact) (count later : ℕ) (n : ℕ) (es : List Entry) (b : Bool) → count ≤ later → IsBegun (take count facts) n es b → IsBegun (take later facts) n es b
-begun_later facts count later n es b le begun =
+pub begun_later : (facts : List Fact) (count later : ℕ) (n : ℕ) (settled recent : List Entry) (b : Bool) → count ≤ later → IsBegun (take count facts) n settled recent b →
+    IsBegun (take later facts) n settled recent b
+begun_later facts count later n settled recent b le begun =
     let first : take count (take later facts) ≡ take count facts = take-take-le count later facts le in
     let whole : take count facts ++ drop count (take later facts) ≡ take later facts = ap (λ xs. xs ++ drop count (take later facts)) (sym first) ∙ take-append-drop count (take later facts) in
-    rw whole at (begun_more (take count facts) (drop count (take later facts)) n es b begun)
+    rw whole at (begun_more (take count facts) (drop count (take later facts)) n settled recent b begun)
   where
     take-take-le : (n m : ℕ) (xs : List Fact) → n ≤ m → take n (take m xs) ≡ take n xs
     take-take-le zero m xs l = refl
@@ -369,13 +420,21 @@ consistent_next facts es entry old index none p q lp lq s =
       ]
     ]
 
-pub begun_next : (facts : List Fact) (old es : List Entry) (entry : Entry) (b r : Bool) → IsBegun facts entry.place old b → IsEntry facts entry → IsIndex facts (suc entry.place) es →
-    (r ≡ true → b ≡ true) → (r ≡ true → (d : Entry) → Contains es d → IsContradiction (place_at facts entry.place) (place_at facts d.place) → ⊥) → IsBegun facts (suc entry.place) es r
-begun_next facts old es entry b r begun own index before none = record {
-  within = omega (arith, own.within);
-  index = index;
-  consistent = λ is. consistent_next facts es entry (begun.consistent (before is)) index (none is);
-}
+pub begun_next : (facts : List Fact) (settled old new : List Entry) (entry : Entry) (b r : Bool) → IsBegun facts entry.place settled old b → IsEntry facts entry →
+    IsJoined facts old new entry → (r ≡ true → b ≡ true) →
+    (r ≡ true → (d : Entry) → Contains (settled ++ new) d → IsContradiction (place_at facts entry.place) (place_at facts d.place) → ⊥) → IsBegun facts (suc entry.place) settled new r
+begun_next facts settled old new entry b r begun own joined before none =
+    let layers = layers_joined facts settled old new entry begun.layers joined in
+    record {
+      within = omega (arith, own.within);
+      layers = layers;
+      consistent = λ is. consistent_next facts (settled ++ new) entry (begun.consistent (before is)) (layers_index facts (suc entry.place) settled new layers) (none is);
+    }
+
+-- in other lists
+pub begun_other : (facts : List Fact) (n : ℕ) (settled recent settled' recent' : List Entry) (b : Bool) → IsBegun facts n settled recent b → AreLayers facts n settled' recent' →
+    IsBegun facts n settled' recent' b
+begun_other facts n settled recent settled' recent' b begun layers = record { within = begun.within; layers = layers; consistent = begun.consistent }
 
 only_one : (n : ℕ) → Contains (factors []) n → n ≡ 1
 only_one n (zero, within, is) = sym is
@@ -385,24 +444,25 @@ less_yet : (x c : ℤ) → x ≤ℤ c → c ≤ℤ negsuc 0 → x ≤ℤ negsuc 
 less_yet x c h k = omega (arith, ints, h, k)
 
 -- consistent facts show nothing below 0
-none_negative : (facts : List Fact) (es : List Entry) → IsBegun facts (suc (length facts)) es true → (c : ℤ) → c ≤ℤ negsuc 0 → IsShown facts (constant_form c) → ⊥
-none_negative facts es begun c below s =
-    let made = index_shows facts es begun.index (constant_form c) tt s in
+none_negative : (facts : List Fact) (settled recent : List Entry) → IsBegun facts (suc (length facts)) settled recent true → (c : ℤ) → c ≤ℤ negsuc 0 → IsShown facts (constant_form c) → ⊥
+none_negative facts settled recent begun c below s =
+    let index = layers_index facts (suc (length facts)) settled recent begun.layers in
+    let made = index_shows facts (settled ++ recent) index (constant_form c) tt s in
     let with_b = made.2 in
     let with = with_b.2 in
     let f = place_at facts with.0.place in
     let g = with.2.0 in
-    let own = All-contains (IsEntry facts) es with.0 begun.index.own with.1 in
+    let own = All-contains (IsEntry facts) (settled ++ recent) with.0 index.own with.1 in
     let at_g = place_of_side facts g with.2.1 in
     let one : IsSum (constant_form c) 1 f with_b.0 g = subst (λ (n : ℕ). IsSum (constant_form c) n f with_b.0 g) (only_one made.0 made.1) with.2.2 in
     let both : IsSum (constant_form c) 1 f 1 g = subst (λ (n : ℕ). IsSum (constant_form c) 1 f n g) (only_one with_b.0 with_b.1) one in
     let against : IsContradiction f g = record { terms = both.terms; constant = less_yet ((pos 1 *ℤ f.constant) +ℤ (pos 1 *ℤ g.constant)) c both.constant below } in
     begun.consistent refl with.0.place with.2.1.0 (omega (arith, own.within)) at_g.0 (subst (λ (x : Combination). IsContradiction f x) (sym at_g.1) against)
 
-pub negative_not_shown : (facts : List Fact) (es : List Entry) → IsBegun facts (suc (length facts)) es true → (e : Combination) → IsNegative e → is_shown facts e ≡ false
-negative_not_shown facts es begun e negative = elim (cases_Bool (is_shown facts e)) [
+pub negative_not_shown : (facts : List Fact) (settled recent : List Entry) → IsBegun facts (suc (length facts)) settled recent true → (e : Combination) → IsNegative e → is_shown facts e ≡ false
+negative_not_shown facts settled recent begun e negative = elim (cases_Bool (is_shown facts e)) [
   | inl shows ↦
       let s : IsShown facts (constant_form e.constant) = subst (λ (ts : List Term). IsShown facts (record { terms = ts; constant = e.constant })) negative.terms (shown_from_test facts e shows) in
-      absurd (none_negative facts es begun e.constant negative.constant s)
+      absurd (none_negative facts settled recent begun e.constant negative.constant s)
   | inr not ↦ not
 ]

@@ -8,7 +8,9 @@ pub mod Sound
 pub mod Tested
 pub mod Newest
 pub mod Left
+pub mod Layers
 pub mod Indexing
 pub mod Looking
+pub mod Slices
 pub mod Passing
 pub mod Merging

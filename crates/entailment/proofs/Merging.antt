@@ -6,13 +6,14 @@ use Rattle.std.proofs.Math.ListN.{get_or-append}
 use Rattle.std.proofs.lemmas.Bool.{cases_lt, cases_eq}
 use Rattle.std.proofs.lemmas.List.{length-append, take-append-drop, get_or-append_right, get_or-append-add, get_or_default}
 use Rattle.std.proofs.lemmas.List.Elements.{All-append, All-cons, All-contains, All-more, Contains-append_left, Contains-append_right, Contains-append_cases, Contains-get_or}
-use Rattle.std.proofs.lemmas.List.Sorted.{IsNonDecreasingBy-short, IsNonDecreasingBy-take, IsNonDecreasingBy-drop, All-permutation, Contains-permutation}
+use Rattle.std.proofs.lemmas.List.Sorted.{IsNonDecreasingBy-short, All-permutation, Contains-permutation}
 use Rattle.linear.specs.declared.form.Fact.{Fact}
 use Rattle.linear.specs.Forms.{constant_form}
 use Rattle.entailment.specs.declared.index.Entry.{Entry}
 use Rattle.entailment.specs.Index.{place_at, IsEntry, IsIndexed, IsBegun, IsContradiction, AreConsistent, AreEntries, IsJoined, HasPlaces, IsMerging}
 use Rattle.entailment.proofs.Left.{swapped}
-use Rattle.entailment.proofs.Indexing.{strong_itself, stronger, stronger_second}
+use Rattle.entailment.proofs.Slices.{from_front, from_back, in_either, are_taken, are_left}
+use Rattle.entailment.proofs.Indexing.{strong_itself, stronger_second, in_recent, kept_beside}
 
 -- one sorted list before another whose elements are no less
 sorted_append : (xs ys : List Entry) → IsNonDecreasingBy (λ (e : Entry). e.key) xs → IsNonDecreasingBy (λ (e : Entry). e.key) ys →
@@ -28,21 +29,6 @@ sorted_append xs ys up_x up_y below i j d le l = elim (cases_lt j (length xs)) [
         | inr back ↦ rw (get_or-append_right xs ys (length xs) i d refl back, get_or-append_right xs ys (length xs) j d refl late) (up_y (i - length xs) (j - length xs) d (omega (arith, le, back)) within)
       ]
 ]
-
-whole : (k : ℕ) (xs : List Entry) (e : Entry) → Contains (take k xs ++ drop k xs) e → Contains xs e
-whole k xs e c = subst (λ (ys : List Entry). Contains ys e) (take-append-drop k xs) c
-
-pub from_front : (k : ℕ) (xs : List Entry) (e : Entry) → Contains (take k xs) e → Contains xs e
-from_front k xs e c = whole k xs e (Contains-append_left (take k xs) (drop k xs) e c)
-
-pub from_back : (k : ℕ) (xs : List Entry) (e : Entry) → Contains (drop k xs) e → Contains xs e
-from_back k xs e c = whole k xs e (Contains-append_right (take k xs) (drop k xs) e c)
-
-in_either : (k : ℕ) (xs : List Entry) (e : Entry) → Contains xs e → Contains (take k xs) e ⊎ Contains (drop k xs) e
-in_either k xs e c = Contains-append_cases (take k xs) (drop k xs) e (subst (λ (ys : List Entry). Contains ys e) (sym (take-append-drop k xs)) c)
-
-all_of : (P : Entry → Type 0) (xs : List Entry) → ((e : Entry) → Contains xs e → P e) → All P xs
-all_of P xs each k d l = each (get_or xs k d) (Contains-get_or xs k d l)
 
 ordered : (ys zs : List Entry) → IsNonDecreasingBy (λ (e : Entry). e.key) (ys ++ zs) → (m e : Entry) → Contains ys m → Contains zs e → m.key ≤ e.key
 ordered ys zs up m e (i, li, at_i) (j, lj, at_j) =
@@ -60,18 +46,6 @@ are_append : (facts : List Fact) (xs ys : List Entry) → AreEntries facts xs �
 are_append facts xs ys p q below = record {
   sorted = sorted_append xs ys p.sorted q.sorted below;
   own = All-append (IsEntry facts) xs ys p.own q.own;
-}
-
-are_taken : (facts : List Fact) (k : ℕ) (xs : List Entry) → AreEntries facts xs → AreEntries facts (take k xs)
-are_taken facts k xs p = record {
-  sorted = IsNonDecreasingBy-take (λ (e : Entry). e.key) k xs p.sorted;
-  own = all_of (IsEntry facts) (take k xs) (λ e c. All-contains (IsEntry facts) xs e p.own (from_front k xs e c));
-}
-
-are_left : (facts : List Fact) (k : ℕ) (xs : List Entry) → AreEntries facts xs → AreEntries facts (drop k xs)
-are_left facts k xs p = record {
-  sorted = IsNonDecreasingBy-drop (λ (e : Entry). e.key) k xs p.sorted;
-  own = all_of (IsEntry facts) (drop k xs) (λ e c. All-contains (IsEntry facts) xs e p.own (from_back k xs e c));
 }
 
 in_longer : (facts : List Fact) (xs ys : List Entry) (place : ℕ) → IsIndexed facts xs place → IsIndexed facts (xs ++ ys) place
@@ -159,23 +133,21 @@ consistent_many facts from upto es fresh old has indexed none p q lp lq s =
       | inr p_new ↦ beside p q p_new lp lq s
     ]
 
-pub begun_many : (facts : List Fact) (from : ℕ) (old fresh es : List Entry) (b r : Bool) → IsBegun facts from old b → HasPlaces facts from (suc (length facts)) fresh → AreEntries facts es →
-    ((e : Entry) → Contains old e → IsIndexed facts es e.place) → All (λ (e : Entry). IsIndexed facts es e.place) fresh → (r ≡ true → b ≡ true) →
-    (r ≡ true → (e d : Entry) → Contains fresh e → Contains es d → IsContradiction (place_at facts e.place) (place_at facts d.place) → ⊥) → IsBegun facts (suc (length facts)) es r
-begun_many facts from old fresh es b r begun has are kept entered before none =
-    let indexed : (place : ℕ) → place < suc (length facts) → IsIndexed facts es place = λ place l. elim (cases_lt place from) [
-      | inl early ↦
-          let was = begun.index.kept place early in
-          let is = kept was.0 was.1 in
-          (is.0, is.1, stronger (place_at facts is.0.place) (place_at facts was.0.place) (place_at facts place) is.2 was.2)
+pub begun_many : (facts : List Fact) (from : ℕ) (settled old fresh new : List Entry) (b r : Bool) → IsBegun facts from settled old b → HasPlaces facts from (suc (length facts)) fresh →
+    AreEntries facts new → ((e : Entry) → Contains old e → IsIndexed facts new e.place) → All (λ (e : Entry). IsIndexed facts new e.place) fresh → (r ≡ true → b ≡ true) →
+    (r ≡ true → (e d : Entry) → Contains fresh e → Contains (settled ++ new) d → IsContradiction (place_at facts e.place) (place_at facts d.place) → ⊥) →
+    IsBegun facts (suc (length facts)) settled new r
+begun_many facts from settled old fresh new b r begun has are kept entered before none =
+    let indexed : (place : ℕ) → place < suc (length facts) → IsIndexed facts (settled ++ new) place = λ place l. elim (cases_lt place from) [
+      | inl early ↦ kept_beside facts settled old new kept place (begun.layers.kept place early)
       | inr late ↦
           let own = has.each place late l in
-          subst (λ (n : ℕ). IsIndexed facts es n) own.2 (All-contains (λ (e : Entry). IsIndexed facts es e.place) fresh own.0 entered own.1)
+          in_recent facts settled new place (subst (λ (n : ℕ). IsIndexed facts new n) own.2 (All-contains (λ (e : Entry). IsIndexed facts new e.place) fresh own.0 entered own.1))
     ] in
     record {
       within = omega arith;
-      index = record { sorted = are.sorted; own = are.own; kept = indexed };
-      consistent = λ is. consistent_many facts from (suc (length facts)) es fresh (begun.consistent (before is)) has indexed (none is);
+      layers = record { settled = begun.layers.settled; recent = are; kept = indexed };
+      consistent = λ is. consistent_many facts from (suc (length facts)) (settled ++ new) fresh (begun.consistent (before is)) has indexed (none is);
     }
 
 -- places in another order

@@ -1,18 +1,28 @@
 -- Two entries whose keys come to a total, and what is passed over.
-use Rattle.std.proofs.Common.{◌≡◌, ◌∙◌, ℕ, suc, ◌<◌, ◌≤◌, ◌+◌, ◌-◌, ◌*◌, ◌/◌, ◌%◌, ◌^◌, ℤ, pos, ◌+ℤ◌, ◌*ℤ◌, ◌≤ℤ◌, List, length, get_or, inl, inr, sym, ap, subst, arith}
-use Rattle.std.specs.List.{Contains}
+use Rattle.std.proofs.Common.{◌≡◌, ◌∙◌, ℕ, suc, ◌<◌, ◌≤◌, ◌+◌, ◌-◌, ◌*◌, ◌/◌, ◌%◌, ◌^◌, ℤ, pos, ◌+ℤ◌, ◌*ℤ◌, ◌≤ℤ◌, List, ◌++◌, length, take, drop, get_or, inl, inr, sym, ap, subst, arith}
+use Rattle.std.specs.List.{Contains, All}
 use Rattle.std.specs.List.Sorted.{IsNonDecreasingBy}
-use Rattle.std.proofs.Math.Nat.{mul_assoc, mul_comm, mul-le-mul_left, mul-div_cancel_left, mul-mod_left, div-add-mod}
+use Rattle.std.proofs.Math.Nat.{mul_comm, mul-le-mul_left, mul-div_cancel_left, mul-mod_left, div-add-mod, div-le_of_le-mul}
 use Rattle.std.proofs.lemmas.Bool.{cases_lt, cases_eq}
 use Rattle.std.proofs.lemmas.List.{get_or_default}
-use Rattle.std.proofs.lemmas.List.Elements.{All-contains}
+use Rattle.std.proofs.lemmas.Nat.{le-div}
+use Rattle.std.proofs.lemmas.List.Elements.{All-contains, Contains-append_left, Contains-append_right, Contains-append_cases}
 use Rattle.linear.specs.declared.form.Fact.{Fact}
 use Rattle.linear.specs.Forms.{Combination}
 use Rattle.entailment.specs.declared.index.Entry.{Entry}
 use Rattle.entailment.specs.Shown.{IsSum}
-use Rattle.entailment.specs.Index.{IsKeyOf, place_at, IsEntry, IsIndex, IsMadeUpWith, Meet, MeetWithin, IsOpen, AreLeft}
+use Rattle.entailment.specs.Index.{IsKeyOf, place_at, IsEntry, IsIndex, AreEntries, AreInOrder, IsMadeUpWith, IsMadeUpBetween, Balance, Meet, Serve, AreLeft}
 use Rattle.entailment.proofs.Left.{swapped}
-use Rattle.entailment.proofs.Indexing.{key_of_sum, kept_side, stronger_second}
+use Rattle.entailment.proofs.Slices.{in_front, in_back}
+use Rattle.entailment.proofs.Indexing.{key_of_sum, kept_side, side_of_entry, stronger_second}
+
+-- entries of facts are in order as a pass wants them
+pub in_order : (facts : List Fact) (es : List Entry) → AreEntries facts es → AreInOrder es
+in_order facts es are = record {
+  sorted = are.sorted;
+  keys = λ k d l. (are.own k d l).key.small;
+  constants = λ k d l. (are.own k d l).small;
+}
 
 -- up to an entry that is too small
 pub below_up_to : (es : List Entry) (a beside total last : ℕ) (e : Entry) → IsNonDecreasingBy (λ (e : Entry). e.key) es → last < length es → a * (get_or es last e).key + beside < total →
@@ -40,18 +50,18 @@ times_greater es a at k e d up some within later l less =
     omega (arith, some, mul-le-mul_left a rises)
 
 -- first ones that are too small beside the last of the second ones meet none of these
-pub passed_below : (es : List Entry) (a b total first count next i k : ℕ) (d e : Entry) (x y : ℕ) → IsNonDecreasingBy (λ (e : Entry). e.key) es → 0 < count → count ≤ length es →
-    x ≡ a * (get_or es first d).key → y ≡ b * (get_or es (count - 1) e).key → x + y < total →
-    ((k : ℕ) (d : Entry) → first + 1 ≤ k → k < next → a * (get_or es k d).key + y < total) →
-    first ≤ i → k < count → Meet es a b total i k → next ≤ i
-passed_below es a b total first count next i k d e x y up some within ex ey less below from before meet =
-    let same : get_or es (count - 1) e ≡ get_or es (count - 1) d = get_or_default es (count - 1) e d (omega (arith, some, within)) in
-    let y_is : y ≡ b * (get_or es (count - 1) d).key = ey ∙ ap (λ (x : Entry). b * x.key) same in
+pub passed_below : (xs ys : List Entry) (a b total first count next i k : ℕ) (d e : Entry) (x y : ℕ) → IsNonDecreasingBy (λ (e : Entry). e.key) ys → 0 < count → count ≤ length ys →
+    x ≡ a * (get_or xs first d).key → y ≡ b * (get_or ys (count - 1) e).key → x + y < total →
+    ((k : ℕ) (d : Entry) → first + 1 ≤ k → k < next → a * (get_or xs k d).key + y < total) →
+    first ≤ i → k < count → Meet xs ys a b total i k → next ≤ i
+passed_below xs ys a b total first count next i k d e x y up some within ex ey less below from before meet =
+    let same : get_or ys (count - 1) e ≡ get_or ys (count - 1) d = get_or_default ys (count - 1) e d (omega (arith, some, within)) in
+    let y_is : y ≡ b * (get_or ys (count - 1) d).key = ey ∙ ap (λ (x : Entry). b * x.key) same in
     let rises = mul-le-mul_left b (up k (count - 1) d (omega (arith, before)) (omega (arith, some, within))) in
     elim (cases_lt i next) [
       | inl early ↦ elim (cases_eq i first) [
         | inl at_first ↦
-            let at_x : a * (get_or es i d).key ≡ a * (get_or es first d).key = ap (λ (n : ℕ). a * (get_or es n d).key) at_first in
+            let at_x : a * (get_or xs i d).key ≡ a * (get_or xs first d).key = ap (λ (n : ℕ). a * (get_or xs n d).key) at_first in
             absurd (omega (arith, at_x, ex, less, y_is, rises, meet d))
         | inr other ↦ absurd (omega (arith, below i d (omega (arith, from, other)) early, y_is, rises, meet d))
       ]
@@ -59,18 +69,18 @@ passed_below es a b total first count next i k d e x y up some within ex ey less
     ]
 
 -- second ones that are too great beside the first of the first ones meet none of these
-pub passed_above : (es : List Entry) (a b total first count next i k : ℕ) (d e : Entry) (x y : ℕ) → IsNonDecreasingBy (λ (e : Entry). e.key) es → i < length es → count ≤ length es →
-    x ≡ a * (get_or es first d).key → y ≡ b * (get_or es (count - 1) e).key → total < x + y →
-    ((k : ℕ) (d : Entry) → next ≤ k → k < count - 1 → total < b * (get_or es k d).key + x) →
-    first ≤ i → k < count → Meet es a b total i k → k < next
-passed_above es a b total first count next i k d e x y up within_i within ex ey more above from before meet =
+pub passed_above : (xs ys : List Entry) (a b total first count next i k : ℕ) (d e : Entry) (x y : ℕ) → IsNonDecreasingBy (λ (e : Entry). e.key) xs → i < length xs → count ≤ length ys →
+    x ≡ a * (get_or xs first d).key → y ≡ b * (get_or ys (count - 1) e).key → total < x + y →
+    ((k : ℕ) (d : Entry) → next ≤ k → k < count - 1 → total < b * (get_or ys k d).key + x) →
+    first ≤ i → k < count → Meet xs ys a b total i k → k < next
+passed_above xs ys a b total first count next i k d e x y up within_i within ex ey more above from before meet =
     let rises = mul-le-mul_left a (up first i d from within_i) in
     elim (cases_lt k next) [
       | inl early ↦ early
       | inr late ↦ elim (cases_eq k (count - 1)) [
         | inl at_last ↦
-            let same : get_or es (count - 1) e ≡ get_or es (count - 1) d = get_or_default es (count - 1) e d (omega (arith, before, within)) in
-            let at_y : b * (get_or es k d).key ≡ y = ap (λ (n : ℕ). b * (get_or es n d).key) at_last ∙ ap (λ (x : Entry). b * x.key) (sym same) ∙ sym ey in
+            let same : get_or ys (count - 1) e ≡ get_or ys (count - 1) d = get_or_default ys (count - 1) e d (omega (arith, before, within)) in
+            let at_y : b * (get_or ys k d).key ≡ y = ap (λ (n : ℕ). b * (get_or ys n d).key) at_last ∙ ap (λ (x : Entry). b * x.key) (sym same) ∙ sym ey in
             absurd (omega (arith, at_y, ex, more, rises, meet d))
         | inr other ↦ absurd (omega (arith, above k d late (omega (arith, before, other)), ex, rises, meet d))
       ]
@@ -87,62 +97,16 @@ run_ends es count upto k x y d up le within other early same =
     other (rw (second, last) (omega (arith, one, two, same)))
 
 -- a sum of two entries' facts, whatever stands past the end
-pub at_entries : (facts : List Fact) (e : Combination) (es : List Entry) (a b i k : ℕ) (x y z w : Entry) → i < length es → k < length es →
-    IsSum e a (place_at facts (get_or es i x).place) b (place_at facts (get_or es k y).place) → IsSum e a (place_at facts (get_or es i z).place) b (place_at facts (get_or es k w).place)
-at_entries facts e es a b i k x y z w li lk sum = rw (get_or_default es i z x li, get_or_default es k w y lk) sum
+pub at_entries : (facts : List Fact) (e : Combination) (xs ys : List Entry) (a b i k : ℕ) (x y z w : Entry) → i < length xs → k < length ys →
+    IsSum e a (place_at facts (get_or xs i x).place) b (place_at facts (get_or ys k y).place) → IsSum e a (place_at facts (get_or xs i z).place) b (place_at facts (get_or ys k w).place)
+at_entries facts e xs ys a b i k x y z w li lk sum = rw (get_or_default xs i z x li, get_or_default ys k w y lk) sum
 
-pub they_meet : (es : List Entry) (a b total i k : ℕ) (d e : Entry) (x y : ℕ) → i < length es → k < length es → x ≡ a * (get_or es i d).key → y ≡ b * (get_or es k e).key → x + y ≡ total → Meet es a b total i k
-they_meet es a b total i k d e x y li lk ex ey both = λ f. rw (get_or_default es i f d li, get_or_default es k f e lk) (omega (arith, ex, ey, both))
+pub they_meet : (xs ys : List Entry) (a b total i k : ℕ) (d e : Entry) (x y : ℕ) → i < length xs → k < length ys → x ≡ a * (get_or xs i d).key → y ≡ b * (get_or ys k e).key → x + y ≡ total →
+    Meet xs ys a b total i k
+they_meet xs ys a b total i k d e x y li lk ex ey both = λ f. rw (get_or_default xs i f d li, get_or_default ys k f e lk) (omega (arith, ex, ey, both))
 
 cancel : (b x y : ℕ) → 0 < b → b * x ≡ b * y → x ≡ y
 cancel b x y some same = sym (mul-div_cancel_left x some) ∙ ap (λ (n : ℕ). n / b) same ∙ mul-div_cancel_left y some
-
--- keys that come to a total with factors that share a number come to it without that number, too
-pub meet_reduced : (es : List Entry) (a b total n x y t i k : ℕ) → 0 < n → a ≡ n * x → b ≡ n * y → total ≡ n * t → Meet es a b total i k → Meet es x y t i k
-meet_reduced es a b total n x y t i k some is_a is_b is_total meet = λ d.
-    let u = (get_or es i d).key in
-    let v = (get_or es k d).key in
-    let first : a * u ≡ n * (x * u) = ap (λ (m : ℕ). m * u) is_a ∙ mul_assoc n x u in
-    let second : b * v ≡ n * (y * v) = ap (λ (m : ℕ). m * v) is_b ∙ mul_assoc n y v in
-    cancel n (x * u + y * v) t some (omega (arith, first, second, meet d, is_total))
-
-pub meet_whole : (es : List Entry) (a b total n x y t i k : ℕ) → a ≡ n * x → b ≡ n * y → total ≡ n * t → Meet es x y t i k → Meet es a b total i k
-meet_whole es a b total n x y t i k is_a is_b is_total meet = λ d.
-    let u = (get_or es i d).key in
-    let v = (get_or es k d).key in
-    let first : a * u ≡ n * (x * u) = ap (λ (m : ℕ). m * u) is_a ∙ mul_assoc n x u in
-    let second : b * v ≡ n * (y * v) = ap (λ (m : ℕ). m * v) is_b ∙ mul_assoc n y v in
-    let both : n * (x * u + y * v) ≡ n * t = ap (λ (m : ℕ). n * m) (meet d) in
-    omega (arith, first, second, both, is_total)
-
--- two that meet and are too great, where the second one is alone of its key: none of those that are passed over then serves
-pub passed_alone : (es : List Entry) (a total : ℕ) (most : ℤ) (first count rest i k : ℕ) (x y : Entry) → 0 < count → count ≤ length es → first < length es → Meet es 1 1 total first (count - 1) →
-    (((pos a *ℤ (get_or es first x).constant) +ℤ (pos a *ℤ (get_or es (count - 1) y).constant)) ≤ℤ most → ⊥) →
-    ((k : ℕ) (d : Entry) → k < count - 1 → (get_or es k d).key < (get_or es (count - 1) d).key) →
-    count ≤ rest + 1 → ((k : ℕ) (d : Entry) → rest < count → first < k → k < length es → 1 * (get_or es first d).key < 1 * (get_or es k d).key) →
-    first ≤ i → i < length es → k < count → MeetWithin es a total most i k → (first + 1 ≤ i) × (k < rest)
-passed_alone es a total most first count rest i k x y some within lf met great alone all greater from li before (meet, serve) =
-    elim (cases_eq i first) [
-      | inl same ↦
-          let keys : 1 * (get_or es i x).key ≡ 1 * (get_or es first x).key = ap (λ (n : ℕ). 1 * (get_or es n x).key) same in
-          elim (cases_lt k (count - 1)) [
-            | inl early ↦ absurd (omega (arith, met x, meet x, keys, alone k x early))
-            | inr late ↦
-                let last : k ≡ count - 1 = omega (arith, late, before) in
-                let at_last : get_or es (count - 1) x ≡ get_or es (count - 1) y = get_or_default es (count - 1) x y (omega (arith, some, within)) in
-                let sums : ((pos a *ℤ (get_or es first x).constant) +ℤ (pos a *ℤ (get_or es (count - 1) x).constant)) ≤ℤ most = rw (same, last) at (serve x) in
-                absurd (great (rw at_last at sums))
-          ]
-      | inr other ↦
-          let later : first < i = omega (arith, from, other) in
-          elim (cases_lt k rest) [
-            | inl early ↦ (omega (arith, later), early)
-            | inr late ↦
-                let last : k ≡ count - 1 = omega (arith, late, before, all) in
-                let second_keys : 1 * (get_or es k x).key ≡ 1 * (get_or es (count - 1) x).key = ap (λ (n : ℕ). 1 * (get_or es n x).key) last in
-                absurd (omega (arith, meet x, met x, second_keys, greater i x (omega (arith, late, before)) later li))
-          ]
-    ]
 
 -- before an entry of a greater key than the one before it all keys are less
 pub all_before : (es : List Entry) (count k : ℕ) (x d : Entry) → IsNonDecreasingBy (λ (e : Entry). e.key) es → count ≤ length es → 1 < count →
@@ -153,6 +117,38 @@ all_before es count k x d up within two less early =
     let below : (get_or es (count - 2) d).key < (get_or es (count - 1) d).key = rw (one, last) at less in
     omega (arith, below, up k (count - 2) d (omega (arith, early)) (omega (arith, two, within)))
 
+-- two that meet and do not serve, where the second one is alone of its key: none of those that are passed over then serves
+pub passed_alone : (xs ys : List Entry) (u v total a b : ℕ) (most : ℤ) (first count rest i k : ℕ) (x y : Entry) → 0 < v → 0 < count → count ≤ length ys → first < length xs →
+    Meet xs ys u v total first (count - 1) →
+    (((pos a *ℤ (get_or xs first x).constant) +ℤ (pos b *ℤ (get_or ys (count - 1) y).constant)) ≤ℤ most → ⊥) →
+    ((k : ℕ) (d : Entry) → k < count - 1 → (get_or ys k d).key < (get_or ys (count - 1) d).key) →
+    count ≤ rest + 1 → ((k : ℕ) (d : Entry) → rest < count → first < k → k < length xs → u * (get_or xs first d).key < u * (get_or xs k d).key) →
+    first ≤ i → i < length xs → k < count → Meet xs ys u v total i k → Serve xs ys a b most i k → (first + 1 ≤ i) × (k < rest)
+passed_alone xs ys u v total a b most first count rest i k x y positive some within lf met great alone all greater from li before meet serve =
+    elim (cases_eq i first) [
+      | inl same ↦
+          let keys : u * (get_or xs i x).key ≡ u * (get_or xs first x).key = ap (λ (n : ℕ). u * (get_or xs n x).key) same in
+          elim (cases_lt k (count - 1)) [
+            | inl early ↦
+                let seconds : (get_or ys k x).key ≡ (get_or ys (count - 1) x).key = cancel v _ _ positive (omega (arith, met x, meet x, keys)) in
+                absurd (omega (arith, seconds, alone k x early))
+            | inr late ↦
+                let last : k ≡ count - 1 = omega (arith, late, before) in
+                let at_last : get_or ys (count - 1) x ≡ get_or ys (count - 1) y = get_or_default ys (count - 1) x y (omega (arith, some, within)) in
+                let sums : ((pos a *ℤ (get_or xs first x).constant) +ℤ (pos b *ℤ (get_or ys (count - 1) x).constant)) ≤ℤ most = rw (same, last) at (serve x) in
+                absurd (great (rw at_last at sums))
+          ]
+      | inr other ↦
+          let later : first < i = omega (arith, from, other) in
+          elim (cases_lt k rest) [
+            | inl early ↦ (omega (arith, later), early)
+            | inr late ↦
+                let last : k ≡ count - 1 = omega (arith, late, before, all) in
+                let second_keys : v * (get_or ys k x).key ≡ v * (get_or ys (count - 1) x).key = ap (λ (n : ℕ). v * (get_or ys n x).key) last in
+                absurd (omega (arith, meet x, met x, second_keys, greater i x (omega (arith, late, before)) later li))
+          ]
+    ]
+
 -- a number that a divides, and one that it does not
 pub divides : (w a : ℕ) → w % a ≡ 0 → w ≡ a * (w / a)
 divides w a even = omega (arith, div-add-mod w a, even)
@@ -160,102 +156,175 @@ divides w a even = omega (arith, div-add-mod w a, even)
 pub divides_not : (w a : ℕ) → (w % a ≡ 0 → ⊥) → (x : ℕ) → w ≡ a * x → ⊥
 divides_not w a odd x is = odd (ap (λ (n : ℕ). n % a) (is ∙ mul_comm a x) ∙ mul-mod_left x a)
 
+-- ---- what is sought
+
+pub whole_total : (key a b total x y : ℕ) → total + 2 ^ 100 ≡ (a + b) * 2 ^ 100 + key → Balance key a b x y → a * x + b * y ≡ total
+whole_total key a b total x y is balance = omega (arith, is, balance)
+
+-- a factor that both have is left out
+pub shared_total : (key b total x y : ℕ) → 0 < b → total % b ≡ 0 → total + 2 ^ 100 ≡ (b + b) * 2 ^ 100 + key → Balance key b b x y → x + y ≡ total / b
+shared_total key b total x y some even is balance =
+    let spread : b * (x + y) ≡ b * x + b * y = omega arith in
+    cancel b (x + y) (total / b) some (omega (arith, spread, is, balance, divides total b even))
+
+pub none_shared : (key b total x y : ℕ) → (total % b ≡ 0 → ⊥) → total + 2 ^ 100 ≡ (b + b) * 2 ^ 100 + key → Balance key b b x y → ⊥
+none_shared key b total x y odd is balance =
+    let spread : b * (x + y) ≡ b * x + b * y = omega arith in
+    divides_not total b odd (x + y) (omega (arith, spread, is, balance))
+
 -- ---- what makes a form up
 
--- what makes the form up meets
-sum_meets : (facts : List Fact) (es : List Entry) → IsIndex facts (suc (length facts)) es → (e : Combination) (a b key total : ℕ) → IsKeyOf e.terms key → total + 2 ^ 100 ≡ (a + b) * 2 ^ 100 + key →
-    (f g : Entry) (f_in : Contains es f) (g_in : Contains es g) → IsSum e a (place_at facts f.place) b (place_at facts g.place) → Meet es a b total f_in.0 g_in.0
-sum_meets facts es index e a b key total is whole f g f_in g_in sum = λ d.
-    let own_f = All-contains (IsEntry facts) es f index.own f_in in
-    let own_g = All-contains (IsEntry facts) es g index.own g_in in
+pub sum_balances : (facts : List Fact) (e : Combination) (a b key : ℕ) → IsKeyOf e.terms key → (f g : Entry) → IsEntry facts f → IsEntry facts g →
+    IsSum e a (place_at facts f.place) b (place_at facts g.place) → Balance key a b f.key g.key
+sum_balances facts e a b key is f g own_f own_g sum =
     let keys = key_of_sum e a (place_at facts f.place) b (place_at facts g.place) key f.key g.key is own_f.key own_g.key sum in
-    let at_f : get_or es f_in.0 d ≡ f = get_or_default es f_in.0 d f f_in.1 ∙ f_in.2 in
-    let at_g : get_or es g_in.0 d ≡ g = get_or_default es g_in.0 d g g_in.1 ∙ g_in.2 in
-    rw (at_f, at_g) (omega (arith, keys, whole))
+    omega (arith, keys)
 
--- what is left after first ones that are too small
-pub left_risen : (facts : List Fact) (es : List Entry) → IsIndex facts (suc (length facts)) es → (e : Combination) (a b key total at upto next : ℕ) → IsKeyOf e.terms key → total + 2 ^ 100 ≡ (a + b) * 2 ^ 100 + key →
-    ((i k : ℕ) → at ≤ i → k < upto → Meet es a b total i k → next ≤ i) → AreLeft facts e es a b at upto → AreLeft facts e es a b next upto
-left_risen facts es index e a b key total at upto next is whole passed left = λ f g f_in g_in sum.
-    let was = left f g f_in g_in sum in
-    (passed f_in.0 g_in.0 was.0 was.1 (sum_meets facts es index e a b key total is whole f g f_in g_in sum), was.1)
+-- what makes the form up meets
+sum_meets : (facts : List Fact) (xs ys : List Entry) → AreEntries facts xs → AreEntries facts ys → (e : Combination) (a b key u v total : ℕ) → IsKeyOf e.terms key →
+    ((x y : ℕ) → Balance key a b x y → u * x + v * y ≡ total) →
+    (f g : Entry) (f_in : Contains xs f) (g_in : Contains ys g) → IsSum e a (place_at facts f.place) b (place_at facts g.place) → Meet xs ys u v total f_in.0 g_in.0
+sum_meets facts xs ys own_xs own_ys e a b key u v total is sought f g f_in g_in sum = λ d.
+    let own_f = All-contains (IsEntry facts) xs f own_xs.own f_in in
+    let own_g = All-contains (IsEntry facts) ys g own_ys.own g_in in
+    let keys = sought f.key g.key (sum_balances facts e a b key is f g own_f own_g sum) in
+    let at_f : get_or xs f_in.0 d ≡ f = get_or_default xs f_in.0 d f f_in.1 ∙ f_in.2 in
+    let at_g : get_or ys g_in.0 d ≡ g = get_or_default ys g_in.0 d g g_in.1 ∙ g_in.2 in
+    rw (at_f, at_g) keys
 
--- what is left after second ones that are too great
-pub left_fallen : (facts : List Fact) (es : List Entry) → IsIndex facts (suc (length facts)) es → (e : Combination) (a b key total at upto next : ℕ) → IsKeyOf e.terms key → total + 2 ^ 100 ≡ (a + b) * 2 ^ 100 + key →
-    ((i k : ℕ) → at ≤ i → i < length es → k < upto → Meet es a b total i k → k < next) → AreLeft facts e es a b at upto → AreLeft facts e es a b at next
-left_fallen facts es index e a b key total at upto next is whole passed left = λ f g f_in g_in sum.
+-- what is left where a pass went on
+pub left_passed : (facts : List Fact) (xs ys : List Entry) → AreEntries facts xs → AreEntries facts ys → (e : Combination) (a b key u v total : ℕ) (most : ℤ) (at upto first count : ℕ) → IsKeyOf e.terms key →
+    ((x y : ℕ) → Balance key a b x y → u * x + v * y ≡ total) → most ≡ e.constant →
+    ((i k : ℕ) → at ≤ i → i < length xs → k < upto → Meet xs ys u v total i k → Serve xs ys a b most i k → (first ≤ i) × (k < count)) →
+    AreLeft facts e xs ys a b at upto → AreLeft facts e xs ys a b first count
+left_passed facts xs ys own_xs own_ys e a b key u v total most at upto first count is sought same passed left = λ f g f_in g_in sum.
     let was = left f g f_in g_in sum in
-    (was.0, passed f_in.0 g_in.0 was.0 f_in.1 was.1 (sum_meets facts es index e a b key total is whole f g f_in g_in sum))
+    let own_f = All-contains (IsEntry facts) xs f own_xs.own f_in in
+    let own_g = All-contains (IsEntry facts) ys g own_ys.own g_in in
+    let serve : Serve xs ys a b most f_in.0 g_in.0 = λ d.
+    let at_f : get_or xs f_in.0 d ≡ f = get_or_default xs f_in.0 d f f_in.1 ∙ f_in.2 in
+    let at_g : get_or ys g_in.0 d ≡ g = get_or_default ys g_in.0 d g g_in.1 ∙ g_in.2 in
+    rw (at_f, at_g, own_f.constant, own_g.constant, same) sum.constant in
+    passed f_in.0 g_in.0 was.0 f_in.1 was.1 (sum_meets facts xs ys own_xs own_ys e a b key u v total is sought f g f_in g_in sum) serve
 
 -- what is left after two that meet, where the first one makes the form up with none of the second one's key
-pub left_next : (facts : List Fact) (es : List Entry) → IsIndex facts (suc (length facts)) es → (e : Combination) (a b key total at upto rest : ℕ) → IsKeyOf e.terms key → total + 2 ^ 100 ≡ (a + b) * 2 ^ 100 + key →
-    0 < b → Meet es a b total at (upto - 1) →
-    ((d : Entry) (k : ℕ) → k < upto → (get_or es k d).key ≡ (get_or es (upto - 1) d).key →
-    IsSum e a (place_at facts (get_or es at d).place) b (place_at facts (get_or es k d).place) → ⊥) →
-    upto ≤ rest + 1 → ((k : ℕ) (d : Entry) → rest < upto → at < k → k < length es → a * (get_or es at d).key < a * (get_or es k d).key) →
-    AreLeft facts e es a b at upto → AreLeft facts e es a b (at + 1) rest
-left_next facts es index e a b key total at upto rest is whole some met none all greater left = λ f g f_in g_in sum.
+pub left_next : (facts : List Fact) (xs ys : List Entry) → AreEntries facts xs → AreEntries facts ys → (e : Combination) (a b key u v total at upto rest : ℕ) → IsKeyOf e.terms key →
+    ((x y : ℕ) → Balance key a b x y → u * x + v * y ≡ total) → 0 < v → Meet xs ys u v total at (upto - 1) →
+    ((d : Entry) (k : ℕ) → k < upto → (get_or ys k d).key ≡ (get_or ys (upto - 1) d).key →
+    IsSum e a (place_at facts (get_or xs at d).place) b (place_at facts (get_or ys k d).place) → ⊥) →
+    upto ≤ rest + 1 → ((k : ℕ) (d : Entry) → rest < upto → at < k → k < length xs → u * (get_or xs at d).key < u * (get_or xs k d).key) →
+    AreLeft facts e xs ys a b at upto → AreLeft facts e xs ys a b (at + 1) rest
+left_next facts xs ys own_xs own_ys e a b key u v total at upto rest is sought some met none all greater left = λ f g f_in g_in sum.
     let was = left f g f_in g_in sum in
-    let meet = sum_meets facts es index e a b key total is whole f g f_in g_in sum in
+    let meet = sum_meets facts xs ys own_xs own_ys e a b key u v total is sought f g f_in g_in sum in
     elim (cases_eq f_in.0 at) [
       | inl same ↦
-          let at_f : get_or es at g ≡ f = ap (λ n. get_or es n g) (sym same) ∙ get_or_default es f_in.0 g f f_in.1 ∙ f_in.2 in
-          let first_keys : a * (get_or es f_in.0 g).key ≡ a * (get_or es at g).key = ap (λ (n : ℕ). a * (get_or es n g).key) same in
-          let keys : b * (get_or es g_in.0 g).key ≡ b * (get_or es (upto - 1) g).key = omega (arith, meet g, met g, first_keys) in
-          absurd (none g g_in.0 was.1 (cancel b _ _ some keys) (rw (at_f, g_in.2) sum))
+          let at_f : get_or xs at g ≡ f = ap (λ n. get_or xs n g) (sym same) ∙ get_or_default xs f_in.0 g f f_in.1 ∙ f_in.2 in
+          let first_keys : u * (get_or xs f_in.0 g).key ≡ u * (get_or xs at g).key = ap (λ (n : ℕ). u * (get_or xs n g).key) same in
+          let keys : v * (get_or ys g_in.0 g).key ≡ v * (get_or ys (upto - 1) g).key = omega (arith, meet g, met g, first_keys) in
+          absurd (none g g_in.0 was.1 (cancel v _ _ some keys) (rw (at_f, g_in.2) sum))
       | inr other ↦
           let later : at < f_in.0 = omega (arith, was.0, other) in
           elim (cases_lt g_in.0 rest) [
             | inl early ↦ (omega (arith, later), early)
             | inr late ↦
                 let last : g_in.0 ≡ upto - 1 = omega (arith, was.1, late, all) in
-                let second_keys : b * (get_or es g_in.0 g).key ≡ b * (get_or es (upto - 1) g).key = ap (λ (n : ℕ). b * (get_or es n g).key) last in
+                let second_keys : v * (get_or ys g_in.0 g).key ≡ v * (get_or ys (upto - 1) g).key = ap (λ (n : ℕ). v * (get_or ys n g).key) last in
                 absurd (omega (arith, meet g, met g, second_keys, greater f_in.0 g (omega (arith, late, was.1)) later f_in.1))
           ]
     ]
 
--- what is left after two entries that do not serve, with one factor for both
-pub left_twice : (facts : List Fact) (es : List Entry) → IsIndex facts (suc (length facts)) es → (e : Combination) (a key whole total at upto first count : ℕ) → IsKeyOf e.terms key → whole + 2 ^ 100 ≡ (a + a) * 2 ^ 100 + key →
-    0 < a → whole ≡ a * total → ((i k : ℕ) → at ≤ i → i < length es → k < upto → MeetWithin es a total e.constant i k → (first ≤ i) × (k < count)) →
-    AreLeft facts e es a a at upto → AreLeft facts e es a a first count
-left_twice facts es index e a key whole total at upto first count is is_whole some divides passed left = λ f g f_in g_in sum.
-    let was = left f g f_in g_in sum in
-    let own_f = All-contains (IsEntry facts) es f index.own f_in in
-    let own_g = All-contains (IsEntry facts) es g index.own g_in in
-    let meet = sum_meets facts es index e a a key whole is is_whole f g f_in g_in sum in
-    let single : a ≡ a * 1 = omega arith in
-    let within : (d : Entry) → ((pos a *ℤ (get_or es f_in.0 d).constant) +ℤ (pos a *ℤ (get_or es g_in.0 d).constant)) ≤ℤ e.constant = λ d.
-    let at_f : get_or es f_in.0 d ≡ f = get_or_default es f_in.0 d f f_in.1 ∙ f_in.2 in
-    let at_g : get_or es g_in.0 d ≡ g = get_or_default es g_in.0 d g g_in.1 ∙ g_in.2 in
-    rw (at_f, at_g, own_f.constant, own_g.constant) sum.constant in
-    passed f_in.0 g_in.0 was.0 f_in.1 was.1 (meet_reduced es a a whole a 1 1 total f_in.0 g_in.0 some single single divides meet, within)
-
 -- nothing makes the form up where nothing is left
-pub none_left : (facts : List Fact) (es : List Entry) → IsIndex facts (suc (length facts)) es → (e : Combination) (a b at upto : ℕ) →
-    AreLeft facts e es a b at upto → (IsOpen (length es) a b at upto → ⊥) → IsMadeUpWith facts e es a b → ⊥
-none_left facts es index e a b at upto left closed (first, c, (g, in_g, sum)) =
-    let k = kept_side facts es index g in_g in
-    let f = place_at facts first.place in
-    let s : IsSum e a f b (place_at facts k.0.place) = stronger_second e a f b g (place_at facts k.0.place) k.2 sum in
-    let one = left first k.0 c k.1 s in
-    let turned : a ≡ b → IsSum e a (place_at facts k.0.place) b f = λ ab.
-    subst (λ (x : ℕ). IsSum e a (place_at facts k.0.place) x f) ab
-    (subst (λ (x : ℕ). IsSum e x (place_at facts k.0.place) a f) (sym ab) (swapped e a f b (place_at facts k.0.place) s)) in
-    closed (record {
-      within = omega (arith, one.0, c.1);
-      some = omega (arith, one.1);
-      order = λ ab. let other = left k.0 first k.1 c (turned ab) in omega (arith, one.1, other.0);
-    })
+pub none_left : (facts : List Fact) (e : Combination) (xs ys : List Entry) (a b at upto : ℕ) → AreLeft facts e xs ys a b at upto → (at < length xs → 0 < upto → ⊥) → IsMadeUpBetween facts e xs ys a b → ⊥
+none_left facts e xs ys a b at upto left closed (f, f_in, g, g_in, sum) =
+    let one = left f g f_in g_in sum in
+    closed (omega (arith, one.0, f_in.1)) (omega (arith, one.1))
 
--- nothing makes the form up where no keys come to the total, as the two factors are one that does not divide it
-pub none_shared : (facts : List Fact) (es : List Entry) → IsIndex facts (suc (length facts)) es → (e : Combination) (a b key total : ℕ) → IsKeyOf e.terms key → total + 2 ^ 100 ≡ (a + b) * 2 ^ 100 + key →
-    a ≡ b → ((x : ℕ) → total ≡ b * x → ⊥) → IsMadeUpWith facts e es a b → ⊥
-none_shared facts es index e a b key total is whole same none (first, c, (g, in_g, sum)) =
+-- nothing makes the form up where no two keys balance
+pub none_balance : (facts : List Fact) (xs ys : List Entry) → AreEntries facts xs → AreEntries facts ys → (e : Combination) (a b key : ℕ) → IsKeyOf e.terms key →
+    ((x y : ℕ) → Balance key a b x y → ⊥) → IsMadeUpBetween facts e xs ys a b → ⊥
+none_balance facts xs ys own_xs own_ys e a b key is none (f, f_in, g, g_in, sum) =
+    let own_f = All-contains (IsEntry facts) xs f own_xs.own f_in in
+    let own_g = All-contains (IsEntry facts) ys g own_ys.own g_in in
+    none f.key g.key (sum_balances facts e a b key is f g own_f own_g sum)
+
+-- with the same factor the two lists may change places
+turned : (facts : List Fact) (e : Combination) (xs ys : List Entry) (a b : ℕ) → IsMadeUpBetween facts e xs ys a b → IsMadeUpBetween facts e ys xs b a
+turned facts e xs ys a b (f, f_in, g, g_in, sum) = (g, g_in, f, f_in, swapped e a (place_at facts f.place) b (place_at facts g.place) sum)
+
+pub same_factors : (facts : List Fact) (e : Combination) (xs ys : List Entry) (a b : ℕ) → a ≡ b → IsMadeUpBetween facts e ys xs a b → IsMadeUpBetween facts e xs ys a b
+same_factors facts e xs ys a b same made =
+    subst (λ (n : ℕ). IsMadeUpBetween facts e xs ys a n) same (subst (λ (n : ℕ). IsMadeUpBetween facts e xs ys n a) (sym same) (turned facts e ys xs a b made))
+
+-- among more entries
+pub between_more : (facts : List Fact) (e : Combination) (xs ys xs' ys' : List Entry) (a b : ℕ) → ((x : Entry) → Contains xs x → Contains xs' x) → ((y : Entry) → Contains ys y → Contains ys' y) →
+    IsMadeUpBetween facts e xs ys a b → IsMadeUpBetween facts e xs' ys' a b
+between_more facts e xs ys xs' ys' a b on_x on_y (f, f_in, g, g_in, sum) = (f, on_x f f_in, g, on_y g g_in, sum)
+
+-- ---- one list, by halves
+
+half : (key a x y total : ℕ) → 0 < a → x ≤ y → total + 2 ^ 100 ≡ (a + a) * 2 ^ 100 + key → Balance key a a x y → (x ≤ total / (a * 2)) × (total / (a * 2) ≤ y)
+half key a x y total some le is balance =
+    let sums : a * x + a * y ≡ total = omega (arith, is, balance) in
+    let rises : a * x ≤ a * y = mul-le-mul_left a le in
+    (le-div x total (a * 2) (omega (arith, some)) (omega (arith, sums, rises)), div-le_of_le-mul (a * 2) (omega (arith, sums, rises)))
+
+-- of two, the one of the lesser key stands among the first ones up to the middle, and the other one among those from there on
+halves : (facts : List Fact) (e : Combination) (es : List Entry) → AreEntries facts es → (a key total upto from : ℕ) → IsKeyOf e.terms key → 0 < a → total + 2 ^ 100 ≡ (a + a) * 2 ^ 100 + key → upto ≤ length es →
+    ((k : ℕ) (d : Entry) → upto ≤ k → k < length es → total / (a * 2) < (get_or es k d).key) → ((k : ℕ) (d : Entry) → k < from → (get_or es k d).key < total / (a * 2)) →
+    (f g : Entry) → Contains es f → Contains es g → IsSum e a (place_at facts f.place) a (place_at facts g.place) → f.key ≤ g.key → IsMadeUpBetween facts e (take upto es) (drop from es) a a
+halves facts e es own a key total upto from is some is_total within above below f g f_in g_in sum le =
+    let own_f = All-contains (IsEntry facts) es f own.own f_in in
+    let own_g = All-contains (IsEntry facts) es g own.own g_in in
+    let both = half key a f.key g.key total some le is_total (sum_balances facts e a a key is f g own_f own_g sum) in
+    let key_f : (get_or es f_in.0 f).key ≡ f.key = ap (λ (x : Entry). x.key) f_in.2 in
+    let key_g : (get_or es g_in.0 g).key ≡ g.key = ap (λ (x : Entry). x.key) g_in.2 in
+    let first : f_in.0 < upto = elim (cases_lt f_in.0 upto) [
+      | inl early ↦ early
+      | inr late ↦ absurd (omega (arith, above f_in.0 f late f_in.1, key_f, both.0))
+    ] in
+    let second : from ≤ g_in.0 = elim (cases_lt g_in.0 from) [
+      | inl early ↦ absurd (omega (arith, below g_in.0 g early, key_g, both.1))
+      | inr late ↦ late
+    ] in
+    (f, in_front upto es f f_in first within, g, in_back from es g g_in second, sum)
+
+pub halved : (facts : List Fact) (e : Combination) (es : List Entry) → AreEntries facts es → (a key total upto from : ℕ) → IsKeyOf e.terms key → 0 < a → total + 2 ^ 100 ≡ (a + a) * 2 ^ 100 + key → upto ≤ length es →
+    ((k : ℕ) (d : Entry) → upto ≤ k → k < length es → total / (a * 2) < (get_or es k d).key) → ((k : ℕ) (d : Entry) → k < from → (get_or es k d).key < total / (a * 2)) →
+    IsMadeUpBetween facts e es es a a → IsMadeUpBetween facts e (take upto es) (drop from es) a a
+halved facts e es own a key total upto from is some is_total within above below (f, f_in, g, g_in, sum) = elim (cases_lt g.key f.key) [
+  | inl more ↦ halves facts e es own a key total upto from is some is_total within above below g f g_in f_in (swapped e a (place_at facts f.place) a (place_at facts g.place) sum) (omega (arith, more))
+  | inr less ↦ halves facts e es own a key total upto from is some is_total within above below f g f_in g_in sum (omega (arith, less))
+]
+
+-- ---- two lists
+
+-- what entries of an index make up is made up between them
+pub with_between : (facts : List Fact) (es : List Entry) → IsIndex facts (suc (length facts)) es → (e : Combination) (a b : ℕ) → IsMadeUpWith facts e es a b → IsMadeUpBetween facts e es es a b
+with_between facts es index e a b (first, c, (g, in_g, sum)) =
     let k = kept_side facts es index g in_g in
-    let f = place_at facts first.place in
-    let s : IsSum e a f b (place_at facts k.0.place) = stronger_second e a f b g (place_at facts k.0.place) k.2 sum in
-    let meet = sum_meets facts es index e a b key total is whole first k.0 c k.1 s first in
-    let u = (get_or es c.0 first).key in
-    let v = (get_or es k.1.0 first).key in
-    let turned : a * u ≡ b * u = ap (λ (m : ℕ). m * u) same in
-    none (u + v) (omega (arith, meet, turned))
+    (first, c, k.0, k.1, stronger_second e a (place_at facts first.place) b g (place_at facts k.0.place) k.2 sum)
+
+pub between_with : (facts : List Fact) (es : List Entry) → IsIndex facts (suc (length facts)) es → (e : Combination) (a b : ℕ) → IsMadeUpBetween facts e es es a b → IsMadeUpWith facts e es a b
+between_with facts es index e a b (f, f_in, g, g_in, sum) =
+    (f, f_in, (place_at facts g.place, side_of_entry facts g (All-contains (IsEntry facts) es g index.own g_in), sum))
+
+pub in_settled : (settled recent : List Entry) (x : Entry) → Contains settled x → Contains (settled ++ recent) x
+in_settled settled recent x c = Contains-append_left settled recent x c
+
+pub in_recent : (settled recent : List Entry) (x : Entry) → Contains recent x → Contains (settled ++ recent) x
+in_recent settled recent x c = Contains-append_right settled recent x c
+
+-- nothing is made up of two lists where nothing is made up within each, nor of one of each
+pub none_of_two : (facts : List Fact) (e : Combination) (xs ys : List Entry) (a b : ℕ) → (IsMadeUpBetween facts e xs xs a b → ⊥) → (IsMadeUpBetween facts e ys ys a b → ⊥) →
+    (IsMadeUpBetween facts e xs ys a b → ⊥) → (IsMadeUpBetween facts e ys xs a b → ⊥) → IsMadeUpBetween facts e (xs ++ ys) (xs ++ ys) a b → ⊥
+none_of_two facts e xs ys a b within_x within_y x_y y_x (f, f_in, g, g_in, sum) = elim (Contains-append_cases xs ys f f_in) [
+  | inl f_x ↦ elim (Contains-append_cases xs ys g g_in) [
+    | inl g_x ↦ within_x (f, f_x, g, g_x, sum)
+    | inr g_y ↦ x_y (f, f_x, g, g_y, sum)
+  ]
+  | inr f_y ↦ elim (Contains-append_cases xs ys g g_in) [
+    | inl g_x ↦ y_x (f, f_y, g, g_x, sum)
+    | inr g_y ↦ within_y (f, f_y, g, g_y, sum)
+  ]
+]

@@ -1,5 +1,5 @@
 -- Facts by the values of their terms: of those with the same coefficients the strongest alone is kept.
-use Rattle.std.specs.Prelude.{◌≡◌, ℕ, suc, ◌<◌, ◌≤◌, ◌+◌, ◌*◌, ◌%◌, ◌^◌, ℤ, pos, negsuc, ◌+ℤ◌, ◌*ℤ◌, ◌≤ℤ◌, ◌⊎◌, Bool, true, List, [], length, take, All, Contains, slice_index_or, unsigned_abs}
+use Rattle.std.specs.Prelude.{◌≡◌, ℕ, suc, ◌<◌, ◌≤◌, ◌+◌, ◌*◌, ◌%◌, ◌^◌, ℤ, pos, negsuc, ◌+ℤ◌, ◌*ℤ◌, ◌≤ℤ◌, ◌⊎◌, Bool, true, List, [], ◌++◌, length, take, All, Contains, slice_index_or, unsigned_abs}
 use Rattle.std.specs.List.Sorted.{IsNonDecreasingBy}
 use Rattle.linear.specs.declared.form.Term.{Term}
 use Rattle.linear.specs.declared.form.Fact.{Fact}
@@ -74,11 +74,16 @@ pub record IsMerging (facts : List Fact) (entries fresh rest merged : List Entry
   pub kept : (e : Entry) → Contains entries e → Contains rest e ⊎ IsIndexed facts merged e.place
   pub entered : All (λ (e : Entry). IsIndexed facts merged e.place) fresh
 
--- entries of the first places, by rising keys
+-- entries of the first places
 pub record IsIndex (facts : List Fact) (count : ℕ) (entries : List Entry) : Type 0 where
-  pub sorted : IsNonDecreasingBy (λ (e : Entry). e.key) entries
   pub own : All (IsEntry facts) entries
   pub kept : (place : ℕ) → place < count → IsIndexed facts entries place
+
+-- the same in two lists, each by rising keys
+pub record AreLayers (facts : List Fact) (count : ℕ) (early late : List Entry) : Type 0 where
+  pub settled : AreEntries facts early
+  pub recent : AreEntries facts late
+  pub kept : (place : ℕ) → place < count → IsIndexed facts (early ++ late) place
 
 -- the two say that something below 0 is not below 0
 abbrev pub IsContradiction : Combination → Combination → Type 0
@@ -89,9 +94,9 @@ abbrev pub AreConsistent : List Fact → ℕ → Type 0
 AreConsistent facts count = (p q : ℕ) → p < count → q < count → IsContradiction (place_at facts p) (place_at facts q) → ⊥
 
 -- an index of the first places, which more may join, and whether these are known to be consistent
-pub record IsBegun (facts : List Fact) (count : ℕ) (entries : List Entry) (is_consistent : Bool) : Type 0 where
+pub record IsBegun (facts : List Fact) (count : ℕ) (settled recent : List Entry) (is_consistent : Bool) : Type 0 where
   pub within : count ≤ suc (length facts)
-  pub index : IsIndex facts count entries
+  pub layers : AreLayers facts count settled recent
   pub consistent : is_consistent ≡ true → AreConsistent facts count
 
 -- something below 0, without terms
@@ -107,6 +112,11 @@ IsMadeUp facts e f a b = (g : Combination) × Contains (sides facts) g × IsSum 
 abbrev pub IsMadeUpWith : List Fact → Combination → List Entry → ℕ → ℕ → Type 0
 IsMadeUpWith facts e entries a b = (first : Entry) × Contains entries first × IsMadeUp facts e (place_at facts first.place) a b
 
+-- the same with the second fact among entries, too
+abbrev pub IsMadeUpBetween : List Fact → Combination → List Entry → List Entry → ℕ → ℕ → Type 0
+IsMadeUpBetween facts e firsts seconds a b = (first : Entry) × Contains firsts first × (second : Entry) × Contains seconds second
+    × IsSum e a (place_at facts first.place) b (place_at facts second.place)
+
 abbrev pub IsMadeUpByB : List Fact → Combination → List Entry → ℕ → Type 0
 IsMadeUpByB facts e entries a = (b : ℕ) × Contains (factors e.terms) b × IsMadeUpWith facts e entries a b
 
@@ -117,28 +127,26 @@ IsMadeUpByA facts e entries = (a : ℕ) × Contains (factors e.terms) a × IsMad
 abbrev pub AreNotB : List Fact → Combination → List Entry → ℕ → ℕ → Type 0
 AreNotB facts e entries a count = All (λ b. IsMadeUpWith facts e entries a b → ⊥) (take count (factors e.terms))
 
-abbrev pub AreSmallKeys : List Entry → Type 0
-AreSmallKeys entries = All (λ (e : Entry). e.key < 2 ^ 101) entries
+-- ---- a pass: of two lists two entries whose keys come to a total
 
-abbrev pub AreSmallConstants : List Entry → Type 0
-AreSmallConstants entries = All (λ (e : Entry). unsigned_abs e.constant < 2 ^ 100) entries
+pub record AreInOrder (entries : List Entry) : Type 0 where
+  pub sorted : IsNonDecreasingBy (λ (e : Entry). e.key) entries
+  pub keys : All (λ (e : Entry). e.key < 2 ^ 101) entries
+  pub constants : All (λ (e : Entry). unsigned_abs e.constant < 2 ^ 100) entries
 
--- the keys of two entries come to a total
-abbrev pub Meet : List Entry → ℕ → ℕ → ℕ → ℕ → ℕ → Type 0
-Meet entries a b total i k = (d : Entry) → a * (slice_index_or entries i d).key + b * (slice_index_or entries k d).key ≡ total
+abbrev pub Meet : List Entry → List Entry → ℕ → ℕ → ℕ → ℕ → ℕ → Type 0
+Meet firsts seconds a b total i k = (d : Entry) → a * (slice_index_or firsts i d).key + b * (slice_index_or seconds k d).key ≡ total
 
--- the same, where their constants come to no more than a bound, a times both
-abbrev pub MeetWithin : List Entry → ℕ → ℕ → ℤ → ℕ → ℕ → Type 0
-MeetWithin entries a total most i k = Meet entries 1 1 total i k
-    × ((d : Entry) → ((pos a *ℤ (slice_index_or entries i d).constant) +ℤ (pos a *ℤ (slice_index_or entries k d).constant)) ≤ℤ most)
+-- constants, a times the first one and b times the second one, come to no more than a bound
+abbrev pub Serve : List Entry → List Entry → ℕ → ℕ → ℤ → ℕ → ℕ → Type 0
+Serve firsts seconds a b most i k = (d : Entry)
+    → ((pos a *ℤ (slice_index_or firsts i d).constant) +ℤ (pos b *ℤ (slice_index_or seconds k d).constant)) ≤ℤ most
 
--- a first one is left from a place on, and a second one before another; those in either order count once where the factors are the same
-pub record IsOpen (many a b first count : ℕ) : Type 0 where
-  pub within : first < many
-  pub some : 0 < count
-  pub order : a ≡ b → first < count
+-- keys of what makes a form of this key up with the factors a and b
+abbrev pub Balance : ℕ → ℕ → ℕ → ℕ → ℕ → Type 0
+Balance key a b x y = a * x + b * y + 2 ^ 100 ≡ (a + b) * 2 ^ 100 + key
 
--- what makes the form up is left
-abbrev pub AreLeft : List Fact → Combination → List Entry → ℕ → ℕ → ℕ → ℕ → Type 0
-AreLeft facts e entries a b at upto = (f g : Entry) (f_in : Contains entries f) (g_in : Contains entries g)
+-- what makes the form up is left: the first one from a place on, and the second one before another
+abbrev pub AreLeft : List Fact → Combination → List Entry → List Entry → ℕ → ℕ → ℕ → ℕ → Type 0
+AreLeft facts e firsts seconds a b at upto = (f g : Entry) (f_in : Contains firsts f) (g_in : Contains seconds g)
     → IsSum e a (place_at facts f.place) b (place_at facts g.place) → (at ≤ f_in.0) × (g_in.0 < upto)

@@ -2,7 +2,7 @@
 
 ghost use Rattle.std.specs.Prelude.{◌≡◌, length, take};
 
-use crate::index::{Entered, Entry, FEW, enter_from, nothing_entered};
+use crate::index::{FEW, Index, enter_from};
 use crate::known::Known;
 use linear::Fact;
 use std::alloc::{AllocError, Global};
@@ -13,11 +13,7 @@ use std::marker::Model;
 pub struct FactCursor<'a> {
     facts: &'a [Fact],
     count: usize,
-    entries: Vec<Entry>,
-    /// Where the entries are merged with others.
-    room: Vec<Entry>,
-    /// How many places have entries, and whether they are consistent.
-    entered: Entered,
+    index: Index,
 }
 
 impl<'a> Model for FactCursor<'a> {
@@ -29,7 +25,7 @@ impl<'a> Model for FactCursor<'a> {
 
     ghost view = { λ c. (c.facts.now, c.count) };
 
-    ghost invariant = { λ c. IsBegun (take c.count c.facts.now) c.entered.count c.entries.items c.entered.is_consistent };
+    ghost invariant = { λ c. IsBegun (take c.count c.facts.now) c.index.entered.count c.index.settled.items c.index.recent.items c.index.entered.is_consistent };
 }
 
 /// The first of the facts.
@@ -51,9 +47,7 @@ impl<'a> FactCursor<'a> {
         FactCursor {
             facts,
             count: facts.len(),
-            entries: Vec::new(alloc),
-            room: Vec::new(alloc),
-            entered: nothing_entered(),
+            index: Index::new(alloc),
         }
     }
 
@@ -62,8 +56,7 @@ impl<'a> FactCursor<'a> {
         ensures { self.new ≡ (self.old.0, count) }
     {
         if count < self.count {
-            self.entries.clear();
-            self.entered = nothing_entered();
+            self.index.clear();
             self.count = count;
         } else {
             self.count = count;
@@ -78,14 +71,10 @@ impl<'a> FactCursor<'a> {
         if facts.len() <= FEW {
             return Ok(());
         }
-        match enter_from(facts, &mut self.entries, &mut self.room, self.entered) {
-            Ok(entered) => {
-                self.entered = entered;
-                Ok(())
-            }
+        match enter_from(facts, &mut self.index) {
+            Ok(()) => Ok(()),
             Err(refused) => {
-                self.entries.clear();
-                self.entered = nothing_entered();
+                self.index.clear();
                 Err(refused)
             }
         }
@@ -99,9 +88,9 @@ impl<'a> FactCursor<'a> {
         let facts = first(self.facts, self.count);
         Known {
             facts,
-            entries: self.entries.as_slice(),
-            is_indexed: self.entered.count > facts.len(),
-            is_consistent: self.entered.is_consistent,
+            layers: self.index.layers(),
+            is_indexed: self.index.entered.count > facts.len(),
+            is_consistent: self.index.entered.is_consistent,
         }
     }
 }

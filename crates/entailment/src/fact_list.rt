@@ -2,7 +2,7 @@
 
 ghost use Rattle.std.specs.Prelude.{◌≡◌, ◌++◌, ◌∷◌, [], IfOk, OnOk, length};
 
-use crate::index::{Entered, Entry, FEW, enter_from, nothing_entered};
+use crate::index::{FEW, Index, enter_from};
 use crate::known::Known;
 use linear::Fact;
 use std::alloc::{AllocError, Global};
@@ -11,22 +11,13 @@ use std::marker::Model;
 /// Facts in their order, and an index of the first of them. Contracts see the facts.
 pub struct FactList {
     facts: Vec<Fact>,
-    entries: Vec<Entry>,
-    /// Where the entries are merged with others.
-    room: Vec<Entry>,
-    /// How many places have entries, and whether they are consistent.
-    entered: Entered,
+    index: Index,
 }
 
 /// Written out, so that no crate above proves it anew.
 impl Drop for FactList {
     fn drop(self) {
-        let FactList {
-            facts: _,
-            entries: _,
-            room: _,
-            entered: _,
-        } = self;
+        let FactList { facts: _, index: _ } = self;
     }
 }
 
@@ -39,7 +30,7 @@ impl Model for FactList {
 
     ghost view = { λ l. l.facts.items };
 
-    ghost invariant = { λ l. IsBegun l.facts.items l.entered.count l.entries.items l.entered.is_consistent };
+    ghost invariant = { λ l. IsBegun l.facts.items l.index.entered.count l.index.settled.items l.index.recent.items l.index.entered.is_consistent };
 }
 
 impl FactList {
@@ -49,9 +40,7 @@ impl FactList {
     {
         FactList {
             facts: Vec::new(alloc),
-            entries: Vec::new(alloc),
-            room: Vec::new(alloc),
-            entered: nothing_entered(),
+            index: Index::new(alloc),
         }
     }
 
@@ -61,9 +50,7 @@ impl FactList {
     {
         FactList {
             facts,
-            entries: Vec::new(alloc),
-            room: Vec::new(alloc),
-            entered: nothing_entered(),
+            index: Index::new(alloc),
         }
     }
 
@@ -95,14 +82,10 @@ impl FactList {
             return Ok(());
         }
         let facts = self.facts.as_slice();
-        match enter_from(facts, &mut self.entries, &mut self.room, self.entered) {
-            Ok(entered) => {
-                self.entered = entered;
-                Ok(())
-            }
+        match enter_from(facts, &mut self.index) {
+            Ok(()) => Ok(()),
             Err(refused) => {
-                self.entries.clear();
-                self.entered = nothing_entered();
+                self.index.clear();
                 Err(refused)
             }
         }
@@ -114,9 +97,9 @@ impl FactList {
     {
         Known {
             facts: self.facts.as_slice(),
-            entries: self.entries.as_slice(),
-            is_indexed: self.entered.count > self.facts.len(),
-            is_consistent: self.entered.is_consistent,
+            layers: self.index.layers(),
+            is_indexed: self.index.entered.count > self.facts.len(),
+            is_consistent: self.index.entered.is_consistent,
         }
     }
 
@@ -124,12 +107,7 @@ impl FactList {
     pub fn into_vec(self) -> Vec<Fact>
         ensures { result.items ≡ self }
     {
-        let FactList {
-            facts,
-            entries: _,
-            room: _,
-            entered: _,
-        } = self;
+        let FactList { facts, index: _ } = self;
         facts
     }
 }

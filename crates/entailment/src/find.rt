@@ -1,10 +1,10 @@
 //! What many facts show.
 
 ghost use Rattle.std.specs.Prelude.{◌≡◌, ◌-◌, suc, true, IfOk, IfSome, IsTrue, drop, length};
-ghost use Rattle.entailment.specs.Index.{IsKeyOf, IsIndex};
+ghost use Rattle.entailment.specs.Index.{IsKeyOf, AreLayers};
 ghost use Rattle.entailment.specs.Tested.{is_shown};
 
-use crate::index::{Entry, FEW, index_of};
+use crate::index::{FEW, Layers, index_of};
 use crate::lookup::{Search, made_up, made_up_alone, made_up_by_bounds};
 use crate::show::shown;
 use crate::weight::key_of;
@@ -31,7 +31,7 @@ fn key_of_form(form: &Form) -> Option<u128>
 
 /// Whether one of the facts shows the form.
 fn shown_by_one(search: &Search<'_>) -> bool
-    requires index { IsIndex search.now.facts.now (suc (length search.now.facts.now)) search.now.entries.now }
+    requires index { AreLayers search.now.facts.now (suc (length search.now.facts.now)) search.now.layers.settled.now search.now.layers.recent.now }
     requires key { IsKeyOf search.now.form.now.terms search.now.key }
     ensures { IsTrue result → is_shown search.now.facts.now search.now.form.now ≡ true }
 {
@@ -40,7 +40,7 @@ fn shown_by_one(search: &Search<'_>) -> bool
 
 /// Whether bounds of the form's two registers show it.
 fn shown_by_bounds(search: &Search<'_>) -> bool
-    requires index { IsIndex search.now.facts.now (suc (length search.now.facts.now)) search.now.entries.now }
+    requires index { AreLayers search.now.facts.now (suc (length search.now.facts.now)) search.now.layers.settled.now search.now.layers.recent.now }
     ensures { IsTrue result → is_shown search.now.facts.now search.now.form.now ≡ true }
 {
     made_up_by_bounds(search)
@@ -50,7 +50,7 @@ fn shown_by_bounds(search: &Search<'_>) -> bool
 fn shown_by_newest(search: &Search<'_>) -> bool
     ensures { IsTrue result → is_shown search.now.facts.now search.now.form.now ≡ true }
 {
-    if search.entries.len() > 64 {
+    if !search.layers.settled.is_empty() {
         shown(newest(search.facts), search.form)
     } else {
         false
@@ -59,7 +59,7 @@ fn shown_by_newest(search: &Search<'_>) -> bool
 
 /// Whether the facts show the form.
 fn shown_by_two(search: &Search<'_>) -> bool
-    requires index { IsIndex search.now.facts.now (suc (length search.now.facts.now)) search.now.entries.now }
+    requires index { AreLayers search.now.facts.now (suc (length search.now.facts.now)) search.now.layers.settled.now search.now.layers.recent.now }
     requires key { IsKeyOf search.now.form.now.terms search.now.key }
     ensures { result ≡ is_shown search.now.facts.now search.now.form.now }
 {
@@ -68,7 +68,7 @@ fn shown_by_two(search: &Search<'_>) -> bool
 
 /// Whether the facts show the form, by their index. Most forms are shown by one fact, by a bound of each register, or by two of the newest facts.
 fn shown_by_search(search: &Search<'_>) -> bool
-    requires index { IsIndex search.now.facts.now (suc (length search.now.facts.now)) search.now.entries.now }
+    requires index { AreLayers search.now.facts.now (suc (length search.now.facts.now)) search.now.layers.settled.now search.now.layers.recent.now }
     requires key { IsKeyOf search.now.form.now.terms search.now.key }
     ensures { result ≡ is_shown search.now.facts.now search.now.form.now }
 {
@@ -85,14 +85,14 @@ fn shown_by_search(search: &Search<'_>) -> bool
 }
 
 /// Whether the facts show the form, by the index of them all.
-pub fn shown_by_index(facts: &[Fact], entries: &[Entry], form: &Form) -> bool
-    requires { IsIndex facts.now (suc (length facts.now)) entries.now }
+pub fn shown_by_index(facts: &[Fact], layers: Layers<'_>, form: &Form) -> bool
+    requires { AreLayers facts.now (suc (length facts.now)) layers.settled.now layers.recent.now }
     ensures { result ≡ is_shown facts.now form.now }
 {
     match key_of_form(form) {
         Some(key) => shown_by_search(&Search {
             facts,
-            entries,
+            layers,
             form,
             key,
         }),
@@ -105,7 +105,7 @@ fn shown_by_many(alloc: Global, facts: &[Fact], form: &Form) -> Result<bool, All
     ensures { IfOk result (λ b. b ≡ is_shown facts.now form.now) }
 {
     match index_of(alloc, facts)? {
-        Some(entries) => Ok(shown_by_index(facts, entries.as_slice(), form)),
+        Some(index) => Ok(shown_by_index(facts, index.layers(), form)),
         None => Ok(shown(facts, form)),
     }
 }

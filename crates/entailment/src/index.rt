@@ -1,23 +1,27 @@
 //! Facts by the values of their terms, so that one is looked up. Of facts with the same coefficients the strongest alone decides.
 
-ghost use Rattle.std.specs.Prelude.{◌≡◌, ◌<◌, ◌≤◌, ◌+◌, ◌*◌, ◌^◌, ◌↔◌, ℕ, suc, All, Contains, IsTrue, IfSome, IfNone, IfOk, OnOk, length};
+ghost use Rattle.std.specs.Prelude.{◌≡◌, ◌<◌, ◌≤◌, ◌+◌, ◌*◌, ◌^◌, ◌↔◌, ◌++◌, [], ℕ, suc, All, Contains, IsTrue, IfSome, IfNone, IfOk, OnOk, length};
 ghost use Rattle.std.specs.Prelude.{unsigned_abs, ◌≤ℤ◌, false, true, slice_index_or};
 ghost use Rattle.std.specs.List.Sorted.{IsNonDecreasingBy};
 ghost use Rattle.linear.specs.Forms.{AreSmall, IsRising, coefficient_of};
-ghost use Rattle.entailment.specs.Index.{place_at, IsKeyOf, IsEntry, IsIndex, IsBegun, IsContradiction, AreEntries, IsJoined};
+ghost use Rattle.entailment.specs.Index.{place_at, IsKeyOf, IsEntry, IsBegun, IsContradiction, AreEntries, AreLayers, IsJoined};
 ghost use Rattle.entailment.specs.declared.index.Entry.{Entry};
 
-use crate::merge::enter_many;
+use crate::merge::{enter_many, merge_into};
 use crate::show::{agree, is_at_most};
 use crate::weight::key_of;
 use linear::{Fact, Side, side_of};
 use std::alloc::{AllocError, Global};
+use std::mem;
 
 /// Up to so many facts are tried two by two, without an index.
 pub const FEW: usize = 4;
 
 /// So many facts and more are entered at once: the entries are copied then, and not moved anew for each.
 const MANY: usize = 8;
+
+/// So many entries, and one for each sixteen that have settled, may be recent.
+const LATE: usize = 64;
 
 /// A fact by its place: 0 stands for an absent one, 1 for the first. Its constant stands here, too, so that most facts that do not serve are passed
 /// over without a look at them.
@@ -26,6 +30,13 @@ pub struct Entry {
     pub key: u128,
     pub constant: i128,
     pub place: usize,
+}
+
+/// Entries in two lists, lent.
+#[derive(Clone, Copy)]
+pub struct Layers<'a> {
+    pub settled: &'a [Entry],
+    pub recent: &'a [Entry],
 }
 
 /// What stands at a place.
@@ -186,19 +197,36 @@ pub fn contradicts(facts: &[Fact], entries: &[Entry], entry: Entry) -> bool
     contradicted_from(facts, entries, from, wanted, entry.place)
 }
 
+/// Whether an entry of the two lists contradicts what stands at another's place.
+fn one_of_both_contradicts(
+    facts: &[Fact],
+    settled: &[Entry],
+    recent: &[Entry],
+    entry: Entry,
+) -> bool
+    requires entry { IsEntry facts.now entry }
+    requires settled { AreEntries facts.now settled.now }
+    requires recent { AreEntries facts.now recent.now }
+    ensures { (d : Entry) → result ≡ false → Contains (settled.now ++ recent.now) d
+        → IsContradiction (place_at facts.now entry.place) (place_at facts.now d.place) → ⊥ }
+{
+    contradicts(facts, settled, entry) || contradicts(facts, recent, entry)
+}
+
 /// Enters the next place, and answers whether those that are entered are still known to be consistent.
 fn enter_next(
     facts: &[Fact],
-    entries: &mut Vec<Entry>,
+    settled: &[Entry],
+    recent: &mut Vec<Entry>,
     entry: Entry,
     is_consistent: bool,
 ) -> Result<bool, AllocError>
     requires entry { IsEntry facts.now entry }
-    requires begun { IsBegun facts.now entry.place entries.old.items is_consistent }
-    ensures { IfOk result (λ b. IsBegun facts.now (suc entry.place) entries.new.items b) }
+    requires begun { IsBegun facts.now entry.place settled.now recent.old.items is_consistent }
+    ensures { IfOk result (λ b. IsBegun facts.now (suc entry.place) settled.now recent.new.items b) }
 {
-    enter(facts, entries, entry)?;
-    Ok(is_consistent && !contradicts(facts, entries.as_slice(), entry))
+    enter(facts, recent, entry)?;
+    Ok(is_consistent && !one_of_both_contradicts(facts, settled, recent.as_slice(), entry))
 }
 
 /// How many places have entries, and whether they are known to be consistent: no two of them contradict each other.
@@ -208,8 +236,29 @@ pub struct Entered {
     pub is_consistent: bool,
 }
 
+/// The strongest facts by their keys. The newest stand in a list of their own until they are many, so that where one joins few are moved.
+pub struct Index {
+    pub settled: Vec<Entry>,
+    pub recent: Vec<Entry>,
+    /// Where a list is merged with other entries.
+    pub room: Vec<Entry>,
+    pub entered: Entered,
+}
+
+/// Written out, so that no crate above proves it anew.
+impl Drop for Index {
+    fn drop(self) {
+        let Index {
+            settled: _,
+            recent: _,
+            room: _,
+            entered: _,
+        } = self;
+    }
+}
+
 /// Before anything is entered.
-pub fn nothing_entered() -> Entered
+fn nothing_entered() -> Entered
     ensures count { result.count ≡ 0 }
     ensures consistent { result.is_consistent ≡ true }
 {
@@ -219,21 +268,62 @@ pub fn nothing_entered() -> Entered
     }
 }
 
+impl Index {
+    /// Before anything is entered.
+    pub fn new(alloc: Global) -> Index
+        ensures settled { result.settled.items ≡ [] }
+        ensures recent { result.recent.items ≡ [] }
+        ensures count { result.entered.count ≡ 0 }
+        ensures consistent { result.entered.is_consistent ≡ true }
+    {
+        Index {
+            settled: Vec::new(alloc),
+            recent: Vec::new(alloc),
+            room: Vec::new(alloc),
+            entered: nothing_entered(),
+        }
+    }
+
+    /// Takes everything out, and keeps the memory.
+    pub fn clear(&mut self)
+        ensures settled { self.new.settled.items ≡ [] }
+        ensures recent { self.new.recent.items ≡ [] }
+        ensures count { self.new.entered.count ≡ 0 }
+        ensures consistent { self.new.entered.is_consistent ≡ true }
+    {
+        self.settled.clear();
+        self.recent.clear();
+        self.entered = nothing_entered();
+    }
+
+    /// The two lists, lent.
+    pub fn layers(&self) -> Layers<'_>
+        ensures settled { result.settled.now ≡ self.now.settled.items }
+        ensures recent { result.recent.now ≡ self.now.recent.items }
+    {
+        Layers {
+            settled: self.settled.as_slice(),
+            recent: self.recent.as_slice(),
+        }
+    }
+}
+
 /// Enters the facts from a place on one by one, and answers up to where: one past the range of keys stops it.
 fn enter_each(
     facts: &[Fact],
-    entries: &mut Vec<Entry>,
+    settled: &[Entry],
+    recent: &mut Vec<Entry>,
     from: Entered,
 ) -> Result<Entered, AllocError>
-    requires { IsBegun facts.now from.count entries.old.items from.is_consistent }
-    ensures { IfOk result (λ r. IsBegun facts.now r.count entries.new.items r.is_consistent) }
+    requires { IsBegun facts.now from.count settled.now recent.old.items from.is_consistent }
+    ensures { IfOk result (λ r. IsBegun facts.now r.count settled.now recent.new.items r.is_consistent) }
 {
     let count = facts.len() + 1;
     let mut is_consistent = from.is_consistent;
     for place in from.count..count {
         match entry_at(facts, place) {
             Some(entry) => {
-                is_consistent = enter_next(facts, entries, entry, is_consistent)?;
+                is_consistent = enter_next(facts, settled, recent, entry, is_consistent)?;
             }
             None => {
                 return Ok(Entered {
@@ -249,34 +339,72 @@ fn enter_each(
     })
 }
 
-/// Enters the facts from a place on, many of them at once, and answers up to where: one past the range of keys stops it. What stands in the room does not
-/// matter, its memory is used.
-pub fn enter_from(
+/// Enters the facts from a place on among the recent ones, many of them at once, and answers up to where: one past the range of keys stops it. What stands
+/// in the room does not matter, its memory is used.
+fn enter_recent(
     facts: &[Fact],
-    entries: &mut Vec<Entry>,
+    settled: &[Entry],
+    recent: &mut Vec<Entry>,
     room: &mut Vec<Entry>,
     from: Entered,
 ) -> Result<Entered, AllocError>
-    requires { IsBegun facts.now from.count entries.old.items from.is_consistent }
-    ensures { IfOk result (λ r. IsBegun facts.now r.count entries.new.items r.is_consistent) }
+    requires { IsBegun facts.now from.count settled.now recent.old.items from.is_consistent }
+    ensures { IfOk result (λ r. IsBegun facts.now r.count settled.now recent.new.items r.is_consistent) }
 {
     if from.count.saturating_add(MANY) <= facts.len() {
-        if let Some(entered) = enter_many(facts, entries, room, from)? {
+        if let Some(entered) = enter_many(facts, settled, recent, room, from)? {
             return Ok(entered);
         }
     }
-    enter_each(facts, entries, from)
+    enter_each(facts, settled, recent, from)
+}
+
+/// Where the recent ones are many, they settle.
+fn settle(facts: &[Fact], index: &mut Index) -> Result<(), AllocError>
+    requires { IsBegun facts.now index.old.entered.count index.old.settled.items index.old.recent.items index.old.entered.is_consistent }
+    ensures begun { OnOk result (IsBegun facts.now index.new.entered.count index.new.settled.items index.new.recent.items index.new.entered.is_consistent) }
+    ensures entered { OnOk result (index.new.entered ≡ index.old.entered) }
+{
+    if index.recent.len() <= (index.settled.len() / 16).saturating_add(LATE) {
+        return Ok(());
+    }
+    if index.settled.is_empty() {
+        mem::swap(&mut index.settled, &mut index.recent);
+        return Ok(());
+    }
+    merge_into(
+        facts,
+        &mut index.settled,
+        index.recent.as_slice(),
+        &mut index.room,
+    )?;
+    index.recent.clear();
+    Ok(())
+}
+
+/// Enters the facts that are not in the index yet, up to one past the range of keys.
+pub fn enter_from(facts: &[Fact], index: &mut Index) -> Result<(), AllocError>
+    requires { IsBegun facts.now index.old.entered.count index.old.settled.items index.old.recent.items index.old.entered.is_consistent }
+    ensures { OnOk result (IsBegun facts.now index.new.entered.count index.new.settled.items index.new.recent.items index.new.entered.is_consistent) }
+{
+    index.entered = enter_recent(
+        facts,
+        index.settled.as_slice(),
+        &mut index.recent,
+        &mut index.room,
+        index.entered,
+    )?;
+    settle(facts, index)
 }
 
 /// The strongest facts by their keys; none where one is past the range of keys.
-pub fn index_of(alloc: Global, facts: &[Fact]) -> Result<Option<Vec<Entry>>, AllocError>
-    ensures { IfOk result (λ index. IfSome index (λ entries. IsIndex facts.now (suc (length facts.now)) entries.items)) }
+pub fn index_of(alloc: Global, facts: &[Fact]) -> Result<Option<Index>, AllocError>
+    ensures { IfOk result (λ index. IfSome index (λ i. AreLayers facts.now (suc (length facts.now)) i.settled.items i.recent.items)) }
 {
-    let mut entries: Vec<Entry> = Vec::new(alloc);
-    let mut room: Vec<Entry> = Vec::new(alloc);
-    let entered = enter_from(facts, &mut entries, &mut room, nothing_entered())?;
-    if entered.count > facts.len() {
-        Ok(Some(entries))
+    let mut index = Index::new(alloc);
+    enter_from(facts, &mut index)?;
+    if index.entered.count > facts.len() {
+        Ok(Some(index))
     } else {
         Ok(None)
     }

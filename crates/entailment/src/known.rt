@@ -5,7 +5,7 @@ ghost use Rattle.entailment.specs.Index.{IsNegative};
 ghost use Rattle.entailment.specs.Tested.{is_shown};
 
 use crate::find::shown_by_index;
-use crate::index::Entry;
+use crate::index::Layers;
 use crate::show::shown;
 use linear::{Fact, Form, side_of};
 use std::marker::Model;
@@ -14,7 +14,7 @@ use std::marker::Model;
 #[derive(Drop)]
 pub struct Known<'a> {
     pub(crate) facts: &'a [Fact],
-    pub(crate) entries: &'a [Entry],
+    pub(crate) layers: Layers<'a>,
     pub(crate) is_indexed: bool,
     /// Whether the facts are known to be consistent, where they are indexed.
     pub(crate) is_consistent: bool,
@@ -29,7 +29,7 @@ impl<'a> Model for Known<'a> {
 
     ghost view = { λ k. k.facts.now };
 
-    ghost invariant = { λ k. k.is_indexed ≡ true → IsBegun k.facts.now (suc (length k.facts.now)) k.entries.now k.is_consistent };
+    ghost invariant = { λ k. k.is_indexed ≡ true → IsBegun k.facts.now (suc (length k.facts.now)) k.layers.settled.now k.layers.recent.now k.is_consistent };
 }
 
 /// Whether the form is below 0 whatever its registers are, as it has no terms.
@@ -47,7 +47,10 @@ impl<'a> Known<'a> {
     {
         Known {
             facts,
-            entries: &[],
+            layers: Layers {
+                settled: &[],
+                recent: &[],
+            },
             is_indexed: false,
             is_consistent: false,
         }
@@ -70,6 +73,6 @@ impl<'a> Known<'a> {
         if self.is_consistent && is_negative(form) {
             return false;
         }
-        shown_by_index(self.facts, self.entries, form)
+        shown_by_index(self.facts, self.layers, form)
     }
 }

@@ -1,16 +1,15 @@
-//! The search for what shows a form, by an index: two factors, and then both facts along the index.
+//! The search for what shows a form, by an index: two factors, and then both facts along the lists of the index.
 
-ghost use Rattle.std.specs.Prelude.{◌≡◌, ◌<◌, ◌≤◌, ◌+◌, ◌-◌, ◌*◌, ◌^◌, ◌↔◌, ℕ, suc, false, All, Contains, IsTrue, IfSome, length};
+ghost use Rattle.std.specs.Prelude.{◌≡◌, ◌<◌, ◌≤◌, ◌+◌, ◌-◌, ◌*◌, ◌^◌, ◌↔◌, ◌++◌, ℕ, suc, false, All, Contains, IsTrue, IfSome, length};
 ghost use Rattle.std.specs.Prelude.{slice_index, slice_index_or};
-ghost use Rattle.std.specs.List.Sorted.{IsNonDecreasingBy};
 ghost use Rattle.linear.specs.Forms.{AreSmall};
 ghost use Rattle.entailment.specs.Search.{factors};
-ghost use Rattle.entailment.specs.Index.{place_at, IsKeyOf, IsEntry, IsIndex, IsMadeUp, IsMadeUpWith, IsMadeUpByB, AreNotB};
+ghost use Rattle.entailment.specs.Index.{place_at, IsKeyOf, IsEntry, AreEntries, AreLayers, IsMadeUp, IsMadeUpWith, IsMadeUpBetween, IsMadeUpByB, AreNotB, Balance};
 ghost use Rattle.entailment.specs.Shown.{IsSum, IsShown};
 ghost use Rattle.entailment.specs.declared.index.Entry.{Entry};
 
-use crate::index::{Entry, no_fact, side_of_place};
-use crate::meeting::{fallen, is_open, left_after, next_two, risen, times, total_of};
+use crate::index::{Entry, Layers, no_fact, side_of_place};
+use crate::meeting::{Pass, left_after, next_two, sought_of, total_of};
 use crate::show::{agree, factor, is_at_most};
 use crate::weight::bound_key;
 use linear::{Fact, Form, Term, side_of};
@@ -19,7 +18,7 @@ use linear::{Fact, Form, Term, side_of};
 #[derive(Clone, Copy)]
 pub struct Search<'a> {
     pub facts: &'a [Fact],
-    pub entries: &'a [Entry],
+    pub layers: Layers<'a>,
     pub form: &'a Form,
     pub key: u128,
 }
@@ -42,33 +41,34 @@ fn is_sum(search: &Search<'_>, first: Entry, a: u32, second: Entry, b: u32) -> b
     agree(e.terms, a, f.terms, b, g.terms)
 }
 
-/// Whether the first fact makes the form up with one of those whose key is that of the last before a place, and which stand before it, too.
-fn is_made_up(search: &Search<'_>, first: usize, upto: usize, a: u32, b: u32) -> bool
-    requires index { IsIndex search.now.facts.now (suc (length search.now.facts.now)) search.now.entries.now }
-    requires first { first < length search.now.entries.now }
+/// Whether the first entry makes the form up with one of those of the second list whose key is that of the last before a place, and which stand before
+/// it, too.
+fn is_made_up(search: &Search<'_>, pass: &Pass<'_>, first: usize, upto: usize) -> bool
+    requires firsts { AreEntries search.now.facts.now pass.now.firsts.now }
+    requires seconds { AreEntries search.now.facts.now pass.now.seconds.now }
+    requires first { first < length pass.now.firsts.now }
     requires some { 0 < upto }
-    requires upto { upto ≤ length search.now.entries.now }
-    requires a { a ≤ 2 ^ 24 }
-    requires b { b ≤ 2 ^ 24 }
-    ensures made { (d : Entry) → IsTrue result → IsMadeUp search.now.facts.now search.now.form.now
-        (place_at search.now.facts.now (slice_index_or search.now.entries.now first d).place) a b }
+    requires upto { upto ≤ length pass.now.seconds.now }
+    requires a { pass.now.a ≤ 2 ^ 24 }
+    requires b { pass.now.b ≤ 2 ^ 24 }
+    ensures made { IsTrue result → IsMadeUpBetween search.now.facts.now search.now.form.now pass.now.firsts.now pass.now.seconds.now pass.now.a pass.now.b }
     ensures none { (d : Entry) (k : ℕ) → result ≡ false → k < upto
-        → (slice_index_or search.now.entries.now k d).key ≡ (slice_index_or search.now.entries.now (upto - 1) d).key
-        → IsSum search.now.form.now a (place_at search.now.facts.now (slice_index_or search.now.entries.now first d).place)
-        b (place_at search.now.facts.now (slice_index_or search.now.entries.now k d).place) → ⊥ }
+        → (slice_index_or pass.now.seconds.now k d).key ≡ (slice_index_or pass.now.seconds.now (upto - 1) d).key
+        → IsSum search.now.form.now pass.now.a (place_at search.now.facts.now (slice_index_or pass.now.firsts.now first d).place)
+        pass.now.b (place_at search.now.facts.now (slice_index_or pass.now.seconds.now k d).place) → ⊥ }
 {
-    let fact = search.entries[first];
-    let last = search.entries[upto - 1];
-    if is_sum(search, fact, a, last, b) {
+    let fact = pass.firsts[first];
+    let last = pass.seconds[upto - 1];
+    if is_sum(search, fact, pass.a, last, pass.b) {
         return true;
     }
     let mut count = upto - 1;
     while count > 0 {
-        let second = search.entries[count - 1];
+        let second = pass.seconds[count - 1];
         if second.key != last.key {
             return false;
         }
-        if is_sum(search, fact, a, second, b) {
+        if is_sum(search, fact, pass.a, second, pass.b) {
             return true;
         }
         count -= 1;
@@ -76,80 +76,118 @@ fn is_made_up(search: &Search<'_>, first: usize, upto: usize, a: u32, b: u32) ->
     false
 }
 
-/// Whether a times a fact and b times another one make the form up. As the key of the first one rises, that of the second one falls.
-fn made_up_apart(search: &Search<'_>, a: u32, b: u32) -> bool
-    requires index { IsIndex search.now.facts.now (suc (length search.now.facts.now)) search.now.entries.now }
+/// Whether an entry of the first list and one of the second make the form up. As the key of the first one rises, that of the second one falls.
+fn made_up_along(search: &Search<'_>, pass: &Pass<'_>) -> bool
+    requires firsts { AreEntries search.now.facts.now pass.now.firsts.now }
+    requires seconds { AreEntries search.now.facts.now pass.now.seconds.now }
     requires key { IsKeyOf search.now.form.now.terms search.now.key }
-    requires a { a ≤ 2 ^ 24 }
-    requires b { b ≤ 2 ^ 24 }
-    requires some { 0 < b }
-    ensures { IsTrue result ↔ IsMadeUpWith search.now.facts.now search.now.form.now search.now.entries.now a b }
+    requires a { pass.now.a ≤ 2 ^ 24 }
+    requires b { pass.now.b ≤ 2 ^ 24 }
+    requires most { pass.now.most ≡ search.now.form.now.constant }
+    requires first { pass.now.sought.first ≤ 2 ^ 24 }
+    requires second { pass.now.sought.second ≤ 2 ^ 24 }
+    requires some { 0 < pass.now.sought.second }
+    requires total { (x y : ℕ) → Balance search.now.key pass.now.a pass.now.b x y → pass.now.sought.first * x + pass.now.sought.second * y ≡ pass.now.sought.total }
+    ensures { IsTrue result ↔ IsMadeUpBetween search.now.facts.now search.now.form.now pass.now.firsts.now pass.now.seconds.now pass.now.a pass.now.b }
 {
-    let entries = search.entries;
-    let total = total_of(search.key, a, b);
     let mut at = 0;
-    let mut upto = entries.len();
-    while is_open(entries.len(), a, b, at, upto) {
-        let of_first = times(a, entries[at].key);
-        let of_second = times(b, entries[upto - 1].key);
-        let both = of_first + of_second;
-        if both < total {
-            at = risen(entries, at + 1, a, of_second, total);
-        } else if total < both {
-            upto = fallen(entries, upto - 1, b, of_first, total);
-        } else if is_made_up(search, at, upto, a, b) {
-            return true;
-        } else {
-            upto = left_after(entries, a, at, upto);
-            at += 1;
-        }
-    }
-    false
-}
-
-/// Whether two facts, each a times, make the form up.
-fn made_up_twice(search: &Search<'_>, a: u32) -> bool
-    requires index { IsIndex search.now.facts.now (suc (length search.now.facts.now)) search.now.entries.now }
-    requires key { IsKeyOf search.now.form.now.terms search.now.key }
-    requires a { a ≤ 2 ^ 24 }
-    requires some { 0 < a }
-    ensures { IsTrue result ↔ IsMadeUpWith search.now.facts.now search.now.form.now search.now.entries.now a a }
-{
-    let whole = total_of(search.key, a, a);
-    if whole % u128::from(a) != 0 {
-        return false;
-    }
-    let total = whole / u128::from(a);
-    let mut at = 0;
-    let mut upto = search.entries.len();
-    while at < upto {
-        let (first, count) = next_two(search.entries, a, total, search.form, at, upto);
-        if count <= first {
+    let mut upto = pass.seconds.len();
+    while at < pass.firsts.len() && 0 < upto {
+        let (first, count) = next_two(pass, at, upto);
+        if pass.firsts.len() <= first || count == 0 {
             return false;
         }
-        if is_made_up(search, first, count, a, a) {
+        if is_made_up(search, pass, first, count) {
             return true;
         }
-        upto = left_after(search.entries, a, first, count);
+        upto = left_after(pass.firsts, pass.sought.first, first, count);
         at = first + 1;
     }
     false
 }
 
-/// Whether a times a fact and b times another one make the form up.
-fn made_up_with(search: &Search<'_>, a: u32, b: u32) -> bool
-    requires index { IsIndex search.now.facts.now (suc (length search.now.facts.now)) search.now.entries.now }
+/// Whether a times a fact of one list and b times one of another make the form up.
+fn made_up_between(search: &Search<'_>, firsts: &[Entry], seconds: &[Entry], a: u32, b: u32) -> bool
+    requires firsts { AreEntries search.now.facts.now firsts.now }
+    requires seconds { AreEntries search.now.facts.now seconds.now }
     requires key { IsKeyOf search.now.form.now.terms search.now.key }
     requires a { a ≤ 2 ^ 24 }
     requires b { b ≤ 2 ^ 24 }
     requires some { 0 < b }
-    ensures { IsTrue result ↔ IsMadeUpWith search.now.facts.now search.now.form.now search.now.entries.now a b }
+    ensures { IsTrue result ↔ IsMadeUpBetween search.now.facts.now search.now.form.now firsts.now seconds.now a b }
+{
+    if firsts.is_empty() || seconds.is_empty() {
+        return false;
+    }
+    match sought_of(search.key, a, b) {
+        Some(sought) => made_up_along(
+            search,
+            &Pass {
+                firsts,
+                seconds,
+                sought,
+                a,
+                b,
+                most: side_of(search.form).constant,
+            },
+        ),
+        None => false,
+    }
+}
+
+/// Whether two facts of a list, each a times, make the form up. The key of one of them is no greater than half of what both come to.
+fn made_up_twice(search: &Search<'_>, entries: &[Entry], a: u32) -> bool
+    requires entries { AreEntries search.now.facts.now entries.now }
+    requires key { IsKeyOf search.now.form.now.terms search.now.key }
+    requires a { a ≤ 2 ^ 24 }
+    requires some { 0 < a }
+    ensures { IsTrue result ↔ IsMadeUpBetween search.now.facts.now search.now.form.now entries.now entries.now a a }
+{
+    let middle = total_of(search.key, a, a) / (u128::from(a) * 2);
+    let upto = entries.partition_point(|entry| entry.key <= middle);
+    let from = entries.partition_point(|entry| entry.key < middle);
+    made_up_between(search, &entries[..upto], &entries[from..], a, a)
+}
+
+/// Whether a times a fact of a list and b times another one of it make the form up.
+fn made_up_within(search: &Search<'_>, entries: &[Entry], a: u32, b: u32) -> bool
+    requires entries { AreEntries search.now.facts.now entries.now }
+    requires key { IsKeyOf search.now.form.now.terms search.now.key }
+    requires a { a ≤ 2 ^ 24 }
+    requires b { b ≤ 2 ^ 24 }
+    requires some { 0 < b }
+    ensures { IsTrue result ↔ IsMadeUpBetween search.now.facts.now search.now.form.now entries.now entries.now a b }
 {
     if a == b {
-        made_up_twice(search, b)
+        made_up_twice(search, entries, b)
     } else {
-        made_up_apart(search, a, b)
+        made_up_between(search, entries, entries, a, b)
     }
+}
+
+/// Whether a times a fact and b times another one make the form up. One of each list does so in either order where the factors are the same.
+fn made_up_with(search: &Search<'_>, a: u32, b: u32) -> bool
+    requires index { AreLayers search.now.facts.now (suc (length search.now.facts.now)) search.now.layers.settled.now search.now.layers.recent.now }
+    requires key { IsKeyOf search.now.form.now.terms search.now.key }
+    requires a { a ≤ 2 ^ 24 }
+    requires b { b ≤ 2 ^ 24 }
+    requires some { 0 < b }
+    ensures { IsTrue result ↔ IsMadeUpWith search.now.facts.now search.now.form.now (search.now.layers.settled.now ++ search.now.layers.recent.now) a b }
+{
+    let Layers { settled, recent } = search.layers;
+    if made_up_within(search, settled, a, b) {
+        return true;
+    }
+    if made_up_within(search, recent, a, b) {
+        return true;
+    }
+    if made_up_between(search, settled, recent, a, b) {
+        return true;
+    }
+    if a == b {
+        return false;
+    }
+    made_up_between(search, recent, settled, a, b)
 }
 
 /// The key of a fact of which b times makes up a form of this key; none where no key is that.
@@ -167,14 +205,15 @@ fn wanted(key: u128, b: u32) -> Option<u128>
     }
 }
 
-/// Whether b times one of the entries of this key, from a place on, makes the form up.
-fn is_made_up_from(search: &Search<'_>, from: usize, key: u128, b: u32) -> bool
-    requires index { IsIndex search.now.facts.now (suc (length search.now.facts.now)) search.now.entries.now }
+/// Whether b times one of the entries of this key makes the form up.
+fn is_made_up_in(search: &Search<'_>, entries: &[Entry], key: u128, b: u32) -> bool
+    requires entries { AreEntries search.now.facts.now entries.now }
     requires b { b ≤ 2 ^ 24 }
     ensures { IsTrue result → IsMadeUp search.now.facts.now search.now.form.now (place_at search.now.facts.now 0) 1 b }
 {
-    for k in from..search.entries.len() {
-        let entry = search.entries[k];
+    let from = entries.partition_point(|e| e.key < key);
+    for k in from..entries.len() {
+        let entry = entries[k];
         if entry.key != key {
             return false;
         }
@@ -187,7 +226,7 @@ fn is_made_up_from(search: &Search<'_>, from: usize, key: u128, b: u32) -> bool
 
 /// Whether b times a fact makes the form up.
 fn is_made_up_alone(search: &Search<'_>, b: u32) -> bool
-    requires index { IsIndex search.now.facts.now (suc (length search.now.facts.now)) search.now.entries.now }
+    requires index { AreLayers search.now.facts.now (suc (length search.now.facts.now)) search.now.layers.settled.now search.now.layers.recent.now }
     requires key { IsKeyOf search.now.form.now.terms search.now.key }
     requires b { b ≤ 2 ^ 24 }
     ensures { IsTrue result → IsMadeUp search.now.facts.now search.now.form.now (place_at search.now.facts.now 0) 1 b }
@@ -197,8 +236,8 @@ fn is_made_up_alone(search: &Search<'_>, b: u32) -> bool
     }
     match wanted(search.key, b) {
         Some(key) => {
-            let from = search.entries.partition_point(|e| e.key < key);
-            is_made_up_from(search, from, key, b)
+            is_made_up_in(search, search.layers.settled, key, b)
+                || is_made_up_in(search, search.layers.recent, key, b)
         }
         None => false,
     }
@@ -206,7 +245,7 @@ fn is_made_up_alone(search: &Search<'_>, b: u32) -> bool
 
 /// Whether one fact makes the form up.
 pub fn made_up_alone(search: &Search<'_>) -> bool
-    requires index { IsIndex search.now.facts.now (suc (length search.now.facts.now)) search.now.entries.now }
+    requires index { AreLayers search.now.facts.now (suc (length search.now.facts.now)) search.now.layers.settled.now search.now.layers.recent.now }
     requires key { IsKeyOf search.now.form.now.terms search.now.key }
     ensures { IsTrue result → IsShown search.now.facts.now search.now.form.now }
 {
@@ -238,11 +277,11 @@ fn is_repeated(terms: &[Term], index: usize) -> bool
 /// Whether the facts make the form up with this first factor, where none of the second factors before a place does so. A second factor 0, which a
 /// register that cancels has, is passed over: the fact would count for nothing, as the absent one does with the factor 1.
 fn made_up_by_b(search: &Search<'_>, a: u32, from: usize) -> bool
-    requires index { IsIndex search.now.facts.now (suc (length search.now.facts.now)) search.now.entries.now }
+    requires index { AreLayers search.now.facts.now (suc (length search.now.facts.now)) search.now.layers.settled.now search.now.layers.recent.now }
     requires key { IsKeyOf search.now.form.now.terms search.now.key }
     requires a { a ≤ 2 ^ 24 }
-    requires from { AreNotB search.now.facts.now search.now.form.now search.now.entries.now a from }
-    ensures { IsTrue result ↔ IsMadeUpByB search.now.facts.now search.now.form.now search.now.entries.now a }
+    requires from { AreNotB search.now.facts.now search.now.form.now (search.now.layers.settled.now ++ search.now.layers.recent.now) a from }
+    ensures { IsTrue result ↔ IsMadeUpByB search.now.facts.now search.now.form.now (search.now.layers.settled.now ++ search.now.layers.recent.now) a }
 {
     let terms = side_of(search.form).terms;
     let count = terms.len() + 1;
@@ -261,35 +300,50 @@ fn made_up_by_b(search: &Search<'_>, a: u32, from: usize) -> bool
     false
 }
 
-/// An entry of this key, or that of an absent fact.
-fn entry_of_key(search: &Search<'_>, key: u128) -> Entry
-    requires index { IsIndex search.now.facts.now (suc (length search.now.facts.now)) search.now.entries.now }
+/// The first entry of this key, or that of an absent fact.
+fn entry_of_key(search: &Search<'_>, entries: &[Entry], key: u128) -> Entry
+    requires entries { AreEntries search.now.facts.now entries.now }
     ensures { IsEntry search.now.facts.now result }
 {
-    let from = search.entries.partition_point(|e| e.key < key);
-    match search.entries.get(from) {
+    let from = entries.partition_point(|e| e.key < key);
+    match entries.get(from) {
         Some(entry) if entry.key == key => *entry,
         Some(_) | None => no_fact(search.facts),
     }
 }
 
+/// A fact that bounds the register of a term alone, the stronger one of two, or an absent one.
+fn bound_of(search: &Search<'_>, term: &Term) -> Entry
+    requires index { AreLayers search.now.facts.now (suc (length search.now.facts.now)) search.now.layers.settled.now search.now.layers.recent.now }
+    ensures { IsEntry search.now.facts.now result }
+{
+    let key = bound_key(term);
+    let settled = entry_of_key(search, search.layers.settled, key);
+    let recent = entry_of_key(search, search.layers.recent, key);
+    if recent.place == 0 || (settled.place > 0 && settled.constant < recent.constant) {
+        settled
+    } else {
+        recent
+    }
+}
+
 /// Whether the form has two terms, and for each of their registers a fact that bounds it alone makes the form up: they show most such forms.
 pub fn made_up_by_bounds(search: &Search<'_>) -> bool
-    requires index { IsIndex search.now.facts.now (suc (length search.now.facts.now)) search.now.entries.now }
+    requires index { AreLayers search.now.facts.now (suc (length search.now.facts.now)) search.now.layers.settled.now search.now.layers.recent.now }
     ensures { IsTrue result → IsShown search.now.facts.now search.now.form.now }
 {
     let terms = side_of(search.form).terms;
     if terms.len() != 2 {
         return false;
     }
-    let first = entry_of_key(search, bound_key(&terms[0]));
-    let second = entry_of_key(search, bound_key(&terms[1]));
+    let first = bound_of(search, &terms[0]);
+    let second = bound_of(search, &terms[1]);
     is_sum(search, first, factor(terms, 1), second, factor(terms, 2))
 }
 
 /// Whether the facts make the form up. Two factors make it up in either order, or in none: each pair is tried once.
 pub fn made_up(search: &Search<'_>) -> bool
-    requires index { IsIndex search.now.facts.now (suc (length search.now.facts.now)) search.now.entries.now }
+    requires index { AreLayers search.now.facts.now (suc (length search.now.facts.now)) search.now.layers.settled.now search.now.layers.recent.now }
     requires key { IsKeyOf search.now.form.now.terms search.now.key }
     ensures { IsTrue result ↔ IsShown search.now.facts.now search.now.form.now }
 {

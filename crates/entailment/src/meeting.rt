@@ -1,13 +1,31 @@
-//! Where the keys of two facts with their factors come to a total: along the index the first fact goes up and the second one down.
+//! Where the keys of two entries, with their factors, come to a total: the first one goes up its list, and the second one down its own.
 
-ghost use Rattle.std.specs.Prelude.{◌≡◌, ◌<◌, ◌≤◌, ◌+◌, ◌-◌, ◌*◌, ◌^◌, ◌↔◌, ℕ, IsTrue, length, slice_index_or, pos, ◌≤ℤ◌, ◌+ℤ◌, ◌*ℤ◌, unsigned_abs};
+ghost use Rattle.std.specs.Prelude.{◌≡◌, ◌<◌, ◌≤◌, ◌+◌, ◌-◌, ◌*◌, ◌^◌, ◌↔◌, ℕ, All, IsTrue, IfSome, IfNone, length, slice_index_or, pos, ◌≤ℤ◌, ◌+ℤ◌, ◌*ℤ◌, unsigned_abs};
 ghost use Rattle.std.specs.List.Sorted.{IsNonDecreasingBy};
-ghost use Rattle.entailment.specs.Index.{AreSmallKeys, AreSmallConstants, IsOpen, Meet, MeetWithin};
+ghost use Rattle.entailment.specs.Index.{AreInOrder, Balance, Meet, Serve};
 ghost use Rattle.entailment.specs.declared.index.Entry.{Entry};
 
 use crate::index::Entry;
 use crate::show::is_at_most;
-use linear::{Form, side_of};
+
+/// What two keys are to come to, the first one and the second one so many times.
+#[derive(Clone, Copy)]
+pub struct Sought {
+    pub first: u32,
+    pub second: u32,
+    pub total: u128,
+}
+
+/// Two lists by rising keys, in which the two keys are sought, and what is wanted of the constants, the first one a times and the second one b times.
+#[derive(Clone, Copy)]
+pub struct Pass<'a> {
+    pub firsts: &'a [Entry],
+    pub seconds: &'a [Entry],
+    pub sought: Sought,
+    pub a: u32,
+    pub b: u32,
+    pub most: i128,
+}
 
 /// What a times the key of the first fact and b times that of the second one come to, where they make up a form of this key.
 pub fn total_of(key: u128, a: u32, b: u32) -> u128
@@ -21,20 +39,50 @@ pub fn total_of(key: u128, a: u32, b: u32) -> u128
     shares * 1_267_650_600_228_229_401_496_703_205_376 + key
 }
 
-/// A key times a factor.
+/// What is sought where a times one fact and b times another one make up a form of this key. A factor that both have is left out; none where the
+/// total cannot be divided by it.
+pub fn sought_of(key: u128, a: u32, b: u32) -> Option<Sought>
+    requires key { key < 2 ^ 101 }
+    requires a { a ≤ 2 ^ 24 }
+    requires b { b ≤ 2 ^ 24 }
+    requires some { 0 < b }
+    ensures total { IfSome result (λ s. (x y : ℕ) → Balance key a b x y → s.first * x + s.second * y ≡ s.total) }
+    ensures first { IfSome result (λ s. s.first ≤ 2 ^ 24) }
+    ensures second { IfSome result (λ s. s.second ≤ 2 ^ 24) }
+    ensures some { IfSome result (λ s. 0 < s.second) }
+    ensures none { IfNone result ((x y : ℕ) → Balance key a b x y → ⊥) }
+{
+    let total = total_of(key, a, b);
+    if a != b {
+        return Some(Sought {
+            first: a,
+            second: b,
+            total,
+        });
+    }
+    if total % u128::from(b) != 0 {
+        return None;
+    }
+    Some(Sought {
+        first: 1,
+        second: 1,
+        total: total / u128::from(b),
+    })
+}
+
+/// A key times a factor, which mostly is 1.
 pub fn times(b: u32, key: u128) -> u128
     requires b { b ≤ 2 ^ 24 }
     requires key { key < 2 ^ 101 }
     ensures value { result ≡ b * key }
     ensures small { result < 2 ^ 125 }
 {
-    u128::from(b) * key
+    if b == 1 { key } else { u128::from(b) * key }
 }
 
 /// An entry from a place on, before which a times each key is too small beside this. Steps double, and halve where they would go too far.
 pub fn risen(entries: &[Entry], from: usize, a: u32, beside: u128, total: u128) -> usize
-    requires sorted { IsNonDecreasingBy (λ (e : Entry). e.key) entries.now }
-    requires small { AreSmallKeys entries.now }
+    requires order { AreInOrder entries.now }
     requires from { from ≤ length entries.now }
     requires a { a ≤ 2 ^ 24 }
     requires beside { beside < 2 ^ 125 }
@@ -60,8 +108,7 @@ pub fn risen(entries: &[Entry], from: usize, a: u32, beside: u128, total: u128) 
 /// How many of the first entries are left where b times each key at the end is too great beside this. Steps double, and halve where they would go too
 /// far.
 pub fn fallen(entries: &[Entry], upto: usize, b: u32, beside: u128, total: u128) -> usize
-    requires sorted { IsNonDecreasingBy (λ (e : Entry). e.key) entries.now }
-    requires small { AreSmallKeys entries.now }
+    requires order { AreInOrder entries.now }
     requires upto { upto ≤ length entries.now }
     requires b { b ≤ 2 ^ 24 }
     requires beside { beside < 2 ^ 125 }
@@ -81,26 +128,18 @@ pub fn fallen(entries: &[Entry], upto: usize, b: u32, beside: u128, total: u128)
     count
 }
 
-/// Whether two facts are left, the first one from a place on and the second one before another. Where the factors are the same, so are the two in
-/// either order.
-pub fn is_open(many: usize, a: u32, b: u32, first: usize, count: usize) -> bool
-    ensures { IsTrue result ↔ IsOpen many a b first count }
-{
-    first < many && 0 < count && (a != b || first < count)
-}
-
 /// How many second ones are left after two that came to the total: not the last one, where the next first one has a greater key.
-pub fn left_after(entries: &[Entry], a: u32, at: usize, upto: usize) -> usize
-    requires sorted { IsNonDecreasingBy (λ (e : Entry). e.key) entries.now }
-    requires at { at < length entries.now }
+pub fn left_after(firsts: &[Entry], a: u32, at: usize, upto: usize) -> usize
+    requires sorted { IsNonDecreasingBy (λ (e : Entry). e.key) firsts.now }
+    requires at { at < length firsts.now }
     requires some { 0 < upto }
     ensures within { result ≤ upto }
     ensures all { upto ≤ result + 1 }
-    ensures passed { (k : ℕ) (d : Entry) → result < upto → at < k → k < length entries.now
-        → a * (slice_index_or entries.now at d).key < a * (slice_index_or entries.now k d).key }
+    ensures passed { (k : ℕ) (d : Entry) → result < upto → at < k → k < length firsts.now
+        → a * (slice_index_or firsts.now at d).key < a * (slice_index_or firsts.now k d).key }
 {
     let next = at + 1;
-    if a > 0 && next < entries.len() && entries[at].key < entries[next].key {
+    if a > 0 && next < firsts.len() && firsts[at].key < firsts[next].key {
         upto - 1
     } else {
         upto
@@ -117,54 +156,60 @@ fn is_alone(entries: &[Entry], count: usize) -> bool
     count < 2 || entries[count - 2].key < entries[count - 1].key
 }
 
-/// Whether the constants of two facts, a times both, come to no more than that of the form.
-fn are_at_most(form: &Form, a: u32, one: &Entry, other: &Entry) -> bool
-    requires a { a ≤ 2 ^ 24 }
+/// Whether the constants of two entries serve.
+fn is_enough(pass: &Pass<'_>, one: &Entry, other: &Entry) -> bool
+    requires a { pass.now.a ≤ 2 ^ 24 }
+    requires b { pass.now.b ≤ 2 ^ 24 }
     requires one { unsigned_abs one.now.constant < 2 ^ 100 }
     requires other { unsigned_abs other.now.constant < 2 ^ 100 }
-    ensures { IsTrue result ↔ (((pos a *ℤ one.now.constant) +ℤ (pos a *ℤ other.now.constant)) ≤ℤ form.now.constant) }
+    ensures { IsTrue result ↔ (((pos pass.now.a *ℤ one.now.constant) +ℤ (pos pass.now.b *ℤ other.now.constant)) ≤ℤ pass.now.most) }
 {
-    is_at_most(a, one.constant, a, other.constant, side_of(form).constant)
+    is_at_most(pass.a, one.constant, pass.b, other.constant, pass.most)
 }
 
-/// The next two, the first one from a place on and the second one before another, whose keys come to the total, and a times whose constants to no more
-/// than that of the form, or which are not alone of their key. This is where a search of many facts stays longest.
-pub fn next_two(
-    entries: &[Entry],
-    a: u32,
-    total: u128,
-    form: &Form,
-    at: usize,
-    upto: usize,
-) -> (usize, usize)
-    requires sorted { IsNonDecreasingBy (λ (e : Entry). e.key) entries.now }
-    requires small { AreSmallKeys entries.now }
-    requires constants { AreSmallConstants entries.now }
-    requires at { at ≤ length entries.now }
-    requires upto { upto ≤ length entries.now }
-    requires a { a ≤ 2 ^ 24 }
+/// The next two, the first one from a place on and the second one before another, whose keys come to the total, and whose constants serve, or which are
+/// not alone of their key. This is where a search of many facts stays longest.
+pub fn next_two(pass: &Pass<'_>, at: usize, upto: usize) -> (usize, usize)
+    requires firsts { AreInOrder pass.now.firsts.now }
+    requires seconds { AreInOrder pass.now.seconds.now }
+    requires first { pass.now.sought.first ≤ 2 ^ 24 }
+    requires second { pass.now.sought.second ≤ 2 ^ 24 }
+    requires some { 0 < pass.now.sought.second }
+    requires a { pass.now.a ≤ 2 ^ 24 }
+    requires b { pass.now.b ≤ 2 ^ 24 }
+    requires at { at ≤ length pass.now.firsts.now }
+    requires upto { upto ≤ length pass.now.seconds.now }
     ensures at { at ≤ result.0 }
     ensures within { result.1 ≤ upto }
-    ensures met { result.0 < result.1 → Meet entries.now 1 1 total result.0 (result.1 - 1) }
-    ensures passed { (i k : ℕ) → at ≤ i → i < length entries.now → k < upto → MeetWithin entries.now a total form.now.constant i k
-        → (result.0 ≤ i) × (k < result.1) }
+    ensures met { result.0 < length pass.now.firsts.now → 0 < result.1
+        → Meet pass.now.firsts.now pass.now.seconds.now pass.now.sought.first pass.now.sought.second pass.now.sought.total result.0 (result.1 - 1) }
+    ensures passed { (i k : ℕ) → at ≤ i → i < length pass.now.firsts.now → k < upto
+        → Meet pass.now.firsts.now pass.now.seconds.now pass.now.sought.first pass.now.sought.second pass.now.sought.total i k
+        → Serve pass.now.firsts.now pass.now.seconds.now pass.now.a pass.now.b pass.now.most i k → (result.0 ≤ i) × (k < result.1) }
 {
+    let Sought {
+        first: a,
+        second: b,
+        total,
+    } = pass.sought;
     let mut first = at;
     let mut count = upto;
-    while first < count {
-        let one = &entries[first];
-        let other = &entries[count - 1];
-        let both = one.key + other.key;
+    while first < pass.firsts.len() && 0 < count {
+        let one = &pass.firsts[first];
+        let other = &pass.seconds[count - 1];
+        let of_first = times(a, one.key);
+        let of_second = times(b, other.key);
+        let both = of_first + of_second;
         if both < total {
-            first = risen(entries, first + 1, 1, other.key, total);
+            first = risen(pass.firsts, first + 1, a, of_second, total);
         } else if total < both {
-            count = fallen(entries, count - 1, 1, one.key, total);
-        } else if are_at_most(form, a, one, other) {
+            count = fallen(pass.seconds, count - 1, b, of_first, total);
+        } else if is_enough(pass, one, other) {
             return (first, count);
-        } else if !is_alone(entries, count) {
+        } else if !is_alone(pass.seconds, count) {
             return (first, count);
         } else {
-            count = left_after(entries, 1, first, count);
+            count = left_after(pass.firsts, a, first, count);
             first += 1;
         }
     }

@@ -2,4 +2,4 @@ use Rattle.entailment.specs.Index.{IsBegun}
 use Rattle.entailment.proofs.index.enter_each.Given as goal
 
 abbrev pub invariant-loop-place : goal.invariant-loop-place
-invariant-loop-place l = IsBegun l.facts l.place l.entries.items l.is_consistent
+invariant-loop-place l = IsBegun l.facts l.place l.settled l.recent.items l.is_consistent

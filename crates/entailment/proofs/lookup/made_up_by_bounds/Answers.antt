@@ -22,12 +22,12 @@ returns c = λ h.
     let in_a : Contains (factors e.terms) c.factor.result = rw is_a (Contains-get_or (factors e.terms) 1 0 (omega (arith, long))) in
     let in_b : Contains (factors e.terms) c.factor-2.result = rw is_b (Contains-get_or (factors e.terms) 2 0 long) in
     record {
-      f = place_at facts c.entry_of_key-first.result.place;
-      g = place_at facts c.entry_of_key-second.result.place;
+      f = place_at facts c.bound_of-first.result.place;
+      g = place_at facts c.bound_of-second.result.place;
       a = c.factor.result;
       b = c.factor-2.result;
-      f_is = side_of_entry facts c.entry_of_key-first.result c.entry_of_key-first.ensures;
-      g_is = side_of_entry facts c.entry_of_key-second.result c.entry_of_key-second.ensures;
+      f_is = side_of_entry facts c.bound_of-first.result c.bound_of-first.ensures;
+      g_is = side_of_entry facts c.bound_of-second.result c.bound_of-second.ensures;
       a_is = is_factor e c.factor.result rises in_a;
       b_is = is_factor e c.factor-2.result rises in_b;
       sum = c.is_sum.ensures.0 h;

@@ -13,5 +13,5 @@ loop-step-preserved-then-total-times c =
     let within : at < length es = omega (arith, c.if-step-count.true, c.loop-step-test.true, c.loop-step.invariant.0, c.requires.upto) in (
       omega (arith, c.loop-step.invariant.0),
       omega (arith, c.if-step-count.true, c.loop-step.invariant.0, c.loop-step.invariant.1),
-      λ k d le l. above_from es c.args.b c.args.beside c.args.total at none c.requires.sorted within (omega (arith, c.if-total-times.true, c.times.ensures.value)) k d le (omega (arith, l, c.requires.upto)),
+      λ k d le l. above_from es c.args.b c.args.beside c.args.total at none c.requires.order.sorted within (omega (arith, c.if-total-times.true, c.times.ensures.value)) k d le (omega (arith, l, c.requires.upto)),
     )

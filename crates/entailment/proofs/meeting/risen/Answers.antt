@@ -14,5 +14,5 @@ loop-step-preserved-then-times-beside c =
       omega (arith, c.loop-step.invariant.0),
       omega (arith, c.if-step-entries.true, c.loop-step.invariant.1),
       omega (arith, c.loop-step.invariant.2),
-      λ k d le l. below_up_to es c.args.a c.args.beside c.args.total last none c.requires.sorted within (omega (arith, c.if-times-beside.true, c.times.ensures.value)) k d (omega (arith, l)),
+      λ k d le l. below_up_to es c.args.a c.args.beside c.args.total last none c.requires.order.sorted within (omega (arith, c.if-times-beside.true, c.times.ensures.value)) k d (omega (arith, l)),
     )

@@ -3,4 +3,4 @@ use Rattle.entailment.proofs.Indexing.{begun_more}
 use Rattle.entailment.proofs.fact_list.FactList.push.Goals as goal
 
 pub invariant_of-self-2 : goal.invariant_of-self-2
-invariant_of-self-2 c = rw c.in_ok-push.ensures.items (begun_more c.self.inside.facts.items (c.args.fact ∷ []) c.self.inside.entered.count c.self.inside.entries.items c.self.inside.entered.is_consistent c.self.invariant)
+invariant_of-self-2 c = rw c.in_ok-push.ensures.items (begun_more c.self.inside.facts.items (c.args.fact ∷ []) c.self.inside.index.entered.count c.self.inside.index.settled.items c.self.inside.index.recent.items c.self.inside.index.entered.is_consistent c.self.invariant)
