@@ -70,7 +70,7 @@ pub fn sought_of(key: u128, a: u32, b: u32) -> Option<Sought>
     })
 }
 
-/// A key times a factor, which mostly is 1.
+/// A key times a factor.
 pub fn times(b: u32, key: u128) -> u128
     requires b { b ≤ 2 ^ 24 }
     requires key { key < 2 ^ 101 }
@@ -156,20 +156,61 @@ fn is_alone(entries: &[Entry], count: usize) -> bool
     count < 2 || entries[count - 2].key < entries[count - 1].key
 }
 
-/// Whether the constants of two entries serve.
-fn is_enough(pass: &Pass<'_>, one: &Entry, other: &Entry) -> bool
-    requires a { pass.now.a ≤ 2 ^ 24 }
-    requires b { pass.now.b ≤ 2 ^ 24 }
+/// Whether the constants of two entries serve, the first one a times and the second one b times.
+fn is_enough(pass: &Pass<'_>, one: &Entry, a: u32, other: &Entry, b: u32) -> bool
+    requires a { a ≤ 2 ^ 24 }
+    requires b { b ≤ 2 ^ 24 }
     requires one { unsigned_abs one.now.constant < 2 ^ 100 }
     requires other { unsigned_abs other.now.constant < 2 ^ 100 }
-    ensures { IsTrue result ↔ (((pos pass.now.a *ℤ one.now.constant) +ℤ (pos pass.now.b *ℤ other.now.constant)) ≤ℤ pass.now.most) }
+    ensures { IsTrue result ↔ (((pos a *ℤ one.now.constant) +ℤ (pos b *ℤ other.now.constant)) ≤ℤ pass.now.most) }
 {
-    is_at_most(pass.a, one.constant, pass.b, other.constant, pass.most)
+    is_at_most(a, one.constant, b, other.constant, pass.most)
 }
 
-/// The next two, the first one from a place on and the second one before another, whose keys come to the total, and whose constants serve, or which are
-/// not alone of their key. This is where a search of many facts stays longest.
-pub fn next_two(pass: &Pass<'_>, at: usize, upto: usize) -> (usize, usize)
+/// What `next_two` answers where one factor is left out. This is where a search of many facts stays longest: a key is not multiplied.
+fn next_alike(pass: &Pass<'_>, at: usize, upto: usize) -> (usize, usize)
+    requires firsts { AreInOrder pass.now.firsts.now }
+    requires seconds { AreInOrder pass.now.seconds.now }
+    requires first { pass.now.sought.first ≡ 1 }
+    requires second { pass.now.sought.second ≡ 1 }
+    requires same { pass.now.a ≡ pass.now.b }
+    requires a { pass.now.a ≤ 2 ^ 24 }
+    requires b { pass.now.b ≤ 2 ^ 24 }
+    requires at { at ≤ length pass.now.firsts.now }
+    requires upto { upto ≤ length pass.now.seconds.now }
+    ensures at { at ≤ result.0 }
+    ensures within { result.1 ≤ upto }
+    ensures met { result.0 < length pass.now.firsts.now → 0 < result.1
+        → Meet pass.now.firsts.now pass.now.seconds.now pass.now.sought.first pass.now.sought.second pass.now.sought.total result.0 (result.1 - 1) }
+    ensures passed { (i k : ℕ) → at ≤ i → i < length pass.now.firsts.now → k < upto
+        → Meet pass.now.firsts.now pass.now.seconds.now pass.now.sought.first pass.now.sought.second pass.now.sought.total i k
+        → Serve pass.now.firsts.now pass.now.seconds.now pass.now.a pass.now.b pass.now.most i k → (result.0 ≤ i) × (k < result.1) }
+{
+    let total = pass.sought.total;
+    let mut first = at;
+    let mut count = upto;
+    while first < pass.firsts.len() && 0 < count {
+        let one = &pass.firsts[first];
+        let other = &pass.seconds[count - 1];
+        let both = one.key + other.key;
+        if both < total {
+            first = risen(pass.firsts, first + 1, 1, other.key, total);
+        } else if total < both {
+            count = fallen(pass.seconds, count - 1, 1, one.key, total);
+        } else if is_enough(pass, one, pass.a, other, pass.a) {
+            return (first, count);
+        } else if !is_alone(pass.seconds, count) {
+            return (first, count);
+        } else {
+            count = left_after(pass.firsts, 1, first, count);
+            first += 1;
+        }
+    }
+    (first, count)
+}
+
+/// What `next_two` answers where the factors differ.
+fn next_apart(pass: &Pass<'_>, at: usize, upto: usize) -> (usize, usize)
     requires firsts { AreInOrder pass.now.firsts.now }
     requires seconds { AreInOrder pass.now.seconds.now }
     requires first { pass.now.sought.first ≤ 2 ^ 24 }
@@ -204,7 +245,7 @@ pub fn next_two(pass: &Pass<'_>, at: usize, upto: usize) -> (usize, usize)
             first = risen(pass.firsts, first + 1, a, of_second, total);
         } else if total < both {
             count = fallen(pass.seconds, count - 1, b, of_first, total);
-        } else if is_enough(pass, one, other) {
+        } else if is_enough(pass, one, pass.a, other, pass.b) {
             return (first, count);
         } else if !is_alone(pass.seconds, count) {
             return (first, count);
@@ -214,4 +255,31 @@ pub fn next_two(pass: &Pass<'_>, at: usize, upto: usize) -> (usize, usize)
         }
     }
     (first, count)
+}
+
+/// The next two, the first one from a place on and the second one before another, whose keys come to the total, and whose constants serve, or which are
+/// not alone of their key.
+pub fn next_two(pass: &Pass<'_>, at: usize, upto: usize) -> (usize, usize)
+    requires firsts { AreInOrder pass.now.firsts.now }
+    requires seconds { AreInOrder pass.now.seconds.now }
+    requires first { pass.now.sought.first ≤ 2 ^ 24 }
+    requires second { pass.now.sought.second ≤ 2 ^ 24 }
+    requires some { 0 < pass.now.sought.second }
+    requires a { pass.now.a ≤ 2 ^ 24 }
+    requires b { pass.now.b ≤ 2 ^ 24 }
+    requires at { at ≤ length pass.now.firsts.now }
+    requires upto { upto ≤ length pass.now.seconds.now }
+    ensures at { at ≤ result.0 }
+    ensures within { result.1 ≤ upto }
+    ensures met { result.0 < length pass.now.firsts.now → 0 < result.1
+        → Meet pass.now.firsts.now pass.now.seconds.now pass.now.sought.first pass.now.sought.second pass.now.sought.total result.0 (result.1 - 1) }
+    ensures passed { (i k : ℕ) → at ≤ i → i < length pass.now.firsts.now → k < upto
+        → Meet pass.now.firsts.now pass.now.seconds.now pass.now.sought.first pass.now.sought.second pass.now.sought.total i k
+        → Serve pass.now.firsts.now pass.now.seconds.now pass.now.a pass.now.b pass.now.most i k → (result.0 ≤ i) × (k < result.1) }
+{
+    if pass.a == pass.b && pass.sought.first == 1 && pass.sought.second == 1 {
+        next_alike(pass, at, upto)
+    } else {
+        next_apart(pass, at, upto)
+    }
 }

@@ -3,7 +3,7 @@ use Rattle.std.proofs.lemmas.Bool.{false≢true}
 use Rattle.entailment.specs.declared.index.Entry.{Entry}
 use Rattle.entailment.specs.Index.{Meet}
 use Rattle.entailment.proofs.Passing.{passed_below, passed_above, passed_alone, they_meet}
-use Rattle.entailment.proofs.meeting.next_two.Goals as goal
+use Rattle.entailment.proofs.meeting.next_apart.Goals as goal
 
 abbrev none : Entry
 none = record { key = 0; constant = pos 0; place = 0 }
