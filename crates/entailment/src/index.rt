@@ -365,7 +365,7 @@ fn settle(facts: &[Fact], index: &mut Index) -> Result<(), AllocError>
     ensures begun { OnOk result (IsBegun facts.now index.new.entered.count index.new.settled.items index.new.recent.items index.new.entered.is_consistent) }
     ensures entered { OnOk result (index.new.entered ≡ index.old.entered) }
 {
-    if index.recent.len() <= (index.settled.len() / 16).saturating_add(LATE) {
+    if index.recent.len() <= (index.settled.len() / 64).saturating_add(LATE) {
         return Ok(());
     }
     if index.settled.is_empty() {
