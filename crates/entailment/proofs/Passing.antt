@@ -149,6 +149,18 @@ passed_alone xs ys u v total a b most first count rest i k x y positive some wit
           ]
     ]
 
+-- the same where the next first one has a greater key, and the second one before has a lesser one: both are passed over
+pub passed_both : (xs ys : List Entry) (u v total a b : ℕ) (most : ℤ) (first count i k : ℕ) (x : Entry) → IsNonDecreasingBy (λ (e : Entry). e.key) xs → IsNonDecreasingBy (λ (e : Entry). e.key) ys →
+    0 < u → 0 < v → 1 < count → count ≤ length ys → first + 1 < length xs → Meet xs ys u v total first (count - 1) →
+    (((pos a *ℤ (get_or xs first x).constant) +ℤ (pos b *ℤ (get_or ys (count - 1) x).constant)) ≤ℤ most → ⊥) →
+    (get_or xs first x).key < (get_or xs (first + 1) x).key → (get_or ys (count - 2) x).key < (get_or ys (count - 1) x).key →
+    first ≤ i → i < length xs → k < count → Meet xs ys u v total i k → Serve xs ys a b most i k → (first + 1 ≤ i) × (k < count - 1)
+passed_both xs ys u v total a b most first count i k x up_xs up_ys some_u some_v two within lf met great rises falls from li before meet serve =
+    passed_alone xs ys u v total a b most first count (count - 1) i k x x some_v (omega (arith, two)) within (omega (arith, lf)) met great
+    (λ n d early. all_before ys count n x d up_ys within two falls early) (omega (arith, two))
+    (λ n d less later l. times_greater xs u first n x d up_xs some_u (omega (arith, lf)) (omega (arith, later)) l rises)
+    from li before meet serve
+
 -- a number that a divides, and one that it does not
 pub divides : (w a : ℕ) → w % a ≡ 0 → w ≡ a * (w / a)
 divides w a even = omega (arith, div-add-mod w a, even)

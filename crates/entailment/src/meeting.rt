@@ -167,8 +167,20 @@ fn is_enough(pass: &Pass<'_>, one: &Entry, a: u32, other: &Entry, b: u32) -> boo
     is_at_most(a, one.constant, b, other.constant, pass.most)
 }
 
-/// What `next_two` answers where one factor is left out. This is where a search of many facts stays longest: a key is not multiplied.
-fn next_alike(pass: &Pass<'_>, at: usize, upto: usize) -> (usize, usize)
+/// Whether the next first one has a greater key, and the second one before this a lesser one.
+fn is_single(pass: &Pass<'_>, first: usize, count: usize) -> bool
+    requires first { first + 1 < length pass.now.firsts.now }
+    requires some { 1 < count }
+    requires count { count ≤ length pass.now.seconds.now }
+    ensures first { (d : Entry) → IsTrue result → (slice_index_or pass.now.firsts.now first d).key < (slice_index_or pass.now.firsts.now (first + 1) d).key }
+    ensures second { (d : Entry) → IsTrue result → (slice_index_or pass.now.seconds.now (count - 2) d).key < (slice_index_or pass.now.seconds.now (count - 1) d).key }
+{
+    pass.firsts[first].key < pass.firsts[first + 1].key
+        && pass.seconds[count - 2].key < pass.seconds[count - 1].key
+}
+
+/// What `skipped` answers where a factor that both have is left out: no key is multiplied. Here a search of many facts stays longest.
+fn skipped_alike(pass: &Pass<'_>, at: usize, upto: usize) -> (usize, usize)
     requires firsts { AreInOrder pass.now.firsts.now }
     requires seconds { AreInOrder pass.now.seconds.now }
     requires first { pass.now.sought.first ≡ 1 }
@@ -179,9 +191,8 @@ fn next_alike(pass: &Pass<'_>, at: usize, upto: usize) -> (usize, usize)
     requires at { at ≤ length pass.now.firsts.now }
     requires upto { upto ≤ length pass.now.seconds.now }
     ensures at { at ≤ result.0 }
+    ensures inside { result.0 ≤ length pass.now.firsts.now }
     ensures within { result.1 ≤ upto }
-    ensures met { result.0 < length pass.now.firsts.now → 0 < result.1
-        → Meet pass.now.firsts.now pass.now.seconds.now pass.now.sought.first pass.now.sought.second pass.now.sought.total result.0 (result.1 - 1) }
     ensures passed { (i k : ℕ) → at ≤ i → i < length pass.now.firsts.now → k < upto
         → Meet pass.now.firsts.now pass.now.seconds.now pass.now.sought.first pass.now.sought.second pass.now.sought.total i k
         → Serve pass.now.firsts.now pass.now.seconds.now pass.now.a pass.now.b pass.now.most i k → (result.0 ≤ i) × (k < result.1) }
@@ -189,28 +200,99 @@ fn next_alike(pass: &Pass<'_>, at: usize, upto: usize) -> (usize, usize)
     let total = pass.sought.total;
     let mut first = at;
     let mut count = upto;
-    while first < pass.firsts.len() && 0 < count {
+    while first + 1 < pass.firsts.len() && 1 < count {
         let one = &pass.firsts[first];
         let other = &pass.seconds[count - 1];
-        let both = one.key + other.key;
-        if both < total {
-            first = risen(pass.firsts, first + 1, 1, other.key, total);
-        } else if total < both {
-            count = fallen(pass.seconds, count - 1, 1, one.key, total);
-        } else if is_enough(pass, one, pass.a, other, pass.a) {
+        if one.key + other.key != total {
             return (first, count);
-        } else if !is_alone(pass.seconds, count) {
-            return (first, count);
-        } else {
-            count = left_after(pass.firsts, 1, first, count);
-            first += 1;
         }
+        if is_enough(pass, one, pass.a, other, pass.a) {
+            return (first, count);
+        }
+        if !is_single(pass, first, count) {
+            return (first, count);
+        }
+        first += 1;
+        count -= 1;
     }
     (first, count)
 }
 
-/// What `next_two` answers where the factors differ.
-fn next_apart(pass: &Pass<'_>, at: usize, upto: usize) -> (usize, usize)
+/// What `skipped` answers where the factors differ.
+fn skipped_apart(pass: &Pass<'_>, at: usize, upto: usize) -> (usize, usize)
+    requires firsts { AreInOrder pass.now.firsts.now }
+    requires seconds { AreInOrder pass.now.seconds.now }
+    requires first { pass.now.sought.first ≤ 2 ^ 24 }
+    requires second { pass.now.sought.second ≤ 2 ^ 24 }
+    requires any { 0 < pass.now.sought.first }
+    requires some { 0 < pass.now.sought.second }
+    requires a { pass.now.a ≤ 2 ^ 24 }
+    requires b { pass.now.b ≤ 2 ^ 24 }
+    requires at { at ≤ length pass.now.firsts.now }
+    requires upto { upto ≤ length pass.now.seconds.now }
+    ensures at { at ≤ result.0 }
+    ensures inside { result.0 ≤ length pass.now.firsts.now }
+    ensures within { result.1 ≤ upto }
+    ensures passed { (i k : ℕ) → at ≤ i → i < length pass.now.firsts.now → k < upto
+        → Meet pass.now.firsts.now pass.now.seconds.now pass.now.sought.first pass.now.sought.second pass.now.sought.total i k
+        → Serve pass.now.firsts.now pass.now.seconds.now pass.now.a pass.now.b pass.now.most i k → (result.0 ≤ i) × (k < result.1) }
+{
+    let Sought {
+        first: a,
+        second: b,
+        total,
+    } = pass.sought;
+    let mut first = at;
+    let mut count = upto;
+    while first + 1 < pass.firsts.len() && 1 < count {
+        let one = &pass.firsts[first];
+        let other = &pass.seconds[count - 1];
+        if times(a, one.key) + times(b, other.key) != total {
+            return (first, count);
+        }
+        if is_enough(pass, one, pass.a, other, pass.b) {
+            return (first, count);
+        }
+        if !is_single(pass, first, count) {
+            return (first, count);
+        }
+        first += 1;
+        count -= 1;
+    }
+    (first, count)
+}
+
+/// What is left where the two next to each other, again and again, come to the total and do not serve.
+fn skipped(pass: &Pass<'_>, at: usize, upto: usize) -> (usize, usize)
+    requires firsts { AreInOrder pass.now.firsts.now }
+    requires seconds { AreInOrder pass.now.seconds.now }
+    requires first { pass.now.sought.first ≤ 2 ^ 24 }
+    requires second { pass.now.sought.second ≤ 2 ^ 24 }
+    requires some { 0 < pass.now.sought.second }
+    requires a { pass.now.a ≤ 2 ^ 24 }
+    requires b { pass.now.b ≤ 2 ^ 24 }
+    requires at { at ≤ length pass.now.firsts.now }
+    requires upto { upto ≤ length pass.now.seconds.now }
+    ensures at { at ≤ result.0 }
+    ensures inside { result.0 ≤ length pass.now.firsts.now }
+    ensures within { result.1 ≤ upto }
+    ensures passed { (i k : ℕ) → at ≤ i → i < length pass.now.firsts.now → k < upto
+        → Meet pass.now.firsts.now pass.now.seconds.now pass.now.sought.first pass.now.sought.second pass.now.sought.total i k
+        → Serve pass.now.firsts.now pass.now.seconds.now pass.now.a pass.now.b pass.now.most i k → (result.0 ≤ i) × (k < result.1) }
+{
+    let Sought { first, second, .. } = pass.sought;
+    if pass.a == pass.b && first == 1 && second == 1 {
+        return skipped_alike(pass, at, upto);
+    }
+    if first > 0 {
+        return skipped_apart(pass, at, upto);
+    }
+    (at, upto)
+}
+
+/// The next two, the first one from a place on and the second one before another, whose keys come to the total, and whose constants serve, or which are
+/// not alone of their key.
+pub fn next_two(pass: &Pass<'_>, at: usize, upto: usize) -> (usize, usize)
     requires firsts { AreInOrder pass.now.firsts.now }
     requires seconds { AreInOrder pass.now.seconds.now }
     requires first { pass.now.sought.first ≤ 2 ^ 24 }
@@ -251,35 +333,8 @@ fn next_apart(pass: &Pass<'_>, at: usize, upto: usize) -> (usize, usize)
             return (first, count);
         } else {
             count = left_after(pass.firsts, a, first, count);
-            first += 1;
+            (first, count) = skipped(pass, first + 1, count);
         }
     }
     (first, count)
-}
-
-/// The next two, the first one from a place on and the second one before another, whose keys come to the total, and whose constants serve, or which are
-/// not alone of their key.
-pub fn next_two(pass: &Pass<'_>, at: usize, upto: usize) -> (usize, usize)
-    requires firsts { AreInOrder pass.now.firsts.now }
-    requires seconds { AreInOrder pass.now.seconds.now }
-    requires first { pass.now.sought.first ≤ 2 ^ 24 }
-    requires second { pass.now.sought.second ≤ 2 ^ 24 }
-    requires some { 0 < pass.now.sought.second }
-    requires a { pass.now.a ≤ 2 ^ 24 }
-    requires b { pass.now.b ≤ 2 ^ 24 }
-    requires at { at ≤ length pass.now.firsts.now }
-    requires upto { upto ≤ length pass.now.seconds.now }
-    ensures at { at ≤ result.0 }
-    ensures within { result.1 ≤ upto }
-    ensures met { result.0 < length pass.now.firsts.now → 0 < result.1
-        → Meet pass.now.firsts.now pass.now.seconds.now pass.now.sought.first pass.now.sought.second pass.now.sought.total result.0 (result.1 - 1) }
-    ensures passed { (i k : ℕ) → at ≤ i → i < length pass.now.firsts.now → k < upto
-        → Meet pass.now.firsts.now pass.now.seconds.now pass.now.sought.first pass.now.sought.second pass.now.sought.total i k
-        → Serve pass.now.firsts.now pass.now.seconds.now pass.now.a pass.now.b pass.now.most i k → (result.0 ≤ i) × (k < result.1) }
-{
-    if pass.a == pass.b && pass.sought.first == 1 && pass.sought.second == 1 {
-        next_alike(pass, at, upto)
-    } else {
-        next_apart(pass, at, upto)
-    }
 }

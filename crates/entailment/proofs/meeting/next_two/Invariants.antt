@@ -1,6 +1,6 @@
 use Rattle.std.proofs.Common.{ℕ, ◌<◌, ◌≤◌, ◌+◌, ◌-◌, length}
 use Rattle.entailment.specs.Index.{Meet, Serve}
-use Rattle.entailment.proofs.meeting.next_apart.Given as goal
+use Rattle.entailment.proofs.meeting.next_two.Given as goal
 
 abbrev pub invariant-loop-first : goal.invariant-loop-first
 invariant-loop-first l =

@@ -3,7 +3,7 @@ use Rattle.std.proofs.lemmas.Bool.{false≢true}
 use Rattle.entailment.specs.declared.index.Entry.{Entry}
 use Rattle.entailment.specs.Index.{Meet}
 use Rattle.entailment.proofs.Passing.{passed_below, passed_above, passed_alone, they_meet}
-use Rattle.entailment.proofs.meeting.next_apart.Goals as goal
+use Rattle.entailment.proofs.meeting.next_two.Goals as goal
 
 abbrev none : Entry
 none = record { key = 0; constant = pos 0; place = 0 }
@@ -53,12 +53,13 @@ loop-first-preserved c =
     let within : count ≤ length ys = omega (arith, old.2, c.requires.upto) in
     let met : Meet xs ys sought.first sought.second sought.total first (count - 1) = they_meet xs ys sought.first sought.second sought.total first (count - 1) none none _ _ c.loop-first-test.true (omega (arith, c.if-count-gt0.true, within))
     c.times-of_first.ensures.value c.times-of_second.ensures.value (omega (arith, c.if-both-total.false, c.if-total-both.false)) in (
-      omega (arith, old.0),
-      omega (arith, c.loop-first-test.true),
-      omega (arith, c.left_after-count.ensures.within, old.2),
+      omega (arith, old.0, c.skipped.ensures.at),
+      c.skipped.ensures.inside,
+      omega (arith, c.left_after-count.ensures.within, c.skipped.ensures.within, old.2),
       λ i k le li lk m s.
           let was = old.3 i k le li lk m s in
-          passed_alone xs ys sought.first sought.second sought.total c.args.pass.now.a c.args.pass.now.b c.args.pass.now.most first count c.left_after-count.result i k none none
+          let next = passed_alone xs ys sought.first sought.second sought.total c.args.pass.now.a c.args.pass.now.b c.args.pass.now.most first count c.left_after-count.result i k none none
           c.requires.some c.if-count-gt0.true within c.loop-first-test.true met (λ h. false≢true (sym c.if-is_enough.false ∙ c.is_enough.ensures.1 h))
-          (λ k d l. c.is_alone.ensures k d c.if-not-is_alone.false l) c.left_after-count.ensures.all c.left_after-count.ensures.passed was.0 li was.1 m s,
+          (λ k d l. c.is_alone.ensures k d c.if-not-is_alone.false l) c.left_after-count.ensures.all c.left_after-count.ensures.passed was.0 li was.1 m s in
+          c.skipped.ensures.passed i k next.0 li next.1 m s,
     )
