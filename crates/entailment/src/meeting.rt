@@ -218,51 +218,7 @@ fn skipped_alike(pass: &Pass<'_>, at: usize, upto: usize) -> (usize, usize)
     (first, count)
 }
 
-/// What `skipped` answers where the factors differ.
-fn skipped_apart(pass: &Pass<'_>, at: usize, upto: usize) -> (usize, usize)
-    requires firsts { AreInOrder pass.now.firsts.now }
-    requires seconds { AreInOrder pass.now.seconds.now }
-    requires first { pass.now.sought.first ≤ 2 ^ 24 }
-    requires second { pass.now.sought.second ≤ 2 ^ 24 }
-    requires any { 0 < pass.now.sought.first }
-    requires some { 0 < pass.now.sought.second }
-    requires a { pass.now.a ≤ 2 ^ 24 }
-    requires b { pass.now.b ≤ 2 ^ 24 }
-    requires at { at ≤ length pass.now.firsts.now }
-    requires upto { upto ≤ length pass.now.seconds.now }
-    ensures at { at ≤ result.0 }
-    ensures inside { result.0 ≤ length pass.now.firsts.now }
-    ensures within { result.1 ≤ upto }
-    ensures passed { (i k : ℕ) → at ≤ i → i < length pass.now.firsts.now → k < upto
-        → Meet pass.now.firsts.now pass.now.seconds.now pass.now.sought.first pass.now.sought.second pass.now.sought.total i k
-        → Serve pass.now.firsts.now pass.now.seconds.now pass.now.a pass.now.b pass.now.most i k → (result.0 ≤ i) × (k < result.1) }
-{
-    let Sought {
-        first: a,
-        second: b,
-        total,
-    } = pass.sought;
-    let mut first = at;
-    let mut count = upto;
-    while first + 1 < pass.firsts.len() && 1 < count {
-        let one = &pass.firsts[first];
-        let other = &pass.seconds[count - 1];
-        if times(a, one.key) + times(b, other.key) != total {
-            return (first, count);
-        }
-        if is_enough(pass, one, pass.a, other, pass.b) {
-            return (first, count);
-        }
-        if !is_single(pass, first, count) {
-            return (first, count);
-        }
-        first += 1;
-        count -= 1;
-    }
-    (first, count)
-}
-
-/// What is left where the two next to each other, again and again, come to the total and do not serve.
+/// What is left where the next two, again and again, come to the total and do not serve. With factors that differ that hardly happens.
 fn skipped(pass: &Pass<'_>, at: usize, upto: usize) -> (usize, usize)
     requires firsts { AreInOrder pass.now.firsts.now }
     requires seconds { AreInOrder pass.now.seconds.now }
@@ -282,12 +238,10 @@ fn skipped(pass: &Pass<'_>, at: usize, upto: usize) -> (usize, usize)
 {
     let Sought { first, second, .. } = pass.sought;
     if pass.a == pass.b && first == 1 && second == 1 {
-        return skipped_alike(pass, at, upto);
+        skipped_alike(pass, at, upto)
+    } else {
+        (at, upto)
     }
-    if first > 0 {
-        return skipped_apart(pass, at, upto);
-    }
-    (at, upto)
 }
 
 /// The next two, the first one from a place on and the second one before another, whose keys come to the total, and whose constants serve, or which are
