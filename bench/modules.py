@@ -31,7 +31,7 @@ def verified(tapirvm, text):
     return time.time() - start, told
 
 def chain(name, blocks, defined):
-    """A function of so many blocks one behind another, each but the first with a phi and so many more registers."""
+    """A function of so many blocks one after another, each but the first with a phi and so many more registers."""
     each = defined + 1
     total = 1 + (blocks - 1) * each
     out = [f"define i64 @{name}(i64 %n) {{\n;! budget 0 {total}\nentry:\n;! left 0 {total}\nbr label %a0\n"]
@@ -216,7 +216,7 @@ def covers(count):
     return callee + head + "call void @f()\n" * count + "ret i64 0\n}\n"
 
 def cases(count):
-    """So many facts at the end of a block, and a switch behind it to 64 blocks with 32 `keeps` lines each, which the two oldest facts show."""
+    """So many facts at the end of a block, and then a switch to 64 blocks with 32 `keeps` lines each, which the two oldest facts show."""
     adds = count // 32
     head = f"define i64 @main(i64 %n, i64 %m) {{\n;! requires %n <= 9\n;! requires %m <= 9\n;! budget 0 {adds + 3}\nentry:\n;! left 0 {adds + 3}\n"
     facts = [f";! shows {k + 1}*%n <= {9 * k + 10}\n" + (f"%x{k} = add i64 %n, 0\n" if k % 32 == 0 else "") for k in range(1, count + 1)]
@@ -232,7 +232,7 @@ def pointers(count):
     return callee + head + "call void @f()\n" * count + "%p = getelementptr inbounds i64, ptr @a, i64 0\n" + "store i64 0, ptr %p\n" * count + "ret i64 0\n}\n"
 
 def selves(count):
-    """So many facts in one block, and as many self calls behind them, whose measure the two oldest facts bound."""
+    """So many facts in one block, and as many self calls after them, whose measure the two oldest facts bound."""
     adds = count // 32
     head = f"define void @f(i64 %n, i64 %m) {{\n;! requires %n >= 0\n;! requires %n <= 1\n;! requires %m <= 9\n;! measure %n max 1\n;! budget {count} {adds + count + 9}\n"
     head += f"entry:\n;! left {count}*%n {adds + count + 9}\n%c = icmp sge i64 %n, 1\nbr i1 %c, label %a, label %b\n"
@@ -294,6 +294,26 @@ def woven(count):
         lines.append(f";! shows {line}\n" + (f"%x{j} = add i64 %n, 0\n" if j % 32 == 0 else ""))
     return head + "".join(lines) + "ret i64 0\n}\n"
 
+def knit(count):
+    """As `woven`, where of the factors the last two alone serve."""
+    head = "define i64 @main(i64 %n, i64 %m) {\n;! requires %n-2*%m >= 0\n;! requires 2*%m >= -9\n;! requires %n-2*%m <= 9\n;! requires 2*%m <= 9\n"
+    head += f";! budget 0 {count // 32 + 2}\nentry:\n;! left 0 {count // 32 + 2}\n"
+    lines = []
+    for j in range(1, count + 1):
+        k = (j + 1) // 2
+        line = f"{k}*%n+{2 * k}*%m >= {-18 * k - 5}" if j % 2 else f"{-k}*%n-{2 * k}*%m >= {-27 * k - 5}"
+        lines.append(f";! shows {line}\n" + (f"%x{j} = add i64 %n, 0\n" if j % 32 == 0 else ""))
+    return head + "".join(lines) + "ret i64 0\n}\n"
+
+def pressed(count):
+    """So many facts as in `woven`, and as many calls of a function with 32 `requires` lines that two of the four oldest facts show, and no other two."""
+    lines = [f"{k}*%n+{2 * k}*%m >= {-9 * k - 4}" for k in range(2, 18)] + [f"{-k}*%n-{2 * k}*%m >= {-18 * k - 4}" for k in range(2, 18)]
+    callee = "define void @f(i64 %n, i64 %m) {\n" + "".join(f";! requires {line}\n" for line in lines) + ";! budget 0 1\nentry:\n;! left 0 1\nret void\n}\n"
+    facts = woven(count)
+    total = count // 32 + 2 * count + 2
+    facts = facts.replace(f" 0 {count // 32 + 2}\n", f" 0 {total}\n")
+    return callee + facts[:facts.index("ret i64 0")] + "call void @f(i64 %n, i64 %m)\n" * count + "ret i64 0\n}\n"
+
 def pending(blocks):
     """A child that may run beside so many blocks, each with 32 `pending` lines."""
     out = ["@a = global [99 x i64] zeroinitializer\n"]
@@ -334,7 +354,7 @@ def nested(name, blocks, allocas):
     return f"define i64 @{name}(i64 %n) {{\n" + "".join(out) + "}\n"
 
 def endless(name, blocks, allocas):
-    """Detaches in a row of children that never end, and then their syncs: behind those nothing runs, so that each alloca is sure."""
+    """Detaches in a row of children that never end, and then their syncs: after those nothing runs, so that each alloca is sure."""
     count = (blocks - 2) // 4
     out = ["entry:\n"] + [f"%x{k} = alloca i64\n" for k in range(allocas)] + [f"%r{k} = call token @llvm.syncregion.start()\n" for k in range(count)]
     out.append("detach within %r0, label %d0, label %c0\n")

@@ -7,7 +7,8 @@
  * - At least as many elements as the length says stand there and have been given values, and so has each struct.
  * - During a call nobody else reads or writes the cells, the verdict and the outcome, and nobody writes the text and the arguments. What is
  *   written overlaps nothing else of the call.
- * - malloc, realloc and free are of one allocator, and align a block to each power of two up to 16 that divides its size.
+ * - malloc, realloc and free are of one allocator, and align a block to each power of two up to 16 that divides its size. They may give none at any
+ *   time: so a host ends a call that takes too long.
  * - No call is made from a signal handler, or in the child of a process with threads before it executes a program.
  */
 #ifndef TAPIRVM_H
