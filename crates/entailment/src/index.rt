@@ -7,11 +7,13 @@ ghost use Rattle.linear.specs.Forms.{AreSmall, IsRising, coefficient_of};
 ghost use Rattle.entailment.specs.Index.{place_at, IsKeyOf, IsEntry, IsBegun, IsContradiction, AreEntries, AreLayers, IsJoined};
 ghost use Rattle.entailment.specs.declared.index.Entry.{Entry};
 
+use crate::hint::{Hint, make_hints};
 use crate::merge::{enter_many, merge_into};
 use crate::show::{agree, is_at_most};
 use crate::weight::key_of;
 use linear::{Fact, Side, side_of};
 use std::alloc::{AllocError, Global};
+use std::cell::Cell;
 use std::mem;
 
 /// Up to so many facts are tried two by two, without an index.
@@ -32,11 +34,12 @@ pub struct Entry {
     pub place: usize,
 }
 
-/// Entries in two lists, lent.
+/// Entries in two lists, lent with what is remembered of earlier questions.
 #[derive(Clone, Copy)]
 pub struct Layers<'a> {
     pub settled: &'a [Entry],
     pub recent: &'a [Entry],
+    pub hints: &'a [Cell<Hint>],
 }
 
 /// What stands at a place.
@@ -243,6 +246,7 @@ pub struct Index {
     /// Where a list is merged with other entries.
     pub room: Vec<Entry>,
     pub entered: Entered,
+    pub hints: Vec<Cell<Hint>>,
 }
 
 /// Written out, so that no crate above proves it anew.
@@ -253,6 +257,7 @@ impl Drop for Index {
             recent: _,
             room: _,
             entered: _,
+            hints: _,
         } = self;
     }
 }
@@ -281,6 +286,7 @@ impl Index {
             recent: Vec::new(alloc),
             room: Vec::new(alloc),
             entered: nothing_entered(),
+            hints: Vec::new(alloc),
         }
     }
 
@@ -304,6 +310,7 @@ impl Index {
         Layers {
             settled: self.settled.as_slice(),
             recent: self.recent.as_slice(),
+            hints: self.hints.as_slice(),
         }
     }
 }
@@ -394,6 +401,9 @@ pub fn enter_from(facts: &[Fact], index: &mut Index) -> Result<(), AllocError>
         &mut index.room,
         index.entered,
     )?;
+    if facts.len() > LATE {
+        make_hints(&mut index.hints)?;
+    }
     settle(facts, index)
 }
 

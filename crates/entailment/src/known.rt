@@ -50,6 +50,7 @@ impl<'a> Known<'a> {
             layers: Layers {
                 settled: &[],
                 recent: &[],
+                hints: &[],
             },
             is_indexed: false,
             is_consistent: false,

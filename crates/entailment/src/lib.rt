@@ -6,6 +6,7 @@
 mod fact_cursor;
 mod fact_list;
 mod find;
+mod hint;
 mod index;
 mod known;
 pub mod laws;

@@ -8,6 +8,7 @@ ghost use Rattle.entailment.specs.Index.{place_at, IsKeyOf, IsEntry, AreEntries,
 ghost use Rattle.entailment.specs.Shown.{IsSum, IsShown};
 ghost use Rattle.entailment.specs.declared.index.Entry.{Entry};
 
+use crate::hint::{Hint, hint_of, remember};
 use crate::index::{Entry, Layers, no_fact, side_of_place};
 use crate::meeting::{Pass, left_after, next_two, sought_of, total_of};
 use crate::show::{agree, factor, is_at_most};
@@ -23,7 +24,24 @@ pub struct Search<'a> {
     pub key: u128,
 }
 
-/// Whether the form is a times one entry's fact and b times another's, and a constant that is not below 0.
+/// Whether the form is a times what stands at one place and b times what stands at another, and a constant that is not below 0.
+fn is_sum_at(search: &Search<'_>, first: usize, a: u32, second: usize, b: u32) -> bool
+    requires first { first ≤ length search.now.facts.now }
+    requires second { second ≤ length search.now.facts.now }
+    requires a { a ≤ 2 ^ 24 }
+    requires b { b ≤ 2 ^ 24 }
+    ensures { IsTrue result ↔ IsSum search.now.form.now a (place_at search.now.facts.now first) b (place_at search.now.facts.now second) }
+{
+    let e = side_of(search.form);
+    let f = side_of_place(search.facts, first);
+    let g = side_of_place(search.facts, second);
+    if !is_at_most(a, f.constant, b, g.constant, e.constant) {
+        return false;
+    }
+    agree(e.terms, a, f.terms, b, g.terms)
+}
+
+/// The same of two entries, whose constants are looked at first.
 fn is_sum(search: &Search<'_>, first: Entry, a: u32, second: Entry, b: u32) -> bool
     requires first { IsEntry search.now.facts.now first }
     requires second { IsEntry search.now.facts.now second }
@@ -32,13 +50,30 @@ fn is_sum(search: &Search<'_>, first: Entry, a: u32, second: Entry, b: u32) -> b
     ensures { IsTrue result
         ↔ IsSum search.now.form.now a (place_at search.now.facts.now first.place) b (place_at search.now.facts.now second.place) }
 {
-    let e = side_of(search.form);
-    if !is_at_most(a, first.constant, b, second.constant, e.constant) {
+    if !is_at_most(
+        a,
+        first.constant,
+        b,
+        second.constant,
+        side_of(search.form).constant,
+    ) {
         return false;
     }
-    let f = side_of_place(search.facts, first.place);
-    let g = side_of_place(search.facts, second.place);
-    agree(e.terms, a, f.terms, b, g.terms)
+    is_sum_at(search, first.place, a, second.place, b)
+}
+
+/// Remembers two facts that make the form up.
+fn remember_two(search: &Search<'_>, first: Entry, a: u32, second: Entry, b: u32) {
+    remember(
+        search.layers.hints,
+        Hint {
+            key: search.key,
+            first: first.place,
+            a,
+            second: second.place,
+            b,
+        },
+    );
 }
 
 /// Whether the first entry makes the form up with one of those of the second list whose key is that of the last before a place, and which stand before
@@ -60,6 +95,7 @@ fn is_made_up(search: &Search<'_>, pass: &Pass<'_>, first: usize, upto: usize) -
     let fact = pass.firsts[first];
     let last = pass.seconds[upto - 1];
     if is_sum(search, fact, pass.a, last, pass.b) {
+        remember_two(search, fact, pass.a, last, pass.b);
         return true;
     }
     let mut count = upto - 1;
@@ -69,6 +105,7 @@ fn is_made_up(search: &Search<'_>, pass: &Pass<'_>, first: usize, upto: usize) -
             return false;
         }
         if is_sum(search, fact, pass.a, second, pass.b) {
+            remember_two(search, fact, pass.a, second, pass.b);
             return true;
         }
         count -= 1;
@@ -174,7 +211,11 @@ fn made_up_with(search: &Search<'_>, a: u32, b: u32) -> bool
     requires some { 0 < b }
     ensures { IsTrue result ↔ IsMadeUpWith search.now.facts.now search.now.form.now (search.now.layers.settled.now ++ search.now.layers.recent.now) a b }
 {
-    let Layers { settled, recent } = search.layers;
+    let Layers {
+        settled,
+        recent,
+        ..
+    } = search.layers;
     if made_up_within(search, settled, a, b) {
         return true;
     }
@@ -298,6 +339,51 @@ fn made_up_by_b(search: &Search<'_>, a: u32, from: usize) -> bool
         }
     }
     false
+}
+
+/// Whether a number is one of the factors.
+fn is_factor(terms: &[Term], number: u32) -> bool
+    requires { AreSmall terms.now }
+    ensures found { IsTrue result → Contains (factors terms.now) number }
+    ensures small { IsTrue result → number ≤ 2 ^ 24 }
+{
+    let count = terms.len() + 1;
+    for index in 0..count {
+        if factor(terms, index) == number {
+            return true;
+        }
+    }
+    false
+}
+
+/// Whether two facts that are remembered make the form up.
+pub fn made_up_by_hint(search: &Search<'_>) -> bool
+    ensures { IsTrue result → IsShown search.now.facts.now search.now.form.now }
+{
+    match hint_of(search.layers.hints, search.key) {
+        Some(hint) => made_up_by(search, hint),
+        None => false,
+    }
+}
+
+/// Whether the two facts of a hint are there, and make the form up with factors of its own.
+fn made_up_by(search: &Search<'_>, hint: Hint) -> bool
+    ensures { IsTrue result → IsShown search.now.facts.now search.now.form.now }
+{
+    if hint.first > search.facts.len() {
+        return false;
+    }
+    if hint.second > search.facts.len() {
+        return false;
+    }
+    let terms = side_of(search.form).terms;
+    if !is_factor(terms, hint.a) {
+        return false;
+    }
+    if !is_factor(terms, hint.b) {
+        return false;
+    }
+    is_sum_at(search, hint.first, hint.a, hint.second, hint.b)
 }
 
 /// The first entry of this key, or that of an absent fact.

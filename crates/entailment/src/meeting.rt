@@ -81,6 +81,7 @@ pub fn times(b: u32, key: u128) -> u128
 }
 
 /// An entry from a place on, before which a times each key is too small beside this. Steps double, and halve where they would go too far.
+#[inline(never)]
 pub fn risen(entries: &[Entry], from: usize, a: u32, beside: u128, total: u128) -> usize
     requires order { AreInOrder entries.now }
     requires from { from ≤ length entries.now }
@@ -107,6 +108,7 @@ pub fn risen(entries: &[Entry], from: usize, a: u32, beside: u128, total: u128) 
 
 /// How many of the first entries are left where b times each key at the end is too great beside this. Steps double, and halve where they would go too
 /// far.
+#[inline(never)]
 pub fn fallen(entries: &[Entry], upto: usize, b: u32, beside: u128, total: u128) -> usize
     requires order { AreInOrder entries.now }
     requires upto { upto ≤ length entries.now }
