@@ -282,28 +282,24 @@ def crossed(count):
         lines.append(f";! shows {x}*%n{y:+}*%m >= {least}\n".replace("+0*%m", "+0*%m") + (f"%x{k} = add i64 %n, 0\n" if k % 32 == 0 else ""))
     return head + "".join(lines) + "ret i64 0\n}\n"
 
-def woven(count):
-    """So many `shows` lines that are multiples of one form of two registers, of both signs: two of the four oldest facts show each, and very many
-    two others come to its terms, and not to its constant."""
-    head = "define i64 @main(i64 %n, i64 %m) {\n;! requires %n+%m >= 0\n;! requires %m >= -9\n;! requires %n+%m <= 9\n;! requires %m <= 9\n"
+def multiples(count, bounds, up, down):
+    """So many `shows` lines that are multiples of one form of two registers, of both signs, each k times these bounds and 5 less."""
+    head = "define i64 @main(i64 %n, i64 %m) {\n" + "".join(f";! requires {bound}\n" for bound in bounds)
     head += f";! budget 0 {count // 32 + 2}\nentry:\n;! left 0 {count // 32 + 2}\n"
     lines = []
     for j in range(1, count + 1):
         k = (j + 1) // 2
-        line = f"{k}*%n+{2 * k}*%m >= {-9 * k - 5}" if j % 2 else f"{-k}*%n-{2 * k}*%m >= {-18 * k - 5}"
+        line = f"{k}*%n+{2 * k}*%m >= {up * k - 5}" if j % 2 else f"{-k}*%n-{2 * k}*%m >= {down * k - 5}"
         lines.append(f";! shows {line}\n" + (f"%x{j} = add i64 %n, 0\n" if j % 32 == 0 else ""))
     return head + "".join(lines) + "ret i64 0\n}\n"
 
+def woven(count):
+    """Multiples of which two of the four oldest facts show each, and very many two others come to its terms, and not to its constant."""
+    return multiples(count, ["%n+%m >= 0", "%m >= -9", "%n+%m <= 9", "%m <= 9"], -9, -18)
+
 def knit(count):
     """As `woven`, where of the factors the last two alone serve."""
-    head = "define i64 @main(i64 %n, i64 %m) {\n;! requires %n-2*%m >= 0\n;! requires 2*%m >= -9\n;! requires %n-2*%m <= 9\n;! requires 2*%m <= 9\n"
-    head += f";! budget 0 {count // 32 + 2}\nentry:\n;! left 0 {count // 32 + 2}\n"
-    lines = []
-    for j in range(1, count + 1):
-        k = (j + 1) // 2
-        line = f"{k}*%n+{2 * k}*%m >= {-18 * k - 5}" if j % 2 else f"{-k}*%n-{2 * k}*%m >= {-27 * k - 5}"
-        lines.append(f";! shows {line}\n" + (f"%x{j} = add i64 %n, 0\n" if j % 32 == 0 else ""))
-    return head + "".join(lines) + "ret i64 0\n}\n"
+    return multiples(count, ["%n-2*%m >= 0", "2*%m >= -9", "%n-2*%m <= 9", "2*%m <= 9"], -18, -27)
 
 def pressed(count):
     """So many facts as in `woven`, and as many calls of a function with 32 `requires` lines that two of the four oldest facts show, and no other two."""
