@@ -1,5 +1,5 @@
 """Modules at the limits of the language, and the time that the program takes to judge one."""
-import os, subprocess, tempfile, time
+import itertools, os, subprocess, tempfile, time
 
 LIMIT = 1048576
 
@@ -309,6 +309,52 @@ def pressed(count):
     total = count // 32 + 2 * count + 2
     facts = facts.replace(f" 0 {count // 32 + 2}\n", f" 0 {total}\n")
     return callee + facts[:facts.index("ret i64 0")] + "call void @f(i64 %n, i64 %m)\n" * count + "ret i64 0\n}\n"
+
+def branched(count):
+    """So many calls of a function with 32 `ensures` lines, and then a switch to 65 blocks with 32 `keeps` lines each."""
+    lines = [f"{k + 1}*%n >= {-k}" for k in range(32)]
+    callee = "define void @f(i64 %n) {\n;! requires %n >= 0\n" + "".join(f";! ensures {line}\n" for line in lines) + ";! budget 0 1\nentry:\n;! left 0 1\nret void\n}\n"
+    total = 2 * count + 2
+    head = f"define i64 @main(i64 %n, i64 %m) {{\n;! requires %n >= 0\n;! budget 0 {total}\nentry:\n;! left 0 {total}\n"
+    ways = "switch i64 %m, label %a64 [" + "".join(f" i64 {k}, label %a{k}" for k in range(64)) + " ]\n"
+    keeps = "".join(f";! keeps {line}\n" for line in lines)
+    return callee + head + "call void @f(i64 %n)\n" * count + ways + "".join(f"a{k}:\n{keeps};! left 0 1\nret i64 0\n" for k in range(65)) + "}\n"
+
+def zoned(count):
+    """So many calls of a function with 32 zones of each mode at multiples of a register, beside a child with 32 such zones."""
+    modes = [("reads", 0), ("writes", 32), ("adds", 64)]
+    bounds = ["%n >= 1", "%n <= 9"]
+    callee = "@a = global [2000 x i64] zeroinitializer\ndefine void @f(i64 %n) {\n" + "".join(f";! requires {bound}\n" for bound in bounds)
+    callee += "".join(f";! {mode} @a {start + k}*%n+369 {start + k + 1}*%n+369\n" for mode, start in modes for k in range(32)) + ";! budget 0 1\nentry:\n;! left 0 1\nret void\n}\n"
+    total = 2 * count + 6
+    zones = [f"writes @a {k + 1}*%n {k + 2}*%n" for k in range(32)]
+    keeps = "".join(f";! keeps {bound}\n" for bound in bounds)
+    head = "define i64 @main(i64 %n) {\n" + "".join(f";! requires {bound}\n" for bound in bounds) + f";! writes @a 0 2000\n;! budget 0 {total}\n"
+    head += f"entry:\n;! left 0 {total}\n%s = call token @llvm.syncregion.start()\n"
+    child = f"detach within %s, label %d, label %c\nd:\n{keeps};! left 0 1\n" + "".join(f";! foot {zone}\n" for zone in zones) + "reattach within %s, label %c\n"
+    rest = f"c:\n{keeps};! left 0 {total - 3}\n" + "".join(f";! pending %s {zone}\n" for zone in zones)
+    return callee + head + child + rest + "call void @f(i64 %n)\n" * count + "sync within %s, label %e\ne:\n;! left 0 1\nret i64 0\n}\n"
+
+def posed(count):
+    """So many facts of four registers, and calls of functions with 32 `requires` lines that two of the 24 oldest show with two factors, each another question."""
+    registers, functions = ["%a", "%b", "%c", "%d"], count // 100 + 1
+    orders = list(itertools.permutations(registers))
+    lines = [[f"{i + 2}*%p+{2 * i + 4}*%q+{7 * i + 3}*%r+{21 * i + 9}*%s >= {-9 * i}" for i in range(32 * f, 32 * f + 32)] for f in range(functions)]
+    callees = "".join(f"define void @f{f}(i64 %p, i64 %q, i64 %r, i64 %s) {{\n" + "".join(f";! requires {line}\n" for line in lines[f])
+        + ";! budget 0 1\nentry:\n;! left 0 1\nret void\n}\n" for f in range(functions))
+    least = [f"{u}+{k}*{v} >= 0" for u, v in itertools.permutations(registers, 2) for k in (2, 3)]
+    most = [f"{u}+{k}*{v} <= 9" for u, v in (("%a", "%b"), ("%c", "%d")) for k in (2, 3)]
+    calls = 2 * count // 5
+    total = count // 32 + 2 * calls + 2
+    head = "define i64 @main(i64 %a, i64 %b, i64 %c, i64 %d) {\n" + "".join(f";! requires {bound}\n" for bound in least + most)
+    head += f";! budget 0 {total}\nentry:\n;! left 0 {total}\n"
+    facts = []
+    for j in range(1, count + 1):
+        x, y = j * 541 % 1223 + 2, j * 733 % 1117 + 2
+        x, y = x if j % 2 else -x, y if j % 3 else -y
+        facts.append(f";! shows {x}*%a{2 * x:+}*%b{y:+}*%c{3 * y:+}*%d >= {9 * min(x, 0) + 9 * min(y, 0)}\n" + (f"%x{j} = add i64 %a, 0\n" if j % 32 == 0 else ""))
+    body = [f"call void @f{n % functions}(" + ", ".join(f"i64 {register}" for register in orders[n // functions % 24]) + ")\n" for n in range(calls)]
+    return callees + head + "".join(facts) + "".join(body) + "ret i64 0\n}\n"
 
 def pending(blocks):
     """A child that may run beside so many blocks, each with 32 `pending` lines."""

@@ -50,21 +50,14 @@ times_greater es a at k e d up some within later l less =
     omega (arith, some, mul-le-mul_left a rises)
 
 -- first ones that are too small beside the last of the second ones meet none of these
-pub passed_below : (xs ys : List Entry) (a b total first count next i k : ℕ) (d e : Entry) (x y : ℕ) → IsNonDecreasingBy (λ (e : Entry). e.key) ys → 0 < count → count ≤ length ys →
-    x ≡ a * (get_or xs first d).key → y ≡ b * (get_or ys (count - 1) e).key → x + y < total →
-    ((k : ℕ) (d : Entry) → first + 1 ≤ k → k < next → a * (get_or xs k d).key + y < total) →
+pub passed_below : (xs ys : List Entry) (a b total first count next i k : ℕ) (e : Entry) (y : ℕ) → IsNonDecreasingBy (λ (e : Entry). e.key) ys → 0 < count → count ≤ length ys →
+    y ≡ b * (get_or ys (count - 1) e).key → ((k : ℕ) (d : Entry) → first ≤ k → k < next → a * (get_or xs k d).key + y < total) →
     first ≤ i → k < count → Meet xs ys a b total i k → next ≤ i
-passed_below xs ys a b total first count next i k d e x y up some within ex ey less below from before meet =
-    let same : get_or ys (count - 1) e ≡ get_or ys (count - 1) d = get_or_default ys (count - 1) e d (omega (arith, some, within)) in
-    let y_is : y ≡ b * (get_or ys (count - 1) d).key = ey ∙ ap (λ (x : Entry). b * x.key) same in
-    let rises = mul-le-mul_left b (up k (count - 1) d (omega (arith, before)) (omega (arith, some, within))) in
+passed_below xs ys a b total first count next i k e y up some within ey below from before meet =
     elim (cases_lt i next) [
-      | inl early ↦ elim (cases_eq i first) [
-        | inl at_first ↦
-            let at_x : a * (get_or xs i d).key ≡ a * (get_or xs first d).key = ap (λ (n : ℕ). a * (get_or xs n d).key) at_first in
-            absurd (omega (arith, at_x, ex, less, y_is, rises, meet d))
-        | inr other ↦ absurd (omega (arith, below i d (omega (arith, from, other)) early, y_is, rises, meet d))
-      ]
+      | inl early ↦
+          let rises = mul-le-mul_left b (up k (count - 1) e (omega (arith, before)) (omega (arith, some, within))) in
+          absurd (omega (arith, below i e from early, ey, rises, meet e))
       | inr late ↦ late
     ]
 
@@ -174,15 +167,15 @@ pub whole_total : (key a b total x y : ℕ) → total + 2 ^ 100 ≡ (a + b) * 2 
 whole_total key a b total x y is balance = omega (arith, is, balance)
 
 -- a factor that both have is left out
-pub shared_total : (key b total x y : ℕ) → 0 < b → total % b ≡ 0 → total + 2 ^ 100 ≡ (b + b) * 2 ^ 100 + key → Balance key b b x y → x + y ≡ total / b
-shared_total key b total x y some even is balance =
-    let spread : b * (x + y) ≡ b * x + b * y = omega arith in
-    cancel b (x + y) (total / b) some (omega (arith, spread, is, balance, divides total b even))
+pub shared_total : (key s u v total x y : ℕ) → 0 < s → total % s ≡ 0 → total + 2 ^ 100 ≡ (s * u + s * v) * 2 ^ 100 + key → Balance key (s * u) (s * v) x y → u * x + v * y ≡ total / s
+shared_total key s u v total x y some even is balance =
+    let spread : s * (u * x + v * y) ≡ s * u * x + s * v * y = omega arith in
+    cancel s (u * x + v * y) (total / s) some (omega (arith, spread, is, balance, divides total s even))
 
-pub none_shared : (key b total x y : ℕ) → (total % b ≡ 0 → ⊥) → total + 2 ^ 100 ≡ (b + b) * 2 ^ 100 + key → Balance key b b x y → ⊥
-none_shared key b total x y odd is balance =
-    let spread : b * (x + y) ≡ b * x + b * y = omega arith in
-    divides_not total b odd (x + y) (omega (arith, spread, is, balance))
+pub none_shared : (key s u v total x y : ℕ) → (total % s ≡ 0 → ⊥) → total + 2 ^ 100 ≡ (s * u + s * v) * 2 ^ 100 + key → Balance key (s * u) (s * v) x y → ⊥
+none_shared key s u v total x y odd is balance =
+    let spread : s * (u * x + v * y) ≡ s * u * x + s * v * y = omega arith in
+    divides_not total s odd (u * x + v * y) (omega (arith, spread, is, balance))
 
 -- ---- what makes a form up
 
@@ -320,12 +313,6 @@ with_between facts es index e a b (first, c, (g, in_g, sum)) =
 pub between_with : (facts : List Fact) (es : List Entry) → IsIndex facts (suc (length facts)) es → (e : Combination) (a b : ℕ) → IsMadeUpBetween facts e es es a b → IsMadeUpWith facts e es a b
 between_with facts es index e a b (f, f_in, g, g_in, sum) =
     (f, f_in, (place_at facts g.place, side_of_entry facts g (All-contains (IsEntry facts) es g index.own g_in), sum))
-
-pub in_settled : (settled recent : List Entry) (x : Entry) → Contains settled x → Contains (settled ++ recent) x
-in_settled settled recent x c = Contains-append_left settled recent x c
-
-pub in_recent : (settled recent : List Entry) (x : Entry) → Contains recent x → Contains (settled ++ recent) x
-in_recent settled recent x c = Contains-append_right settled recent x c
 
 -- nothing is made up of two lists where nothing is made up within each, nor of one of each
 pub none_of_two : (facts : List Fact) (e : Combination) (xs ys : List Entry) (a b : ℕ) → (IsMadeUpBetween facts e xs xs a b → ⊥) → (IsMadeUpBetween facts e ys ys a b → ⊥) →

@@ -129,11 +129,13 @@ AreNotB facts e entries a count = All (λ b. IsMadeUpWith facts e entries a b �
 
 -- ---- a pass: of two lists two entries whose keys come to a total
 
+-- entries by rising keys, which are within their bound, as their constants are
 pub record AreInOrder (entries : List Entry) : Type 0 where
   pub sorted : IsNonDecreasingBy (λ (e : Entry). e.key) entries
   pub keys : All (λ (e : Entry). e.key < 2 ^ 101) entries
   pub constants : All (λ (e : Entry). unsigned_abs e.constant < 2 ^ 100) entries
 
+-- the keys of two, the first one a times and the second one b times, come to a total
 abbrev pub Meet : List Entry → List Entry → ℕ → ℕ → ℕ → ℕ → ℕ → Type 0
 Meet firsts seconds a b total i k = (d : Entry) → a * (slice_index_or firsts i d).key + b * (slice_index_or seconds k d).key ≡ total
 

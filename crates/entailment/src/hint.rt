@@ -1,7 +1,5 @@
 //! Two facts that showed a form: where it is asked again they are tried first. Nothing is owed for a hint, as two that are tried are judged as any others.
 
-ghost use Rattle.std.specs.Prelude.{◌≡◌, ◌<◌, length};
-
 use std::alloc::AllocError;
 use std::cell::Cell;
 

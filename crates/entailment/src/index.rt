@@ -316,7 +316,7 @@ impl Index {
 }
 
 /// Enters the facts from a place on one by one, and answers up to where: one past the range of keys stops it.
-fn enter_each(
+pub fn enter_each(
     facts: &[Fact],
     settled: &[Entry],
     recent: &mut Vec<Entry>,

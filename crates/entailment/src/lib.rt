@@ -3,6 +3,7 @@
 //! All pairs of facts are tried; of many facts the second is looked up by an index that grows from place to place.
 #![tactic(auto)]
 
+mod fact_branches;
 mod fact_cursor;
 mod fact_list;
 mod find;
@@ -16,6 +17,7 @@ mod merge;
 mod show;
 mod weight;
 
+pub use fact_branches::FactBranches;
 pub use fact_cursor::FactCursor;
 pub use fact_list::FactList;
 pub use find::find_shown;

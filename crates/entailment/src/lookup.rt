@@ -366,7 +366,7 @@ pub fn made_up_by_hint(search: &Search<'_>) -> bool
     }
 }
 
-/// Whether the two facts of a hint are there, and make the form up with factors of its own.
+/// Whether the two facts of a hint are there, and make the form up, with factors that are the form's.
 fn made_up_by(search: &Search<'_>, hint: Hint) -> bool
     ensures { IsTrue result → IsShown search.now.facts.now search.now.form.now }
 {

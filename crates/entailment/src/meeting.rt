@@ -1,6 +1,6 @@
 //! Where the keys of two entries, with their factors, come to a total: the first one goes up its list, and the second one down its own.
 
-ghost use Rattle.std.specs.Prelude.{◌≡◌, ◌<◌, ◌≤◌, ◌+◌, ◌-◌, ◌*◌, ◌^◌, ◌↔◌, ℕ, All, IsTrue, IfSome, IfNone, length, slice_index_or, pos, ◌≤ℤ◌, ◌+ℤ◌, ◌*ℤ◌, unsigned_abs};
+ghost use Rattle.std.specs.Prelude.{◌≡◌, ◌<◌, ◌≤◌, ◌+◌, ◌-◌, ◌*◌, ◌/◌, ◌^◌, false, ◌↔◌, ℕ, All, IsTrue, IfSome, IfNone, length, slice_index_or, pos, ◌≤ℤ◌, ◌+ℤ◌, ◌*ℤ◌, unsigned_abs};
 ghost use Rattle.std.specs.List.Sorted.{IsNonDecreasingBy};
 ghost use Rattle.entailment.specs.Index.{AreInOrder, Balance, Meet, Serve};
 ghost use Rattle.entailment.specs.declared.index.Entry.{Entry};
@@ -39,6 +39,22 @@ pub fn total_of(key: u128, a: u32, b: u32) -> u128
     shares * 1_267_650_600_228_229_401_496_703_205_376 + key
 }
 
+/// A factor that both have: one of them where it divides the other, or 1.
+fn shared_factor(a: u32, b: u32) -> u32
+    requires some { 0 < b }
+    ensures some { 0 < result }
+    ensures first { result * (a / result) ≡ a }
+    ensures second { result * (b / result) ≡ b }
+{
+    if a % b == 0 {
+        b
+    } else if a > 0 && b % a == 0 {
+        a
+    } else {
+        1
+    }
+}
+
 /// What is sought where a times one fact and b times another one make up a form of this key. A factor that both have is left out; none where the
 /// total cannot be divided by it.
 pub fn sought_of(key: u128, a: u32, b: u32) -> Option<Sought>
@@ -53,20 +69,14 @@ pub fn sought_of(key: u128, a: u32, b: u32) -> Option<Sought>
     ensures none { IfNone result ((x y : ℕ) → Balance key a b x y → ⊥) }
 {
     let total = total_of(key, a, b);
-    if a != b {
-        return Some(Sought {
-            first: a,
-            second: b,
-            total,
-        });
-    }
-    if total % u128::from(b) != 0 {
+    let shared = shared_factor(a, b);
+    if total % u128::from(shared) != 0 {
         return None;
     }
     Some(Sought {
-        first: 1,
-        second: 1,
-        total: total / u128::from(b),
+        first: a / shared,
+        second: b / shared,
+        total: total / u128::from(shared),
     })
 }
 
@@ -80,9 +90,22 @@ pub fn times(b: u32, key: u128) -> u128
     if b == 1 { key } else { u128::from(b) * key }
 }
 
-/// An entry from a place on, before which a times each key is too small beside this. Steps double, and halve where they would go too far.
+/// Whether an entry is there, and a times its key is too small beside this.
+#[inline(always)]
+fn is_low(entries: &[Entry], place: usize, a: u32, beside: u128, total: u128) -> bool
+    requires order { AreInOrder entries.now }
+    requires a { a ≤ 2 ^ 24 }
+    requires beside { beside < 2 ^ 125 }
+    ensures there { IsTrue result → place < length entries.now }
+    ensures low { (d : Entry) → IsTrue result → a * (slice_index_or entries.now place d).key + beside < total }
+    ensures high { (d : Entry) → result ≡ false → place < length entries.now → total ≤ a * (slice_index_or entries.now place d).key + beside }
+{
+    place < entries.len() && times(a, entries[place].key) + beside < total
+}
+
+/// The first entry from a place on with which a times its key is not too small beside this. Steps double, and halve where they would go too far.
 #[inline(never)]
-pub fn risen(entries: &[Entry], from: usize, a: u32, beside: u128, total: u128) -> usize
+fn risen_far(entries: &[Entry], from: usize, a: u32, beside: u128, total: u128) -> usize
     requires order { AreInOrder entries.now }
     requires from { from ≤ length entries.now }
     requires a { a ≤ 2 ^ 24 }
@@ -90,13 +113,12 @@ pub fn risen(entries: &[Entry], from: usize, a: u32, beside: u128, total: u128) 
     ensures from { from ≤ result }
     ensures within { result ≤ length entries.now }
     ensures below { (k : ℕ) (d : Entry) → from ≤ k → k < result → a * (slice_index_or entries.now k d).key + beside < total }
+    ensures reached { (d : Entry) → result < length entries.now → total ≤ a * (slice_index_or entries.now result d).key + beside }
 {
     let mut place = from;
     let mut step: usize = 1;
     while step > 0 {
-        if step <= entries.len() - place
-            && times(a, entries[place + step - 1].key) + beside < total
-        {
+        if step <= entries.len() - place && is_low(entries, place + step - 1, a, beside, total) {
             place += step;
             step *= 2;
         } else {
@@ -106,10 +128,31 @@ pub fn risen(entries: &[Entry], from: usize, a: u32, beside: u128, total: u128) 
     place
 }
 
+/// The same. Mostly it is one of the first two, which are looked at where this is called.
+#[inline(always)]
+pub fn risen(entries: &[Entry], from: usize, a: u32, beside: u128, total: u128) -> usize
+    requires order { AreInOrder entries.now }
+    requires from { from ≤ length entries.now }
+    requires a { a ≤ 2 ^ 24 }
+    requires beside { beside < 2 ^ 125 }
+    ensures from { from ≤ result }
+    ensures within { result ≤ length entries.now }
+    ensures below { (k : ℕ) (d : Entry) → from ≤ k → k < result → a * (slice_index_or entries.now k d).key + beside < total }
+    ensures reached { (d : Entry) → result < length entries.now → total ≤ a * (slice_index_or entries.now result d).key + beside }
+{
+    if !is_low(entries, from, a, beside, total) {
+        return from;
+    }
+    if !is_low(entries, from + 1, a, beside, total) {
+        return from + 1;
+    }
+    risen_far(entries, from + 2, a, beside, total)
+}
+
 /// How many of the first entries are left where b times each key at the end is too great beside this. Steps double, and halve where they would go too
 /// far.
 #[inline(never)]
-pub fn fallen(entries: &[Entry], upto: usize, b: u32, beside: u128, total: u128) -> usize
+fn fallen_far(entries: &[Entry], upto: usize, b: u32, beside: u128, total: u128) -> usize
     requires order { AreInOrder entries.now }
     requires upto { upto ≤ length entries.now }
     requires b { b ≤ 2 ^ 24 }
@@ -128,6 +171,23 @@ pub fn fallen(entries: &[Entry], upto: usize, b: u32, beside: u128, total: u128)
         }
     }
     count
+}
+
+/// The same. Mostly all are left, as the last one, which is looked at where this is called, is not too great.
+#[inline(always)]
+pub fn fallen(entries: &[Entry], upto: usize, b: u32, beside: u128, total: u128) -> usize
+    requires order { AreInOrder entries.now }
+    requires upto { upto ≤ length entries.now }
+    requires b { b ≤ 2 ^ 24 }
+    requires beside { beside < 2 ^ 125 }
+    ensures within { result ≤ upto }
+    ensures above { (k : ℕ) (d : Entry) → result ≤ k → k < upto → total < b * (slice_index_or entries.now k d).key + beside }
+{
+    if 0 < upto && total < times(b, entries[upto - 1].key) + beside {
+        fallen_far(entries, upto - 1, b, beside, total)
+    } else {
+        upto
+    }
 }
 
 /// How many second ones are left after two that came to the total: not the last one, where the next first one has a greater key.
@@ -274,14 +334,15 @@ pub fn next_two(pass: &Pass<'_>, at: usize, upto: usize) -> (usize, usize)
     let mut first = at;
     let mut count = upto;
     while first < pass.firsts.len() && 0 < count {
-        let one = &pass.firsts[first];
         let other = &pass.seconds[count - 1];
-        let of_first = times(a, one.key);
         let of_second = times(b, other.key);
-        let both = of_first + of_second;
-        if both < total {
-            first = risen(pass.firsts, first + 1, a, of_second, total);
-        } else if total < both {
+        first = risen(pass.firsts, first, a, of_second, total);
+        if first >= pass.firsts.len() {
+            return (first, count);
+        }
+        let one = &pass.firsts[first];
+        let of_first = times(a, one.key);
+        if total < of_first + of_second {
             count = fallen(pass.seconds, count - 1, b, of_first, total);
         } else if is_enough(pass, one, pass.a, other, pass.b) {
             return (first, count);

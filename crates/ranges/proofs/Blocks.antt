@@ -15,7 +15,7 @@ use Rattle.refusal.specs.Earliest.{IsLowerOf, IsEarliest}
 use Rattle.refusal.proofs.Elements.{earliest_same, earliest_both}
 use Rattle.ranges.specs.declared.table.EdgeFacts.{EdgeFacts}
 use Rattle.obligations.specs.Owed.{owed_at_end}
-use Rattle.ranges.specs.Edges.{edge_owed}
+use Rattle.ranges.specs.Edges.{edge_owed, all_with_known}
 use Rattle.ranges.specs.Places.{start_facts, with_shows, stated, step_shows, ending_shows, facts_before, facts_at_step, facts_at_end, edges_known, IsBlockTable}
 use Rattle.ranges.specs.Rules.{AreUnmet, AreUnshown, IsStepBroken, AreStepsBroken, IsEndBroken, IsBlockBroken}
 use Rattle.ranges.specs.Walks.{IsWalked, edges_behind, IsEndUnmetAt}
@@ -27,14 +27,14 @@ edges_same functions function b block known (Some ending) e = ap (λ k. edges_be
 
 module _ (functions : List Function) (function : Function) (b : ℕ) (block : Block) (start walked known : List Fact) (counts : List ℕ) (edges : List EdgeFacts)
     (starts : start ≡ start_facts function b block) (w : IsWalked functions start block.steps counts walked)
-    (ends : known ≡ with_shows walked (ending_shows block.ending)) (edges_are : edges ≡ edges_behind function b block known block.ending) where
+    (ends : known ≡ with_shows walked (ending_shows block.ending)) (edges_are : all_with_known known edges ≡ edges_behind function b block known block.ending) where
   pub walked_is : walked ≡ facts_before functions (start_facts function b block) block.steps (length block.steps)
   walked_is = w.facts_are ∙ ap (λ s. facts_before functions s block.steps (length block.steps)) starts
 
   pub known_is : known ≡ facts_at_end functions function b block
   known_is = ends ∙ ap (λ k. with_shows k (ending_shows block.ending)) walked_is
 
-  pub edges_all : edges ≡ edges_known functions function b block block.ending
+  pub edges_all : all_with_known known edges ≡ edges_known functions function b block block.ending
   edges_all = edges_are ∙ edges_same functions function b block known block.ending known_is
 
   step_at : (i : ℕ) (step : Step) → slice_get block.steps i ≡ Some step → take (get_or counts i 0) known ≡ facts_at_step functions function b block i

@@ -2,5 +2,6 @@ pub mod Making
 pub mod Tabling
 pub mod Walking
 pub mod Blocks
+pub mod Edges
 pub mod Truth
 pub mod Passed

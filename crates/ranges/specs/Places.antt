@@ -14,7 +14,7 @@ use Rattle.ranges.specs.declared.table.FunctionFacts.{FunctionFacts}
 use Rattle.ranges.specs.Sums.{facts_of}
 use Rattle.obligations.specs.Inequalities.{differences_of}
 use Rattle.ranges.specs.Learned.{learned}
-use Rattle.ranges.specs.Edges.{edges_out, all_edge_facts}
+use Rattle.ranges.specs.Edges.{edges_out, all_edge_facts, all_with_known}
 
 -- inequalities as facts
 abbrev pub stated : List Inequality → List Fact
@@ -69,12 +69,16 @@ edges_known functions function b block (Some ending) =
 abbrev pub facts_in_table : BlockFacts → ℕ → List Fact
 facts_in_table table i = take (slice_index_or table.counts i 0) table.facts
 
+-- and on its edges
+abbrev pub edges_in_table : BlockFacts → List EdgeFacts
+edges_in_table table = all_with_known table.facts table.edges
+
 -- the facts of a block's places and edges
 pub record IsBlockTable (functions : List Function) (function : Function) (b : ℕ) (block : Block) (table : BlockFacts) : Type 0 where
   pub steps : length table.counts ≡ length block.steps
   pub at_step : (i : ℕ) (step : Step) → slice_get block.steps i ≡ Some step → facts_in_table table i ≡ facts_at_step functions function b block i
   pub at_end : table.facts ≡ facts_at_end functions function b block
-  pub edges : table.edges ≡ edges_known functions function b block block.ending
+  pub edges : edges_in_table table ≡ edges_known functions function b block block.ending
 
 pub record IsFunctionTable (functions : List Function) (function : Function) (table : FunctionFacts) : Type 0 where
   pub blocks : length table.blocks ≡ length function.blocks

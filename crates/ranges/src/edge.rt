@@ -1,15 +1,15 @@
-ghost use Rattle.std.specs.Prelude.{◌≡◌, ◌++◌, ◌∷◌, [], true, false, negsuc, ◌*ℤ◌, map, IfOk, OnOk};
+ghost use Rattle.std.specs.Prelude.{◌≡◌, ◌++◌, ◌∷◌, [], List, true, false, negsuc, ◌*ℤ◌, map, IfOk, OnOk};
 ghost use Rattle.syntax.specs.declared.operator.Predicate.TheVariants.{Equal};
 ghost use Rattle.obligations.specs.cfg.declared.structure.Way.TheVariants.{Branch};
 ghost use Rattle.program.specs.declared.instruction.Case.{Case};
 ghost use Rattle.ranges.specs.Sums.{facts_of};
 ghost use Rattle.ranges.specs.Edges.{compare_of, compared, at_least, above, compare_sums, branch_sums, case_sums, edge_to, edges_out};
-ghost use Rattle.ranges.specs.Edges.{keeps_of, edge_facts, all_edge_facts};
+ghost use Rattle.linear.specs.declared.form.Fact.{Fact};
+ghost use Rattle.ranges.specs.Edges.{edge_facts, all_edge_facts, with_known, all_with_known};
 
 use crate::know::push_facts;
 use crate::table::EdgeFacts;
 use entailment::FactList;
-use linear::Fact;
 use lists::{OutOfMemory, Seq};
 use obligations::{Sum, Way, make_moves};
 use program::{
@@ -273,30 +273,16 @@ pub fn edges_out(
     Ok(edges)
 }
 
-/// The same facts again.
-fn copy_facts(alloc: Global, facts: &[Fact]) -> Result<Vec<Fact>, OutOfMemory>
-    ensures { IfOk result (λ copy. copy.items ≡ facts.now) }
-{
-    let mut copy: Vec<Fact> = Vec::with_capacity(alloc, facts.len())?;
-    for fact in facts {
-        copy.push(Fact {
-            form: fact.form.copy(alloc)?,
-        })?;
-    }
-    Ok(copy)
-}
-
-/// An edge from a block where this is known at its end: what its target's phis take, and what is known on it.
+/// An edge from a block: what its target's phis take, and what its being taken says.
 fn edge_facts(
     alloc: Global,
     blocks: &[Block],
     from: usize,
-    known: &[Fact],
     edge: &EdgeSums,
 ) -> Result<EdgeFacts, OutOfMemory>
-    ensures { IfOk result (λ e. e ≡ edge_facts blocks.now from known.now edge.now) }
+    ensures { IfOk result (λ e. (known : List Fact) → with_known known e ≡ edge_facts blocks.now from known edge.now) }
 {
-    let mut facts = FactList::from_vec(alloc, copy_facts(alloc, known)?);
+    let mut facts = FactList::new(alloc);
     push_facts(alloc, &mut facts, edge.sums.as_slice())?;
     let moves = match blocks.get(edge.to.0) {
         Some(target) => make_moves(alloc, target.phis.as_slice(), from)?,
@@ -315,14 +301,13 @@ pub fn all_edge_facts(
     alloc: Global,
     blocks: &[Block],
     from: usize,
-    known: &[Fact],
     edges: &[EdgeSums],
 ) -> Result<Vec<EdgeFacts>, OutOfMemory>
-    ensures { IfOk result (λ list. list.items ≡ all_edge_facts blocks.now from known.now edges.now) }
+    ensures { IfOk result (λ list. (known : List Fact) → all_with_known known list.items ≡ all_edge_facts blocks.now from known edges.now) }
 {
     let mut list = Vec::new(alloc);
     for edge in edges {
-        list.push(edge_facts(alloc, blocks, from, known, edge)?)?;
+        list.push(edge_facts(alloc, blocks, from, edge)?)?;
     }
     Ok(list)
 }

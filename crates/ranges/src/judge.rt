@@ -1,15 +1,16 @@
-ghost use Rattle.std.specs.Prelude.{◌≡◌, ◌∷◌, [], false, Any, IfOk, OnOk, slice_get};
+ghost use Rattle.std.specs.Prelude.{◌≡◌, ◌++◌, ◌∷◌, [], false, Any, IfOk, OnOk, slice_get};
 ghost use Rattle.refusal.specs.Earliest.{IsEarliest};
 ghost use Rattle.ranges.specs.Sums.{shows, is_met};
 ghost use Rattle.obligations.specs.Inequalities.{difference_of};
 ghost use Rattle.ranges.specs.Places.{with_shows, stated};
 ghost use Rattle.ranges.specs.Rules.{AreUnmet, AreUnshown, AreEdgesBroken};
-ghost use Rattle.ranges.specs.Edges.{edge_owed, keeps_of};
+ghost use Rattle.ranges.specs.Edges.{edge_owed, keeps_of, all_with_known};
 ghost use Rattle.refusal.specs.declared.broken.Broken.{Broken};
 
 use crate::know::{is_met_at, push_fact, shows_at};
 use crate::table::EdgeFacts;
-use entailment::{FactCursor, FactList, Known};
+use entailment::{FactBranches, FactList, Known};
+use linear::Fact;
 use lists::OutOfMemory;
 use obligations::{Obligation, difference_of, inequalities_owed};
 use program::{Block, BlockId, Inequality};
@@ -109,29 +110,32 @@ fn edge_fault(
     alloc: Global,
     blocks: &[Block],
     line: u32,
+    facts: &mut FactBranches<'_>,
     edge: &EdgeFacts,
 ) -> Result<Option<Broken>, OutOfMemory>
-    ensures { IfOk result (IsEarliest (AreUnmet edge.now.facts line (edge_owed blocks.now edge.now))) }
+    ensures lent { OnOk result (facts.new.0 ≡ facts.old.0) }
+    ensures fault { IfOk result (IsEarliest (AreUnmet (facts.old.0 ++ edge.now.facts) line (edge_owed blocks.now edge.now))) }
 {
     let keeps = keeps_of(blocks, edge.to);
     let owed = inequalities_owed(alloc, 505, edge.moves.as_slice(), keeps)?;
-    let mut facts = FactCursor::new(alloc, edge.facts.as_slice());
-    facts.index()?;
+    facts.go(alloc, edge.facts.as_slice())?;
     unmet_fault(alloc, &facts.known(), line, &owed)
 }
 
-/// What is not shown on one of the edges.
+/// What is not shown on one of the edges of a block where this is known at its end.
 pub fn edges_fault(
     alloc: Global,
     blocks: &[Block],
     line: u32,
+    known: &[Fact],
     edges: &[EdgeFacts],
 ) -> Result<Option<Broken>, OutOfMemory>
-    ensures { IfOk result (IsEarliest (λ (b : Broken). Any (λ e. AreUnmet e.facts line (edge_owed blocks.now e) b) edges.now)) }
+    ensures { IfOk result (IsEarliest (λ (b : Broken). Any (λ e. AreUnmet e.facts line (edge_owed blocks.now e) b) (all_with_known known.now edges.now))) }
 {
     let mut named: Option<Broken> = None;
+    let mut facts = FactBranches::new(alloc, known);
     for edge in edges {
-        let broken = edge_fault(alloc, blocks, line, edge)?;
+        let broken = edge_fault(alloc, blocks, line, &mut facts, edge)?;
         named = lower(named, broken);
     }
     Ok(named)

@@ -5,7 +5,7 @@ use lists::Seq;
 use obligations::{Move, Way};
 use program::BlockId;
 
-/// An edge with what is known on it, and what its target's phis take.
+/// An edge with what its target's phis take, and what its being taken says: known on it beside what is known at the end of its block.
 #[derive(Drop)]
 pub struct EdgeFacts {
     pub to: BlockId,

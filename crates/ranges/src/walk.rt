@@ -6,6 +6,7 @@ ghost use Rattle.ranges.specs.Learned.{learned};
 ghost use Rattle.ranges.specs.Sums.{facts_of};
 ghost use Rattle.ranges.specs.Places.{stated, start_facts, with_shows, after_step, facts_before, facts_at_step, facts_at_end, edges_known};
 ghost use Rattle.ranges.specs.Places.{ending_shows, IsBlockTable};
+ghost use Rattle.ranges.specs.Edges.{all_with_known};
 ghost use Rattle.ranges.specs.Walks.{IsWalked, edges_behind, IsEndUnmetAt};
 ghost use Rattle.ranges.specs.Rules.{IsStepBroken, AreStepsBroken, IsEndBroken, IsBlockBroken};
 
@@ -141,8 +142,8 @@ fn walk_ending(
     facts: &mut FactList,
 ) -> Result<(Vec<EdgeFacts>, Option<Broken>), OutOfMemory>
     ensures known { OnOk result (facts.new ≡ with_shows facts.old ending.now.shows) }
-    ensures edges { IfOk result (λ r. r.0.items ≡ edges_behind function.now index block.now facts.new (Some ending.now)) }
-    ensures named { IfOk result (λ r. IsEarliest (IsEndUnmetAt function.now facts.old r.0.items (Some ending.now)) r.1) }
+    ensures edges { IfOk result (λ r. all_with_known facts.new r.0.items ≡ edges_behind function.now index block.now facts.new (Some ending.now)) }
+    ensures named { IfOk result (λ r. IsEarliest (IsEndUnmetAt function.now facts.old (all_with_known facts.new r.0.items) (Some ending.now)) r.1) }
 {
     let unshown = push_shows(alloc, facts, ending.shows.as_slice())?;
     let owed = owed_at_end(alloc, function, &ending.terminator)?;
@@ -150,8 +151,8 @@ fn walk_ending(
     let unmet = unmet_fault(alloc, &facts.known(), ending.line, &owed)?;
     let sums = edges_out(alloc, block.steps.as_slice(), &ending.terminator)?;
     let blocks = function.blocks.as_slice();
-    let edges = all_edge_facts(alloc, blocks, index, facts.as_slice(), &sums)?;
-    let unkept = edges_fault(alloc, blocks, ending.line, &edges)?;
+    let edges = all_edge_facts(alloc, blocks, index, &sums)?;
+    let unkept = edges_fault(alloc, blocks, ending.line, facts.as_slice(), &edges)?;
     Ok((edges, lower(unshown, lower(unmet, unkept))))
 }
 
@@ -164,8 +165,8 @@ fn walk_end(
     facts: &mut FactList,
 ) -> Result<(Vec<EdgeFacts>, Option<Broken>), OutOfMemory>
     ensures known { OnOk result (facts.new ≡ with_shows facts.old (ending_shows block.now.ending)) }
-    ensures edges { IfOk result (λ r. r.0.items ≡ edges_behind function.now index block.now facts.new block.now.ending) }
-    ensures named { IfOk result (λ r. IsEarliest (IsEndUnmetAt function.now facts.old r.0.items block.now.ending) r.1) }
+    ensures edges { IfOk result (λ r. all_with_known facts.new r.0.items ≡ edges_behind function.now index block.now facts.new block.now.ending) }
+    ensures named { IfOk result (λ r. IsEarliest (IsEndUnmetAt function.now facts.old (all_with_known facts.new r.0.items) block.now.ending) r.1) }
 {
     match &block.ending {
         Some(ending) => walk_ending(alloc, function, index, block, ending, facts),

@@ -244,3 +244,21 @@ pub fn shows_order(
     }
     shows_between(alloc, facts, for_high, high, for_low, low)
 }
+
+/// A guess at how far along its object an end lies: what it comes to where each register is 1, with the numbers that are put in.
+fn guessed(moves: &[Move], end: &Form) -> i128 {
+    let end = side_of(end);
+    let mut sum = end.constant;
+    for term in end.terms {
+        let factor = number_for(moves, term.register).unwrap_or(1);
+        sum = sum.saturating_add(product(term.coefficient, factor));
+    }
+    sum
+}
+
+/// Whether a high end may well lie at or before a low one. Nothing rests on it: the order that is likelier is asked for first, as one that does not hold
+/// is sought among all facts.
+#[inline(always)]
+pub fn may_precede(for_high: &[Move], high: &Form, for_low: &[Move], low: &Form) -> bool {
+    guessed(for_high, high) <= guessed(for_low, low)
+}

@@ -3,7 +3,7 @@ ghost use Rattle.std.specs.List.{list_any};
 ghost use Rattle.zones.specs.Zones.{span, as_written, same_object, mode_covers, modes_agree};
 ghost use Rattle.zones.specs.Zones.{shows_order, is_empty, covers, is_apart, conflict, meets, is_covered};
 
-use crate::order::shows_order;
+use crate::order::{may_precede, shows_order};
 use entailment::Known;
 use lists::OutOfMemory;
 use program::{Mode, ObjectName, Zone};
@@ -91,6 +91,26 @@ pub fn covers(
     shows_order(alloc, facts, z.moves, &z.zone.high, y.moves, &y.zone.high)
 }
 
+/// Whether the first zone is shown to end at or before the low end of the second.
+#[inline(always)]
+fn is_before(
+    alloc: Global,
+    facts: &Known<'_>,
+    first: &PlacedZone<'_>,
+    second: &PlacedZone<'_>,
+) -> Result<bool, OutOfMemory>
+    ensures { IfOk result (λ b. b ≡ shows_order facts.now second.now.moves.now second.now.zone.now.low first.now.moves.now first.now.zone.now.high) }
+{
+    shows_order(
+        alloc,
+        facts,
+        second.moves,
+        &second.zone.low,
+        first.moves,
+        &first.zone.high,
+    )
+}
+
 /// Whether the ends of two zones of one object show that they have no cell in common.
 #[inline(always)]
 fn is_beside(
@@ -103,10 +123,15 @@ fn is_beside(
         shows_order facts.now z.now.moves.now z.now.zone.now.low y.now.moves.now y.now.zone.now.high
         || shows_order facts.now y.now.moves.now y.now.zone.now.low z.now.moves.now z.now.zone.now.high)) }
 {
-    if shows_order(alloc, facts, z.moves, &z.zone.low, y.moves, &y.zone.high)? {
+    let (first, second) = if may_precede(z.moves, &z.zone.high, y.moves, &y.zone.low) {
+        (z, y)
+    } else {
+        (y, z)
+    };
+    if is_before(alloc, facts, first, second)? {
         return Ok(true);
     }
-    shows_order(alloc, facts, y.moves, &y.zone.low, z.moves, &z.zone.high)
+    is_before(alloc, facts, second, first)
 }
 
 /// Whether two zones are shown to have no cell in common.

@@ -1,7 +1,8 @@
 use Rattle.std.proofs.Common.{◌≡◌, ◌∙◌, ◌++◌, inl, inr, refl, suc, length, sym}
 use Rattle.std.proofs.lemmas.Bool.{false≢true, cases_Bool}
+use Rattle.std.proofs.lemmas.List.Elements.{Contains-append_left, Contains-append_right}
 use Rattle.entailment.proofs.Layers.{layers_index}
-use Rattle.entailment.proofs.Passing.{same_factors, between_more, between_with, with_between, in_settled, in_recent, none_of_two}
+use Rattle.entailment.proofs.Passing.{same_factors, between_more, between_with, with_between, none_of_two}
 use Rattle.entailment.proofs.lookup.made_up_with.Goals as goal
 
 pub returns-then-made_up_within : goal.returns-then-made_up_within
@@ -12,7 +13,7 @@ returns-then-made_up_within c =
     let recent = c.args.search.now.layers.recent.now in
     let index = layers_index facts (suc (length facts)) settled recent c.requires.index in (
       λ _. between_with facts (settled ++ recent) index e c.args.a c.args.b
-          (between_more facts e settled settled (settled ++ recent) (settled ++ recent) c.args.a c.args.b (in_settled settled recent) (in_settled settled recent) (c.if-made_up_within.ensures.0 refl)),
+          (between_more facts e settled settled (settled ++ recent) (settled ++ recent) c.args.a c.args.b (Contains-append_left settled recent) (Contains-append_left settled recent) (c.if-made_up_within.ensures.0 refl)),
       λ _. refl,
     )
 
@@ -24,7 +25,7 @@ returns-then-made_up_within-2 c =
     let recent = c.args.search.now.layers.recent.now in
     let index = layers_index facts (suc (length facts)) settled recent c.requires.index in (
       λ _. between_with facts (settled ++ recent) index e c.args.a c.args.b
-          (between_more facts e recent recent (settled ++ recent) (settled ++ recent) c.args.a c.args.b (in_recent settled recent) (in_recent settled recent) (c.if-made_up_within-2.ensures.0 refl)),
+          (between_more facts e recent recent (settled ++ recent) (settled ++ recent) c.args.a c.args.b (Contains-append_right settled recent) (Contains-append_right settled recent) (c.if-made_up_within-2.ensures.0 refl)),
       λ _. refl,
     )
 
@@ -36,7 +37,7 @@ returns-then-made_up_between c =
     let recent = c.args.search.now.layers.recent.now in
     let index = layers_index facts (suc (length facts)) settled recent c.requires.index in (
       λ _. between_with facts (settled ++ recent) index e c.args.a c.args.b
-          (between_more facts e settled recent (settled ++ recent) (settled ++ recent) c.args.a c.args.b (in_settled settled recent) (in_recent settled recent) (c.if-made_up_between.ensures.0 refl)),
+          (between_more facts e settled recent (settled ++ recent) (settled ++ recent) c.args.a c.args.b (Contains-append_left settled recent) (Contains-append_right settled recent) (c.if-made_up_between.ensures.0 refl)),
       λ _. refl,
     )
 
@@ -62,7 +63,7 @@ returns c =
     let recent = c.args.search.now.layers.recent.now in
     let index = layers_index facts (suc (length facts)) settled recent c.requires.index in (
       λ h. between_with facts (settled ++ recent) index e c.args.a c.args.b
-          (between_more facts e recent settled (settled ++ recent) (settled ++ recent) c.args.a c.args.b (in_recent settled recent) (in_settled settled recent) (c.made_up_between-2.ensures.0 h)),
+          (between_more facts e recent settled (settled ++ recent) (settled ++ recent) c.args.a c.args.b (Contains-append_right settled recent) (Contains-append_left settled recent) (c.made_up_between-2.ensures.0 h)),
       λ made. elim (cases_Bool c.made_up_between-2.result) [
         | inl is ↦ is
         | inr not ↦ absurd (none_of_two facts e settled recent c.args.a c.args.b

@@ -1,13 +1,22 @@
+use Rattle.std.proofs.Common.{◌∙◌, ◌++◌, ap}
 use Rattle.refusal.specs.declared.broken.Broken.{Broken}
 use Rattle.refusal.proofs.Elements.{earliest_next, earliest_all}
 use Rattle.ranges.specs.declared.table.EdgeFacts.{EdgeFacts}
 use Rattle.ranges.specs.Edges.{edge_owed}
 use Rattle.ranges.specs.Rules.{AreUnmet}
+use Rattle.ranges.proofs.Edges.{earliest_known}
 use Rattle.ranges.proofs.judge.edges_fault.Goals as goal
 
 pub loop-edge-preserved : goal.loop-edge-preserved
 loop-edge-preserved c =
-    earliest_next (λ (e : EdgeFacts) (b : Broken). AreUnmet e.facts c.args.line (edge_owed c.args.blocks.now e) b) c.args.edges.now _ c.edge-item.result _ _ _ c.loop-edge-test.true c.edge-item.is c.loop-edge.invariant c.in_ok-broken.ensures c.lower-named.ensures
+    let known = c.args.known.now in (
+      c.in_ok-broken.ensures.lent ∙ c.loop-edge.invariant.0,
+      earliest_next (λ (e : EdgeFacts) (b : Broken). AreUnmet (known ++ e.facts) c.args.line (edge_owed c.args.blocks.now e) b) c.args.edges.now _ c.edge-item.result _ _ _ c.loop-edge-test.true c.edge-item.is c.loop-edge.invariant.1
+          (rw c.loop-edge.invariant.0 at c.in_ok-broken.ensures.fault) c.lower-named.ensures,
+    )
 
 pub returns : goal.returns
-returns c = earliest_all (λ (e : EdgeFacts) (b : Broken). AreUnmet e.facts c.args.line (edge_owed c.args.blocks.now e) b) c.args.edges.now _ _ c.loop-edge-test.false c.loop-edge.invariant
+returns c =
+    let known = c.args.known.now in
+    earliest_known known (λ e b. AreUnmet e.facts c.args.line (edge_owed c.args.blocks.now e) b) c.args.edges.now _
+    (earliest_all (λ (e : EdgeFacts) (b : Broken). AreUnmet (known ++ e.facts) c.args.line (edge_owed c.args.blocks.now e) b) c.args.edges.now _ _ c.loop-edge-test.false c.loop-edge.invariant.1)

@@ -4,7 +4,7 @@ use Rattle.refusal.specs.declared.broken.Broken.{Broken}
 use Rattle.refusal.proofs.Elements.{earliest_both}
 use Rattle.ranges.specs.declared.table.EdgeFacts.{EdgeFacts}
 use Rattle.obligations.specs.Owed.{owed_at_end}
-use Rattle.ranges.specs.Edges.{edge_owed}
+use Rattle.ranges.specs.Edges.{edge_owed, all_with_known}
 use Rattle.ranges.specs.Places.{with_shows}
 use Rattle.ranges.specs.Rules.{AreUnmet, AreUnshown}
 use Rattle.ranges.proofs.walk.walk_ending.Goals as goal
@@ -15,11 +15,11 @@ returns-clause-named c =
     let ending = c.args.ending.now in
     let before = c.args.facts.now in
     let known : c.known.result ≡ with_shows before ending.shows = c.known.ensures ∙ c.index.ensures ∙ c.in_ok-unshown.ensures.known ∙ ap (with_shows before) c.as_slice.ensures in
-    let edges = c.in_ok-edges.edges.items in
+    let edges = all_with_known c.index.new.self c.in_ok-edges.edges.items in
     earliest_both (AreUnshown before ending.shows) (λ (x : Broken). AreUnmet (with_shows before ending.shows) ending.line (owed_at_end function ending.terminator) x ⊎ Any (λ (e : EdgeFacts). AreUnmet e.facts ending.line (edge_owed function.blocks e) x) edges) _ _ _
     (rw c.as_slice.ensures at c.in_ok-unshown.ensures.named)
     (earliest_both (AreUnmet (with_shows before ending.shows) ending.line (owed_at_end function ending.terminator)) (λ (x : Broken). Any (λ (e : EdgeFacts). AreUnmet e.facts ending.line (edge_owed function.blocks e) x) edges) _ _ _
     (rw (known, c.deref.ensures.value, c.in_ok-owed.ensures) at c.in_ok-unmet.ensures)
-    (rw (c.as_slice-blocks.ensures, c.deref-3.ensures.value) at c.in_ok-unkept.ensures)
+    (rw (c.as_slice-blocks.ensures, c.as_slice-3.ensures, c.deref-3.ensures.value) at c.in_ok-unkept.ensures)
     c.lower.ensures)
     c.lower-2.ensures

@@ -1,6 +1,6 @@
 use Rattle.std.proofs.Common.{ℕ, ◌<◌, ◌≤◌, ◌+◌, ◌-◌, ◌*◌, get_or}
 use Rattle.entailment.specs.declared.index.Entry.{Entry}
-use Rattle.entailment.proofs.meeting.fallen.Given as goal
+use Rattle.entailment.proofs.meeting.fallen_far.Given as goal
 
 abbrev pub invariant-loop-step : goal.invariant-loop-step
 invariant-loop-step l =

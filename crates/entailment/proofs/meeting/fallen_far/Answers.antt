@@ -1,7 +1,7 @@
 use Rattle.std.proofs.Common.{pos, ◌<◌, ◌-◌, length, arith}
 use Rattle.entailment.specs.declared.index.Entry.{Entry}
 use Rattle.entailment.proofs.Passing.{above_from}
-use Rattle.entailment.proofs.meeting.fallen.Goals as goal
+use Rattle.entailment.proofs.meeting.fallen_far.Goals as goal
 
 abbrev none : Entry
 none = record { key = 0; constant = pos 0; place = 0 }
