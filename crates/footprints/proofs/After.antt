@@ -1,5 +1,5 @@
 -- What is broken at a step after a fault.
-use Rattle.std.proofs.Common.{◌≡◌, ℕ, ◌<◌, Option, Some, None, inl, inr, arith}
+use Rattle.std.proofs.Common.{ℕ, Option, Some, None, inl, inr, arith}
 use Rattle.refusal.specs.declared.broken.Broken.{Broken}
 use Rattle.zones.specs.declared.foot.Use.{Use}
 use Rattle.ranges.specs.Walks.{StandsBefore}

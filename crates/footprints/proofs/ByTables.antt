@@ -9,7 +9,7 @@ use Rattle.refusal.specs.Earliest.{IsEarliest}
 use Rattle.refusal.proofs.Elements.{earliest_same}
 use Rattle.ranges.specs.declared.table.BlockFacts.{BlockFacts}
 use Rattle.ranges.specs.declared.table.EdgeFacts.{EdgeFacts}
-use Rattle.ranges.specs.Places.{facts_at_step, facts_at_end, edges_known, IsBlockTable, facts_in_table}
+use Rattle.ranges.specs.Places.{facts_at_step, facts_at_end, edges_known, IsBlockTable, facts_in_table, edges_in_table}
 use Rattle.footprints.specs.Rules.{IsStepBroken, AreStepsBroken, IsEndBroken, IsBlockBrokenBy, IsBlockBroken}
 
 module _ (functions : List Function) (function : Function) (task : Task) (b : ℕ) (block : Block) (table : BlockFacts) (t : IsBlockTable functions function b block table) (broken : Broken) where
@@ -19,24 +19,24 @@ module _ (functions : List Function) (function : Function) (task : Task) (b : �
   steps_from : AreStepsBroken functions function task block (facts_at_step functions function b block) broken → AreStepsBroken functions function task block (facts_in_table table) broken
   steps_from s = (s.0, s.1, s.2, subst (λ (fs : List Fact). IsStepBroken functions function task block fs s.1 broken) (sym (t.at_step s.0 s.1 s.2)) s.3)
 
-  end_to : IsEndBroken function task block table.facts table.edges block.ending broken → IsEndBroken function task block (facts_at_end functions function b block) (edges_known functions function b block block.ending) block.ending broken
+  end_to : IsEndBroken function task block table.facts (edges_in_table table) block.ending broken → IsEndBroken function task block (facts_at_end functions function b block) (edges_known functions function b block block.ending) block.ending broken
   end_to e =
       subst (λ (es : List EdgeFacts). IsEndBroken function task block (facts_at_end functions function b block) es block.ending broken) t.edges
-      (subst (λ (fs : List Fact). IsEndBroken function task block fs table.edges block.ending broken) t.at_end e)
+      (subst (λ (fs : List Fact). IsEndBroken function task block fs (edges_in_table table) block.ending broken) t.at_end e)
 
-  end_from : IsEndBroken function task block (facts_at_end functions function b block) (edges_known functions function b block block.ending) block.ending broken → IsEndBroken function task block table.facts table.edges block.ending broken
+  end_from : IsEndBroken function task block (facts_at_end functions function b block) (edges_known functions function b block block.ending) block.ending broken → IsEndBroken function task block table.facts (edges_in_table table) block.ending broken
   end_from e =
-      subst (λ (fs : List Fact). IsEndBroken function task block fs table.edges block.ending broken) (sym t.at_end)
+      subst (λ (fs : List Fact). IsEndBroken function task block fs (edges_in_table table) block.ending broken) (sym t.at_end)
       (subst (λ (es : List EdgeFacts). IsEndBroken function task block (facts_at_end functions function b block) es block.ending broken) (sym t.edges) e)
 
-  block_to : IsBlockBrokenBy functions function task block (facts_in_table table) table.facts table.edges broken → IsBlockBroken functions function task b block broken
+  block_to : IsBlockBrokenBy functions function task block (facts_in_table table) table.facts (edges_in_table table) broken → IsBlockBroken functions function task b block broken
   block_to p = ⊎_elim (λ s. inl (steps_to s)) (λ e. inr (end_to e)) p
 
-  block_from : IsBlockBroken functions function task b block broken → IsBlockBrokenBy functions function task block (facts_in_table table) table.facts table.edges broken
+  block_from : IsBlockBroken functions function task b block broken → IsBlockBrokenBy functions function task block (facts_in_table table) table.facts (edges_in_table table) broken
   block_from p = ⊎_elim (λ s. inl (steps_from s)) (λ e. inr (end_from e)) p
 
 -- what is broken in a block with what its table says is known there
 pub block_by_table : (functions : List Function) (function : Function) (task : Task) (b : ℕ) (block : Block) (table : BlockFacts) (r : Option Broken) → IsBlockTable functions function b block table →
-    IsEarliest (IsBlockBrokenBy functions function task block (facts_in_table table) table.facts table.edges) r → IsEarliest (IsBlockBroken functions function task b block) r
+    IsEarliest (IsBlockBrokenBy functions function task block (facts_in_table table) table.facts (edges_in_table table)) r → IsEarliest (IsBlockBroken functions function task b block) r
 block_by_table functions function task b block table r t j =
     earliest_same _ _ r (block_to functions function task b block table t) (block_from functions function task b block table t) j

@@ -2,3 +2,4 @@ pub mod CellLaws
 pub mod ByTables
 pub mod Looked
 pub mod After
+pub mod Passing

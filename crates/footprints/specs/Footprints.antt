@@ -4,6 +4,7 @@ use Rattle.std.specs.List.{list_any, list_all}
 use Rattle.std.specs.Option.{option_map}
 use Rattle.syntax.specs.declared.operator.Mode.{Mode}
 use Rattle.syntax.specs.declared.operator.Mode.TheVariants.{Reads, Writes, Adds}
+use Rattle.linear.specs.declared.form.Fact.{Fact}
 use Rattle.linear.specs.declared.form.RegisterId.{RegisterId}
 use Rattle.linear.specs.declared.form.Term.{Term}
 use Rattle.linear.specs.Forms.{Combination}
@@ -167,6 +168,10 @@ hands_on Branch region = true
 hands_on Detached region = false
 hands_on Continued region = true
 hands_on (Synced synced) region = not (synced.0 == region.0)
+
+-- an edge where these facts are all that is known
+abbrev pub with_facts : List Fact → EdgeFacts → EdgeFacts
+with_facts facts e = record { to = e.to; way = e.way; moves = e.moves; facts = facts }
 
 -- 603: what is pending of the region at the target, with what its phis take put in, covers it
 unfoldable pub is_passed : EdgeFacts → List Pending → RegisterId → Zone → Bool

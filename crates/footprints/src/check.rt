@@ -3,7 +3,8 @@ ghost use Rattle.refusal.specs.declared.broken.Broken.{Broken};
 ghost use Rattle.refusal.specs.Earliest.{IsEarliest, NamesEarliest};
 ghost use Rattle.ranges.specs.region_match.Rules.{ending_at};
 ghost use Rattle.ranges.specs.region_match.Tasks.{task_at};
-ghost use Rattle.ranges.specs.Places.{IsBlockTable, IsFunctionTable, AreFacts, facts_in_table};
+ghost use Rattle.ranges.specs.Edges.{all_with_known};
+ghost use Rattle.ranges.specs.Places.{IsBlockTable, IsFunctionTable, AreFacts, facts_in_table, edges_in_table};
 ghost use Rattle.footprints.specs.Footprints.{place_of};
 ghost use Rattle.footprints.specs.Pointers.{pointers_of};
 ghost use Rattle.ranges.specs.region_match.Tasks.{tasks_in};
@@ -168,13 +169,13 @@ fn ending_fault(
     edges: &[EdgeFacts],
     ending: &Ending,
 ) -> Result<Option<Broken>, OutOfMemory>
-    ensures { IfOk result (IsEarliest (IsEndBroken function.now task block.now facts.now edges.now (Some ending.now))) }
+    ensures { IfOk result (IsEarliest (IsEndBroken function.now task block.now facts.now (all_with_known facts.now edges.now) (Some ending.now))) }
 {
     let place = place_in(function, task, block, facts);
     let blocks = function.blocks.as_slice();
     let used = end_use(alloc, &place, blocks, &ending.terminator)?;
     let at_end = use_fault(ending.line, used);
-    let on_edges = edges_fault(alloc, blocks, block, ending, edges)?;
+    let on_edges = edges_fault(alloc, blocks, block, ending, facts.facts(), edges)?;
     Ok(lower(at_end, on_edges))
 }
 
@@ -187,7 +188,7 @@ fn end_fault(
     facts: &[Fact],
     edges: &[EdgeFacts],
 ) -> Result<Option<Broken>, OutOfMemory>
-    ensures { IfOk result (IsEarliest (IsEndBroken function.now task block.now facts.now edges.now block.now.ending)) }
+    ensures { IfOk result (IsEarliest (IsEndBroken function.now task block.now facts.now (all_with_known facts.now edges.now) block.now.ending)) }
 {
     match &block.ending {
         Some(ending) => {
@@ -210,7 +211,7 @@ fn block_fault(
     block: &Block,
     table: &BlockFacts,
 ) -> Result<Option<Broken>, OutOfMemory>
-    ensures { IfOk result (IsEarliest (IsBlockBrokenBy functions.now function.now task block.now (facts_in_table table.now) table.now.facts table.now.edges)) }
+    ensures { IfOk result (IsEarliest (IsBlockBrokenBy functions.now function.now task block.now (facts_in_table table.now) table.now.facts (edges_in_table table.now))) }
 {
     let at_steps = steps_fault(alloc, functions, function, task, block, table)?;
     let facts = table.facts.as_slice();

@@ -1,7 +1,8 @@
-ghost use Rattle.std.specs.Prelude.{◌≡◌, ℕ, List, Any, Some, IfOk, false, slice_get, slice_index_or, take};
+ghost use Rattle.std.specs.Prelude.{◌≡◌, ℕ, List, Any, Some, IfOk, OnOk, false, slice_get, slice_index_or, take};
 ghost use Rattle.program.specs.declared.instruction.Step.{Step as StepKind};
 ghost use Rattle.refusal.specs.declared.broken.Broken.{Broken};
 ghost use Rattle.refusal.specs.Earliest.{IsEarliest};
+ghost use Rattle.ranges.specs.Edges.{with_known, all_with_known};
 ghost use Rattle.footprints.specs.Pointers.{pointers_of};
 ghost use Rattle.footprints.specs.Footprints.{place_of, step_use, end_use, passes_on};
 ghost use Rattle.footprints.specs.Rules.{IsUseBroken, IsEdgeBroken};
@@ -9,6 +10,8 @@ ghost use Rattle.footprints.specs.Rules.{IsUseBroken, IsEdgeBroken};
 use crate::access::Pointer;
 use crate::pass::passes_on;
 use crate::touch::{end_use, step_use};
+use entailment::FactBranches;
+use linear::Fact;
 use lists::OutOfMemory;
 use program::{Block, Ending, Function, Step};
 use ranges::EdgeFacts;
@@ -65,28 +68,32 @@ fn edge_fault(
     blocks: &[Block],
     block: &Block,
     ending: &Ending,
+    facts: &mut FactBranches<'_>,
     edge: &EdgeFacts,
 ) -> Result<Option<Broken>, OutOfMemory>
-    ensures { IfOk result (IsEarliest (IsEdgeBroken blocks.now block.now ending.now edge.now)) }
+    ensures lent { OnOk result (facts.new.0 ≡ facts.old.0) }
+    ensures fault { IfOk result (IsEarliest (IsEdgeBroken blocks.now block.now ending.now (with_known facts.old.0 edge.now))) }
 {
     let pending = block.pending.as_slice();
-    let passed = passes_on(alloc, blocks, pending, &ending.terminator, edge)?;
+    let passed = passes_on(alloc, blocks, facts, pending, &ending.terminator, edge)?;
     Ok(fault_unless(passed, ending.line, 603))
 }
 
-/// What is not passed on along one of the edges.
+/// What is not passed on along one of the edges of a block where this is known at its end.
 pub fn edges_fault(
     alloc: Global,
     blocks: &[Block],
     block: &Block,
     ending: &Ending,
+    known: &[Fact],
     edges: &[EdgeFacts],
 ) -> Result<Option<Broken>, OutOfMemory>
-    ensures { IfOk result (IsEarliest (λ (b : Broken). Any (λ e. IsEdgeBroken blocks.now block.now ending.now e b) edges.now)) }
+    ensures { IfOk result (IsEarliest (λ (b : Broken). Any (λ e. IsEdgeBroken blocks.now block.now ending.now e b) (all_with_known known.now edges.now))) }
 {
     let mut named: Option<Broken> = None;
+    let mut facts = FactBranches::new(alloc, known);
     for edge in edges {
-        let broken = edge_fault(alloc, blocks, block, ending, edge)?;
+        let broken = edge_fault(alloc, blocks, block, ending, &mut facts, edge)?;
         named = lower(named, broken);
     }
     Ok(named)

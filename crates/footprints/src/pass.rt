@@ -1,13 +1,15 @@
-ghost use Rattle.std.specs.Prelude.{◌≡◌, IfOk, slice_get};
-ghost use Rattle.footprints.specs.Footprints.{hands_on, pending_of, is_passed, are_passed, foot_passed, child_passed_on, passes_on};
+ghost use Rattle.std.specs.Prelude.{◌≡◌, List, false, true, IfOk, OnOk, slice_get};
+ghost use Rattle.linear.specs.declared.form.Fact.{Fact};
+ghost use Rattle.ranges.specs.Edges.{with_known};
+ghost use Rattle.footprints.specs.Footprints.{hands_on, pending_of, with_facts, is_passed, are_passed, foot_passed, child_passed_on, passes_on};
 
 use crate::touch::child_foot;
-use entailment::{FactCursor, Known};
+use entailment::{FactBranches, Known};
 use lists::OutOfMemory;
 use program::{Block, BlockId, Pending, RegisterId, Terminator, Zone};
 use ranges::{EdgeFacts, Way};
 use std::alloc::Global;
-use zones::{PlacedZone, as_written, covers, index_for, is_empty};
+use zones::{PlacedZone, as_written, covers, is_empty};
 
 /// Whether what is pending of a region goes on along an edge: not into a detached block, and not where the region was synced.
 fn hands_on(way: Way, region: RegisterId) -> bool
@@ -39,8 +41,7 @@ fn is_passed(
     region: RegisterId,
     zone: &Zone,
 ) -> Result<bool, OutOfMemory>
-    requires { facts.now ≡ edge.now.facts }
-    ensures { IfOk result (λ b. b ≡ is_passed edge.now waiting.now region zone.now) }
+    ensures { IfOk result (λ b. b ≡ is_passed (with_facts facts.now edge.now) waiting.now region zone.now) }
 {
     let y = as_written(zone);
     if is_empty(alloc, facts, &y)? {
@@ -67,8 +68,7 @@ fn are_passed(
     waiting: &[Pending],
     pending: &[Pending],
 ) -> Result<bool, OutOfMemory>
-    requires { facts.now ≡ edge.now.facts }
-    ensures { IfOk result (λ b. b ≡ are_passed edge.now waiting.now pending.now) }
+    ensures { IfOk result (λ b. b ≡ are_passed (with_facts facts.now edge.now) waiting.now pending.now) }
 {
     for item in pending {
         if hands_on(edge.way, item.region)
@@ -89,8 +89,7 @@ fn foot_passed(
     region: RegisterId,
     foot: &[Zone],
 ) -> Result<bool, OutOfMemory>
-    requires { facts.now ≡ edge.now.facts }
-    ensures { IfOk result (λ b. b ≡ foot_passed edge.now waiting.now region foot.now) }
+    ensures { IfOk result (λ b. b ≡ foot_passed (with_facts facts.now edge.now) waiting.now region foot.now) }
 {
     for zone in foot {
         if !is_passed(alloc, facts, edge, waiting, region, zone)? {
@@ -109,8 +108,7 @@ fn child_passed_on(
     waiting: &[Pending],
     terminator: &Terminator,
 ) -> Result<bool, OutOfMemory>
-    requires { facts.now ≡ edge.now.facts }
-    ensures { IfOk result (λ b. b ≡ child_passed_on blocks.now edge.now waiting.now edge.now.way terminator.now) }
+    ensures { IfOk result (λ b. b ≡ child_passed_on blocks.now (with_facts facts.now edge.now) waiting.now edge.now.way terminator.now) }
 {
     match edge.way {
         Way::Continued => match terminator {
@@ -129,22 +127,43 @@ fn child_passed_on(
     }
 }
 
-/// Whether each pending zone of the source, and a new child's foot, is covered at an edge's target.
-pub fn passes_on(
-    alloc: Global,
+/// Whether there may be something to cover at an edge's target. Where there is nothing, what is known there is not gathered.
+fn has_passing(
     blocks: &[Block],
     pending: &[Pending],
     terminator: &Terminator,
     edge: &EdgeFacts,
-) -> Result<bool, OutOfMemory>
-    ensures { IfOk result (λ b. b ≡ passes_on blocks.now pending.now terminator.now edge.now) }
+) -> bool
+    ensures { (known : List Fact) → result ≡ false → passes_on blocks.now pending.now terminator.now (with_known known edge.now) ≡ true }
 {
+    for item in pending {
+        if hands_on(edge.way, item.region) {
+            return true;
+        }
+    }
+    !child_foot(blocks, terminator).is_empty()
+}
+
+/// Whether each pending zone of the source, and a new child's foot, is covered at an edge's target.
+pub fn passes_on(
+    alloc: Global,
+    blocks: &[Block],
+    facts: &mut FactBranches<'_>,
+    pending: &[Pending],
+    terminator: &Terminator,
+    edge: &EdgeFacts,
+) -> Result<bool, OutOfMemory>
+    ensures lent { OnOk result (facts.new.0 ≡ facts.old.0) }
+    ensures passed { IfOk result (λ b. b ≡ passes_on blocks.now pending.now terminator.now (with_known facts.old.0 edge.now)) }
+{
+    if !has_passing(blocks, pending, terminator, edge) {
+        return Ok(true);
+    }
+    facts.go(alloc, edge.facts.as_slice())?;
+    let known = facts.known();
     let waiting = pending_of(blocks, edge.to);
-    let mut cursor = FactCursor::new(alloc, edge.facts.as_slice());
-    index_for(&mut cursor, !waiting.is_empty())?;
-    let facts = cursor.known();
-    if !are_passed(alloc, &facts, edge, waiting, pending)? {
+    if !are_passed(alloc, &known, edge, waiting, pending)? {
         return Ok(false);
     }
-    child_passed_on(alloc, &facts, blocks, edge, waiting, terminator)
+    child_passed_on(alloc, &known, blocks, edge, waiting, terminator)
 }

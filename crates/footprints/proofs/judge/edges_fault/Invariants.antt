@@ -1,8 +1,11 @@
-use Rattle.std.proofs.Common.{take}
+use Rattle.std.proofs.Common.{◌≡◌, take}
 use Rattle.std.specs.List.{Any}
 use Rattle.refusal.specs.Earliest.{IsEarliest}
+use Rattle.ranges.specs.Edges.{with_known}
 use Rattle.footprints.specs.Rules.{IsEdgeBroken}
 use Rattle.footprints.proofs.judge.edges_fault.Given as goal
 
 abbrev pub invariant-loop-edge : goal.invariant-loop-edge
-invariant-loop-edge l = IsEarliest (λ b. Any (λ e. IsEdgeBroken l.blocks l.block l.ending e b) (take l.edge-index l.edges)) l.named
+invariant-loop-edge l =
+    (l.facts.0 ≡ l.known)
+    × IsEarliest (λ b. Any (λ e. IsEdgeBroken l.blocks l.block l.ending (with_known l.known e) b) (take l.edge-index l.edges)) l.named

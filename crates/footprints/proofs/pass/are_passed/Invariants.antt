@@ -1,6 +1,6 @@
 use Rattle.std.proofs.Common.{◌≡◌, true, take}
-use Rattle.footprints.specs.Footprints.{are_passed}
+use Rattle.footprints.specs.Footprints.{with_facts, are_passed}
 use Rattle.footprints.proofs.pass.are_passed.Given as goal
 
 abbrev pub invariant-loop-item : goal.invariant-loop-item
-invariant-loop-item l = are_passed l.edge l.waiting (take l.item-index l.pending) ≡ true
+invariant-loop-item l = are_passed (with_facts l.facts l.edge) l.waiting (take l.item-index l.pending) ≡ true

@@ -6,4 +6,4 @@ use Rattle.zones.specs.Zones.{span, as_written, covers}
 use Rattle.footprints.proofs.pass.is_passed.Given as goal
 
 abbrev pub invariant-loop-item : goal.invariant-loop-item
-invariant-loop-item l = list_any (λ (q : Pending). (q.region.0 == l.region.0) && covers l.edge.facts (span q.zone.object l.edge.moves q.zone) (as_written l.zone)) (take l.item-index l.waiting) ≡ false
+invariant-loop-item l = list_any (λ (q : Pending). (q.region.0 == l.region.0) && covers l.facts (span q.zone.object l.edge.moves q.zone) (as_written l.zone)) (take l.item-index l.waiting) ≡ false
