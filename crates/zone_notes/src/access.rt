@@ -1,7 +1,7 @@
 //! Faults of zones, each with the zone and what stands beside it.
 
 use crate::zone_text::{as_written, push_why_beside, push_why_not, push_zone};
-use entailment::{FactCursor, Known as KnownFacts};
+use entailment::{FactBranches, FactCursor, Known as KnownFacts};
 use fact_notes::{Known, Matched, Scene, fact_lines};
 use findings::{Finding, Source, push_finding};
 use footprints::{
@@ -297,13 +297,14 @@ impl Spot<'_, '_> {
     fn push_waiting(
         &self,
         alloc: Global,
+        facts: &KnownFacts<'_>,
         edge: &EdgeFacts,
         region: RegisterId,
         y: &PlacedZone<'_>,
         out: &mut String,
     ) -> Result<bool, OutOfMemory> {
         let known = Known {
-            facts: edge.facts.as_slice(),
+            facts: facts.facts(),
             ..self.known
         };
         let mut is_any = false;
@@ -321,6 +322,7 @@ impl Spot<'_, '_> {
     fn push_unpassed(
         &self,
         alloc: Global,
+        facts: &KnownFacts<'_>,
         edge: &EdgeFacts,
         region: RegisterId,
         zone: &Zone,
@@ -329,7 +331,7 @@ impl Spot<'_, '_> {
         let scene = self.known.scene;
         let y = as_written(zone);
         push_still_pending(alloc, scene, edge.to, &y, out)?;
-        if self.push_waiting(alloc, edge, region, &y, out)? {
+        if self.push_waiting(alloc, facts, edge, region, &y, out)? {
             Ok(())
         } else {
             push_none_pending(scene, edge.to, region, out)
@@ -362,37 +364,36 @@ impl Spot<'_, '_> {
     fn push_if_unpassed(
         &self,
         alloc: Global,
+        facts: &KnownFacts<'_>,
         edge: &EdgeFacts,
         region: RegisterId,
         zone: &Zone,
         out: &mut String,
     ) -> Result<(), OutOfMemory> {
-        let mut cursor = FactCursor::new(alloc, edge.facts.as_slice());
-        cursor.index()?;
-        let facts = cursor.known();
-        if self.is_passed(alloc, &facts, edge, region, zone)? {
+        if self.is_passed(alloc, facts, edge, region, zone)? {
             Ok(())
         } else {
-            self.push_unpassed(alloc, edge, region, zone, out)
+            self.push_unpassed(alloc, facts, edge, region, zone, out)
         }
     }
 
     fn push_edge_notes(
         &self,
         alloc: Global,
+        facts: &KnownFacts<'_>,
         terminator: &Terminator,
         edge: &EdgeFacts,
         out: &mut String,
     ) -> Result<(), OutOfMemory> {
         for item in self.place.pending {
             if goes_on(edge.way, item.region) {
-                self.push_if_unpassed(alloc, edge, item.region, &item.zone, out)?;
+                self.push_if_unpassed(alloc, facts, edge, item.region, &item.zone, out)?;
             }
         }
         if let (Way::Continued, Terminator::Detach { region, .. }) = (edge.way, terminator) {
             let blocks = self.known.scene.function.blocks.as_slice();
             for zone in foot_of(blocks, terminator) {
-                self.push_if_unpassed(alloc, edge, *region, zone, out)?;
+                self.push_if_unpassed(alloc, facts, edge, *region, zone, out)?;
             }
         }
         Ok(())
@@ -401,16 +402,18 @@ impl Spot<'_, '_> {
     fn push_edge(
         &self,
         alloc: Global,
+        facts: &mut FactBranches<'_>,
         terminator: &Terminator,
         edge: &EdgeFacts,
         findings: &mut Vec<Finding>,
     ) -> Result<(), OutOfMemory> {
         let blocks = self.known.scene.function.blocks.as_slice();
-        if passes_on(alloc, blocks, self.place.pending, terminator, edge)? {
+        if passes_on(alloc, blocks, facts, self.place.pending, terminator, edge)? {
             return Ok(());
         }
         let mut notes = String::new(alloc);
-        self.push_edge_notes(alloc, terminator, edge, &mut notes)?;
+        facts.go(alloc, edge.facts.as_slice())?;
+        self.push_edge_notes(alloc, &facts.known(), terminator, edge, &mut notes)?;
         push_finding(findings, 603, self.known.line, notes)
     }
 }
@@ -495,8 +498,9 @@ fn push_end(
     findings: &mut Vec<Finding>,
 ) -> Result<(), OutOfMemory> {
     spot.push_child(alloc, &ending.terminator, findings)?;
+    let mut facts = FactBranches::new(alloc, spot.known.facts);
     for edge in edges {
-        spot.push_edge(alloc, &ending.terminator, edge, findings)?;
+        spot.push_edge(alloc, &mut facts, &ending.terminator, edge, findings)?;
     }
     Ok(())
 }
