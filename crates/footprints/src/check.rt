@@ -211,7 +211,8 @@ fn block_fault(
     block: &Block,
     table: &BlockFacts,
 ) -> Result<Option<Broken>, OutOfMemory>
-    ensures { IfOk result (IsEarliest (IsBlockBrokenBy functions.now function.now task block.now (facts_in_table table.now) table.now.facts (edges_in_table table.now))) }
+    ensures { IfOk result (IsEarliest
+        (IsBlockBrokenBy functions.now function.now task block.now (facts_in_table table.now) table.now.facts (edges_in_table table.now))) }
 {
     let at_steps = steps_fault(alloc, functions, function, task, block, table)?;
     let facts = table.facts.as_slice();
