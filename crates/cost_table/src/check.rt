@@ -1,7 +1,7 @@
 ghost use Rattle.std.specs.Prelude.{◌≡◌, Some, IfOk, IfErr, OnOk, slice_get};
 ghost use Rattle.refusal.specs.declared.broken.Broken.{Broken};
 ghost use Rattle.refusal.specs.Earliest.{IsEarliest, NamesEarliest};
-ghost use Rattle.ranges.specs.Places.{IsFunctionTable, AreFacts, facts_in_table};
+ghost use Rattle.ranges.specs.Places.{IsFunctionTable, AreFacts, facts_in_table, edges_in_table};
 ghost use Rattle.cost_table.specs.Rules.{IsEndingUncovered, AreStepsNotFalling, IsEntryBroken, IsBlockBrokenBy, AreBlocksBroken, IsFunctionBroken};
 ghost use Rattle.cost_table.specs.Rules.{IsCostBroken};
 ghost use Rattle.cost_table.specs.Tables.{IsTable};
@@ -30,7 +30,8 @@ fn ending_fault(
     block: &Block,
     table: &BlockFacts,
 ) -> Result<Option<Broken>, OutOfMemory>
-    ensures { IfOk result (IsEarliest (IsEndingUncovered functions.now function.now index block.now table.now.facts table.now.edges block.now.ending)) }
+    ensures { IfOk result (IsEarliest
+        (IsEndingUncovered functions.now function.now index block.now table.now.facts (edges_in_table table.now) block.now.ending)) }
 {
     match &block.ending {
         Some(ending) => {
@@ -87,7 +88,7 @@ fn block_fault(
     table: &BlockFacts,
 ) -> Result<Option<Broken>, OutOfMemory>
     ensures { IfOk result (IsEarliest
-        (IsBlockBrokenBy functions.now function.now index block.now start.now (facts_in_table table.now) table.now.facts table.now.edges)) }
+        (IsBlockBrokenBy functions.now function.now index block.now start.now (facts_in_table table.now) table.now.facts (edges_in_table table.now))) }
 {
     let at_start = start_fault(alloc, start, block)?;
     let at_end = ending_fault(alloc, functions, function, index, block, table)?;

@@ -1,8 +1,9 @@
-ghost use Rattle.std.specs.Prelude.{◌≡◌, ℕ, List, Any, false, IfOk, slice_get, pos};
+ghost use Rattle.std.specs.Prelude.{◌≡◌, ℕ, List, Any, false, IfOk, OnOk, slice_get, pos};
 ghost use Rattle.linear.specs.Forms.{constant_form};
 ghost use Rattle.program.specs.declared.function.Function.{Function};
 ghost use Rattle.refusal.specs.declared.broken.Broken.{Broken};
 ghost use Rattle.refusal.specs.Earliest.{IsEarliest};
+ghost use Rattle.ranges.specs.Edges.{with_known, all_with_known};
 ghost use Rattle.cost_table.specs.Rules.{IsPairBroken, IsOverdrawn, IsEdgeUncovered, IsForkUncovered, IsEndUncovered};
 ghost use Rattle.program.specs.Blocks.{left_calls, left_instructions};
 ghost use Rattle.cost_table.specs.Rules.{IsUncoveredAt, IsUnbounded, IsNotFalling, IsCallNotFalling, IsOverBudget, IsTooCostly};
@@ -10,7 +11,7 @@ ghost use Rattle.cost_table.specs.Doing.{IsWork};
 
 use crate::sum::{covers_both, covers_next, covers_work, is_at_least_zero, is_at_most};
 use crate::work::{Work, whole_cost};
-use entailment::{FactCursor, Known};
+use entailment::{FactBranches, Known};
 use linear::{Fact, Form};
 use lists::OutOfMemory;
 use program::{Argument, Block, BlockId, Ending, Function, Instruction, Step, Terminator};
@@ -75,24 +76,25 @@ fn edge_fault(
     block: &Block,
     work: Work,
     line: u32,
+    facts: &mut FactBranches<'_>,
     edge: &EdgeFacts,
 ) -> Result<Option<Broken>, OutOfMemory>
-    ensures { IfOk result (λ r. (functions : List Function) (f : ℕ) → IsWork functions f block.now work
-        → IsEarliest (IsEdgeUncovered functions function.now f block.now line edge.now) r) }
+    ensures lent { OnOk result (facts.new.0 ≡ facts.old.0) }
+    ensures fault { IfOk result (λ r. (functions : List Function) (f : ℕ) → IsWork functions f block.now work
+        → IsEarliest (IsEdgeUncovered functions function.now f block.now line (with_known facts.old.0 edge.now)) r) }
 {
     let none = Form::from_constant(alloc, 0);
     let left = &block.left;
     let blocks = function.blocks.as_slice();
-    let mut cursor = FactCursor::new(alloc, edge.facts.as_slice());
-    cursor.index()?;
-    let facts = cursor.known();
+    facts.go(alloc, edge.facts.as_slice())?;
+    let known = facts.known();
     let moves = edge.moves.as_slice();
     let next = left_calls(blocks, edge.to, &none);
-    let calls = covers_next(alloc, &facts, &left.self_calls, work.calls, moves, next)?;
+    let calls = covers_next(alloc, &known, &left.self_calls, work.calls, moves, next)?;
     let next = left_instructions(blocks, edge.to, &none);
     let instructions = covers_next(
         alloc,
-        &facts,
+        &known,
         &left.instructions,
         work.instructions,
         moves,
@@ -101,21 +103,23 @@ fn edge_fault(
     Ok(fault_unless(calls, instructions, line, 702))
 }
 
-/// The same of all edges of a block.
+/// The same of all edges of a block where this is known at its end.
 fn edges_fault(
     alloc: Global,
     function: &Function,
     block: &Block,
     work: Work,
     line: u32,
+    known: &[Fact],
     edges: &[EdgeFacts],
 ) -> Result<Option<Broken>, OutOfMemory>
     ensures { IfOk result (λ r. (functions : List Function) (f : ℕ) → IsWork functions f block.now work
-        → IsEarliest (λ (b : Broken). Any (λ e. IsEdgeUncovered functions function.now f block.now line e b) edges.now) r) }
+        → IsEarliest (λ (b : Broken). Any (λ e. IsEdgeUncovered functions function.now f block.now line e b) (all_with_known known.now edges.now)) r) }
 {
     let mut named: Option<Broken> = None;
+    let mut facts = FactBranches::new(alloc, known);
     for edge in edges {
-        let broken = edge_fault(alloc, function, block, work, line, edge)?;
+        let broken = edge_fault(alloc, function, block, work, line, &mut facts, edge)?;
         named = lower(named, broken);
     }
     Ok(named)
@@ -182,14 +186,15 @@ pub fn uncovered_fault(
     ending: &Ending,
 ) -> Result<Option<Broken>, OutOfMemory>
     ensures { IfOk result (λ r. (functions : List Function) (f : ℕ) → IsWork functions f block.now work
-        → IsEarliest (IsUncoveredAt functions function.now f block.now ending.now.line known.now edges.now ending.now.terminator) r) }
+        → IsEarliest
+            (IsUncoveredAt functions function.now f block.now ending.now.line known.now (all_with_known known.now edges.now) ending.now.terminator) r) }
 {
     let line = ending.line;
     match &ending.terminator {
         Terminator::Jump { .. }
         | Terminator::Branch { .. }
         | Terminator::Switch { .. }
-        | Terminator::Sync { .. } => edges_fault(alloc, function, block, work, line, edges),
+        | Terminator::Sync { .. } => edges_fault(alloc, function, block, work, line, known, edges),
         Terminator::Detach {
             body,
             continuation,

@@ -1,7 +1,7 @@
 use Rattle.refusal.proofs.Elements.{earliest_both}
 use Rattle.refusal.specs.declared.broken.Broken.{Broken}
 use Rattle.std.proofs.Common.{◌⊎◌}
-use Rattle.ranges.specs.Places.{facts_in_table}
+use Rattle.ranges.specs.Places.{facts_in_table, edges_in_table}
 use Rattle.cost_table.specs.Rules.{IsOverdrawn, IsEndingUncovered, AreStepsNotFalling}
 use Rattle.cost_table.proofs.check.block_fault.Goals as goal
 
@@ -12,7 +12,7 @@ returns c =
     let f = c.args.index in
     let block = c.args.block.now in
     let table = c.args.table.now in
-    earliest_both (IsOverdrawn c.args.start.now block) (λ (b : Broken). IsEndingUncovered functions function f block table.facts table.edges block.ending b ⊎ AreStepsNotFalling function f block (facts_in_table table) b) _ _ _
+    earliest_both (IsOverdrawn c.args.start.now block) (λ (b : Broken). IsEndingUncovered functions function f block table.facts (edges_in_table table) block.ending b ⊎ AreStepsNotFalling function f block (facts_in_table table) b) _ _ _
     c.in_ok-at_start.ensures
-    (earliest_both (IsEndingUncovered functions function f block table.facts table.edges block.ending) (AreStepsNotFalling function f block (facts_in_table table)) _ _ _ c.in_ok-at_end.ensures c.in_ok-at_steps.ensures c.lower.ensures)
+    (earliest_both (IsEndingUncovered functions function f block table.facts (edges_in_table table) block.ending) (AreStepsNotFalling function f block (facts_in_table table)) _ _ _ c.in_ok-at_end.ensures c.in_ok-at_steps.ensures c.lower.ensures)
     c.lower-2.ensures

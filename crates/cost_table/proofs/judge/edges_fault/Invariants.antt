@@ -1,12 +1,15 @@
-use Rattle.std.proofs.Common.{ℕ, List, take}
+use Rattle.std.proofs.Common.{◌≡◌, ℕ, List, take}
 use Rattle.std.specs.List.{Any}
 use Rattle.program.specs.declared.function.Function.{Function}
 use Rattle.refusal.specs.declared.broken.Broken.{Broken}
 use Rattle.refusal.specs.Earliest.{IsEarliest}
+use Rattle.ranges.specs.Edges.{with_known}
 use Rattle.cost_table.specs.Doing.{IsWork}
 use Rattle.cost_table.specs.Rules.{IsEdgeUncovered}
 use Rattle.cost_table.proofs.judge.edges_fault.Given as goal
 
 abbrev pub invariant-loop-edge : goal.invariant-loop-edge
 invariant-loop-edge l =
-    (functions : List Function) (f : ℕ) → IsWork functions f l.block l.work → IsEarliest (λ (b : Broken). Any (λ e. IsEdgeUncovered functions l.function f l.block l.line e b) (take l.edge-index l.edges)) l.named
+    (l.facts.0 ≡ l.known)
+    × ((functions : List Function) (f : ℕ) → IsWork functions f l.block l.work
+      → IsEarliest (λ (b : Broken). Any (λ e. IsEdgeUncovered functions l.function f l.block l.line (with_known l.known e) b) (take l.edge-index l.edges)) l.named)
