@@ -1,7 +1,7 @@
 //! Faults of costs, each with both sides and the difference.
 
 use cost_table::{Table, Work, make_table, work_of};
-use fact_notes::{Known, Matched, Scene, fact_lines, push_form, start_lines};
+use fact_notes::{Known, Matched, Scene, edge_known, fact_lines, push_form, start_lines};
 use findings::{Finding, push_finding};
 use linear::{Fact, Form, side_of};
 use lists::{OutOfMemory, Seq};
@@ -246,9 +246,10 @@ fn push_edges(
     findings: &mut Vec<Finding>,
 ) -> Result<(), OutOfMemory> {
     for edge in edges {
+        let facts = edge_known(alloc, doing.known.facts, edge)?;
         let there = Doing {
             known: Known {
-                facts: edge.facts.as_slice(),
+                facts: facts.as_slice(),
                 ..doing.known
             },
             ..doing

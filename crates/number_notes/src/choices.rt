@@ -2,13 +2,14 @@
 
 use crate::unmet::{Site, Unmet, all_unmet};
 use fact_notes::{
-    Known, Matched, Scene, fact_lines, first_facts, is_against, match_text, push_inequality,
+    Known, Matched, Scene, edge_known, fact_lines, first_facts, is_against, match_text,
+    push_inequality,
 };
 use findings::{Finding, Source, line_at, push_finding, with_line_before};
 use linear::{Fact, Form, FormFault, RegisterId};
 use lists::OutOfMemory;
 use program::{Block, BlockId};
-use ranges::{BlockFacts, Sum, block_facts, sum_form};
+use ranges::{BlockFacts, EdgeFacts, Sum, block_facts, sum_form};
 use std::alloc::{AllocError, Global};
 
 /// Whether a fault stands among those of the text, where one line more stands from this one on.
@@ -217,16 +218,44 @@ fn push_choices(
     Ok(())
 }
 
-/// The facts of the place of what is not shown, and the block that its edge leads to.
-fn facts_of<'a>(unmet: &Unmet, table: &'a BlockFacts) -> (&'a [Fact], Option<BlockId>) {
-    let facts = first_facts(table.facts.as_slice(), unmet.site.count);
+/// The edge on which something is not shown.
+fn edge_of<'a>(unmet: &Unmet, table: &'a BlockFacts) -> Option<&'a EdgeFacts> {
     match unmet.site.edge {
-        Some(place) => match table.edges.as_slice().get(place) {
-            Some(edge) => (edge.facts.as_slice(), Some(edge.to)),
-            None => (facts, None),
-        },
-        None => (facts, None),
+        Some(place) => table.edges.as_slice().get(place),
+        None => None,
     }
+}
+
+/// What there is to say of a place, with the block that its edge leads to.
+fn push_place_notes(
+    alloc: Global,
+    source: Source<'_>,
+    known: Known<'_>,
+    edge: Option<BlockId>,
+    unmet: &Unmet,
+    old: &[Unmet],
+    notes: &mut String,
+) -> Result<(), OutOfMemory> {
+    push_asked(source, known.scene, unmet, edge, notes)?;
+    push_choices(alloc, source, known, unmet, old, notes)
+}
+
+/// The same of an edge from where this is known.
+fn push_edge_notes(
+    alloc: Global,
+    source: Source<'_>,
+    known: Known<'_>,
+    edge: &EdgeFacts,
+    unmet: &Unmet,
+    old: &[Unmet],
+    notes: &mut String,
+) -> Result<(), OutOfMemory> {
+    let facts = edge_known(alloc, known.facts, edge)?;
+    let there = Known {
+        facts: facts.as_slice(),
+        ..known
+    };
+    push_place_notes(alloc, source, there, Some(edge.to), unmet, old, notes)
 }
 
 fn push_block_notes(
@@ -241,16 +270,17 @@ fn push_block_notes(
     let index = unmet.site.block;
     let (table, _) = block_facts(alloc, scene.program, scene.function, index, block)?;
     let lines = fact_lines(alloc, scene.function, index, block, &table)?;
-    let (facts, edge) = facts_of(unmet, &table);
     let known = Known {
         scene,
-        facts,
+        facts: first_facts(table.facts.as_slice(), unmet.site.count),
         lines: lines.as_slice(),
         stated: unmet.site.count,
         line: unmet.site.line,
     };
-    push_asked(source, scene, unmet, edge, notes)?;
-    push_choices(alloc, source, known, unmet, old, notes)
+    match edge_of(unmet, &table) {
+        Some(edge) => push_edge_notes(alloc, source, known, edge, unmet, old, notes),
+        None => push_place_notes(alloc, source, known, None, unmet, old, notes),
+    }
 }
 
 fn notes_of(

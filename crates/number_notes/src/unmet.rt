@@ -1,6 +1,6 @@
 //! What a program owes of its numbers and what is known there does not show.
 
-use fact_notes::{Matched, first_facts};
+use fact_notes::{Matched, edge_known, first_facts};
 use linear::Fact;
 use lists::{OutOfMemory, Seq};
 use program::{Block, Ending, Function, Inequality, Program, Step};
@@ -164,7 +164,8 @@ fn push_edge(
     };
     let keeps = target.keeps.as_slice();
     let owed = inequalities_owed(alloc, 505, edge.moves.as_slice(), keeps)?;
-    push_unmet(alloc, site, edge.facts.as_slice(), owed, keeps, unmet)
+    let facts = edge_known(alloc, judged.table.facts.as_slice(), edge)?;
+    push_unmet(alloc, site, &facts, owed, keeps, unmet)
 }
 
 /// Adds what is not shown of the edges' targets.
