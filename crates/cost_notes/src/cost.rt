@@ -238,6 +238,20 @@ fn share_of<'a>(function: &'a Function, to: BlockId, moves: &'a [Move]) -> Optio
     }
 }
 
+/// 702 on an edge where this is known.
+fn push_edge<'a>(
+    alloc: Global,
+    there: Doing<'a>,
+    edge: &'a EdgeFacts,
+    findings: &mut Vec<Finding>,
+) -> Result<(), OutOfMemory> {
+    let function = there.known.scene.function;
+    match share_of(function, edge.to, edge.moves.as_slice()) {
+        Some(share) => there.push_fault(alloc, &[share], findings),
+        None => Ok(()),
+    }
+}
+
 /// 702 on each edge.
 fn push_edges(
     alloc: Global,
@@ -254,10 +268,7 @@ fn push_edges(
             },
             ..doing
         };
-        let function = doing.known.scene.function;
-        if let Some(share) = share_of(function, edge.to, edge.moves.as_slice()) {
-            there.push_fault(alloc, &[share], findings)?;
-        }
+        push_edge(alloc, there, edge, findings)?;
     }
     Ok(())
 }

@@ -187,7 +187,7 @@ pub fn uncovered_fault(
 ) -> Result<Option<Broken>, OutOfMemory>
     ensures { IfOk result (λ r. (functions : List Function) (f : ℕ) → IsWork functions f block.now work
         → IsEarliest
-            (IsUncoveredAt functions function.now f block.now ending.now.line known.now (all_with_known known.now edges.now) ending.now.terminator) r) }
+        (IsUncoveredAt functions function.now f block.now ending.now.line known.now (all_with_known known.now edges.now) ending.now.terminator) r) }
 {
     let line = ending.line;
     match &ending.terminator {

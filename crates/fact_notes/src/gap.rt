@@ -162,11 +162,7 @@ fn push_copies(alloc: Global, facts: &[Fact], copies: &mut Vec<Fact>) -> Result<
 }
 
 /// What is known on an edge: what is known at the end of its block, and then what its being taken says.
-pub fn edge_known(
-    alloc: Global,
-    known: &[Fact],
-    edge: &EdgeFacts,
-) -> Result<Vec<Fact>, OutOfMemory>
+pub fn edge_known(alloc: Global, known: &[Fact], edge: &EdgeFacts) -> Result<Vec<Fact>, OutOfMemory>
     ensures { IfOk result (λ facts. facts.items ≡ known.now ++ edge.now.facts) }
 {
     let mut facts: Vec<Fact> = Vec::new(alloc);

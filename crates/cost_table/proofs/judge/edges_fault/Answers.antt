@@ -9,9 +9,9 @@ use Rattle.cost_table.proofs.judge.edges_fault.Goals as goal
 
 pub loop-edge-init : goal.loop-edge-init
 loop-edge-init c = (
-    ap (λ x. x.0) c.new-facts.ensures,
-    λ functions f is. earliest_none (λ (e : EdgeFacts) (b : Broken). IsEdgeUncovered functions c.args.function.now f c.args.block.now c.args.line (with_known c.args.known.now e) b) c.args.edges.now,
-  )
+  ap (λ x. x.0) c.new-facts.ensures,
+  λ functions f is. earliest_none (λ (e : EdgeFacts) (b : Broken). IsEdgeUncovered functions c.args.function.now f c.args.block.now c.args.line (with_known c.args.known.now e) b) c.args.edges.now,
+)
 
 pub loop-edge-preserved : goal.loop-edge-preserved
 loop-edge-preserved c =

@@ -12,4 +12,4 @@ abbrev pub invariant-loop-edge : goal.invariant-loop-edge
 invariant-loop-edge l =
     (l.facts.0 ≡ l.known)
     × ((functions : List Function) (f : ℕ) → IsWork functions f l.block l.work
-      → IsEarliest (λ (b : Broken). Any (λ e. IsEdgeUncovered functions l.function f l.block l.line (with_known l.known e) b) (take l.edge-index l.edges)) l.named)
+    → IsEarliest (λ (b : Broken). Any (λ e. IsEdgeUncovered functions l.function f l.block l.line (with_known l.known e) b) (take l.edge-index l.edges)) l.named)
