@@ -86,7 +86,7 @@ fn edge_fault(
     let none = Form::from_constant(alloc, 0);
     let left = &block.left;
     let blocks = function.blocks.as_slice();
-    facts.go(alloc, edge.facts.as_slice())?;
+    facts.switch_to(alloc, edge.facts.as_slice())?;
     let known = facts.known();
     let moves = edge.moves.as_slice();
     let next = left_calls(blocks, edge.to, &none);

@@ -124,8 +124,8 @@ impl<'a> FactBranches<'a> {
         }
     }
 
-    /// Goes to where these facts are known after the lent ones, and brings the index up to date, where they are many.
-    pub fn go(&mut self, alloc: Global, more: &[Fact]) -> Result<(), AllocError>
+    /// Lets these facts join the lent ones, in place of those that had, and brings the index up to date, where they are many.
+    pub fn switch_to(&mut self, alloc: Global, more: &[Fact]) -> Result<(), AllocError>
         ensures lent { self.new.0 ≡ self.old.0 }
         ensures all { OnOk result (self.new.1 ≡ self.old.0 ++ more.now) }
     {

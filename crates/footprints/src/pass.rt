@@ -159,7 +159,7 @@ pub fn passes_on(
     if !has_passing(blocks, pending, terminator, edge) {
         return Ok(true);
     }
-    facts.go(alloc, edge.facts.as_slice())?;
+    facts.switch_to(alloc, edge.facts.as_slice())?;
     let known = facts.known();
     let waiting = pending_of(blocks, edge.to);
     if !are_passed(alloc, &known, edge, waiting, pending)? {

@@ -118,7 +118,7 @@ fn edge_fault(
 {
     let keeps = keeps_of(blocks, edge.to);
     let owed = inequalities_owed(alloc, 505, edge.moves.as_slice(), keeps)?;
-    facts.go(alloc, edge.facts.as_slice())?;
+    facts.switch_to(alloc, edge.facts.as_slice())?;
     unmet_fault(alloc, &facts.known(), line, &owed)
 }
 

@@ -412,7 +412,7 @@ impl Spot<'_, '_> {
             return Ok(());
         }
         let mut notes = String::new(alloc);
-        facts.go(alloc, edge.facts.as_slice())?;
+        facts.switch_to(alloc, edge.facts.as_slice())?;
         self.push_edge_notes(alloc, &facts.known(), terminator, edge, &mut notes)?;
         push_finding(findings, 603, self.known.line, notes)
     }

@@ -19,7 +19,7 @@ returns-clause-fault c = λ functions f is.
     let instructions = instructions_done functions f block in
     let next_calls = left_calls (slice_get c.args.function.now.blocks to) in
     let next_instructions = left_instructions (slice_get c.args.function.now.blocks to) in
-    let known : c.known-known.result ≡ facts = c.known-known.ensures ∙ c.in_ok-go.ensures.all ∙ ap (λ more. c.args.facts.now.0 ++ more) c.as_slice.ensures in
+    let known : c.known-known.result ≡ facts = c.known-known.ensures ∙ c.in_ok-switch_to.ensures.all ∙ ap (λ more. c.args.facts.now.0 ++ more) c.as_slice.ensures in
     pair_named 702 line c.in_ok-calls.calls (shows facts (less_form (left_behind block.left.self_calls calls) moves next_calls))
     c.in_ok-instructions.instructions (shows facts (less_form (left_behind block.left.instructions instructions) moves next_instructions)) _
     (shown_next c.known-known.result facts block.left.self_calls calls c.as_slice-moves.result.now moves c.left_calls-next.result.now next_calls c.in_ok-calls.calls known c.as_slice-moves.ensures (c.left_calls-next.ensures ∙ ap (λ (bs : List Block). left_calls (slice_get bs to)) c.as_slice-blocks.ensures) (c.in_ok-calls.ensures calls is.calls))

@@ -1,4 +1,4 @@
-use Rattle.std.proofs.Common.{◌≤◌, List, length, subst, arith}
+use Rattle.std.proofs.Common.{List, subst, arith}
 use Rattle.std.specs.List.{Contains}
 use Rattle.linear.specs.declared.form.Term.{Term}
 use Rattle.linear.specs.Forms.{IsRising}

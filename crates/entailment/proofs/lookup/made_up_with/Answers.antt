@@ -1,4 +1,4 @@
-use Rattle.std.proofs.Common.{◌≡◌, ◌∙◌, ◌++◌, inl, inr, refl, suc, length, sym}
+use Rattle.std.proofs.Common.{◌∙◌, ◌++◌, inl, inr, refl, suc, length, sym}
 use Rattle.std.proofs.lemmas.Bool.{false≢true, cases_Bool}
 use Rattle.std.proofs.lemmas.List.Elements.{Contains-append_left, Contains-append_right}
 use Rattle.entailment.proofs.Layers.{layers_index}

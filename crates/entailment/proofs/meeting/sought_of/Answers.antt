@@ -1,4 +1,4 @@
-use Rattle.std.proofs.Common.{◌≡◌, ◌%◌, ◌/◌, ◌+◌, ◌*◌, ◌^◌, sym}
+use Rattle.std.proofs.Common.{◌≡◌, ◌%◌, ◌/◌}
 use Rattle.entailment.proofs.Passing.{shared_total, none_shared}
 use Rattle.entailment.proofs.meeting.sought_of.Goals as goal
 

@@ -1,6 +1,5 @@
-use Rattle.std.proofs.Common.{◌≡◌, ◌++◌, sym}
 use Rattle.entailment.proofs.Indexing.{begun_more}
-use Rattle.entailment.proofs.fact_branches.FactBranches.go.Goals as goal
+use Rattle.entailment.proofs.fact_branches.FactBranches.switch_to.Goals as goal
 
 pub enter_after-requires : goal.enter_after-requires
 enter_after-requires c =
