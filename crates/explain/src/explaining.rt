@@ -7,7 +7,7 @@ use crate::report::Explanation;
 use cost_notes::cost_findings;
 use findings::{Finding, Source, push_finding};
 use lists::{OutOfMemory, Seq};
-use name_notes::name_notes;
+use name_notes::name_finding;
 use number_notes::number_findings;
 use scenes::{Matched, match_text};
 use std::alloc::{AllocError, Global};
@@ -57,27 +57,30 @@ fn findings_of(
     if number >= 500 {
         return program_findings(alloc, source, number);
     }
-    let notes = if number == 402 {
-        alloca_notes(alloc, source, line)?
-    } else {
-        name_notes(alloc, source, number, line)?
-    };
     let mut findings: Vec<Finding> = Vec::new(alloc);
-    push_finding(&mut findings, number, line, notes)?;
+    if number == 402 {
+        push_finding(
+            &mut findings,
+            number,
+            line,
+            alloca_notes(alloc, source, line)?,
+        )?;
+    } else {
+        findings.push(name_finding(alloc, source, number, line)?)?;
+    }
     Ok(findings)
 }
 
-/// Adds what is said of the fault that the verifier names to its notes, and the other faults to the others.
+/// Adds what is said of the fault that the verifier names to it, and the other faults to the others.
 fn part(
     findings: Vec<Finding>,
-    number: u16,
-    line: u32,
-    notes: &mut String,
+    first: &mut Finding,
     others: &mut Vec<Finding>,
 ) -> Result<(), AllocError> {
     for finding in findings {
-        if finding.number == number && finding.line == line {
-            notes.push_str(finding.notes.as_str())?;
+        if finding.number == first.number && finding.line == first.line {
+            first.cause = first.cause.or(finding.cause);
+            first.notes.push_str(finding.notes.as_str())?;
         } else {
             others.push(finding)?;
         }
@@ -85,29 +88,24 @@ fn part(
     Ok(())
 }
 
-/// What is said of the fault that the verifier names, and the other faults in the order of their lines.
-fn parted(
-    alloc: Global,
-    findings: Vec<Finding>,
-    number: u16,
-    line: u32,
-) -> Result<(String, Vec<Finding>), OutOfMemory> {
-    let mut notes = String::new(alloc);
-    let mut others: Vec<Finding> = Vec::new(alloc);
-    part(findings, number, line, &mut notes, &mut others)?;
-    others.sort_by_key(|finding| (finding.line, finding.number))?;
-    Ok((notes, others))
-}
-
-/// What is to be told where the verifier names this fault: of it, and of the others of its phase.
+/// What is to be told where the verifier names this fault: of it, and of the others of its phase in the order of their lines.
 fn told_of(
     alloc: Global,
     source: Source<'_>,
     number: u16,
     line: u32,
-) -> Result<(String, Vec<Finding>), OutOfMemory> {
+) -> Result<(Finding, Vec<Finding>), OutOfMemory> {
     let findings = findings_of(alloc, source, number, line)?;
-    parted(alloc, findings, number, line)
+    let mut first = Finding {
+        number,
+        line,
+        cause: None,
+        notes: String::new(alloc),
+    };
+    let mut others: Vec<Finding> = Vec::new(alloc);
+    part(findings, &mut first, &mut others)?;
+    others.sort_by_key(|finding| (finding.line, finding.number))?;
+    Ok((first, others))
 }
 
 /// Why a module's text is refused, or what it could do without. Its names are hashed with `state`.
@@ -126,12 +124,12 @@ pub fn explain(alloc: Global, state: RandomState, text: &[u8]) -> Result<Explana
             remarks: remarks(alloc, source, verified.program())?,
         }),
         Err(Refused::Fault { number, line }) => {
-            let (notes, others) = told_of(alloc, source, number, line)?;
+            let (first, others) = told_of(alloc, source, number, line)?;
             Ok(Explanation::Refused {
                 first: Finding {
                     number,
                     line,
-                    notes,
+                    ..first
                 },
                 others: Seq::from_vec(others),
             })

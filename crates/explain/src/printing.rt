@@ -15,12 +15,14 @@ fn push_line(out: &mut String, line: Option<&str>) -> Result<(), OutOfMemory> {
     Ok(())
 }
 
-/// What a rule means that this line breaks; of its causes only the one that the notes tell, where they tell one.
+/// What a rule means that this line breaks; of its causes only the one that it is, where that is known.
 fn push_meaning(out: &mut String, line: &str, finding: &Finding) -> Result<(), OutOfMemory> {
-    if finding.notes.as_str().starts_with("  here: ") {
-        push_heads(out, finding.number, line)
-    } else {
-        push_meanings(out, finding.number, line)
+    match finding.cause {
+        Some(cause) => {
+            push_heads(out, finding.number, line)?;
+            Ok(writeln!(out, "  here: {cause}")?)
+        }
+        None => push_meanings(out, finding.number, line),
     }
 }
 

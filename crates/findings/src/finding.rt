@@ -3,11 +3,14 @@
 use lists::OutOfMemory;
 use std::hash::RandomState;
 
-/// A broken rule and the line that breaks it, with what there is to say of it: lines that end with LF.
+/// A broken rule and the line that breaks it, with what there is to say of it.
 #[derive(Drop)]
 pub struct Finding {
     pub number: u16,
     pub line: u32,
+    /// Which of the rule's causes it is, where the rule has several and the line says which.
+    pub cause: Option<&'static str>,
+    /// Lines that end with LF.
     pub notes: String,
 }
 
@@ -34,6 +37,7 @@ pub fn push_finding(
     findings.push(Finding {
         number,
         line,
+        cause: None,
         notes,
     })?;
     Ok(())

@@ -6,4 +6,4 @@ mod cause;
 mod note;
 mod row;
 
-pub use note::name_notes;
+pub use note::name_finding;

@@ -2,7 +2,7 @@
 
 use crate::cause::cause_of;
 use crate::row::{Row, function_of, rows_of};
-use findings::Source;
+use findings::{Finding, Source};
 use lists::OutOfMemory;
 use std::alloc::{AllocError, Global};
 
@@ -158,27 +158,12 @@ fn push_ways_and_regions(out: &mut String, site: Site<'_, '_>) -> Result<(), All
     push_regions(out, site)
 }
 
-/// Which of the rule's causes a line has, where the rule has several and the line says which.
-fn push_cause(
-    out: &mut String,
-    site: Site<'_, '_>,
-    row: &Row<'_>,
-    number: u16,
-) -> Result<(), AllocError> {
-    match cause_of(site.rows, site.function, row, number)? {
-        Some(cause) => writeln!(out, "  here: {cause}"),
-        None => Ok(()),
+/// Which of the rule's causes the site's line has, where the rule has several and the line says which.
+fn cause_at(site: Site<'_, '_>, number: u16) -> Result<Option<&'static str>, AllocError> {
+    match site.rows.iter().find(|row| row.number == site.line) {
+        Some(row) => cause_of(site.rows, site.function, row, number),
+        None => Ok(None),
     }
-}
-
-/// The same of the site's line.
-fn push_causes(out: &mut String, site: Site<'_, '_>, number: u16) -> Result<(), AllocError> {
-    for row in site.rows {
-        if row.number == site.line {
-            push_cause(out, site, row, number)?;
-        }
-    }
-    Ok(())
 }
 
 /// Adds what there is to say of a line that breaks the rule of this number.
@@ -193,13 +178,13 @@ fn push_notes(out: &mut String, site: Site<'_, '_>, number: u16) -> Result<(), A
 }
 
 /// What there is to say of a line that breaks this rule: from 201 to 206 and at 401 where its names are defined, of the graph what leads to its
-/// block, of the regions what the function does with them. Of a rule with several causes its first line says which one it is, if the line tells.
-pub fn name_notes(
+/// block, of the regions what the function does with them, and of a rule with several causes which one it is, if the line tells.
+pub fn name_finding(
     alloc: Global,
     source: Source<'_>,
     number: u16,
     line: u32,
-) -> Result<String, OutOfMemory> {
+) -> Result<Finding, OutOfMemory> {
     let rows = rows_of(alloc, source.text)?;
     let rows = rows.as_slice();
     let site = Site {
@@ -207,8 +192,13 @@ pub fn name_notes(
         function: function_of(rows, line),
         line,
     };
-    let mut out = String::new(alloc);
-    push_causes(&mut out, site, number)?;
-    push_notes(&mut out, site, number)?;
-    Ok(out)
+    let cause = cause_at(site, number)?;
+    let mut notes = String::new(alloc);
+    push_notes(&mut notes, site, number)?;
+    Ok(Finding {
+        number,
+        line,
+        cause,
+        notes,
+    })
 }
