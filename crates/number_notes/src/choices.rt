@@ -6,7 +6,7 @@ use fact_notes::{
     push_inequality,
 };
 use findings::{Finding, Source, line_at, push_finding, with_line_before};
-use linear::{Fact, Form, FormFault, RegisterId};
+use linear::{Form, FormFault, RegisterId};
 use lists::OutOfMemory;
 use program::{Block, BlockId};
 use ranges::{BlockFacts, EdgeFacts, Sum, block_facts, sum_form};

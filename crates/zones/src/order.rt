@@ -10,7 +10,7 @@ ghost use Rattle.zones.specs.Zones.{between, shows_order};
 ghost use Rattle.zones.specs.Levels.{IsSameTerm, IsLevel};
 
 use entailment::Known;
-use linear::{Form, RegisterId, Term, side_of};
+use linear::{Form, RegisterId, Side, Term, side_of};
 use lists::{OutOfMemory, Seq};
 use program::Operand;
 use ranges::{Move, Sum, push_parts, shows_at};
@@ -246,8 +246,9 @@ pub fn shows_order(
 }
 
 /// A guess at how far along its object an end lies: what it comes to where each register is 1, with the numbers that are put in.
-fn guessed(moves: &[Move], end: &Form) -> i128 {
-    let end = side_of(end);
+fn guessed(moves: &[Move], end: Side<'_>) -> i128
+    requires { AreSmall end.terms.now }
+{
     let mut sum = end.constant;
     for term in end.terms {
         let factor = number_for(moves, term.register).unwrap_or(1);
@@ -260,5 +261,10 @@ fn guessed(moves: &[Move], end: &Form) -> i128 {
 /// is sought among all facts.
 #[inline(always)]
 pub fn may_precede(for_high: &[Move], high: &Form, for_low: &[Move], low: &Form) -> bool {
+    let high = side_of(high);
+    let low = side_of(low);
+    if high.terms.is_empty() && low.terms.is_empty() {
+        return high.constant <= low.constant;
+    }
     guessed(for_high, high) <= guessed(for_low, low)
 }
