@@ -257,14 +257,14 @@ fn guessed(moves: &[Move], end: Side<'_>) -> i128
     sum
 }
 
-/// Whether a high end may well lie at or before a low one. Nothing rests on it: the order that is likelier is asked for first, as one that does not hold
-/// is sought among all facts.
+/// Whether a high end may well lie at or before a low one, where a register stands in one of them. Nothing rests on it: the order that is likelier is
+/// asked for first, as one that does not hold is sought among all facts.
 #[inline(always)]
 pub fn may_precede(for_high: &[Move], high: &Form, for_low: &[Move], low: &Form) -> bool {
     let high = side_of(high);
     let low = side_of(low);
     if high.terms.is_empty() && low.terms.is_empty() {
-        return high.constant <= low.constant;
+        return false;
     }
     guessed(for_high, high) <= guessed(for_low, low)
 }

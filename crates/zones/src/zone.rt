@@ -92,7 +92,6 @@ pub fn covers(
 }
 
 /// Whether the first zone is shown to end at or before the low end of the second.
-#[inline(always)]
 fn is_before(
     alloc: Global,
     facts: &Known<'_>,
@@ -123,15 +122,13 @@ fn is_beside(
         shows_order facts.now z.now.moves.now z.now.zone.now.low y.now.moves.now y.now.zone.now.high
         || shows_order facts.now y.now.moves.now y.now.zone.now.low z.now.moves.now z.now.zone.now.high)) }
 {
-    let (first, second) = if may_precede(z.moves, &z.zone.high, y.moves, &y.zone.low) {
-        (z, y)
-    } else {
-        (y, z)
-    };
-    if is_before(alloc, facts, first, second)? {
+    if may_precede(z.moves, &z.zone.high, y.moves, &y.zone.low) && is_before(alloc, facts, z, y)? {
         return Ok(true);
     }
-    is_before(alloc, facts, second, first)
+    if shows_order(alloc, facts, z.moves, &z.zone.low, y.moves, &y.zone.high)? {
+        return Ok(true);
+    }
+    shows_order(alloc, facts, y.moves, &y.zone.low, z.moves, &z.zone.high)
 }
 
 /// Whether two zones are shown to have no cell in common.
