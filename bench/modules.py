@@ -336,7 +336,7 @@ def zoned(count):
     return callee + head + child + rest + "call void @f(i64 %n)\n" * count + "sync within %s, label %e\ne:\n;! left 0 1\nret i64 0\n}\n"
 
 def posed(count):
-    """So many facts of four registers, and calls of functions with 32 `requires` lines that two of the 24 oldest show with two factors, each another question."""
+    """So many facts of four registers, and calls of functions with 32 `requires` lines that two of the 24 oldest show with two factors, at the limit 95,000 different questions."""
     registers, functions = ["%a", "%b", "%c", "%d"], count // 100 + 1
     orders = list(itertools.permutations(registers))
     lines = [[f"{i + 2}*%p+{2 * i + 4}*%q+{7 * i + 3}*%r+{21 * i + 9}*%s >= {-9 * i}" for i in range(32 * f, 32 * f + 32)] for f in range(functions)]
