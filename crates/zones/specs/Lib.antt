@@ -1,3 +1,4 @@
 pub mod Levels
 pub mod Zones
 pub mod Places
+pub mod Ends

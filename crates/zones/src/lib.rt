@@ -3,12 +3,17 @@
 //! A zone is an object, a mode and a range of cells, whose ends are forms over registers. What the facts show of zones is decided exactly.
 #![tactic(auto)]
 
+mod bounds;
+mod ends;
+mod extent;
 mod foot;
+mod measured;
 mod order;
 mod place;
 mod zone;
 
 pub use foot::{Use, foot_use};
+pub use measured::MeasuredPlace;
 pub use place::{Place, as_written, index_for, is_allowed, is_clear};
 pub use zone::{
     PlacedZone, conflict, covers, is_apart, is_covered, is_empty, mode_covers, modes_agree,

@@ -38,7 +38,7 @@ fn between(
 }
 
 /// What the moves put in for a register; a register that they do not name stays.
-fn operand_for(moves: &[Move], register: RegisterId) -> Operand
+pub fn operand_for(moves: &[Move], register: RegisterId) -> Operand
     ensures { result ≡ operand_for moves.now register }
 {
     for item in moves {
@@ -60,7 +60,7 @@ fn number_for(moves: &[Move], register: RegisterId) -> Option<i64>
 }
 
 /// A number times a coefficient.
-fn product(factor: i64, other: i64) -> i128
+pub fn product(factor: i64, other: i64) -> i128
     requires { unsigned_abs factor < 2 ^ 24 }
     ensures value { result ≡ factor *ℤ other }
     ensures small { unsigned_abs result < 2 ^ 125 }

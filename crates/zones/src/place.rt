@@ -45,7 +45,7 @@ pub fn as_written(zone: &Zone) -> PlacedZone<'_>
 }
 
 /// An alloca of the function in one of its own blocks.
-fn is_own(own: bool, object: ObjectName) -> bool
+pub fn is_own(own: bool, object: ObjectName) -> bool
     ensures { result ≡ is_own own object }
 {
     match object {
