@@ -1,3 +1,4 @@
 mod Clears
 mod Levels
 mod Orders
+pub mod Numbers

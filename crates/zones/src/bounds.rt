@@ -1,6 +1,6 @@
 //! What facts about one register alone say of it.
 
-ghost use Rattle.std.specs.Prelude.{◌≡◌, ◌<◌, ◌^◌, ◌⊎◌, ◌∷◌, [], pos, negsuc, List, All, IfOk, IfSome, OnOk, length, slice_index_or, unsigned_abs};
+ghost use Rattle.std.specs.Prelude.{◌≡◌, ◌<◌, ◌^◌, ◌⊎◌, ◌∷◌, [], pos, negsuc, List, All, Contains, IfOk, IfSome, OnOk, length, slice_index_or, unsigned_abs};
 ghost use Rattle.linear.specs.declared.form.Fact.{Fact as FactKind};
 ghost use Rattle.zones.specs.declared.bounds.RegisterBounds.{RegisterBounds as BoundsKind};
 ghost use Rattle.zones.specs.Ends.{Says, AreBounds};
@@ -139,15 +139,23 @@ fn note(bounds: &mut Vec<RegisterBounds>, said: Saying) -> Result<(), OutOfMemor
     Ok(())
 }
 
+/// Adds what a fact says, where it is about one register alone.
+fn note_fact(bounds: &mut Vec<RegisterBounds>, fact: &Fact) -> Result<(), OutOfMemory>
+    ensures { (facts : List FactKind) → Contains facts fact.now → All (AreBounds facts) bounds.old.items → OnOk result (All (AreBounds facts) bounds.new.items) }
+{
+    match said_by(fact) {
+        Some(said) => note(bounds, said),
+        None => Ok(()),
+    }
+}
+
 /// Bounds of registers by the first facts.
 pub fn register_bounds(alloc: Global, facts: &[Fact]) -> Result<Vec<RegisterBounds>, OutOfMemory>
     ensures { IfOk result (λ bounds. All (AreBounds facts.now) bounds.items) }
 {
     let mut bounds = Vec::new(alloc);
     for index in 0..facts.len().min(FIRST) {
-        if let Some(said) = said_by(&facts[index]) {
-            note(&mut bounds, said)?;
-        }
+        note_fact(&mut bounds, &facts[index])?;
     }
     Ok(bounds)
 }

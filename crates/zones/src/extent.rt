@@ -1,9 +1,11 @@
 //! Where zones lie, by numbers.
 
-ghost use Rattle.std.specs.Prelude.{◌≡◌, ◌||◌, true, List, All, IsTrue};
+ghost use Rattle.std.specs.Prelude.{◌≡◌, ◌||◌, true, List, All, IsTrue, IfSome};
 ghost use Rattle.linear.specs.declared.form.Fact.{Fact};
+ghost use Rattle.linear.specs.Forms.{Combination};
+ghost use Rattle.ranges.specs.cfg.declared.structure.Move.{Move as MoveKind};
 ghost use Rattle.zones.specs.Zones.{Span, span, shows_order};
-ghost use Rattle.zones.specs.Ends.{AreBounds, IsExtent};
+ghost use Rattle.zones.specs.Ends.{AreBounds, IsEnd, IsExtent};
 
 use crate::bounds::RegisterBounds;
 use crate::ends::{End, end_of, is_at_least};
@@ -26,14 +28,15 @@ pub fn extent_of(bounds: &[RegisterBounds], zone: &PlacedZone<'_>) -> Extent
     }
 }
 
-/// Whether numbers say that one zone starts at or after the end of another.
+/// Whether numbers say that one end lies at or after another, where both are known.
 #[inline(always)]
-fn is_after(later: &Extent, earlier: &Extent) -> bool
-    ensures { (facts : List Fact) (z y : Span) → IsExtent facts z later.now → IsExtent facts y earlier.now
-        → IsTrue result → shows_order facts z.moves z.zone.low y.moves y.zone.high ≡ true }
+fn are_in_order(high: &Option<End>, low: &Option<End>) -> bool
+    ensures { (facts : List Fact) (for_high : List MoveKind) (high_form : Combination) (for_low : List MoveKind) (low_form : Combination)
+        → IfSome high.now (IsEnd facts for_high high_form) → IfSome low.now (IsEnd facts for_low low_form)
+        → IsTrue result → shows_order facts for_high high_form for_low low_form ≡ true }
 {
-    match (&later.low, &earlier.high) {
-        (Some(low), Some(high)) => is_at_least(low, high),
+    match (high, low) {
+        (Some(high), Some(low)) => is_at_least(high, low),
         (Some(_), None) | (None, Some(_) | None) => false,
     }
 }
@@ -44,38 +47,16 @@ pub fn lie_apart(z: &Extent, y: &Extent) -> bool
     ensures { (facts : List Fact) (a b : Span) → IsExtent facts a z.now → IsExtent facts b y.now
         → IsTrue result → (shows_order facts a.moves a.zone.low b.moves b.zone.high || shows_order facts b.moves b.zone.low a.moves a.zone.high) ≡ true }
 {
-    is_after(y, z) || is_after(z, y)
-}
-
-/// Whether numbers say that one zone starts no later than another.
-#[inline(always)]
-fn starts_before(z: &Extent, y: &Extent) -> bool
-    ensures { (facts : List Fact) (a b : Span) → IsExtent facts a z.now → IsExtent facts b y.now
-        → IsTrue result → shows_order facts b.moves b.zone.low a.moves a.zone.low ≡ true }
-{
-    match (&y.low, &z.low) {
-        (Some(high), Some(low)) => is_at_least(high, low),
-        (Some(_), None) | (None, Some(_) | None) => false,
-    }
-}
-
-/// Whether numbers say that one zone ends no earlier than another.
-#[inline(always)]
-fn ends_after(z: &Extent, y: &Extent) -> bool
-    ensures { (facts : List Fact) (a b : Span) → IsExtent facts a z.now → IsExtent facts b y.now
-        → IsTrue result → shows_order facts a.moves a.zone.high b.moves b.zone.high ≡ true }
-{
-    match (&z.high, &y.high) {
-        (Some(high), Some(low)) => is_at_least(high, low),
-        (Some(_), None) | (None, Some(_) | None) => false,
-    }
+    are_in_order(&y.low, &z.high) || are_in_order(&z.low, &y.high)
 }
 
 /// Whether numbers say that one zone of an object has each cell of another one of it.
 #[inline(always)]
 pub fn lies_around(z: &Extent, y: &Extent) -> bool
-    ensures { (facts : List Fact) (a b : Span) → IsExtent facts a z.now → IsExtent facts b y.now
-        → IsTrue result → (shows_order facts b.moves b.zone.low a.moves a.zone.low ≡ true) × (shows_order facts a.moves a.zone.high b.moves b.zone.high ≡ true) }
+    ensures low { (facts : List Fact) (a b : Span) → IsExtent facts a z.now → IsExtent facts b y.now
+        → IsTrue result → shows_order facts b.moves b.zone.low a.moves a.zone.low ≡ true }
+    ensures high { (facts : List Fact) (a b : Span) → IsExtent facts a z.now → IsExtent facts b y.now
+        → IsTrue result → shows_order facts a.moves a.zone.high b.moves b.zone.high ≡ true }
 {
-    starts_before(z, y) && ends_after(z, y)
+    are_in_order(&y.low, &z.low) && are_in_order(&z.high, &y.high)
 }

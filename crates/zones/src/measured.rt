@@ -4,7 +4,6 @@ ghost use Rattle.std.specs.Prelude.{◌≡◌, true, List, map, All, IsTrue, IfO
 ghost use Rattle.linear.specs.declared.form.Fact.{Fact};
 ghost use Rattle.std.specs.List.{list_any};
 ghost use Rattle.program.specs.declared.annotation.Pending.{Pending as PendingKind};
-ghost use Rattle.program.specs.declared.annotation.Zone.{Zone as ZoneKind};
 ghost use Rattle.zones.specs.declared.measured.MeasuredZone.{MeasuredZone as MeasuredKind};
 ghost use Rattle.zones.specs.Zones.{span, as_written, covers, meets};
 ghost use Rattle.zones.specs.Places.{place_of, is_own, is_allowed, is_clear};
@@ -76,7 +75,8 @@ fn measured_zones<'a>(
 {
     let mut all = Vec::new(alloc);
     for zone in zones {
-        all.push(measured(bounds, zone))?;
+        let measured = measured(bounds, zone);
+        all.push(measured)?;
     }
     Ok(all)
 }
@@ -97,23 +97,55 @@ fn measured_pending<'a>(
     Ok(all)
 }
 
-/// Whether one of the zones covers `y` by numbers alone.
-fn one_lies_around(zones: &[MeasuredZone<'_>], y: &PlacedZone<'_>, extent: &Extent) -> bool
-    ensures { (facts : List Fact) → All (IsMeasured facts) zones.now → IsExtent facts (span y.now.object y.now.moves.now y.now.zone.now) extent.now
-        → IsTrue result → list_any (λ (z : ZoneKind). covers facts (as_written z) (span y.now.object y.now.moves.now y.now.zone.now)) (zones_of zones.now) ≡ true }
+/// Whether a zone covers `y` by numbers alone.
+#[inline(always)]
+fn covers_by_numbers(measured: &MeasuredZone<'_>, y: &PlacedZone<'_>, extent: &Extent) -> bool
+    ensures { (facts : List Fact) → IsMeasured facts measured.now → IsExtent facts (span y.now.object y.now.moves.now y.now.zone.now) extent.now
+        → IsTrue result → covers facts (as_written measured.now.zone.now) (span y.now.object y.now.moves.now y.now.zone.now) ≡ true }
 {
-    for measured in zones {
-        if same_object(measured.zone.object, y.object)
-            && mode_covers(measured.zone.mode, y.zone.mode)
-            && lies_around(&measured.extent, extent)
-        {
+    if !same_object(measured.zone.object, y.object) {
+        return false;
+    }
+    if !mode_covers(measured.zone.mode, y.zone.mode) {
+        return false;
+    }
+    lies_around(&measured.extent, extent)
+}
+
+/// Whether one of the zones covers `y` by numbers alone.
+#[tactic(auto, using(crate::proofs::Numbers::one_covers))]
+fn one_covers(zones: &[MeasuredZone<'_>], y: &PlacedZone<'_>, extent: &Extent) -> bool
+    ensures { (facts : List Fact) → All (IsMeasured facts) zones.now → IsExtent facts (span y.now.object y.now.moves.now y.now.zone.now) extent.now
+        → IsTrue result → list_any (λ (m : MeasuredKind). covers facts (as_written m.zone.now) (span y.now.object y.now.moves.now y.now.zone.now)) zones.now ≡ true }
+{
+    for zone in zones {
+        if covers_by_numbers(zone, y, extent) {
             return true;
         }
     }
     false
 }
 
-/// Whether one of the zones conflicts with `y`, if `y` has any cell. It is asked only of those that numbers alone do not keep apart.
+/// Whether a zone conflicts with `y`, if `y` has any cell. Where numbers alone keep them apart no more is asked.
+#[inline(always)]
+fn meets_measured(
+    alloc: Global,
+    facts: &Known<'_>,
+    measured: &MeasuredZone<'_>,
+    y: &PlacedZone<'_>,
+    extent: &Extent,
+) -> Result<bool, OutOfMemory>
+    requires zone { IsMeasured facts.now measured.now }
+    requires extent { IsExtent facts.now (span y.now.object y.now.moves.now y.now.zone.now) extent.now }
+    ensures { IfOk result (λ b. b ≡ meets facts.now (as_written measured.now.zone.now) (span y.now.object y.now.moves.now y.now.zone.now)) }
+{
+    if lie_apart(&measured.extent, extent) {
+        return Ok(false);
+    }
+    meets(alloc, facts, &as_written(measured.zone), y)
+}
+
+/// Whether one of the zones conflicts with `y`, if `y` has any cell.
 fn one_meets(
     alloc: Global,
     facts: &Known<'_>,
@@ -123,12 +155,10 @@ fn one_meets(
 ) -> Result<bool, OutOfMemory>
     requires zones { All (IsMeasured facts.now) zones.now }
     requires extent { IsExtent facts.now (span y.now.object y.now.moves.now y.now.zone.now) extent.now }
-    ensures { IfOk result (λ b. b ≡ list_any (λ (z : ZoneKind). meets facts.now (as_written z) (span y.now.object y.now.moves.now y.now.zone.now)) (zones_of zones.now)) }
+    ensures { IfOk result (λ b. b ≡ list_any (λ (m : MeasuredKind). meets facts.now (as_written m.zone.now) (span y.now.object y.now.moves.now y.now.zone.now)) zones.now) }
 {
-    for measured in zones {
-        if !lie_apart(&measured.extent, extent)
-            && meets(alloc, facts, &as_written(measured.zone), y)?
-        {
+    for zone in zones {
+        if meets_measured(alloc, facts, zone, y, extent)? {
             return Ok(true);
         }
     }
@@ -137,14 +167,14 @@ fn one_meets(
 
 impl<'a> MeasuredPlace<'a> {
     /// Looks at the ends of all zones at a place.
-    pub fn new(alloc: Global, place: Place<'a>) -> Result<MeasuredPlace<'a>, OutOfMemory>
-        ensures { IfOk result (λ m. m ≡ place_of place.facts.now place.covering.now place.own place.pending.now) }
+    pub fn new(alloc: Global, place: &Place<'a>) -> Result<MeasuredPlace<'a>, OutOfMemory>
+        ensures { IfOk result (λ m. m ≡ place_of place.now.facts.now place.now.covering.now place.now.own place.now.pending.now) }
     {
         let bounds = register_bounds(alloc, place.facts.facts())?;
         let covering = measured_zones(alloc, bounds.as_slice(), place.covering)?;
         let pending = measured_pending(alloc, bounds.as_slice(), place.pending)?;
         Ok(MeasuredPlace {
-            place,
+            place: *place,
             bounds,
             covering,
             pending,
@@ -160,14 +190,13 @@ impl<'a> MeasuredPlace<'a> {
             return Ok(true);
         }
         let extent = extent_of(self.bounds.as_slice(), y);
-        if one_lies_around(self.covering.as_slice(), y, &extent) {
+        if one_covers(self.covering.as_slice(), y, &extent) {
             return Ok(true);
         }
         is_covered(alloc, self.place.facts, self.place.covering, y)
     }
 
     /// Whether nothing that is pending conflicts with it.
-    #[tactic(auto, using(crate::proofs::Clears::clear_unless_met))]
     pub fn is_clear(&self, alloc: Global, y: &PlacedZone<'_>) -> Result<bool, OutOfMemory>
         ensures { IfOk result (λ b. b ≡ is_clear self.now (span y.now.object y.now.moves.now y.now.zone.now)) }
     {
