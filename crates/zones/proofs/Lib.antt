@@ -1,3 +1,5 @@
 mod Clears
 mod Levels
 mod Orders
+pub mod EndBounds
+pub mod EndSums
