@@ -1,10 +1,12 @@
 -- What facts about one register alone say of ends, and what they show of two ends' order.
-use Rattle.std.proofs.Common.{◌≡◌, ◌∙◌, ◌⊎◌, ℕ, zero, suc, ◌<◌, ◌≤◌, ◌^◌, ℤ, pos, negsuc, ◌+ℤ◌, ◌-ℤ◌, ◌*ℤ◌, ◌≤ℤ◌, ◌<ℤ◌, Bool, true, false, cond, eqb, List, [], ◌∷◌, Option, Some, None, inl, inr, refl, sym, ap, subst, arith, unsigned_abs}
+use Rattle.std.proofs.Common.{◌≡◌, ◌∙◌, ◌⊎◌, ℕ, zero, suc, ◌<◌, ◌≤◌, ◌^◌, ℤ, pos, negsuc, ◌+ℤ◌, ◌-ℤ◌, ◌*ℤ◌, ◌≤ℤ◌, ◌<ℤ◌, Bool, true, false, cond, eqb, List, [], ◌∷◌, Option, Some, None, inl, inr, refl, sym, ap, subst, arith, ◌*◌, to_z, of_z, FitsSigned, unsigned_abs}
 use Rattle.std.specs.Prelude.{IfSome}
 use Rattle.std.specs.List.{Contains}
+use Rattle.std.specs.Int.{w64, w128}
+use Rattle.std.proofs.Math.Nat.{mul-le-mul}
 use Rattle.std.proofs.Math.IntN.{zero-*ℤ, *ℤ-zero}
 use Rattle.std.proofs.lemmas.Bool.{cases_eq}
-use Rattle.std.proofs.lemmas.Int.{ints}
+use Rattle.std.proofs.lemmas.Int.{ints, unsigned_abs-mul, to_z-of_z}
 use Rattle.std.proofs.lemmas.List.{length-map, get_or-map}
 use Rattle.linear.specs.declared.form.Fact.{Fact}
 use Rattle.linear.specs.declared.form.RegisterId.{RegisterId}
@@ -81,6 +83,28 @@ least_down facts register most (negsuc n) says down =
     let level : pos (suc n) +ℤ negsuc n ≡ pos 0 = omega (arith, ints) in
     let is_least : (pos (suc n) *ℤ most) +ℤ (negsuc n *ℤ most) ≡ pos 0 = sym (distributes_right (pos (suc n)) (negsuc n) most) ∙ ap (λ (z : ℤ). z *ℤ most) level ∙ zero-*ℤ most in
     least_said facts register (negsuc 0) most (negsuc n) (negsuc n *ℤ most) (suc n) says is_times refl (λ (e : negsuc n ≡ pos 0). omega (arith, ints, e)) is_least
+
+-- ---- products of words
+
+-- the product of two words fits twice the width
+pub product_small : (x y : ℤ) → FitsSigned w64 x → FitsSigned w64 y → unsigned_abs (x *ℤ y) ≤ 2 ^ 126
+product_small x y fits_x fits_y =
+    let small_x : unsigned_abs x ≤ 2 ^ 63 = omega (arith, ints, fits_x) in
+    let small_y : unsigned_abs y ≤ 2 ^ 63 = omega (arith, ints, fits_y) in
+    let most : unsigned_abs x * unsigned_abs y ≤ 2 ^ 63 * 2 ^ 63 = mul-le-mul small_x small_y in
+    omega (arith, unsigned_abs-mul x y, most)
+
+-- and is read back as it is
+pub product_read : (a b x y : ℤ) → FitsSigned w64 x → FitsSigned w64 y → a ≡ to_z w64 (of_z w64 x) → b ≡ to_z w64 (of_z w64 y) → to_z w128 (of_z w128 (to_z w128 (of_z w128 a) *ℤ to_z w128 (of_z w128 b))) ≡ x *ℤ y
+product_read a b x y fits_x fits_y is_a is_b =
+    let wide_x : FitsSigned w128 x = omega (arith, ints, fits_x) in
+    let wide_y : FitsSigned w128 y = omega (arith, ints, fits_y) in
+    let small = product_small x y fits_x fits_y in
+    let wide : FitsSigned w128 (x *ℤ y) = fits_small (x *ℤ y) small in
+    rw (is_a, is_b, to_z-of_z w64 x fits_x, to_z-of_z w64 y fits_y, to_z-of_z w128 x wide_x, to_z-of_z w128 y wide_y) (to_z-of_z w128 (x *ℤ y) wide)
+  where
+    fits_small : (z : ℤ) → unsigned_abs z ≤ 2 ^ 126 → FitsSigned w128 z
+    fits_small z small = omega (arith, ints, small)
 
 -- ---- what is shown
 
