@@ -1,6 +1,7 @@
 -- What facts about one register alone say of ends, and what they show of two ends' order.
-use Rattle.std.proofs.Common.{◌≡◌, ◌∙◌, ◌⊎◌, ℕ, zero, suc, ◌<◌, ◌≤◌, ◌^◌, ℤ, pos, negsuc, ◌+ℤ◌, ◌-ℤ◌, ◌*ℤ◌, ◌≤ℤ◌, ◌<ℤ◌, Bool, true, false, cond, eqb, List, [], ◌∷◌, Option, Some, None, inl, inr, refl, sym, ap, subst, arith, ◌*◌, to_z, of_z, FitsSigned, unsigned_abs}
-use Rattle.std.specs.Prelude.{IfSome}
+use Rattle.std.proofs.Common.{◌≡◌, ◌∙◌, ◌⊎◌, ℕ, zero, suc, ◌<◌, ◌≤◌, ◌^◌, ℤ, pos, negsuc, ◌+ℤ◌, ◌-ℤ◌, ◌*ℤ◌, ◌≤ℤ◌, ◌<ℤ◌, Bool, true, false, cond, eqb, List, [], ◌∷◌, Option, Some, None, inl, inr, refl, sym, ap, subst, arith, ◌*◌, length, get_or, to_z, of_z, FitsSigned, unsigned_abs}
+use Rattle.std.specs.Prelude.{IfSome, IsTrue}
+use lib.Signed.{le_z, le_z_yes}
 use Rattle.std.specs.List.{Contains}
 use Rattle.std.specs.Int.{w64, w128}
 use Rattle.std.proofs.Math.Nat.{mul-le-mul}
@@ -10,15 +11,16 @@ use Rattle.std.proofs.lemmas.Int.{ints, unsigned_abs-mul, to_z-of_z}
 use Rattle.std.proofs.lemmas.List.{length-map, get_or-map}
 use Rattle.linear.specs.declared.form.Fact.{Fact}
 use Rattle.linear.specs.declared.form.RegisterId.{RegisterId}
+use Rattle.linear.specs.declared.form.Term.{Term}
 use Rattle.linear.specs.Forms.{Combination, coefficient_of, constant_form}
 use Rattle.linear.proofs.Values.{distributes, distributes_right}
 use Rattle.entailment.specs.Shown.{IsFactor, IsShown, sides}
 use Rattle.entailment.specs.Tested.{is_shown}
-use Rattle.entailment.proofs.Tested.{shown_passes}
+use Rattle.entailment.proofs.Tested.{shown_passes, T_from_true}
 use Rattle.ranges.specs.cfg.declared.structure.Move.{Move}
 use Rattle.ranges.specs.Sums.{shows_form, sum_form}
 use Rattle.zones.specs.declared.ends.End.{End}
-use Rattle.zones.specs.Ends.{Says, IsLeast, IsEnd, AreOther}
+use Rattle.zones.specs.Ends.{Says, IsLeast, ComesTo, IsBetween, IsEnd, AreOther}
 use Rattle.zones.specs.Zones.{between, shows_order}
 use Rattle.zones.proofs.EndSums.{share, share_none, share_own, share_other, Comes, sum_of_ends}
 
@@ -105,6 +107,77 @@ product_read a b x y fits_x fits_y is_a is_b =
   where
     fits_small : (z : ℤ) → unsigned_abs z ≤ 2 ^ 126 → FitsSigned w128 z
     fits_small z small = omega (arith, ints, small)
+
+-- ---- ends
+
+abbrev pub read : ℤ → ℤ
+read z = to_z w128 (of_z w128 z)
+
+sum_read : (m constant offset : ℤ) → unsigned_abs m ≤ 2 ^ 126 → FitsSigned w64 constant → offset ≡ to_z w64 (of_z w64 constant) → read (read m +ℤ read offset) ≡ m +ℤ constant
+sum_read m constant offset small fits is =
+    let wide : FitsSigned w128 constant = omega (arith, ints, fits) in
+    let wide_m : FitsSigned w128 m = omega (arith, ints, small) in
+    let wide_sum : FitsSigned w128 (m +ℤ constant) = omega (arith, ints, small, fits) in
+    rw (is, to_z-of_z w64 constant fits, to_z-of_z w128 m wide_m, to_z-of_z w128 constant wide) (to_z-of_z w128 (m +ℤ constant) wide_sum)
+
+less_read : (m constant offset : ℤ) → unsigned_abs m ≤ 2 ^ 126 → FitsSigned w64 constant → offset ≡ to_z w64 (of_z w64 constant) → read (read offset -ℤ read m) ≡ constant -ℤ m
+less_read m constant offset small fits is =
+    let wide : FitsSigned w128 constant = omega (arith, ints, fits) in
+    let wide_m : FitsSigned w128 m = omega (arith, ints, small) in
+    let wide_less : FitsSigned w128 (constant -ℤ m) = omega (arith, ints, small, fits) in
+    rw (is, to_z-of_z w64 constant fits, to_z-of_z w128 m wide_m, to_z-of_z w128 constant wide) (to_z-of_z w128 (constant -ℤ m) wide_less)
+
+-- an order that is read
+pub order_read : (a b low high least : ℤ) → FitsSigned w64 low → FitsSigned w64 high → unsigned_abs least ≤ 2 ^ 126 → a ≡ to_z w64 (of_z w64 low) → b ≡ to_z w64 (of_z w64 high) →
+    IsTrue (le_z (read a) (read (read least +ℤ read b))) → low ≤ℤ (least +ℤ high)
+order_read a b low high least fits_low fits_high small is_a is_b more =
+    let wide : FitsSigned w128 low = omega (arith, ints, fits_low) in
+    let plain : IsTrue (le_z low (least +ℤ high)) = rw (sum_read least high b small fits_high is_b, is_a, to_z-of_z w64 low fits_low, to_z-of_z w128 low wide) at more in
+    le_z_yes (T_from_true (le_z low (least +ℤ high)) plain)
+
+back : (m constant : ℤ) → m ≡ (m +ℤ constant) -ℤ constant
+back m constant = omega (arith, ints)
+
+forth : (m constant : ℤ) → m ≡ constant -ℤ (constant -ℤ m)
+forth m constant = omega (arith, ints)
+
+-- what an end is at least, read from what its multiple is
+pub end_least : (facts : List Fact) (register : RegisterId) (times m constant offset : ℤ) (least : Option ℤ) → least ≡ Some (read (read m +ℤ read offset)) → unsigned_abs m ≤ 2 ^ 126 → FitsSigned w64 constant → offset ≡ to_z w64 (of_z w64 constant) →
+    IsLeast facts register times m → IfSome least (λ z. IsLeast facts register times (z -ℤ constant))
+end_least facts register times m constant offset least is_least small fits is known =
+    subst (λ (o : Option ℤ). IfSome o (λ z. IsLeast facts register times (z -ℤ constant))) (sym is_least)
+    (subst (λ (z : ℤ). IsLeast facts register times (z -ℤ constant)) (sym (sum_read m constant offset small fits is)) (subst (λ (z : ℤ). IsLeast facts register times z) (back m constant) known))
+
+-- what it is at most, from what the opposite of its multiple is at least
+pub end_most : (facts : List Fact) (register : RegisterId) (times m constant offset : ℤ) → unsigned_abs m ≤ 2 ^ 126 → FitsSigned w64 constant → offset ≡ to_z w64 (of_z w64 constant) →
+    IsLeast facts register times m → IsLeast facts register times (constant -ℤ read (read offset -ℤ read m))
+end_most facts register times m constant offset small fits is known =
+    subst (λ (z : ℤ). IsLeast facts register times (constant -ℤ z)) (sym (less_read m constant offset small fits is)) (subst (λ (z : ℤ). IsLeast facts register times z) (forth m constant) known)
+
+-- the opposite of a coefficient, read
+pub opposite_read : (k : ℤ) → FitsSigned w64 k → unsigned_abs k < 2 ^ 24 → to_z w64 (of_z w64 (pos 0 -ℤ to_z w64 (of_z w64 k))) ≡ pos 0 -ℤ k
+opposite_read k fits small =
+    let fits_opposite : FitsSigned w64 (pos 0 -ℤ k) = omega (arith, ints, small) in
+    rw (to_z-of_z w64 k fits) (to_z-of_z w64 (pos 0 -ℤ k) fits_opposite)
+
+-- a number is an end where the form comes to it
+pub number_is_end : (facts : List Fact) (moves : List Move) (form : Combination) (number : ℤ) (end : Option End) →
+    IfSome end (λ e. e.constant ≡ number) → IfSome end (λ e. e.coefficient ≡ pos 0) → IfSome end (λ e. unsigned_abs e.constant < 2 ^ 64) → IfSome end (IsBetween facts) →
+    ((r : RegisterId) (k c : ℤ) → k ≡ pos 0 → c ≡ number → ComesTo moves form r k c) → unsigned_abs form.constant < 2 ^ 64 → IfSome end (IsEnd facts moves form)
+number_is_end facts moves form number None is_number is_none small between comes small_form = tt
+number_is_end facts moves form number (Some e) is_number is_none small between comes small_form = record {
+  value = comes e.bounds.register e.coefficient e.constant is_none is_number;
+  between = between;
+  small = rw is_none (omega arith);
+  small_form = small_form;
+  small_constant = small;
+}
+
+-- the one term of a list
+pub only_term : (ts : List Term) (d : Term) → 1 ≤ length ts → length ts < 2 → ts ≡ get_or ts 0 d ∷ []
+only_term [] d least most = absurd (omega arith)
+only_term (t ∷ []) d least most = refl
+only_term (t ∷ u ∷ ts) d least most = absurd (omega arith)
 
 -- ---- what is shown
 
