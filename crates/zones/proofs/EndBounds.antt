@@ -17,8 +17,11 @@ use Rattle.linear.proofs.Values.{distributes, distributes_right}
 use Rattle.entailment.specs.Shown.{IsFactor, IsShown, sides}
 use Rattle.entailment.specs.Tested.{is_shown}
 use Rattle.entailment.proofs.Tested.{shown_passes, T_from_true}
+use Rattle.program.specs.declared.instruction.Operand.TheVariants.{Register}
 use Rattle.ranges.specs.cfg.declared.structure.Move.{Move}
+use Rattle.ranges.specs.obligations.Inequalities.{operand_for}
 use Rattle.ranges.specs.Sums.{shows_form, sum_form}
+use Rattle.zones.specs.declared.bounds.RegisterBounds.{RegisterBounds}
 use Rattle.zones.specs.declared.ends.End.{End}
 use Rattle.zones.specs.Ends.{Says, IsLeast, ComesTo, IsBetween, IsEnd, AreOther}
 use Rattle.zones.specs.Zones.{between, shows_order}
@@ -178,6 +181,38 @@ pub only_term : (ts : List Term) (d : Term) → 1 ≤ length ts → length ts < 
 only_term [] d least most = absurd (omega arith)
 only_term (t ∷ []) d least most = refl
 only_term (t ∷ u ∷ ts) d least most = absurd (omega arith)
+
+-- a number put in for the register of the one term, read
+pub number_read : (product coefficient number constant form_constant sum : ℤ) → product ≡ to_z w64 (of_z w64 coefficient) *ℤ to_z w64 (of_z w64 number) → FitsSigned w64 coefficient → FitsSigned w64 number →
+    constant ≡ form_constant → unsigned_abs form_constant < 2 ^ 64 → sum ≡ read (read product +ℤ read constant) → sum ≡ form_constant +ℤ (coefficient *ℤ number)
+number_read product coefficient number constant form_constant sum is_product fits_coefficient fits_number is_constant small is =
+    let is_plain : product ≡ coefficient *ℤ number = rw (to_z-of_z w64 coefficient fits_coefficient, to_z-of_z w64 number fits_number) at is_product in
+    let small_product : unsigned_abs product ≤ 2 ^ 126 = rw is_plain (product_small coefficient number fits_coefficient fits_number) in
+    let wide : FitsSigned w128 constant = narrow constant form_constant is_constant small in
+    let wide_product : FitsSigned w128 product = omega (arith, ints, small_product) in
+    let wide_sum : FitsSigned w128 (product +ℤ constant) = narrow_sum product constant form_constant is_constant small small_product in
+    is ∙ rw (to_z-of_z w128 product wide_product, to_z-of_z w128 constant wide, to_z-of_z w128 (product +ℤ constant) wide_sum, is_plain, is_constant) (turned form_constant (coefficient *ℤ number))
+  where
+    narrow : (x y : ℤ) → x ≡ y → unsigned_abs y < 2 ^ 64 → FitsSigned w128 x
+    narrow x y e small = omega (arith, ints, e, small)
+    narrow_sum : (p x y : ℤ) → x ≡ y → unsigned_abs y < 2 ^ 64 → unsigned_abs p ≤ 2 ^ 126 → FitsSigned w128 (p +ℤ x)
+    narrow_sum p x y e small small_p = omega (arith, ints, e, small, small_p)
+    turned : (x p : ℤ) → p +ℤ x ≡ x +ℤ p
+    turned x p = omega (arith, ints)
+
+-- so many times a register is an end where the form comes to it
+pub register_is_end : (facts : List Fact) (moves : List Move) (form : Combination) (bounds : RegisterBounds) (register : RegisterId) (term : Term) (e : End) →
+    e.bounds ≡ bounds → bounds.register ≡ register → e.coefficient ≡ term.coefficient → e.constant ≡ form.constant → IsBetween facts e →
+    form.terms ≡ term ∷ [] → operand_for moves term.register ≡ Register register → unsigned_abs term.coefficient < 2 ^ 24 → unsigned_abs form.constant < 2 ^ 64 → IsEnd facts moves form e
+register_is_end facts moves form bounds register term e is_bounds is_register is_coefficient is_constant between terms put small small_form =
+    let own : e.bounds.register ≡ register = ap (λ (b : RegisterBounds). b.register) is_bounds ∙ is_register in
+    record {
+      value = inr (inr (record { term = term; terms = terms; put = put ∙ ap (λ (r : RegisterId). Register r) (sym own); times = is_coefficient; constant = is_constant }));
+      between = between;
+      small = rw is_coefficient small;
+      small_form = small_form;
+      small_constant = rw is_constant small_form;
+    }
 
 -- ---- what is shown
 
