@@ -1,5 +1,5 @@
 -- What facts about one register alone say of ends, and what they show of two ends' order.
-use Rattle.std.proofs.Common.{◌≡◌, ◌∙◌, ◌⊎◌, ℕ, zero, suc, ◌<◌, ◌≤◌, ◌^◌, ℤ, pos, negsuc, ◌+ℤ◌, ◌-ℤ◌, ◌*ℤ◌, ◌≤ℤ◌, ◌<ℤ◌, Bool, true, false, cond, eqb, List, [], ◌∷◌, Option, Some, None, inl, inr, refl, sym, ap, subst, arith, ◌*◌, length, get_or, to_z, of_z, FitsSigned, unsigned_abs}
+use Rattle.std.proofs.Common.{◌≡◌, ◌∙◌, ◌⊎◌, ℕ, suc, ◌<◌, ◌≤◌, ◌^◌, ℤ, pos, negsuc, ◌+ℤ◌, ◌-ℤ◌, ◌*ℤ◌, ◌≤ℤ◌, ◌<ℤ◌, Bool, true, false, cond, eqb, List, [], ◌∷◌, Option, Some, None, inl, inr, refl, sym, ap, subst, arith, ◌*◌, length, get_or, to_z, of_z, FitsSigned, unsigned_abs}
 use Rattle.std.specs.Prelude.{IfSome, IsTrue}
 use lib.Signed.{le_z, le_z_yes}
 use Rattle.std.specs.List.{Contains}
@@ -14,7 +14,7 @@ use Rattle.linear.specs.declared.form.RegisterId.{RegisterId}
 use Rattle.linear.specs.declared.form.Term.{Term}
 use Rattle.linear.specs.Forms.{Combination, coefficient_of, constant_form}
 use Rattle.linear.proofs.Values.{distributes, distributes_right}
-use Rattle.entailment.specs.Shown.{IsFactor, IsShown, sides}
+use Rattle.entailment.specs.Shown.{IsFactor, sides}
 use Rattle.entailment.specs.Tested.{is_shown}
 use Rattle.entailment.proofs.Tested.{shown_passes, T_from_true}
 use Rattle.program.specs.declared.instruction.Operand.TheVariants.{Register}
@@ -25,7 +25,7 @@ use Rattle.zones.specs.declared.bounds.RegisterBounds.{RegisterBounds}
 use Rattle.zones.specs.declared.ends.End.{End}
 use Rattle.zones.specs.Ends.{Says, IsLeast, ComesTo, IsBetween, IsEnd, AreOther}
 use Rattle.zones.specs.Zones.{between, shows_order}
-use Rattle.zones.proofs.EndSums.{share, share_none, share_own, share_other, Comes, sum_of_ends}
+use Rattle.zones.proofs.EndSums.{share, share_none, share_own, share_other, sum_of_ends}
 
 -- ---- so many times a register is at least a number
 

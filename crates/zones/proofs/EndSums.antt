@@ -1,6 +1,6 @@
 -- The form of a difference of two ends, each of which comes to a number of times a register, and a constant.
-use Rattle.std.proofs.Common.{◌≡◌, ◌∙◌, ◌⊎◌, ℕ, ◌<◌, ◌≤◌, ◌^◌, ℤ, pos, negsuc, ◌+ℤ◌, ◌-ℤ◌, ◌*ℤ◌, Bool, true, false, cond, eqb, eq-eqb, List, [], ◌∷◌, ◌++◌, Option, Some, None, inl, inr, refl, sym, ap, subst, arith, unsigned_abs}
-use Rattle.std.proofs.lemmas.Bool.{cases_lt, cases_eq, lt-ltb, ne_eqb}
+use Rattle.std.proofs.Common.{◌≡◌, ◌∙◌, ◌⊎◌, ℕ, ◌<◌, ◌≤◌, ◌^◌, ℤ, pos, negsuc, ◌+ℤ◌, ◌-ℤ◌, ◌*ℤ◌, Bool, true, false, cond, eqb, eq-eqb, List, [], ◌∷◌, Option, Some, None, inl, inr, refl, sym, ap, subst, arith, unsigned_abs}
+use Rattle.std.proofs.lemmas.Bool.{cases_lt, lt-ltb, ne_eqb}
 use Rattle.std.proofs.lemmas.Int.{ints}
 use Rattle.std.specs.List.{prefix_len}
 use Rattle.linear.specs.declared.form.RegisterId.{RegisterId}
@@ -14,9 +14,9 @@ use Rattle.program.specs.declared.instruction.Operand.{Operand}
 use Rattle.program.specs.declared.instruction.Operand.TheVariants.{Number, Register}
 use Rattle.ranges.specs.cfg.declared.structure.Move.{Move}
 use Rattle.ranges.specs.obligations.declared.sum.Part.{Part}
-use Rattle.ranges.specs.obligations.Inequalities.{operand_for, parts_of}
+use Rattle.ranges.specs.obligations.Inequalities.{parts_of}
 use Rattle.ranges.specs.Sums.{with_operand, with_parts, start_of, sum_form}
-use Rattle.zones.specs.Ends.{HasNoTerm, HasNumber, HasRegister, ComesTo}
+use Rattle.zones.specs.Ends.{ComesTo}
 use Rattle.zones.specs.Zones.{between}
 use Rattle.zones.proofs.Orders.{parts_in_two}
 

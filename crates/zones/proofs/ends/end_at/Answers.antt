@@ -1,5 +1,5 @@
-use Rattle.std.proofs.Common.{rules, ◌≡◌, FitsSigned, List, pos, ◌-ℤ◌, to_z, of_z}
-use Rattle.std.specs.Int.{w64, w128}
+use Rattle.std.proofs.Common.{rules, FitsSigned, pos, ◌-ℤ◌}
+use Rattle.std.specs.Int.{w64}
 use Rattle.std.proofs.lemmas.Int.{to_z-of_z}
 use Rattle.zones.specs.Ends.{IsLeast}
 use Rattle.zones.proofs.EndBounds.{end_least, end_most, opposite_read}

@@ -1,9 +1,8 @@
-use Rattle.std.proofs.Common.{rules, ◌≡◌, ◌∙◌, ◌<◌, ◌≤◌, ◌^◌, FitsSigned, List, [], ◌∷◌, pos, ◌+ℤ◌, ◌*ℤ◌, unsigned_abs, sym, inl, inr, ℤ, get_or, arith}
+use Rattle.std.proofs.Common.{rules, ◌≡◌, ◌∙◌, ◌<◌, ◌^◌, FitsSigned, [], ◌∷◌, pos, unsigned_abs, sym, inl, inr, ℤ, get_or, arith}
 use Rattle.std.specs.Int.{w64, w128}
 use Rattle.std.proofs.lemmas.Int.{ints, to_z-of_z}
 use Rattle.std.proofs.lemmas.List.{nil_from_length}
 use Rattle.linear.specs.declared.form.Term.{Term}
-use Rattle.zones.specs.Ends.{IsLeast}
 use Rattle.zones.proofs.EndBounds.{number_is_end, only_term, number_read, register_is_end}
 use Rattle.zones.proofs.ends.end_of.Goals as goal
 

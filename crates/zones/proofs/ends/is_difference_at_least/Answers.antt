@@ -1,5 +1,5 @@
-use Rattle.std.proofs.Common.{rules, ◌≡◌, ◌<◌, ◌≤ℤ◌, ◌^◌, FitsSigned, ◌+ℤ◌, ◌-ℤ◌, unsigned_abs, to_z, of_z, subst, arith, ℤ, ℕ}
-use Rattle.std.specs.Int.{w64, w128}
+use Rattle.std.proofs.Common.{rules, ◌≡◌, ◌<◌, ◌≤ℤ◌, ◌^◌, FitsSigned, ◌+ℤ◌, ◌-ℤ◌, unsigned_abs, subst, ℤ, ℕ}
+use Rattle.std.specs.Int.{w64}
 use Rattle.std.proofs.lemmas.Int.{to_z-of_z}
 use Rattle.zones.specs.Ends.{IsLeast}
 use Rattle.zones.proofs.EndBounds.{difference_shown, order_read}

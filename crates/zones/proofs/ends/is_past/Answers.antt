@@ -1,6 +1,5 @@
 use Rattle.std.proofs.Common.{rules, FitsSigned, ◌≤ℤ◌}
 use Rattle.std.specs.Int.{w128}
-use Rattle.std.proofs.lemmas.Int.{to_z-of_z}
 use Rattle.zones.proofs.EndBounds.{past_shown}
 use Rattle.zones.proofs.ends.is_past.Goals as goal
 

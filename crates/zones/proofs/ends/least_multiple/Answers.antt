@@ -1,7 +1,6 @@
-use Rattle.std.proofs.Common.{rules, ◌≡◌, ◌∙◌, FitsSigned, pos, ◌*ℤ◌, ◌<ℤ◌, ◌-ℤ◌, negsuc, to_z, of_z, sym, ap, subst, ℤ, Option, arith}
+use Rattle.std.proofs.Common.{rules, ◌≡◌, ◌∙◌, FitsSigned, pos, ◌*ℤ◌, ◌<ℤ◌, ◌-ℤ◌, negsuc, sym, subst, ℤ, Option}
 use Rattle.std.specs.Prelude.{IfSome}
-use Rattle.std.specs.Int.{w64, w128}
-use Rattle.std.proofs.lemmas.Int.{ints, to_z-of_z}
+use Rattle.std.specs.Int.{w64}
 use Rattle.zones.specs.Ends.{Says, IsLeast}
 use Rattle.zones.proofs.EndBounds.{least_none, least_up, least_down, product_small, product_read}
 use Rattle.zones.proofs.ends.least_multiple.Goals as goal
