@@ -1,33 +1,30 @@
 -- What facts about one register alone say of ends, and what they show of two ends' order.
-use Rattle.std.proofs.Common.{◌≡◌, ◌∙◌, ◌⊎◌, ℕ, suc, ◌<◌, ◌≤◌, ◌^◌, ℤ, pos, negsuc, ◌+ℤ◌, ◌-ℤ◌, ◌*ℤ◌, ◌≤ℤ◌, ◌<ℤ◌, Bool, true, false, cond, eqb, List, [], ◌∷◌, Option, Some, None, inl, inr, refl, sym, ap, subst, arith, ◌*◌, length, get_or, to_z, of_z, FitsSigned, unsigned_abs}
-use Rattle.std.specs.Prelude.{IfSome, IsTrue}
-use lib.Signed.{le_z, le_z_yes}
+use Rattle.std.proofs.Common.{◌≡◌, ◌∙◌, ◌⊎◌, ℕ, suc, ◌<◌, ◌^◌, ℤ, pos, negsuc, ◌+ℤ◌, ◌-ℤ◌, ◌*ℤ◌, ◌≤ℤ◌, ◌<ℤ◌, Bool, true, false, cond, eqb, List, Option, Some, inl, inr, refl, sym, ap, subst, arith, unsigned_abs}
+use Rattle.std.specs.Prelude.{IfSome}
 use Rattle.std.specs.List.{Contains}
-use Rattle.std.specs.Int.{w64, w128}
-use Rattle.std.proofs.Math.Nat.{mul-le-mul}
 use Rattle.std.proofs.Math.IntN.{zero-*ℤ, *ℤ-zero}
 use Rattle.std.proofs.lemmas.Bool.{cases_eq}
-use Rattle.std.proofs.lemmas.Int.{ints, unsigned_abs-mul, to_z-of_z}
+use Rattle.std.proofs.lemmas.Int.{ints}
 use Rattle.std.proofs.lemmas.List.{length-map, get_or-map}
 use Rattle.linear.specs.declared.form.Fact.{Fact}
 use Rattle.linear.specs.declared.form.RegisterId.{RegisterId}
-use Rattle.linear.specs.declared.form.Term.{Term}
 use Rattle.linear.specs.Forms.{Combination, coefficient_of, constant_form}
 use Rattle.linear.proofs.Values.{distributes, distributes_right}
 use Rattle.entailment.specs.Shown.{IsFactor, sides}
 use Rattle.entailment.specs.Tested.{is_shown}
-use Rattle.entailment.proofs.Tested.{shown_passes, T_from_true}
-use Rattle.program.specs.declared.instruction.Operand.TheVariants.{Register}
+use Rattle.entailment.proofs.Tested.{shown_passes}
 use Rattle.ranges.specs.cfg.declared.structure.Move.{Move}
-use Rattle.ranges.specs.obligations.Inequalities.{operand_for}
 use Rattle.ranges.specs.Sums.{shows_form, sum_form}
-use Rattle.zones.specs.declared.bounds.RegisterBounds.{RegisterBounds}
 use Rattle.zones.specs.declared.ends.End.{End}
-use Rattle.zones.specs.Ends.{Says, IsLeast, ComesTo, IsBetween, IsEnd, AreOther}
+use Rattle.zones.specs.Ends.{Says, IsLeast, IsEnd, AreOther}
 use Rattle.zones.specs.Zones.{between, shows_order}
 use Rattle.zones.proofs.EndSums.{share, share_none, share_own, share_other, sum_of_ends}
 
 -- ---- so many times a register is at least a number
+
+-- nothing more
+plus_none : (z : ℤ) → z +ℤ pos 0 ≡ z
+plus_none z = omega (arith, ints)
 
 -- no times it is 0
 pub least_none : (facts : List Fact) (register : RegisterId) → IsLeast facts register (pos 0) (pos 0)
@@ -54,9 +51,7 @@ share_scaled register times sign factor q is = by (eqb register.0 q)
   where
     by : (b : Bool) → cond b times (pos 0) +ℤ pos 0 ≡ pos factor *ℤ (cond b sign (pos 0) +ℤ pos 0)
     by true =
-        let left : times +ℤ pos 0 ≡ times = omega (arith, ints) in
-        let right : sign +ℤ pos 0 ≡ sign = omega (arith, ints) in
-        left ∙ is ∙ ap (λ (z : ℤ). pos factor *ℤ z) (sym right)
+        plus_none times ∙ is ∙ ap (λ (z : ℤ). pos factor *ℤ z) (sym (plus_none sign))
     by false = sym (*ℤ-zero (pos factor))
 
 -- what a fact says, taken so often
@@ -89,131 +84,6 @@ least_down facts register most (negsuc n) says down =
     let is_least : (pos (suc n) *ℤ most) +ℤ (negsuc n *ℤ most) ≡ pos 0 = sym (distributes_right (pos (suc n)) (negsuc n) most) ∙ ap (λ (z : ℤ). z *ℤ most) level ∙ zero-*ℤ most in
     least_said facts register (negsuc 0) most (negsuc n) (negsuc n *ℤ most) (suc n) says is_times refl (λ (e : negsuc n ≡ pos 0). omega (arith, ints, e)) is_least
 
--- ---- products of words
-
--- the product of two words fits twice the width
-pub product_small : (x y : ℤ) → FitsSigned w64 x → FitsSigned w64 y → unsigned_abs (x *ℤ y) ≤ 2 ^ 126
-product_small x y fits_x fits_y =
-    let small_x : unsigned_abs x ≤ 2 ^ 63 = omega (arith, ints, fits_x) in
-    let small_y : unsigned_abs y ≤ 2 ^ 63 = omega (arith, ints, fits_y) in
-    let most : unsigned_abs x * unsigned_abs y ≤ 2 ^ 63 * 2 ^ 63 = mul-le-mul small_x small_y in
-    omega (arith, unsigned_abs-mul x y, most)
-
--- and is read back as it is
-pub product_read : (a b x y : ℤ) → FitsSigned w64 x → FitsSigned w64 y → a ≡ to_z w64 (of_z w64 x) → b ≡ to_z w64 (of_z w64 y) → to_z w128 (of_z w128 (to_z w128 (of_z w128 a) *ℤ to_z w128 (of_z w128 b))) ≡ x *ℤ y
-product_read a b x y fits_x fits_y is_a is_b =
-    let wide_x : FitsSigned w128 x = omega (arith, ints, fits_x) in
-    let wide_y : FitsSigned w128 y = omega (arith, ints, fits_y) in
-    let small = product_small x y fits_x fits_y in
-    let wide : FitsSigned w128 (x *ℤ y) = fits_small (x *ℤ y) small in
-    rw (is_a, is_b, to_z-of_z w64 x fits_x, to_z-of_z w64 y fits_y, to_z-of_z w128 x wide_x, to_z-of_z w128 y wide_y) (to_z-of_z w128 (x *ℤ y) wide)
-  where
-    fits_small : (z : ℤ) → unsigned_abs z ≤ 2 ^ 126 → FitsSigned w128 z
-    fits_small z small = omega (arith, ints, small)
-
--- ---- ends
-
-abbrev pub read : ℤ → ℤ
-read z = to_z w128 (of_z w128 z)
-
-sum_read : (m constant offset : ℤ) → unsigned_abs m ≤ 2 ^ 126 → FitsSigned w64 constant → offset ≡ to_z w64 (of_z w64 constant) → read (read m +ℤ read offset) ≡ m +ℤ constant
-sum_read m constant offset small fits is =
-    let wide : FitsSigned w128 constant = omega (arith, ints, fits) in
-    let wide_m : FitsSigned w128 m = omega (arith, ints, small) in
-    let wide_sum : FitsSigned w128 (m +ℤ constant) = omega (arith, ints, small, fits) in
-    rw (is, to_z-of_z w64 constant fits, to_z-of_z w128 m wide_m, to_z-of_z w128 constant wide) (to_z-of_z w128 (m +ℤ constant) wide_sum)
-
-less_read : (m constant offset : ℤ) → unsigned_abs m ≤ 2 ^ 126 → FitsSigned w64 constant → offset ≡ to_z w64 (of_z w64 constant) → read (read offset -ℤ read m) ≡ constant -ℤ m
-less_read m constant offset small fits is =
-    let wide : FitsSigned w128 constant = omega (arith, ints, fits) in
-    let wide_m : FitsSigned w128 m = omega (arith, ints, small) in
-    let wide_less : FitsSigned w128 (constant -ℤ m) = omega (arith, ints, small, fits) in
-    rw (is, to_z-of_z w64 constant fits, to_z-of_z w128 m wide_m, to_z-of_z w128 constant wide) (to_z-of_z w128 (constant -ℤ m) wide_less)
-
--- an order that is read
-pub order_read : (a b low high least : ℤ) → FitsSigned w64 low → FitsSigned w64 high → unsigned_abs least ≤ 2 ^ 126 → a ≡ to_z w64 (of_z w64 low) → b ≡ to_z w64 (of_z w64 high) →
-    IsTrue (le_z (read a) (read (read least +ℤ read b))) → low ≤ℤ (least +ℤ high)
-order_read a b low high least fits_low fits_high small is_a is_b more =
-    let wide : FitsSigned w128 low = omega (arith, ints, fits_low) in
-    let plain : IsTrue (le_z low (least +ℤ high)) = rw (sum_read least high b small fits_high is_b, is_a, to_z-of_z w64 low fits_low, to_z-of_z w128 low wide) at more in
-    le_z_yes (T_from_true (le_z low (least +ℤ high)) plain)
-
-back : (m constant : ℤ) → m ≡ (m +ℤ constant) -ℤ constant
-back m constant = omega (arith, ints)
-
-forth : (m constant : ℤ) → m ≡ constant -ℤ (constant -ℤ m)
-forth m constant = omega (arith, ints)
-
--- what an end is at least, read from what its multiple is
-pub end_least : (facts : List Fact) (register : RegisterId) (times m constant offset : ℤ) (least : Option ℤ) → least ≡ Some (read (read m +ℤ read offset)) → unsigned_abs m ≤ 2 ^ 126 → FitsSigned w64 constant → offset ≡ to_z w64 (of_z w64 constant) →
-    IsLeast facts register times m → IfSome least (λ z. IsLeast facts register times (z -ℤ constant))
-end_least facts register times m constant offset least is_least small fits is known =
-    subst (λ (o : Option ℤ). IfSome o (λ z. IsLeast facts register times (z -ℤ constant))) (sym is_least)
-    (subst (λ (z : ℤ). IsLeast facts register times (z -ℤ constant)) (sym (sum_read m constant offset small fits is)) (subst (λ (z : ℤ). IsLeast facts register times z) (back m constant) known))
-
--- what it is at most, from what the opposite of its multiple is at least
-pub end_most : (facts : List Fact) (register : RegisterId) (times m constant offset : ℤ) → unsigned_abs m ≤ 2 ^ 126 → FitsSigned w64 constant → offset ≡ to_z w64 (of_z w64 constant) →
-    IsLeast facts register times m → IsLeast facts register times (constant -ℤ read (read offset -ℤ read m))
-end_most facts register times m constant offset small fits is known =
-    subst (λ (z : ℤ). IsLeast facts register times (constant -ℤ z)) (sym (less_read m constant offset small fits is)) (subst (λ (z : ℤ). IsLeast facts register times z) (forth m constant) known)
-
--- the opposite of a coefficient, read
-pub opposite_read : (k : ℤ) → FitsSigned w64 k → unsigned_abs k < 2 ^ 24 → to_z w64 (of_z w64 (pos 0 -ℤ to_z w64 (of_z w64 k))) ≡ pos 0 -ℤ k
-opposite_read k fits small =
-    let fits_opposite : FitsSigned w64 (pos 0 -ℤ k) = omega (arith, ints, small) in
-    rw (to_z-of_z w64 k fits) (to_z-of_z w64 (pos 0 -ℤ k) fits_opposite)
-
--- a number is an end where the form comes to it
-pub number_is_end : (facts : List Fact) (moves : List Move) (form : Combination) (number : ℤ) (end : Option End) →
-    IfSome end (λ e. e.constant ≡ number) → IfSome end (λ e. e.coefficient ≡ pos 0) → IfSome end (λ e. unsigned_abs e.constant < 2 ^ 64) → IfSome end (IsBetween facts) →
-    ((r : RegisterId) (k c : ℤ) → k ≡ pos 0 → c ≡ number → ComesTo moves form r k c) → unsigned_abs form.constant < 2 ^ 64 → IfSome end (IsEnd facts moves form)
-number_is_end facts moves form number None is_number is_none small between comes small_form = tt
-number_is_end facts moves form number (Some e) is_number is_none small between comes small_form = record {
-  value = comes e.bounds.register e.coefficient e.constant is_none is_number;
-  between = between;
-  small = rw is_none (omega arith);
-  small_form = small_form;
-  small_constant = small;
-}
-
--- the one term of a list
-pub only_term : (ts : List Term) (d : Term) → 1 ≤ length ts → length ts < 2 → ts ≡ get_or ts 0 d ∷ []
-only_term [] d least most = absurd (omega arith)
-only_term (t ∷ []) d least most = refl
-only_term (t ∷ u ∷ ts) d least most = absurd (omega arith)
-
--- a number put in for the register of the one term, read
-pub number_read : (product coefficient number constant form_constant sum : ℤ) → product ≡ to_z w64 (of_z w64 coefficient) *ℤ to_z w64 (of_z w64 number) → FitsSigned w64 coefficient → FitsSigned w64 number →
-    constant ≡ form_constant → unsigned_abs form_constant < 2 ^ 64 → sum ≡ read (read product +ℤ read constant) → sum ≡ form_constant +ℤ (coefficient *ℤ number)
-number_read product coefficient number constant form_constant sum is_product fits_coefficient fits_number is_constant small is =
-    let is_plain : product ≡ coefficient *ℤ number = rw (to_z-of_z w64 coefficient fits_coefficient, to_z-of_z w64 number fits_number) at is_product in
-    let small_product : unsigned_abs product ≤ 2 ^ 126 = rw is_plain (product_small coefficient number fits_coefficient fits_number) in
-    let wide : FitsSigned w128 constant = narrow constant form_constant is_constant small in
-    let wide_product : FitsSigned w128 product = omega (arith, ints, small_product) in
-    let wide_sum : FitsSigned w128 (product +ℤ constant) = narrow_sum product constant form_constant is_constant small small_product in
-    is ∙ rw (to_z-of_z w128 product wide_product, to_z-of_z w128 constant wide, to_z-of_z w128 (product +ℤ constant) wide_sum, is_plain, is_constant) (turned form_constant (coefficient *ℤ number))
-  where
-    narrow : (x y : ℤ) → x ≡ y → unsigned_abs y < 2 ^ 64 → FitsSigned w128 x
-    narrow x y e small = omega (arith, ints, e, small)
-    narrow_sum : (p x y : ℤ) → x ≡ y → unsigned_abs y < 2 ^ 64 → unsigned_abs p ≤ 2 ^ 126 → FitsSigned w128 (p +ℤ x)
-    narrow_sum p x y e small small_p = omega (arith, ints, e, small, small_p)
-    turned : (x p : ℤ) → p +ℤ x ≡ x +ℤ p
-    turned x p = omega (arith, ints)
-
--- so many times a register is an end where the form comes to it
-pub register_is_end : (facts : List Fact) (moves : List Move) (form : Combination) (bounds : RegisterBounds) (register : RegisterId) (term : Term) (e : End) →
-    e.bounds ≡ bounds → bounds.register ≡ register → e.coefficient ≡ term.coefficient → e.constant ≡ form.constant → IsBetween facts e →
-    form.terms ≡ term ∷ [] → operand_for moves term.register ≡ Register register → unsigned_abs term.coefficient < 2 ^ 24 → unsigned_abs form.constant < 2 ^ 64 → IsEnd facts moves form e
-register_is_end facts moves form bounds register term e is_bounds is_register is_coefficient is_constant between terms put small small_form =
-    let own : e.bounds.register ≡ register = ap (λ (b : RegisterBounds). b.register) is_bounds ∙ is_register in
-    record {
-      value = inr (inr (record { term = term; terms = terms; put = put ∙ ap (λ (r : RegisterId). Register r) (sym own); times = is_coefficient; constant = is_constant }));
-      between = between;
-      small = rw is_coefficient small;
-      small_form = small_form;
-      small_constant = rw is_constant small_form;
-    }
-
 -- ---- what is shown
 
 -- multiples of two registers, or of one at most
@@ -227,24 +97,21 @@ factor_of e r s k l factor (inr (size, some)) (inl none) is = absurd (some none)
 factor_of e r s k l factor (inr (size, some)) (inr (inl none)) is =
     let alone : coefficient_of e.terms r.0 ≡ k = is ∙ ap (λ (z : ℤ). share r k r.0 +ℤ share s z r.0) none ∙ ap (λ (z : ℤ). share r k r.0 +ℤ z) (share_none s r.0) ∙ ap (λ (z : ℤ). z +ℤ pos 0) (share_own r k r.0 refl) ∙ plus_none k in
     inr (r.0, size ∙ ap unsigned_abs (sym alone))
-  where
-    plus_none : (z : ℤ) → z +ℤ pos 0 ≡ z
-    plus_none z = omega (arith, ints)
 factor_of e r s k l factor (inr (size, some)) (inr (inr differ)) is =
     let alone : coefficient_of e.terms r.0 ≡ k = is ∙ ap (λ (z : ℤ). share r k r.0 +ℤ z) (share_other s l r.0 (λ (e : s.0 ≡ r.0). differ (sym e))) ∙ ap (λ (z : ℤ). z +ℤ pos 0) (share_own r k r.0 refl) ∙ plus_none k in
     inr (r.0, size ∙ ap unsigned_abs (sym alone))
-  where
-    plus_none : (z : ℤ) → z +ℤ pos 0 ≡ z
-    plus_none z = omega (arith, ints)
 
+-- the same of the other
 apart_back : (r s : RegisterId) (k l : ℤ) → AreApart r k s l → AreApart s l r k
 apart_back r s k l (inl none) = inr (inl none)
 apart_back r s k l (inr (inl none)) = inl none
 apart_back r s k l (inr (inr differ)) = inr (inr (λ (e : s.0 ≡ r.0). differ (sym e)))
 
+-- a sum in the other order
 swapped : (x y z : ℤ) → x ≡ y +ℤ z → x ≡ z +ℤ y
 swapped x y z is = omega (arith, ints, is)
 
+-- what is left of two sides and a constant is not below 0
 in_sum : (x y high low c : ℤ) → x +ℤ high ≡ pos 0 → y +ℤ low ≡ pos 0 → pos 0 ≤ℤ ((high +ℤ low) +ℤ c) → (x +ℤ y) ≤ℤ c
 in_sum x y high low c is_x is_y least = omega (arith, ints, is_x, is_y, least)
 
@@ -277,6 +144,7 @@ apart_small r s k l (inr (inl none)) small_k small_l = elim (cases_eq r.0 s.0) [
   | inr differ ↦ rw (share_other r k s.0 differ) (omega (arith, ints, small_l))
 ]
 
+-- and with the opposite of one
 negated_apart : (r s : RegisterId) (k l : ℤ) → AreApart r k s l → AreApart r k s (pos 0 -ℤ l)
 negated_apart r s k l (inl none) = inl none
 negated_apart r s k l (inr (inl none)) = inr (inl (rw none refl))
@@ -288,6 +156,7 @@ shown_in_form : (facts : List Fact) (for_high : List Move) (high : Combination) 
 unfolding shows_order
 shown_in_form facts for_high high for_low low whole is shown = ap (shows_form facts) is ∙ shown
 
+-- the numbers of an end that is past another
 past_sum : (least most ch cl number : ℤ) → most ≤ℤ least → number ≡ ch -ℤ cl → pos 0 ≤ℤ (((least -ℤ ch) +ℤ (cl -ℤ most)) +ℤ number)
 past_sum least most ch cl number more is = omega (arith, ints, more, is)
 
@@ -313,9 +182,11 @@ share_less r s k l q same = ap (λ (n : ℕ). share r k q +ℤ (cond (eqb n q) (
     by true = omega (arith, ints)
     by false = refl
 
+-- and where a multiple of the same register is taken off
 same_small : (r s : RegisterId) (k l : ℤ) → r.0 ≡ s.0 → unsigned_abs (k -ℤ l) < 2 ^ 24 → unsigned_abs ((pos 0 -ℤ l) +ℤ share r k s.0) < 2 ^ 24
 same_small r s k l same small = rw (share_own r k s.0 same) (omega (arith, ints, small))
 
+-- the numbers of a difference
 difference_sum : (least ch cl number : ℤ) → cl ≤ℤ (least +ℤ ch) → number ≡ ch -ℤ cl → pos 0 ≤ℤ ((least +ℤ pos 0) +ℤ number)
 difference_sum least ch cl number more is = omega (arith, ints, more, is)
 

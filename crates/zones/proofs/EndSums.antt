@@ -54,9 +54,11 @@ pub record Makes (made : Option Combination) (start : Combination) (register : R
   pub terms : (q : ℕ) → coefficient_of whole.terms q ≡ share register times q +ℤ coefficient_of start.terms q
   pub constant : whole.constant ≡ number +ℤ start.constant
 
+-- the coefficient of a register with one more term of it
 own_first : (ts : List Term) (register : RegisterId) (amount : ℤ) → coefficient_of (new_term register amount ∷ ts) register.0 ≡ amount +ℤ coefficient_of ts register.0
 own_first ts register amount = rw (eq-eqb register.0 register.0 refl) refl
 
+-- it is within the bounds or past them, and not both
 past_bounds : (ts : List Term) (register : RegisterId) (amount : ℤ) → unsigned_abs (amount +ℤ coefficient_of ts register.0) < 2 ^ 24 → 2 ^ 24 ≤ unsigned_abs (coefficient_of (new_term register amount ∷ ts) register.0) → ⊥
 past_bounds ts register amount small large =
     let large2 : 2 ^ 24 ≤ unsigned_abs (amount +ℤ coefficient_of ts register.0) = subst (λ (z : ℤ). 2 ^ 24 ≤ unsigned_abs z) (own_first ts register amount) large in
@@ -96,6 +98,7 @@ register_makes start register amount form small =
     plus_none : (x y : ℤ) → x +ℤ y ≡ (x +ℤ pos 0) +ℤ y
     plus_none x y = omega (arith, ints)
 
+-- nothing before
 none_plus : (z : ℤ) → z ≡ pos 0 +ℤ z
 none_plus z = omega (arith, ints)
 
@@ -134,18 +137,22 @@ signed_small : (sign z : ℤ) (most : ℕ) → IsSign sign → unsigned_abs z < 
 signed_small sign z most (inl one) small = rw one (omega (arith, ints, small))
 signed_small sign z most (inr opposite) small = rw opposite (omega (arith, ints, small))
 
+-- sums and differences of such numbers are no greater
 sum_small : (x y : ℤ) → unsigned_abs x < 2 ^ 66 → unsigned_abs y < 2 ^ 90 → unsigned_abs (x +ℤ y) < 2 ^ 100
 sum_small x y small_x small_y = omega (arith, ints, small_x, small_y)
 
 difference_small : (x y : ℤ) → unsigned_abs x < 2 ^ 64 → unsigned_abs y < 2 ^ 64 → unsigned_abs (x -ℤ y) < 2 ^ 66
 difference_small x y small_x small_y = omega (arith, ints, small_x, small_y)
 
+-- a number less itself
 itself_less : (z : ℤ) → pos 0 ≡ z -ℤ z
 itself_less z = omega (arith, ints)
 
+-- no times a number
 *ℤ-none : (z : ℤ) → pos 0 ≡ z *ℤ pos 0
 *ℤ-none z = omega (arith, ints)
 
+-- what is added
 rest_of_sum : (x y z : ℤ) → z ≡ x +ℤ y → y ≡ z -ℤ x
 rest_of_sum x y z is = omega (arith, ints, is)
 
@@ -164,13 +171,13 @@ run_makes moves sign form register k c start is_sign is_form small_start small_f
     let same_times : pos 0 ≡ sign *ℤ k = rw h.times (*ℤ-none sign) in
     let same_number : amount ≡ sign *ℤ (c -ℤ form.constant) = associates sign t.coefficient h.number ∙ ap (λ (z : ℤ). sign *ℤ z) (rest_of_sum form.constant (t.coefficient *ℤ h.number) c h.constant) in
     let small_amount : unsigned_abs (amount +ℤ start.constant) < 2 ^ 100 =
-        subst (λ (z : ℤ). unsigned_abs (z +ℤ start.constant) < 2 ^ 100) (sym same_number)
-        (sum_small (sign *ℤ (c -ℤ form.constant)) start.constant (signed_small sign (c -ℤ form.constant) (2 ^ 66) is_sign (difference_small c form.constant small_c small_form)) small_start) in
+    subst (λ (z : ℤ). unsigned_abs (z +ℤ start.constant) < 2 ^ 100) (sym same_number)
+    (sum_small (sign *ℤ (c -ℤ form.constant)) start.constant (signed_small sign (c -ℤ form.constant) (2 ^ 66) is_sign (difference_small c form.constant small_c small_form)) small_start) in
     let bounded : is_bounded (sign *ℤ t.coefficient) ≡ true = lt-ltb (unsigned_abs (sign *ℤ t.coefficient)) 16777216 (signed_small sign t.coefficient (2 ^ 24) is_sign h.small) in
     let added : Makes (with_operand start (sign *ℤ t.coefficient) (Number h.number)) start register (pos 0) amount =
-        subst (λ (b : Bool). Makes (cond b (with_constant start amount) None) start register (pos 0) amount) (sym bounded) (number_makes start register amount is_form small_amount) in
+    subst (λ (b : Bool). Makes (cond b (with_constant start amount) None) start register (pos 0) amount) (sym bounded) (number_makes start register amount is_form small_amount) in
     let put : Makes (with_parts (parts_of moves sign (t ∷ [])) (Some start)) start register (pos 0) amount =
-        subst (λ (o : Operand). Makes (with_operand start (sign *ℤ t.coefficient) o) start register (pos 0) amount) (sym h.put) added in
+    subst (λ (o : Operand). Makes (with_operand start (sign *ℤ t.coefficient) o) start register (pos 0) amount) (sym h.put) added in
     makes_as _ start register (pos 0) (sign *ℤ k) amount (sign *ℤ (c -ℤ form.constant)) same_times same_number
     (subst (λ (ts : List Term). Makes (with_parts (parts_of moves sign ts) (Some start)) start register (pos 0) amount) (sym h.terms) put)
 run_makes moves sign form register k c start is_sign is_form small_start small_form small_c small (inr (inr h)) =
@@ -181,7 +188,7 @@ run_makes moves sign form register k c start is_sign is_form small_start small_f
     let within : unsigned_abs (amount +ℤ coefficient_of start.terms register.0) < 2 ^ 24 = subst (λ (z : ℤ). unsigned_abs (z +ℤ coefficient_of start.terms register.0) < 2 ^ 24) (sym same_times) small in
     let added : Makes (with_operand start amount (Register register)) start register amount (pos 0) = register_makes start register amount is_form within in
     let put : Makes (with_parts (parts_of moves sign (t ∷ [])) (Some start)) start register amount (pos 0) =
-        subst (λ (o : Operand). Makes (with_operand start amount o) start register amount (pos 0)) (sym h.put) added in
+    subst (λ (o : Operand). Makes (with_operand start amount o) start register amount (pos 0)) (sym h.put) added in
     makes_as _ start register amount (sign *ℤ k) (pos 0) (sign *ℤ (c -ℤ form.constant)) same_times same_number
     (subst (λ (ts : List Term). Makes (with_parts (parts_of moves sign ts) (Some start)) start register amount (pos 0)) (sym h.terms) put)
 
@@ -194,21 +201,27 @@ pub record Comes (made : Option Combination) (high_register : RegisterId) (kh : 
   pub terms : (q : ℕ) → coefficient_of whole.terms q ≡ share high_register kh q +ℤ share low_register (pos 0 -ℤ kl) q
   pub constant : whole.constant ≡ number
 
+-- once a number
 once : (z : ℤ) → pos 1 *ℤ z ≡ z
 once z = omega (arith, ints)
 
+-- its opposite
 opposite : (z : ℤ) → negsuc 0 *ℤ z ≡ pos 0 -ℤ z
 opposite z = omega (arith, ints)
 
+-- the constants of both runs, in all
 in_all : (h l high low one two : ℤ) → two ≡ (negsuc 0 *ℤ (l -ℤ low)) +ℤ one → one ≡ (pos 1 *ℤ (h -ℤ high)) +ℤ (high -ℤ low) → two ≡ h -ℤ l
 in_all h l high low one two is_two is_one = omega (arith, ints, is_two, is_one)
 
+-- the constant after the first run is small
 grown_small : (h high start : ℤ) → unsigned_abs h < 2 ^ 64 → unsigned_abs high < 2 ^ 64 → unsigned_abs start < 2 ^ 66 → unsigned_abs ((pos 1 *ℤ (h -ℤ high)) +ℤ start) < 2 ^ 90
 grown_small h high start small_h small_high small_start = omega (arith, ints, small_h, small_high, small_start)
 
+-- a wider bound
 wider : (z : ℤ) (least most : ℕ) → least ≤ most → unsigned_abs z < least → unsigned_abs z < most
 wider z least most more small = omega (arith, more, small)
 
+-- the coefficients of both runs, in all
 turned : (two one taken low high : ℤ) → two ≡ taken +ℤ one → taken ≡ low → one ≡ high +ℤ pos 0 → two ≡ high +ℤ low
 turned two one taken low high is_two is_taken is_one = omega (arith, ints, is_two, is_taken, is_one)
 

@@ -3,3 +3,4 @@ mod Levels
 mod Orders
 pub mod EndBounds
 pub mod EndSums
+pub mod EndsMade

@@ -2,7 +2,7 @@ use Rattle.std.proofs.Common.{rules, FitsSigned, pos, ◌-ℤ◌}
 use Rattle.std.specs.Int.{w64}
 use Rattle.std.proofs.lemmas.Int.{to_z-of_z}
 use Rattle.zones.specs.Ends.{IsLeast}
-use Rattle.zones.proofs.EndBounds.{end_least, end_most, opposite_read}
+use Rattle.zones.proofs.EndsMade.{end_least, end_most, opposite_read}
 use Rattle.zones.proofs.ends.end_at.Goals as goal
 use Rattle.zones.proofs.ends.end_at.Goals.{in-Some, in-None}
 

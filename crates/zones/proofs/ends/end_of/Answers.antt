@@ -3,7 +3,7 @@ use Rattle.std.specs.Int.{w64, w128}
 use Rattle.std.proofs.lemmas.Int.{ints, to_z-of_z}
 use Rattle.std.proofs.lemmas.List.{nil_from_length}
 use Rattle.linear.specs.declared.form.Term.{Term}
-use Rattle.zones.proofs.EndBounds.{number_is_end, only_term, number_read, register_is_end}
+use Rattle.zones.proofs.EndsMade.{number_is_end, only_term, number_read, register_is_end}
 use Rattle.zones.proofs.ends.end_of.Goals as goal
 
 word_small : (word z : ℤ) → FitsSigned w64 word → word ≡ z → unsigned_abs z < 2 ^ 64

@@ -2,7 +2,8 @@ use Rattle.std.proofs.Common.{rules, ◌≡◌, ◌<◌, ◌≤ℤ◌, ◌^◌, 
 use Rattle.std.specs.Int.{w64}
 use Rattle.std.proofs.lemmas.Int.{to_z-of_z}
 use Rattle.zones.specs.Ends.{IsLeast}
-use Rattle.zones.proofs.EndBounds.{difference_shown, order_read}
+use Rattle.zones.proofs.EndBounds.{difference_shown}
+use Rattle.zones.proofs.EndsMade.{order_read}
 use Rattle.zones.proofs.ends.is_difference_at_least.Goals as goal
 
 pub returns-in-Some-least_multiple : goal.returns-in-Some-least_multiple

@@ -2,7 +2,8 @@ use Rattle.std.proofs.Common.{rules, ◌≡◌, ◌∙◌, FitsSigned, pos, ◌*
 use Rattle.std.specs.Prelude.{IfSome}
 use Rattle.std.specs.Int.{w64}
 use Rattle.zones.specs.Ends.{Says, IsLeast}
-use Rattle.zones.proofs.EndBounds.{least_none, least_up, least_down, product_small, product_read}
+use Rattle.zones.proofs.EndBounds.{least_none, least_up, least_down}
+use Rattle.zones.proofs.EndsMade.{product_small, product_read}
 use Rattle.zones.proofs.ends.least_multiple.Goals as goal
 use Rattle.zones.proofs.ends.least_multiple.Goals.{then-times-gt0, else-times-gt0}
 
