@@ -16,9 +16,12 @@ use Rattle.ranges.specs.obligations.Inequalities.{operand_for}
 use Rattle.zones.specs.declared.bounds.RegisterBounds.{RegisterBounds}
 use Rattle.zones.specs.declared.ends.End.{End}
 use Rattle.zones.specs.Ends.{IsLeast, ComesTo, IsBetween, IsEnd}
-use Rattle.zones.specs.Zones.{between}
 
 -- ---- words that are read
+
+-- a number, read
+abbrev pub read : ℤ → ℤ
+read z = to_z w128 (of_z w128 z)
 
 -- the product of two words fits twice the width
 pub product_small : (x y : ℤ) → FitsSigned w64 x → FitsSigned w64 y → unsigned_abs (x *ℤ y) ≤ 2 ^ 126
@@ -29,7 +32,7 @@ product_small x y fits_x fits_y =
     omega (arith, unsigned_abs-mul x y, most)
 
 -- the product of two words, read
-pub product_read : (a b x y : ℤ) → FitsSigned w64 x → FitsSigned w64 y → a ≡ to_z w64 (of_z w64 x) → b ≡ to_z w64 (of_z w64 y) → to_z w128 (of_z w128 (to_z w128 (of_z w128 a) *ℤ to_z w128 (of_z w128 b))) ≡ x *ℤ y
+pub product_read : (a b x y : ℤ) → FitsSigned w64 x → FitsSigned w64 y → a ≡ to_z w64 (of_z w64 x) → b ≡ to_z w64 (of_z w64 y) → read (read a *ℤ read b) ≡ x *ℤ y
 product_read a b x y fits_x fits_y is_a is_b =
     let wide_x : FitsSigned w128 x = omega (arith, ints, fits_x) in
     let wide_y : FitsSigned w128 y = omega (arith, ints, fits_y) in
@@ -40,10 +43,6 @@ product_read a b x y fits_x fits_y is_a is_b =
     fits_small : (z : ℤ) → unsigned_abs z ≤ 2 ^ 126 → FitsSigned w128 z
     fits_small z small = omega (arith, ints, small)
 
--- a number, read
-abbrev pub read : ℤ → ℤ
-read z = to_z w128 (of_z w128 z)
-
 -- a sum with a word, read
 sum_read : (m constant offset : ℤ) → unsigned_abs m ≤ 2 ^ 126 → FitsSigned w64 constant → offset ≡ to_z w64 (of_z w64 constant) → read (read m +ℤ read offset) ≡ m +ℤ constant
 sum_read m constant offset small fits is =
@@ -51,6 +50,14 @@ sum_read m constant offset small fits is =
     let wide_m : FitsSigned w128 m = omega (arith, ints, small) in
     let wide_sum : FitsSigned w128 (m +ℤ constant) = omega (arith, ints, small, fits) in
     rw (is, to_z-of_z w64 constant fits, to_z-of_z w128 m wide_m, to_z-of_z w128 constant wide) (to_z-of_z w128 (m +ℤ constant) wide_sum)
+
+-- such a sum fits
+pub sum_fits : (m constant offset : ℤ) → unsigned_abs m ≤ 2 ^ 126 → FitsSigned w64 constant → offset ≡ to_z w64 (of_z w64 constant) → FitsSigned w128 (read m +ℤ read offset)
+sum_fits m constant offset small fits is =
+    let wide : FitsSigned w128 constant = omega (arith, ints, fits) in
+    let wide_m : FitsSigned w128 m = omega (arith, ints, small) in
+    let wide_sum : FitsSigned w128 (m +ℤ constant) = omega (arith, ints, small, fits) in
+    rw (is, to_z-of_z w64 constant fits, to_z-of_z w128 m wide_m, to_z-of_z w128 constant wide) wide_sum
 
 -- a word less a number, read
 less_read : (m constant offset : ℤ) → unsigned_abs m ≤ 2 ^ 126 → FitsSigned w64 constant → offset ≡ to_z w64 (of_z w64 constant) → read (read offset -ℤ read m) ≡ constant -ℤ m

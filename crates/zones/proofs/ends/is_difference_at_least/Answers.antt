@@ -3,7 +3,7 @@ use Rattle.std.specs.Int.{w64}
 use Rattle.std.proofs.lemmas.Int.{to_z-of_z}
 use Rattle.zones.specs.Ends.{IsLeast}
 use Rattle.zones.proofs.EndBounds.{difference_shown}
-use Rattle.zones.proofs.EndsMade.{order_read}
+use Rattle.zones.proofs.EndsMade.{order_read, sum_fits}
 use Rattle.zones.proofs.ends.is_difference_at_least.Goals as goal
 
 pub returns-in-Some-least_multiple : goal.returns-in-Some-least_multiple
@@ -23,3 +23,9 @@ returns-in-Some-least_multiple c = λ facts for_high high_form for_low low_form 
     let known : IsLeast facts h.bounds.register times least = rw (to_z-of_z w64 times fits_times) at (c.in-Some-least_multiple.ensures.least facts of_high.between.bounds) in
     let past : l.constant ≤ℤ (least +ℤ h.constant) = order_read c.from.result c.from-in-Some-least_multiple.result l.constant h.constant least fits_low_constant fits_high_constant c.in-Some-least_multiple.ensures.small c.from.ensures c.from-in-Some-least_multiple.ensures more in
     difference_shown facts for_high high_form for_low low_form h l times least of_high of_low same is_times small known past
+
+pub overflow_add-result : goal.overflow_add-result
+overflow_add-result c =
+    let h = c.args.high.now in
+    let fits_high_constant : FitsSigned w64 h.constant = search rules in
+    sum_fits c.in-Some-least_multiple.least h.constant c.from-in-Some-least_multiple.result c.in-Some-least_multiple.ensures.small fits_high_constant c.from-in-Some-least_multiple.ensures
