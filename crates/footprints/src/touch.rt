@@ -17,7 +17,7 @@ use program::{
 };
 use ranges::{Move, argument_moves};
 use std::alloc::Global;
-use zones::{Place, PlacedZone, Use, as_written, foot_use, is_allowed, is_clear};
+use zones::{MeasuredPlace, Place, PlacedZone, Use, as_written, foot_use, is_allowed, is_clear};
 
 /// Of what touches nothing.
 fn no_use() -> Use
@@ -115,15 +115,13 @@ fn put_object(arguments: &[Argument], object: ObjectName) -> Option<ObjectName>
 /// Whether a callee's zone, with the arguments put in, needs no cover, or has one.
 fn is_put_allowed(
     alloc: Global,
-    place: &Place<'_>,
+    place: &MeasuredPlace<'_>,
     moves: &[Move],
     arguments: &[Argument],
     zone: &Zone,
 ) -> Result<bool, OutOfMemory>
     requires { moves.now ≡ argument_moves 0 arguments.now }
-    ensures { IfOk result (λ b. b ≡ is_put_allowed
-        (place_of place.now.facts.now place.now.covering.now place.now.own place.now.pending.now)
-        (put_in arguments.now zone.now)) }
+    ensures { IfOk result (λ b. b ≡ is_put_allowed place.now (put_in arguments.now zone.now)) }
 {
     match put_object(arguments, zone.object) {
         None => Ok(false),
@@ -133,7 +131,7 @@ fn is_put_allowed(
                 moves,
                 zone,
             };
-            is_allowed(alloc, place, &y)
+            place.is_allowed(alloc, &y)
         }
     }
 }
@@ -141,15 +139,13 @@ fn is_put_allowed(
 /// Whether nothing that is pending conflicts with a callee's zone, with the arguments put in.
 fn is_put_clear(
     alloc: Global,
-    place: &Place<'_>,
+    place: &MeasuredPlace<'_>,
     moves: &[Move],
     arguments: &[Argument],
     zone: &Zone,
 ) -> Result<bool, OutOfMemory>
     requires { moves.now ≡ argument_moves 0 arguments.now }
-    ensures { IfOk result (λ b. b ≡ is_put_clear
-        (place_of place.now.facts.now place.now.covering.now place.now.own place.now.pending.now)
-        (put_in arguments.now zone.now)) }
+    ensures { IfOk result (λ b. b ≡ is_put_clear place.now (put_in arguments.now zone.now)) }
 {
     match put_object(arguments, zone.object) {
         None => Ok(true),
@@ -159,7 +155,7 @@ fn is_put_clear(
                 moves,
                 zone,
             };
-            is_clear(alloc, place, &y)
+            place.is_clear(alloc, &y)
         }
     }
 }
@@ -167,15 +163,13 @@ fn is_put_clear(
 /// The same of each zone of a callee: it needs no cover, or has one.
 fn are_put_allowed(
     alloc: Global,
-    place: &Place<'_>,
+    place: &MeasuredPlace<'_>,
     moves: &[Move],
     arguments: &[Argument],
     zones: &[Zone],
 ) -> Result<bool, OutOfMemory>
     requires { moves.now ≡ argument_moves 0 arguments.now }
-    ensures { IfOk result (λ b. b ≡ list_all (λ (z : ZoneKind). is_put_allowed
-        (place_of place.now.facts.now place.now.covering.now place.now.own place.now.pending.now)
-        (put_in arguments.now z)) zones.now) }
+    ensures { IfOk result (λ b. b ≡ list_all (λ (z : ZoneKind). is_put_allowed place.now (put_in arguments.now z)) zones.now) }
 {
     for zone in zones {
         if !is_put_allowed(alloc, place, moves, arguments, zone)? {
@@ -188,15 +182,13 @@ fn are_put_allowed(
 /// The same of each zone of a callee: nothing that is pending conflicts with it.
 fn are_put_clear(
     alloc: Global,
-    place: &Place<'_>,
+    place: &MeasuredPlace<'_>,
     moves: &[Move],
     arguments: &[Argument],
     zones: &[Zone],
 ) -> Result<bool, OutOfMemory>
     requires { moves.now ≡ argument_moves 0 arguments.now }
-    ensures { IfOk result (λ b. b ≡ list_all (λ (z : ZoneKind). is_put_clear
-        (place_of place.now.facts.now place.now.covering.now place.now.own place.now.pending.now)
-        (put_in arguments.now z)) zones.now) }
+    ensures { IfOk result (λ b. b ≡ list_all (λ (z : ZoneKind). is_put_clear place.now (put_in arguments.now z)) zones.now) }
 {
     for zone in zones {
         if !is_put_clear(alloc, place, moves, arguments, zone)? {
@@ -204,6 +196,24 @@ fn are_put_clear(
         }
     }
     Ok(true)
+}
+
+/// 604: of a call of this function, which has some zones.
+fn zones_use(
+    alloc: Global,
+    place: &MeasuredPlace<'_>,
+    callee: &Function,
+    arguments: &[Argument],
+) -> Result<Use, OutOfMemory>
+    ensures { IfOk result (λ u. u ≡ callee_use place.now callee.now arguments.now) }
+{
+    let moves = argument_moves(alloc, arguments)?;
+    let zones = callee.zones.as_slice();
+    Ok(Use {
+        number: 604,
+        covered: are_put_allowed(alloc, place, &moves, arguments, zones)?,
+        clear: are_put_clear(alloc, place, &moves, arguments, zones)?,
+    })
 }
 
 /// 604: of a call of this function, its zones.
@@ -216,13 +226,11 @@ fn callee_use(
     ensures { IfOk result (λ u. u ≡ callee_use
         (place_of place.now.facts.now place.now.covering.now place.now.own place.now.pending.now) callee.now arguments.now) }
 {
-    let moves = argument_moves(alloc, arguments)?;
-    let zones = callee.zones.as_slice();
-    Ok(Use {
-        number: 604,
-        covered: are_put_allowed(alloc, place, &moves, arguments, zones)?,
-        clear: are_put_clear(alloc, place, &moves, arguments, zones)?,
-    })
+    if callee.zones.as_slice().is_empty() {
+        return Ok(no_use());
+    }
+    let place = MeasuredPlace::new(alloc, place)?;
+    zones_use(alloc, &place, callee, arguments)
 }
 
 /// 604: of a call, the callee's zones.

@@ -1,4 +1,7 @@
 mod Clears
+mod EndBounds
+mod EndSums
+mod EndsMade
 mod Levels
+mod Numbers
 mod Orders
-pub mod Numbers

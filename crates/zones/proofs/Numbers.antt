@@ -1,7 +1,8 @@
 -- Zones that are compared by numbers.
-use Rattle.std.proofs.Common.{◌≡◌, ◌∙◌, ◌<◌, ℕ, ◌+◌, Bool, true, false, refl, sym, ap, List, [], ◌∷◌, ◌++◌, length, get_or, take, map}
+use Rattle.std.proofs.Common.{rules, ◌≡◌, ◌∙◌, ◌<◌, ℕ, ◌+◌, Bool, true, false, refl, sym, ap, List, [], ◌∷◌, ◌++◌, length, get_or, take, map}
 use Rattle.std.proofs.lemmas.List.{map-append, take_more}
-use Rattle.std.specs.Prelude.{not, ◌&&◌, ◌||◌}
+use Rattle.std.specs.Prelude.{not, ◌||◌, All}
+use Rattle.std.proofs.lemmas.List.Elements.{All-append}
 use Rattle.std.specs.List.{list_any}
 use Rattle.std.proofs.lemmas.List.Folds.{list_any_at}
 use Rattle.linear.specs.declared.form.Fact.{Fact}
@@ -9,8 +10,8 @@ use Rattle.program.specs.declared.annotation.Pending.{Pending}
 use Rattle.program.specs.declared.annotation.Zone.{Zone}
 use Rattle.zones.specs.declared.measured.MeasuredZone.{MeasuredZone}
 use Rattle.zones.specs.Zones.{Span, as_written, same_object, mode_covers, modes_agree, shows_order, is_empty, covers, meets, is_covered}
-use Rattle.zones.specs.Places.{Place, is_allowed, is_clear}
-use Rattle.zones.specs.Ends.{zones_of}
+use Rattle.zones.specs.Places.{Place, is_clear}
+use Rattle.zones.specs.Ends.{IsMeasured, zones_of}
 use Rattle.zones.proofs.Clears as clears
 
 -- ---- two zones
@@ -67,3 +68,9 @@ zones_more measured m zones k d within before own =
     ∙ ap (λ (zs : List Zone). zs ++ m.zone.now ∷ []) before
     ∙ ap (λ (z : Zone). take k zones ++ z ∷ []) own
     ∙ sym (take_more zones k d within)
+
+pub measured_more : (facts : List Fact) (measured : List MeasuredZone) (m : MeasuredZone) → All (IsMeasured facts) measured → IsMeasured facts m → All (IsMeasured facts) (measured ++ m ∷ [])
+measured_more facts measured m before own = All-append (IsMeasured facts) measured (m ∷ []) before (All-one m own)
+  where
+    All-one : (m : MeasuredZone) → IsMeasured facts m → All (IsMeasured facts) (m ∷ [])
+    All-one m own = search (rules, own)

@@ -43,7 +43,8 @@ number_unshown facts z below none = rw none (below_zero z below)
 
 -- ---- sums in which numbers are put in for all registers
 
-parts_in_two : (first second : List Part) (form : Option Combination) → with_parts (first ++ second) form ≡ with_parts second (with_parts first form)
+-- parts in two runs are added one run after the other
+pub parts_in_two : (first second : List Part) (form : Option Combination) → with_parts (first ++ second) form ≡ with_parts second (with_parts first form)
 parts_in_two [] second form = refl
 parts_in_two (p ∷ first) [] None = refl
 parts_in_two (p ∷ first) (q ∷ second) None = refl

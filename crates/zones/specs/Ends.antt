@@ -49,7 +49,7 @@ pub record HasNumber (moves : List Move) (form : Combination) (k c : ℤ) : Type
   pub put : operand_for moves term.register ≡ Number number
   pub times : k ≡ pos 0
   pub constant : c ≡ form.constant +ℤ (term.coefficient *ℤ number)
-  pub small : unsigned_abs (term.coefficient *ℤ number) < 2 ^ 90
+  pub small : unsigned_abs term.coefficient < 2 ^ 24
 
 pub record HasRegister (moves : List Move) (form : Combination) (register : RegisterId) (k c : ℤ) : Type 0 where
   pub term : Term

@@ -1,4 +1,4 @@
-pub mod Levels
-pub mod Zones
-pub mod Places
 pub mod Ends
+pub mod Levels
+pub mod Places
+pub mod Zones

@@ -68,6 +68,7 @@ fn end_at(bounds: RegisterBounds, coefficient: i64, constant: i64) -> End
 fn number_end(number: i128) -> Option<End>
     ensures constant { IfSome result (λ e. e.constant ≡ number) }
     ensures coefficient { IfSome result (λ e. e.coefficient ≡ pos 0) }
+    ensures small { IfSome result (λ e. unsigned_abs e.constant < 2 ^ 64) }
     ensures between { (facts : List Fact) → IfSome result (IsBetween facts) }
 {
     match i64::try_from(number) {

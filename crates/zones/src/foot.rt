@@ -4,7 +4,8 @@ ghost use Rattle.program.specs.declared.annotation.Zone.{Zone as ZoneKind};
 ghost use Rattle.zones.specs.Zones.{as_written};
 ghost use Rattle.zones.specs.Places.{place_of, is_allowed, is_clear, foot_use};
 
-use crate::place::{Place, as_written, is_allowed, is_clear};
+use crate::measured::MeasuredPlace;
+use crate::place::{Place, as_written};
 use lists::OutOfMemory;
 use program::Zone;
 use std::alloc::Global;
@@ -18,12 +19,15 @@ pub struct Use {
 }
 
 /// Whether each zone needs no cover, or has one.
-fn are_allowed(alloc: Global, place: &Place<'_>, zones: &[Zone]) -> Result<bool, OutOfMemory>
-    ensures { IfOk result (λ b. b ≡ list_all (λ (z : ZoneKind). is_allowed
-        (place_of place.now.facts.now place.now.covering.now place.now.own place.now.pending.now) (as_written z)) zones.now) }
+fn are_allowed(
+    alloc: Global,
+    place: &MeasuredPlace<'_>,
+    zones: &[Zone],
+) -> Result<bool, OutOfMemory>
+    ensures { IfOk result (λ b. b ≡ list_all (λ (z : ZoneKind). is_allowed place.now (as_written z)) zones.now) }
 {
     for zone in zones {
-        if !is_allowed(alloc, place, &as_written(zone))? {
+        if !place.is_allowed(alloc, &as_written(zone))? {
             return Ok(false);
         }
     }
@@ -31,25 +35,39 @@ fn are_allowed(alloc: Global, place: &Place<'_>, zones: &[Zone]) -> Result<bool,
 }
 
 /// Whether nothing that is pending conflicts with one of the zones.
-fn are_clear(alloc: Global, place: &Place<'_>, zones: &[Zone]) -> Result<bool, OutOfMemory>
-    ensures { IfOk result (λ b. b ≡ list_all (λ (z : ZoneKind). is_clear
-        (place_of place.now.facts.now place.now.covering.now place.now.own place.now.pending.now) (as_written z)) zones.now) }
+fn are_clear(alloc: Global, place: &MeasuredPlace<'_>, zones: &[Zone]) -> Result<bool, OutOfMemory>
+    ensures { IfOk result (λ b. b ≡ list_all (λ (z : ZoneKind). is_clear place.now (as_written z)) zones.now) }
 {
     for zone in zones {
-        if !is_clear(alloc, place, &as_written(zone))? {
+        if !place.is_clear(alloc, &as_written(zone))? {
             return Ok(false);
         }
     }
     Ok(true)
 }
 
-/// 604: of a new child, its foot.
-pub fn foot_use(alloc: Global, place: &Place<'_>, foot: &[Zone]) -> Result<Use, OutOfMemory>
-    ensures { IfOk result (λ u. u ≡ foot_use (place_of place.now.facts.now place.now.covering.now place.now.own place.now.pending.now) foot.now) }
+/// 604: of a new child, a foot with some zones.
+fn zones_use(alloc: Global, place: &MeasuredPlace<'_>, foot: &[Zone]) -> Result<Use, OutOfMemory>
+    ensures { IfOk result (λ u. u ≡ foot_use place.now foot.now) }
 {
     Ok(Use {
         number: 604,
         covered: are_allowed(alloc, place, foot)?,
         clear: are_clear(alloc, place, foot)?,
     })
+}
+
+/// 604: of a new child, its foot.
+pub fn foot_use(alloc: Global, place: &Place<'_>, foot: &[Zone]) -> Result<Use, OutOfMemory>
+    ensures { IfOk result (λ u. u ≡ foot_use (place_of place.now.facts.now place.now.covering.now place.now.own place.now.pending.now) foot.now) }
+{
+    if foot.is_empty() {
+        return Ok(Use {
+            number: 604,
+            covered: true,
+            clear: true,
+        });
+    }
+    let place = MeasuredPlace::new(alloc, place)?;
+    zones_use(alloc, &place, foot)
 }

@@ -1,8 +1,8 @@
 use Rattle.std.proofs.Common.{◌≡◌, true, take}
 use Rattle.std.specs.List.{list_all}
 use Rattle.program.specs.declared.annotation.Zone.{Zone}
-use Rattle.footprints.specs.Footprints.{place_of, is_put_clear, put_in}
+use Rattle.footprints.specs.Footprints.{is_put_clear, put_in}
 use Rattle.footprints.proofs.touch.are_put_clear.Given as goal
 
 abbrev pub invariant-loop-zone : goal.invariant-loop-zone
-invariant-loop-zone l = list_all (λ (z : Zone). is_put_clear (place_of l.place.facts.now l.place.covering.now l.place.own l.place.pending.now) (put_in l.arguments z)) (take l.zone-index l.zones) ≡ true
+invariant-loop-zone l = list_all (λ (z : Zone). is_put_clear l.place (put_in l.arguments z)) (take l.zone-index l.zones) ≡ true

@@ -1,4 +1,4 @@
-use Rattle.std.proofs.Common.{sym, subst}
+use Rattle.std.proofs.Common.{subst}
 use Rattle.std.specs.Prelude.{IfSome}
 use Rattle.zones.specs.Ends.{IsEnd}
 use Rattle.zones.proofs.extent.are_in_order.Goals as goal

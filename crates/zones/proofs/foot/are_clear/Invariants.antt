@@ -2,8 +2,8 @@ use Rattle.std.proofs.Common.{◌≡◌, true, take}
 use Rattle.std.specs.List.{list_all}
 use Rattle.program.specs.declared.annotation.Zone.{Zone}
 use Rattle.zones.specs.Zones.{as_written}
-use Rattle.zones.specs.Places.{place_of, is_clear}
+use Rattle.zones.specs.Places.{is_clear}
 use Rattle.zones.proofs.foot.are_clear.Given as goal
 
 abbrev pub invariant-loop-zone : goal.invariant-loop-zone
-invariant-loop-zone l = list_all (λ (z : Zone). is_clear (place_of l.place.facts.now l.place.covering.now l.place.own l.place.pending.now) (as_written z)) (take l.zone-index l.zones) ≡ true
+invariant-loop-zone l = list_all (λ (z : Zone). is_clear l.place (as_written z)) (take l.zone-index l.zones) ≡ true

@@ -1,7 +1,6 @@
-use Rattle.std.proofs.Common.{rules, ◌≡◌, true}
-use Rattle.std.specs.Prelude.{IfOk}
+use Rattle.std.proofs.Common.{rules}
 use Rattle.zones.specs.Zones.{Span, span}
-use Rattle.zones.specs.Places.{Place, place_of, is_clear}
+use Rattle.zones.specs.Places.{Place, place_of}
 use Rattle.zones.proofs.Numbers.{clear_unless_met}
 use Rattle.zones.proofs.measured.MeasuredPlace.is_clear.Goals as goal
 
