@@ -161,6 +161,7 @@ impl<'a> FactBranches<'a> {
                 settled: self.index.settled.as_slice(),
                 recent: self.recent.as_slice(),
                 hints: self.index.hints.as_slice(),
+                pairs: self.index.pairs.as_slice(),
             },
             is_indexed: self.entered.count > self.facts.len(),
             is_consistent: self.entered.is_consistent,

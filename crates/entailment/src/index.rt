@@ -7,7 +7,7 @@ ghost use Rattle.linear.specs.Forms.{AreSmall, IsRising, coefficient_of};
 ghost use Rattle.entailment.specs.Index.{place_at, IsKeyOf, IsEntry, IsBegun, IsContradiction, AreEntries, AreLayers, IsJoined};
 ghost use Rattle.entailment.specs.declared.index.Entry.{Entry};
 
-use crate::hint::{Hint, make_hints};
+use crate::hint::{Hint, Pair, make_hints, make_pairs};
 use crate::merge::{enter_many, merge_into};
 use crate::show::{agree, is_at_most};
 use crate::weight::key_of;
@@ -25,6 +25,9 @@ const MANY: usize = 8;
 /// So many entries, and one for each sixteen that have settled, may be recent.
 const LATE: usize = 64;
 
+/// Of so many facts and more, pairs that served are remembered: to try them all in vain takes a small part of the time of a search along so many.
+const PAIRED: usize = 512;
+
 /// A fact by its place: 0 stands for an absent one, 1 for the first. Its constant stands here, too, so that most facts that do not serve are passed
 /// over without a look at them.
 #[derive(Clone, Copy)]
@@ -40,6 +43,7 @@ pub struct Layers<'a> {
     pub settled: &'a [Entry],
     pub recent: &'a [Entry],
     pub hints: &'a [Cell<Hint>],
+    pub pairs: &'a [Cell<Option<Pair>>],
 }
 
 /// What stands at a place.
@@ -247,6 +251,7 @@ pub struct Index {
     pub room: Vec<Entry>,
     pub entered: Entered,
     pub hints: Vec<Cell<Hint>>,
+    pub pairs: Vec<Cell<Option<Pair>>>,
 }
 
 /// Written out, so that no crate above proves it anew.
@@ -258,6 +263,7 @@ impl Drop for Index {
             room: _,
             entered: _,
             hints: _,
+            pairs: _,
         } = self;
     }
 }
@@ -287,6 +293,7 @@ impl Index {
             room: Vec::new(alloc),
             entered: nothing_entered(),
             hints: Vec::new(alloc),
+            pairs: Vec::new(alloc),
         }
     }
 
@@ -311,6 +318,7 @@ impl Index {
             settled: self.settled.as_slice(),
             recent: self.recent.as_slice(),
             hints: self.hints.as_slice(),
+            pairs: self.pairs.as_slice(),
         }
     }
 }
@@ -403,6 +411,9 @@ pub fn enter_from(facts: &[Fact], index: &mut Index) -> Result<(), AllocError>
     )?;
     if facts.len() > LATE {
         make_hints(&mut index.hints)?;
+    }
+    if facts.len() >= PAIRED {
+        make_pairs(&mut index.pairs)?;
     }
     settle(facts, index)
 }
