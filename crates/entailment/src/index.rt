@@ -418,6 +418,23 @@ pub fn enter_from(facts: &[Fact], index: &mut Index) -> Result<(), AllocError>
     settle(facts, index)
 }
 
+/// Brings an index of facts up to date, where these are many. Refused, it is empty, and may be brought up again.
+pub fn index_many(facts: &[Fact], index: &mut Index) -> Result<(), AllocError>
+    requires { IsBegun facts.now index.old.entered.count index.old.settled.items index.old.recent.items index.old.entered.is_consistent }
+    ensures { IsBegun facts.now index.new.entered.count index.new.settled.items index.new.recent.items index.new.entered.is_consistent }
+{
+    if facts.len() <= FEW {
+        return Ok(());
+    }
+    match enter_from(facts, index) {
+        Ok(()) => Ok(()),
+        Err(refused) => {
+            index.clear();
+            Err(refused)
+        }
+    }
+}
+
 /// The strongest facts by their keys; none where one is past the range of keys.
 pub fn index_of(alloc: Global, facts: &[Fact]) -> Result<Option<Index>, AllocError>
     ensures { IfOk result (λ index. IfSome index (λ i. AreLayers facts.now (suc (length facts.now)) i.settled.items i.recent.items)) }
