@@ -1,4 +1,4 @@
-//! Facts that showed forms, which are tried again before all others. Nothing is owed for what is remembered, as two that are tried are judged as any others.
+//! Facts that showed forms: they are tried before others are sought. Nothing is owed for what is remembered, as two that are tried are judged as any others.
 
 use std::alloc::AllocError;
 use std::cell::Cell;
@@ -6,7 +6,8 @@ use std::cell::Cell;
 /// So many forms are remembered; of those that share a slot the last one.
 const HINTS: u32 = 1_024;
 
-/// So many pairs of facts are remembered: of many facts few show most of what is asked, each time with other factors.
+/// So many pairs of facts are remembered: a few show most of what is asked of many facts, each time with other factors. To try so many in vain takes less
+/// time than the search among more facts than that.
 const PAIRS: u32 = 32;
 
 /// The key of a form, and the places of the two facts with their factors.
@@ -77,7 +78,7 @@ pub fn hint_of(hints: &[Cell<Hint>], key: u128) -> Option<Hint> {
     if hint.key == key { Some(hint) } else { None }
 }
 
-/// Puts two facts before the others, the last of which are forgotten.
+/// Puts two facts into the first slot; the others move on by one, and those of the last are forgotten.
 pub fn remember_pair(pairs: &[Cell<Option<Pair>>], pair: Pair) {
     let mut moved = Some(pair);
     for slot in pairs {

@@ -25,9 +25,6 @@ const MANY: usize = 8;
 /// So many entries, and one for each sixteen that have settled, may be recent.
 const LATE: usize = 64;
 
-/// Of so many facts and more, pairs that served are remembered: to try them all in vain takes a small part of the time of a search along so many.
-const PAIRED: usize = 512;
-
 /// A fact by its place: 0 stands for an absent one, 1 for the first. Its constant stands here, too, so that most facts that do not serve are passed
 /// over without a look at them.
 #[derive(Clone, Copy)]
@@ -411,8 +408,6 @@ pub fn enter_from(facts: &[Fact], index: &mut Index) -> Result<(), AllocError>
     )?;
     if facts.len() > LATE {
         make_hints(&mut index.hints)?;
-    }
-    if facts.len() >= PAIRED {
         make_pairs(&mut index.pairs)?;
     }
     settle(facts, index)

@@ -396,13 +396,14 @@ fn made_up_by(search: &Search<'_>, hint: Hint) -> bool
     is_sum_at(search, hint.first, hint.a, hint.second, hint.b)
 }
 
-/// Whether two facts that served lately make the form up with these factors.
+/// Whether two facts that served lately make the form up with these factors. Those that do stand before the others then.
 fn made_up_by_pair(search: &Search<'_>, a: u32, b: u32) -> bool
     ensures { IsTrue result → IsShown search.now.facts.now search.now.form.now }
 {
     let key = lower_half(search.key);
-    for slot in search.layers.pairs {
-        let Some(pair) = slot.get() else {
+    let pairs = search.layers.pairs;
+    for k in 0..pairs.len() {
+        let Some(pair) = pairs[k].get() else {
             return false;
         };
         if !comes_to(pair, a, b, key) {
@@ -416,6 +417,7 @@ fn made_up_by_pair(search: &Search<'_>, a: u32, b: u32) -> bool
             b,
         };
         if made_up_by(search, hint) {
+            remember_pair(&pairs[..k + 1], pair);
             return true;
         }
     }
