@@ -6,8 +6,8 @@ use std::cell::Cell;
 /// So many forms are remembered; of those that share a slot the last one.
 const HINTS: u32 = 1_024;
 
-/// So many pairs of facts are remembered: a few show most of what is asked of many facts, each time with other factors. To try so many in vain takes less
-/// time than the search among more facts than that.
+/// So many pairs of facts are remembered: a few show most of what is asked of many facts, each time with other factors. To try them all in vain takes about a
+/// microsecond for a form of four registers, and to search among 64 facts five times that.
 const PAIRS: u32 = 32;
 
 /// The key of a form, and the places of the two facts with their factors.
