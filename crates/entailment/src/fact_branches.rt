@@ -1,9 +1,9 @@
 //! Facts that some others join, and then others in place of these: what is known on the edges of a block, one after the other.
 
-ghost use Rattle.std.specs.Prelude.{◌≡◌, ◌++◌, IfOk, OnOk, true, take, length};
+ghost use Rattle.std.specs.Prelude.{◌≡◌, ◌++◌, IfOk, OnErr, OnOk, true, take, length};
 ghost use Rattle.entailment.specs.Index.{IsBegun};
 
-use crate::index::{Entered, Entry, FEW, Index, Layers, enter_each, enter_from};
+use crate::index::{Entered, Entry, FEW, Index, Layers, enter_each, index_many};
 use crate::known::Known;
 use linear::Fact;
 use std::alloc::{AllocError, Global};
@@ -41,7 +41,7 @@ impl<'a> Model for FactBranches<'a> {
 }
 
 /// Adds copies of facts.
-fn push_copies(alloc: Global, facts: &mut Vec<Fact>, more: &[Fact]) -> Result<(), AllocError>
+pub fn push_copies(alloc: Global, facts: &mut Vec<Fact>, more: &[Fact]) -> Result<(), AllocError>
     ensures { OnOk result (facts.new.items ≡ facts.old.items ++ more.now) }
 {
     facts.reserve(more.len())?;
@@ -71,23 +71,6 @@ fn put_after(
         push_copies(alloc, facts, lent)?;
     }
     push_copies(alloc, facts, more)
-}
-
-/// Brings an index of facts up to date, where these are many.
-fn index_many(facts: &[Fact], index: &mut Index) -> Result<(), AllocError>
-    requires { IsBegun facts.now index.old.entered.count index.old.settled.items index.old.recent.items index.old.entered.is_consistent }
-    ensures { IsBegun facts.now index.new.entered.count index.new.settled.items index.new.recent.items index.new.entered.is_consistent }
-{
-    if facts.len() <= FEW {
-        return Ok(());
-    }
-    match enter_from(facts, index) {
-        Ok(()) => Ok(()),
-        Err(refused) => {
-            index.clear();
-            Err(refused)
-        }
-    }
 }
 
 /// Entries of all facts beside the settled ones, from the recent ones of the first facts on.
@@ -124,10 +107,12 @@ impl<'a> FactBranches<'a> {
         }
     }
 
-    /// Lets these facts join the lent ones, in place of those that had, and brings the index up to date, where they are many.
+    /// Lets these facts join the lent ones, in place of those that had, and brings the index up to date, where they are many. Refused, it leaves the lent
+    /// ones alone known.
     pub fn switch_to(&mut self, alloc: Global, more: &[Fact]) -> Result<(), AllocError>
         ensures lent { self.new.0 ≡ self.old.0 }
         ensures all { OnOk result (self.new.1 ≡ self.old.0 ++ more.now) }
+        ensures refused { OnErr result (self.new.1 ≡ self.old.0) }
     {
         self.has_more = false;
         index_many(self.lent, &mut self.index)?;
@@ -161,6 +146,7 @@ impl<'a> FactBranches<'a> {
                 settled: self.index.settled.as_slice(),
                 recent: self.recent.as_slice(),
                 hints: self.index.hints.as_slice(),
+                pairs: self.index.pairs.as_slice(),
             },
             is_indexed: self.entered.count > self.facts.len(),
             is_consistent: self.entered.is_consistent,

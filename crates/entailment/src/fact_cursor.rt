@@ -2,7 +2,7 @@
 
 ghost use Rattle.std.specs.Prelude.{◌≡◌, length, take};
 
-use crate::index::{FEW, Index, enter_from};
+use crate::index::{Index, index_many};
 use crate::known::Known;
 use linear::Fact;
 use std::alloc::{AllocError, Global};
@@ -67,17 +67,7 @@ impl<'a> FactCursor<'a> {
     pub fn index(&mut self) -> Result<(), AllocError>
         ensures { self.new ≡ self.old }
     {
-        let facts = first(self.facts, self.count);
-        if facts.len() <= FEW {
-            return Ok(());
-        }
-        match enter_from(facts, &mut self.index) {
-            Ok(()) => Ok(()),
-            Err(refused) => {
-                self.index.clear();
-                Err(refused)
-            }
-        }
+        index_many(first(self.facts, self.count), &mut self.index)
     }
 
     /// What is known at the place.

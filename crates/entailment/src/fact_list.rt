@@ -2,7 +2,7 @@
 
 ghost use Rattle.std.specs.Prelude.{◌≡◌, ◌++◌, ◌∷◌, [], IfOk, OnOk, length};
 
-use crate::index::{FEW, Index, enter_from};
+use crate::index::{Index, index_many};
 use crate::known::Known;
 use linear::Fact;
 use std::alloc::{AllocError, Global};
@@ -78,17 +78,7 @@ impl FactList {
     pub fn index(&mut self) -> Result<(), AllocError>
         ensures { self.new ≡ self.old }
     {
-        if self.facts.len() <= FEW {
-            return Ok(());
-        }
-        let facts = self.facts.as_slice();
-        match enter_from(facts, &mut self.index) {
-            Ok(()) => Ok(()),
-            Err(refused) => {
-                self.index.clear();
-                Err(refused)
-            }
-        }
+        index_many(self.facts.as_slice(), &mut self.index)
     }
 
     /// What is known by these facts.

@@ -5,7 +5,9 @@ ghost use Rattle.entailment.specs.Index.{IsKeyOf, AreLayers};
 ghost use Rattle.entailment.specs.Tested.{is_shown};
 
 use crate::index::{FEW, Layers, index_of};
-use crate::lookup::{Search, made_up, made_up_alone, made_up_by_bounds, made_up_by_hint};
+use crate::lookup::{
+    Search, made_up, made_up_alone, made_up_by_bounds, made_up_by_hint, made_up_by_pairs,
+};
 use crate::show::shown;
 use crate::weight::key_of;
 use linear::{Fact, Form, side_of};
@@ -53,6 +55,13 @@ fn shown_by_hint(search: &Search<'_>) -> bool
     made_up_by_hint(search)
 }
 
+/// Whether two facts that served lately show the form.
+fn shown_by_pairs(search: &Search<'_>) -> bool
+    ensures { IsTrue result → is_shown search.now.facts.now search.now.form.now ≡ true }
+{
+    made_up_by_pairs(search)
+}
+
 /// Whether two of the newest facts show the form. They are tried where there are so many entries that the search among them all takes longer.
 fn shown_by_newest(search: &Search<'_>) -> bool
     ensures { IsTrue result → is_shown search.now.facts.now search.now.form.now ≡ true }
@@ -74,7 +83,7 @@ fn shown_by_two(search: &Search<'_>) -> bool
 }
 
 /// Whether the facts show the form, by their index. Most forms are shown by one fact, by a bound of each register, by the two
-/// facts that showed them before, or by two of the newest.
+/// facts that showed them before, by two that showed others lately, or by two of the newest.
 fn shown_by_search(search: &Search<'_>) -> bool
     requires index { AreLayers search.now.facts.now (suc (length search.now.facts.now)) search.now.layers.settled.now search.now.layers.recent.now }
     requires key { IsKeyOf search.now.form.now.terms search.now.key }
@@ -87,6 +96,9 @@ fn shown_by_search(search: &Search<'_>) -> bool
         return true;
     }
     if shown_by_hint(search) {
+        return true;
+    }
+    if shown_by_pairs(search) {
         return true;
     }
     if shown_by_newest(search) {

@@ -7,7 +7,7 @@ ghost use Rattle.linear.specs.Forms.{AreSmall, IsRising, coefficient_of};
 ghost use Rattle.entailment.specs.Index.{place_at, IsKeyOf, IsEntry, IsBegun, IsContradiction, AreEntries, AreLayers, IsJoined};
 ghost use Rattle.entailment.specs.declared.index.Entry.{Entry};
 
-use crate::hint::{Hint, make_hints};
+use crate::hint::{Hint, Pair, make_hints, make_pairs};
 use crate::merge::{enter_many, merge_into};
 use crate::show::{agree, is_at_most};
 use crate::weight::key_of;
@@ -40,6 +40,7 @@ pub struct Layers<'a> {
     pub settled: &'a [Entry],
     pub recent: &'a [Entry],
     pub hints: &'a [Cell<Hint>],
+    pub pairs: &'a [Cell<Option<Pair>>],
 }
 
 /// What stands at a place.
@@ -247,6 +248,7 @@ pub struct Index {
     pub room: Vec<Entry>,
     pub entered: Entered,
     pub hints: Vec<Cell<Hint>>,
+    pub pairs: Vec<Cell<Option<Pair>>>,
 }
 
 /// Written out, so that no crate above proves it anew.
@@ -258,6 +260,7 @@ impl Drop for Index {
             room: _,
             entered: _,
             hints: _,
+            pairs: _,
         } = self;
     }
 }
@@ -287,6 +290,7 @@ impl Index {
             room: Vec::new(alloc),
             entered: nothing_entered(),
             hints: Vec::new(alloc),
+            pairs: Vec::new(alloc),
         }
     }
 
@@ -311,6 +315,7 @@ impl Index {
             settled: self.settled.as_slice(),
             recent: self.recent.as_slice(),
             hints: self.hints.as_slice(),
+            pairs: self.pairs.as_slice(),
         }
     }
 }
@@ -403,8 +408,26 @@ pub fn enter_from(facts: &[Fact], index: &mut Index) -> Result<(), AllocError>
     )?;
     if facts.len() > LATE {
         make_hints(&mut index.hints)?;
+        make_pairs(&mut index.pairs)?;
     }
     settle(facts, index)
+}
+
+/// Brings an index of facts up to date, where these are many. Refused, it is empty, and may be brought up again.
+pub fn index_many(facts: &[Fact], index: &mut Index) -> Result<(), AllocError>
+    requires { IsBegun facts.now index.old.entered.count index.old.settled.items index.old.recent.items index.old.entered.is_consistent }
+    ensures { IsBegun facts.now index.new.entered.count index.new.settled.items index.new.recent.items index.new.entered.is_consistent }
+{
+    if facts.len() <= FEW {
+        return Ok(());
+    }
+    match enter_from(facts, index) {
+        Ok(()) => Ok(()),
+        Err(refused) => {
+            index.clear();
+            Err(refused)
+        }
+    }
 }
 
 /// The strongest facts by their keys; none where one is past the range of keys.

@@ -51,6 +51,7 @@ impl<'a> Known<'a> {
                 settled: &[],
                 recent: &[],
                 hints: &[],
+                pairs: &[],
             },
             is_indexed: false,
             is_consistent: false,

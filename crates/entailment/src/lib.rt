@@ -17,7 +17,7 @@ mod merge;
 mod show;
 mod weight;
 
-pub use fact_branches::FactBranches;
+pub use fact_branches::{FactBranches, push_copies};
 pub use fact_cursor::FactCursor;
 pub use fact_list::FactList;
 pub use find::find_shown;

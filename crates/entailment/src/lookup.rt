@@ -8,7 +8,7 @@ ghost use Rattle.entailment.specs.Index.{place_at, IsKeyOf, IsEntry, AreEntries,
 ghost use Rattle.entailment.specs.Shown.{IsSum, IsShown};
 ghost use Rattle.entailment.specs.declared.index.Entry.{Entry};
 
-use crate::hint::{Hint, hint_of, remember};
+use crate::hint::{Hint, Pair, comes_to, hint_of, lower_half, remember, remember_pair};
 use crate::index::{Entry, Layers, no_fact, side_of_place};
 use crate::meeting::{Pass, left_after, next_two, sought_of, total_of};
 use crate::show::{agree, factor, is_at_most};
@@ -72,6 +72,15 @@ fn remember_two(search: &Search<'_>, first: Entry, a: u32, second: Entry, b: u32
             a,
             second: second.place,
             b,
+        },
+    );
+    remember_pair(
+        search.layers.pairs,
+        Pair {
+            first: first.place,
+            first_key: lower_half(first.key),
+            second: second.place,
+            second_key: lower_half(second.key),
         },
     );
 }
@@ -239,8 +248,9 @@ fn wanted(key: u128, b: u32) -> Option<u128>
     ensures some { IfSome result (λ wanted. b * wanted + 2 ^ 100 ≡ b * 2 ^ 100 + key) }
 {
     let whole = u128::from(b - 1) * 1_267_650_600_228_229_401_496_703_205_376 + key;
-    if whole % u128::from(b) == 0 {
-        Some(whole / u128::from(b))
+    let quotient = whole / u128::from(b);
+    if u128::from(b) * quotient == whole {
+        Some(quotient)
     } else {
         None
     }
@@ -384,6 +394,73 @@ fn made_up_by(search: &Search<'_>, hint: Hint) -> bool
         return false;
     }
     is_sum_at(search, hint.first, hint.a, hint.second, hint.b)
+}
+
+/// Whether two facts that served lately make the form up with these factors. Those that do stand before the others then.
+fn made_up_by_pair(search: &Search<'_>, a: u32, b: u32) -> bool
+    ensures { IsTrue result → IsShown search.now.facts.now search.now.form.now }
+{
+    let key = lower_half(search.key);
+    let pairs = search.layers.pairs;
+    for k in 0..pairs.len() {
+        let Some(pair) = pairs[k].get() else {
+            return false;
+        };
+        if !comes_to(pair, a, b, key) {
+            continue;
+        }
+        let hint = Hint {
+            key: search.key,
+            first: pair.first,
+            a,
+            second: pair.second,
+            b,
+        };
+        if made_up_by(search, hint) {
+            remember_pair(&pairs[..k + 1], pair);
+            return true;
+        }
+    }
+    false
+}
+
+/// Whether two facts that served lately make the form up with this first factor. With a second one that is 0 the first fact would do so alone.
+fn made_up_by_pairs_with(search: &Search<'_>, a: u32) -> bool
+    ensures { IsTrue result → IsShown search.now.facts.now search.now.form.now }
+{
+    let terms = side_of(search.form).terms;
+    let count = terms.len() + 1;
+    for index in 0..count {
+        let b = factor(terms, index);
+        if b == 0 || is_repeated(terms, index) {
+            continue;
+        }
+        if made_up_by_pair(search, a, b) {
+            return true;
+        }
+    }
+    false
+}
+
+/// Whether two facts that served lately make the form up, with each two factors in both orders.
+pub fn made_up_by_pairs(search: &Search<'_>) -> bool
+    ensures { IsTrue result → IsShown search.now.facts.now search.now.form.now }
+{
+    if search.layers.pairs.is_empty() {
+        return false;
+    }
+    let terms = side_of(search.form).terms;
+    let count = terms.len() + 1;
+    for index in 0..count {
+        let a = factor(terms, index);
+        if a == 0 || is_repeated(terms, index) {
+            continue;
+        }
+        if made_up_by_pairs_with(search, a) {
+            return true;
+        }
+    }
+    false
 }
 
 /// The first entry of this key, or that of an absent fact.

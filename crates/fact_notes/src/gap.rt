@@ -1,12 +1,12 @@
 //! By how much facts fall short of a form, and which of them come nearest. All is asked of `shown`.
 
-ghost use Rattle.std.specs.Prelude.{◌≡◌, ◌++◌, IfOk, OnOk};
+ghost use Rattle.std.specs.Prelude.{◌≡◌, ◌++◌, IfOk};
 
-use entailment::shown;
+use entailment::{push_copies, shown};
 use linear::{Fact, Form, FormFault};
 use lists::OutOfMemory;
 use ranges::EdgeFacts;
-use std::alloc::{AllocError, Global};
+use std::alloc::Global;
 
 /// The sizes of numbers that a form may be raised by: 2^125.
 const TOO_MUCH: u128 = 42_535_295_865_117_307_932_921_825_928_971_026_432;
@@ -150,31 +150,20 @@ fn rest_of(alloc: Global, form: &Form, fact: &Fact) -> Result<Option<Form>, OutO
     }
 }
 
-fn push_copies(alloc: Global, facts: &[Fact], copies: &mut Vec<Fact>) -> Result<(), AllocError>
-    ensures { OnOk result (copies.new.items ≡ copies.old.items ++ facts.now) }
-{
-    for fact in facts {
-        copies.push(Fact {
-            form: fact.form.copy(alloc)?,
-        })?;
-    }
-    Ok(())
-}
-
 /// What is known on an edge: what is known at the end of its block, and then what its being taken says.
 pub fn edge_known(alloc: Global, known: &[Fact], edge: &EdgeFacts) -> Result<Vec<Fact>, OutOfMemory>
     ensures { IfOk result (λ facts. facts.items ≡ known.now ++ edge.now.facts) }
 {
     let mut facts: Vec<Fact> = Vec::new(alloc);
-    push_copies(alloc, known, &mut facts)?;
-    push_copies(alloc, edge.facts.as_slice(), &mut facts)?;
+    push_copies(alloc, &mut facts, known)?;
+    push_copies(alloc, &mut facts, edge.facts.as_slice())?;
     Ok(facts)
 }
 
 /// The facts, and that one form more is at least 0.
 fn facts_and(alloc: Global, facts: &[Fact], form: &Form) -> Result<Vec<Fact>, OutOfMemory> {
     let mut more: Vec<Fact> = Vec::new(alloc);
-    push_copies(alloc, facts, &mut more)?;
+    push_copies(alloc, &mut more, facts)?;
     push_form(alloc, form, &mut more)?;
     Ok(more)
 }
