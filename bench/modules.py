@@ -335,6 +335,21 @@ def zoned(count):
     rest = f"c:\n{keeps};! left 0 {total - 3}\n" + "".join(f";! pending %s {zone}\n" for zone in zones)
     return callee + head + child + rest + "call void @f(i64 %n)\n" * count + "sync within %s, label %e\ne:\n;! left 0 1\nret i64 0\n}\n"
 
+def scaled(count):
+    """As `zoned`, where the child's zones are at multiples of another register, and of 32 zones of the caller's at multiples the last alone covers."""
+    bounds, others = ["%n >= 1", "%n <= 9"], ["%m >= 1", "%m <= 9"]
+    modes = [("reads", 0), ("writes", 32), ("adds", 64)]
+    callee = "@a = global [2000 x i64] zeroinitializer\ndefine void @f(i64 %n) {\n" + "".join(f";! requires {bound}\n" for bound in bounds)
+    callee += "".join(f";! {mode} @a {start + k}*%n+369 {start + k + 1}*%n+369\n" for mode, start in modes for k in range(32)) + ";! budget 0 1\nentry:\n;! left 0 1\nret void\n}\n"
+    total = 2 * count + 6
+    covers = [f"writes @a {k + 1}*%n {k + 2}*%n" for k in range(31)] + ["writes @a %n-1 1300*%n"]
+    head = "define i64 @main(i64 %n, i64 %m) {\n" + "".join(f";! requires {bound}\n" for bound in bounds + others) + "".join(f";! {zone}\n" for zone in covers)
+    head += f";! budget 0 {total}\nentry:\n;! left 0 {total}\n%s = call token @llvm.syncregion.start()\n"
+    keeps = "".join(f";! keeps {bound}\n" for bound in bounds + others)
+    child = f"detach within %s, label %d, label %c\nd:\n{keeps};! left 0 1\nreattach within %s, label %c\n"
+    rest = f"c:\n{keeps};! left 0 {total - 3}\n" + "".join(f";! pending %s writes @a {k + 1}*%m {k + 2}*%m\n" for k in range(32))
+    return callee + head + child + rest + "call void @f(i64 %n)\n" * count + "sync within %s, label %e\ne:\n;! left 0 1\nret i64 0\n}\n"
+
 def posed(count):
     """So many facts of four registers, and calls of functions with 32 `requires` lines that two of the 24 oldest show with two factors, at the limit 95,000 different questions."""
     registers, functions = ["%a", "%b", "%c", "%d"], count // 100 + 1
