@@ -350,6 +350,11 @@ def scaled(count):
     rest = f"c:\n{keeps};! left 0 {total - 3}\n" + "".join(f";! pending %s writes @a {k + 1}*%m {k + 2}*%m\n" for k in range(32))
     return callee + head + child + rest + "call void @f(i64 %n)\n" * count + "sync within %s, label %e\ne:\n;! left 0 1\nret i64 0\n}\n"
 
+def slanted(count):
+    """As `scaled`, where another parameter stands in both ends of each zone of the callee's."""
+    text = scaled(count).replace("define void @f(i64 %n) {\n", "define void @f(i64 %n, i64 %p) {\n;! requires %p >= 1\n;! requires %p <= 9\n")
+    return text.replace("*%n+369", "*%n+%p+369").replace("call void @f(i64 %n)", "call void @f(i64 %n, i64 %m)")
+
 def posed(count):
     """So many facts of four registers, and calls of functions with 32 `requires` lines that two of the 24 oldest show with two factors, at the limit 95,000 different questions."""
     registers, functions = ["%a", "%b", "%c", "%d"], count // 100 + 1
@@ -370,6 +375,25 @@ def posed(count):
         facts.append(f";! shows {x}*%a{2 * x:+}*%b{y:+}*%c{3 * y:+}*%d >= {9 * min(x, 0) + 9 * min(y, 0)}\n" + (f"%x{j} = add i64 %a, 0\n" if j % 32 == 0 else ""))
     body = [f"call void @f{n % functions}(" + ", ".join(f"i64 {register}" for register in orders[n // functions % 24]) + ")\n" for n in range(calls)]
     return callees + head + "".join(facts) + "".join(body) + "ret i64 0\n}\n"
+
+def strewn(count):
+    """As `posed`, where 1,536 pairs of facts in turn show what is asked."""
+    registers, functions = ["%a", "%b", "%c", "%d"], count // 100 + 1
+    orders = list(itertools.permutations(registers))
+    def line(i):
+        x, y, k, l = i + 2, 7 * i + 3, 2 + i % 8, 2 + i // 8 % 8
+        return f"{x}*%p+{k * x}*%q+{y}*%r+{l * y}*%s >= {-9 * i}"
+    callees = "".join(f"define void @f{f}(i64 %p, i64 %q, i64 %r, i64 %s) {{\n" + "".join(f";! requires {line(i)}\n" for i in range(32 * f, 32 * f + 32))
+        + ";! budget 0 1\nentry:\n;! left 0 1\nret void\n}\n" for f in range(functions))
+    pairs = [f"{u}+{k}*{v} >= 0" for u, v in itertools.permutations(registers, 2) for k in range(2, 10)]
+    facts = pairs + [f"{x}*%a+{2 * x}*%b+{y}*%c+{3 * y}*%d >= 0" for x, y in ((j * 541 % 1223 + 2, j * 733 % 1117 + 2) for j in range(1, count + 1))]
+    calls, adds = 2 * count // 5, len(facts) // 32
+    total = adds + 2 * calls + 1
+    head = "define i64 @main(i64 %a, i64 %b, i64 %c, i64 %d) {\n" + "".join(f";! requires {register} >= 0\n" for register in registers)
+    head += f";! budget 0 {total}\nentry:\n;! left 0 {total}\n"
+    shows = "".join(f";! shows {fact}\n" + (f"%x{j} = add i64 %a, 0\n" if j % 32 == 0 else "") for j, fact in enumerate(facts, 1))
+    body = [f"call void @f{n % functions}(" + ", ".join(f"i64 {register}" for register in orders[n // functions % 24]) + ")\n" for n in range(calls)]
+    return callees + head + shows + "".join(body) + "ret i64 0\n}\n"
 
 def pending(blocks):
     """A child that may run beside so many blocks, each with 32 `pending` lines."""

@@ -58,5 +58,5 @@ pub fn lies_around(z: &Extent, y: &Extent) -> bool
     ensures high { (facts : List Fact) (a b : Span) → IsExtent facts a z.now → IsExtent facts b y.now
         → IsTrue result → shows_order facts a.moves a.zone.high b.moves b.zone.high ≡ true }
 {
-    are_in_order(&z.high, &y.high) && are_in_order(&y.low, &z.low)
+    are_in_order(&y.low, &z.low) && are_in_order(&z.high, &y.high)
 }
