@@ -31,10 +31,11 @@ use Rattle.ranges.specs.cfg.declared.structure.Way.TheVariants.{Branch, Detached
 use Rattle.ranges.specs.declared.table.EdgeFacts.{EdgeFacts}
 use Rattle.ranges.specs.obligations.Inequalities.{argument_moves}
 use Rattle.footprints.specs.declared.access.Cell.{Cell}
-use Rattle.zones.specs.declared.foot.Use.{Use}
+use Rattle.zones.specs.declared.place.Use.{Use}
 use Rattle.zones.specs.Zones.{Span, span, as_written, covers, is_empty}
-pub use Rattle.zones.specs.Places.{Place, place_of, is_own, foot_use}
+pub use Rattle.zones.specs.Places.{Place, place_of, is_own}
 unfoldable pub use Rattle.zones.specs.Places.{is_allowed, is_clear}
+pub use Rattle.feet.specs.Feet.{foot_use}
 
 -- ---- the cell of an address
 

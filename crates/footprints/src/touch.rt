@@ -11,13 +11,14 @@ ghost use Rattle.footprints.specs.Footprints.{put_in, is_put_allowed, is_put_cle
 ghost use Rattle.footprints.specs.Footprints.{end_use};
 
 use crate::access::{Cell, Pointer, cell_of, cells_zone, first_cell};
+use feet::foot_use;
 use lists::OutOfMemory;
 use program::{
     Address, Argument, Block, Function, FunctionId, Instruction, Mode, ObjectName, Terminator, Zone,
 };
 use ranges::{Move, argument_moves};
 use std::alloc::Global;
-use zones::{MeasuredPlace, Place, PlacedZone, Use, as_written, foot_use, is_allowed, is_clear};
+use zones::{MeasuredPlace, Place, PlacedZone, Use, as_written, is_allowed, is_clear};
 
 /// Of what touches nothing.
 fn no_use() -> Use

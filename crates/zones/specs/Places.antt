@@ -6,7 +6,6 @@ use Rattle.program.specs.declared.annotation.Pending.{Pending}
 use Rattle.program.specs.declared.annotation.Zone.{Zone}
 use Rattle.program.specs.declared.identifier.ObjectName.{ObjectName}
 use Rattle.program.specs.declared.identifier.ObjectName.TheVariants.{Global, Alloca, Parameter}
-use Rattle.zones.specs.declared.foot.Use.{Use}
 use Rattle.zones.specs.Zones.{Span, as_written, conflict, is_covered}
 
 -- what is known at a place, the zones that must cover what is touched there, whether it is one of the function's own blocks, and what is pending
@@ -33,11 +32,3 @@ is_allowed p y = is_own p.own y.object || is_covered p.facts p.covering y
 -- 602: nothing that is pending conflicts with it
 unfoldable pub is_clear : Place → Span → Bool
 is_clear p y = list_all (λ (q : Pending). not (conflict p.facts (as_written q.zone) y)) p.pending
-
--- 604: a new child's foot
-abbrev pub foot_use : Place → List Zone → Use
-foot_use p foot = record {
-  number = 604;
-  covered = list_all (λ (z : Zone). is_allowed p (as_written z)) foot;
-  clear = list_all (λ (z : Zone). is_clear p (as_written z)) foot;
-}

@@ -6,15 +6,13 @@
 mod bounds;
 mod ends;
 mod extent;
-mod foot;
 mod measured;
 mod order;
 mod place;
 mod zone;
 
-pub use foot::{Use, foot_use};
 pub use measured::MeasuredPlace;
-pub use place::{Place, as_written, index_for, is_allowed, is_clear};
+pub use place::{Place, Use, as_written, index_for, is_allowed, is_clear};
 pub use zone::{
     PlacedZone, conflict, covers, is_apart, is_covered, is_empty, mode_covers, modes_agree,
     same_object,

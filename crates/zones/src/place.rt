@@ -20,6 +20,14 @@ pub struct Place<'a> {
     pub pending: &'a [Pending],
 }
 
+/// Whether what a step or a terminator touches is covered, by the rule of this number, and clear of what is pending.
+#[derive(Clone, Copy)]
+pub struct Use {
+    pub number: u16,
+    pub covered: bool,
+    pub clear: bool,
+}
+
 /// Brings the index of what is known up to date, where questions are to come.
 pub fn index_for(cursor: &mut FactCursor<'_>, is_asked: bool) -> Result<(), OutOfMemory>
     ensures { cursor.new ≡ cursor.old }

@@ -24,7 +24,7 @@ use Rattle.region_match.specs.declared.tables.Regions.{Regions}
 use Rattle.ranges.specs.Places.{facts_at_step}
 use Rattle.ranges.specs.Truth.{operand_value}
 use Rattle.footprints.specs.declared.access.Cell.{Cell as NamedCell}
-use Rattle.footprints.specs.zones.declared.foot.Use.{Use}
+use Rattle.footprints.specs.zones.declared.place.Use.{Use}
 use Rattle.footprints.specs.Zones.{as_written}
 use Rattle.footprints.specs.Cells.{end_value, HasCell}
 use Rattle.footprints.specs.Footprints.{Place, pointed, pointer_of, address_cell, form_at, cells_zone, access_use, cell_use, step_use, first_cell as first_named}

@@ -16,7 +16,7 @@ use Rattle.region_match.specs.declared.tables.Regions.{Regions}
 use Rattle.refusal.specs.declared.broken.Broken.{Broken}
 use Rattle.ranges.specs.declared.table.EdgeFacts.{EdgeFacts}
 use Rattle.ranges.specs.Places.{facts_at_step, facts_at_end, edges_known}
-use Rattle.footprints.specs.zones.declared.foot.Use.{Use}
+use Rattle.footprints.specs.zones.declared.place.Use.{Use}
 use Rattle.footprints.specs.Footprints.{step_use, end_use, passes_on}
 use Rattle.footprints.specs.Rules.{place_in, IsEndBroken}
 use Rattle.phase_laws.specs.zones.Uses.{StandsIn, task_of}

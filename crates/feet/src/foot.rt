@@ -2,21 +2,13 @@ ghost use Rattle.std.specs.Prelude.{◌≡◌, IfOk};
 ghost use Rattle.std.specs.List.{list_all};
 ghost use Rattle.program.specs.declared.annotation.Zone.{Zone as ZoneKind};
 ghost use Rattle.zones.specs.Zones.{as_written};
-ghost use Rattle.zones.specs.Places.{place_of, is_allowed, is_clear, foot_use};
+ghost use Rattle.zones.specs.Places.{place_of, is_allowed, is_clear};
+ghost use Rattle.feet.specs.Feet.{foot_use};
 
-use crate::measured::MeasuredPlace;
-use crate::place::{Place, as_written};
 use lists::OutOfMemory;
 use program::Zone;
 use std::alloc::Global;
-
-/// Whether what a step or a terminator touches is covered, by the rule of this number, and clear of what is pending.
-#[derive(Clone, Copy)]
-pub struct Use {
-    pub number: u16,
-    pub covered: bool,
-    pub clear: bool,
-}
+use zones::{MeasuredPlace, Place, Use, as_written};
 
 /// Whether each zone needs no cover, or has one.
 fn are_allowed(
