@@ -13,6 +13,11 @@ struct Row<'a> {
     example: &'a str,
 }
 
+/// The lines of the rules.
+fn all_rules() -> &'static str {
+    RULES
+}
+
 /// The row of a line without its number.
 fn row_in(text: &str) -> Option<Row<'_>> {
     let (told_at, rest) = text.split_once(" | ")?;
@@ -79,7 +84,7 @@ fn push_rule(out: &mut String, number: u16, row: Row<'_>) -> Result<(), AllocErr
 /// The rule of a number with an example and how to mend it, in lines that end with LF; none where no rule has the number.
 pub fn rule_text(alloc: Global, number: u16) -> Result<Option<String>, OutOfMemory> {
     let mut out = String::new(alloc);
-    for line in RULES.lines() {
+    for line in all_rules().lines() {
         if let Some(row) = row_of(line, number) {
             push_rule(&mut out, number, row)?;
         }
@@ -89,7 +94,7 @@ pub fn rule_text(alloc: Global, number: u16) -> Result<Option<String>, OutOfMemo
 
 /// Adds what the rule means that this line of a module breaks.
 pub fn push_meanings(out: &mut String, number: u16, broken: &str) -> Result<(), OutOfMemory> {
-    for line in RULES.lines() {
+    for line in all_rules().lines() {
         if let Some(row) = row_at(line, number, broken) {
             let means = row.means;
             writeln!(out, "  {number}: {means}")?;
@@ -100,7 +105,7 @@ pub fn push_meanings(out: &mut String, number: u16, broken: &str) -> Result<(), 
 
 /// The same without its causes, which stand behind a colon: it is for where the one that applies is told.
 pub fn push_heads(out: &mut String, number: u16, broken: &str) -> Result<(), OutOfMemory> {
-    for line in RULES.lines() {
+    for line in all_rules().lines() {
         if let Some(row) = row_at(line, number, broken) {
             let head = head_of(row.means);
             writeln!(out, "  {number}: {head}")?;
@@ -111,7 +116,7 @@ pub fn push_heads(out: &mut String, number: u16, broken: &str) -> Result<(), Out
 
 /// Adds how the rule is mended that this line of a module breaks.
 pub fn push_mends(out: &mut String, number: u16, broken: &str) -> Result<(), OutOfMemory> {
-    for line in RULES.lines() {
+    for line in all_rules().lines() {
         if let Some(row) = row_at(line, number, broken) {
             push_part(out, "mend", row.mend)?;
         }
