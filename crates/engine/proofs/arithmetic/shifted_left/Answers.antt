@@ -2,8 +2,13 @@ use mir.Val.{bits as bits_of}
 use Rattle.running.specs.Arithmetic.{word, signed}
 use Rattle.std.proofs.Common.{◌∙◌, ap, ◌^◌, ◌*◌, ◌%◌}
 use Rattle.engine.proofs.Bits.{read_again, written, bits_are, gives_amount, shifted_bits}
-use Rattle.engine.proofs.Division.{amount_given}
+use Rattle.engine.proofs.Division.{amount_given, amount_small}
 use Rattle.engine.proofs.arithmetic.shifted_left.Goals as goal
+
+pub overflow_shl-unsigned : goal.overflow_shl-unsigned
+overflow_shl-unsigned c =
+    let n = read_again c.args.width c.args.right c.unsigned-2.result c.ranges.right c.unsigned-2.ensures.value c.requires.right in
+    amount_small c.args.width c.unsigned-2.result _ n (amount_given _ _ c.requires.given)
 
 pub returns : goal.returns
 returns c =
