@@ -3,15 +3,18 @@ use Rattle.std.proofs.Common.{◌≡◌, ◌==◌, ℕ, ◌+◌, ◌<◌, true, 
 use Rattle.std.specs.Prelude.{slice_get}
 use Rattle.std.proofs.lemmas.Bool.{ltb-false}
 use Rattle.std.proofs.lemmas.Option.{slice_get_past}
-use Rattle.std.proofs.lemmas.List.{take_more}
+use Rattle.std.specs.List.{flat_map}
+use Rattle.std.proofs.lemmas.List.{take_more, flat_map_more}
 use Rattle.std.proofs.lemmas.List.Elements.{filter_map-append}
 use Rattle.program.specs.declared.instruction.Operand.{Operand}
 use Rattle.program.specs.declared.instruction.PhiEntry.{PhiEntry}
 use Rattle.program.specs.declared.instruction.Phi.{Phi}
+use Rattle.program.specs.declared.instruction.Case.{Case}
 use Rattle.program.specs.declared.function.Block.{Block}
 use Rattle.program.specs.declared.identifier.BlockId.{BlockId}
 use Rattle.cfg.specs.declared.structure.Edge.{Edge}
 use Rattle.cfg.specs.declared.structure.Way.{Way}
+use Rattle.cfg.specs.declared.structure.Way.TheVariants.{Branch}
 use Rattle.cfg.specs.declared.structure.Move.{Move}
 use Rattle.cfg.specs.declared.structure.BlockEdges.{BlockEdges}
 use Rattle.cfg.specs.Edges.{value_from, move_from, moves_from, edge_to, edges_at_end, edges_from}
@@ -58,6 +61,11 @@ pub edge_to_none : (blocks : List Block) (from : ℕ) (way : Way) (to : BlockId)
 edge_to_none blocks from way to edges past =
     let none : slice_get blocks to.0 ≡ None = slice_get_past blocks to.0 (ltb-false to.0 (length blocks) (sym past)) in
     rw none (sym (append-nil edges))
+
+-- the edge of one case more
+pub cases_push : (blocks : List Block) (from : ℕ) (cases : List Case) (i : ℕ) (d : Case) (edges now new : List Edge) → i < length cases → now ≡ edges ++ flat_map (λ c. edge_to blocks from Branch c.target) (take i cases) → new ≡ now ++ edge_to blocks from Branch (get_or cases i d).target → new ≡ edges ++ flat_map (λ c. edge_to blocks from Branch c.target) (take (i + 1) cases)
+cases_push blocks from cases i d edges now new l e is =
+    rw (is, e, take_more cases i d l) (flat_map_more (λ (c : Case). edge_to blocks from Branch c.target) edges (take i cases) (get_or cases i d))
 
 pub length-edges_from : (blocks : List Block) (from : ℕ) (rest : List Block) → length (edges_from blocks from rest) ≡ length rest
 length-edges_from blocks from [] = refl

@@ -70,60 +70,45 @@ fn push_cases(
     Ok(())
 }
 
-/// The edges of a terminator in its order.
-fn make_edges(
+/// Adds the edges of a terminator in its order.
+fn push_edges(
     alloc: Global,
     blocks: &[Block],
     from: usize,
     terminator: &Terminator,
-) -> Result<Vec<Edge>, AllocError>
-    ensures { IfOk result (λ edges. edges.items ≡ edges_along blocks.now from terminator.now) }
+    edges: &mut Vec<Edge>,
+) -> Result<(), AllocError>
+    ensures { OnOk result (edges.new.items ≡ edges.old.items ++ edges_along blocks.now from terminator.now) }
 {
-    let mut edges = Vec::new(alloc);
     match terminator {
         Terminator::Jump { target } => {
-            push_edge(alloc, blocks, from, Way::Branch, *target, &mut edges)?;
+            push_edge(alloc, blocks, from, Way::Branch, *target, edges)
         }
         Terminator::Branch {
             when_true,
             when_false,
             ..
         } => {
-            push_edge(alloc, blocks, from, Way::Branch, *when_true, &mut edges)?;
-            push_edge(alloc, blocks, from, Way::Branch, *when_false, &mut edges)?;
+            push_edge(alloc, blocks, from, Way::Branch, *when_true, edges)?;
+            push_edge(alloc, blocks, from, Way::Branch, *when_false, edges)
         }
         Terminator::Switch { default, cases, .. } => {
-            push_edge(alloc, blocks, from, Way::Branch, *default, &mut edges)?;
-            push_cases(alloc, blocks, from, cases.as_slice(), &mut edges)?;
+            push_edge(alloc, blocks, from, Way::Branch, *default, edges)?;
+            push_cases(alloc, blocks, from, cases.as_slice(), edges)
         }
         Terminator::Detach {
             body,
             continuation,
             ..
         } => {
-            push_edge(alloc, blocks, from, Way::Detached, *body, &mut edges)?;
-            push_edge(
-                alloc,
-                blocks,
-                from,
-                Way::Continued,
-                *continuation,
-                &mut edges,
-            )?;
+            push_edge(alloc, blocks, from, Way::Detached, *body, edges)?;
+            push_edge(alloc, blocks, from, Way::Continued, *continuation, edges)
         }
         Terminator::Sync { region, target } => {
-            push_edge(
-                alloc,
-                blocks,
-                from,
-                Way::Synced(*region),
-                *target,
-                &mut edges,
-            )?;
+            push_edge(alloc, blocks, from, Way::Synced(*region), *target, edges)
         }
-        Terminator::Return { .. } | Terminator::Reattach { .. } => {}
+        Terminator::Return { .. } | Terminator::Reattach { .. } => Ok(()),
     }
-    Ok(edges)
 }
 
 /// The edges at the end of a block.
@@ -135,10 +120,10 @@ fn block_edges(
 ) -> Result<BlockEdges, AllocError>
     ensures { IfOk result (λ block. block.edges ≡ edges_at_end blocks.now from ending.now) }
 {
-    let edges = match ending {
-        Some(ending) => make_edges(alloc, blocks, from, &ending.terminator)?,
-        None => Vec::new(alloc),
-    };
+    let mut edges = Vec::new(alloc);
+    if let Some(ending) = ending {
+        push_edges(alloc, blocks, from, &ending.terminator, &mut edges)?;
+    }
     Ok(BlockEdges {
         edges: Seq::from_vec(edges),
     })
