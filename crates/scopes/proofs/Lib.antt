@@ -1,3 +1,4 @@
+mod Differences
 pub mod Giving
 pub mod Growing
 pub mod Inversion
