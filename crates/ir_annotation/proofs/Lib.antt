@@ -5,3 +5,4 @@ pub mod Digits
 pub mod LinesAgain
 pub mod LinesRead
 pub mod Ordered
+mod Written
