@@ -9,14 +9,9 @@ use Rattle.scopes.specs.Address.{Items}
 use Rattle.types.specs.Call.{Named}
 use Rattle.scopes.specs.Fault.{Gives}
 use Rattle.scopes.specs.Item.{items_of}
-use Rattle.types.specs.Meaning.{program_from, IsNamedIn, Means}
+use Rattle.types.specs.Meaning.{program_from, IsNamedIn}
+use Rattle.types.specs.Typed.{Resolves}
 use Rattle.scopes.specs.Mention.{mentions_of, IsNamedTable}
-
--- the program is what the module means, unless memory was refused
-abbrev pub Resolves : Module → Result Program TypeFault → Type 0
-Resolves whole (Ok program) = Means whole (Ok program)
-Resolves whole (Err Memory) = Unit {0}
-Resolves whole (Err (Fault number line)) = Means whole (Err (Fault number line))
 
 by_table : (whole : Module) (named : Named) (answer : Result Program TypeFault) → IsNamedIn whole named → Gives answer (program_from (items_of whole) named whole) → Resolves whole answer
 by_table whole named (Ok program) table g = (named, table, g)

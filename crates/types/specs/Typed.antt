@@ -1,5 +1,6 @@
 -- The answer of the phase.
 use Rattle.std.specs.Prelude.{Result, Ok, Err}
+use Rattle.program.specs.declared.function.Program.{Program}
 use Rattle.syntax.specs.declared.module.Module.{Module}
 use Rattle.refusal.specs.declared.refused.Refused.{Refused as TypeFault}
 use Rattle.refusal.specs.declared.refused.Refused.TheVariants.{Fault, Memory}
@@ -16,3 +17,9 @@ abbrev pub Judges : Module → Result Typed TypeFault → Type 0
 Judges whole (Ok typed) = MeansTyped whole (Ok typed)
 Judges whole (Err Memory) = Unit {0}
 Judges whole (Err (Fault number line)) = MeansTyped whole (Err (Fault number line))
+
+-- the program is what the module means, unless memory was refused
+abbrev pub Resolves : Module → Result Program TypeFault → Type 0
+Resolves whole (Ok program) = Means whole (Ok program)
+Resolves whole (Err Memory) = Unit {0}
+Resolves whole (Err (Fault number line)) = Means whole (Err (Fault number line))

@@ -4,7 +4,7 @@ ghost use Rattle.scopes.specs.Fault.{Gives};
 ghost use Rattle.types.specs.Apart.{CallsApart};
 ghost use Rattle.types.specs.Definitions.{EachDefinesAnew, KeepsParameters};
 ghost use Rattle.types.specs.Meaning as spec;
-ghost use Rattle.types.specs.Typed.{Judges};
+ghost use Rattle.types.specs.Typed.{Judges, Resolves};
 
 use crate::call::World;
 use crate::function::resolve_functions;
@@ -108,6 +108,16 @@ fn resolve_program(
     })
 }
 
+/// The program that a module means.
+fn resolve_module(alloc: Global, state: RandomState, whole: &Module) -> Result<Program, TypeFault>
+    ensures { Resolves whole.now result }
+{
+    let items = items_of(alloc, state, whole)?;
+    let mentions = all_mentions(alloc, &items, whole.functions.as_slice())?;
+    let named = named_globals(alloc, mentions.as_slice(), whole.globals.len())?;
+    resolve_program(alloc, state, whole, &items, named.as_slice())
+}
+
 /// The program that a module means, or the fault of the lowest line with the lowest number there.
 ///
 /// The tables of names are hashed with `state`.
@@ -116,9 +126,6 @@ pub fn check_types(alloc: Global, state: RandomState, whole: Module) -> Result<T
     ensures apart { IfOk result (λ typed. CallsApart typed.program.functions) }
     ensures kept { EachDefinesAnew whole.functions → IfOk result (λ typed. KeepsParameters typed.program.functions) }
 {
-    let items = items_of(alloc, state, &whole)?;
-    let mentions = all_mentions(alloc, &items, whole.functions.as_slice())?;
-    let named = named_globals(alloc, mentions.as_slice(), whole.globals.len())?;
-    let program = resolve_program(alloc, state, &whole, &items, named.as_slice())?;
+    let program = resolve_module(alloc, state, &whole)?;
     Ok(Typed { program })
 }

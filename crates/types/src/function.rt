@@ -1,13 +1,13 @@
 //! Functions.
 
-ghost use Rattle.std.specs.Prelude.{◌≡◌, map, IfOk};
+ghost use Rattle.std.specs.Prelude.{◌≡◌, map, IfOk, Ok};
 ghost use Rattle.types.specs.Call.{parameter_of as parameter_meaning};
 ghost use Rattle.scopes.specs.Fault.{Gives};
 ghost use Rattle.types.specs.Function as spec;
 
 use crate::block::resolve_blocks;
 use crate::call::{World, parameter_of};
-use lists::Seq;
+use lists::{Name, Seq};
 use program::{Budget, Function, Inequality, Measure, Parameter, RegisterId, Zone};
 use scopes::{
     Layout, Place, Scope, TypeFault, both, joined, resolve_first_zones, resolve_inequalities,
@@ -103,6 +103,18 @@ fn resolved_budget(budget: &syntax::Budget) -> Budget
     }
 }
 
+/// The name and the parameters, which are as the text has them.
+fn signature_of(
+    alloc: Global,
+    function: &syntax::Function,
+) -> Result<(Name, Seq<Parameter>), TypeFault>
+    ensures { Gives result (Ok (function.now.name, map parameter_meaning function.now.parameters)) }
+{
+    let name = function.name.copy()?;
+    let parameters = parameters_of(alloc, function.parameters.as_slice())?;
+    Ok((name, parameters))
+}
+
 fn resolve_function(
     alloc: Global,
     state: RandomState,
@@ -117,12 +129,13 @@ fn resolve_function(
     let head = resolve_head(alloc, world, &layout, result_type, &function.notes);
     let blocks = function.blocks.as_slice();
     let blocks = resolve_blocks(alloc, world, &layout.scope, place, result_type, blocks);
-    let (head, blocks) = both(head, blocks)?;
+    let signature = signature_of(alloc, function);
+    let ((head, blocks), (name, parameters)) = both(both(head, blocks), signature)?;
     Ok(Function {
         line: function.line,
-        name: function.name.copy()?,
+        name,
         result_type,
-        parameters: parameters_of(alloc, function.parameters.as_slice())?,
+        parameters,
         registers: layout.registers,
         allocas: layout.allocas,
         requirements: head.requirements,
