@@ -1,6 +1,7 @@
 pub mod CallLaws
 pub mod Covering
 pub mod Defining
+pub mod Heads
 pub mod Judging
 pub mod Scopes
 pub mod TextCalls
