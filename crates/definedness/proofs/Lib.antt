@@ -5,6 +5,7 @@ mod Greatest
 mod Judged
 mod Labelled
 mod Lookups
+mod Needs
 mod NeverSure
 mod Paths
 mod OnOk
