@@ -18,13 +18,14 @@ def seconds(tapirvm, text, wanted):
     os.unlink(file.name)
     return best
 
-def verified(tapirvm, text):
-    """The time of one `verify`, and what it says first; after 90 seconds it is not waited for."""
+def verified(tapirvm, text, effort=None):
+    """The time of one `verify`, within this effort if one is named, and what it says first; after 90 seconds it is not waited for."""
     with tempfile.NamedTemporaryFile("w", suffix=".ll", delete=False) as file:
         file.write(text)
     start = time.time()
     try:
-        told = subprocess.run([tapirvm, "verify", file.name], capture_output=True, text=True, timeout=90).stdout.split("\n")[0]
+        words = [tapirvm, "verify", file.name] + ([] if effort is None else [f"--effort={effort}"])
+        told = subprocess.run(words, capture_output=True, text=True, timeout=90).stdout.split("\n")[0]
     except subprocess.TimeoutExpired:
         told = "not waited for"
     os.unlink(file.name)
@@ -394,6 +395,27 @@ def strewn(count):
     shows = "".join(f";! shows {fact}\n" + (f"%x{j} = add i64 %a, 0\n" if j % 32 == 0 else "") for j, fact in enumerate(facts, 1))
     body = [f"call void @f{n % functions}(" + ", ".join(f"i64 {register}" for register in orders[n // functions % 24]) + ")\n" for n in range(calls)]
     return callees + head + shows + "".join(body) + "ret i64 0\n}\n"
+
+def scattered(count):
+    """So many calls of functions with 32 `ensures` lines of two registers each, and four times as many of functions with 32 `requires` lines of four registers,
+    each of which two facts show with two factors, other ones each time."""
+    registers, makers, askers = [f"%a{k}" for k in range(16)], 4, 4
+    def maker(f):
+        promises = "".join(f";! ensures %p+{y}*%q >= 0\n" for y in range(32 * f + 2, 32 * f + 34))
+        return f"define void @e{f}(i64 %p, i64 %q) {{\n;! requires %p >= 0\n;! requires %q >= 0\n{promises};! budget 0 1\nentry:\n;! left 0 1\nret void\n}}\n"
+    def line(f, i):
+        a, b, y, z = 201 + 7 * i, 503 + 11 * i, 32 * f + 2 + i, 32 * f + 2 + (5 * i + 3) % 32
+        return f"{a}*%p+{a * y}*%q+{b}*%r+{b * z}*%s >= 0"
+    def asker(f):
+        return f"define void @f{f}(i64 %p, i64 %q, i64 %r, i64 %s) {{\n" + "".join(f";! requires {line(f, i)}\n" for i in range(32)) + ";! budget 0 1\nentry:\n;! left 0 1\nret void\n}\n"
+    pairs = list(itertools.islice(itertools.permutations(registers, 2), count // makers + 1))
+    fours = [(u, v, x, y) for (u, v), (x, y) in itertools.product(pairs, pairs)]
+    made = [f"call void @e{f}(i64 {u}, i64 {v})\n" for u, v in pairs for f in range(makers)]
+    asked = [f"call void @f{n % askers}(i64 {u}, i64 {v}, i64 {x}, i64 {y})\n" for n, (u, v, x, y) in enumerate(fours[k * 7919 % len(fours)] for k in range(4 * count)) if len({u, v, x, y}) == 4]
+    total = 2 * (len(made) + len(asked)) + 1
+    head = "define i64 @main(" + ", ".join(f"i64 {register}" for register in registers) + ") {\n" + "".join(f";! requires {register} >= 0\n" for register in registers)
+    head += f";! budget 0 {total}\nentry:\n;! left 0 {total}\n"
+    return "".join(map(maker, range(makers))) + "".join(map(asker, range(askers))) + head + "".join(made) + "".join(asked) + "ret i64 0\n}\n"
 
 def pending(blocks):
     """A child that may run beside so many blocks, each with 32 `pending` lines."""

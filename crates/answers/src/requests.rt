@@ -5,15 +5,33 @@ use crate::job::Job;
 use crate::runs::{debug, run_serial};
 use crate::tell::tell_replay;
 use command_line::{Request, Verb};
-use debugger::verify;
+use debugger::{Effort, verify_within};
 use module_answers::{
-    Beside, Status, answer_text, print_known, print_refused, print_rule, print_unreadable,
+    Beside, Status, answer_text, print_known, print_rule, print_unreadable, print_unverified,
     print_verified,
 };
 use std::alloc::Global;
 use std::hash::RandomState;
 use std::io;
 use std::io::{Read, Write};
+
+/// The steps of search for a verdict that are granted where a command line that asks for the verdict alone names none: a second or two.
+const PLAIN_EFFORT: u64 = 1_000_000_000;
+
+/// The effort that a request grants. Who runs a module wants to run it, however long its verdict takes.
+fn effort_of(request: &Request) -> Effort {
+    match request.verb {
+        Verb::Verify => Effort::of(request.effort.unwrap_or(PLAIN_EFFORT)),
+        Verb::Explain
+        | Verb::Serial
+        | Verb::Run
+        | Verb::Replay
+        | Verb::Debug
+        | Verb::Print
+        | Verb::Show
+        | Verb::Annotate => Effort::unlimited(),
+    }
+}
 
 /// Answers a request by the status, over the bytes of the files: `None` where one could not be read. What is told beside the output is
 /// added to `beside`. A run on workers is the caller's, who may start threads: here a run without a seed is drawn by the seed 0.
@@ -36,7 +54,7 @@ pub fn answer<R: Read, W: Write>(
     if let Some(status) = answer_text(alloc, state, request.verb, text, output)? {
         return Ok(status);
     }
-    match verify(alloc, state, text) {
+    match verify_within(alloc, state, text, &effort_of(request)) {
         Ok(verified) => {
             let job = Job {
                 alloc,
@@ -47,7 +65,7 @@ pub fn answer<R: Read, W: Write>(
             };
             answer_verified(&job, state, input, output, beside)
         }
-        Err(refused) => print_refused(&refused, output),
+        Err(unverified) => print_unverified(&unverified, output, beside),
     }
 }
 

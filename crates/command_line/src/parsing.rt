@@ -15,7 +15,7 @@ Statuses:
   0  done
   1  the module is refused
   2  the command line is wrong, an option names nothing, or help was asked for
-  3  the run was stopped, or memory was refused
+  3  the run was stopped, memory was refused, or the effort is spent
   4  FILE or SCHEDULE cannot be read
   5  SCHEDULE is no schedule
   6  standard input cannot be read, or an output cannot be written";
@@ -227,6 +227,13 @@ const TABLE: Part = Part {
     help: "prints the costs and depths of a function",
 };
 
+const EFFORT: Part = Part {
+    name: "effort",
+    value: "N",
+    given: Given::Option,
+    help: "gives up after N steps of search, in place of 1000000000",
+};
+
 const ARG: Part = Part {
     name: "arg",
     value: "V",
@@ -293,7 +300,7 @@ const PICTURE: Part = Part {
 /// The words and options of the commands, as their help lists them; a command that only reads a module takes its file alone.
 static MODULE_PARTS: [Part; 1] = [FILE];
 
-static VERIFY_PARTS: [Part; 2] = [FILE, TABLE];
+static VERIFY_PARTS: [Part; 3] = [FILE, TABLE, EFFORT];
 
 static EXPLAIN_PARTS: [Part; 1] = [FILE_OR_NUMBER];
 
@@ -456,6 +463,29 @@ fn seed_of(alloc: Global, matches: &ArgMatches<'_>) -> Result<Option<u64>, Words
     }
 }
 
+fn effort_of(alloc: Global, matches: &ArgMatches<'_>) -> Result<Option<u64>, WordsFault> {
+    match matches.get_str("effort") {
+        None => Ok(None),
+        Some(text) => match text.parse::<u64>() {
+            Ok(steps) => Ok(Some(steps)),
+            Err(_) => Err(wrong_value(alloc, "--effort <N>", text)),
+        },
+    }
+}
+
+/// Reads the options of a verification.
+fn read_verify(
+    alloc: Global,
+    matches: &ArgMatches<'_>,
+    request: &mut Request,
+) -> Result<(), WordsFault>
+    ensures { request.new.verb ≡ request.old.verb }
+{
+    request.table = table_of(alloc, matches)?;
+    request.effort = effort_of(alloc, matches)?;
+    Ok(())
+}
+
 /// The file that an option names.
 fn written_file(
     alloc: Global,
@@ -518,7 +548,7 @@ fn read_options(
     ensures { request.new.verb ≡ request.old.verb }
 {
     match request.verb {
-        Verb::Verify => request.table = table_of(alloc, matches)?,
+        Verb::Verify => read_verify(alloc, matches, request)?,
         Verb::Explain => request.rule = rule_of(alloc, request.file.as_str())?,
         Verb::Run => read_run(alloc, matches, request)?,
         Verb::Replay => read_replay(alloc, matches, request)?,

@@ -77,6 +77,8 @@ pub struct Request {
     pub show: Vec<CellWord>,
     /// The name, without `@`, of the function whose costs to print, for the verb that takes one.
     pub table: Option<String>,
+    /// How many steps of search a verdict may take, for the verb that takes a number.
+    pub effort: Option<u64>,
     /// The number of the rule to print in place of a module, for the verb that takes one.
     pub rule: Option<u16>,
     /// How the verb tells of the run, and where to.
@@ -95,6 +97,7 @@ impl Drop for Request {
             set: _,
             show: _,
             table: _,
+            effort: _,
             rule: _,
             telling: _,
         } = self;
@@ -115,6 +118,7 @@ impl Request {
             set: Vec::new(alloc),
             show: Vec::new(alloc),
             table: None,
+            effort: None,
             rule: None,
             telling: Telling::nothing(),
         }

@@ -10,8 +10,8 @@ use program::{
     Terminator,
 };
 use ranges::{
-    BlockFacts, EdgeFacts, Move, Sum, argument_moves, block_facts, push_parts, shows, start_facts,
-    stated,
+    BlockFacts, EdgeFacts, Effort, Move, Sum, argument_moves, block_facts, push_parts, shows,
+    start_facts, stated,
 };
 use std::alloc::Global;
 
@@ -587,7 +587,14 @@ fn push_block<'a>(
     block: &'a Block,
     findings: &mut Vec<Finding>,
 ) -> Result<(), OutOfMemory> {
-    let (table, _) = block_facts(alloc, scene.program, scene.function, index, block)?;
+    let (table, _) = block_facts(
+        alloc,
+        scene.program,
+        scene.function,
+        index,
+        block,
+        &Effort::unlimited(),
+    )?;
     push_tabled_block(alloc, &*scene, index, &*block, &table, findings)
 }
 

@@ -1,23 +1,25 @@
 ghost use Rattle.std.specs.Prelude.{◌≡◌, Some, IfOk, IfErr, OnOk, slice_get};
 ghost use Rattle.refusal.specs.declared.broken.Broken.{Broken};
-ghost use Rattle.refusal.specs.Earliest.{IsEarliest, NamesEarliest};
+ghost use Rattle.refusal.specs.Earliest.{IsEarliest};
+ghost use Rattle.ranges.specs.Judged.{JudgesEarliest};
 ghost use Rattle.ranges.specs.Places.{IsFunctionTable, AreFacts, facts_in_table, edges_in_table};
 ghost use Rattle.cost_table.specs.Rules.{IsEndingUncovered, AreStepsNotFalling, IsEntryBroken, IsBlockBrokenBy, AreBlocksBroken, IsFunctionBroken};
 ghost use Rattle.cost_table.specs.Rules.{IsCostBroken};
 ghost use Rattle.cost_table.specs.Tables.{IsTable};
 
-use crate::CostFault;
 use crate::callee::callee_of;
 use crate::judge::{
     budget_fault, cost_fault, measure_fault, start_fault, step_fault, uncovered_fault,
 };
 use crate::table::{Table, make_table};
 use crate::work::work_of;
-use entailment::FactCursor;
+use entailment::{Effort, FactCursor};
 use linear::Fact;
 use lists::OutOfMemory;
 use program::{Block, Function, Program, Step};
-use ranges::{BlockFacts, Facts, FunctionFacts, Graph, Regions, start_facts, stated};
+use ranges::{
+    BlockFacts, Facts, FunctionFacts, Graph, Regions, Unanswered, Unverified, start_facts, stated,
+};
 use refusal::{Broken, lower};
 use std::alloc::Global;
 
@@ -29,7 +31,8 @@ fn ending_fault(
     index: usize,
     block: &Block,
     table: &BlockFacts,
-) -> Result<Option<Broken>, OutOfMemory>
+    effort: &Effort,
+) -> Result<Option<Broken>, Unanswered>
     ensures { IfOk result (IsEarliest
         (IsEndingUncovered functions.now function.now index block.now table.now.facts (edges_in_table table.now) block.now.ending)) }
 {
@@ -38,7 +41,7 @@ fn ending_fault(
             let work = work_of(functions, index, block);
             let facts = table.facts.as_slice();
             let edges = table.edges.as_slice();
-            uncovered_fault(alloc, function, block, work, facts, edges, ending)
+            uncovered_fault(alloc, function, block, work, facts, edges, ending, effort)
         }
         None => Ok(None),
     }
@@ -61,11 +64,12 @@ fn steps_fault(
     index: usize,
     block: &Block,
     table: &BlockFacts,
-) -> Result<Option<Broken>, OutOfMemory>
+    effort: &Effort,
+) -> Result<Option<Broken>, Unanswered>
     ensures { IfOk result (IsEarliest (AreStepsNotFalling function.now index block.now (facts_in_table table.now))) }
 {
     let mut named: Option<Broken> = None;
-    let mut cursor = FactCursor::new(alloc, table.facts.as_slice());
+    let mut cursor = FactCursor::new(alloc, table.facts.as_slice(), effort);
     let steps = block.steps.as_slice();
     for (place, step) in steps.iter().enumerate() {
         cursor.seek(table.count_at(place));
@@ -86,13 +90,14 @@ fn block_fault(
     block: &Block,
     start: &[Fact],
     table: &BlockFacts,
-) -> Result<Option<Broken>, OutOfMemory>
+    effort: &Effort,
+) -> Result<Option<Broken>, Unanswered>
     ensures { IfOk result (IsEarliest
         (IsBlockBrokenBy functions.now function.now index block.now start.now (facts_in_table table.now) table.now.facts (edges_in_table table.now))) }
 {
     let at_start = start_fault(alloc, start, block)?;
-    let at_end = ending_fault(alloc, functions, function, index, block, table)?;
-    let at_steps = steps_fault(alloc, function, index, block, table)?;
+    let at_end = ending_fault(alloc, functions, function, index, block, table, effort)?;
+    let at_steps = steps_fault(alloc, function, index, block, table, effort)?;
     Ok(lower(at_start, lower(at_end, at_steps)))
 }
 
@@ -103,7 +108,8 @@ fn blocks_fault(
     index: usize,
     function: &Function,
     facts: &FunctionFacts,
-) -> Result<Option<Broken>, OutOfMemory>
+    effort: &Effort,
+) -> Result<Option<Broken>, Unanswered>
     requires { IsFunctionTable functions.now function.now facts.now }
     ensures { IfOk result (IsEarliest (AreBlocksBroken functions.now index function.now)) }
 {
@@ -113,7 +119,9 @@ fn blocks_fault(
     for (place, block) in blocks.iter().enumerate() {
         let start = start_facts(alloc, function, place, block)?;
         let table = &tables[place];
-        let broken = block_fault(alloc, functions, function, index, block, &start, table)?;
+        let broken = block_fault(
+            alloc, functions, function, index, block, &start, table, effort,
+        )?;
         named = lower(named, broken);
     }
     Ok(named)
@@ -141,11 +149,12 @@ fn function_fault(
     index: usize,
     function: &Function,
     facts: &FunctionFacts,
-) -> Result<Option<Broken>, OutOfMemory>
+    effort: &Effort,
+) -> Result<Option<Broken>, Unanswered>
     requires { IsFunctionTable functions.now function.now facts.now }
     ensures { IfOk result (IsEarliest (IsFunctionBroken functions.now index function.now)) }
 {
-    let in_blocks = blocks_fault(alloc, functions, index, function, facts)?;
+    let in_blocks = blocks_fault(alloc, functions, index, function, facts, effort)?;
     let at_entry = entry_fault(alloc, function)?;
     let whole = cost_fault(function);
     Ok(lower(in_blocks, lower(at_entry, whole)))
@@ -156,7 +165,8 @@ fn program_fault(
     alloc: Global,
     program: &Program,
     facts: &Facts,
-) -> Result<Option<Broken>, OutOfMemory>
+    effort: &Effort,
+) -> Result<Option<Broken>, Unanswered>
     requires { AreFacts program.now facts.now }
     ensures { IfOk result (IsEarliest (IsCostBroken program.now)) }
 {
@@ -165,27 +175,28 @@ fn program_fault(
     let functions = program.functions.as_slice();
     for (index, function) in functions.iter().enumerate() {
         let table = &tables[index];
-        let broken = function_fault(alloc, functions, index, function, table)?;
+        let broken = function_fault(alloc, functions, index, function, table, effort)?;
         named = lower(named, broken);
     }
     Ok(named)
 }
 
 /// The costs and depths of all calls of a program whose regions are matched, where what is known at its places shows that it keeps to its
-/// budgets and measures. Of several faults that of the lowest line is named, and there that of the lowest number.
+/// budgets and measures. Of several faults that of the lowest line is named, and there that of the lowest number. It goes on as long as the effort reaches.
 pub fn check_cost(
     alloc: Global,
     graph: &Graph,
     regions: &Regions,
     facts: &Facts,
-) -> Result<Table, CostFault>
+    effort: &Effort,
+) -> Result<Table, Unverified>
     requires { AreFacts graph.now.program facts.now }
     ensures table { IfOk result (IsTable graph.now.program regions.now) }
     ensures right { OnOk result ((b : Broken) → IsCostBroken graph.now.program b → ⊥) }
-    ensures fault { IfErr result (NamesEarliest (IsCostBroken graph.now.program)) }
+    ensures fault { IfErr result (JudgesEarliest (IsCostBroken graph.now.program)) }
 {
     let program = &graph.program;
-    match program_fault(alloc, program, facts)? {
+    match program_fault(alloc, program, facts, effort)? {
         Some(broken) => Err(broken.into()),
         None => Ok(make_table(alloc, program, regions)?),
     }

@@ -11,11 +11,11 @@ ghost use Rattle.cost_table.specs.Doing.{IsWork};
 
 use crate::sum::{covers_both, covers_next, covers_work, is_at_least_zero, is_at_most};
 use crate::work::{Work, whole_cost};
-use entailment::{FactBranches, Known};
+use entailment::{Effort, FactBranches, Known};
 use linear::{Fact, Form};
 use lists::OutOfMemory;
 use program::{Argument, Block, BlockId, Ending, Function, Instruction, Step, Terminator};
-use ranges::{EdgeFacts, argument_moves};
+use ranges::{EdgeFacts, Unanswered, argument_moves};
 use refusal::{Broken, lower};
 use std::alloc::Global;
 
@@ -78,7 +78,7 @@ fn edge_fault(
     line: u32,
     facts: &mut FactBranches<'_>,
     edge: &EdgeFacts,
-) -> Result<Option<Broken>, OutOfMemory>
+) -> Result<Option<Broken>, Unanswered>
     ensures lent { OnOk result (facts.new.0 ≡ facts.old.0) }
     ensures fault { IfOk result (λ r. (functions : List Function) (f : ℕ) → IsWork functions f block.now work
         → IsEarliest (IsEdgeUncovered functions function.now f block.now line (with_known facts.old.0 edge.now)) r) }
@@ -112,12 +112,13 @@ fn edges_fault(
     line: u32,
     known: &[Fact],
     edges: &[EdgeFacts],
-) -> Result<Option<Broken>, OutOfMemory>
+    effort: &Effort,
+) -> Result<Option<Broken>, Unanswered>
     ensures { IfOk result (λ r. (functions : List Function) (f : ℕ) → IsWork functions f block.now work
         → IsEarliest (λ (b : Broken). Any (λ e. IsEdgeUncovered functions function.now f block.now line e b) (all_with_known known.now edges.now)) r) }
 {
     let mut named: Option<Broken> = None;
-    let mut facts = FactBranches::new(alloc, known);
+    let mut facts = FactBranches::new(alloc, known, effort);
     for edge in edges {
         let broken = edge_fault(alloc, function, block, work, line, &mut facts, edge)?;
         named = lower(named, broken);
@@ -135,7 +136,7 @@ fn fork_fault(
     known: &[Fact],
     body: BlockId,
     continuation: BlockId,
-) -> Result<Option<Broken>, OutOfMemory>
+) -> Result<Option<Broken>, Unanswered>
     ensures { IfOk result (λ r. (functions : List Function) (f : ℕ) → IsWork functions f block.now work
         → IsEarliest (IsForkUncovered functions function.now f block.now line known.now body.0 continuation.0) r) }
 {
@@ -165,7 +166,7 @@ fn end_fault(
     work: Work,
     line: u32,
     known: &[Fact],
-) -> Result<Option<Broken>, OutOfMemory>
+) -> Result<Option<Broken>, Unanswered>
     ensures { IfOk result (λ r. (functions : List Function) (f : ℕ) → IsWork functions f block.now work
         → IsEarliest (IsEndUncovered functions f block.now line known.now) r) }
 {
@@ -184,7 +185,8 @@ pub fn uncovered_fault(
     known: &[Fact],
     edges: &[EdgeFacts],
     ending: &Ending,
-) -> Result<Option<Broken>, OutOfMemory>
+    effort: &Effort,
+) -> Result<Option<Broken>, Unanswered>
     ensures { IfOk result (λ r. (functions : List Function) (f : ℕ) → IsWork functions f block.now work
         → IsEarliest
         (IsUncoveredAt functions function.now f block.now ending.now.line known.now (all_with_known known.now edges.now) ending.now.terminator) r) }
@@ -194,7 +196,9 @@ pub fn uncovered_fault(
         Terminator::Jump { .. }
         | Terminator::Branch { .. }
         | Terminator::Switch { .. }
-        | Terminator::Sync { .. } => edges_fault(alloc, function, block, work, line, known, edges),
+        | Terminator::Sync { .. } => edges_fault(
+            alloc, function, block, work, line, known, edges, effort,
+        ),
         Terminator::Detach {
             body,
             continuation,
@@ -236,7 +240,7 @@ fn falling_fault(
     line: u32,
     known: &Known<'_>,
     arguments: &[Argument],
-) -> Result<Option<Broken>, OutOfMemory>
+) -> Result<Option<Broken>, Unanswered>
     ensures { IfOk result (IsEarliest (IsNotFalling function.now line known.now arguments.now)) }
 {
     let form = &function.measure.form;
@@ -253,7 +257,7 @@ pub fn step_fault(
     index: usize,
     known: &Known<'_>,
     step: &Step,
-) -> Result<Option<Broken>, OutOfMemory>
+) -> Result<Option<Broken>, Unanswered>
     ensures { IfOk result (IsEarliest (IsCallNotFalling function.now index step.now.line known.now step.now.instruction)) }
 {
     match &step.instruction {

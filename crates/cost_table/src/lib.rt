@@ -25,6 +25,5 @@ mod work;
 
 pub use check::check_cost;
 pub use entry::Entry;
-pub use refusal::Refused as CostFault;
 pub use table::{Table, make_table};
 pub use work::{Work, work_of};

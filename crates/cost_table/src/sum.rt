@@ -6,7 +6,7 @@ ghost use Rattle.cost_table.specs.Tables.{as_u128};
 use entailment::Known;
 use linear::{Fact, Form, side_of};
 use lists::{OutOfMemory, Seq};
-use ranges::{Move, Sum, push_parts, shows, shows_at};
+use ranges::{Move, Sum, Unanswered, push_parts, shows, shows_at};
 use std::alloc::Global;
 
 /// With so much done nothing is left, whatever the forms are: their constants are below 2^100, and this is 2^104.
@@ -80,7 +80,7 @@ pub fn covers_next(
     done: u128,
     moves: &[Move],
     next: &Form,
-) -> Result<bool, OutOfMemory>
+) -> Result<bool, Unanswered>
     ensures { IfOk result (λ b. (n : ℕ) → done ≡ as_u128 n → b ≡ shows facts.now (less_form (left_behind left.now n) moves.now next.now)) }
 {
     let left = side_of(left);
@@ -132,7 +132,7 @@ pub fn is_at_least_zero(
     facts: &Known<'_>,
     moves: &[Move],
     form: &Form,
-) -> Result<bool, OutOfMemory>
+) -> Result<bool, Unanswered>
     ensures { IfOk result (λ b. b ≡ shows facts.now (put_in moves.now form.now)) }
 {
     let sum = put_in(alloc, moves, form)?;

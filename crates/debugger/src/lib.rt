@@ -13,4 +13,4 @@ pub use schedule_core::{Event, Finished, Machine, Memory, RunFault, Status, Task
 pub use schedule_text::{
     Line, ScheduleFault, print_schedule, read_number, read_schedule, read_task,
 };
-pub use verifier::{Refused, Verified, verify};
+pub use verifier::{Effort, Refused, Unverified, Verified, verify, verify_within};

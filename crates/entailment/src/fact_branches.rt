@@ -3,6 +3,7 @@
 ghost use Rattle.std.specs.Prelude.{◌≡◌, ◌++◌, IfOk, OnErr, OnOk, true, take, length};
 ghost use Rattle.entailment.specs.Index.{IsBegun};
 
+use crate::effort::Effort;
 use crate::index::{Entered, Entry, FEW, Index, Layers, enter_each, index_many};
 use crate::known::Known;
 use linear::Fact;
@@ -23,6 +24,7 @@ pub struct FactBranches<'a> {
     /// With the settled entries of the lent facts, those of all.
     recent: Vec<Entry>,
     entered: Entered,
+    effort: &'a Effort,
 }
 
 impl<'a> Model for FactBranches<'a> {
@@ -91,8 +93,8 @@ fn enter_after(
 }
 
 impl<'a> FactBranches<'a> {
-    /// Where the lent facts alone are known.
-    pub fn new(alloc: Global, lent: &'a [Fact]) -> FactBranches<'a>
+    /// Where the lent facts alone are known. Questions are asked with so much effort.
+    pub fn new(alloc: Global, lent: &'a [Fact], effort: &'a Effort) -> FactBranches<'a>
         ensures { result ≡ (lent.now, lent.now) }
     {
         let index = Index::new(alloc);
@@ -104,6 +106,7 @@ impl<'a> FactBranches<'a> {
             entered: index.entered,
             index,
             recent: Vec::new(alloc),
+            effort,
         }
     }
 
@@ -135,7 +138,7 @@ impl<'a> FactBranches<'a> {
         if !self.has_more {
             return Known {
                 facts: self.lent,
-                layers: self.index.layers(),
+                layers: self.index.layers(self.effort),
                 is_indexed: self.index.entered.count > self.lent.len(),
                 is_consistent: self.index.entered.is_consistent,
             };
@@ -147,6 +150,7 @@ impl<'a> FactBranches<'a> {
                 recent: self.recent.as_slice(),
                 hints: self.index.hints.as_slice(),
                 pairs: self.index.pairs.as_slice(),
+                effort: self.effort,
             },
             is_indexed: self.entered.count > self.facts.len(),
             is_consistent: self.entered.is_consistent,

@@ -2,6 +2,7 @@
 
 ghost use Rattle.std.specs.Prelude.{◌≡◌, length, take};
 
+use crate::effort::Effort;
 use crate::index::{Index, index_many};
 use crate::known::Known;
 use linear::Fact;
@@ -14,6 +15,7 @@ pub struct FactCursor<'a> {
     facts: &'a [Fact],
     count: usize,
     index: Index,
+    effort: &'a Effort,
 }
 
 impl<'a> Model for FactCursor<'a> {
@@ -40,14 +42,15 @@ fn first(facts: &[Fact], count: usize) -> &[Fact]
 }
 
 impl<'a> FactCursor<'a> {
-    /// At a place where all the facts are known.
-    pub fn new(alloc: Global, facts: &'a [Fact]) -> FactCursor<'a>
+    /// At a place where all the facts are known. Questions are asked with so much effort.
+    pub fn new(alloc: Global, facts: &'a [Fact], effort: &'a Effort) -> FactCursor<'a>
         ensures { result ≡ (facts.now, length facts.now) }
     {
         FactCursor {
             facts,
             count: facts.len(),
             index: Index::new(alloc),
+            effort,
         }
     }
 
@@ -78,7 +81,7 @@ impl<'a> FactCursor<'a> {
         let facts = first(self.facts, self.count);
         Known {
             facts,
-            layers: self.index.layers(),
+            layers: self.index.layers(self.effort),
             is_indexed: self.index.entered.count > facts.len(),
             is_consistent: self.index.entered.is_consistent,
         }

@@ -2,6 +2,7 @@
 
 ghost use Rattle.std.specs.Prelude.{◌≡◌, ◌++◌, ◌∷◌, [], IfOk, OnOk, length};
 
+use crate::effort::Effort;
 use crate::index::{Index, index_many};
 use crate::known::Known;
 use linear::Fact;
@@ -9,19 +10,24 @@ use std::alloc::{AllocError, Global};
 use std::marker::Model;
 
 /// Facts in their order, and an index of the first of them. Contracts see the facts.
-pub struct FactList {
+pub struct FactList<'a> {
     facts: Vec<Fact>,
     index: Index,
+    effort: &'a Effort,
 }
 
 /// Written out, so that no crate above proves it anew.
-impl Drop for FactList {
+impl<'a> Drop for FactList<'a> {
     fn drop(self) {
-        let FactList { facts: _, index: _ } = self;
+        let FactList {
+            facts: _,
+            index: _,
+            effort: _,
+        } = self;
     }
 }
 
-impl Model for FactList {
+impl<'a> Model for FactList<'a> {
     ghost use Rattle.std.specs.Prelude.{List};
     ghost use Rattle.linear.specs.declared.form.Fact.{Fact};
     ghost use Rattle.entailment.specs.Index.{IsBegun};
@@ -33,24 +39,26 @@ impl Model for FactList {
     ghost invariant = { λ l. IsBegun l.facts.items l.index.entered.count l.index.settled.items l.index.recent.items l.index.entered.is_consistent };
 }
 
-impl FactList {
-    /// No facts.
-    pub fn new(alloc: Global) -> FactList
+impl<'a> FactList<'a> {
+    /// No facts, of which questions will be asked with so much effort.
+    pub fn new(alloc: Global, effort: &'a Effort) -> FactList<'a>
         ensures { result ≡ [] }
     {
         FactList {
             facts: Vec::new(alloc),
             index: Index::new(alloc),
+            effort,
         }
     }
 
     /// Facts that are not in an index yet.
-    pub fn from_vec(alloc: Global, facts: Vec<Fact>) -> FactList
+    pub fn from_vec(alloc: Global, facts: Vec<Fact>, effort: &'a Effort) -> FactList<'a>
         ensures { result ≡ facts.items }
     {
         FactList {
             facts,
             index: Index::new(alloc),
+            effort,
         }
     }
 
@@ -87,17 +95,26 @@ impl FactList {
     {
         Known {
             facts: self.facts.as_slice(),
-            layers: self.index.layers(),
+            layers: self.index.layers(self.effort),
             is_indexed: self.index.entered.count > self.facts.len(),
             is_consistent: self.index.entered.is_consistent,
         }
     }
 
+    /// The effort that is granted.
+    pub fn effort(&self) -> &'a Effort {
+        self.effort
+    }
+
     /// The facts alone.
     pub fn into_vec(self) -> Vec<Fact>
-        ensures { result.items ≡ self }
+        ensures { result.items ≡ self.entry }
     {
-        let FactList { facts, index: _ } = self;
+        let FactList {
+            facts,
+            index: _,
+            effort: _,
+        } = self;
         facts
     }
 }

@@ -4,6 +4,7 @@ ghost use Rattle.std.specs.Prelude.{◌≡◌, ◌-◌, suc, true, IfOk, IfSome,
 ghost use Rattle.entailment.specs.Index.{IsKeyOf, AreLayers};
 ghost use Rattle.entailment.specs.Tested.{is_shown};
 
+use crate::effort::Effort;
 use crate::index::{FEW, Layers, index_of};
 use crate::lookup::{
     Search, made_up, made_up_alone, made_up_by_bounds, made_up_by_hint, made_up_by_pairs,
@@ -128,7 +129,7 @@ fn shown_by_many(alloc: Global, facts: &[Fact], form: &Form) -> Result<bool, All
     ensures { IfOk result (λ b. b ≡ is_shown facts.now form.now) }
 {
     match index_of(alloc, facts)? {
-        Some(index) => Ok(shown_by_index(facts, index.layers(), form)),
+        Some(index) => Ok(shown_by_index(facts, index.layers(&Effort::unlimited()), form)),
         None => Ok(shown(facts, form)),
     }
 }

@@ -7,6 +7,7 @@ ghost use Rattle.linear.specs.Forms.{AreSmall, IsRising, coefficient_of};
 ghost use Rattle.entailment.specs.Index.{place_at, IsKeyOf, IsEntry, IsBegun, IsContradiction, AreEntries, AreLayers, IsJoined};
 ghost use Rattle.entailment.specs.declared.index.Entry.{Entry};
 
+use crate::effort::Effort;
 use crate::hint::{Hint, Pair, make_hints, make_pairs};
 use crate::merge::{enter_many, merge_into};
 use crate::show::{agree, is_at_most};
@@ -34,13 +35,14 @@ pub struct Entry {
     pub place: usize,
 }
 
-/// Entries in two lists, lent with what is remembered of earlier questions.
+/// Entries in two lists, lent with what is remembered of earlier questions, and the effort that is granted to the next ones.
 #[derive(Clone, Copy)]
 pub struct Layers<'a> {
     pub settled: &'a [Entry],
     pub recent: &'a [Entry],
     pub hints: &'a [Cell<Hint>],
     pub pairs: &'a [Cell<Option<Pair>>],
+    pub effort: &'a Effort,
 }
 
 /// What stands at a place.
@@ -306,8 +308,8 @@ impl Index {
         self.entered = nothing_entered();
     }
 
-    /// The two lists, lent.
-    pub fn layers(&self) -> Layers<'_>
+    /// The two lists, lent, where so much effort is granted.
+    pub fn layers<'a>(&'a self, effort: &'a Effort) -> Layers<'a>
         ensures settled { result.settled.now ≡ self.now.settled.items }
         ensures recent { result.recent.now ≡ self.now.recent.items }
     {
@@ -316,6 +318,7 @@ impl Index {
             recent: self.recent.as_slice(),
             hints: self.hints.as_slice(),
             pairs: self.pairs.as_slice(),
+            effort,
         }
     }
 }

@@ -1,9 +1,10 @@
 //! What is known at a place, with an index of it where it is much.
 
-ghost use Rattle.std.specs.Prelude.{◌≡◌, IsTrue};
+ghost use Rattle.std.specs.Prelude.{◌≡◌, IsTrue, IfOk};
 ghost use Rattle.entailment.specs.Index.{IsNegative};
 ghost use Rattle.entailment.specs.Tested.{is_shown};
 
+use crate::effort::OutOfEffort;
 use crate::find::shown_by_index;
 use crate::index::Layers;
 use crate::show::shown;
@@ -41,23 +42,6 @@ fn is_negative(form: &Form) -> bool
 }
 
 impl<'a> Known<'a> {
-    /// Facts that are asked too seldom for an index.
-    pub fn few(facts: &'a [Fact]) -> Known<'a>
-        ensures { result ≡ facts.now }
-    {
-        Known {
-            facts,
-            layers: Layers {
-                settled: &[],
-                recent: &[],
-                hints: &[],
-                pairs: &[],
-            },
-            is_indexed: false,
-            is_consistent: false,
-        }
-    }
-
     /// The facts.
     pub fn facts(&self) -> &'a [Fact]
         ensures { result.now ≡ self.now }
@@ -70,11 +54,24 @@ impl<'a> Known<'a> {
         ensures { result ≡ is_shown self.now form.now }
     {
         if !self.is_indexed {
+            self.layers.effort.spend_question(side_of(form).terms.len());
             return shown(self.facts, form);
         }
         if self.is_consistent && is_negative(form) {
             return false;
         }
+        self.layers.effort.spend_question(side_of(form).terms.len());
         shown_by_index(self.facts, self.layers, form)
+    }
+
+    /// The same, unless the effort that is granted was spent before.
+    pub fn ask(&self, form: &Form) -> Result<bool, OutOfEffort>
+        ensures { IfOk result (λ b. b ≡ is_shown self.now form.now) }
+    {
+        if self.layers.effort.is_spent() {
+            Err(OutOfEffort)
+        } else {
+            Ok(self.shows(form))
+        }
     }
 }

@@ -3,6 +3,7 @@
 //! All pairs of facts are tried; of many facts the second is looked up by an index that grows from place to place.
 #![tactic(auto)]
 
+mod effort;
 mod fact_branches;
 mod fact_cursor;
 mod fact_list;
@@ -17,6 +18,7 @@ mod merge;
 mod show;
 mod weight;
 
+pub use effort::{Effort, OutOfEffort};
 pub use fact_branches::{FactBranches, push_copies};
 pub use fact_cursor::FactCursor;
 pub use fact_list::FactList;

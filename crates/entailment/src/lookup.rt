@@ -140,6 +140,8 @@ fn made_up_along(search: &Search<'_>, pass: &Pass<'_>) -> bool
     let mut upto = pass.seconds.len();
     while at < pass.firsts.len() && 0 < upto {
         let (first, count) = next_two(pass, at, upto);
+        search.layers.effort.spend_between(at, first);
+        search.layers.effort.spend_between(count, upto);
         if pass.firsts.len() <= first || count == 0 {
             return false;
         }

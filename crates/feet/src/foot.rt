@@ -5,17 +5,13 @@ ghost use Rattle.zones.specs.Zones.{as_written};
 ghost use Rattle.zones.specs.Places.{place_of, is_allowed, is_clear};
 ghost use Rattle.feet.specs.Feet.{foot_use};
 
-use lists::OutOfMemory;
 use program::Zone;
+use ranges::Unanswered;
 use std::alloc::Global;
 use zones::{MeasuredPlace, Place, Use, as_written};
 
 /// Whether each zone needs no cover, or has one.
-fn are_allowed(
-    alloc: Global,
-    place: &MeasuredPlace<'_>,
-    zones: &[Zone],
-) -> Result<bool, OutOfMemory>
+fn are_allowed(alloc: Global, place: &MeasuredPlace<'_>, zones: &[Zone]) -> Result<bool, Unanswered>
     ensures { IfOk result (λ b. b ≡ list_all (λ (z : ZoneKind). is_allowed place.now (as_written z)) zones.now) }
 {
     for zone in zones {
@@ -27,7 +23,7 @@ fn are_allowed(
 }
 
 /// Whether nothing that is pending conflicts with one of the zones.
-fn are_clear(alloc: Global, place: &MeasuredPlace<'_>, zones: &[Zone]) -> Result<bool, OutOfMemory>
+fn are_clear(alloc: Global, place: &MeasuredPlace<'_>, zones: &[Zone]) -> Result<bool, Unanswered>
     ensures { IfOk result (λ b. b ≡ list_all (λ (z : ZoneKind). is_clear place.now (as_written z)) zones.now) }
 {
     for zone in zones {
@@ -39,7 +35,7 @@ fn are_clear(alloc: Global, place: &MeasuredPlace<'_>, zones: &[Zone]) -> Result
 }
 
 /// 604: of a new child, a foot with some zones.
-fn zones_use(alloc: Global, place: &MeasuredPlace<'_>, foot: &[Zone]) -> Result<Use, OutOfMemory>
+fn zones_use(alloc: Global, place: &MeasuredPlace<'_>, foot: &[Zone]) -> Result<Use, Unanswered>
     ensures { IfOk result (λ u. u ≡ foot_use place.now foot.now) }
 {
     Ok(Use {
@@ -50,7 +46,7 @@ fn zones_use(alloc: Global, place: &MeasuredPlace<'_>, foot: &[Zone]) -> Result<
 }
 
 /// 604: of a new child, its foot.
-pub fn foot_use(alloc: Global, place: &Place<'_>, foot: &[Zone]) -> Result<Use, OutOfMemory>
+pub fn foot_use(alloc: Global, place: &Place<'_>, foot: &[Zone]) -> Result<Use, Unanswered>
     ensures { IfOk result (λ u. u ≡ foot_use (place_of place.now.facts.now place.now.covering.now place.now.own place.now.pending.now) foot.now) }
 {
     if foot.is_empty() {

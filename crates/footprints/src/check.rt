@@ -1,6 +1,7 @@
 ghost use Rattle.std.specs.Prelude.{◌≡◌, ℕ, Some, IfOk, IfErr, OnOk, slice_get};
 ghost use Rattle.refusal.specs.declared.broken.Broken.{Broken};
-ghost use Rattle.refusal.specs.Earliest.{IsEarliest, NamesEarliest};
+ghost use Rattle.refusal.specs.Earliest.{IsEarliest};
+ghost use Rattle.ranges.specs.Judged.{JudgesEarliest};
 ghost use Rattle.ranges.specs.region_match.Rules.{ending_at};
 ghost use Rattle.ranges.specs.region_match.Tasks.{task_at};
 ghost use Rattle.ranges.specs.Edges.{all_with_known};
@@ -11,15 +12,16 @@ ghost use Rattle.ranges.specs.region_match.Tasks.{tasks_in};
 ghost use Rattle.footprints.specs.Rules.{foot_at_end, covering_of, is_own_block, place_in, IsStepBroken, AreStepsBroken, IsEndBroken};
 ghost use Rattle.footprints.specs.Rules.{IsBlockBrokenBy, IsBlockBroken, IsFunctionBroken, IsZoneBroken};
 
-use crate::ZoneFault;
 use crate::access::{Pointer, pointers_of};
 use crate::judge::{edges_fault, step_fault, use_fault};
 use crate::touch::{child_foot, end_use};
-use entailment::{FactCursor, Known};
+use entailment::{Effort, FactCursor, Known};
 use linear::Fact;
-use lists::OutOfMemory;
 use program::{Block, BlockId, Ending, Function, Instruction, Program, Step, Zone};
-use ranges::{BlockFacts, EdgeFacts, Facts, FunctionFacts, Graph, Regions, Task, stands_before};
+use ranges::{
+    BlockFacts, EdgeFacts, Facts, FunctionFacts, Graph, Regions, Task, Unanswered, Unverified,
+    stands_before,
+};
 use refusal::{Broken, lower};
 use std::alloc::Global;
 use zones::{Place, index_for};
@@ -104,7 +106,7 @@ fn step_in_block(
     pointers: &[Pointer],
     facts: &Known<'_>,
     step: &Step,
-) -> Result<Option<Broken>, OutOfMemory>
+) -> Result<Option<Broken>, Unanswered>
     requires { pointers.now ≡ pointers_of block.now.steps }
     ensures { IfOk result (IsEarliest (IsStepBroken functions.now function.now task block.now facts.now step.now)) }
 {
@@ -137,11 +139,12 @@ fn steps_fault(
     task: Task,
     block: &Block,
     table: &BlockFacts,
-) -> Result<Option<Broken>, OutOfMemory>
+    effort: &Effort,
+) -> Result<Option<Broken>, Unanswered>
     ensures { IfOk result (IsEarliest (AreStepsBroken functions.now function.now task block.now (facts_in_table table.now))) }
 {
     let mut named: Option<Broken> = None;
-    let mut cursor = FactCursor::new(alloc, table.facts.as_slice());
+    let mut cursor = FactCursor::new(alloc, table.facts.as_slice(), effort);
     let steps = block.steps.as_slice();
     let pointers = pointers_of(alloc, steps)?;
     for (index, step) in steps.iter().enumerate() {
@@ -168,14 +171,15 @@ fn ending_fault(
     facts: &Known<'_>,
     edges: &[EdgeFacts],
     ending: &Ending,
-) -> Result<Option<Broken>, OutOfMemory>
+    effort: &Effort,
+) -> Result<Option<Broken>, Unanswered>
     ensures { IfOk result (IsEarliest (IsEndBroken function.now task block.now facts.now (all_with_known facts.now edges.now) (Some ending.now))) }
 {
     let place = place_in(function, task, block, facts);
     let blocks = function.blocks.as_slice();
     let used = end_use(alloc, &place, blocks, &ending.terminator)?;
     let at_end = use_fault(ending.line, used);
-    let on_edges = edges_fault(alloc, blocks, block, ending, facts.facts(), edges)?;
+    let on_edges = edges_fault(alloc, blocks, block, ending, facts.facts(), edges, effort)?;
     Ok(lower(at_end, on_edges))
 }
 
@@ -187,16 +191,17 @@ fn end_fault(
     block: &Block,
     facts: &[Fact],
     edges: &[EdgeFacts],
-) -> Result<Option<Broken>, OutOfMemory>
+    effort: &Effort,
+) -> Result<Option<Broken>, Unanswered>
     ensures { IfOk result (IsEarliest (IsEndBroken function.now task block.now facts.now (all_with_known facts.now edges.now) block.now.ending)) }
 {
     match &block.ending {
         Some(ending) => {
-            let mut cursor = FactCursor::new(alloc, facts);
+            let mut cursor = FactCursor::new(alloc, facts, effort);
             let foot = child_foot(function.blocks.as_slice(), &ending.terminator);
             index_for(&mut cursor, !foot.is_empty())?;
             let facts = cursor.known();
-            ending_fault(alloc, function, task, block, &facts, edges, ending)
+            ending_fault(alloc, function, task, block, &facts, edges, ending, effort)
         }
         None => Ok(None),
     }
@@ -210,14 +215,15 @@ fn block_fault(
     task: Task,
     block: &Block,
     table: &BlockFacts,
-) -> Result<Option<Broken>, OutOfMemory>
+    effort: &Effort,
+) -> Result<Option<Broken>, Unanswered>
     ensures { IfOk result (IsEarliest
         (IsBlockBrokenBy functions.now function.now task block.now (facts_in_table table.now) table.now.facts (edges_in_table table.now))) }
 {
-    let at_steps = steps_fault(alloc, functions, function, task, block, table)?;
+    let at_steps = steps_fault(alloc, functions, function, task, block, table, effort)?;
     let facts = table.facts.as_slice();
     let edges = table.edges.as_slice();
-    let at_end = end_fault(alloc, function, task, block, facts, edges)?;
+    let at_end = end_fault(alloc, function, task, block, facts, edges, effort)?;
     Ok(lower(at_steps, at_end))
 }
 
@@ -228,7 +234,8 @@ fn function_fault(
     function: &Function,
     tasks: &[Task],
     facts: &FunctionFacts,
-) -> Result<Option<Broken>, OutOfMemory>
+    effort: &Effort,
+) -> Result<Option<Broken>, Unanswered>
     requires { IsFunctionTable functions.now function.now facts.now }
     ensures { IfOk result (IsEarliest (IsFunctionBroken functions.now function.now tasks.now)) }
 {
@@ -238,7 +245,7 @@ fn function_fault(
     for (index, block) in blocks.iter().enumerate() {
         let table = &tables[index];
         let task = task_at(tasks, index);
-        let broken = block_fault(alloc, functions, function, task, block, table)?;
+        let broken = block_fault(alloc, functions, function, task, block, table, effort)?;
         named = lower(named, broken);
     }
     Ok(named)
@@ -250,7 +257,8 @@ fn program_fault(
     program: &Program,
     regions: &Regions,
     facts: &Facts,
-) -> Result<Option<Broken>, OutOfMemory>
+    effort: &Effort,
+) -> Result<Option<Broken>, Unanswered>
     requires { AreFacts program.now facts.now }
     ensures { IfOk result (IsEarliest (IsZoneBroken program.now regions.now)) }
 {
@@ -260,25 +268,26 @@ fn program_fault(
     for (index, function) in functions.iter().enumerate() {
         let table = &tables[index];
         let tasks = tasks_of(regions, index);
-        let broken = function_fault(alloc, functions, function, tasks, table)?;
+        let broken = function_fault(alloc, functions, function, tasks, table, effort)?;
         named = lower(named, broken);
     }
     Ok(named)
 }
 
 /// Whether the zones of a program whose regions are matched keep parallel parts clear of each other, by what is known at its places. Of
-/// several faults that of the lowest line is named, and there that of the lowest number.
+/// several faults that of the lowest line is named, and there that of the lowest number. It goes on as long as the effort reaches.
 pub fn check_zones(
     alloc: Global,
     graph: &Graph,
     regions: &Regions,
     facts: &Facts,
-) -> Result<(), ZoneFault>
+    effort: &Effort,
+) -> Result<(), Unverified>
     requires { AreFacts graph.now.program facts.now }
     ensures right { OnOk result ((b : Broken) → IsZoneBroken graph.now.program regions.now b → ⊥) }
-    ensures fault { IfErr result (NamesEarliest (IsZoneBroken graph.now.program regions.now)) }
+    ensures fault { IfErr result (JudgesEarliest (IsZoneBroken graph.now.program regions.now)) }
 {
-    match program_fault(alloc, &graph.program, regions, facts)? {
+    match program_fault(alloc, &graph.program, regions, facts, effort)? {
         Some(broken) => Err(broken.into()),
         None => Ok(()),
     }

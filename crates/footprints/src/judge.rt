@@ -10,11 +10,10 @@ ghost use Rattle.footprints.specs.Rules.{IsUseBroken, IsEdgeBroken};
 use crate::access::Pointer;
 use crate::pass::passes_on;
 use crate::touch::{end_use, step_use};
-use entailment::FactBranches;
+use entailment::{Effort, FactBranches};
 use linear::Fact;
-use lists::OutOfMemory;
 use program::{Block, Ending, Function, Step};
-use ranges::EdgeFacts;
+use ranges::{EdgeFacts, Unanswered};
 use refusal::{Broken, lower};
 use std::alloc::Global;
 use zones::{Place, Use};
@@ -46,7 +45,7 @@ pub fn step_fault(
     functions: &[Function],
     pointers: &[Pointer],
     step: &Step,
-) -> Result<Option<Broken>, OutOfMemory>
+) -> Result<Option<Broken>, Unanswered>
     ensures { (steps : List StepKind) → pointers.now ≡ pointers_of steps → IfOk result (IsEarliest (IsUseBroken step.now.line (step_use
         (place_of place.now.facts.now place.now.covering.now place.now.own place.now.pending.now)
         functions.now steps step.now.line step.now.instruction))) }
@@ -70,7 +69,7 @@ fn edge_fault(
     ending: &Ending,
     facts: &mut FactBranches<'_>,
     edge: &EdgeFacts,
-) -> Result<Option<Broken>, OutOfMemory>
+) -> Result<Option<Broken>, Unanswered>
     ensures lent { OnOk result (facts.new.0 ≡ facts.old.0) }
     ensures fault { IfOk result (IsEarliest (IsEdgeBroken blocks.now block.now ending.now (with_known facts.old.0 edge.now))) }
 {
@@ -87,11 +86,12 @@ pub fn edges_fault(
     ending: &Ending,
     known: &[Fact],
     edges: &[EdgeFacts],
-) -> Result<Option<Broken>, OutOfMemory>
+    effort: &Effort,
+) -> Result<Option<Broken>, Unanswered>
     ensures { IfOk result (IsEarliest (λ (b : Broken). Any (λ e. IsEdgeBroken blocks.now block.now ending.now e b) (all_with_known known.now edges.now))) }
 {
     let mut named: Option<Broken> = None;
-    let mut facts = FactBranches::new(alloc, known);
+    let mut facts = FactBranches::new(alloc, known, effort);
     for edge in edges {
         let broken = edge_fault(alloc, blocks, block, ending, &mut facts, edge)?;
         named = lower(named, broken);

@@ -21,7 +21,6 @@ mod touch;
 pub use access::{Cell, Pointer, address_cell, cells_zone, pointers_of};
 pub use check::check_zones;
 pub use pass::passes_on;
-pub use refusal::Refused as ZoneFault;
 pub use touch::{end_use, step_use};
 pub use zones::{
     Place, PlacedZone, Use, conflict, covers, is_allowed, is_apart, is_clear, is_covered, is_empty,

@@ -5,9 +5,8 @@ ghost use Rattle.footprints.specs.Footprints.{hands_on, pending_of, with_facts, 
 
 use crate::touch::child_foot;
 use entailment::{FactBranches, Known};
-use lists::OutOfMemory;
 use program::{Block, BlockId, Pending, RegisterId, Terminator, Zone};
-use ranges::{EdgeFacts, Way};
+use ranges::{EdgeFacts, Unanswered, Way};
 use std::alloc::Global;
 use zones::{PlacedZone, as_written, covers, is_empty};
 
@@ -40,7 +39,7 @@ fn is_passed(
     waiting: &[Pending],
     region: RegisterId,
     zone: &Zone,
-) -> Result<bool, OutOfMemory>
+) -> Result<bool, Unanswered>
     ensures { IfOk result (λ b. b ≡ is_passed (with_facts facts.now edge.now) waiting.now region zone.now) }
 {
     let y = as_written(zone);
@@ -67,7 +66,7 @@ fn are_passed(
     edge: &EdgeFacts,
     waiting: &[Pending],
     pending: &[Pending],
-) -> Result<bool, OutOfMemory>
+) -> Result<bool, Unanswered>
     ensures { IfOk result (λ b. b ≡ are_passed (with_facts facts.now edge.now) waiting.now pending.now) }
 {
     for item in pending {
@@ -88,7 +87,7 @@ fn foot_passed(
     waiting: &[Pending],
     region: RegisterId,
     foot: &[Zone],
-) -> Result<bool, OutOfMemory>
+) -> Result<bool, Unanswered>
     ensures { IfOk result (λ b. b ≡ foot_passed (with_facts facts.now edge.now) waiting.now region foot.now) }
 {
     for zone in foot {
@@ -107,7 +106,7 @@ fn child_passed_on(
     edge: &EdgeFacts,
     waiting: &[Pending],
     terminator: &Terminator,
-) -> Result<bool, OutOfMemory>
+) -> Result<bool, Unanswered>
     ensures { IfOk result (λ b. b ≡ child_passed_on blocks.now (with_facts facts.now edge.now) waiting.now edge.now.way terminator.now) }
 {
     match edge.way {
@@ -152,7 +151,7 @@ pub fn passes_on(
     pending: &[Pending],
     terminator: &Terminator,
     edge: &EdgeFacts,
-) -> Result<bool, OutOfMemory>
+) -> Result<bool, Unanswered>
     ensures lent { OnOk result (facts.new.0 ≡ facts.old.0) }
     ensures passed { IfOk result (λ b. b ≡ passes_on blocks.now pending.now terminator.now (with_known facts.old.0 edge.now)) }
 {

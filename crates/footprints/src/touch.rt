@@ -12,11 +12,10 @@ ghost use Rattle.footprints.specs.Footprints.{end_use};
 
 use crate::access::{Cell, Pointer, cell_of, cells_zone, first_cell};
 use feet::foot_use;
-use lists::OutOfMemory;
 use program::{
     Address, Argument, Block, Function, FunctionId, Instruction, Mode, ObjectName, Terminator, Zone,
 };
-use ranges::{Move, argument_moves};
+use ranges::{Move, Unanswered, argument_moves};
 use std::alloc::Global;
 use zones::{MeasuredPlace, Place, PlacedZone, Use, as_written, is_allowed, is_clear};
 
@@ -32,7 +31,7 @@ fn no_use() -> Use
 }
 
 /// 601: of an access of these cells.
-fn access_use(alloc: Global, place: &Place<'_>, zone: &Zone) -> Result<Use, OutOfMemory>
+fn access_use(alloc: Global, place: &Place<'_>, zone: &Zone) -> Result<Use, Unanswered>
     ensures { IfOk result (λ u. u ≡ access_use (place_of place.now.facts.now place.now.covering.now place.now.own place.now.pending.now) (Some zone.now)) }
 {
     let y = as_written(zone);
@@ -50,7 +49,7 @@ fn cell_use(
     line: u32,
     mode: Mode,
     cell: Option<Cell>,
-) -> Result<Use, OutOfMemory>
+) -> Result<Use, Unanswered>
     ensures { IfOk result (λ u. u ≡ cell_use (place_of place.now.facts.now place.now.covering.now place.now.own place.now.pending.now) line mode cell) }
 {
     match cell {
@@ -74,7 +73,7 @@ fn address_use(
     line: u32,
     mode: Mode,
     address: Address,
-) -> Result<Use, OutOfMemory>
+) -> Result<Use, Unanswered>
     ensures { (steps : List StepKind) → pointers.now ≡ pointers_of steps → IfOk result (λ u. u ≡ cell_use
         (place_of place.now.facts.now place.now.covering.now place.now.own place.now.pending.now) line mode
         (address_cell steps address)) }
@@ -90,7 +89,7 @@ fn array_use(
     line: u32,
     object: ObjectName,
     cells: u64,
-) -> Result<Use, OutOfMemory>
+) -> Result<Use, Unanswered>
     ensures { IfOk result (λ u. u ≡ access_use
         (place_of place.now.facts.now place.now.covering.now place.now.own place.now.pending.now)
         (Some (cells_zone line Writes (first_cell object) cells))) }
@@ -120,7 +119,7 @@ fn is_put_allowed(
     moves: &[Move],
     arguments: &[Argument],
     zone: &Zone,
-) -> Result<bool, OutOfMemory>
+) -> Result<bool, Unanswered>
     requires { moves.now ≡ argument_moves 0 arguments.now }
     ensures { IfOk result (λ b. b ≡ is_put_allowed place.now (put_in arguments.now zone.now)) }
 {
@@ -144,7 +143,7 @@ fn is_put_clear(
     moves: &[Move],
     arguments: &[Argument],
     zone: &Zone,
-) -> Result<bool, OutOfMemory>
+) -> Result<bool, Unanswered>
     requires { moves.now ≡ argument_moves 0 arguments.now }
     ensures { IfOk result (λ b. b ≡ is_put_clear place.now (put_in arguments.now zone.now)) }
 {
@@ -168,7 +167,7 @@ fn are_put_allowed(
     moves: &[Move],
     arguments: &[Argument],
     zones: &[Zone],
-) -> Result<bool, OutOfMemory>
+) -> Result<bool, Unanswered>
     requires { moves.now ≡ argument_moves 0 arguments.now }
     ensures { IfOk result (λ b. b ≡ list_all (λ (z : ZoneKind). is_put_allowed place.now (put_in arguments.now z)) zones.now) }
 {
@@ -187,7 +186,7 @@ fn are_put_clear(
     moves: &[Move],
     arguments: &[Argument],
     zones: &[Zone],
-) -> Result<bool, OutOfMemory>
+) -> Result<bool, Unanswered>
     requires { moves.now ≡ argument_moves 0 arguments.now }
     ensures { IfOk result (λ b. b ≡ list_all (λ (z : ZoneKind). is_put_clear place.now (put_in arguments.now z)) zones.now) }
 {
@@ -205,7 +204,7 @@ fn zones_use(
     place: &MeasuredPlace<'_>,
     callee: &Function,
     arguments: &[Argument],
-) -> Result<Use, OutOfMemory>
+) -> Result<Use, Unanswered>
     ensures { IfOk result (λ u. u ≡ callee_use place.now callee.now arguments.now) }
 {
     let moves = argument_moves(alloc, arguments)?;
@@ -223,7 +222,7 @@ fn callee_use(
     place: &Place<'_>,
     callee: &Function,
     arguments: &[Argument],
-) -> Result<Use, OutOfMemory>
+) -> Result<Use, Unanswered>
     ensures { IfOk result (λ u. u ≡ callee_use
         (place_of place.now.facts.now place.now.covering.now place.now.own place.now.pending.now) callee.now arguments.now) }
 {
@@ -241,7 +240,7 @@ fn call_use(
     functions: &[Function],
     callee: FunctionId,
     arguments: &[Argument],
-) -> Result<Use, OutOfMemory>
+) -> Result<Use, Unanswered>
     ensures { IfOk result (λ u. u ≡ call_use
         (place_of place.now.facts.now place.now.covering.now place.now.own place.now.pending.now)
         (slice_get functions.now callee.0) arguments.now) }
@@ -260,7 +259,7 @@ pub fn step_use(
     pointers: &[Pointer],
     line: u32,
     instruction: &Instruction,
-) -> Result<Use, OutOfMemory>
+) -> Result<Use, Unanswered>
     ensures { (steps : List StepKind) → pointers.now ≡ pointers_of steps → IfOk result (λ u. u ≡ step_use
         (place_of place.now.facts.now place.now.covering.now place.now.own place.now.pending.now) functions.now steps line instruction.now) }
 {
@@ -315,7 +314,7 @@ pub fn end_use(
     place: &Place<'_>,
     blocks: &[Block],
     terminator: &Terminator,
-) -> Result<Use, OutOfMemory>
+) -> Result<Use, Unanswered>
     ensures { IfOk result (λ u. u ≡ end_use
         (place_of place.now.facts.now place.now.covering.now place.now.own place.now.pending.now) blocks.now terminator.now) }
 {

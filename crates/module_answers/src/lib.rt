@@ -14,6 +14,6 @@ pub use accepted::print_verified;
 pub use beside::Beside;
 pub use files::{read_file, read_text, write_file};
 pub use reasons::print_rule;
-pub use refusals::{fail, print_refused, print_unreadable, stop_for_memory};
+pub use refusals::{fail, print_refused, print_unreadable, print_unverified, stop_for_memory};
 pub use shown::{answer_text, print_known};
 pub use status::Status;

@@ -6,7 +6,7 @@ use command_line::bytes_of;
 use std::alloc::Global;
 use std::io;
 use std::io::{ErrorKind, Write};
-use verifier::Refused;
+use verifier::{Refused, Unverified};
 
 /// Says that memory was refused.
 pub fn stop_for_memory<W: Write>(output: &mut W) -> io::Result<Status> {
@@ -47,5 +47,21 @@ pub fn print_refused<W: Write>(refused: &Refused, output: &mut W) -> io::Result<
             Ok(Status::Refused)
         }
         Refused::Memory => stop_for_memory(output),
+    }
+}
+
+/// Says why a module is not verified: why it is refused, that memory was, or that the effort that was granted is spent.
+pub fn print_unverified<W: Write>(
+    unverified: &Unverified,
+    output: &mut W,
+    beside: &mut Beside,
+) -> io::Result<Status> {
+    match unverified {
+        Unverified::Refused(refused) => print_refused(refused, output),
+        Unverified::OutOfEffort => {
+            writeln!(output, "undecided")?;
+            beside.note("the effort is spent before a verdict; --effort=N grants more")?;
+            Ok(Status::Stopped)
+        }
     }
 }

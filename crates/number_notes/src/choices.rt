@@ -9,7 +9,7 @@ use findings::{Finding, Source, line_at, push_finding, with_line_before};
 use linear::{Form, FormFault, RegisterId};
 use lists::OutOfMemory;
 use program::{Block, BlockId};
-use ranges::{BlockFacts, EdgeFacts, Sum, block_facts, sum_form};
+use ranges::{BlockFacts, EdgeFacts, Effort, Sum, block_facts, sum_form};
 use std::alloc::{AllocError, Global};
 
 /// Whether a fault stands among those of the text, where one line more stands from this one on.
@@ -268,7 +268,14 @@ fn push_block_notes(
     notes: &mut String,
 ) -> Result<(), OutOfMemory> {
     let index = unmet.site.block;
-    let (table, _) = block_facts(alloc, scene.program, scene.function, index, block)?;
+    let (table, _) = block_facts(
+        alloc,
+        scene.program,
+        scene.function,
+        index,
+        block,
+        &Effort::unlimited(),
+    )?;
     let lines = fact_lines(alloc, scene.function, index, block, &table)?;
     let known = Known {
         scene,

@@ -5,7 +5,7 @@ use linear::Fact;
 use lists::{OutOfMemory, Seq};
 use program::{Block, Ending, Function, Inequality, Program, Step};
 use ranges::{
-    BlockFacts, EdgeFacts, Obligation, Sum, block_facts, inequalities_owed, is_met, owed,
+    BlockFacts, EdgeFacts, Effort, Obligation, Sum, block_facts, inequalities_owed, is_met, owed,
     owed_at_end,
 };
 use std::alloc::Global;
@@ -236,7 +236,14 @@ fn push_function(
     unmet: &mut Vec<Unmet>,
 ) -> Result<(), OutOfMemory> {
     for (place, block) in function.blocks.as_slice().iter().enumerate() {
-        let (table, broken) = block_facts(alloc, program, function, place, block)?;
+        let (table, broken) = block_facts(
+            alloc,
+            program,
+            function,
+            place,
+            block,
+            &Effort::unlimited(),
+        )?;
         let site = Site {
             function: index,
             block: place,

@@ -5,6 +5,7 @@ pub mod Places
 pub mod Rules
 pub mod Walks
 pub mod Truth
+pub mod Judged
 -- for the crates above
 pub use Rattle.obligations.specs as obligations
 pub use Rattle.obligations.specs.cfg as cfg

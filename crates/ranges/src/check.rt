@@ -1,13 +1,15 @@
 ghost use Rattle.std.specs.Prelude.{◌≡◌, IfOk, IfErr, Any};
 ghost use Rattle.refusal.specs.declared.broken.Broken.{Broken};
-ghost use Rattle.refusal.specs.Earliest.{IsEarliest, NamesEarliest};
+ghost use Rattle.refusal.specs.Earliest.{IsEarliest};
+ghost use Rattle.ranges.specs.Judged.{JudgesEarliest};
 ghost use Rattle.ranges.specs.Places.{IsFunctionTable, AreFacts};
 ghost use Rattle.ranges.specs.Rules.{IsFunctionBroken, IsRangeBroken};
 
-use crate::RangeFault;
 use crate::table::{BlockFacts, Facts, FunctionFacts};
+use crate::unverified::{Unanswered, Unverified};
 use crate::walk::block_facts;
-use lists::{OutOfMemory, Seq};
+use entailment::Effort;
+use lists::Seq;
 use program::{Function, Program};
 use refusal::{Broken, lower};
 use region_match::{Graph, Regions};
@@ -18,7 +20,8 @@ fn function_facts(
     alloc: Global,
     program: &Program,
     function: &Function,
-) -> Result<(FunctionFacts, Option<Broken>), OutOfMemory>
+    effort: &Effort,
+) -> Result<(FunctionFacts, Option<Broken>), Unanswered>
     ensures table { IfOk result (λ r. IsFunctionTable program.now.functions function.now r.0) }
     ensures named { IfOk result (λ r. IsEarliest (IsFunctionBroken program.now function.now) r.1) }
 {
@@ -26,7 +29,7 @@ fn function_facts(
     let mut named: Option<Broken> = None;
     let blocks = function.blocks.as_slice();
     for (index, block) in blocks.iter().enumerate() {
-        let (table, broken) = block_facts(alloc, program, function, index, block)?;
+        let (table, broken) = block_facts(alloc, program, function, index, block, effort)?;
         named = lower(named, broken);
         tables.push(table)?;
     }
@@ -39,7 +42,11 @@ fn function_facts(
 }
 
 /// What is known in a program, and what is broken there.
-fn program_facts(alloc: Global, program: &Program) -> Result<(Facts, Option<Broken>), OutOfMemory>
+fn program_facts(
+    alloc: Global,
+    program: &Program,
+    effort: &Effort,
+) -> Result<(Facts, Option<Broken>), Unanswered>
     ensures facts { IfOk result (λ r. AreFacts program.now r.0) }
     ensures named { IfOk result (λ r. IsEarliest (IsRangeBroken program.now) r.1) }
 {
@@ -47,7 +54,7 @@ fn program_facts(alloc: Global, program: &Program) -> Result<(Facts, Option<Brok
     let mut named: Option<Broken> = None;
     let functions = program.functions.as_slice();
     for function in functions {
-        let (table, broken) = function_facts(alloc, program, function)?;
+        let (table, broken) = function_facts(alloc, program, function, effort)?;
         named = lower(named, broken);
         tables.push(table)?;
     }
@@ -60,13 +67,18 @@ fn program_facts(alloc: Global, program: &Program) -> Result<(Facts, Option<Brok
 }
 
 /// What is known at each place of a program whose regions are matched, where it shows all that the program owes. Of several faults that of
-/// the lowest line is named, and there that of the lowest number.
-pub fn check_ranges(alloc: Global, graph: &Graph, _regions: &Regions) -> Result<Facts, RangeFault>
+/// the lowest line is named, and there that of the lowest number. It goes on as long as the effort reaches.
+pub fn check_ranges(
+    alloc: Global,
+    graph: &Graph,
+    _regions: &Regions,
+    effort: &Effort,
+) -> Result<Facts, Unverified>
     ensures facts { IfOk result (λ facts. AreFacts graph.now.program facts) }
     ensures right { IfOk result (λ facts. (b : Broken) → IsRangeBroken graph.now.program b → ⊥) }
-    ensures fault { IfErr result (NamesEarliest (IsRangeBroken graph.now.program)) }
+    ensures fault { IfErr result (JudgesEarliest (IsRangeBroken graph.now.program)) }
 {
-    let (facts, named) = program_facts(alloc, &graph.program)?;
+    let (facts, named) = program_facts(alloc, &graph.program, effort)?;
     match named {
         Some(broken) => Err(broken.into()),
         None => Ok(facts),

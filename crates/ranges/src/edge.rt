@@ -9,7 +9,7 @@ ghost use Rattle.ranges.specs.Edges.{edge_facts, all_edge_facts, with_known, all
 
 use crate::know::push_facts;
 use crate::table::EdgeFacts;
-use entailment::FactList;
+use entailment::{Effort, FactList};
 use lists::{OutOfMemory, Seq};
 use obligations::{Sum, Way, make_moves};
 use program::{
@@ -282,7 +282,8 @@ fn edge_facts(
 ) -> Result<EdgeFacts, OutOfMemory>
     ensures { IfOk result (λ e. (known : List Fact) → with_known known e ≡ edge_facts blocks.now from known edge.now) }
 {
-    let mut facts = FactList::new(alloc);
+    let effort = Effort::unlimited();
+    let mut facts = FactList::new(alloc, &effort);
     push_facts(alloc, &mut facts, edge.sums.as_slice())?;
     let moves = match blocks.get(edge.to.0) {
         Some(target) => make_moves(alloc, target.phis.as_slice(), from)?,

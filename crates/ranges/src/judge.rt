@@ -9,9 +9,9 @@ ghost use Rattle.refusal.specs.declared.broken.Broken.{Broken};
 
 use crate::know::{is_met_at, push_fact, shows_at};
 use crate::table::EdgeFacts;
-use entailment::{FactBranches, FactList, Known};
+use crate::unverified::Unanswered;
+use entailment::{Effort, FactBranches, FactList, Known};
 use linear::Fact;
-use lists::OutOfMemory;
 use obligations::{Obligation, difference_of, inequalities_owed};
 use program::{Block, BlockId, Inequality};
 use refusal::{Broken, lower};
@@ -23,7 +23,7 @@ fn obligation_fault(
     known: &Known<'_>,
     line: u32,
     obligation: &Obligation,
-) -> Result<Option<Broken>, OutOfMemory>
+) -> Result<Option<Broken>, Unanswered>
     ensures { IfOk result (IsEarliest (λ (b : Broken). (b.number ≡ obligation.now.number) × (b.line ≡ line) × (is_met known.now obligation.now ≡ false))) }
 {
     let broken = if is_met_at(alloc, known, obligation)? {
@@ -43,7 +43,7 @@ pub fn unmet_fault(
     known: &Known<'_>,
     line: u32,
     obligations: &[Obligation],
-) -> Result<Option<Broken>, OutOfMemory>
+) -> Result<Option<Broken>, Unanswered>
     ensures { IfOk result (IsEarliest (AreUnmet known.now line obligations.now)) }
 {
     let mut named: Option<Broken> = None;
@@ -57,9 +57,9 @@ pub fn unmet_fault(
 /// Adds what a `shows` line says, and names it where it is not shown.
 fn push_shown(
     alloc: Global,
-    facts: &mut FactList,
+    facts: &mut FactList<'_>,
     inequality: &Inequality,
-) -> Result<Option<Broken>, OutOfMemory>
+) -> Result<Option<Broken>, Unanswered>
     ensures known { OnOk result (facts.new ≡ with_shows facts.old (inequality.now ∷ [])) }
     ensures named { IfOk result (IsEarliest
         (λ (b : Broken). (b.number ≡ 508) × (b.line ≡ inequality.now.line) × (shows facts.old (difference_of [] inequality.now) ≡ false))) }
@@ -81,9 +81,9 @@ fn push_shown(
 /// Adds what `shows` lines say, and names what is not shown.
 pub fn push_shows(
     alloc: Global,
-    facts: &mut FactList,
+    facts: &mut FactList<'_>,
     lines: &[Inequality],
-) -> Result<Option<Broken>, OutOfMemory>
+) -> Result<Option<Broken>, Unanswered>
     ensures known { OnOk result (facts.new ≡ with_shows facts.old lines.now) }
     ensures named { IfOk result (IsEarliest (AreUnshown facts.old lines.now)) }
 {
@@ -112,7 +112,7 @@ fn edge_fault(
     line: u32,
     facts: &mut FactBranches<'_>,
     edge: &EdgeFacts,
-) -> Result<Option<Broken>, OutOfMemory>
+) -> Result<Option<Broken>, Unanswered>
     ensures lent { OnOk result (facts.new.0 ≡ facts.old.0) }
     ensures fault { IfOk result (IsEarliest (AreUnmet (facts.old.0 ++ edge.now.facts) line (edge_owed blocks.now edge.now))) }
 {
@@ -129,11 +129,12 @@ pub fn edges_fault(
     line: u32,
     known: &[Fact],
     edges: &[EdgeFacts],
-) -> Result<Option<Broken>, OutOfMemory>
+    effort: &Effort,
+) -> Result<Option<Broken>, Unanswered>
     ensures { IfOk result (IsEarliest (λ (b : Broken). Any (λ e. AreUnmet e.facts line (edge_owed blocks.now e) b) (all_with_known known.now edges.now))) }
 {
     let mut named: Option<Broken> = None;
-    let mut facts = FactBranches::new(alloc, known);
+    let mut facts = FactBranches::new(alloc, known, effort);
     for edge in edges {
         let broken = edge_fault(alloc, blocks, line, &mut facts, edge)?;
         named = lower(named, broken);

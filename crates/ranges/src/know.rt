@@ -2,6 +2,7 @@ ghost use Rattle.std.specs.Prelude.{◌≡◌, ◌++◌, ◌∷◌, [], IfOk, On
 ghost use Rattle.ranges.specs.Sums.{facts_of, shows, is_met};
 
 use crate::form::sum_form;
+use crate::unverified::Unanswered;
 use entailment::{FactList, Known, find_shown};
 use linear::Fact;
 use lists::OutOfMemory;
@@ -9,7 +10,7 @@ use obligations::{Obligation, Sum};
 use std::alloc::Global;
 
 /// Adds that a sum is at least 0; one past the bounds of a form says nothing.
-pub fn push_fact(alloc: Global, facts: &mut FactList, sum: &Sum) -> Result<(), OutOfMemory>
+pub fn push_fact(alloc: Global, facts: &mut FactList<'_>, sum: &Sum) -> Result<(), OutOfMemory>
     ensures { OnOk result (facts.new ≡ facts.old ++ facts_of (sum.now ∷ [])) }
 {
     if let Some(form) = sum_form(alloc, sum)? {
@@ -19,7 +20,7 @@ pub fn push_fact(alloc: Global, facts: &mut FactList, sum: &Sum) -> Result<(), O
 }
 
 /// Adds that each sum is at least 0.
-pub fn push_facts(alloc: Global, facts: &mut FactList, sums: &[Sum]) -> Result<(), OutOfMemory>
+pub fn push_facts(alloc: Global, facts: &mut FactList<'_>, sums: &[Sum]) -> Result<(), OutOfMemory>
     ensures { OnOk result (facts.new ≡ facts.old ++ facts_of sums.now) }
 {
     for sum in sums {
@@ -39,11 +40,11 @@ pub fn shows(alloc: Global, facts: &[Fact], sum: &Sum) -> Result<bool, OutOfMemo
 }
 
 /// Whether it is shown at a place that a sum is at least 0.
-pub fn shows_at(alloc: Global, known: &Known<'_>, sum: &Sum) -> Result<bool, OutOfMemory>
+pub fn shows_at(alloc: Global, known: &Known<'_>, sum: &Sum) -> Result<bool, Unanswered>
     ensures { IfOk result (λ b. b ≡ shows known.now sum.now) }
 {
     match sum_form(alloc, sum)? {
-        Some(form) => Ok(known.shows(&form)),
+        Some(form) => Ok(known.ask(&form)?),
         None => Ok(false),
     }
 }
@@ -53,7 +54,7 @@ pub fn is_met_at(
     alloc: Global,
     known: &Known<'_>,
     obligation: &Obligation,
-) -> Result<bool, OutOfMemory>
+) -> Result<bool, Unanswered>
     ensures { IfOk result (λ b. b ≡ is_met known.now obligation.now) }
 {
     let choices = obligation.choices.as_slice();

@@ -8,9 +8,9 @@ ghost use Rattle.ranges.specs.Learned.{remainder_by, masked_by, binary_sums, is_
 
 use crate::edge::opposite_number;
 use crate::know::shows_at;
+use crate::unverified::Unanswered;
 use entailment::Known;
 use linear::RegisterId;
-use lists::OutOfMemory;
 use obligations::{Sum, call_moves, differences_of, opposite, scale_of};
 use program::{Argument, BinaryOperator, Conversion, Function, FunctionId, Instruction, Operand};
 use std::alloc::Global;
@@ -22,7 +22,7 @@ fn push_multiple(
     d: Operand,
     factor: i64,
     x: Operand,
-) -> Result<(), OutOfMemory>
+) -> Result<(), Unanswered>
     requires { is_scale factor ≡ true }
     ensures { OnOk result (sums.new.items ≡ sums.old.items ++ is_multiple d factor x) }
 {
@@ -38,7 +38,7 @@ fn push_one(
     constant: i128,
     a: i64,
     x: Operand,
-) -> Result<(), OutOfMemory>
+) -> Result<(), Unanswered>
     ensures { OnOk result (sums.new.items ≡ sums.old.items ++ one constant a x ∷ []) }
 {
     sums.push(Sum::one(alloc, constant, a, x)?)?;
@@ -52,7 +52,7 @@ fn push_between(
     least: i64,
     greatest: i64,
     d: Operand,
-) -> Result<(), OutOfMemory>
+) -> Result<(), Unanswered>
     ensures { OnOk result (sums.new.items ≡ sums.old.items ++ is_between least greatest d) }
 {
     push_one(alloc, sums, opposite_number(least), 1, d)?;
@@ -69,7 +69,7 @@ fn push_three(
     y: Operand,
     c: i64,
     z: Operand,
-) -> Result<(), OutOfMemory>
+) -> Result<(), Unanswered>
     ensures { OnOk result (sums.new.items ≡ sums.old.items ++ three (pos 0) a x b y c z ∷ []) }
 {
     sums.push(Sum::three(alloc, a, x, b, y, c, z)?)?;
@@ -77,7 +77,7 @@ fn push_three(
 }
 
 /// d = x + y
-fn sum_sums(alloc: Global, d: Operand, x: Operand, y: Operand) -> Result<Vec<Sum>, OutOfMemory>
+fn sum_sums(alloc: Global, d: Operand, x: Operand, y: Operand) -> Result<Vec<Sum>, Unanswered>
     ensures { IfOk result (λ sums. sums.items ≡ binary_sums [] AddNoWrap d x y) }
 {
     let mut sums = Vec::new(alloc);
@@ -92,7 +92,7 @@ fn difference_sums(
     d: Operand,
     x: Operand,
     y: Operand,
-) -> Result<Vec<Sum>, OutOfMemory>
+) -> Result<Vec<Sum>, Unanswered>
     ensures { IfOk result (λ sums. sums.items ≡ binary_sums [] SubtractNoWrap d x y) }
 {
     let mut sums = Vec::new(alloc);
@@ -102,7 +102,7 @@ fn difference_sums(
 }
 
 /// d = x * y, where one of them is a number within a million
-fn product_sums(alloc: Global, d: Operand, x: Operand, y: Operand) -> Result<Vec<Sum>, OutOfMemory>
+fn product_sums(alloc: Global, d: Operand, x: Operand, y: Operand) -> Result<Vec<Sum>, Unanswered>
     ensures { IfOk result (λ sums. sums.items ≡ is_product d (scale_of x y)) }
 {
     let mut sums = Vec::new(alloc);
@@ -119,7 +119,7 @@ fn shows_one(
     constant: i128,
     a: i64,
     x: Operand,
-) -> Result<bool, OutOfMemory>
+) -> Result<bool, Unanswered>
     ensures { IfOk result (λ b. b ≡ shows known.now (one constant a x)) }
 {
     let sum = Sum::one(alloc, constant, a, x)?;
@@ -132,7 +132,7 @@ fn is_divisor(
     known: &Known<'_>,
     x: Operand,
     divisor: i64,
-) -> Result<bool, OutOfMemory>
+) -> Result<bool, Unanswered>
     ensures value { IfOk result (λ b. b ≡ is_divisor known.now x divisor) }
     ensures positive { IfOk result (λ b. b ≡ true → pos 1 ≤ℤ divisor) }
     ensures scale { IfOk result (λ b. b ≡ true → is_scale divisor ≡ true) }
@@ -157,7 +157,7 @@ fn push_quotient(
     d: Operand,
     x: Operand,
     divisor: i64,
-) -> Result<(), OutOfMemory>
+) -> Result<(), Unanswered>
     requires scale { is_scale divisor ≡ true }
     requires positive { pos 1 ≤ℤ divisor }
     ensures { OnOk result (sums.new.items ≡ sums.old.items ++ is_quotient d x divisor) }
@@ -175,7 +175,7 @@ fn quotient_sums(
     d: Operand,
     x: Operand,
     y: Operand,
-) -> Result<Vec<Sum>, OutOfMemory>
+) -> Result<Vec<Sum>, Unanswered>
     ensures { IfOk result (λ sums. sums.items ≡ quotient_by known.now d x y) }
 {
     let mut sums = Vec::new(alloc);
@@ -194,7 +194,7 @@ fn remainder_sums(
     d: Operand,
     x: Operand,
     y: Operand,
-) -> Result<Vec<Sum>, OutOfMemory>
+) -> Result<Vec<Sum>, Unanswered>
     ensures { IfOk result (λ sums. sums.items ≡ remainder_by known.now d x y) }
 {
     let mut sums = Vec::new(alloc);
@@ -207,7 +207,7 @@ fn remainder_sums(
 }
 
 /// d = x & mask
-fn masked_sums(alloc: Global, d: Operand, y: Operand) -> Result<Vec<Sum>, OutOfMemory>
+fn masked_sums(alloc: Global, d: Operand, y: Operand) -> Result<Vec<Sum>, Unanswered>
     ensures { IfOk result (λ sums. sums.items ≡ masked_by d y) }
 {
     let mut sums = Vec::new(alloc);
@@ -226,7 +226,7 @@ fn binary_sums(
     d: Operand,
     x: Operand,
     y: Operand,
-) -> Result<Vec<Sum>, OutOfMemory>
+) -> Result<Vec<Sum>, Unanswered>
     ensures { IfOk result (λ sums. sums.items ≡ binary_sums known.now operator d x y) }
 {
     match operator {
@@ -250,7 +250,7 @@ fn binary_sums(
 }
 
 /// Whether x is shown to fit 32 bits.
-fn is_32_bits(alloc: Global, known: &Known<'_>, x: Operand) -> Result<bool, OutOfMemory>
+fn is_32_bits(alloc: Global, known: &Known<'_>, x: Operand) -> Result<bool, Unanswered>
     ensures { IfOk result (λ b. b ≡ is_32_bits known.now x) }
 {
     if shows_one(alloc, known, 2_147_483_648, 1, x)? {
@@ -266,7 +266,7 @@ fn conversion_sums(
     conversion: Conversion,
     d: Operand,
     x: Operand,
-) -> Result<Vec<Sum>, OutOfMemory>
+) -> Result<Vec<Sum>, Unanswered>
     ensures { IfOk result (λ sums. sums.items ≡ conversion_sums known.now conversion d x) }
 {
     let mut sums = Vec::new(alloc);
@@ -297,13 +297,13 @@ fn call_sums(
     callee: FunctionId,
     arguments: &[Argument],
     register: Option<RegisterId>,
-) -> Result<Vec<Sum>, OutOfMemory>
+) -> Result<Vec<Sum>, Unanswered>
     ensures { IfOk result (λ sums. sums.items ≡ call_sums (slice_get functions.now callee.0) arguments.now register) }
 {
     match functions.get(callee.0) {
         Some(callee) => {
             let moves = call_moves(alloc, callee, arguments, register)?;
-            differences_of(alloc, &moves, callee.guarantees.as_slice())
+            Ok(differences_of(alloc, &moves, callee.guarantees.as_slice())?)
         }
         None => Ok(Vec::new(alloc)),
     }
@@ -315,7 +315,7 @@ pub fn learned(
     functions: &[Function],
     known: &Known<'_>,
     instruction: &Instruction,
-) -> Result<Vec<Sum>, OutOfMemory>
+) -> Result<Vec<Sum>, Unanswered>
     ensures { IfOk result (λ sums. sums.items ≡ learned functions.now known.now instruction.now) }
 {
     match instruction {

@@ -21,10 +21,12 @@ pub mod laws;
 mod learn;
 mod past;
 mod table;
+mod unverified;
 mod walk;
 
 pub use check::check_ranges;
 pub use edge::{Comparison, EdgeSums, edges_out};
+pub use entailment::{Effort, OutOfEffort};
 pub use form::sum_form;
 pub use know::{is_met, is_met_at, shows, shows_at};
 pub use obligations::{
@@ -32,7 +34,7 @@ pub use obligations::{
     owed, owed_at_end, push_parts, result_moves,
 };
 pub use past::stands_before;
-pub use refusal::Refused as RangeFault;
 pub use region_match::{Graph, Regions, Task};
 pub use table::{BlockFacts, EdgeFacts, Facts, FunctionFacts};
+pub use unverified::{Unanswered, Unverified};
 pub use walk::{block_facts, start_facts, stated};

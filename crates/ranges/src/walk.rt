@@ -16,7 +16,8 @@ use crate::know::push_facts;
 use crate::learn::learned;
 use crate::past::stands_before_step;
 use crate::table::{BlockFacts, EdgeFacts};
-use entailment::FactList;
+use crate::unverified::Unanswered;
+use entailment::{Effort, FactList};
 use linear::Fact;
 use lists::{OutOfMemory, Seq};
 use obligations::{differences_of, owed, owed_at_end};
@@ -29,7 +30,8 @@ pub fn stated(alloc: Global, inequalities: &[Inequality]) -> Result<Vec<Fact>, O
     ensures { IfOk result (λ facts. facts.items ≡ stated inequalities.now) }
 {
     let sums = differences_of(alloc, &[], inequalities)?;
-    let mut facts = FactList::new(alloc);
+    let effort = Effort::unlimited();
+    let mut facts = FactList::new(alloc, &effort);
     push_facts(alloc, &mut facts, &sums)?;
     Ok(facts.into_vec())
 }
@@ -55,24 +57,25 @@ pub fn start_facts(
 fn learn(
     alloc: Global,
     functions: &[Function],
-    facts: &mut FactList,
+    facts: &mut FactList<'_>,
     instruction: &Instruction,
-) -> Result<(), OutOfMemory>
+) -> Result<(), Unanswered>
     ensures { OnOk result (facts.new ≡ facts.old ++ facts_of (learned functions.now facts.old instruction.now)) }
 {
     facts.index()?;
     let learned = learned(alloc, functions, &facts.known(), instruction)?;
-    push_facts(alloc, facts, &learned)
+    push_facts(alloc, facts, &learned)?;
+    Ok(())
 }
 
 /// Goes over a step that is not judged: counts the facts that are known at it, and adds what it makes known.
 fn pass_step(
     alloc: Global,
     functions: &[Function],
-    facts: &mut FactList,
+    facts: &mut FactList<'_>,
     counts: &mut Vec<usize>,
     step: &Step,
-) -> Result<(), OutOfMemory>
+) -> Result<(), Unanswered>
     ensures known { OnOk result (facts.new ≡ after_step functions.now facts.old step.now) }
     ensures count { OnOk result (counts.new.items ≡ counts.old.items ++ length (with_shows facts.old step.now.shows) ∷ []) }
 {
@@ -87,10 +90,10 @@ fn walk_step(
     alloc: Global,
     program: &Program,
     function: &Function,
-    facts: &mut FactList,
+    facts: &mut FactList<'_>,
     counts: &mut Vec<usize>,
     step: &Step,
-) -> Result<Option<Broken>, OutOfMemory>
+) -> Result<Option<Broken>, Unanswered>
     ensures known { OnOk result (facts.new ≡ after_step program.now.functions facts.old step.now) }
     ensures count { OnOk result (counts.new.items ≡ counts.old.items ++ length (with_shows facts.old step.now.shows) ∷ []) }
     ensures named { IfOk result (IsEarliest (IsStepBroken program.now function.now facts.old step.now)) }
@@ -110,9 +113,9 @@ fn walk_steps(
     alloc: Global,
     program: &Program,
     function: &Function,
-    facts: &mut FactList,
+    facts: &mut FactList<'_>,
     steps: &[Step],
-) -> Result<(Vec<usize>, Option<Broken>), OutOfMemory>
+) -> Result<(Vec<usize>, Option<Broken>), Unanswered>
     ensures walked { IfOk result (λ r. IsWalked program.now.functions facts.old steps.now r.0.items facts.new) }
     ensures named { IfOk result (λ r. IsEarliest
         (λ (b : Broken). (i : ℕ) × (step : Step) × (slice_get steps.now i ≡ Some step)
@@ -139,8 +142,8 @@ fn walk_ending(
     index: usize,
     block: &Block,
     ending: &Ending,
-    facts: &mut FactList,
-) -> Result<(Vec<EdgeFacts>, Option<Broken>), OutOfMemory>
+    facts: &mut FactList<'_>,
+) -> Result<(Vec<EdgeFacts>, Option<Broken>), Unanswered>
     ensures known { OnOk result (facts.new ≡ with_shows facts.old ending.now.shows) }
     ensures edges { IfOk result (λ r. all_with_known facts.new r.0.items ≡ edges_behind function.now index block.now facts.new (Some ending.now)) }
     ensures named { IfOk result (λ r. IsEarliest (IsEndUnmetAt function.now facts.old (all_with_known facts.new r.0.items) (Some ending.now)) r.1) }
@@ -152,7 +155,14 @@ fn walk_ending(
     let sums = edges_out(alloc, block.steps.as_slice(), &ending.terminator)?;
     let blocks = function.blocks.as_slice();
     let edges = all_edge_facts(alloc, blocks, index, &sums)?;
-    let unkept = edges_fault(alloc, blocks, ending.line, facts.as_slice(), &edges)?;
+    let unkept = edges_fault(
+        alloc,
+        blocks,
+        ending.line,
+        facts.as_slice(),
+        &edges,
+        facts.effort(),
+    )?;
     Ok((edges, lower(unshown, lower(unmet, unkept))))
 }
 
@@ -162,8 +172,8 @@ fn walk_end(
     function: &Function,
     index: usize,
     block: &Block,
-    facts: &mut FactList,
-) -> Result<(Vec<EdgeFacts>, Option<Broken>), OutOfMemory>
+    facts: &mut FactList<'_>,
+) -> Result<(Vec<EdgeFacts>, Option<Broken>), Unanswered>
     ensures known { OnOk result (facts.new ≡ with_shows facts.old (ending_shows block.now.ending)) }
     ensures edges { IfOk result (λ r. all_with_known facts.new r.0.items ≡ edges_behind function.now index block.now facts.new block.now.ending) }
     ensures named { IfOk result (λ r. IsEarliest (IsEndUnmetAt function.now facts.old (all_with_known facts.new r.0.items) block.now.ending) r.1) }
@@ -181,11 +191,13 @@ pub fn block_facts(
     function: &Function,
     index: usize,
     block: &Block,
-) -> Result<(BlockFacts, Option<Broken>), OutOfMemory>
+    effort: &Effort,
+) -> Result<(BlockFacts, Option<Broken>), Unanswered>
     ensures table { IfOk result (λ r. IsBlockTable program.now.functions function.now index block.now r.0) }
     ensures named { IfOk result (λ r. IsEarliest (IsBlockBroken program.now function.now index block.now) r.1) }
 {
-    let mut facts = FactList::from_vec(alloc, start_facts(alloc, function, index, block)?);
+    let start = start_facts(alloc, function, index, block)?;
+    let mut facts = FactList::from_vec(alloc, start, effort);
     let steps = block.steps.as_slice();
     let (counts, at_steps) = walk_steps(alloc, program, function, &mut facts, steps)?;
     let (edges, at_end) = walk_end(alloc, function, index, block, &mut facts)?;

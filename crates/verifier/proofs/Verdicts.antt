@@ -1,8 +1,13 @@
 -- The answers of the phases put together.
-use Rattle.std.proofs.Common.{◌≡◌, ℕ, List, Result, Ok, Err, IfErr, inl, inr, sym, ap, subst}
+use Rattle.std.proofs.Common.{◌≡◌, ℕ, List, Result, Ok, Err, IfErr, inl, inr, sym, subst}
 use Rattle.std.specs.Prelude.{IsErrAnd}
 use Rattle.refusal.specs.declared.refused.Refused.{Refused}
 use Rattle.refusal.specs.declared.refused.Refused.TheVariants.{Fault, Memory}
+use Rattle.refusal.specs.declared.broken.Broken.{Broken}
+use Rattle.refusal.specs.Earliest.{NamesEarliest}
+use Rattle.ranges.specs.declared.unverified.Unverified.{Unverified}
+use Rattle.ranges.specs.declared.unverified.Unverified.TheVariants as unverified
+use Rattle.ranges.specs.Judged.{JudgesEarliest}
 use Rattle.syntax.specs.declared.module.Module.{Module}
 use Rattle.ir_reader.specs.Reading.{Answers, IsFaultOfText}
 use Rattle.types.specs.declared.typed.Typed.{Typed}
@@ -16,7 +21,7 @@ use Rattle.region_match.specs.Tasks.{AreAllTasks}
 use Rattle.region_match.specs.Matched.{AreRegionsRight}
 use Rattle.ranges.specs.Rules.{AreRangesRight}
 use Rattle.cost_table.specs.Rules.{AreCostsRight}
-use Rattle.verifier.specs.Accepted.{IsDefined, AreTasksOf, AreZonesRight, IsProgramOf, IsFaulty, IsRefused}
+use Rattle.verifier.specs.Accepted.{IsDefined, AreTasksOf, AreZonesRight, IsProgramOf, IsFaulty, IsRefused, IsUnverified}
 use Rattle.verifier.specs.Limits.{IsWithinLimits}
 use Rattle.verifier.proofs.Limits.{within_limits}
 
@@ -33,6 +38,11 @@ pub refused_after : (text : List ℕ) (whole : Module) (typed : Typed) (kept : P
     IsFaulty kept refused → IsRefused text refused
 refused_after text whole typed kept (Fault number line) same a j h = inr (whole, a, inr (typed, j, rw same at h))
 refused_after text whole typed kept Memory same a j h = tt
+
+-- a phase within some effort
+pub unverified_by : (text : List ℕ) (IsBroken : Broken → Type 0) (u : Unverified) → JudgesEarliest IsBroken u → ((refused : Refused) → NamesEarliest IsBroken refused → IsRefused text refused) → IsUnverified text u
+unverified_by text IsBroken (unverified.Refused refused) h by = by refused h
+unverified_by text IsBroken unverified.OutOfEffort h by = tt
 
 -- a table of the graph's tasks is one of the program's
 pub by_tasks : (program : Program) (graphs : List FunctionGraph) (regions : Regions) → graphs ≡ graphs_of program → AreAllTasks graphs regions.functions → AreTasksOf program regions

@@ -16,6 +16,8 @@ use Rattle.region_match.specs.Matched.{AreRegionsRight, IsTaskBroken}
 use Rattle.region_match.specs.Tasks.{AreAllTasks}
 use Rattle.definedness.specs.Definedness.{IsDefinednessBroken}
 use Rattle.ranges.specs.Rules.{IsRangeBroken, AreRangesRight}
+use Rattle.ranges.specs.declared.unverified.Unverified.{Unverified}
+use Rattle.ranges.specs.declared.unverified.Unverified.TheVariants as unverified
 use Rattle.footprints.specs.Rules.{IsZoneBroken, AreZonesRightBy}
 use Rattle.cost_table.specs.Rules.{IsCostBroken, AreCostsRight}
 
@@ -69,6 +71,11 @@ IsRefused text (Fault number line) =
     Answers text (Err (number, line))
     ⊎ ((whole : Module) × Answers text (Ok whole)
     × (MeansTyped whole (Err (Fault number line)) ⊎ ((typed : Typed) × MeansTyped whole (Ok typed) × IsFaulty typed.program (Fault number line))))
+
+-- the text is refused, or there is no verdict, as the effort that was granted is spent
+abbrev pub IsUnverified : List ℕ → Unverified → Type 0
+IsUnverified text (unverified.Refused refused) = IsRefused text refused
+IsUnverified text unverified.OutOfEffort = Unit {0}
 
 -- some text means the program
 pub record IsAccepted (program : Program) : Type 0 where

@@ -6,5 +6,6 @@
 mod cost;
 mod verified;
 
+pub use ranges::{Effort, Unverified};
 pub use refusal::Refused;
-pub use verified::{Verified, verify};
+pub use verified::{Verified, verify, verify_within};

@@ -1,5 +1,5 @@
 ghost use Rattle.std.specs.Prelude.{◌≡◌, IfOk, IfErr};
-ghost use Rattle.verifier.specs.Accepted.{IsAccepted, IsProgramOf, IsRefused};
+ghost use Rattle.verifier.specs.Accepted.{IsAccepted, IsProgramOf, IsRefused, IsUnverified};
 ghost use Rattle.verifier.specs.Budgets.{IsTableOf, IsDepthOf, budget_of};
 
 use crate::cost::{budget_of, depth_of};
@@ -9,7 +9,7 @@ use definedness::defined;
 use footprints::check_zones;
 use ir_reader::read;
 use program::Program;
-use ranges::check_ranges;
+use ranges::{Effort, Unverified, check_ranges};
 use refusal::Refused;
 use region_match::regions;
 use std::alloc::Global;
@@ -91,18 +91,42 @@ impl Verified {
 /// Takes a module whose text is right by each phase. The names of the text are hashed with `state`.
 ///
 /// A refusal names a rule of the first phase with a fault, by its number, and the line that breaks it.
+///
+/// What facts show is searched for as long as it takes. For most texts that is no time; a text that is made for it may take hours. Who takes
+/// texts of strangers asks [`verify_within`].
 pub fn verify(alloc: Global, state: RandomState, text: &[u8]) -> Result<Verified, Refused>
     ensures accepted { IfOk result (IsProgramOf text.now) }
     ensures refused { IfErr result (IsRefused text.now) }
+{
+    match verify_within(alloc, state, text, &Effort::unlimited()) {
+        Ok(verified) => Ok(verified),
+        Err(Unverified::Refused(refused)) => Err(refused),
+        // (Effort that is not bounded is never spent.)
+        Err(Unverified::OutOfEffort) => Err(Refused::Memory),
+    }
+}
+
+/// The same within some effort. Where more is needed, there is no verdict, and the same text may be tried again with more.
+///
+/// What it answers depends on the text alone, and on memory: a text that is verified within some effort is so on every machine. The last question may take
+/// more than what is left, at most some second.
+pub fn verify_within(
+    alloc: Global,
+    state: RandomState,
+    text: &[u8],
+    effort: &Effort,
+) -> Result<Verified, Unverified>
+    ensures accepted { IfOk result (IsProgramOf text.now) }
+    ensures refused { IfErr result (IsUnverified text.now) }
 {
     let module = read(alloc, state, text)?;
     let typed = check_types(alloc, state, module)?;
     let graph = graph(alloc, typed.program)?;
     let regions = regions(alloc, &graph)?;
     defined(alloc, &graph, &regions)?;
-    let facts = check_ranges(alloc, &graph, &regions)?;
-    check_zones(alloc, &graph, &regions, &facts)?;
-    let table = check_cost(alloc, &graph, &regions, &facts)?;
+    let facts = check_ranges(alloc, &graph, &regions, effort)?;
+    check_zones(alloc, &graph, &regions, &facts, effort)?;
+    let table = check_cost(alloc, &graph, &regions, &facts, effort)?;
     let budget = budget_of(&graph.program, &table);
     let depth = depth_of(&graph.program, &table);
     Ok(Verified {

@@ -1,7 +1,7 @@
 //! Faults of zones, each with the zone and what stands beside it.
 
 use crate::zone_text::{as_written, push_why_beside, push_why_not, push_zone};
-use entailment::{FactBranches, FactCursor, Known as KnownFacts};
+use entailment::{Effort, FactBranches, FactCursor, Known as KnownFacts};
 use fact_notes::{Known, Matched, Scene, fact_lines};
 use findings::{Finding, Source, push_finding};
 use footprints::{
@@ -498,7 +498,8 @@ fn push_end(
     findings: &mut Vec<Finding>,
 ) -> Result<(), OutOfMemory> {
     spot.push_child(alloc, &ending.terminator, findings)?;
-    let mut facts = FactBranches::new(alloc, spot.known.facts);
+    let effort = Effort::unlimited();
+    let mut facts = FactBranches::new(alloc, spot.known.facts, &effort);
     for edge in edges {
         spot.push_edge(alloc, &mut facts, &ending.terminator, edge, findings)?;
     }
@@ -550,7 +551,8 @@ fn push_block<'a>(
     block: &'a Block,
     findings: &mut Vec<Finding>,
 ) -> Result<(), OutOfMemory> {
-    let (table, _) = block_facts(alloc, scene.program, scene.function, index, block)?;
+    let effort = Effort::unlimited();
+    let (table, _) = block_facts(alloc, scene.program, scene.function, index, block, &effort)?;
     let lines = fact_lines(alloc, scene.function, index, block, &table)?;
     let tasked = Tasked {
         source,
@@ -560,7 +562,7 @@ fn push_block<'a>(
         table: &table,
         lines: lines.as_slice(),
     };
-    let mut cursor = FactCursor::new(alloc, table.facts.as_slice());
+    let mut cursor = FactCursor::new(alloc, table.facts.as_slice(), &effort);
     tasked.push_steps(alloc, &mut cursor, findings)?;
     tasked.push_ending(alloc, &mut cursor, findings)
 }

@@ -50,13 +50,20 @@ pub fn lie_apart(z: &Extent, y: &Extent) -> bool
     are_in_order(&y.low, &z.high) || are_in_order(&z.low, &y.high)
 }
 
-/// Whether numbers say that one zone of an object has each cell of another one of it.
+/// Whether numbers say that one zone begins at or before another one of its object.
 #[inline(always)]
-pub fn lies_around(z: &Extent, y: &Extent) -> bool
-    ensures low { (facts : List Fact) (a b : Span) → IsExtent facts a z.now → IsExtent facts b y.now
+pub fn begins_before(z: &Extent, y: &Extent) -> bool
+    ensures { (facts : List Fact) (a b : Span) → IsExtent facts a z.now → IsExtent facts b y.now
         → IsTrue result → shows_order facts b.moves b.zone.low a.moves a.zone.low ≡ true }
-    ensures high { (facts : List Fact) (a b : Span) → IsExtent facts a z.now → IsExtent facts b y.now
+{
+    are_in_order(&y.low, &z.low)
+}
+
+/// Whether numbers say that one zone ends at or after another one of its object.
+#[inline(always)]
+pub fn ends_after(z: &Extent, y: &Extent) -> bool
+    ensures { (facts : List Fact) (a b : Span) → IsExtent facts a z.now → IsExtent facts b y.now
         → IsTrue result → shows_order facts a.moves a.zone.high b.moves b.zone.high ≡ true }
 {
-    are_in_order(&y.low, &z.low) && are_in_order(&z.high, &y.high)
+    are_in_order(&z.high, &y.high)
 }

@@ -5,17 +5,18 @@ ghost use Rattle.linear.specs.declared.form.Fact.{Fact};
 ghost use Rattle.std.specs.List.{list_any};
 ghost use Rattle.program.specs.declared.annotation.Pending.{Pending as PendingKind};
 ghost use Rattle.zones.specs.declared.measured.MeasuredZone.{MeasuredZone as MeasuredKind};
-ghost use Rattle.zones.specs.Zones.{span, as_written, covers, meets};
+ghost use Rattle.zones.specs.Zones.{span, as_written, same_object, mode_covers, covers, meets};
 ghost use Rattle.zones.specs.Places.{place_of, is_own, is_allowed, is_clear};
 ghost use Rattle.zones.specs.Ends.{AreBounds, IsExtent, IsMeasured, zones_of};
 
 use crate::bounds::{RegisterBounds, register_bounds};
-use crate::extent::{Extent, extent_of, lie_apart, lies_around};
+use crate::extent::{Extent, begins_before, ends_after, extent_of, lie_apart};
 use crate::place::{Place, as_written, is_own};
 use crate::zone::{PlacedZone, is_covered, is_empty, meets, mode_covers, same_object};
 use entailment::Known;
 use lists::OutOfMemory;
 use program::{Pending, Zone};
+use ranges::Unanswered;
 use std::alloc::Global;
 use std::marker::Model;
 
@@ -97,33 +98,91 @@ fn measured_pending<'a>(
     Ok(all)
 }
 
-/// Whether a zone covers `y` by numbers alone.
+/// Whether a zone may cover `y` by its object and mode.
 #[inline(always)]
-fn covers_by_numbers(measured: &MeasuredZone<'_>, y: &PlacedZone<'_>, extent: &Extent) -> bool
+fn is_of_kind(zone: &Zone, y: &PlacedZone<'_>) -> bool
+    ensures object { IsTrue result → same_object zone.now.object y.now.object ≡ true }
+    ensures mode { IsTrue result → mode_covers zone.now.mode y.now.zone.now.mode ≡ true }
+{
+    same_object(zone.object, y.object) && mode_covers(zone.mode, y.zone.mode)
+}
+
+/// Whether a zone covers `y` by numbers alone: where it begins is compared first.
+#[inline(always)]
+fn covers_by_start(measured: &MeasuredZone<'_>, y: &PlacedZone<'_>, extent: &Extent) -> bool
     ensures { (facts : List Fact) → IsMeasured facts measured.now → IsExtent facts (span y.now.object y.now.moves.now y.now.zone.now) extent.now
         → IsTrue result → covers facts (as_written measured.now.zone.now) (span y.now.object y.now.moves.now y.now.zone.now) ≡ true }
 {
-    if !same_object(measured.zone.object, y.object) {
+    if !is_of_kind(measured.zone, y) {
         return false;
     }
-    if !mode_covers(measured.zone.mode, y.zone.mode) {
+    if !begins_before(&measured.extent, extent) {
         return false;
     }
-    lies_around(&measured.extent, extent)
+    ends_after(&measured.extent, extent)
 }
 
-/// Whether one of the zones covers `y` by numbers alone.
+/// The same: where it ends is compared first.
+#[inline(always)]
+fn covers_by_end(measured: &MeasuredZone<'_>, y: &PlacedZone<'_>, extent: &Extent) -> bool
+    ensures { (facts : List Fact) → IsMeasured facts measured.now → IsExtent facts (span y.now.object y.now.moves.now y.now.zone.now) extent.now
+        → IsTrue result → covers facts (as_written measured.now.zone.now) (span y.now.object y.now.moves.now y.now.zone.now) ≡ true }
+{
+    if !is_of_kind(measured.zone, y) {
+        return false;
+    }
+    if !ends_after(&measured.extent, extent) {
+        return false;
+    }
+    begins_before(&measured.extent, extent)
+}
+
+/// Whether one of the zones covers `y` by numbers alone, of whose ends the first ones are compared first.
 #[tactic(auto, using(crate::proofs::Numbers::one_covers))]
-fn one_covers(zones: &[MeasuredZone<'_>], y: &PlacedZone<'_>, extent: &Extent) -> bool
+fn one_covers_by_start(zones: &[MeasuredZone<'_>], y: &PlacedZone<'_>, extent: &Extent) -> bool
     ensures { (facts : List Fact) → All (IsMeasured facts) zones.now → IsExtent facts (span y.now.object y.now.moves.now y.now.zone.now) extent.now
         → IsTrue result → list_any (λ (m : MeasuredKind). covers facts (as_written m.zone.now) (span y.now.object y.now.moves.now y.now.zone.now)) zones.now ≡ true }
 {
     for zone in zones {
-        if covers_by_numbers(zone, y, extent) {
+        if covers_by_start(zone, y, extent) {
             return true;
         }
     }
     false
+}
+
+/// The same, of whose ends the last ones are compared first.
+#[tactic(auto, using(crate::proofs::Numbers::one_covers))]
+fn one_covers_by_end(zones: &[MeasuredZone<'_>], y: &PlacedZone<'_>, extent: &Extent) -> bool
+    ensures { (facts : List Fact) → All (IsMeasured facts) zones.now → IsExtent facts (span y.now.object y.now.moves.now y.now.zone.now) extent.now
+        → IsTrue result → list_any (λ (m : MeasuredKind). covers facts (as_written m.zone.now) (span y.now.object y.now.moves.now y.now.zone.now)) zones.now ≡ true }
+{
+    for zone in zones {
+        if covers_by_end(zone, y, extent) {
+            return true;
+        }
+    }
+    false
+}
+
+/// Whether the first zone begins at or before `y`, so that it ends too soon if it does not cover `y`.
+fn may_end_too_soon(zones: &[MeasuredZone<'_>], extent: &Extent) -> bool {
+    match zones.first() {
+        Some(zone) => begins_before(&zone.extent, extent),
+        None => false,
+    }
+}
+
+/// Whether one of the zones covers `y` by numbers alone. Of many most fail at the same end as the first one, so that end is compared first.
+fn one_covers(zones: &[MeasuredZone<'_>], y: &PlacedZone<'_>, extent: &Extent) -> bool
+    ensures { (facts : List Fact) → All (IsMeasured facts) zones.now → IsExtent facts (span y.now.object y.now.moves.now y.now.zone.now) extent.now
+        → IsTrue result → list_any (λ (m : MeasuredKind). covers facts (as_written m.zone.now) (span y.now.object y.now.moves.now y.now.zone.now)) zones.now ≡ true }
+{
+    if may_end_too_soon(zones, extent) {
+        one_covers_by_end(zones, y, extent)
+    } else {
+        one_covers_by_start(zones, y, extent)
+    }
 }
 
 /// Whether a zone conflicts with `y`, if `y` has any cell. Where numbers alone keep them apart no more is asked.
@@ -134,7 +193,7 @@ fn meets_measured(
     measured: &MeasuredZone<'_>,
     y: &PlacedZone<'_>,
     extent: &Extent,
-) -> Result<bool, OutOfMemory>
+) -> Result<bool, Unanswered>
     requires zone { IsMeasured facts.now measured.now }
     requires extent { IsExtent facts.now (span y.now.object y.now.moves.now y.now.zone.now) extent.now }
     ensures { IfOk result (λ b. b ≡ meets facts.now (as_written measured.now.zone.now) (span y.now.object y.now.moves.now y.now.zone.now)) }
@@ -152,7 +211,7 @@ fn one_meets(
     zones: &[MeasuredZone<'_>],
     y: &PlacedZone<'_>,
     extent: &Extent,
-) -> Result<bool, OutOfMemory>
+) -> Result<bool, Unanswered>
     requires zones { All (IsMeasured facts.now) zones.now }
     requires extent { IsExtent facts.now (span y.now.object y.now.moves.now y.now.zone.now) extent.now }
     ensures { IfOk result (λ b. b ≡ list_any (λ (m : MeasuredKind). meets facts.now (as_written m.zone.now) (span y.now.object y.now.moves.now y.now.zone.now)) zones.now) }
@@ -183,7 +242,7 @@ impl<'a> MeasuredPlace<'a> {
 
     /// Whether what is touched needs no cover, or has one.
     #[tactic(auto, unfolding(crate::specs::Places::is_allowed))]
-    pub fn is_allowed(&self, alloc: Global, y: &PlacedZone<'_>) -> Result<bool, OutOfMemory>
+    pub fn is_allowed(&self, alloc: Global, y: &PlacedZone<'_>) -> Result<bool, Unanswered>
         ensures { IfOk result (λ b. b ≡ is_allowed self.now (span y.now.object y.now.moves.now y.now.zone.now)) }
     {
         if is_own(self.place.own, y.object) {
@@ -197,7 +256,7 @@ impl<'a> MeasuredPlace<'a> {
     }
 
     /// Whether nothing that is pending conflicts with it.
-    pub fn is_clear(&self, alloc: Global, y: &PlacedZone<'_>) -> Result<bool, OutOfMemory>
+    pub fn is_clear(&self, alloc: Global, y: &PlacedZone<'_>) -> Result<bool, Unanswered>
         ensures { IfOk result (λ b. b ≡ is_clear self.now (span y.now.object y.now.moves.now y.now.zone.now)) }
     {
         let extent = extent_of(self.bounds.as_slice(), y);

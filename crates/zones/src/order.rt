@@ -9,11 +9,11 @@ ghost use Rattle.ranges.specs.Sums.{with_operand, with_parts, start_of, sum_form
 ghost use Rattle.zones.specs.Zones.{between, shows_order};
 ghost use Rattle.zones.specs.Levels.{IsSameTerm, IsLevel};
 
-use entailment::Known;
+use entailment::{Known, OutOfEffort};
 use linear::{Form, RegisterId, Side, Term, side_of};
 use lists::{OutOfMemory, Seq};
 use program::Operand;
-use ranges::{Move, Sum, push_parts, shows_at};
+use ranges::{Move, Sum, Unanswered, push_parts, shows_at};
 use std::alloc::Global;
 
 /// high - low, each with the operands of its own zone put in.
@@ -161,17 +161,17 @@ fn number_between(for_high: &[Move], high: &Form, for_low: &[Move], low: &Form) 
 }
 
 /// Whether it is shown that a number is at least 0. Of a number below 0 only facts that contradict each other show it.
-fn shows_number(alloc: Global, facts: &Known<'_>, number: i128) -> bool
+fn shows_number(alloc: Global, facts: &Known<'_>, number: i128) -> Result<bool, OutOfEffort>
     requires { unsigned_abs number < 2 ^ 100 }
-    ensures { result ≡ is_shown facts.now (constant_form number) }
+    ensures { IfOk result (λ b. b ≡ is_shown facts.now (constant_form number)) }
 {
     if 0 <= number {
-        return true;
+        return Ok(true);
     }
     if facts.facts().is_empty() {
-        return false;
+        return Ok(false);
     }
-    facts.shows(&Form::from_constant(alloc, number))
+    facts.ask(&Form::from_constant(alloc, number))
 }
 
 /// Whether high >= low is shown, for all ends. Of a number no form is built.
@@ -183,11 +183,11 @@ fn shows_between(
     high: &Form,
     for_low: &[Move],
     low: &Form,
-) -> Result<bool, OutOfMemory>
+) -> Result<bool, Unanswered>
     ensures { IfOk result (λ b. b ≡ shows facts.now (between for_high.now high.now for_low.now low.now)) }
 {
     match number_between(for_high, high, for_low, low) {
-        Some(number) => Ok(shows_number(alloc, facts, number)),
+        Some(number) => Ok(shows_number(alloc, facts, number)?),
         None => {
             let sum = between(alloc, for_high, high, for_low, low)?;
             shows_at(alloc, facts, &sum)
@@ -234,7 +234,7 @@ pub fn shows_order(
     high: &Form,
     for_low: &[Move],
     low: &Form,
-) -> Result<bool, OutOfMemory>
+) -> Result<bool, Unanswered>
     ensures { IfOk result (λ b. b ≡ shows_order facts.now for_high.now high.now for_low.now low.now) }
 {
     if let Some(number) = constant_between(high, low) {

@@ -8,6 +8,7 @@ use crate::zone::{PlacedZone, is_covered, is_empty, meets};
 use entailment::{FactCursor, Known};
 use lists::OutOfMemory;
 use program::{ObjectName, Pending, Zone};
+use ranges::Unanswered;
 use std::alloc::Global;
 
 /// What is known at a place, the zones that must cover what is touched there, whether it is one of the function's own blocks, whose accesses of
@@ -64,7 +65,7 @@ pub fn is_own(own: bool, object: ObjectName) -> bool
 
 /// Whether what is touched needs no cover, or has one.
 #[tactic(auto, unfolding(crate::specs::Places::is_allowed))]
-pub fn is_allowed(alloc: Global, place: &Place<'_>, y: &PlacedZone<'_>) -> Result<bool, OutOfMemory>
+pub fn is_allowed(alloc: Global, place: &Place<'_>, y: &PlacedZone<'_>) -> Result<bool, Unanswered>
     ensures { IfOk result (λ b. b ≡ is_allowed
         (place_of place.now.facts.now place.now.covering.now place.now.own place.now.pending.now)
         (span y.now.object y.now.moves.now y.now.zone.now)) }
@@ -81,7 +82,7 @@ fn one_meets(
     facts: &Known<'_>,
     pending: &[Pending],
     y: &PlacedZone<'_>,
-) -> Result<bool, OutOfMemory>
+) -> Result<bool, Unanswered>
     ensures { IfOk result (λ b. b ≡ list_any (λ (q : PendingKind). meets facts.now (as_written q.zone) (span y.now.object y.now.moves.now y.now.zone.now)) pending.now) }
 {
     for item in pending {
@@ -94,7 +95,7 @@ fn one_meets(
 
 /// Whether nothing that is pending conflicts with it. Few zones meet what is pending, and only of those it is asked whether they are empty.
 #[tactic(auto, using(crate::proofs::Clears::clear_unless_met))]
-pub fn is_clear(alloc: Global, place: &Place<'_>, y: &PlacedZone<'_>) -> Result<bool, OutOfMemory>
+pub fn is_clear(alloc: Global, place: &Place<'_>, y: &PlacedZone<'_>) -> Result<bool, Unanswered>
     ensures { IfOk result (λ b. b ≡ is_clear
         (place_of place.now.facts.now place.now.covering.now place.now.own place.now.pending.now)
         (span y.now.object y.now.moves.now y.now.zone.now)) }

@@ -5,9 +5,8 @@ ghost use Rattle.zones.specs.Zones.{shows_order, is_empty, covers, is_apart, con
 
 use crate::order::{may_precede, shows_order};
 use entailment::Known;
-use lists::OutOfMemory;
 use program::{Mode, ObjectName, Zone};
-use ranges::Move;
+use ranges::{Move, Unanswered};
 use std::alloc::Global;
 
 /// A zone at a place: the object that it is of there, and the operands that stand for its registers there.
@@ -62,7 +61,7 @@ pub fn modes_agree(left: Mode, right: Mode) -> bool
 /// Whether a zone is shown to have no cell.
 #[inline(always)]
 #[tactic(auto, unfolding(crate::specs::Zones::is_empty))]
-pub fn is_empty(alloc: Global, facts: &Known<'_>, z: &PlacedZone<'_>) -> Result<bool, OutOfMemory>
+pub fn is_empty(alloc: Global, facts: &Known<'_>, z: &PlacedZone<'_>) -> Result<bool, Unanswered>
     ensures { IfOk result (λ b. b ≡ is_empty facts.now (span z.now.object z.now.moves.now z.now.zone.now)) }
 {
     shows_order(alloc, facts, z.moves, &z.zone.low, z.moves, &z.zone.high)
@@ -76,7 +75,7 @@ pub fn covers(
     facts: &Known<'_>,
     z: &PlacedZone<'_>,
     y: &PlacedZone<'_>,
-) -> Result<bool, OutOfMemory>
+) -> Result<bool, Unanswered>
     ensures { IfOk result (λ b. b ≡ covers facts.now (span z.now.object z.now.moves.now z.now.zone.now) (span y.now.object y.now.moves.now y.now.zone.now)) }
 {
     if !same_object(z.object, y.object) {
@@ -97,7 +96,7 @@ fn is_before(
     facts: &Known<'_>,
     first: &PlacedZone<'_>,
     second: &PlacedZone<'_>,
-) -> Result<bool, OutOfMemory>
+) -> Result<bool, Unanswered>
     ensures { IfOk result (λ b. b ≡ shows_order facts.now second.now.moves.now second.now.zone.now.low first.now.moves.now first.now.zone.now.high) }
 {
     shows_order(
@@ -117,7 +116,7 @@ fn is_beside(
     facts: &Known<'_>,
     z: &PlacedZone<'_>,
     y: &PlacedZone<'_>,
-) -> Result<bool, OutOfMemory>
+) -> Result<bool, Unanswered>
     ensures { IfOk result (λ b. b ≡ (
         shows_order facts.now z.now.moves.now z.now.zone.now.low y.now.moves.now y.now.zone.now.high
         || shows_order facts.now y.now.moves.now y.now.zone.now.low z.now.moves.now z.now.zone.now.high)) }
@@ -138,7 +137,7 @@ pub fn is_apart(
     facts: &Known<'_>,
     z: &PlacedZone<'_>,
     y: &PlacedZone<'_>,
-) -> Result<bool, OutOfMemory>
+) -> Result<bool, Unanswered>
     ensures { IfOk result (λ b. b ≡ is_apart facts.now (span z.now.object z.now.moves.now z.now.zone.now) (span y.now.object y.now.moves.now y.now.zone.now)) }
 {
     if !same_object(z.object, y.object) {
@@ -160,7 +159,7 @@ pub fn conflict(
     facts: &Known<'_>,
     z: &PlacedZone<'_>,
     y: &PlacedZone<'_>,
-) -> Result<bool, OutOfMemory>
+) -> Result<bool, Unanswered>
     ensures { IfOk result (λ b. b ≡ conflict facts.now (span z.now.object z.now.moves.now z.now.zone.now) (span y.now.object y.now.moves.now y.now.zone.now)) }
 {
     if modes_agree(z.zone.mode, y.zone.mode) {
@@ -178,7 +177,7 @@ pub fn meets(
     facts: &Known<'_>,
     z: &PlacedZone<'_>,
     y: &PlacedZone<'_>,
-) -> Result<bool, OutOfMemory>
+) -> Result<bool, Unanswered>
     ensures { IfOk result (λ b. b ≡ meets facts.now (span z.now.object z.now.moves.now z.now.zone.now) (span y.now.object y.now.moves.now y.now.zone.now)) }
 {
     if modes_agree(z.zone.mode, y.zone.mode) || !same_object(z.object, y.object) {
@@ -196,7 +195,7 @@ fn one_covers(
     facts: &Known<'_>,
     zones: &[Zone],
     y: &PlacedZone<'_>,
-) -> Result<bool, OutOfMemory>
+) -> Result<bool, Unanswered>
     ensures { IfOk result (λ b. b ≡ list_any (λ z. covers facts.now (as_written z) (span y.now.object y.now.moves.now y.now.zone.now)) zones.now) }
 {
     for zone in zones {
@@ -219,7 +218,7 @@ pub fn is_covered(
     facts: &Known<'_>,
     zones: &[Zone],
     y: &PlacedZone<'_>,
-) -> Result<bool, OutOfMemory>
+) -> Result<bool, Unanswered>
     ensures { IfOk result (λ b. b ≡ is_covered facts.now zones.now (span y.now.object y.now.moves.now y.now.zone.now)) }
 {
     if one_covers(alloc, facts, zones, y)? {
