@@ -453,22 +453,18 @@ fn read_running(
     Ok(())
 }
 
-fn seed_of(alloc: Global, matches: &ArgMatches<'_>) -> Result<Option<u64>, WordsFault> {
-    match matches.get_str("seed") {
+/// The number of an option, if it is given.
+fn number_of(
+    alloc: Global,
+    matches: &ArgMatches<'_>,
+    name: &str,
+    shown: &str,
+) -> Result<Option<u64>, WordsFault> {
+    match matches.get_str(name) {
         None => Ok(None),
         Some(text) => match text.parse::<u64>() {
-            Ok(seed) => Ok(Some(seed)),
-            Err(_) => Err(wrong_value(alloc, "--seed <S>", text)),
-        },
-    }
-}
-
-fn effort_of(alloc: Global, matches: &ArgMatches<'_>) -> Result<Option<u64>, WordsFault> {
-    match matches.get_str("effort") {
-        None => Ok(None),
-        Some(text) => match text.parse::<u64>() {
-            Ok(steps) => Ok(Some(steps)),
-            Err(_) => Err(wrong_value(alloc, "--effort <N>", text)),
+            Ok(number) => Ok(Some(number)),
+            Err(_) => Err(wrong_value(alloc, shown, text)),
         },
     }
 }
@@ -482,7 +478,7 @@ fn read_verify(
     ensures { request.new.verb ≡ request.old.verb }
 {
     request.table = table_of(alloc, matches)?;
-    request.effort = effort_of(alloc, matches)?;
+    request.effort = number_of(alloc, matches, "effort", "--effort <N>")?;
     Ok(())
 }
 
@@ -507,7 +503,7 @@ fn read_run(
     ensures { request.new.verb ≡ request.old.verb }
 {
     read_running(alloc, matches, request)?;
-    request.telling.seed = seed_of(alloc, matches)?;
+    request.telling.seed = number_of(alloc, matches, "seed", "--seed <S>")?;
     request.telling.file = written_file(alloc, matches, "save")?;
     Ok(())
 }
