@@ -1,0 +1,12 @@
+pub mod Keeping
+pub mod Rising
+pub mod Traps
+pub mod Moving
+pub mod Stepping
+pub mod Law
+pub mod Tasks
+pub mod Memories
+pub mod Kept
+pub mod Sample
+pub mod Counting
+pub mod Reached
