@@ -10,3 +10,4 @@ pub mod Kept
 pub mod Sample
 pub mod Counting
 pub mod Reached
+pub mod Based

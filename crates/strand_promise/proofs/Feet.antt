@@ -1,4 +1,4 @@
--- What a frame keeps with what its caller relies on is so of each living frame of every schedule.
+-- What each frame keeps with what its caller relies on is so of each state that a schedule leads to, whatever its cells hold.
 use Rattle.std.proofs.Common.{◌≡◌, ◌≢◌, ◌∙◌, ℕ, List, [], Some, None, sym, ap, subst, ℤ}
 use Rattle.running.specs.Paths.{Path}
 use Rattle.running.specs.Cells.{Memory}
@@ -19,12 +19,20 @@ use Rattle.crew_promise.proofs.schedule_theorem.safe.Replayed.{replay_good}
 module _ (Z : Type 0) (zone : Z → Zone) (prog : Program) (fits : Path → Frame → Z → Type 0) (pending : Path → Frame → ℕ → Z) (expects : Frame → Z → Type 0)
     (passes : PassesZonesOn Z zone prog fits pending expects)
   where
-    record Standing (s : State) : Type 0 where
-      tree : Tree s
-      feet : Path → Z
-      footed : Footed Z zone fits pending expects s feet
+    pub record Standing (s : State) : Type 0 where
+      pub tree : Tree s
+      pub feet : Path → Z
+      pub footed : Footed Z zone fits pending expects s feet
 
-    standing_kept : (s : State) (p : Path) (c : Change) → Does prog s p c → c.trap ≡ None → Standing s → Standing (apply c s)
+    -- it rests on no memory
+    pub standing_held : (s : State) (m : Memory) → Standing s → Standing (record s { memory = m })
+    standing_held s m h = record {
+      tree = record { has_parent = h.tree.has_parent; awaited = h.tree.awaited; lives = h.tree.lives };
+      feet = h.feet;
+      footed = record { own = h.footed.own; nested = h.footed.nested; waited = h.footed.waited; siblings = h.footed.siblings; expected = h.footed.expected };
+    }
+
+    pub standing_kept : (s : State) (p : Path) (c : Change) → Does prog s p c → c.trap ≡ None → Standing s → Standing (apply c s)
     standing_kept s p c does fine h =
         let (next, footed) = step_footed Z zone prog fits pending expects passes s h.tree h.feet h.footed p c does in
         record { tree = step_keeps_tree h.tree does; feet = next; footed = footed }
@@ -41,9 +49,7 @@ module _ (Z : Type 0) (zone : Z → Zone) (prog : Program) (fits : Path → Fram
         expected = λ k d p f is wait. absurd (let (a, b) = at_start prog arguments memory p f is in let w : Free ≡ OnCall k d = sym (ap (λ (y : Frame). y.waits) b) ∙ wait in cc);
       }
 
-      pub always_fit : (workers : ℕ) → NeverTraps prog workers (start prog arguments memory) → (events : List Event) →
-          (p : Path) (f : Frame) → (replay prog workers events (start prog arguments memory)).core.frames p ≡ Some f → f.waits ≢ Halted → (foot : Z) × fits p f foot
-      always_fit workers never events p f is on =
-          let there = replay_good prog workers Standing standing_kept events (start prog arguments memory) never
-          (record { tree = start_tree prog arguments memory; feet = λ x. z; footed = first_footed }) in
-          (there.feet p, there.footed.own p f is on)
+      pub always_stands : (workers : ℕ) → NeverTraps prog workers (start prog arguments memory) → (events : List Event) → Standing (replay prog workers events (start prog arguments memory)).core
+      always_stands workers never events =
+          replay_good prog workers Standing standing_kept events (start prog arguments memory) never
+          (record { tree = start_tree prog arguments memory; feet = λ x. z; footed = first_footed })

@@ -6,12 +6,13 @@ use Rattle.running.specs.Paths.{Path}
 use Rattle.running.specs.Cells.{Memory}
 use Rattle.running.specs.Frames.{Value, Registers, OnCall, Halted, Frame}
 use Rattle.running.specs.Effect.{Effect, Plain, Detach, Sync, Call, Return, action_of}
-use Rattle.running.specs.State.{went, detached, continued, synced, called, waiting, resumed, root_frame}
+use Rattle.running.specs.State.{State, Change, apply, went, detached, continued, synced, called, waiting, resumed, root_frame}
 use Rattle.running.specs.SerialMeaning.{Left, Gave, at_last}
 use Rattle.running.specs.Events.{Event, start}
 use Rattle.running.specs.Replay.{NeverTraps, replay}
 use Rattle.running.proofs.Diamond.{no_call_after}
 use Rattle.running.proofs.Outcomes.{gave_same, left_none}
+use Rattle.running.proofs.Steps.{Does}
 use Rattle.program.specs.declared.function.Program.{Program}
 use Rattle.crew_promise.specs.conditions.theorem.Conditions.{Zone, Covers, Clear, Going, PassesZonesOn, ClosesRegions}
 use Rattle.crew_promise.specs.conditions.theorem.SerialConditions.{Nothing, KeptSerially}
@@ -24,7 +25,7 @@ use Rattle.crew_promise.specs.phase_laws.defined.Regions.{OwnsRegions, Owns}
 use Rattle.crew_promise.proofs.phase_laws.defined.Regions.{regions_are_kept}
 use Rattle.crew_promise.proofs.phase_laws.defined.Registers.{defined_are_kept}
 use Rattle.crew_promise.proofs.schedule_theorem.Waits.{free_never, region_never, same_call}
-use Rattle.strand_promise.proofs.Feet.{always_fit}
+use Rattle.strand_promise.proofs.Feet.{Standing, standing_kept, standing_held, always_stands}
 
 -- a frame of the function of this number touches no cell here; it promises a number where the function returns one
 abbrev gives_back : Program → ℕ → Zone
@@ -167,9 +168,22 @@ module _ (prog : Program) (named : IsNamed prog) (right : AreRegionsRight prog) 
     );
   }
 
-  pub always_keeps : (arguments : List ℤ) (memory : Memory) → IsPlaced prog (root_frame prog arguments) → OwnsRegions prog [] (root_frame prog arguments) → Registered (IsAlways prog) [] (root_frame prog arguments) nowhere →
-      (workers : ℕ) → NeverTraps prog workers (start prog arguments memory) → (events : List Event) →
-      (p : Path) (f : Frame) → (replay prog workers events (start prog arguments memory)).core.frames p ≡ Some f → f.waits ≢ Halted → (n : ℕ) × Keeps prog p f n
-  always_keeps arguments memory placed own values workers never events =
-      always_fit ℕ (gives_back prog) prog (Keeps prog) (λ p f r. 0) (Relies prog) passes arguments memory prog.main.0
-      (record { function = refl; placed = placed; regions = own; registers = λ on. values; behind = λ k d v w. absurd (free_never k d w) }) workers never events
+  -- so it is of each frame of a state
+  pub record Firm (s : State) : Type 0 where
+    standing : Standing ℕ (gives_back prog) prog (Keeps prog) (λ p f r. 0) (Relies prog) passes s
+
+  pub firm_kept : (s : State) (p : Path) (c : Change) → Does prog s p c → c.trap ≡ None → Firm s → Firm (apply c s)
+  firm_kept s p c does fine h = record { standing = standing_kept ℕ (gives_back prog) prog (Keeps prog) (λ p f r. 0) (Relies prog) passes s p c does fine h.standing }
+
+  pub firm_held : (s : State) (m : Memory) → Firm s → Firm (record s { memory = m })
+  firm_held s m h = record { standing = standing_held ℕ (gives_back prog) prog (Keeps prog) (λ p f r. 0) (Relies prog) passes s m h.standing }
+
+  pub firm_keeps : (s : State) → Firm s → (p : Path) (f : Frame) → s.frames p ≡ Some f → f.waits ≢ Halted → (n : ℕ) × Keeps prog p f n
+  firm_keeps s h p f is on = (h.standing.feet p, h.standing.footed.own p f is on)
+
+  pub always_firm : (arguments : List ℤ) (memory : Memory) → IsPlaced prog (root_frame prog arguments) → OwnsRegions prog [] (root_frame prog arguments) → Registered (IsAlways prog) [] (root_frame prog arguments) nowhere →
+      (workers : ℕ) → NeverTraps prog workers (start prog arguments memory) → (events : List Event) → Firm (replay prog workers events (start prog arguments memory)).core
+  always_firm arguments memory placed own values workers never events = record {
+    standing = always_stands ℕ (gives_back prog) prog (Keeps prog) (λ p f r. 0) (Relies prog) passes arguments memory prog.main.0
+        (record { function = refl; placed = placed; regions = own; registers = λ on. values; behind = λ k d v w. absurd (free_never k d w) }) workers never events;
+  }
