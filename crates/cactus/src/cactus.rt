@@ -1,12 +1,13 @@
-ghost use Rattle.std.specs.Prelude.{count_by, is_some, option_and_then, IsSomeAnd, IfSome, IfNone, ◌≡◌, ◌+◌, ◌<◌, ◌^◌, ◌++◌, ◌∷◌, [], Some, None};
+ghost use Rattle.std.specs.Prelude.{count_by, is_some, option_and_then, IsSomeAnd, IfSome, IfNone, length, ◌≡◌, ◌+◌, ◌<◌, ◌^◌, ◌++◌, ◌∷◌, [], Some, None};
 ghost use Rattle.std.specs.Prelude.{IsSome, IfOk, OnOk, OnErr, option_copied};
 ghost use Rattle.std.specs.Option.{option_copied_mut, option_map};
 ghost use Rattle.std.specs.Borrow.{sem};
 ghost use Rattle.slab.specs.Slab.{entries_from};
 ghost use Rattle.cactus.specs.Frames.{node_at, node_of_use, HasPath, HasNoPath, owner_at, slot_above, frame_at, Lives, IsAdded, AddsChild, IsRemoved};
 ghost use Rattle.cactus.specs.ByPath.{named, IsTree, Binds, GrowsMap, ShrinksMap};
+ghost use Rattle.cactus.specs.Chain.{AddsChain, GrowsChain};
 
-use crate::node::{FrameData, Node};
+use crate::node::{FrameData, Link, Node};
 use frame::Path;
 use lists::{OutOfMemory, Seq};
 use slab::{Iter, Slab};
@@ -229,6 +230,34 @@ impl<F: Drop> Cactus<F> {
         ensures err { OnErr result (self.new ≡ self.old) }
     {
         self.add_child(caller, number, frame)
+    }
+
+    /// Makes the frames one on top of the other, the first on top of the one in the slot; the answer is their slots. All room is taken first:
+    /// where memory is refused nothing changes.
+    pub fn add_chain(
+        &mut self,
+        parent: usize,
+        links: Vec<Link<F>>,
+    ) -> Result<Vec<usize>, OutOfMemory>
+        requires room { self.old.made + length links.items < 2 ^ 63 }
+        ensures ok { IfOk result (λ slots. AddsChain self.old self.new parent links.items slots.items) }
+        ensures map { OnOk result (GrowsChain self.old self.new parent links.items) }
+        ensures err { OnErr result (self.new ≡ self.old) }
+    {
+        let mut slots = Vec::with_capacity(self.alloc, links.len())?;
+        self.nodes.reserve(links.len())?;
+        let mut top = parent;
+        for link in links {
+            top = self.nodes.insert_reserved(Node {
+                generation: self.made,
+                path: link.path,
+                parent: Some(top),
+                frame: link.frame,
+            });
+            self.made += 1;
+            slots.push_reserved(top);
+        }
+        Ok(slots)
     }
 
     /// The slot that the next frame takes.

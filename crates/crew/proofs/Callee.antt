@@ -54,7 +54,7 @@ use Rattle.crew.specs.Rooms.{IsRoom}
 use Rattle.crew.specs.Scheduling.{hand_of, counted_in}
 use Rattle.crew.specs.Layouts.{alloca_at, alloca_cells, layout_of, number_in, object_at, own_at}
 use Rattle.crew.specs.Going.{PointsUp, RunsSafely, TextFits}
-use Rattle.crew.specs.Shown.{Agrees, AreBeside, BlocksStand, CalleeStands, HasTaker, IsBlockOf, IsShown, NodeFits, ShowsAt, ShowsMachine, ShowsNode, cells_in, item_here, place_of, hands_of}
+use Rattle.crew.specs.Shown.{Agrees, AreBeside, BlocksStand, CalleeStands, HasBlock, HasTaker, IsBlockOf, IsShown, NodeFits, ShowsAt, ShowsMachine, ShowsNode, cells_in, item_here, place_of, hands_of}
 use Rattle.crew.proofs.Begun.{back_down, NamedNow, StoodNow, the_caller, the_callee, another, as_caller, as_callee, as_before}
 use Rattle.crew.proofs.Begun as now
 use Rattle.crew.proofs.Calling as step
@@ -510,11 +510,12 @@ module _ (prog : Program) (places : Places) (moves : ℕ) (text : TextFits prog 
     abbrev Owned : ℕ → Node Activation → Type 0
     Owned s x = (y : Block) × (slice_get blocks s ≡ Some y) × IsBlockOf prog x.frame.frame y
 
-    owned_by : (s : ℕ) (x : Node Activation) → Stood s x → x.frame.frame.role ≡ role.Body → Owned s x
-    owned_by s x (as_caller e i) body =
-        let own = shown.agrees.blocks.owned slot node stands (ap (λ (y : Node Activation). y.frame.frame.role) i ∙ body) in
+    owned_by : (s : ℕ) (x : Node Activation) → Stood s x → HasBlock prog blocks s x.frame.frame
+    owned_by s x (as_caller e i) body some =
+        let own = shown.agrees.blocks.owned slot node stands (ap (λ (y : Node Activation). y.frame.frame.role) i ∙ body)
+            (subst (λ (y : Node Activation). 0 < cells_in (slice_get prog.functions y.frame.frame.function.0)) (sym i) some) in
         subst (λ y. Owned s y) i (own.0, subst (λ y. slice_get blocks y ≡ Some own.0) e (block_off slot away ∙ own.1), record { home = own.2.home; room = own.2.room })
-    owned_by s x (as_callee e i) body =
+    owned_by s x (as_callee e i) body some =
         subst (λ y. Owned s y) i (
           block,
           subst (λ y. slice_get blocks y ≡ Some block) e block_here,
@@ -523,7 +524,7 @@ module _ (prog : Program) (places : Places) (moves : ℕ) (text : TextFits prog 
             room = subst (λ (y : ℕ). cells_in (slice_get prog.functions y) ≤ block.cells) (sym (ap (λ (y : FunctionId). y.0) begins.function)) (subst (λ y. y ≤ block.cells) (sym cells_is) room.room);
           },
         )
-    owned_by s x (as_before u v here) body = let own = shown.agrees.blocks.owned s x here body in (own.0, block_off s v ∙ own.1, own.2)
+    owned_by s x (as_before u v here) body some = let own = shown.agrees.blocks.owned s x here body some in (own.0, block_off s v ∙ own.1, own.2)
 
     -- ---- all of it
 
@@ -548,7 +549,7 @@ module _ (prog : Program) (places : Places) (moves : ℕ) (text : TextFits prog 
 
       blocks_stand : BlocksStand prog (new depth room_for_moves)
       blocks_stand = record {
-        owned = λ s x at body. owned_by s x (in_slot s x at) body;
+        owned = λ s x at. owned_by s x (in_slot s x at);
         below = λ s x at. below_by s x (block_now s x at);
         globals = (let low = shown.agrees.blocks.globals in omega (arith, low));
         after = λ s x at. over_by s x (block_now s x at);

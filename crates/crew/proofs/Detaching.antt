@@ -409,8 +409,8 @@ module _ (prog : Program) (places : Places) (k : Run) (slot : ℕ) (node : Node 
             counts = λ x is. as_many ∙ before.counts x (sym (ap (slice_get prog.functions) function_is) ∙ is);
           };
           counts = counts_here;
-          block = λ body.
-              let mine = shown.agrees.blocks.owned slot node stands (sym role_is ∙ body) in
+          block = λ body some.
+              let mine = shown.agrees.blocks.owned slot node stands (sym role_is ∙ body) (subst (λ x. 0 < cells_in (slice_get prog.functions x)) function_is some) in
               (mine.0, mine.1, record { home = home_is ∙ mine.2.home; room = subst (λ x. cells_in (slice_get prog.functions x) ≤ mine.0.cells) (sym function_is) mine.2.room });
         }
 
@@ -430,7 +430,7 @@ module _ (prog : Program) (places : Places) (k : Run) (slot : ℕ) (node : Node 
             counts = λ x is. child_counts ∙ (ap (λ (xs : List ℤ). length xs) is_child.registers ∙ before.fits.registers x (sym (ap (slice_get prog.functions) function) ∙ is));
           };
           counts = λ x. child_none x ∙ sym (ap (λ y. count_of next.core y x) place_is ∙ (counts_off q x apart ∙ none_counted x));
-          block = λ body. absurd (let e : role.Child r n ≡ role.Body = sym child_role ∙ body in cc);
+          block = λ body some. absurd (let e : role.Child r n ≡ role.Body = sym child_role ∙ body in cc);
         }
       where
         no_life : node_at k.cactus s ≡ None → Lives k.cactus s → ⊥

@@ -114,11 +114,12 @@ module _ (prog : Program) (places : Places) (moves : ℕ) (text : TextFits prog 
         let (body, within) = own_body g.role (frames.cells_of prog g.function (object.Alloca (record { 0 = a }))) i h in
         let kind : node.frame.frame.role ≡ role.Body = is_body node.frame.frame.role (sym body ∙ s.shown.role) in
         let at : FoundAt k.cactus (reverse owner) node = named_found k.cactus (reverse owner) node name in
-        let own = shown.agrees.blocks.owned at.slot node at.stands kind in
+        let inside : i < frames.cells_of prog node.frame.frame.function.0 (object.Alloca (record { 0 = a })) = subst (λ (n : ℕ). i < frames.cells_of prog n (object.Alloca (record { 0 = a }))) s.shown.function within in
+        let some = offset_below prog places moves text node.frame.frame.function.0 0 a i inside in
+        let own = shown.agrees.blocks.owned at.slot node at.stands kind (omega (arith, some)) in
         let fits : IsBlockOf prog node.frame.frame own.0 = own.2 in
         let end = shown.agrees.blocks.below at.slot own.0 own.1 in
         let room = fits.room in
-        let inside : i < frames.cells_of prog node.frame.frame.function.0 (object.Alloca (record { 0 = a })) = subst (λ (n : ℕ). i < frames.cells_of prog n (object.Alloca (record { 0 = a }))) s.shown.function within in
         let low : own.0.start + cells_in (slice_get prog.functions node.frame.frame.function.0) < 9223372036854775808 = omega (arith, room, end, small) in
         let off = offset_below prog places moves text node.frame.frame.function.0 own.0.start a i inside in
         let x = alloca_offset prog places moves text node.frame.frame.function.0 own.0.start a i in

@@ -41,11 +41,10 @@ use Rattle.engine.specs.declared.activation.Places.{Places}
 use Rattle.engine.specs.Activation.{FrameFits, ShowsFrame, allocas_of}
 use Rattle.engine.specs.Shows.{Layout, TrapFree}
 use Rattle.crew.specs.declared.activation.Activation.{Activation}
-use Rattle.crew.specs.declared.run.Block.{Block}
 use Rattle.crew.specs.declared.run.Run.{Run}
 use Rattle.crew.specs.Scheduling.{hand_of, counted_in}
 use Rattle.crew.specs.Layouts.{alloca_at, alloca_cells, layout_of, number_in, object_at, own_at, own_cells}
-use Rattle.crew.specs.Shown.{CalleeStands, HasTaker, IsBlockOf, IsShown, ShowsAt, ShowsNode, item_here, place_of}
+use Rattle.crew.specs.Shown.{CalleeStands, HasBlock, HasTaker, IsShown, ShowsAt, ShowsNode, item_here, place_of}
 use Rattle.crew.specs.Forking.{resumed_by_child, resumed_unheld}
 use Rattle.crew.specs.Going.{CanStep, RunsSafely}
 use Rattle.crew.proofs.Leaving as leaving
@@ -509,7 +508,7 @@ module _ (prog : Program) (places : Places) (k : Run) (slot : ℕ) (node : Node 
                     counts = λ y is. as_many ∙ before.counts y (sym (ap (λ (x : Frame). slice_get prog.functions x.function.0) frame_is) ∙ is);
                   };
                   counts = counts_here;
-                  block = subst (λ (x : Frame). x.role ≡ role.Body → (y : Block) × (slice_get k.blocks.items up ≡ Some y) × IsBlockOf prog x y) (sym frame_is) (shown.agrees.blocks.owned up above below.stands);
+                  block = subst (λ (x : Frame). HasBlock prog k.blocks.items up x) (sym frame_is) (shown.agrees.blocks.owned up above below.stands);
                 }
 
             holds_other : (x : ℕ) (y : Node Activation) → x ≢ up → node_at mid x ≡ Some y → HoldsAt x y

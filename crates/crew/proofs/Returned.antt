@@ -431,7 +431,7 @@ module _ (prog : Program) (places : Places) (k : Run) (slot : ℕ) (node : Node 
                 counts = before.counts;
               };
               counts = λ r. shown.agrees.counts up r above below_stands ∙ sym (counts_next (return_change p pa h d v) returns_to pa r);
-              block = λ is_body. let own = shown.agrees.blocks.owned up above below_stands is_body in (own.0, own.1, record { home = own.2.home; room = own.2.room });
+              block = λ is_body some. let own = shown.agrees.blocks.owned up above below_stands is_body some in (own.0, own.1, record { home = own.2.home; room = own.2.room });
             }
 
         one_caller : (x : ℕ) (y : Node Activation) → x ≢ up → node_at k.cactus x ≡ Some y → (j : ℕ) → p ≢ j ∷ place_of y

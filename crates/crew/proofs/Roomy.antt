@@ -112,8 +112,8 @@ module _ (prog : Program) (places : Places) (old new : Run) (more : IsRoomier ol
           counts = a.counts;
           made = a.made;
           blocks = record {
-            owned = λ s n is body.
-                let own = b.owned s n is body in
+            owned = λ s n is body some.
+                let own = b.owned s n is body some in
                 (own.0, subst (λ (xs : List Block). slice_get xs s ≡ Some own.0) (sym more.blocks.1) (get_more old.blocks.items (replicate more.blocks.0 (empty_at old.end)) s own.0 own.1), own.2);
             below = below_end prog old new more b;
             globals = b.globals;

@@ -360,7 +360,7 @@ module _ (prog : Program) (arguments row : List ℤ) (f : Function) (workers slo
 
       blocks_begin : BlocksStand prog k
       blocks_begin = record {
-        owned = λ s n here body.
+        owned = λ s n here body some.
             subst (λ x. (b : Block) × (slice_get k.blocks.items x ≡ Some b) × IsBlockOf prog n.frame.frame b) (stood s n here).0 (
               record { start = home; cells = main_cells f },
               first.blocks.own,

@@ -1,5 +1,5 @@
 -- A frame that goes on where it stands: what is shown, and that the parts agree.
-use Rattle.std.proofs.Common.{Vec, Global, ◌≡◌, ◌≢◌, ℕ, ◌≤◌, length, reverse, Option, Some, None, ◌⊎◌, inl, inr, refl, sym, ap, ◌∙◌, subst, arith, ℤ, ◌+ℤ◌}
+use Rattle.std.proofs.Common.{Vec, Global, ◌≡◌, ◌≢◌, ℕ, ◌<◌, ◌≤◌, length, reverse, Option, Some, None, ◌⊎◌, inl, inr, refl, sym, ap, ◌∙◌, subst, arith, ℤ, ◌+ℤ◌}
 use Rattle.std.specs.Prelude.{◌↔◌}
 use Rattle.std.specs.Prelude.{slice_get}
 use Rattle.running.specs.Paths.{Path}
@@ -9,7 +9,6 @@ use Rattle.running.specs.Counts.{count_of}
 use Rattle.running.specs.Events.{Machine}
 use Rattle.program.specs.declared.function.Function.{Function}
 use Rattle.program.specs.declared.function.Program.{Program}
-use Rattle.frame.specs.declared.frame.Role.TheVariants.{Body}
 use Rattle.frame.specs.declared.frame.Wait.{Wait}
 use Rattle.frame.specs.declared.frame.Wait.TheVariants as wait
 use Rattle.frame.specs.Reading.{wait_of}
@@ -25,11 +24,10 @@ use Rattle.engine.specs.Activation.{FrameFits, ShowsFrame, allocas_of}
 use Rattle.engine.specs.Flat.{cell_in, is_cell}
 use Rattle.engine.specs.Shows.{Layout, ShowsCells}
 use Rattle.crew.specs.declared.activation.Activation.{Activation}
-use Rattle.crew.specs.declared.run.Block.{Block}
 use Rattle.crew.specs.declared.run.Run.{Run}
 use Rattle.crew.specs.Scheduling.{hand_of, counted_in, living_in}
 use Rattle.crew.specs.Layouts.{alloca_at, own_at, layout_of, living, number_in, object_at}
-use Rattle.crew.specs.Shown.{Agrees, BlocksStand, CalleeStands, HasTaker, IsBlockOf, cells_in, IsShown, NodeFits, ShowsAt, ShowsMachine, place_of, hands_of}
+use Rattle.crew.specs.Shown.{Agrees, BlocksStand, CalleeStands, HasBlock, HasTaker, cells_in, IsShown, NodeFits, ShowsAt, ShowsMachine, place_of, hands_of}
 use Rattle.crew.proofs.Views.{named_at_place, tree_after, named_written, stood, still, lives_still, hands_stay}
 
 module _ (prog : Program) (places : Places) (m next : Machine) (k : Run) (slot : ℕ) (node : Node Activation) (g : frames.Frame) (changed : Activation) where
@@ -168,8 +166,8 @@ module _ (prog : Program) (places : Places) (m next : Machine) (k : Run) (slot :
       blocks_stand =
           let b = shown.agrees.blocks in
           record {
-            owned = of_each (λ s n. n.frame.frame.role ≡ Body → (x : Block) × (slice_get k.blocks.items s ≡ Some x) × IsBlockOf prog n.frame.frame x) (λ s n away here. b.owned s n here) (λ body.
-                let own = b.owned slot node stands (sym role ∙ body) in
+            owned = of_each (λ s n. HasBlock prog k.blocks.items s n.frame.frame) (λ s n away here. b.owned s n here) (λ body some.
+                let own = b.owned slot node stands (sym role ∙ body) (subst (λ x. 0 < cells_in (slice_get prog.functions x)) function some) in
                 (own.0, own.1, record { home = home ∙ own.2.home; room = subst (λ x. cells_in (slice_get prog.functions x) ≤ own.0.cells) (sym function) own.2.room }));
             below = b.below;
             globals = b.globals;

@@ -1,5 +1,5 @@
 -- How the machine's run shows a machine of the definitions.
-use Rattle.std.specs.Prelude.{◌≡◌, ◌≢◌, ◌↔◌, ⊤, ℕ, ◌+◌, ◌≤◌, List, [], ◌∷◌, ◌++◌, length, reverse, map, sum, ◌⊎◌, Option, Some, None, pos}
+use Rattle.std.specs.Prelude.{◌≡◌, ◌≢◌, ◌↔◌, ⊤, ℕ, ◌+◌, ◌<◌, ◌≤◌, List, [], ◌∷◌, ◌++◌, length, reverse, map, sum, ◌⊎◌, Option, Some, None, pos}
 use Rattle.std.specs.Prelude.{option_and_then, slice_get}
 use Rattle.std.specs.Option.{option_map}
 use Rattle.running.specs.Paths.{Path}
@@ -95,13 +95,17 @@ pub record IsBlockOf (prog : Program) (f : Frame) (b : Block) : Type 0 where
   pub home : f.home ≡ pos b.start
   pub room : cells_in (slice_get prog.functions f.function.0) ≤ b.cells
 
+-- a function's frame that has cells has its slot's block
+abbrev pub HasBlock : Program → List Block → ℕ → Frame → Type 0
+HasBlock prog blocks slot f =
+    f.role ≡ Body → 0 < cells_in (slice_get prog.functions f.function.0) → (b : Block) × (slice_get blocks slot ≡ Some b) × IsBlockOf prog f b
+
 abbrev pub AreBeside : Block → Block → Type 0
 AreBeside a b = (a.start + a.cells ≤ b.start) ⊎ (b.start + b.cells ≤ a.start)
 
--- blocks lie after the globals, one beside the other, and each function's frame has its slot's
+-- blocks lie after the globals, one beside the other, and the frames that have cells have theirs
 pub record BlocksStand (prog : Program) (k : Run) : Type 0 where
-  pub owned : (slot : ℕ) (node : Node Activation) → node_at k.cactus slot ≡ Some node → node.frame.frame.role ≡ Body →
-      (b : Block) × (slice_get k.blocks.items slot ≡ Some b) × IsBlockOf prog node.frame.frame b
+  pub owned : (slot : ℕ) (node : Node Activation) → node_at k.cactus slot ≡ Some node → HasBlock prog k.blocks.items slot node.frame.frame
   pub below : (slot : ℕ) (b : Block) → slice_get k.blocks.items slot ≡ Some b → b.start + b.cells ≤ k.end
   pub globals : sum (map (λ (g : Global). g.cells) prog.globals) ≤ k.end
   pub after : (slot : ℕ) (b : Block) → slice_get k.blocks.items slot ≡ Some b →

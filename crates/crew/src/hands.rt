@@ -18,7 +18,7 @@ impl Run {
     }
 
     /// The worker runs the task with this top from here on, or is idle.
-    pub(crate) fn set_hand(&mut self, worker: u8, hand: Option<usize>)
+    pub fn set_hand(&mut self, worker: u8, hand: Option<usize>)
         requires { worker < vec_len self.old.hands }
         ensures { self.new ≡ record self.old { hands = with_item self.old.hands worker hand } }
     {
