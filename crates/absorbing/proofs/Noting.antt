@@ -34,7 +34,7 @@ module _ (prog : Program) (workers : ℕ) where
 
   module _ (m : Machine) (w : ℕ) (never : NeverTraps prog workers m) (last : Blocks) (q : Path) where
     -- a step of the worker tells nothing of another path
-    step_off : (p : Path) → p ≢ q → (mid : Machine) → mid.hands w ≡ Some p → (before : Blocks) → if_enabled (event prog workers (Step w) mid) (noted (Step w) mid before) before q ≡ before q
+    pub step_off : (p : Path) → p ≢ q → (mid : Machine) → mid.hands w ≡ Some p → (before : Blocks) → if_enabled (event prog workers (Step w) mid) (noted (Step w) mid before) before q ≡ before q
     step_off p away mid hand before = from (event prog workers (Step w) mid)
       where
         from : (o : Option Machine) → if_enabled o (noted (Step w) mid before) before q ≡ before q

@@ -40,14 +40,15 @@ fn same_words(one: &[i64], other: &[i64]) -> bool
     one == other
 }
 
-fn same_numbers(one: &[u64], other: &[u64]) -> bool
+/// Whether the numbers are the same, in the same order.
+pub fn same_numbers(one: &[u64], other: &[u64]) -> bool
     ensures { IsTrue result ↔ (one.now ≡ other.now) }
 {
     one == other
 }
 
 /// Whether the frames are equal, word for word.
-fn is_same(one: &Frame, other: &Frame) -> bool
+pub fn is_same(one: &Frame, other: &Frame) -> bool
     ensures { IsTrue result ↔ IsCopy other.now one.now }
 {
     if !same_function(one.function, other.function) || !same_place(one.place, other.place) {
@@ -73,7 +74,7 @@ fn holds(row: &[i64], read: &Read) -> bool
 }
 
 /// Whether each cell that was read holds what was read.
-fn hold_reads(reads: &[Read], row: &[i64]) -> bool
+pub fn hold_reads(reads: &[Read], row: &[i64]) -> bool
     ensures { IsTrue result ↔ HoldReads reads.now row.now }
 {
     for read in reads {

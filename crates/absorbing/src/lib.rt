@@ -7,6 +7,6 @@ mod taking;
 mod taking_back;
 
 pub use cells::{cell, put_writes};
-pub use fitting::fitting_slot;
+pub use fitting::{fitting_slot, hold_reads, is_same, same_numbers};
 pub use strand::{Pause, Strand};
 pub use taking::absorb;

@@ -513,7 +513,7 @@ module _ (prog : Program) (places : Places) (moves : ℕ) (text : TextFits prog 
     owned_by : (s : ℕ) (x : Node Activation) → Stood s x → HasBlock prog blocks s x.frame.frame
     owned_by s x (as_caller e i) body some =
         let own = shown.agrees.blocks.owned slot node stands (ap (λ (y : Node Activation). y.frame.frame.role) i ∙ body)
-            (subst (λ (y : Node Activation). 0 < cells_in (slice_get prog.functions y.frame.frame.function.0)) (sym i) some) in
+        (subst (λ (y : Node Activation). 0 < cells_in (slice_get prog.functions y.frame.frame.function.0)) (sym i) some) in
         subst (λ y. Owned s y) i (own.0, subst (λ y. slice_get blocks y ≡ Some own.0) e (block_off slot away ∙ own.1), record { home = own.2.home; room = own.2.room })
     owned_by s x (as_callee e i) body some =
         subst (λ y. Owned s y) i (
