@@ -16,6 +16,16 @@ def fill_{0}(seed):
     return x
 """
 
+FOLD = """
+def fold():
+    i = 0
+    s = 0
+    while i < 1024:
+        s = (s ^ b[i & 1023]) + i
+        i = i + 1
+    return s
+"""
+
 SOURCES = {
     "fib": """
 def fib(n):
@@ -175,6 +185,55 @@ def main(n):
     while i < n:
         u = fill_a(i)
         s = s + both()
+        i = i + 1
+    return s
+""",
+    "prefix": FILL.format("a") + """
+def sums():
+    i = 0
+    s = 0
+    while i < 1024:
+        s = s + a[i & 1023]
+        b[i & 1023] = s
+        i = i + 1
+    return s
+""" + FOLD + """
+def main(n):
+    i = 0
+    s = 0
+    while i < n:
+        u = fill_a(i)
+        v = sums()
+        s = s + fold()
+        i = i + 1
+    return s
+""",
+    "histogram": FILL.format("a") + """
+def clear():
+    i = 0
+    while i < 1024:
+        b[i & 1023] = 0
+        i = i + 1
+    return 0
+def tally():
+    i = 0
+    s = 0
+    while i < 1024:
+        x = a[i & 1023]
+        y = b[x & 1023]
+        b[x & 1023] = y + 1
+        s = s + y
+        i = i + 1
+    return s
+""" + FOLD + """
+def main(n):
+    i = 0
+    s = 0
+    while i < n:
+        u = fill_a(i)
+        v = clear()
+        w = tally()
+        s = s + fold()
         i = i + 1
     return s
 """,
