@@ -177,6 +177,7 @@ fn operate(operator: BinaryOperator, width: Width, left: i64, right: i64) -> i64
 }
 
 /// The same at 32 bits, apart from the loop's code.
+#[cold]
 #[inline(never)]
 fn narrow(operator: BinaryOperator, left: i64, right: i64) -> i64
     requires left { Fits Bits32 left }

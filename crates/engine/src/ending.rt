@@ -72,7 +72,8 @@ fn next_block(regs: &[i64], terminator: &Terminator) -> Option<BlockId>
     }
 }
 
-/// Goes along the edge of any plain ending, apart from the loop's code.
+/// Goes along the edge of any plain ending, apart from the loop's code: few blocks end with a switch.
+#[cold]
 #[inline(never)]
 fn leave_apart(
     regs: &mut [i64],
@@ -142,6 +143,10 @@ pub fn leave(
                 Some(*when_false)
             }
         }
-        _ => leave_apart(regs, moves, blocks, from, terminator),
+        Terminator::Switch { .. } => leave_apart(regs, moves, blocks, from, terminator),
+        Terminator::Return { .. }
+        | Terminator::Detach { .. }
+        | Terminator::Reattach { .. }
+        | Terminator::Sync { .. } => None,
     }
 }
