@@ -39,8 +39,10 @@ def main(n):
 def main(n):
     i = 0
     s = 0
+    t = 0
     while i < n:
-        s = s + i
+        s = t
+        t = s + i
         i = i + 1
     return s
 """,
