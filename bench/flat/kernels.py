@@ -1,4 +1,6 @@
-"""Modules that both the machine and the flat interpreter run, with what each returns: five kernels, each done as often as @main's argument says."""
+"""Modules that both the machine and the flat interpreter run, with what each returns: seven kernels, each done as often as @main's argument says."""
+
+import collections, itertools
 
 CELLS, SMALL, SORTED = 1024, 256, 128
 
@@ -277,10 +279,44 @@ def stencil_result(n):
         total += value
     return total
 
+def fold(array):
+    return loop(f"fold.{array}", CELLS, cell("t", array, "%i") + "%x = load i64, ptr %t.p\n%y = xor i64 %sum, %x\n%next = add i64 %y, %i\n", 0, zones(("reads", array)))
+
+def prefix():
+    fill_a, cost_fill = fill("a")
+    body = cell("t", "a", "%i") + "%x = load i64, ptr %t.p\n%next = add i64 %sum, %x\n" + cell("w", "b", "%i") + "store i64 %next, ptr %w.p\n"
+    sums, cost = loop("sums", CELLS, body, 0, zones(("reads", "a"), ("writes", "b")))
+    fold_b, cost_fold = fold("b")
+    body = "%u = call i64 @fill.a(i64 %i)\n%v = call i64 @sums()\n%f = call i64 @fold.b()\n%next = add i64 %sum, %f\n"
+    text = global_("a") + global_("b") + fill_a + sums + fold_b
+    return text + main(body, cost_fill + cost + cost_fold, zones(("reads", "a"), ("writes", "a"), ("reads", "b"), ("writes", "b")))
+
+def prefix_result(n):
+    return sum(folded(itertools.accumulate(filled(i)[1])) for i in range(n))
+
+def histogram():
+    fill_a, cost_fill = fill("a")
+    clear, cost_clear = loop("clear", CELLS, cell("t", "b", "%i") + "store i64 0, ptr %t.p\n%next = add i64 %sum, 0\n", 0, zones(("writes", "b")))
+    body = cell("t", "a", "%i") + "%x = load i64, ptr %t.p\n" + cell("w", "b", "%x") + "%y = load i64, ptr %w.p\n%more = add i64 %y, 1\n" + cell("z", "b", "%x") + "store i64 %more, ptr %z.p\n%next = add i64 %sum, %y\n"
+    tally, cost = loop("tally", CELLS, body, 0, zones(("reads", "a"), ("reads", "b"), ("writes", "b")))
+    fold_b, cost_fold = fold("b")
+    body = "%u = call i64 @fill.a(i64 %i)\n%v = call i64 @clear()\n%w = call i64 @tally()\n%f = call i64 @fold.b()\n%next = add i64 %sum, %f\n"
+    text = global_("a") + global_("b") + fill_a + clear + tally + fold_b
+    return text + main(body, cost_fill + cost_clear + cost + cost_fold, zones(("reads", "a"), ("writes", "a"), ("reads", "b"), ("writes", "b")))
+
+def histogram_result(n):
+    total = 0
+    for i in range(n):
+        counts = collections.Counter(number % CELLS for number in filled(i)[1])
+        total += folded([counts[k] for k in range(CELLS)])
+    return total
+
 KERNELS = {
     "matrix": (matrix, matrix_result, 40),
     "sieve": (sieve, sieve_result, 1000),
     "sort": (sort, sort_result, 100),
     "crc": (crc, crc_result, 20),
     "stencil": (stencil, stencil_result, 40),
+    "prefix": (prefix, prefix_result, 200),
+    "histogram": (histogram, histogram_result, 200),
 }

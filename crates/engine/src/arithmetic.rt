@@ -7,6 +7,7 @@ ghost use Rattle.program.specs.Widths.{source_width};
 ghost use Rattle.engine.specs.Arithmetic.{IsGiven};
 ghost use Rattle.syntax.specs.declared.operator.BinaryOperator.TheVariants.{SignedDivide, UnsignedDivide, SignedRemainder, UnsignedRemainder};
 ghost use Rattle.syntax.specs.declared.operator.BinaryOperator.TheVariants.{ShiftLeft, LogicalShiftRight, ArithmeticShiftRight};
+ghost use Rattle.syntax.specs.declared.operator.Width.TheVariants.{Bits32};
 ghost use mir.Val.{bits as bits_of};
 
 use program::{BinaryOperator, Conversion, Predicate, Width};
@@ -147,9 +148,9 @@ fn shifted_right_signed(width: Width, left: i64, right: i64) -> i64
     left >> unsigned(width, right)
 }
 
-/// The result of a binary operation that has one.
+/// The result of a binary operation of the width, which has one.
 #[inline(always)]
-pub fn binary(operator: BinaryOperator, width: Width, left: i64, right: i64) -> i64
+fn operate(operator: BinaryOperator, width: Width, left: i64, right: i64) -> i64
     requires left { Fits width left }
     requires right { Fits width right }
     requires given { IsGiven (running.binary operator width left right) }
@@ -172,6 +173,32 @@ pub fn binary(operator: BinaryOperator, width: Width, left: i64, right: i64) -> 
         BinaryOperator::And => both(width, left, right),
         BinaryOperator::Or => either(width, left, right),
         BinaryOperator::ExclusiveOr => differing(width, left, right),
+    }
+}
+
+/// The same at 32 bits, apart from the loop's code.
+#[cold]
+#[inline(never)]
+fn narrow(operator: BinaryOperator, left: i64, right: i64) -> i64
+    requires left { Fits Bits32 left }
+    requires right { Fits Bits32 right }
+    requires given { IsGiven (running.binary operator Bits32 left right) }
+    ensures { Gives result ≡ running.binary operator Bits32 left right }
+{
+    operate(operator, Width::Bits32, left, right)
+}
+
+/// The result of a binary operation that has one.
+#[inline(always)]
+pub fn binary(operator: BinaryOperator, width: Width, left: i64, right: i64) -> i64
+    requires left { Fits width left }
+    requires right { Fits width right }
+    requires given { IsGiven (running.binary operator width left right) }
+    ensures { Gives result ≡ running.binary operator width left right }
+{
+    match width {
+        Width::Bits64 => operate(operator, Width::Bits64, left, right),
+        Width::Bits32 => narrow(operator, left, right),
     }
 }
 

@@ -132,10 +132,12 @@ impl Frame {
         ensures shown { OnOk result ((l : Layout) (places : Places) (p : Path) (g : frames.Frame) → ShowsFrame l places p g self.now
             → ShowsFrame l places (g.made ∷ p) (detached g region.0 body.0 continuation.0) child.new) }
     {
-        child.registers.clear();
-        child
-            .registers
-            .extend_from_slice(self.registers.as_slice())?;
+        // What is held is written over as a whole, which is far sooner done than word by word.
+        let words = self.registers.as_slice();
+        let held = child.registers.len().min(words.len());
+        child.registers.truncate(held);
+        child.registers.copy_from_slice(&words[..held]);
+        child.registers.extend_from_slice(&words[held..])?;
         child.function = self.function;
         child.place = Place {
             block: body,

@@ -79,7 +79,8 @@ impl Frame {
             → PointsAlike l k values → ShowsBases k (bases places.now.globals (allocas_of places.now function.0) home) (g.made ∷ p)
             → ShowsFrame k places.now (g.made ∷ p) (called p g function.0 values) callee.new) }
     {
-        callee.registers.clear();
+        // What the words held counts for nothing, so a frame that was one of the same function before is not written over.
+        callee.registers.truncate(registers);
         callee.registers.resize(registers, 0)?;
         self.pass(places, arguments, callee.registers.as_mut_slice());
         callee.function = function;

@@ -1,7 +1,7 @@
 use Rattle.std.proofs.Common.{rules}
 use Rattle.std.proofs.lemmas.Int.{wraps}
 use Rattle.engine.proofs.Bits.{wrapped_once}
-use Rattle.engine.proofs.arithmetic.binary.Goals as goal
+use Rattle.engine.proofs.arithmetic.operate.Goals as goal
 
 pub returns-in-Add : goal.returns-in-Add
 returns-in-Add c = search (rules, wraps, wrapped_once)
