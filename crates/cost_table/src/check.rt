@@ -193,11 +193,12 @@ pub fn check_cost(
     requires { AreFacts graph.now.program facts.now }
     ensures table { IfOk result (IsTable graph.now.program regions.now) }
     ensures right { OnOk result ((b : Broken) → IsCostBroken graph.now.program b → ⊥) }
-    ensures fault { IfErr result (JudgesEarliest (IsCostBroken graph.now.program)) }
+    ensures fault { IfErr result (JudgesEarliest effort.now (IsCostBroken graph.now.program)) }
 {
     let program = &graph.program;
-    match program_fault(alloc, program, facts, effort)? {
-        Some(broken) => Err(broken.into()),
-        None => Ok(make_table(alloc, program, regions)?),
+    match program_fault(alloc, program, facts, effort) {
+        Ok(None) => Ok(make_table(alloc, program, regions)?),
+        Ok(Some(broken)) => Err(broken.into()),
+        Err(unanswered) => Err(unanswered.within(effort)),
     }
 }

@@ -285,10 +285,11 @@ pub fn check_zones(
 ) -> Result<(), Unverified>
     requires { AreFacts graph.now.program facts.now }
     ensures right { OnOk result ((b : Broken) → IsZoneBroken graph.now.program regions.now b → ⊥) }
-    ensures fault { IfErr result (JudgesEarliest (IsZoneBroken graph.now.program regions.now)) }
+    ensures fault { IfErr result (JudgesEarliest effort.now (IsZoneBroken graph.now.program regions.now)) }
 {
-    match program_fault(alloc, &graph.program, regions, facts, effort)? {
-        Some(broken) => Err(broken.into()),
-        None => Ok(()),
+    match program_fault(alloc, &graph.program, regions, facts, effort) {
+        Ok(None) => Ok(()),
+        Ok(Some(broken)) => Err(broken.into()),
+        Err(unanswered) => Err(unanswered.within(effort)),
     }
 }

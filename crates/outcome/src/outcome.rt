@@ -9,7 +9,7 @@ pub struct Finished {
     pub memory: Memory,
     /// The instructions that were executed, terminators counted, phis not.
     pub instructions: u64,
-    /// The most frames that lived at a time.
+    /// The most frames from the root to a frame that ever lived: of a serial run the most that lived at a time.
     pub peak: u64,
 }
 

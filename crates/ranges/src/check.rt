@@ -76,11 +76,11 @@ pub fn check_ranges(
 ) -> Result<Facts, Unverified>
     ensures facts { IfOk result (λ facts. AreFacts graph.now.program facts) }
     ensures right { IfOk result (λ facts. (b : Broken) → IsRangeBroken graph.now.program b → ⊥) }
-    ensures fault { IfErr result (JudgesEarliest (IsRangeBroken graph.now.program)) }
+    ensures fault { IfErr result (JudgesEarliest effort.now (IsRangeBroken graph.now.program)) }
 {
-    let (facts, named) = program_facts(alloc, &graph.program, effort)?;
-    match named {
-        Some(broken) => Err(broken.into()),
-        None => Ok(facts),
+    match program_facts(alloc, &graph.program, effort) {
+        Ok((facts, None)) => Ok(facts),
+        Ok((_, Some(broken))) => Err(broken.into()),
+        Err(unanswered) => Err(unanswered.within(effort)),
     }
 }

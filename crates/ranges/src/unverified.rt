@@ -1,10 +1,10 @@
 //! Why a question is not answered, and why a program is not verified.
 
-ghost use Rattle.std.specs.Prelude.{◌≡◌, ◌⊎◌};
+ghost use Rattle.std.specs.Prelude.{◌≡◌, ◌⊎◌, IsTrue};
 ghost use Rattle.refusal.specs.declared.refused.Refused.TheVariants.{Fault, Memory};
 ghost use Rattle.ranges.specs.declared.unverified.Unverified.TheVariants.{Refused as RefusedBy, OutOfEffort as NotJudged};
 
-use entailment::OutOfEffort;
+use entailment::{Effort, OutOfEffort};
 use lists::OutOfMemory;
 use refusal::{Broken, Refused};
 use std::alloc::{AllocError, AllocFailed};
@@ -85,13 +85,15 @@ impl From<OutOfMemory> for Unverified {
     }
 }
 
-impl From<Unanswered> for Unverified {
-    ghost from_gives = { λ _ e. (e ≡ RefusedBy Memory) ⊎ (e ≡ NotJudged) };
-
-    fn from(error: Unanswered) -> Unverified {
-        match error {
-            Unanswered::OutOfMemory => Unverified::Refused(Refused::Memory),
-            Unanswered::OutOfEffort => Unverified::OutOfEffort,
+impl Unanswered {
+    /// Why a text is not verified where a question was not answered within this effort. What is not bounded is never spent, so memory alone is wanting there.
+    pub fn within(self, effort: &Effort) -> Unverified
+        ensures { (result ≡ RefusedBy Memory) ⊎ ((result ≡ NotJudged) × IsTrue effort.now) }
+    {
+        if self == Unanswered::OutOfEffort && effort.is_bounded() {
+            Unverified::OutOfEffort
+        } else {
+            Unverified::Refused(Refused::Memory)
         }
     }
 }

@@ -1,8 +1,8 @@
--- The sums that are asked at the places of an accepted program have forms.
+-- The sums that are asked at the places of a program have forms.
 use Rattle.std.proofs.Common.{◌≡◌, ◌∙◌, ℕ, ◌+◌, ◌^◌, ◌<◌, ◌≤◌, ℤ, pos, negsuc, ◌*ℤ◌, ◌-ℤ◌, Bool, true, false, List, [], ◌∷◌, ◌++◌, map, Option, Some, None, refl, sym, ap, subst, arith}
 use Rattle.std.specs.Prelude.{◌==◌, ◌||◌, if◌then◌else◌, slice_get, unsigned_abs, IsSome}
-use Rattle.std.specs.List.{All, Contains}
-use Rattle.std.proofs.Math.Bool.{or-false}
+use Rattle.std.specs.List.{All, Contains, cons_option}
+use Rattle.std.specs.Option.{option_map}
 use Rattle.std.proofs.lemmas.Int.{ints}
 use Rattle.std.proofs.lemmas.List.Elements.{All-cons, All-contains, All-head, All-nil, All-tail}
 use Rattle.linear.specs.declared.form.Fact.{Fact}
@@ -27,79 +27,70 @@ use Rattle.program.specs.declared.instruction.Instruction.{Instruction}
 use Rattle.program.specs.declared.instruction.Instruction.TheVariants as instruction
 use Rattle.program.specs.declared.instruction.Operand.{Operand}
 use Rattle.program.specs.declared.instruction.Operand.TheVariants.{Number, Register}
+use Rattle.program.specs.declared.identifier.ObjectName.{ObjectName}
+use Rattle.program.specs.declared.instruction.Phi.{Phi}
+use Rattle.program.specs.declared.instruction.PhiEntry.{PhiEntry}
 use Rattle.program.specs.declared.instruction.Step.{Step}
 use Rattle.program.specs.declared.instruction.Terminator.{Terminator}
 use Rattle.program.specs.declared.instruction.Terminator.TheVariants as terminator
 use Rattle.program.specs.Steps.{first_said, or_else}
 use Rattle.cfg.specs.declared.structure.Move.{Move}
 use Rattle.cfg.specs.declared.structure.Way.TheVariants.{Branch, Detached, Continued, Synced}
-use Rattle.cfg.specs.Edges.{moves_from}
+use Rattle.cfg.specs.Edges.{moves_from, value_from}
 use Rattle.ranges.specs.declared.edge.Comparison.{Comparison}
 use Rattle.ranges.specs.declared.edge.EdgeSums.{EdgeSums}
 use Rattle.ranges.specs.obligations.declared.sum.Obligation.{Obligation}
 use Rattle.ranges.specs.obligations.declared.sum.Part.{Part}
 use Rattle.ranges.specs.obligations.declared.sum.Sum.{Sum}
 use Rattle.ranges.specs.Edges.{compare_of, compared, at_least, above, compare_sums, branch_sums, case_sums, edge_to, edges_out, edge_facts, edge_owed, keeps_of}
-use Rattle.ranges.specs.obligations.Inequalities.{difference_of, argument_moves}
+use Rattle.ranges.specs.obligations.Inequalities.{difference_of, argument_moves, result_of, result_moves}
 use Rattle.ranges.specs.obligations.Scales.{scale_of}
 use Rattle.ranges.specs.Learned.{learned}
 use Rattle.ranges.specs.obligations.Owed.{must, half, greatest, last_bit, is_not_zero, is_not_least_by_minus_one, product_owed, is_amount, binary_owed, index_owed, inequalities_owed, call_owed, owed, owed_at_end}
-use Rattle.ranges.specs.Rules.{AreRangesRight}
 use Rattle.ranges.specs.obligations.Sums.{one, two}
-use Rattle.ranges.specs.Sums.{shows, shows_form, is_met, sum_form, facts_of}
 use Rattle.footprints.specs.Footprints.{form_at}
 use Rattle.footprints.specs.Zones.{Span}
-use Rattle.verifier.specs.Accepted.{IsAccepted}
 use Rattle.phase_laws.proofs.defined.Lists.{at_within}
-use Rattle.phase_laws.specs.facts.Known.{known_at_place}
-use Rattle.phase_laws.proofs.facts.Places.{BlockOf, step_met, end_met, edge_met}
 use Rattle.verdict_laws.specs.Sums.{IsWord}
-use Rattle.verdict_laws.specs.Limited.{IsLimited}
-use Rattle.verdict_laws.specs.Written.{AreSidesLimited, AreEndsLimited, HasWords, EndsInWords, IsCaseNumber, IsStepLimited, IsEndLimited, IsEndLimitedIfAny, IsBlockLimited, IsFunctionLimited}
+use Rattle.verdict_laws.specs.Limited.{IsLimited, AreWords}
+use Rattle.verdict_laws.specs.Written.{AreSidesLimited, AreEndsLimited, IsArgumentWord, HasWords, EndsInWords, IsCaseNumber, TakesWords, IsStepLimited, IsEndLimited, IsEndLimitedIfAny, IsBlockLimited, IsFunctionLimited}
 use Rattle.verdict_laws.specs.Formed.{HasForm, HaveForms, HasChoices, IsStepFormed, IsEndFormed, IsBlockFormed, AreCompared, HasFormedSums, SumsHaveForms}
 use Rattle.verdict_laws.proofs.Limited.{limited_forms_ask_little, none_moved}
 use Rattle.verdict_laws.proofs.Sums.{modest_sums_have_forms}
-use Rattle.verdict_laws.proofs.Formed.{IsSmallPart, small_part, one_formed, two_formed, none_formed, with_formed, pair_formed, plus_one, minus_one, opposite, IsScaled, product_scaled, binary_formed, conversion_formed, differences_formed, call_formed}
+use Rattle.verdict_laws.proofs.Formed.{IsSmallPart, small_part, one_formed, two_formed, none_formed, with_formed, pair_formed, plus_one, minus_one, opposite, IsScaled, product_scaled, binary_formed, conversion_formed, difference_formed, differences_formed, argument_words, call_formed}
 use Rattle.verdict_laws.proofs.limits.Forms.{weight_cons}
+use Rattle.verdict_laws.proofs.limits.Objects.{objects_few}
 use Rattle.verdict_laws.proofs.limits.Texts.{forms_are_limited}
+use Rattle.ir_reader.proofs.Keeping.{answers_kept}
 
 at_place : {X : Type 0} (P : X → Type 0) (xs : List X) (k : ℕ) (x : X) → All P xs → slice_get xs k ≡ Some x → P x
 at_place P xs k x all e = All-contains P xs x all (at_within xs k x e)
 
--- ---- what is met by one choice has a form
+-- ---- what is owed by one sum
 
-shown_formed : (known : List Fact) (o : Option Combination) → shows_form known o ≡ true → IsSome o
-shown_formed known None h = absurd (cc)
-shown_formed known (Some f) h = refl
+pair_owed : (o p : Obligation) → HasChoices o → HasChoices p → All HasChoices (o ∷ (p ∷ []))
+pair_owed o p h k = All-cons HasChoices o (p ∷ []) h (All-cons HasChoices p [] k (All-nil HasChoices))
 
 only_formed : (s : Sum) → HasForm s → HaveForms (s ∷ [])
 only_formed s h = with_formed s [] h none_formed
 
-met_formed : (known : List Fact) (number : ℕ) (s : Sum) → is_met known (must number s) ≡ true → HasChoices (must number s)
-met_formed known number s h = only_formed s (shown_formed known (sum_form s) (sym (or-false (shows known s)) ∙ h))
+inequalities_formed : (number : ℕ) (moves : List Move) → AreWords moves → (qs : List Inequality) → All AreSidesLimited qs → All HasChoices (inequalities_owed number moves qs)
+inequalities_formed number moves words [] h = All-nil HasChoices
+inequalities_formed number moves words (q ∷ qs) h =
+    All-cons HasChoices (must number (difference_of moves q)) (inequalities_owed number moves qs)
+    (only_formed (difference_of moves q) (difference_formed moves words q (All-head AreSidesLimited q qs h)))
+    (inequalities_formed number moves words qs (All-tail AreSidesLimited q qs h))
 
-abbrev IsMet : List Fact → Obligation → Type 0
-IsMet known o = is_met known o ≡ true
+last_cell : (cells : ℕ) → cells ≤ 2 ^ 63 → unsigned_abs (pos cells -ℤ pos 1) < 2 ^ 99
+last_cell cells few = omega (arith, ints, few)
 
-inequalities_formed : (known : List Fact) (number : ℕ) (moves : List Move) (qs : List Inequality) → All (IsMet known) (inequalities_owed number moves qs) → All HasChoices (inequalities_owed number moves qs)
-inequalities_formed known number moves [] h = All-nil HasChoices
-inequalities_formed known number moves (q ∷ qs) h =
-    let first : Obligation = must number (difference_of moves q) in
-    let rest : List Obligation = inequalities_owed number moves qs in
-    All-cons HasChoices first rest (met_formed known number (difference_of moves q) (All-head (IsMet known) first rest h)) (inequalities_formed known number moves qs (All-tail (IsMet known) first rest h))
-
-index_formed : (known : List Fact) (cells : ℕ) (index : Operand) → All (IsMet known) (index_owed cells index) → All HasChoices (index_owed cells index)
-index_formed known cells index h =
-    let low : Sum = one (pos 0) (pos 1) index in
-    let high : Sum = one (pos cells -ℤ pos 1) (negsuc 0) index in
-    let rest : List Obligation = must 501 high ∷ [] in
-    All-cons HasChoices (must 501 low) rest (met_formed known 501 low (All-head (IsMet known) (must 501 low) rest h))
-    (All-cons HasChoices (must 501 high) [] (met_formed known 501 high (All-head (IsMet known) (must 501 high) [] (All-tail (IsMet known) (must 501 low) rest h))) (All-nil HasChoices))
+index_formed : (cells : ℕ) (index : Operand) → cells ≤ 2 ^ 63 → IsWord index → All HasChoices (index_owed cells index)
+index_formed cells index few word =
+    pair_owed (must 501 (one (pos 0) (pos 1) index)) (must 501 (one (pos cells -ℤ pos 1) (negsuc 0) index))
+    (only_formed (one (pos 0) (pos 1) index) (one_formed (pos 0) (pos 1) index (omega arith) (plus_one word)))
+    (only_formed (one (pos cells -ℤ pos 1) (negsuc 0) index) (one_formed (pos cells -ℤ pos 1) (negsuc 0) index (last_cell cells few) (minus_one word)))
 
 -- ---- what arithmetic owes
-
-pair_owed : (o p : Obligation) → HasChoices o → HasChoices p → All HasChoices (o ∷ (p ∷ []))
-pair_owed o p h k = All-cons HasChoices o (p ∷ []) h (All-cons HasChoices p [] k (All-nil HasChoices))
 
 half_small : (w : Width) → unsigned_abs (half w) < 2 ^ 99
 half_small Bits64 = omega arith
@@ -164,9 +155,9 @@ binary_owed_formed operator.ExclusiveOr w x y v u = All-nil HasChoices
 
 -- ---- at a step
 
-call_owed_formed : (known : List Fact) (o : Option Function) (arguments : List Argument) → All (IsMet known) (call_owed o arguments) → All HasChoices (call_owed o arguments)
-call_owed_formed known None arguments h = All-nil HasChoices
-call_owed_formed known (Some callee) arguments h = inequalities_formed known 506 (argument_moves 0 arguments) callee.requirements h
+call_owed_formed : (o : Option Function) (arguments : List Argument) → All IsArgumentWord arguments → ((callee : Function) → o ≡ Some callee → All AreSidesLimited callee.requirements) → All HasChoices (call_owed o arguments)
+call_owed_formed None arguments words limited = All-nil HasChoices
+call_owed_formed (Some callee) arguments words limited = inequalities_formed 506 (argument_moves 0 arguments) (argument_words 0 arguments words) callee.requirements (limited callee refl)
 
 module _ (program : Program) (all : All IsFunctionLimited program.functions) where
   learned_formed : (known : List Fact) (i : Instruction) → HasWords i → HaveForms (learned program.functions known i)
@@ -183,29 +174,62 @@ module _ (program : Program) (all : All IsFunctionLimited program.functions) whe
       call_formed (slice_get program.functions callee.0) arguments d words (λ g e. (at_place IsFunctionLimited program.functions callee.0 g all e).guarantees)
   learned_formed known (instruction.StartRegion d) words = none_formed
 
-  owed_formed : (known : List Fact) (function : Function) (i : Instruction) → HasWords i → All (IsMet known) (owed program function i) → All HasChoices (owed program function i)
-  owed_formed known function (instruction.Binary d o width x y) words h = binary_owed_formed o width x y words.0 words.1
-  owed_formed known function (instruction.Compare d p width x y) words h = All-nil HasChoices
-  owed_formed known function (instruction.Convert d c x) words h = All-nil HasChoices
-  owed_formed known function (instruction.Alloca d alloca) words h = All-nil HasChoices
-  owed_formed known function (instruction.ElementPointer d object index) words h = index_formed known (object_cells program function object) index h
-  owed_formed known function (instruction.Load d address) words h = All-nil HasChoices
-  owed_formed known function (instruction.Store x address) words h = All-nil HasChoices
-  owed_formed known function (instruction.StoreZeros cells object) words h = All-nil HasChoices
-  owed_formed known function (instruction.AtomicAdd address x) words h = All-nil HasChoices
-  owed_formed known function (instruction.Call d callee arguments) words h = call_owed_formed known (slice_get program.functions callee.0) arguments h
-  owed_formed known function (instruction.StartRegion d) words h = All-nil HasChoices
+  owed_formed : (function : Function) → ((name : ObjectName) → object_cells program function name ≤ 2 ^ 63) → (i : Instruction) → HasWords i → All HasChoices (owed program function i)
+  owed_formed function few (instruction.Binary d o width x y) words = binary_owed_formed o width x y words.0 words.1
+  owed_formed function few (instruction.Compare d p width x y) words = All-nil HasChoices
+  owed_formed function few (instruction.Convert d c x) words = All-nil HasChoices
+  owed_formed function few (instruction.Alloca d alloca) words = All-nil HasChoices
+  owed_formed function few (instruction.ElementPointer d object index) words = index_formed (object_cells program function object) index (few object) words
+  owed_formed function few (instruction.Load d address) words = All-nil HasChoices
+  owed_formed function few (instruction.Store x address) words = All-nil HasChoices
+  owed_formed function few (instruction.StoreZeros cells object) words = All-nil HasChoices
+  owed_formed function few (instruction.AtomicAdd address x) words = All-nil HasChoices
+  owed_formed function few (instruction.Call d callee arguments) words =
+      call_owed_formed (slice_get program.functions callee.0) arguments words (λ g e. (at_place IsFunctionLimited program.functions callee.0 g all e).requirements)
+  owed_formed function few (instruction.StartRegion d) words = All-nil HasChoices
 
 -- ---- at an end
 
-end_owed_formed : (known : List Fact) (function : Function) (t : Terminator) → All (IsMet known) (owed_at_end function t) → All HasChoices (owed_at_end function t)
-end_owed_formed known function (terminator.Jump target) h = All-nil HasChoices
-end_owed_formed known function (terminator.Branch condition when_true when_false) h = All-nil HasChoices
-end_owed_formed known function (terminator.Switch width value default cases) h = All-nil HasChoices
-end_owed_formed known function (terminator.Return value) h = inequalities_formed known 507 _ function.guarantees h
-end_owed_formed known function (terminator.Detach region body continuation) h = All-nil HasChoices
-end_owed_formed known function (terminator.Reattach region continuation) h = All-nil HasChoices
-end_owed_formed known function (terminator.Sync region target) h = All-nil HasChoices
+abbrev IsMoveWord : Move → Type 0
+IsMoveWord m = IsWord m.value
+
+returned_words : (function : Function) (value : Option Operand) → EndsInWords (terminator.Return value) → AreWords (result_moves function value)
+returned_words function None words = All-nil IsMoveWord
+returned_words function (Some x) words = All-cons IsMoveWord (record { register = result_of function; value = x }) [] words (All-nil IsMoveWord)
+
+end_owed_formed : (function : Function) (t : Terminator) → EndsInWords t → All AreSidesLimited function.guarantees → All HasChoices (owed_at_end function t)
+end_owed_formed function (terminator.Jump target) words h = All-nil HasChoices
+end_owed_formed function (terminator.Branch condition when_true when_false) words h = All-nil HasChoices
+end_owed_formed function (terminator.Switch width value default cases) words h = All-nil HasChoices
+end_owed_formed function (terminator.Return value) words h = inequalities_formed 507 (result_moves function value) (returned_words function value words) function.guarantees h
+end_owed_formed function (terminator.Detach region body continuation) words h = All-nil HasChoices
+end_owed_formed function (terminator.Reattach region continuation) words h = All-nil HasChoices
+end_owed_formed function (terminator.Sync region target) words h = All-nil HasChoices
+
+-- ---- what phis take on an edge from a block
+
+abbrev IsEntryWord : PhiEntry → Type 0
+IsEntryWord e = IsWord e.value
+
+abbrev IsWordIfAny : Option Operand → Type 0
+IsWordIfAny None = Unit {0}
+IsWordIfAny (Some v) = IsWord v
+
+first_word : (b : Bool) (v : Operand) (o : Option Operand) → IsWord v → IsWordIfAny o → IsWordIfAny (if b then Some v else o)
+first_word true v o h k = h
+first_word false v o h k = k
+
+entry_word : (from : ℕ) (entries : List PhiEntry) → All IsEntryWord entries → IsWordIfAny (value_from from entries)
+entry_word from [] words = tt
+entry_word from (e ∷ es) words = first_word (e.predecessor.0 == from) e.value (value_from from es) (All-head IsEntryWord e es words) (entry_word from es (All-tail IsEntryWord e es words))
+
+moves_words : (from : ℕ) (phis : List Phi) → All TakesWords phis → AreWords (moves_from from phis)
+moves_words from [] words = All-nil IsMoveWord
+moves_words from (phi ∷ phis) words = by (value_from from phi.entries) (entry_word from phi.entries (All-head TakesWords phi phis words)) (moves_words from phis (All-tail TakesWords phi phis words))
+  where
+    by : (o : Option Operand) → IsWordIfAny o → AreWords (moves_from from phis) → AreWords (cons_option (option_map (λ v. record { register = phi.register; value = v }) o) (moves_from from phis))
+    by None here rest = rest
+    by (Some v) here rest = All-cons IsMoveWord (record { register = phi.register; value = v }) (moves_from from phis) here rest
 
 -- a compare of words
 abbrev ComparesWords : Option Comparison → Type 0
@@ -305,43 +329,53 @@ end_limited (Register r) n word few =
 
 -- ---- all places
 
-module _ (program : Program) (all : All IsFunctionLimited program.functions) (right : AreRangesRight program) (f b : ℕ) (o : BlockOf program f b) where
-  limits : IsBlockLimited o.block
-  limits = at_place IsBlockLimited o.function.blocks b o.block (at_place IsFunctionLimited program.functions f o.function all o.at_function).blocks o.at_block
+module _ (program : Program) (all : All IsFunctionLimited program.functions) (few : (f : ℕ) (function : Function) → slice_get program.functions f ≡ Some function → (name : ObjectName) → object_cells program function name ≤ 2 ^ 63) (f b : ℕ) (function : Function) (block : Block) (at_function : slice_get program.functions f ≡ Some function) (at_block : slice_get function.blocks b ≡ Some block) where
+  own : IsFunctionLimited function
+  own = at_place IsFunctionLimited program.functions f function all at_function
 
-  step_formed : (i : ℕ) (step : Step) → slice_get o.block.steps i ≡ Some step → IsStepFormed program o.function step
+  limits : IsBlockLimited block
+  limits = at_place IsBlockLimited function.blocks b block own.blocks at_block
+
+  step_formed : (i : ℕ) (step : Step) → slice_get block.steps i ≡ Some step → IsStepFormed program function step
   step_formed i step at =
-      let limited = at_place IsStepLimited o.block.steps i step limits.steps at in
+      let limited = at_place IsStepLimited block.steps i step limits.steps at in
       record {
         shows = differences_formed [] none_moved step.shows limited.shows;
         learned = λ known. learned_formed program all known step.instruction limited.words;
-        owed = owed_formed program all (known_at_place program f b i) o.function step.instruction limited.words (step_met program right f b o i step at);
+        owed = owed_formed program all function (few f function at_function) step.instruction limited.words;
       }
 
-  ending_limits : (ending : Ending) → o.block.ending ≡ Some ending → IsEndLimited ending
+  ending_limits : (ending : Ending) → block.ending ≡ Some ending → IsEndLimited ending
   ending_limits ending is = subst IsEndLimitedIfAny is limits.ending
 
-  end_formed : (ending : Ending) → o.block.ending ≡ Some ending → IsEndFormed o.function b o.block ending
+  -- at a block that an edge leads to
+  target_formed : (o : Option Block) (b : ℕ) → slice_get function.blocks b ≡ o → (from : ℕ) → All HasChoices (inequalities_owed 505 (moves_from from (block_phis o)) (keeps_of o))
+  target_formed None b e from = inequalities_formed 505 (moves_from from []) (moves_words from [] (All-nil TakesWords)) [] (All-nil AreSidesLimited)
+  target_formed (Some target) b e from =
+      let there = at_place IsBlockLimited function.blocks b target own.blocks e in
+      inequalities_formed 505 (moves_from from target.phis) (moves_words from target.phis there.phis) target.keeps there.keeps
+
+  end_formed : (ending : Ending) → block.ending ≡ Some ending → IsEndFormed function b block ending
   end_formed ending is =
       let limited = ending_limits ending is in
       record {
         shows = differences_formed [] none_moved ending.shows limited.shows;
-        owed = end_owed_formed _ o.function ending.terminator (end_met program right f b o ending is);
-        known = λ e c. All-contains KnowsForms (edges_out o.block.steps ending.terminator) e (edges_formed o.block.steps ending.terminator limits.steps limited.words) c;
-        edges = λ known e c. inequalities_formed _ 505 (moves_from b (block_phis (slice_get o.function.blocks e.to.0))) (keeps_of (slice_get o.function.blocks e.to.0)) (edge_met program right f b o ending is e c);
+        owed = end_owed_formed function ending.terminator limited.words own.guarantees;
+        known = λ e c. All-contains KnowsForms (edges_out block.steps ending.terminator) e (edges_formed block.steps ending.terminator limits.steps limited.words) c;
+        edges = λ known e c. target_formed (slice_get function.blocks e.to.0) e.to.0 refl b;
       }
 
-  block_formed : IsBlockFormed program o.function b o.block
-  block_formed = record { keeps = differences_formed [] none_moved o.block.keeps limits.keeps; steps = step_formed; ending = end_formed }
+  block_formed : IsBlockFormed program function b block
+  block_formed = record { keeps = differences_formed [] none_moved block.keeps limits.keeps; steps = step_formed; ending = end_formed }
 
 pub sums_have_forms : SumsHaveForms
 sums_have_forms = record {
-  numbers = λ program accepted.
-      let all = forms_are_limited program accepted in
-      let right = accepted.means.5.ranges in
+  numbers = λ program read.
+      let all = forms_are_limited program read in
+      let few = objects_few read.whole (answers_kept read.text read.whole read.answers) program read.means in
       record {
         requirements = λ f function at. differences_formed [] none_moved function.requirements (at_place IsFunctionLimited program.functions f function all at).requirements;
-        blocks = λ f b function block at_f at_b. block_formed program all right f b (record { function = function; block = block; at_function = at_f; at_block = at_b });
+        blocks = λ f b function block at_f at_b. block_formed program all few f b function block at_f at_b;
       };
   accesses = λ line mode cell count word few. record { low = end_limited cell.index 0 word (omega arith); high = end_limited cell.index count word few };
   zones = λ z y h k words words'. record {

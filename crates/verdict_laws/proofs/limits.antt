@@ -1,4 +1,5 @@
 pub mod Forms
 pub mod Numbers
 pub mod Words
+pub mod Objects
 pub mod Texts

@@ -1,5 +1,5 @@
--- The law: no sum that the rules on numbers and zones ask of an accepted program passes the bounds of a form. Those of the rules on costs are all shown
--- there, and what is shown has a form.
+-- The law: no sum that the rules on numbers and zones ask of a program that a text means passes the bounds of a form, whether the rules are kept or broken. So no
+-- text is refused for these bounds. Of the rules on costs `Limited` says the same where less than 2^98 is done.
 use Rattle.std.specs.Prelude.{◌≡◌, ℕ, ◌≤◌, ◌^◌, List, [], Some, All, Contains, IsSome, slice_get}
 use Rattle.syntax.specs.declared.operator.Mode.{Mode}
 use Rattle.linear.specs.declared.form.Fact.{Fact}
@@ -20,10 +20,9 @@ use Rattle.ranges.specs.Sums.{sum_form}
 use Rattle.footprints.specs.declared.access.Cell.{Cell}
 use Rattle.footprints.specs.Footprints.{cells_zone}
 use Rattle.footprints.specs.Zones.{Span, between}
-use Rattle.verifier.specs.Accepted.{IsAccepted}
 use Rattle.verdict_laws.specs.Sums.{IsWord}
 use Rattle.verdict_laws.specs.Limited.{AreWords}
-use Rattle.verdict_laws.specs.Written.{AreEndsLimited}
+use Rattle.verdict_laws.specs.Written.{AreEndsLimited, IsRead}
 
 abbrev pub HasForm : Sum → Type 0
 HasForm sum = IsSome (sum_form sum)
@@ -71,7 +70,7 @@ pub record HasFormedSums (program : Program) : Type 0 where
       → slice_get function.blocks b ≡ Some block → IsBlockFormed program function b block
 
 pub record SumsHaveForms : Type 0 where
-  pub numbers : (program : Program) → IsAccepted program → HasFormedSums program
+  pub numbers : (program : Program) → IsRead program → HasFormedSums program
   -- the cells that an access touches are a zone of the same kind
   pub accesses : (line : ℕ) (mode : Mode) (cell : Cell) (count : ℕ) → IsWord cell.index → count ≤ 2 ^ 63 → AreEndsLimited (cells_zone line mode cell count)
   pub zones : (z y : Span) → AreEndsLimited z.zone → AreEndsLimited y.zone → AreWords z.moves → AreWords y.moves → AreCompared z y

@@ -1,5 +1,8 @@
--- The law: in an accepted program each form of an annotation is limited, and each number that stands in a form's place is one of 64 bits.
-use Rattle.std.specs.Prelude.{◌≤◌, ◌^◌, Option, Some, None, All, unsigned_abs}
+-- The law: in a program that a text means each form of an annotation is limited, and each number that stands in a form's place is one of 64 bits.
+use Rattle.std.specs.Prelude.{ℕ, ◌≤◌, ◌^◌, List, Option, Some, None, Ok, All, unsigned_abs}
+use Rattle.syntax.specs.declared.module.Module.{Module}
+use Rattle.ir_reader.specs.Reading.{Answers}
+use Rattle.types.specs.Meaning.{Means}
 use Rattle.program.specs.declared.annotation.Inequality.{Inequality}
 use Rattle.program.specs.declared.annotation.Pending.{Pending}
 use Rattle.program.specs.declared.annotation.Zone.{Zone}
@@ -17,9 +20,15 @@ use Rattle.program.specs.declared.instruction.PhiEntry.{PhiEntry}
 use Rattle.program.specs.declared.instruction.Step.{Step}
 use Rattle.program.specs.declared.instruction.Terminator.{Terminator}
 use Rattle.program.specs.declared.instruction.Terminator.TheVariants as terminator
-use Rattle.verifier.specs.Accepted.{IsAccepted}
 use Rattle.verdict_laws.specs.Sums.{IsWord}
 use Rattle.verdict_laws.specs.Limited.{IsLimited}
+
+-- some text is read as a module that means the program, whatever its other rules say of it
+pub record IsRead (program : Program) : Type 0 where
+  pub text : List ℕ
+  pub whole : Module
+  pub answers : Answers text (Ok whole)
+  pub means : Means whole (Ok program)
 
 -- ---- annotations
 
@@ -90,4 +99,4 @@ pub record IsFunctionLimited (function : Function) : Type 0 where
   pub blocks : All IsBlockLimited function.blocks
 
 abbrev pub FormsAreLimited : Type 0
-FormsAreLimited = (program : Program) → IsAccepted program → All IsFunctionLimited program.functions
+FormsAreLimited = (program : Program) → IsRead program → All IsFunctionLimited program.functions

@@ -4,7 +4,7 @@
 //! - `Sure`: one labelling has each alloca for sure wherever it is read (`reads_are_sure`).
 //! - `Sums`: a sum of operands with modest factors has a form (`modest_sums_have_forms`).
 //! - `Limited`: limited forms ask modest sums alone (`limited_forms_ask_little`).
-//! - `Written`: the forms of an accepted program are limited, and its numbers are of 64 bits (`forms_are_limited`).
+//! - `Written`: the forms of a program that a text means are limited, and its numbers are of 64 bits (`forms_are_limited`).
 //! - `Formed`: so each sum that it asks of numbers and zones has a form (`sums_have_forms`).
 #![tactic(auto)]
 
@@ -37,14 +37,14 @@ pub fn limited_forms_ask_little()
     ensures { LimitedFormsAskLittle }
 {}
 
-/// In an accepted program each form of an annotation has registers four million times at most, all together, and a number of 64 bits; each number
+/// In a program that a text means each form of an annotation has registers four million times at most, all together, and a number of 64 bits; each number
 /// that stands in a register's place is of 64 bits too.
 pub fn forms_are_limited()
     ensures { FormsAreLimited }
 {}
 
-/// So each sum that makes a fact of an accepted program known, and each that a rule on numbers or zones asks there, has a form: none is unknown or
-/// not shown because it passes the bounds of one.
+/// So each sum that makes a fact of such a program known, and each that a rule on numbers or zones asks there, has a form, whether the rules are kept or broken: none is
+/// unknown or not shown because it passes the bounds of one, so no text is refused for these bounds.
 pub fn sums_have_forms()
     ensures { SumsHaveForms }
 {}

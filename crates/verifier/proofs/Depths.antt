@@ -126,17 +126,20 @@ module _ (program : Program) (regions : Regions) (table : AreTasksOf program reg
       let low : (j : ℕ) → get_or (first_depths program regions f) j 0 ≤ f * 4199425 = λ j. first_within f j in
       pushed_within (first_depths program regions f) _ (suc f * 4199425) (λ j. let l = low j in omega (arith, l)) (next_within f low (slice_get program.functions f) refl) k
 
-  depth_small : (f : ℕ) (function : Function) → slice_get program.functions f ≡ Some function → depth program regions f function function.measure.bound ≤ 1075052800
-  depth_small f function e =
-      let most = depth_within (first_depths program regions f) f (tasks_of regions f) function.blocks (tasks_few f function e) (f * 4199425) (first_within f) function.measure.bound in
+  depth_small : (f m : ℕ) (function : Function) → slice_get program.functions f ≡ Some function → m ≤ function.measure.bound → depth program regions f function m ≤ 1075052800
+  depth_small f m function e l =
+      let most = depth_within (first_depths program regions f) f (tasks_of regions f) function.blocks (tasks_few f function e) (f * 4199425) (first_within f) m in
       let bound = limits.measures f function e in
       let place = slice_get_within program.functions f function e in
       let count = limits.functions in
-      omega (arith, most, bound, place, count)
+      omega (arith, most, bound, place, count, l)
 
   -- 64 bits hold it
-  pub depth_whole : (f : ℕ) (function : Function) → slice_get program.functions f ≡ Some function → as_u64 (depth program regions f function function.measure.bound) ≡ depth program regions f function function.measure.bound
-  depth_whole f function e = uncut (depth program regions f function function.measure.bound) (depth_small f function e)
+  pub depths_whole : (f m : ℕ) (function : Function) → slice_get program.functions f ≡ Some function → m ≤ function.measure.bound → as_u64 (depth program regions f function m) ≡ depth program regions f function m
+  depths_whole f m function e l = uncut (depth program regions f function m) (depth_small f m function e l)
     where
       uncut : (n : ℕ) → n ≤ 1075052800 → as_u64 n ≡ n
       uncut n l = omega (arith, l)
+
+  pub depth_whole : (f : ℕ) (function : Function) → slice_get program.functions f ≡ Some function → as_u64 (depth program regions f function function.measure.bound) ≡ depth program regions f function function.measure.bound
+  depth_whole f function e = depths_whole f function.measure.bound function e (omega arith)

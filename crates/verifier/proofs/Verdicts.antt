@@ -1,5 +1,5 @@
 -- The answers of the phases put together.
-use Rattle.std.proofs.Common.{◌≡◌, ℕ, List, Result, Ok, Err, IfErr, inl, inr, sym, subst}
+use Rattle.std.proofs.Common.{◌≡◌, ℕ, List, Bool, Result, Ok, Err, IfErr, inl, inr, sym, subst}
 use Rattle.std.specs.Prelude.{IsErrAnd}
 use Rattle.refusal.specs.declared.refused.Refused.{Refused}
 use Rattle.refusal.specs.declared.refused.Refused.TheVariants.{Fault, Memory}
@@ -40,9 +40,9 @@ refused_after text whole typed kept (Fault number line) same a j h = inr (whole,
 refused_after text whole typed kept Memory same a j h = tt
 
 -- a phase within some effort
-pub unverified_by : (text : List ℕ) (IsBroken : Broken → Type 0) (u : Unverified) → JudgesEarliest IsBroken u → ((refused : Refused) → NamesEarliest IsBroken refused → IsRefused text refused) → IsUnverified text u
-unverified_by text IsBroken (unverified.Refused refused) h by = by refused h
-unverified_by text IsBroken unverified.OutOfEffort h by = tt
+pub unverified_by : (text : List ℕ) (bounded : Bool) (IsBroken : Broken → Type 0) (u : Unverified) → JudgesEarliest bounded IsBroken u → ((refused : Refused) → NamesEarliest IsBroken refused → IsRefused text refused) → IsUnverified text bounded u
+unverified_by text bounded IsBroken (unverified.Refused refused) h by = by refused h
+unverified_by text bounded IsBroken unverified.OutOfEffort h by = h
 
 -- a table of the graph's tasks is one of the program's
 pub by_tasks : (program : Program) (graphs : List FunctionGraph) (regions : Regions) → graphs ≡ graphs_of program → AreAllTasks graphs regions.functions → AreTasksOf program regions

@@ -1,5 +1,5 @@
 -- What a text means by the phases: a program, or the fault that is named.
-use Rattle.std.specs.Prelude.{◌≡◌, ◌⊎◌, ℕ, List, Ok, Err}
+use Rattle.std.specs.Prelude.{◌≡◌, ◌⊎◌, ℕ, List, Bool, IsTrue, Ok, Err}
 use Rattle.refusal.specs.declared.broken.Broken.{Broken}
 use Rattle.refusal.specs.declared.refused.Refused.{Refused}
 use Rattle.refusal.specs.declared.refused.Refused.TheVariants.{Fault, Memory}
@@ -72,10 +72,10 @@ IsRefused text (Fault number line) =
     ⊎ ((whole : Module) × Answers text (Ok whole)
     × (MeansTyped whole (Err (Fault number line)) ⊎ ((typed : Typed) × MeansTyped whole (Ok typed) × IsFaulty typed.program (Fault number line))))
 
--- the text is refused, or there is no verdict, as the effort that was granted is spent
-abbrev pub IsUnverified : List ℕ → Unverified → Type 0
-IsUnverified text (unverified.Refused refused) = IsRefused text refused
-IsUnverified text unverified.OutOfEffort = Unit {0}
+-- the text is refused, or there is no verdict, as the effort that was granted is spent, if that is bounded
+abbrev pub IsUnverified : List ℕ → Bool → Unverified → Type 0
+IsUnverified text bounded (unverified.Refused refused) = IsRefused text refused
+IsUnverified text bounded unverified.OutOfEffort = IsTrue bounded
 
 -- some text means the program
 pub record IsAccepted (program : Program) : Type 0 where

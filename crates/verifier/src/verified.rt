@@ -80,7 +80,7 @@ impl Verified {
         self.depth
     }
 
-    /// The costs and depths of all functions.
+    /// The costs and depths of all functions. What it says of a call is equal to the call's cost and depth: no accepted one comes near to what 64 bits hold.
     pub fn table(&self) -> &Table
         ensures { IsTableOf self.now result.now }
     {
@@ -101,12 +101,11 @@ pub fn verify(alloc: Global, state: RandomState, text: &[u8]) -> Result<Verified
     match verify_within(alloc, state, text, &Effort::unlimited()) {
         Ok(verified) => Ok(verified),
         Err(Unverified::Refused(refused)) => Err(refused),
-        // (Effort that is not bounded is never spent.)
-        Err(Unverified::OutOfEffort) => Err(Refused::Memory),
+        Err(Unverified::OutOfEffort) => unreachable!(),
     }
 }
 
-/// The same within some effort. Where more is needed, there is no verdict, and the same text may be tried again with more.
+/// The same within some effort. Where more is needed than a bounded one grants, there is no verdict, and the same text may be tried again with more.
 ///
 /// What it answers depends on the text alone, and on memory: a text that is verified within some effort is so on every machine. The last question may take
 /// more than what is left, at most some second.
@@ -117,7 +116,7 @@ pub fn verify_within(
     effort: &Effort,
 ) -> Result<Verified, Unverified>
     ensures accepted { IfOk result (IsProgramOf text.now) }
-    ensures refused { IfErr result (IsUnverified text.now) }
+    ensures refused { IfErr result (IsUnverified text.now effort.now) }
 {
     let module = read(alloc, state, text)?;
     let typed = check_types(alloc, state, module)?;

@@ -213,7 +213,4 @@ means_limited whole kept program m =
     meant_from f IsKeptFunction IsFunctionLimited (λ n x y h k. function_limited (items_of whole) whole.functions m.0 n x y h k) 0 whole.functions program.functions kept.functions (each_of f whole.functions program.functions are)
 
 pub forms_are_limited : FormsAreLimited
-forms_are_limited program accepted =
-    let means = accepted.means in
-    let P : Program → Type 0 = λ p. Means means.0 (Ok p) in
-    means_limited means.0 (answers_kept accepted.text means.0 means.1) program (subst P means.4 means.3)
+forms_are_limited program read = means_limited read.whole (answers_kept read.text read.whole read.answers) program read.means

@@ -3,6 +3,7 @@ use Rattle.ranges.specs.Rules.{IsRangeBroken}
 use Rattle.footprints.specs.Rules.{IsZoneBroken}
 use Rattle.cost_table.specs.Rules.{IsCostBroken}
 use Rattle.verifier.proofs.Verdicts.{refused_by_text, refused_by_types, refused_after, by_tasks, err_from, unverified_by, program_of, limits_of}
+use Rattle.verifier.proofs.Whole.{whole_by}
 use Rattle.verifier.proofs.verified.verify_within.Goals as goal
 
 pub budget_of-budget-requires : goal.budget_of-budget-requires
@@ -16,7 +17,7 @@ invariant_of-result c =
     let tasks = by_tasks c.in_ok-graph.graph.program c.in_ok-graph.graph.functions c.in_ok-regions.regions c.in_ok-graph.graph.edges c.in_ok-regions.ensures.tasks in
     record {
       is_accepted = record { text = c.args.text.now; means = program_of _ _ c.in_ok-typed.typed _ c.in_ok-graph.ensures.same c.in_ok-module.ensures.exact c.in_ok-typed.ensures.judged c.in_ok-graph.ensures.right c.in_ok-regions.ensures.right c.in_ok-defined.ensures.right c.in_ok-facts.ensures.right (c.in_ok-regions.regions, by_tasks c.in_ok-graph.graph.program c.in_ok-graph.graph.functions c.in_ok-regions.regions c.in_ok-graph.graph.edges c.in_ok-regions.ensures.tasks, c.in_ok-check_zones.ensures.right) c.in_ok-table.ensures.right };
-      is_table = (c.in_ok-regions.regions, tasks, c.in_ok-table.ensures.table);
+      is_table = (c.in_ok-regions.regions, tasks, c.in_ok-table.ensures.table, whole_by _ c.in_ok-regions.regions tasks (limits_of _ _ c.in_ok-typed.typed _ c.in_ok-graph.ensures.same c.in_ok-module.ensures.exact c.in_ok-typed.ensures.judged) c.in_ok-table.ensures.right);
       is_budget = c.budget_of-budget.ensures;
       is_depth = (c.in_ok-regions.regions, tasks, c.depth_of-depth.ensures c.in_ok-regions.regions tasks c.in_ok-table.ensures.table);
     }
@@ -48,15 +49,15 @@ returns-in_err-defined-clause-refused c = err_from _ _ _ c.from_residual-in_err-
 
 pub returns-in_err-facts-clause-refused : goal.returns-in_err-facts-clause-refused
 returns-in_err-facts-clause-refused c = err_from _ _ _ c.from_residual-in_err-facts.ensures.1
-    (unverified_by _ (IsRangeBroken c.in_ok-graph.graph.program) _ c.in_err-facts.ensures.fault (λ refused named. (refused_after _ _ c.in_ok-typed.typed _ _ c.in_ok-graph.ensures.same c.in_ok-module.ensures.exact c.in_ok-typed.ensures.judged
+    (unverified_by _ _ (IsRangeBroken c.in_ok-graph.graph.program) _ c.in_err-facts.ensures.fault (λ refused named. (refused_after _ _ c.in_ok-typed.typed _ _ c.in_ok-graph.ensures.same c.in_ok-module.ensures.exact c.in_ok-typed.ensures.judged
     (inr (rw c.in_ok-graph.ensures.same c.in_ok-graph.ensures.right, inr (c.in_ok-regions.ensures.right, inr (c.in_ok-defined.ensures.right, inl named)))))))
 
 pub returns-in_err-check_zones-clause-refused : goal.returns-in_err-check_zones-clause-refused
 returns-in_err-check_zones-clause-refused c = err_from _ _ _ c.from_residual-in_err-check_zones.ensures.1
-    (unverified_by _ (IsZoneBroken c.in_ok-graph.graph.program c.in_ok-regions.regions) _ c.in_err-check_zones.ensures.fault (λ refused named. (refused_after _ _ c.in_ok-typed.typed _ _ c.in_ok-graph.ensures.same c.in_ok-module.ensures.exact c.in_ok-typed.ensures.judged
+    (unverified_by _ _ (IsZoneBroken c.in_ok-graph.graph.program c.in_ok-regions.regions) _ c.in_err-check_zones.ensures.fault (λ refused named. (refused_after _ _ c.in_ok-typed.typed _ _ c.in_ok-graph.ensures.same c.in_ok-module.ensures.exact c.in_ok-typed.ensures.judged
     (inr (rw c.in_ok-graph.ensures.same c.in_ok-graph.ensures.right, inr (c.in_ok-regions.ensures.right, inr (c.in_ok-defined.ensures.right, inr (c.in_ok-facts.ensures.right, inl (c.in_ok-regions.regions, by_tasks c.in_ok-graph.graph.program c.in_ok-graph.graph.functions c.in_ok-regions.regions c.in_ok-graph.graph.edges c.in_ok-regions.ensures.tasks, named)))))))))
 
 pub returns-in_err-table-clause-refused : goal.returns-in_err-table-clause-refused
 returns-in_err-table-clause-refused c = err_from _ _ _ c.from_residual-in_err-table.ensures.1
-    (unverified_by _ (IsCostBroken c.in_ok-graph.graph.program) _ c.in_err-table.ensures.fault (λ refused named. (refused_after _ _ c.in_ok-typed.typed _ _ c.in_ok-graph.ensures.same c.in_ok-module.ensures.exact c.in_ok-typed.ensures.judged
+    (unverified_by _ _ (IsCostBroken c.in_ok-graph.graph.program) _ c.in_err-table.ensures.fault (λ refused named. (refused_after _ _ c.in_ok-typed.typed _ _ c.in_ok-graph.ensures.same c.in_ok-module.ensures.exact c.in_ok-typed.ensures.judged
     (inr (rw c.in_ok-graph.ensures.same c.in_ok-graph.ensures.right, inr (c.in_ok-regions.ensures.right, inr (c.in_ok-defined.ensures.right, inr (c.in_ok-facts.ensures.right, inr ((c.in_ok-regions.regions, by_tasks c.in_ok-graph.graph.program c.in_ok-graph.graph.functions c.in_ok-regions.regions c.in_ok-graph.graph.edges c.in_ok-regions.ensures.tasks, c.in_ok-check_zones.ensures.right), named)))))))))
