@@ -56,7 +56,7 @@ static long read_text(const char *path) {
 static int run(size_t length, size_t argument_count, size_t cell_count) {
     struct tapirvm_outcome outcome = {0};
     begin_call();
-    tapirvm_serial(text, length, seed[0], seed[1], arguments, argument_count, cells, cell_count, &outcome);
+    tapirvm_serial(text, length, seed[0], seed[1], MOST_STEPS, TAPIRVM_UNBOUNDED, arguments, argument_count, cells, cell_count, &outcome);
     switch (outcome.status) {
     case TAPIRVM_DONE:
         printf("result %" PRId64 "\ninstructions %" PRIu64 "\npeak %" PRIu64 "\n", outcome.result, outcome.instructions, outcome.peak);
@@ -82,7 +82,7 @@ int main(int count, char **words) {
 
     struct tapirvm_verdict verdict = {0};
     begin_call();
-    tapirvm_verify(text, (size_t)length, seed[0], seed[1], &verdict);
+    tapirvm_verify(text, (size_t)length, seed[0], seed[1], MOST_STEPS, &verdict);
     if (verdict.status == TAPIRVM_REFUSED) {
         printf("refused: rule %" PRIu16 ", line %" PRIu32 "\n", verdict.rule, verdict.line);
         return 1;

@@ -14,8 +14,8 @@ use Rattle.serial_steps.specs.Steps.{Run}
 use Rattle.serial_steps.specs.declared.run.Ended.{Ended}
 use Rattle.serial_steps.specs.declared.stack.Stack.{Stack}
 use Rattle.serial_steps.proofs.Turning.{fits_prop, goes_on_here, may_go_on, numbers_here, no_less, numbers_prop, stands_here, stays_here, turned, walked_on, within_here}
-use Rattle.serial_machine.specs.Promise.{EndsWithinBudget}
-use Rattle.serial_machine.proofs.Engine.{ends}
+use Rattle.serial_machine.specs.Promise.{EndsWithinBudget, TakesMore}
+use Rattle.serial_machine.proofs.Engine.{ends, takes_more}
 use Rattle.lone_run.specs.UnderWay.{IsOnWay}
 
 module _ (program : Program) (arguments : List ℤ) (memory : List NamedCells) (places : Places) (k : Stack) (n peak : ℕ) (w : IsOnWay program arguments memory places k n peak) where
@@ -82,3 +82,9 @@ module _ (program : Program) (arguments : List ℤ) (memory : List NamedCells) (
       let runs : RunsTo program places (budget_of program) w.first j e =
       λ globals start safe h. turned globals program places (budget_of program) n m peak start k j (Some z) safe (w.walked globals start safe h) one returns in
       ends program w.may.accepted arguments memory w.may.taken w.may.cells places w.globals w.allocas w.first w.begun w.small j e runs
+
+  -- ---- what is left
+
+  pub takes : TakesMore program arguments memory n
+  takes = takes_more program w.may.accepted arguments memory w.may.taken w.may.cells places w.globals w.allocas w.first w.begun n (λ globals start safe h.
+      let a = w.walked globals start safe h in record { peak = peak; run = a.run; walk = a.walk })

@@ -3,7 +3,7 @@ ghost use Rattle.outcome.specs.Requirements.{unmet_in};
 ghost use Rattle.outcome.specs.store.Made.{HasGlobalCells, IsMadeFor};
 ghost use Rattle.outcome.specs.verifier.Accepted.{IsAccepted};
 ghost use Rattle.outcome.specs.verifier.Budgets.{budget_of};
-ghost use Rattle.serial_machine.specs.Promise.{EndsWithinBudget};
+ghost use Rattle.serial_machine.specs.Promise.{EndsWithinBudget, TakesMore};
 ghost use Rattle.serial_machine.specs.Safe.{HasMoves};
 ghost use Rattle.lone_run.specs.UnderWay.{GetsOn, IsRefusal, IsRunOf, IsUnderWay};
 
@@ -129,6 +129,14 @@ impl<'v> LoneRun<'v> {
             Ok(run) => Ok(run),
             Err(OutOfMemory) => Err(RunFault::OutOfMemory),
         }
+    }
+
+    /// The instructions that were done, phis not counted. While the run is under way it has more to do.
+    pub fn done(&self) -> u64
+        ensures done { result ≡ self.now.done }
+        ensures more { IsUnderWay self.now → TakesMore self.now.program.now self.now.arguments.now self.now.memory result }
+    {
+        self.done
     }
 
     /// Does one strand: up to a border and over it, or to 65,536 instructions, or to a cell past 256. What the run comes to, where it has ended; else

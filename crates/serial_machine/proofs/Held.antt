@@ -1,8 +1,8 @@
 -- The globals of memory and a row of their numbers are one memory.
-use Rattle.std.proofs.Common.{◌≡◌, ℕ, zero, suc, ◌+◌, ◌<◌, ◌≤◌, List, [], ◌∷◌, ◌++◌, length, take, drop, Option, Some, None, Bool, true, false, cond, refl, ap, sym, ◌∙◌, arith, slice_get, ℤ}
+use Rattle.std.proofs.Common.{◌≡◌, ℕ, zero, suc, ◌+◌, ◌<◌, ◌≤◌, List, [], ◌∷◌, ◌++◌, length, take, drop, Option, Some, None, Bool, true, false, cond, refl, ap, sym, ◌∙◌, subst, arith, slice_get, ℤ}
 use Rattle.std.specs.Prelude.{IsSome, nat_lt, sum}
 use Rattle.std.proofs.lemmas.Bool.{le-ltb, ltb-false, ltb-true}
-use Rattle.std.proofs.lemmas.List.{drop_at, length-append, length-map, take_at}
+use Rattle.std.proofs.lemmas.List.{drop_at, length-append, length-drop, length-map, length-take-le, take_at}
 use Rattle.running.specs.Cells.{Object, Shared, Local}
 use Rattle.running.specs.Frames.{global_cells}
 use Rattle.program.specs.declared.function.Global.{Global}
@@ -86,6 +86,41 @@ pub names_kept : (m : List NamedCells) (row : List ℤ) → names_of (refilled m
 names_kept [] row = refl
 names_kept (g ∷ m) row = ap (λ (more : List (List ℕ)). g.name ∷ more) (names_kept m (drop (length g.cells) row))
 
+-- ---- as many cells
+
+length_low : (xs : List ℤ) (i : ℕ) → IsSome (slice_get xs i) → i < length xs
+length_low [] i h = absurd (cc)
+length_low (x ∷ xs) zero h = omega arith
+length_low (x ∷ xs) (suc i) h = let k = length_low xs i h in omega (arith, k)
+
+-- a row that has each cell of objects of these sizes is as long as they are
+pub row_covers : (sizes : List ℕ) (row : List ℤ) → ((g i : ℕ) → i < size_in sizes g → IsSome (slice_get row (start_in sizes g + i))) → sum sizes ≤ length row
+row_covers [] row all = omega arith
+row_covers (c ∷ more) row all =
+    let rest = row_covers more (drop c row) (λ g i low. subst (λ (o : Option ℤ). IsSome o) (sym (get_drop c row (start_in more g + i) ∙ at g i)) (all (suc g) i low)) in
+    let cut = length-drop c row in
+    let whole = sum_more c more in
+    let first : c ≤ length row = long c all in
+    omega (arith, rest, cut, whole, first)
+  where
+    at : (g i : ℕ) → slice_get row (c + (start_in more g + i)) ≡ slice_get row ((c + start_in more g) + i)
+    at g i = let place : c + (start_in more g + i) ≡ (c + start_in more g) + i = omega arith in ap (λ (k : ℕ). slice_get row k) place
+
+    long : (n : ℕ) → ((g i : ℕ) → i < size_in (n ∷ more) g → IsSome (slice_get row (start_in (n ∷ more) g + i))) → n ≤ length row
+    long zero all = omega arith
+    long (suc n) all = let last = length_low row (0 + n) (all 0 n (omega arith)) in omega (arith, last)
+
+-- globals that such a row refills keep their sizes
+pub sizes_kept : (m : List NamedCells) (row : List ℤ) → sum (sizes_of m) ≤ length row → sizes_of (refilled m row) ≡ sizes_of m
+sizes_kept [] row room = refl
+sizes_kept (x ∷ m) row room =
+    let n = length x.cells in
+    let all = sum_more n (sizes_of m) in
+    let cut = length-drop n row in
+    let first : length (take n row) ≡ n = length-take-le n row (omega (arith, room, all)) in
+    let rest : sizes_of (refilled m (drop n row)) ≡ sizes_of m = sizes_kept m (drop n row) (omega (arith, room, all, cut)) in
+    λ i. first i ∷ rest i
+
 -- ---- the row at the start
 
 pub row_long : (m : List NamedCells) → length (row_of m) ≡ sum (sizes_of m)
@@ -105,14 +140,9 @@ stands_in_row globals row long = record {
 
 -- ---- memory that was made for a program
 
-there_low : (xs : List ℤ) (i : ℕ) → IsSome (slice_get xs i) → i < length xs
-there_low [] i h = absurd (cc)
-there_low (x ∷ xs) zero h = omega arith
-there_low (x ∷ xs) (suc i) h = let k = there_low xs i h in omega (arith, k)
-
 cell_low : (m : List NamedCells) (g i : ℕ) → IsSome (cell_at m g i) → i < size_in (sizes_of m) g
 cell_low [] g i h = absurd (cc)
-cell_low (x ∷ m) zero i h = there_low x.cells i h
+cell_low (x ∷ m) zero i h = length_low x.cells i h
 cell_low (x ∷ m) (suc g) i h = cell_low m g i h
 
 global_low : (m : List NamedCells) (g i : ℕ) → IsSome (cell_at m g i) → g < length m

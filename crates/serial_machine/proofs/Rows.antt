@@ -1,6 +1,6 @@
 -- A run over a row of cells ends with the serial meaning's memory in it.
 use Rattle.std.proofs.Common.{◌≡◌, ℕ, zero, suc, ◌+◌, ◌<◌, List, [], ◌∷◌, length, Option, Some, None, Bool, true, false, cond, is_some, refl, ap, sym, ◌∙◌, subst, arith, slice_get, ℤ, pos, ◌+ℤ◌}
-use Rattle.std.specs.Prelude.{nat_lt, sum}
+use Rattle.std.specs.Prelude.{IsSome, nat_lt, sum}
 use Rattle.std.proofs.lemmas.Bool.{ltb-true, lt-ltb}
 use Rattle.std.proofs.lemmas.Int.{ints}
 use Rattle.running.specs.Arithmetic.{wrapped}
@@ -130,6 +130,13 @@ module _ (prog : Program) (places : Places) (globals : List ℕ) (arguments row 
         by false e = none_of (s.memory (global_cell g i)) (λ z some.
             let within : i < size_in globals g = subst (λ (x : ℕ). i < x) (size_is g) (h.shown.cells.inside (global_cell g i) z some) in
             absurd (let t : true ≡ false = sym (lt-ltb i (size_in globals g) within) ∙ e in cc))
+
+    -- each cell of the globals is there
+    pub covered : (g i : ℕ) → i < size_in globals g → IsSome (slice_get k.cells.cells.items (start_in globals g + i))
+    covered g i low =
+        let some = some_of (s.memory (global_cell g i)) (walk_keeps prog (starting prog arguments (row_memory globals row)) h.before peak s h.walk g i (full globals row long g i low)) in
+        let at : slice_get k.cells.cells.items (start_in globals g + i) ≡ Some some.0 = ap (λ (x : Flat). slice_get x.cells.items (start_in globals g + i)) h.cells ∙ number_there g i some.0 low some.1 in
+        subst (λ (o : Option ℤ). IsSome o) (sym at) refl
 
     local_at_end : (owner : Path) (n i : ℕ) → cleared s.path s.memory (record { object = Local owner n; index = i }) ≡ None
     local_at_end owner n i = by (same_path s.path owner) refl

@@ -1,18 +1,23 @@
 -- What the serial run of a program that the verifier took comes to.
-use Rattle.std.specs.Prelude.{⊤, ℕ, ◌≤◌, List, ℤ, Result, Ok, Err}
+use Rattle.std.specs.Prelude.{◌≡◌, ⊤, ℕ, ◌<◌, ◌≤◌, List, ℤ, Result, Ok, Err}
+use Rattle.running.specs.SerialMeaning.{Outcome, IsSerialMeaning}
 use Rattle.program.specs.declared.function.Program.{Program}
 use Rattle.outcome.specs.verifier.Budgets.{budget_of, IsDepthOf}
 use Rattle.outcome.specs.store.Cells.{NamedCells}
-use Rattle.outcome.specs.Serially.{IsMeant}
+use Rattle.outcome.specs.store.Rows.{sizes_of}
+use Rattle.outcome.specs.Serially.{IsMeant, memory_of_globals}
 use Rattle.outcome.specs.declared.outcome.Finished.{Finished}
 use Rattle.outcome.specs.declared.outcome.RunFault.{RunFault}
 use Rattle.outcome.specs.declared.outcome.RunFault.TheVariants.{BadArguments, BadWorkers, OutOfMemory}
+use Rattle.serial_machine.specs.declared.run.Unfinished.{Unfinished}
+use Rattle.serial_machine.specs.declared.run.Unfinished.TheVariants.{Fault, OutOfFuel}
 
--- the serial meaning, within the budget and the depth that the verifier answers
+-- the serial meaning, within the budget and the depth that the verifier answers; each global has as many cells as before
 pub record EndsWithinBudget (program : Program) (arguments : List ℤ) (memory : List NamedCells) (done : Finished) : Type 0 where
   pub meant : IsMeant program arguments memory done
   pub budget : done.instructions ≤ budget_of program
   pub depth : (depth : ℕ) → IsDepthOf program depth → done.peak ≤ depth
+  pub sizes : sizes_of done.memory ≡ sizes_of memory
 
 -- 803 is the only fault: neither 801 nor 802
 abbrev pub EndsOrLacksMemory : Program → List ℤ → List NamedCells → Result Finished RunFault → Type 0
@@ -20,3 +25,16 @@ EndsOrLacksMemory program arguments memory (Ok done) = EndsWithinBudget program 
 EndsOrLacksMemory program arguments memory (Err (BadArguments r m)) = ⊥
 EndsOrLacksMemory program arguments memory (Err (BadWorkers m)) = ⊥
 EndsOrLacksMemory program arguments memory (Err OutOfMemory) = ⊤
+
+-- the serial meaning, which is within the budget, takes more instructions than the fuel allows
+pub record TakesMore (program : Program) (arguments : List ℤ) (memory : List NamedCells) (fuel : ℕ) : Type 0 where
+  pub outcome : Outcome
+  pub meant : IsSerialMeaning program arguments (memory_of_globals memory) outcome
+  pub more : fuel < outcome.count
+  pub budget : outcome.count ≤ budget_of program
+
+-- the same within some fuel, which does not last only where the serial meaning takes more; the memory is handed back then
+abbrev pub EndsWithinFuel : Program → List ℤ → List NamedCells → ℕ → Result Finished Unfinished → Type 0
+EndsWithinFuel program arguments memory fuel (Ok done) = EndsWithinBudget program arguments memory done × (done.instructions ≤ fuel)
+EndsWithinFuel program arguments memory fuel (Err (Fault fault)) = EndsOrLacksMemory program arguments memory (Err fault)
+EndsWithinFuel program arguments memory fuel (Err (OutOfFuel m)) = (m ≡ memory) × TakesMore program arguments memory fuel

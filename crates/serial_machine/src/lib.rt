@@ -1,6 +1,7 @@
 //! The serial run of a program that the verifier took never stops: it ends with the serial meaning, or memory is refused.
 //!
 //! `serial_run` is the serial run with that promise, which `specs/Promise.antt` says: on the engine's stack, over a row of the globals' numbers.
+//! `serial_run_within` is the same within some fuel.
 //! The proof puts the schedule theorem together with what the engine asks for:
 //!
 //! - `walks`: what holds along the steps of a serial run, from its start on (`walks_go_on`, `walks_keep`, `walks_count`).
@@ -18,4 +19,4 @@ mod run;
 pub use law::{
     operands_fit, rows_mean, runs_are_safe, texts_fit, walks_count, walks_go_on, walks_keep,
 };
-pub use run::serial_run;
+pub use run::{Unfinished, serial_run, serial_run_within};

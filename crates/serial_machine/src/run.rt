@@ -1,9 +1,9 @@
-ghost use Rattle.std.specs.Prelude.{◌≡◌, ℕ, Some, None, Err, IfOk};
+ghost use Rattle.std.specs.Prelude.{◌≡◌, ◌≤◌, ℕ, Some, None, Err, IfNone, IfOk, IfSome};
 ghost use Rattle.outcome.specs.Requirements.{unmet_in};
 ghost use Rattle.outcome.specs.store.Made.{HasGlobalCells};
 ghost use Rattle.outcome.specs.verifier.Accepted.{IsAccepted};
 ghost use Rattle.outcome.specs.verifier.Budgets.{budget_of};
-ghost use Rattle.serial_machine.specs.Promise.{EndsOrLacksMemory, EndsWithinBudget};
+ghost use Rattle.serial_machine.specs.Promise.{EndsOrLacksMemory, EndsWithinBudget, EndsWithinFuel, TakesMore};
 
 use crate::places::{most_moves, places_of};
 use lists::OutOfMemory;
@@ -12,32 +12,78 @@ use program::Program;
 use serial_steps::Stack;
 use std::alloc::Global;
 
-/// The run of arguments that the program takes, over a row of the globals' numbers.
+/// Why a run within some fuel has no answer.
+#[derive(Drop)]
+pub enum Unfinished {
+    /// As [`serial_run`].
+    Fault(RunFault),
+    /// The run does more instructions than the fuel allows. The memory is as it was handed in.
+    OutOfFuel { memory: Memory },
+}
+
+/// The run of arguments that the program takes, over a row of the globals' numbers; none where it does more instructions than the fuel allows.
 fn run_over_row(
     alloc: Global,
     program: &Program,
     arguments: &[i64],
     memory: &Memory,
     budget: u64,
-) -> Result<Finished, OutOfMemory>
+    fuel: u64,
+) -> Result<Option<Finished>, OutOfMemory>
     requires accepted { IsAccepted program.now }
     requires taken { unmet_in program.now arguments.now ≡ None }
     requires cells { HasGlobalCells program.now memory.now }
     requires budget { budget ≡ budget_of program.now }
-    ensures { IfOk result (λ done. EndsWithinBudget program.now arguments.now memory.now done) }
+    ensures ends { IfOk result (λ end. IfSome end (EndsWithinBudget program.now arguments.now memory.now)) }
+    ensures within { IfOk result (λ end. IfSome end (λ done. done.instructions ≤ fuel)) }
+    ensures beyond { IfOk result (λ end. IfNone end (TakesMore program.now arguments.now memory.now fuel)) }
 {
     let sizes = memory.sizes()?;
     let places = places_of(alloc, program, sizes.as_slice())?;
     let row = memory.row()?;
     let mut stack = Stack::begin(alloc, program, arguments, row, most_moves(program))?;
-    let ended = stack.run(program, &places, budget)?;
+    let ended = stack.run(program, &places, budget, fuel)?;
+    let Some(ended) = ended else {
+        return Ok(None);
+    };
     let globals = memory.with_row(stack.cells.cells.as_slice())?;
-    Ok(Finished {
+    Ok(Some(Finished {
         result: ended.result,
         memory: globals,
         instructions: ended.instructions,
         peak: ended.peak,
-    })
+    }))
+}
+
+/// The same as [`serial_run`], of a run that does no more instructions than the fuel allows.
+///
+/// # Errors
+///
+/// Those of [`serial_run`]; and where the run does more instructions than that, the memory is handed back.
+pub fn serial_run_within(
+    alloc: Global,
+    verified: &Verified,
+    arguments: &[i64],
+    memory: Memory,
+    fuel: u64,
+) -> Result<Finished, Unfinished>
+    requires cells { HasGlobalCells verified.now memory }
+    ensures refused { (requirement : ℕ) → unmet_in verified.now arguments.now ≡ Some requirement
+        → result ≡ Err (Unfinished.Fault (RunFault.BadArguments requirement memory)) }
+    ensures ends { unmet_in verified.now arguments.now ≡ None → EndsWithinFuel verified.now arguments.now memory fuel result }
+{
+    let program = verified.program();
+    if let Some(requirement) = unmet_requirement(program, arguments) {
+        return Err(Unfinished::Fault(RunFault::BadArguments {
+            requirement,
+            memory,
+        }));
+    }
+    match run_over_row(alloc, program, arguments, &memory, verified.budget(), fuel) {
+        Ok(Some(finished)) => Ok(finished),
+        Ok(None) => Err(Unfinished::OutOfFuel { memory }),
+        Err(OutOfMemory) => Err(Unfinished::Fault(RunFault::OutOfMemory)),
+    }
 }
 
 /// The serial run of a module that the verifier took, from memory that was made for it: its elision's memory, result, count of
@@ -46,6 +92,7 @@ fn run_over_row(
 /// # Errors
 ///
 /// 801 where the arguments are not those of `main`; the memory is handed back. 803 where memory is refused.
+#[tactic(auto, using(crate::proofs::Ends::lasts))]
 pub fn serial_run(
     alloc: Global,
     verified: &Verified,
@@ -56,15 +103,9 @@ pub fn serial_run(
     ensures refused { (requirement : ℕ) → unmet_in verified.now arguments.now ≡ Some requirement → result ≡ Err (RunFault.BadArguments requirement memory) }
     ensures ends { unmet_in verified.now arguments.now ≡ None → EndsOrLacksMemory verified.now arguments.now memory result }
 {
-    let program = verified.program();
-    match unmet_requirement(program, arguments) {
-        Some(requirement) => Err(RunFault::BadArguments {
-            requirement,
-            memory,
-        }),
-        None => match run_over_row(alloc, program, arguments, &memory, verified.budget()) {
-            Ok(finished) => Ok(finished),
-            Err(OutOfMemory) => Err(RunFault::OutOfMemory),
-        },
+    match serial_run_within(alloc, verified, arguments, memory, verified.budget()) {
+        Ok(finished) => Ok(finished),
+        Err(Unfinished::Fault(fault)) => Err(fault),
+        Err(Unfinished::OutOfFuel { .. }) => unreachable!(),
     }
 }

@@ -1,10 +1,9 @@
-ghost use Rattle.std.specs.Prelude.{◌≡◌, ◌<◌, ◌≤◌, OnOk, IfOk, Some, ℕ, length};
+ghost use Rattle.std.specs.Prelude.{◌≡◌, ◌<◌, ◌≤◌, IfNone, IfOk, IfSome, IsTrue, OnOk, Some, false, length};
 ghost use Rattle.running.specs.Frames.{Does, Ends};
-ghost use Rattle.serial_steps.specs.Steps.{Run};
 ghost use Rattle.engine.specs.Activation.{FrameFits};
 ghost use Rattle.engine.specs.Border.{IsBorder, IsBorderEnding, IsBorderItem};
 ghost use Rattle.engine.specs.Pause.{IfBorder, IfLimit};
-ghost use Rattle.serial_steps.specs.Runs.{GoesSafely, RunsTo, Turns};
+ghost use Rattle.serial_steps.specs.Runs.{GoesSafely, RunsBeyond, RunsTo};
 ghost use Rattle.serial_steps.specs.Shown.{Advances, GoesOn, HasNumbers, Returns, StandsSafely, StaysSafely, TextFits, item_here};
 
 use crate::stack::Stack;
@@ -146,32 +145,33 @@ impl Stack {
         }
     }
 
-    /// Goes on to a border and over it; the run's result where it has ended.
-    fn turn(
+    /// Goes on to a border, or to the limit of instructions done: whether it came to a border before that.
+    fn comes_to_border(
         &mut self,
         program: &Program,
         places: &Places,
         done: &mut u64,
-        budget: u64,
-    ) -> Result<Option<i64>, OutOfMemory>
+        limit: u64,
+    ) -> bool
+        requires stands { FrameFits program.now self.old.top.value }
         requires text { TextFits program.now places.now (length self.old.moves.items) }
-        requires safe { GoesSafely program.now places.now budget done.old self.old }
-        ensures turns { IfOk result (λ r. Turns program.now places.now budget done.old done.new self.old self.new r) }
-        ensures moves { OnOk result (length self.new.moves.items ≡ length self.old.moves.items) }
-        ensures on { OnOk result (done.old < done.new) }
-        ensures room { OnOk result (done.new ≤ budget) }
+        requires room { done.old ≤ limit }
+        requires safe { StaysSafely program.now places.now self.old }
+        ensures stands { FrameFits program.now self.new.top.value }
+        ensures moves { length self.new.moves.items ≡ length self.old.moves.items }
+        ensures led { Advances program.now places.now self.old self.new done.old done.new }
+        ensures border { IsTrue result → IsBorderItem (item_here program.now self.new.top.value) }
+        ensures room { IsTrue result → done.new < limit }
+        ensures limit { result ≡ false → done.new ≡ limit }
     {
-        match self.advance(program, places, done, budget) {
-            Pause::Border => {}
-            Pause::Limit => unreachable!(),
+        match self.advance(program, places, done, limit) {
+            Pause::Border => *done < limit,
+            Pause::Limit => false,
             Pause::Stopped(never) => match never {},
         }
-        *done += 1;
-        let ended = self.border(program, places)?;
-        Ok(ended)
     }
 
-    /// Runs to the root's return.
+    /// Runs to the root's return, where that takes no more instructions than the fuel allows. The budget bounds them in any case.
     ///
     /// # Errors
     ///
@@ -181,20 +181,28 @@ impl Stack {
         program: &Program,
         places: &Places,
         budget: u64,
-    ) -> Result<Ended, OutOfMemory>
+        fuel: u64,
+    ) -> Result<Option<Ended>, OutOfMemory>
         requires text { TextFits program.now places.now (length self.old.moves.items) }
         requires safe { GoesSafely program.now places.now budget 0 self.old }
-        ensures ends { IfOk result (λ e. RunsTo program.now places.now budget self.old self.new e) }
+        ensures ends { IfOk result (λ end. IfSome end (λ e. RunsTo program.now places.now budget self.old self.new e)) }
+        ensures within { IfOk result (λ end. IfSome end (λ e. e.instructions ≤ fuel)) }
+        ensures beyond { IfOk result (λ end. IfNone end (RunsBeyond program.now places.now budget fuel self.old)) }
     {
+        let limit = fuel.min(budget);
         let mut done = 0;
         let mut peak = 1;
         loop {
-            if let Some(result) = self.turn(program, places, &mut done, budget)? {
-                return Ok(Ended {
+            if !self.comes_to_border(program, places, &mut done, limit) {
+                return Ok(None);
+            }
+            done += 1;
+            if let Some(result) = self.border(program, places)? {
+                return Ok(Some(Ended {
                     result,
                     instructions: done,
                     peak,
-                });
+                }));
             }
             peak = peak.max(self.below.len() as u64 + 1);
         }

@@ -1,16 +1,18 @@
-use Rattle.std.proofs.Common.{rules, ◌≡◌, ◌∙◌, ◌<◌, ap, sym, subst, ℕ, List, length, ℤ, FitsSigned}
+use Rattle.std.proofs.Common.{rules, ◌≡◌, ◌∙◌, ◌<◌, ap, sym, subst, ℕ, List, length, ℤ, FitsSigned, Option}
+use Rattle.std.specs.Prelude.{IfNone, IfSome}
 use Rattle.std.specs.Int.{w64}
 use mir.Val.{to_z, of_z}
 use Rattle.std.proofs.lemmas.Int.{to_z-of_z}
 use Rattle.engine.specs.Starts.{starts_from}
 use Rattle.outcome.specs.store.Rows.{refilled, row_of, sizes_of}
 use Rattle.outcome.specs.declared.outcome.Finished.{Finished}
-use Rattle.serial_steps.specs.Runs.{GoesSafely, RunsTo}
+use Rattle.serial_steps.specs.Runs.{GoesSafely, RunsBeyond, RunsTo}
 use Rattle.serial_steps.specs.Shown.{TextFits}
 use Rattle.serial_steps.specs.Starts.{Begins}
+use Rattle.serial_steps.specs.declared.run.Ended.{Ended}
 use Rattle.serial_steps.proofs.Calling.{vec_small}
 use Rattle.serial_machine.specs.Promise.{EndsWithinBudget}
-use Rattle.serial_machine.proofs.Engine.{ends, fits, goes, room}
+use Rattle.serial_machine.proofs.Engine.{ends, fits, goes, room, takes_more}
 use Rattle.serial_machine.proofs.run.run_over_row.Goals as goal
 
 pub begin-requires-clause-room : goal.begin-requires-clause-room
@@ -38,18 +40,31 @@ run-requires-clause-safe c =
     subst (λ (b : ℕ). GoesSafely c.args.program.now places b 0 k) (sym c.requires.budget)
     (goes c.args.program.now c.requires.accepted c.args.arguments.now c.args.memory.now c.requires.taken c.requires.cells places globals_are c.in_ok-places.ensures.allocas k begun)
 
-pub returns : goal.returns
-returns c =
+pub returns-in_default-clause-beyond : goal.returns-in_default-clause-beyond
+returns-in_default-clause-beyond c =
+    let program = c.args.program.now in
+    let m = c.args.memory.now in
+    let places = c.in_ok-places.places in
+    let k = c.in_ok-stack.stack in
+    let globals_are : places.globals ≡ starts_from 0 (sizes_of m) = c.in_ok-places.ensures.globals ∙ ap (λ (xs : List ℕ). starts_from 0 xs) (c.as_slice.ensures.value ∙ c.in_ok-sizes.ensures) in
+    let begun : Begins program c.args.arguments.now (row_of m) k = subst (λ (xs : List ℤ). Begins program c.args.arguments.now xs k) c.in_ok-row.ensures c.in_ok-stack.ensures.begins in
+    let beyond : RunsBeyond program places c.args.budget c.args.fuel k = subst (λ (o : Option Ended). IfNone o (RunsBeyond program places c.args.budget c.args.fuel k)) c.in_default.is c.in_ok-ended.ensures.beyond in
+    takes_more program c.requires.accepted c.args.arguments.now m c.requires.taken c.requires.cells places globals_are c.in_ok-places.ensures.allocas k begun c.args.fuel
+    (subst (λ (b : ℕ). RunsBeyond program places b c.args.fuel k) c.requires.budget beyond)
+
+pub returns-clause-ends : goal.returns-clause-ends
+returns-clause-ends c =
     let program = c.args.program.now in
     let m = c.args.memory.now in
     let places = c.in_ok-places.places in
     let k = c.in_ok-stack.stack in
     let new = c.run.new.self in
-    let e = c.in_ok-ended.ended in
+    let e = c.in-Some.ended in
     let globals_are : places.globals ≡ starts_from 0 (sizes_of m) = c.in_ok-places.ensures.globals ∙ ap (λ (xs : List ℕ). starts_from 0 xs) (c.as_slice.ensures.value ∙ c.in_ok-sizes.ensures) in
     let begun : Begins program c.args.arguments.now (row_of m) k = subst (λ (xs : List ℤ). Begins program c.args.arguments.now xs k) c.in_ok-row.ensures c.in_ok-stack.ensures.begins in
     let small : length (row_of m) < 9223372036854775808 = subst (λ (xs : List ℤ). length xs < 9223372036854775808) c.in_ok-row.ensures (vec_small c.in_ok-row.row) in
-    let runs : RunsTo program places _ k new e = subst (λ (b : ℕ). RunsTo program places b k new e) c.requires.budget c.in_ok-ended.ensures.ends in
+    let ran : RunsTo program places c.args.budget k new e = subst (λ (o : Option Ended). IfSome o (λ x. RunsTo program places c.args.budget k new x)) c.in-Some.is c.in_ok-ended.ensures.ends in
+    let runs : RunsTo program places _ k new e = subst (λ (b : ℕ). RunsTo program places b k new e) c.requires.budget ran in
     let kept : c.in_ok-globals.globals ≡ refilled m new.cells.cells.items = c.in_ok-globals.ensures ∙ ap (λ (xs : List ℤ). refilled m xs) c.as_slice-2.ensures.value in
     let fit : FitsSigned w64 e.result = search rules in
     let number : to_z w64 (of_z w64 e.result) ≡ e.result = to_z-of_z w64 e.result fit in
