@@ -23,22 +23,24 @@ define i64 @main(i64 %n) {{
   ;! requires %n <= {SLICE}
   ;! reads @in 0 {SLICE}
   ;! writes @bins 0 {BINS}
-  ;! budget 0 {10 * SLICE + 5}
+  ;! budget 0 {11 * SLICE + 5}
 entry:
-  ;! left 0 10*%n+5
+  ;! left 0 11*%n+5
   store [{BINS} x i64] zeroinitializer, ptr @bins
   br label %head
 head:
   ;! keeps %j >= 0
   ;! keeps %j <= %n
-  ;! left 0 10*%n-10*%j+3
+  ;! keeps %n <= {SLICE}
+  ;! left 0 11*%n-11*%j+3
   %j = phi i64 [ 0, %entry ], [ %k, %body ]
   %more = icmp slt i64 %j, %n
   br i1 %more, label %body, label %done
 body:
   ;! keeps %j >= 0
   ;! keeps %j+1 <= %n
-  ;! left 0 10*%n-10*%j+1
+  ;! keeps %n <= {SLICE}
+  ;! left 0 11*%n-11*%j+1
   %p = getelementptr inbounds i64, ptr @in, i64 %j
   %x = load i64, ptr %p
   %b = and i64 %x, {BINS - 1}
