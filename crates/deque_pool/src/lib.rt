@@ -13,7 +13,7 @@ mod work;
 mod workers;
 
 pub use figures::Figures;
-pub use gate::{Gate, OpenGate};
+pub use gate::{Gate, Go, OpenGate};
 pub use recorded::Recorded;
 pub use shared_run::{Entry, History};
 pub use threads::{run, run_recorded};

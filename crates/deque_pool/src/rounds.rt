@@ -1,5 +1,5 @@
 //! The rounds of a run on threads. Mostly there is one: its workers leave when the run has ended. Where they left and it has not, though none of
-//! them was refused memory, they are set to work again.
+//! them was refused memory or stopped, they are set to work again.
 ghost use Rattle.std.specs.Prelude.{◌≡◌, ◌<◌, ℕ, None, Some, Err, vec_len, IfOk, OnOk};
 ghost use Rattle.shared_run.specs.crew.Starts.{ArePlaces};
 ghost use Rattle.shared_run.specs.outcome.Requirements.{unmet_in};
@@ -77,6 +77,7 @@ pub(crate) fn run_by<L: Bench + Send + Sync, G: Gate + Sync, R: Threads + Wait +
                 });
             }
             (Err(_), Left::Starved) => return Err(RunFault::OutOfMemory),
+            (Err(_), Left::Stopped) => return Err(RunFault::Stopped),
             (Err((board, all)), Left::Over) => {
                 shared = board;
                 seats = all;

@@ -26,7 +26,7 @@ use std::time::Clock;
 /// # Errors
 ///
 /// 801 where the arguments are not those of `main`, then 802 where there are not from 1 to 64 workers; both hand the memory back.
-/// 803 where memory is refused; a run that has ended all the same has its answer.
+/// 803 where memory is refused, and 804 where the gate stops the run; a run that has ended all the same has its answer.
 pub fn run<G: Gate + Sync, R: Threads + Wait + Clock + Sync>(
     rt: &R,
     alloc: Global,

@@ -1,6 +1,6 @@
 //! The loop of a worker on its thread.
 
-use crate::gate::Gate;
+use crate::gate::{Gate, Go};
 use crate::turns::{commit, go};
 use crate::workers::{Left, Worker};
 use shared_run::{Bench, Claimed, Committed, Fetched, Shared, steps_of};
@@ -26,7 +26,7 @@ enum Next {
     Leave(Left),
 }
 
-/// Works until a worker leaves: `main` has returned, or memory was refused. Why this worker left stands in it.
+/// Works until a worker leaves: `main` has returned, memory was refused, or the gate stopped the run. Why this worker left stands in it.
 pub(crate) fn work<L: Bench, G: Gate, R: Wait + Clock>(
     rt: &R,
     shared: &Shared<'_, L>,
@@ -44,8 +44,10 @@ pub(crate) fn work<L: Bench, G: Gate, R: Wait + Clock>(
         match next {
             Next::Strand => {
                 rests = 0;
-                gate.pass(me, worker.figures.count_strand());
-                next = do_strand(rt, shared, worker);
+                next = match gate.pass(me, worker.figures.count_strand()) {
+                    Go::On => do_strand(rt, shared, worker),
+                    Go::Stop => Next::Leave(Left::Stopped),
+                };
             }
             Next::Search => next = search(rt, shared, worker),
             Next::Rest => {

@@ -15,6 +15,8 @@ use ticket_lists::{Hands, Taken, Thief};
 pub(crate) enum Left {
     /// It was refused memory.
     Starved,
+    /// The gate stopped the run.
+    Stopped,
     /// All was done, or another left first.
     Over,
 }
@@ -24,6 +26,7 @@ impl Left {
     fn and(self, other: Left) -> Left {
         match (self, other) {
             (Left::Starved, _) | (_, Left::Starved) => Left::Starved,
+            (Left::Stopped, _) | (_, Left::Stopped) => Left::Stopped,
             (Left::Over, Left::Over) => Left::Over,
         }
     }

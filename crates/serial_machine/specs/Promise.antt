@@ -6,7 +6,7 @@ use Rattle.outcome.specs.store.Cells.{NamedCells}
 use Rattle.outcome.specs.Serially.{IsMeant}
 use Rattle.outcome.specs.declared.outcome.Finished.{Finished}
 use Rattle.outcome.specs.declared.outcome.RunFault.{RunFault}
-use Rattle.outcome.specs.declared.outcome.RunFault.TheVariants.{BadArguments, BadWorkers, OutOfMemory}
+use Rattle.outcome.specs.declared.outcome.RunFault.TheVariants.{BadArguments, BadWorkers, OutOfMemory, Stopped}
 
 -- the serial meaning, within the budget and the depth that the verifier answers
 pub record EndsWithinBudget (program : Program) (arguments : List ℤ) (memory : List NamedCells) (done : Finished) : Type 0 where
@@ -14,9 +14,10 @@ pub record EndsWithinBudget (program : Program) (arguments : List ℤ) (memory :
   pub budget : done.instructions ≤ budget_of program
   pub depth : (depth : ℕ) → IsDepthOf program depth → done.peak ≤ depth
 
--- 803 is the only fault: neither 801 nor 802
+-- 803 is the only fault: it is neither 801, 802 nor 804
 abbrev pub EndsOrLacksMemory : Program → List ℤ → List NamedCells → Result Finished RunFault → Type 0
 EndsOrLacksMemory program arguments memory (Ok done) = EndsWithinBudget program arguments memory done
 EndsOrLacksMemory program arguments memory (Err (BadArguments r m)) = ⊥
 EndsOrLacksMemory program arguments memory (Err (BadWorkers m)) = ⊥
 EndsOrLacksMemory program arguments memory (Err OutOfMemory) = ⊤
+EndsOrLacksMemory program arguments memory (Err Stopped) = ⊥

@@ -83,7 +83,7 @@ fn write_fault(run: &Run<'_>, fault: &RunFault, text: &mut String) -> Result<(),
             text.push_str("begin = 802")?;
             memory
         }
-        RunFault::OutOfMemory => return Err(OutOfMemory),
+        RunFault::OutOfMemory | RunFault::Stopped => return Err(OutOfMemory),
     };
     if !memory.same(run.memory) {
         text.push_str(", another memory")?;
