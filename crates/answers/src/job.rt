@@ -74,6 +74,7 @@ impl<'a> Job<'a> {
                 beside.note("--workers is not from 1 to 64")?;
             }
             RunFault::OutOfMemory => writeln!(output, "stopped 803")?,
+            RunFault::Stopped => writeln!(output, "stopped 804")?,
         }
         Ok(Status::Stopped)
     }

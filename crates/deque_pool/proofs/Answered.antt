@@ -16,6 +16,7 @@ answered program arguments memory workers done e = record {
   is_serial = e.meant.meant;
   result = refl;
   memory = λ g i. refl;
+  names = e.meant.names;
   count = refl;
   peak = refl;
 }

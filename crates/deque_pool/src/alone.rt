@@ -6,7 +6,7 @@ ghost use Rattle.shared_run.specs.Answer.{IsSerialAnswer};
 ghost use Rattle.shared_run.specs.Story.{origin};
 ghost use Rattle.lone_run.specs.UnderWay.{IsRefusal};
 
-use crate::gate::Gate;
+use crate::gate::{Gate, Go};
 use lists::OutOfMemory;
 use lone_run::LoneRun;
 use shared_run::{Finished, Memory, RunFault, Verified};
@@ -17,7 +17,7 @@ use std::sync::Wait;
 ///
 /// # Errors
 ///
-/// 801 where the arguments are not those of `main`; the memory is handed back. 803 where memory is refused.
+/// 801 where the arguments are not those of `main`; the memory is handed back. 803 where memory is refused. 804 where the gate stops the run.
 pub(crate) fn run_alone<G: Gate, R: Wait>(
     rt: &R,
     alloc: Global,
@@ -34,7 +34,9 @@ pub(crate) fn run_alone<G: Gate, R: Wait>(
     let mut run = LoneRun::begin(alloc, verified, arguments, memory)?;
     let mut strand: u64 = 0;
     for _ in rt.forever() {
-        gate.pass(0, strand);
+        if gate.pass(0, strand) == Go::Stop {
+            return Err(RunFault::Stopped);
+        }
         strand = strand.saturating_add(1);
         match run.strand() {
             Ok(Some(finished)) => return Ok(finished),

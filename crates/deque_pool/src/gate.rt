@@ -1,12 +1,23 @@
-/// Is called by each worker before each of its strands, while no lock is held. A test may hold a worker there.
-pub trait Gate {
-    /// `strand` counts the worker's strands from 0; at 2^64 - 1 it stays.
-    fn pass(&self, worker: u8, strand: u64);
+/// Whether a run goes on.
+#[derive(Clone, Copy, PartialEq, Eq)]
+pub enum Go {
+    /// The worker does its strand.
+    On,
+    /// The run stops: no worker begins another strand.
+    Stop,
 }
 
-/// A gate that holds nobody.
+/// Is called by each worker before each of its strands, while no lock is held. It may hold the worker there, or stop the run.
+pub trait Gate {
+    /// `strand` counts the worker's strands from 0; at 2^64 - 1 it stays.
+    fn pass(&self, worker: u8, strand: u64) -> Go;
+}
+
+/// A gate that holds nobody and stops nothing.
 pub struct OpenGate;
 
 impl Gate for OpenGate {
-    fn pass(&self, _worker: u8, _strand: u64) {}
+    fn pass(&self, _worker: u8, _strand: u64) -> Go {
+        Go::On
+    }
 }

@@ -3,12 +3,18 @@
 #![tactic(auto)]
 
 mod alone;
+mod figures;
 mod gate;
+mod recorded;
+mod rounds;
 mod threads;
 mod turns;
 mod work;
 mod workers;
 
-pub use gate::{Gate, OpenGate};
-pub use threads::run;
+pub use figures::Figures;
+pub use gate::{Gate, Go, OpenGate};
+pub use recorded::Recorded;
+pub use shared_run::{Entry, History};
+pub use threads::{run, run_recorded};
 pub use ticket_lists::{Hands, Taken, Thief, each_as_often};

@@ -1,24 +1,21 @@
-//! A run on threads of its own.
+//! Runs on threads of their own.
 ghost use Rattle.std.specs.Prelude.{◌≡◌, ℕ, None, Some, Err, IfOk, OnOk};
 ghost use Rattle.shared_run.specs.outcome.Requirements.{unmet_in};
 ghost use Rattle.shared_run.specs.store.Made.{IsMadeFor};
 ghost use Rattle.shared_run.specs.store.declared.memory.Memory.{Memory};
 ghost use Rattle.shared_run.specs.schedule_core.Replaying.{IsNumberOfWorkers};
-ghost use Rattle.shared_run.specs.Answer.{IsSerialAnswer};
+ghost use Rattle.shared_run.specs.Answer.{IsSerialAnswer, LeadTo};
 ghost use Rattle.shared_run.specs.Story.{origin};
 
 use crate::alone::run_alone;
 use crate::gate::Gate;
-use crate::work::work;
-use crate::workers::{Worker, crew_of, seats_of};
-use crossbeam_utils::CachePadded;
-use shared_run::{Bench, Finished, Memory, RunFault, Shared, Verified, places_of};
+use crate::recorded::Recorded;
+use crate::rounds::run_by;
+use shared_run::{Finished, Memory, RunFault, Verified};
 use std::alloc::Global;
 use std::marker::Brand;
-use std::sync::atomic::AtomicBool;
+use std::sync::Wait;
 use std::sync::ledger::Blank;
-use std::sync::{Mutex, Wait};
-use std::thread;
 use std::thread::Threads;
 use std::time::Clock;
 
@@ -29,7 +26,7 @@ use std::time::Clock;
 /// # Errors
 ///
 /// 801 where the arguments are not those of `main`, then 802 where there are not from 1 to 64 workers; both hand the memory back.
-/// 803 where memory is refused.
+/// 803 where memory is refused, and 804 where the gate stops the run; a run that has ended all the same has its answer.
 pub fn run<G: Gate + Sync, R: Threads + Wait + Clock + Sync>(
     rt: &R,
     alloc: Global,
@@ -53,20 +50,19 @@ pub fn run<G: Gate + Sync, R: Threads + Wait + Clock + Sync>(
     if workers == 1 {
         return run_alone(rt, alloc, verified, arguments, memory, gate);
     }
-    run_by::<Brand, G, R>(
-        rt,
-        alloc,
-        verified,
-        arguments,
-        memory,
-        workers,
-        gate,
-        Blank::new(workers as u64),
-    )
+    let blank = Blank::new(workers as u64);
+    match run_by::<Brand, G, R>(rt, alloc, verified, arguments, memory, workers, gate, blank) {
+        Ok(recorded) => Ok(recorded.finished),
+        Err(fault) => Err(fault),
+    }
 }
 
-/// The run of one ledger.
-fn run_by<L: Bench + Send + Sync, G: Gate + Sync, R: Threads + Wait + Clock + Sync>(
+/// As [`run`], with the events that were done and what each worker did. One worker too has a board here, so that its events are kept.
+///
+/// # Errors
+///
+/// Those of [`run`]; 803 too where the history is refused memory.
+pub fn run_recorded<G: Gate + Sync, R: Threads + Wait + Clock + Sync>(
     rt: &R,
     alloc: Global,
     verified: &Verified,
@@ -74,15 +70,10 @@ fn run_by<L: Bench + Send + Sync, G: Gate + Sync, R: Threads + Wait + Clock + Sy
     memory: Memory,
     workers: usize,
     gate: &G,
-    blank: Blank,
-) -> Result<Finished, RunFault>
+) -> Result<Recorded, RunFault>
     requires made { IsMadeFor verified.now memory }
-    requires code { verified.now ≡ L.code }
-    requires crew { workers ≡ L.crew }
-    requires name { blank.name ≡ L.name }
-    requires parts { blank.parts ≡ L.parts }
-    requires one_each { blank.parts ≡ workers }
-    ensures answer { IfOk result (λ done. IsSerialAnswer (origin verified.now arguments.now memory workers) done) }
+    ensures answer { IfOk result (λ run. IsSerialAnswer (origin verified.now arguments.now memory workers) run.finished) }
+    ensures replays { IfOk result (λ run. LeadTo (origin verified.now arguments.now memory workers) run.history.events run.finished) }
     ensures in_range { OnOk result (IsNumberOfWorkers workers) }
     ensures met { OnOk result (unmet_in verified.now arguments.now ≡ None) }
     ensures bad_arguments { (requirement : ℕ) → unmet_in verified.now arguments.now ≡ Some requirement
@@ -92,53 +83,6 @@ fn run_by<L: Bench + Send + Sync, G: Gate + Sync, R: Threads + Wait + Clock + Sy
         → unmet_in verified.now arguments.now ≡ Some requirement }
     ensures only_bad_workers { (m : Memory) → result ≡ Err (RunFault.BadWorkers m) → ¬ IsNumberOfWorkers workers }
 {
-    let (shared, seats) = Shared::<L>::new(alloc, verified, arguments, memory, workers, blank)?;
-    let Ok(room) = Vec::with_capacity(alloc, seats.len()) else {
-        return Err(RunFault::OutOfMemory);
-    };
-    let Ok(places) = places_of(alloc, verified) else {
-        return Err(RunFault::OutOfMemory);
-    };
-    let Ok(crew) = crew_of(alloc, seats, verified, &places) else {
-        return Err(RunFault::OutOfMemory);
-    };
-    work_together(rt, &shared, gate, crew.as_slice());
-    let seats = seats_of(crew, room);
-    match shared.finish(seats) {
-        Ok((finished, _)) => Ok(finished),
-        Err(_) => Err(RunFault::OutOfMemory),
-    }
-}
-
-/// The last worker works on the calling thread, each other one on a thread of its own. One whose thread cannot be started takes no part.
-fn work_together<'x, L: Bench + Send + Sync, G: Gate + Sync, R: Threads + Wait + Clock + Sync>(
-    rt: &'x R,
-    shared: &'x Shared<'_, L>,
-    gate: &'x G,
-    crew: &'x [Mutex<Worker<'_, L>>],
-) {
-    let word = CachePadded::new(AtomicBool::new(false));
-    let over: &AtomicBool = &word;
-    let last = crew.len().saturating_sub(1);
-    thread::scope(thread::scope_env(), rt, move |scope| {
-        for number in 0..last {
-            let _ = scope.spawn(move || work_as(rt, shared, over, gate, crew, number));
-        }
-        work_as(rt, shared, over, gate, crew, last);
-    });
-}
-
-/// The work of the worker that stands there in the crew. Its thread has it locked throughout.
-fn work_as<L: Bench, G: Gate, R: Wait + Clock>(
-    rt: &R,
-    shared: &Shared<'_, L>,
-    over: &AtomicBool,
-    gate: &G,
-    crew: &[Mutex<Worker<'_, L>>],
-    number: usize,
-) {
-    if let Some(worker) = crew.get(number) {
-        let mut worker = worker.lock(rt);
-        work(rt, shared, over, gate, &mut worker);
-    }
+    let blank = Blank::new(workers as u64);
+    run_by::<Brand, G, R>(rt, alloc, verified, arguments, memory, workers, gate, blank)
 }

@@ -1,9 +1,9 @@
 //! The loop of a worker on its thread.
 
-use crate::gate::Gate;
+use crate::gate::{Gate, Go};
 use crate::turns::{commit, go};
-use crate::workers::Worker;
-use shared_run::{Bench, Claimed, Committed, Fetched, Shared};
+use crate::workers::{Left, Worker};
+use shared_run::{Bench, Claimed, Committed, Fetched, Shared, steps_of};
 use std::sync::Wait;
 use std::sync::atomic::{AtomicBool, Ordering};
 use std::thread;
@@ -23,10 +23,10 @@ enum Next {
     Strand,
     Search,
     Rest,
-    Leave,
+    Leave(Left),
 }
 
-/// Works until the run is over: `main` has returned, or a worker was refused memory.
+/// Works until a worker leaves: `main` has returned, memory was refused, or the gate stopped the run. Why this worker left stands in it.
 pub(crate) fn work<L: Bench, G: Gate, R: Wait + Clock>(
     rt: &R,
     shared: &Shared<'_, L>,
@@ -36,7 +36,6 @@ pub(crate) fn work<L: Bench, G: Gate, R: Wait + Clock>(
 ) {
     let me = worker.seat.worker();
     let mut next = begin(rt, shared, worker);
-    let mut strand: u64 = 0;
     let mut rests: u32 = 0;
     for _ in rt.forever() {
         if over.load(Ordering::SeqCst) {
@@ -44,10 +43,11 @@ pub(crate) fn work<L: Bench, G: Gate, R: Wait + Clock>(
         }
         match next {
             Next::Strand => {
-                gate.pass(me, strand);
-                strand = strand.saturating_add(1);
                 rests = 0;
-                next = do_strand(rt, shared, worker);
+                next = match gate.pass(me, worker.figures.count_strand()) {
+                    Go::On => do_strand(rt, shared, worker),
+                    Go::Stop => Next::Leave(Left::Stopped),
+                };
             }
             Next::Search => next = search(rt, shared, worker),
             Next::Rest => {
@@ -55,7 +55,10 @@ pub(crate) fn work<L: Bench, G: Gate, R: Wait + Clock>(
                 rests = rests.saturating_add(1);
                 next = Next::Search;
             }
-            Next::Leave => over.store(true, Ordering::SeqCst),
+            Next::Leave(left) => {
+                worker.left = left;
+                over.store(true, Ordering::SeqCst);
+            }
         }
     }
 }
@@ -77,27 +80,41 @@ fn do_strand<L: Bench, R: Wait>(
 ) -> Next {
     match go(rt, shared, worker) {
         Fetched::Idle => return Next::Search,
-        // It has no room for the frame's path: as where memory was refused.
-        Fetched::Stranger => return Next::Leave,
+        // It has no room for the frame's path: all begin again, with strands of their own.
+        Fetched::Stranger => return Next::Leave(Left::Over),
         Fetched::Frame | Fetched::Cell => {}
     }
     match commit(rt, shared, worker) {
-        Committed::After { ended: true, .. } | Committed::OutOfMemory => Next::Leave,
-        Committed::After {
-            ready: Some(ticket),
-            ..
-        } => {
-            // A task whose ticket is refused is still found at the board.
-            let _ = worker.hands.offer(ticket);
+        Committed::After { ready, idle, ended } => {
+            worker.figures.count_publication(steps_of(&worker.strand));
+            if let Some(ticket) = ready {
+                // A task whose ticket is refused is still found at the board.
+                let _ = worker.hands.offer(ticket);
+            }
+            after(idle, ended)
+        }
+        Committed::Stranger => {
+            worker.figures.count_stranger();
             Next::Strand
         }
-        Committed::After { idle: true, .. } => Next::Search,
-        Committed::After { .. } | Committed::Stranger => Next::Strand,
+        Committed::OutOfMemory => Next::Leave(Left::Starved),
+    }
+}
+
+/// What comes after a strand that was put on the board.
+fn after(idle: bool, ended: bool) -> Next {
+    if ended {
+        Next::Leave(Left::Over)
+    } else if idle {
+        Next::Search
+    } else {
+        Next::Strand
     }
 }
 
 /// Claims a task by a ticket, or, where there is none, the first that is ready.
 fn search<L: Bench, R: Wait>(rt: &R, shared: &Shared<'_, L>, worker: &mut Worker<'_, L>) -> Next {
+    worker.figures.count_search();
     let ticket = worker.next_ticket();
     let mut board = shared.board.lock(rt);
     let claimed = match ticket {
@@ -106,10 +123,13 @@ fn search<L: Bench, R: Wait>(rt: &R, shared: &Shared<'_, L>, worker: &mut Worker
     };
     drop(board);
     match claimed {
-        Claimed::Taken => Next::Strand,
+        Claimed::Taken => {
+            worker.figures.count_steal();
+            Next::Strand
+        }
         Claimed::Gone if ticket.is_some() => Next::Search,
         Claimed::Gone => Next::Rest,
-        Claimed::OutOfMemory => Next::Leave,
+        Claimed::OutOfMemory => Next::Leave(Left::Starved),
     }
 }
 

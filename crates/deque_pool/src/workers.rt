@@ -3,19 +3,44 @@ ghost use Rattle.std.specs.Prelude.{◌≡◌, vec_len, vec_capacity, ◌≤◌,
 ghost use Rattle.shared_run.specs.crew.Starts.{ArePlaces};
 ghost use Rattle.shared_run.specs.schedule_core.Strands.{IsMadeOf};
 
+use crate::figures::Figures;
 use lists::OutOfMemory;
 use shared_run::{Bench, Places, Seat, Strand, Ticket, Verified, blank_strand};
 use std::alloc::Global;
 use std::sync::Mutex;
 use ticket_lists::{Hands, Taken, Thief};
 
-/// A worker: its seat, its strand, its tickets, and its ends of the others' tickets, from the next worker on.
+/// Why a worker left its work.
+#[derive(Clone, Copy)]
+pub(crate) enum Left {
+    /// It was refused memory.
+    Starved,
+    /// The gate stopped the run.
+    Stopped,
+    /// All was done, or another left first.
+    Over,
+}
+
+impl Left {
+    /// Why two workers left.
+    fn and(self, other: Left) -> Left {
+        match (self, other) {
+            (Left::Starved, _) | (_, Left::Starved) => Left::Starved,
+            (Left::Stopped, _) | (_, Left::Stopped) => Left::Stopped,
+            (Left::Over, Left::Over) => Left::Over,
+        }
+    }
+}
+
+/// A worker: its seat, its strand, its tickets, and its ends of the others' tickets, from the next worker on; what it has done, and why it left.
 #[derive(Drop)]
 pub(crate) struct Worker<'p, L: Bench> {
     pub(crate) seat: Seat<L>,
     pub(crate) strand: Strand<'p>,
     pub(crate) hands: Hands,
     pub(crate) thieves: Vec<Thief>,
+    pub(crate) figures: Figures,
+    pub(crate) left: Left,
     ghost made: { IsMadeOf L.code strand },
 }
 
@@ -34,10 +59,11 @@ impl<L: Bench> Worker<'_, L> {
     }
 }
 
-/// A worker for each seat, each in a lock for its thread, and in the opposite order, so that worker 0 is the last.
+/// A worker for each seat, each in a lock for its thread, and in the opposite order, so that worker 0 is the last. They have done what `figures` say.
 pub(crate) fn crew_of<'p, L: Bench>(
     alloc: Global,
     mut seats: Vec<Seat<L>>,
+    figures: &[Figures],
     verified: &'p Verified,
     places: &'p Places,
 ) -> Result<Vec<Mutex<Worker<'p, L>>>, OutOfMemory>
@@ -53,12 +79,16 @@ pub(crate) fn crew_of<'p, L: Bench>(
             return Err(OutOfMemory);
         };
         let strand = blank_strand(alloc, verified, places)?;
-        let thieves = thieves_from(alloc, &mut ends, seats.len())?;
+        let me = seats.len();
+        let thieves = thieves_from(alloc, &mut ends, me)?;
+        let figures = figures.get(me).copied().unwrap_or(Figures::none());
         crew.push(Mutex::new(Worker {
             seat,
             strand,
             hands,
             thieves,
+            figures,
+            left: Left::Over,
         }))?;
     }
     Ok(crew)
@@ -95,16 +125,23 @@ fn thieves_from(
     Ok(thieves)
 }
 
-/// The seats of all workers, in `room`, which is empty.
-pub(crate) fn seats_of<L: Bench>(
+/// The seats of all workers, in `room`, which is empty, and why they left; what they have done by now goes into `figures`.
+pub(crate) fn disband<L: Bench>(
     mut crew: Vec<Mutex<Worker<'_, L>>>,
     mut room: Vec<Seat<L>>,
-) -> Vec<Seat<L>>
+    figures: &mut [Figures],
+) -> (Vec<Seat<L>>, Left)
     requires { (vec_len room ≡ 0) × (vec_len crew ≤ vec_capacity room) }
-    ensures { vec_len result ≡ vec_len crew.entry }
+    ensures { vec_len result.0 ≡ vec_len crew.entry }
 {
+    let mut left = Left::Over;
     while let Some(worker) = crew.pop() {
-        room.push_reserved(worker.into_inner().seat);
+        let worker = worker.into_inner();
+        left = left.and(worker.left);
+        if let Some(own) = figures.get_mut(usize::from(worker.seat.worker())) {
+            *own = worker.figures;
+        }
+        room.push_reserved(worker.seat);
     }
-    room
+    (room, left)
 }

@@ -59,7 +59,9 @@ fn run_over(alloc: Global, kernel: &Verified, arguments: &[i64], cells: &mut [i6
             requirement: requirement as u64,
             ..plain_outcome(BAD_ARGUMENTS)
         },
-        Err(RunFault::BadWorkers { .. } | RunFault::OutOfMemory) => plain_outcome(OUT_OF_MEMORY),
+        Err(RunFault::BadWorkers { .. } | RunFault::OutOfMemory | RunFault::Stopped) => {
+            plain_outcome(OUT_OF_MEMORY)
+        }
     }
 }
 

@@ -1,4 +1,4 @@
-ghost use Rattle.std.specs.Prelude.{◌≡◌, ◌<◌, IfErr, IfNone, IfOk, IfSome, None};
+ghost use Rattle.std.specs.Prelude.{◌≡◌, ◌≢◌, ◌<◌, Err, IfErr, IfNone, IfOk, IfSome, None};
 ghost use Rattle.outcome.specs.Requirements.{unmet_in};
 ghost use Rattle.outcome.specs.store.Made.{HasGlobalCells, IsMadeFor};
 ghost use Rattle.outcome.specs.verifier.Accepted.{IsAccepted};
@@ -21,7 +21,7 @@ use strand::{MOST, StrandCells};
 pub struct LoneRun<'v> {
     program: &'v Program,
     arguments: &'v [i64],
-    /// What it began with.
+    /// What it began with. The answer takes it.
     memory: Memory,
     places: Places,
     stack: Stack,
@@ -115,6 +115,7 @@ impl<'v> LoneRun<'v> {
         requires cells { HasGlobalCells verified.now memory }
         ensures begins { IfOk result (IsRunOf verified.now arguments.now memory) }
         ensures refused { IfErr result (IsRefusal verified.now arguments.now memory) }
+        ensures not_stopped { result ≢ Err RunFault.Stopped }
     {
         let program = verified.program();
         // A number of 64 bits.
@@ -139,8 +140,8 @@ impl<'v> LoneRun<'v> {
         self.done
     }
 
-    /// Does one strand: up to a border and over it, or to 65,536 instructions, or to a cell past 256. What the run comes to, where it has ended; else
-    /// at least one instruction was done.
+    /// Does one strand: up to a border and over it, or to 65,536 instructions, or to a cell past 256. What the run comes to, where it has ended: that
+    /// takes no memory, and the run has none of its own any more. Else at least one instruction was done.
     ///
     /// # Errors
     ///
@@ -168,7 +169,8 @@ impl<'v> LoneRun<'v> {
         self.done += 1;
         match border(&mut self.stack, program, &self.places)? {
             Some(result) => {
-                let memory = self.memory.with_row(self.stack.cells.cells.as_slice())?;
+                let mut memory = self.memory.take();
+                memory.set_row(self.stack.cells.cells.as_slice());
                 Ok(Some(Finished {
                     result,
                     memory,

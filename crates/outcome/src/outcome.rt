@@ -23,4 +23,6 @@ pub enum RunFault {
     BadWorkers { memory: Memory },
     /// 803: memory was refused.
     OutOfMemory,
+    /// 804: a run on threads was stopped by its gate.
+    Stopped,
 }

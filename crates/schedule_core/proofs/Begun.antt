@@ -1,10 +1,12 @@
 -- The stage before the first event.
-use Rattle.std.proofs.Common.{◌≡◌, ℕ, zero, suc, ◌+◌, ◌<◌, List, [], ◌∷◌, ◌++◌, length, map, take, Some, None, refl, sym, ap, ◌∙◌, subst, arith, slice_get, ℤ}
-use Rattle.std.specs.Prelude.{sum}
+use Rattle.std.proofs.Common.{◌≡◌, ℕ, zero, suc, ◌+◌, ◌<◌, List, [], ◌∷◌, ◌++◌, length, map, take, Some, None, Bool, refl, sym, ap, ◌∙◌, subst, arith, slice_get, append_assoc, ℤ}
+use Rattle.std.specs.Prelude.{sum, Result, Ok, Err, OnOk}
 use Rattle.std.specs.List.{fold}
 use Rattle.std.proofs.lemmas.List.{length-append}
 use Rattle.program.specs.declared.function.Global.{Global}
 use Rattle.program.specs.declared.function.Program.{Program}
+use Rattle.lists.specs.declared.memory.OutOfMemory.{OutOfMemory}
+use Rattle.crew_promise.specs.conditions.theorem.Schedules.{KeepsSchedule}
 use Rattle.crew_promise.specs.verifier.Accepted.{IsAccepted}
 use Rattle.crew_promise.specs.outcome.Requirements.{unmet_in}
 use Rattle.crew_promise.specs.store.Cells.{NamedCells, cell_at}
@@ -14,7 +16,7 @@ use Rattle.crew.specs.Stalls.{StallsAgree, no_blocks}
 use Rattle.crew.specs.Starts.{ArePlaces, Begins, HasMoves, IsRowOf}
 use Rattle.frame.specs.declared.event.Event.{Event}
 use Rattle.schedule_core.specs.declared.stage.Stage.{Stage}
-use Rattle.schedule_core.specs.Replaying.{IsMachine, KeepsItsSchedule, Replays, first_state}
+use Rattle.schedule_core.specs.Replaying.{IsMachine, KeepsItsSchedule, KeepsItWith, Replays, first_state, state_after}
 use Rattle.crew_promise.specs.store.Made.{IsMadeFor}
 use Rattle.schedule_core.specs.Stages.{IsState, given, program_of, workers_of}
 use Rattle.schedule_core.proofs.Grounds.{FromStart, laws}
@@ -117,3 +119,16 @@ pub kept_by : (prog : Program) (arguments : List ℤ) (globals : List NamedCells
     unmet_in prog arguments ≡ None → IsMadeFor prog globals → 0 < workers → (events : List Event) → KeepsItsSchedule prog arguments globals workers events
 kept_by prog arguments globals workers stage m r none made some events =
     (laws.from_start prog (subst (λ q. IsAccepted q) r.program m.accepted) arguments none globals made workers (omega (arith, some))).keeps events
+
+-- and so with an event more
+pub kept_with : (stage : Stage) (event : Event) (r : Result Bool OutOfMemory) → OnOk r (KeepsItWith stage event)
+kept_with stage event (Err refused) = tt
+kept_with stage event (Ok done) = λ prog arguments globals workers events replays k. record {
+  serial = k.serial;
+  is_serial = k.is_serial;
+  within_budget = k.within_budget;
+  schedule = k.onwards (event ∷ []);
+  onwards = λ more.
+      subst (λ (l : List Event). KeepsSchedule prog workers k.serial (state_after prog arguments globals workers l)) (sym (append_assoc events (event ∷ []) more))
+      (k.onwards (event ∷ more));
+}

@@ -129,6 +129,13 @@ pub record KeepsItsSchedule (prog : Program) (arguments : List ℤ) (globals : L
   -- and so after whatever events follow these
   pub onwards : (more : List Event) → KeepsSchedule prog workers serial (state_after prog arguments globals workers (events ++ more))
 
+-- the theorem of a schedule that led to the stage holds with this event more
+abbrev pub KeepsItWith : Stage → Event → Type 0
+KeepsItWith stage event =
+    (prog : Program) (arguments : List ℤ) (globals : List NamedCells) (workers : ℕ) (events : List Event) →
+    Replays prog arguments globals workers events stage → KeepsItsSchedule prog arguments globals workers events →
+    KeepsItsSchedule prog arguments globals workers (events ++ event ∷ [])
+
 -- ---- lines
 
 -- the view has the line of its task of this path, after these events

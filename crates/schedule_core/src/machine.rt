@@ -4,7 +4,7 @@ ghost use Rattle.running.specs.Replay.{CountsFrames, has_ended};
 ghost use Rattle.crew_promise.specs.outcome.Requirements.{unmet_in};
 ghost use Rattle.crew_promise.specs.store.declared.memory.Memory.{Memory};
 ghost use Rattle.schedule_core.specs.Spots.{KeepsSpots};
-ghost use Rattle.schedule_core.specs.Replaying.{GrowsOnly, Happens, IsMachine, IsNumberOfWorkers, LeavesAsBefore};
+ghost use Rattle.schedule_core.specs.Replaying.{GrowsOnly, Happens, IsMachine, IsNumberOfWorkers, KeepsItsSchedule, KeepsItWith, LeavesAsBefore};
 ghost use Rattle.schedule_core.specs.Replaying.{Replays, ReplaysOneMore, StandsAsWell, event_of};
 ghost use Rattle.crew_promise.specs.store.Made.{IsMadeFor};
 ghost use Rattle.schedule_core.specs.Stages.{IsState, program_of};
@@ -40,6 +40,7 @@ impl<'v> Machine<'v> {
     ) -> Result<Machine<'v>, RunFault>
         requires { IsMadeFor verified.now memory }
         ensures replays { IfOk result (λ m. Replays verified.now arguments.now memory workers [] m.stage) }
+        ensures schedule { OnOk result (KeepsItsSchedule verified.now arguments.now memory workers []) }
         ensures in_range { OnOk result (IsNumberOfWorkers workers) }
         ensures bad_arguments { (requirement : ℕ) → unmet_in verified.now arguments.now ≡ Some requirement
             → result ≡ Err (RunFault.BadArguments requirement memory) }
@@ -65,6 +66,7 @@ impl<'v> Machine<'v> {
         ensures only { OnErr result ((m : running.Machine) → IsState self.old.stage m → GrowsOnly (program_of self.old.stage) m event.now) }
         ensures over { (m : running.Machine) → IsState self.old.stage m → has_ended m ≡ true → result ≡ Ok false }
         ensures keeps { OnOk result (ReplaysOneMore self.old.stage self.new.stage event.now) }
+        ensures schedule { OnOk result (KeepsItWith self.old.stage event.now) }
         ensures spots { KeepsSpots self.old.stage.run.cactus self.new.stage.run.cactus }
         ensures names { self.new.stage.memory ≡ self.old.stage.memory }
     {

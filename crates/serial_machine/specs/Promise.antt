@@ -8,7 +8,7 @@ use Rattle.outcome.specs.store.Rows.{sizes_of}
 use Rattle.outcome.specs.Serially.{IsMeant, memory_of_globals}
 use Rattle.outcome.specs.declared.outcome.Finished.{Finished}
 use Rattle.outcome.specs.declared.outcome.RunFault.{RunFault}
-use Rattle.outcome.specs.declared.outcome.RunFault.TheVariants.{BadArguments, BadWorkers, OutOfMemory}
+use Rattle.outcome.specs.declared.outcome.RunFault.TheVariants.{BadArguments, BadWorkers, OutOfMemory, Stopped}
 use Rattle.serial_machine.specs.declared.run.Unfinished.{Unfinished}
 use Rattle.serial_machine.specs.declared.run.Unfinished.TheVariants.{Fault, OutOfFuel}
 
@@ -19,12 +19,13 @@ pub record EndsWithinBudget (program : Program) (arguments : List ℤ) (memory :
   pub depth : (depth : ℕ) → IsDepthOf program depth → done.peak ≤ depth
   pub sizes : sizes_of done.memory ≡ sizes_of memory
 
--- 803 is the only fault: neither 801 nor 802
+-- 803 is the only fault: it is neither 801, 802 nor 804
 abbrev pub EndsOrLacksMemory : Program → List ℤ → List NamedCells → Result Finished RunFault → Type 0
 EndsOrLacksMemory program arguments memory (Ok done) = EndsWithinBudget program arguments memory done
 EndsOrLacksMemory program arguments memory (Err (BadArguments r m)) = ⊥
 EndsOrLacksMemory program arguments memory (Err (BadWorkers m)) = ⊥
 EndsOrLacksMemory program arguments memory (Err OutOfMemory) = ⊤
+EndsOrLacksMemory program arguments memory (Err Stopped) = ⊥
 
 -- the serial meaning, which is within the budget, takes more instructions than the fuel allows
 pub record TakesMore (program : Program) (arguments : List ℤ) (memory : List NamedCells) (fuel : ℕ) : Type 0 where

@@ -1,6 +1,7 @@
 -- An entry more.
-use Rattle.std.proofs.Common.{◌≡◌, ℕ, ◌+◌, ◌≤◌, List, [], ◌∷◌, ◌++◌, sym, ap, ◌∙◌, append_assoc, append-nil, length, length-append, replicate, arith}
-use Rattle.std.proofs.lemmas.List.{length-replicate, replicate-append-replicate}
+use Rattle.std.proofs.Common.{◌≡◌, ℕ, ◌+◌, ◌≤◌, ◌<◌, get_or, take, List, [], ◌∷◌, ◌++◌, sym, ap, ◌∙◌, append_assoc, append-nil, length, length-append, replicate, arith}
+use Rattle.std.proofs.lemmas.List.{length-replicate, replicate-append-replicate, take_more}
+use Rattle.frame.specs.declared.event.Event.{Event}
 use Rattle.frame.specs.declared.event.Event.TheVariants as event
 use Rattle.shared_run.specs.declared.history.Entry.{Entry}
 use Rattle.shared_run.specs.declared.history.Entry.TheVariants.{Steps}
@@ -32,3 +33,9 @@ pub length_steps : (old after : List Entry) (worker count : ℕ) → spelled aft
 length_steps old after worker count is =
     let e = ap length is in
     omega (arith, e, length-append (spelled old) (replicate count (event.Step worker)), length-replicate count (event.Step worker))
+
+-- the events of the next entry are added to those of the entries before it
+pub spelled_next : (es : List Entry) (i : ℕ) (e : Entry) (now new : List Event) → i < length es → e ≡ get_or es i e → now ≡ spelled (take i es) → new ≡ now ++ events_of e → new ≡ spelled (take (i + 1) es)
+spelled_next es i e now new low read before is =
+    is ∙ (ap (λ l. l ++ events_of e) before
+    ∙ (sym (spelled_push (take i es) e) ∙ ap spelled (ap (λ x. take i es ++ x ∷ []) read ∙ sym (take_more es i e low))))

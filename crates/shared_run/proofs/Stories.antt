@@ -21,8 +21,8 @@ use Rattle.frame.specs.declared.event.Event.{Event}
 use Rattle.frame.specs.declared.event.Event.TheVariants.{Step, Steal}
 use Rattle.schedule_core.specs.declared.stage.Stage.{Stage}
 use Rattle.schedule_core.specs.Replaying.{AreEnabled, event_of, Happens, IsNumberOfWorkers, KeepsItsSchedule, Replays, ReplaysOneMore, ReplaysTheSame}
-use Rattle.schedule_core.specs.Stages.{given, HoldsGlobals, IsState, program_of, workers_of}
-use Rattle.shared_run.specs.Answer.{IsSerialAnswer}
+use Rattle.schedule_core.specs.Stages.{given, HoldsGlobals, IsState, names_of, program_of, workers_of}
+use Rattle.shared_run.specs.Answer.{IsSerialAnswer, LeadTo}
 use Rattle.shared_run.specs.Story.{Origin, IsLegal, first_of, reached}
 
 pub enabled_more : (program : Program) (workers : ℕ) (events : List running.Event) (e : running.Event) (m : Machine) →
@@ -110,9 +110,22 @@ module _ (o : Origin) (events : List Event) (stage : Stage) (legal : IsLegal o e
         is_serial = k.is_serial;
         result = k.schedule.same_result over ∙ ap (λ x. Gave x) (is ∙ ap Some (sym result));
         memory = λ global index. ap (λ m. m (record { object = Shared global; index = index })) (sym (k.schedule.same_memory over)) ∙ sym (memory.cells global index);
+        names = memory.names ∙ ap names_of legal.replays.globals_are;
         count = instructions ∙ k.schedule.same_count over;
         peak = peak ∙ k.schedule.same_peak over;
       }
+
+  -- and its events lead to it
+  pub recorded : (z : ℤ) (done : Finished) → (reached o events).core.result ≡ Some z → done.result ≡ z → HoldsGlobals (reached o events) stage.memory done.memory → done.instructions ≡ (reached o events).core.done →
+      done.peak ≡ (reached o events).core.peak → LeadTo o events done
+  recorded z done is result memory instructions peak = record {
+    enabled = legal.enabled;
+    ended = ended_by z is;
+    result = is ∙ ap Some (sym result);
+    memory = λ global index. sym (memory.cells global index);
+    count = sym instructions;
+    peak = sym peak;
+  }
 
   -- with an event that was done
   module _ (e : Event) (more : List Event) (new : Stage) (is : more ≡ events ++ e ∷ []) where

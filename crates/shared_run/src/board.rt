@@ -9,7 +9,7 @@ ghost use Rattle.schedule_core.specs.Replaying.{IsNumberOfWorkers, KeepsItsSched
 ghost use Rattle.schedule_core.specs.Stages.{workers_of};
 ghost use Rattle.schedule_core.specs.Strands.{IsMadeOf};
 ghost use Rattle.schedule_core.specs.strand.declared.standing.Pause.TheVariants as pause;
-ghost use Rattle.shared_run.specs.Answer.{IsSerialAnswer};
+ghost use Rattle.shared_run.specs.Answer.{IsSerialAnswer, LeadTo};
 ghost use Rattle.shared_run.specs.Calls.{Absorbing, Begins, Claims, ClaimsFirst, Commits, Fetches, IsOneBelow, Leaves, Stays, Steps, Takes, Tries, depth_in};
 ghost use Rattle.shared_run.specs.Story.{AreSeats, IsLegal, Place, origin, state_of};
 
@@ -317,18 +317,19 @@ impl<'a, L: Bench> Board<'a, L> {
         self.history.total()
     }
 
-    /// The answer of a run that has ended and that began at this start, which is of the same module, with the number of its events;
-    /// it takes all its seats. Else board and seats are given back.
+    /// The answer of a run that has ended and that began at this start, which is of the same module, with its history: a
+    /// replay takes the events to this answer. It takes all its seats, and no memory. Else board and seats are given back.
     pub fn finish(
         self,
         start: &Start<'a>,
         seats: Vec<Seat<L>>,
-    ) -> Result<(Finished, u64), (Board<'a, L>, Vec<Seat<L>>)>
+    ) -> Result<(Finished, History), (Board<'a, L>, Vec<Seat<L>>)>
         requires all { (vec_len seats ≡ L.parts) × (0 < L.parts) }
         requires code { start.now.program ≡ L.code }
         ensures answer { IfOk result (λ done. IsSerialAnswer start.now done.0) }
-        ensures count { IfOk result (λ done. done.1 ≡ length self.entry.events) }
-        ensures shares { IfOk result (λ done. done.1 ≡ sum_by (λ seat. seat.share) seats.items) }
+        ensures replays { IfOk result (λ done. LeadTo start.now done.1.events done.0) }
+        ensures events { IfOk result (λ done. done.1.events ≡ self.entry.events) }
+        ensures shares { IfOk result (λ done. length done.1.events ≡ sum_by (λ seat. seat.share) seats.items) }
         ensures same { IfErr result (λ back. (back.0 ≡ self.entry) × (back.1 ≡ seats)) }
         ensures refused { OnErr result (((state_of self.entry).core.result ≡ None) ⊎ (self.entry.start ≢ start.now)) }
     {
@@ -357,7 +358,7 @@ impl<'a, L: Bench> Board<'a, L> {
                 instructions,
                 peak,
             },
-            history.total(),
+            history,
         ))
     }
 }

@@ -1,6 +1,6 @@
-ghost use Rattle.std.specs.Prelude.{◌≡◌, ℕ, ◌+◌, ◌^◌, ◌<◌, ◌≤◌, [], ◌∷◌, ◌++◌, length, replicate, vec_len, vec_capacity, OnOk};
+ghost use Rattle.std.specs.Prelude.{◌≡◌, ℕ, ◌+◌, ◌^◌, ◌<◌, ◌≤◌, [], ◌∷◌, ◌++◌, length, replicate, vec_len, vec_capacity, IfOk, OnOk};
 ghost use Rattle.frame.specs.declared.event.Event.TheVariants.{Step, Steal};
-ghost use Rattle.shared_run.specs.Spelled.{spelled};
+ghost use Rattle.shared_run.specs.Spelled.{events_of, spelled};
 
 use frame::Path;
 use lists::OutOfMemory;
@@ -124,4 +124,42 @@ impl History {
     {
         self.entries.as_slice()
     }
+
+    /// The events one by one, as a replay takes them.
+    ///
+    /// # Errors
+    ///
+    /// Memory was refused: it is taken for each event.
+    pub fn events(&self, alloc: Global) -> Result<Vec<Event>, OutOfMemory>
+        ensures { IfOk result (λ events. events.items ≡ self.now.events) }
+    {
+        let mut events = Vec::new(alloc);
+        for entry in self.entries.as_slice() {
+            spell(alloc, entry, &mut events)?;
+        }
+        Ok(events)
+    }
+}
+
+/// Adds the events of an entry.
+fn spell(alloc: Global, entry: &Entry, events: &mut Vec<Event>) -> Result<(), OutOfMemory>
+    ensures { OnOk result (events.new.items ≡ events.old.items ++ events_of entry.now) }
+{
+    match entry {
+        Entry::Steps { worker, count } => spell_steps(*worker, *count, events),
+        Entry::Steal { worker, path } => {
+            events.push(Event::Steal(*worker, path.copy(alloc)?))?;
+            Ok(())
+        }
+    }
+}
+
+/// Adds so many steps of the worker.
+fn spell_steps(worker: u8, count: u64, events: &mut Vec<Event>) -> Result<(), OutOfMemory>
+    ensures { OnOk result (events.new.items ≡ events.old.items ++ replicate count (Step worker)) }
+{
+    for _step in 0..count {
+        events.push(Event::Step(worker))?;
+    }
+    Ok(())
 }

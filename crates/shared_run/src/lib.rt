@@ -25,7 +25,8 @@ pub use board::Board;
 pub use history::{Entry, History};
 pub use outside::{advance, clear};
 pub use schedule_core::{
-    Finished, Memory, Pause, Places, RunFault, Strand, Verified, blank_strand, places_of,
+    Event, Finished, Memory, Pause, Places, RunFault, Strand, Verified, blank_strand, places_of,
+    steps_of,
 };
 pub use seat::Seat;
 pub use shared::Shared;

@@ -1,13 +1,14 @@
-ghost use Rattle.std.specs.Prelude.{◌≡◌, ℕ, ◌<◌, None, Some, Err, vec_len, sum_by, IfOk, IfErr, OnOk};
+ghost use Rattle.std.specs.Prelude.{◌≡◌, ℕ, ◌<◌, None, Some, Err, length, vec_len, sum_by, IfOk, IfErr, OnOk};
 ghost use Rattle.schedule_core.specs.outcome.Requirements.{unmet_in};
 ghost use Rattle.schedule_core.specs.store.Made.{IsMadeFor};
 ghost use Rattle.schedule_core.specs.store.declared.memory.Memory.{Memory};
 ghost use Rattle.schedule_core.specs.Replaying.{IsNumberOfWorkers};
-ghost use Rattle.shared_run.specs.Answer.{IsSerialAnswer};
+ghost use Rattle.shared_run.specs.Answer.{IsSerialAnswer, LeadTo};
 ghost use Rattle.shared_run.specs.Story.{AreSeats, origin};
 
 use crate::bench::Bench;
 use crate::board::Board;
+use crate::history::History;
 use crate::seat::Seat;
 use crate::start::{Start, admitted};
 use schedule_core::{Finished, Memory, RunFault, Verified};
@@ -80,15 +81,16 @@ impl<'a, L: Bench> Shared<'a, L> {
         ))
     }
 
-    /// The answer of the run that has ended, with the number of its events; it takes all its seats and waits for nobody. Else, where
-    /// the run of the board in the lock has not ended or began at another start, all is given back.
+    /// The answer of the run that has ended, with its history: [`Board::finish`]. It takes all its seats and waits for nobody. Else,
+    /// where the run of the board in the lock has not ended or began at another start, all is given back.
     pub fn finish(
         self,
         seats: Vec<Seat<L>>,
-    ) -> Result<(Finished, u64), (Shared<'a, L>, Vec<Seat<L>>)>
+    ) -> Result<(Finished, History), (Shared<'a, L>, Vec<Seat<L>>)>
         requires all { (vec_len seats ≡ L.parts) × (0 < L.parts) }
         ensures answer { IfOk result (λ done. IsSerialAnswer self.entry done.0) }
-        ensures shares { IfOk result (λ done. done.1 ≡ sum_by (λ seat. seat.share) seats.items) }
+        ensures replays { IfOk result (λ done. LeadTo self.entry done.1.events done.0) }
+        ensures shares { IfOk result (λ done. length done.1.events ≡ sum_by (λ seat. seat.share) seats.items) }
         ensures same { IfErr result (λ back. (back.0 ≡ self.entry) × (back.1 ≡ seats)) }
     {
         let Shared { board, start } = self;

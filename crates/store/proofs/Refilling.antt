@@ -1,10 +1,9 @@
 -- A row of numbers goes to the globals, one after the other.
 use Rattle.std.proofs.Common.{◌≡◌, ◌∙◌, ℕ, zero, suc, ◌+◌, ◌<◌, ◌≤◌, List, [], ◌∷◌, ◌++◌, Some, length, take, drop, get_or, slice_get, slice_set, refl, sym, ap, arith, ℤ}
-use Rattle.std.specs.Prelude.{min, sum}
-use Rattle.std.specs.List.{fold}
-use Rattle.std.proofs.lemmas.List.{take_min, drop_min, drop_more, drop_all, length-drop}
+use Rattle.std.specs.Prelude.{min}
+use Rattle.std.proofs.lemmas.List.{take_min, drop_min, drop_more, drop_all}
 use Rattle.store.specs.Cells.{NamedCells}
-use Rattle.store.specs.Rows.{refilled, sizes_of}
+use Rattle.store.specs.Rows.{refilled}
 
 append_assoc : (xs ys zs : List NamedCells) → (xs ++ ys) ++ zs ≡ xs ++ (ys ++ zs)
 append_assoc [] ys zs = refl
@@ -34,13 +33,6 @@ refill_end gs made i rest row past before =
 
 -- ---- in place
 
-summed : (at : ℕ) (cells : List ℕ) → fold (λ (s x : ℕ). s + x) at cells ≡ at + fold (λ (s x : ℕ). s + x) 0 cells
-summed at [] = omega arith
-summed at (c ∷ cells) = let first = summed (at + c) cells in let rest = summed (0 + c) cells in omega (arith, first, rest)
-
-sum_more : (n : ℕ) (l : List ℕ) → sum (n ∷ l) ≡ n + sum l
-sum_more n l = let s = summed (0 + n) l in omega (arith, s)
-
 -- the first i globals have taken their numbers of the row, and the rest of it is left
 abbrev pub Partly : List NamedCells → List NamedCells → ℕ → List ℤ → List ℤ → Type 0
 Partly gs now zero rest row = (now ≡ gs) × (rest ≡ row)
@@ -68,20 +60,3 @@ partly_done (g ∷ gs) [] (suc i) rest row p past = absurd p
 partly_done (g ∷ gs) (x ∷ now) (suc i) rest row (is, more) past =
     let later : now ≡ refilled gs (drop (length g.cells) row) = partly_done gs now i rest (drop (length g.cells) row) more (omega (arith, past)) in
     (λ j. is j ∷ later j)
-
-pub partly_room : (gs now : List NamedCells) (i : ℕ) (rest row : List ℤ) (old : NamedCells) → Partly gs now i rest row → slice_get now i ≡ Some old → sum (sizes_of gs) ≤ length row →
-    length old.cells ≤ length rest
-partly_room gs [] zero rest row old p at room = absurd (cc)
-partly_room [] (x ∷ now) zero rest row old p at room = absurd (let e = p.0 in cc)
-partly_room (g ∷ gs) (x ∷ now) zero rest row old (same, left) at room =
-    let front : old ≡ g = (let a : Some x ≡ Some old = at in let b : x ∷ now ≡ g ∷ gs = same in cc) in
-    let many : length old.cells ≡ length g.cells = ap (λ (y : NamedCells). length y.cells) front in
-    let long : length rest ≡ length row = ap (λ (l : List ℤ). length l) left in
-    let more = sum_more (length g.cells) (sizes_of gs) in
-    omega (arith, many, long, more, room)
-partly_room [] now (suc i) rest row old p at room = absurd p
-partly_room (g ∷ gs) [] (suc i) rest row old p at room = absurd p
-partly_room (g ∷ gs) (x ∷ now) (suc i) rest row old (is, more) at room =
-    let sizes = sum_more (length g.cells) (sizes_of gs) in
-    let cut = length-drop (length g.cells) row in
-    partly_room gs now i rest (drop (length g.cells) row) old more at (omega (arith, sizes, cut, room))

@@ -1,4 +1,4 @@
-ghost use Rattle.std.specs.Prelude.{◌≡◌, ◌↔◌, ◌<◌, ℕ, None, Some, IfNone, IfOk, IfSome, IsSome, IsTrue, length, map, slice_get, slice_set};
+ghost use Rattle.std.specs.Prelude.{◌≡◌, ◌↔◌, ◌<◌, ℕ, [], None, Some, IfNone, IfOk, IfSome, IsSome, IsTrue, length, map, slice_get, slice_set};
 ghost use Rattle.std.specs.Bool.{OnFalse, OnTrue};
 ghost use Rattle.std.specs.Option.{option_map};
 ghost use Rattle.program.specs.declared.function.Program.{Program};
@@ -10,6 +10,7 @@ use lists::{Name, OutOfMemory};
 use program::{GlobalId, Program};
 use std::alloc::Global;
 use std::marker::Model;
+use std::mem;
 use verifier::Verified;
 
 /// A global: its name and its numbers.
@@ -186,6 +187,18 @@ impl Memory {
             alloc: self.alloc,
             globals,
         })
+    }
+
+    /// Takes all globals out, and leaves none. It takes no memory.
+    pub fn take(&mut self) -> Memory
+        ensures all { result ≡ self.old }
+        ensures none { self.new ≡ [] }
+    {
+        let globals = mem::replace(&mut self.globals, Vec::new(self.alloc));
+        Memory {
+            alloc: self.alloc,
+            globals,
+        }
     }
 
     /// Whether both have the same globals with the same numbers.

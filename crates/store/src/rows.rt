@@ -18,13 +18,14 @@ impl GlobalCells {
         })
     }
 
-    /// The global takes its numbers from the beginning of the row; the answer is the rest of the row.
+    /// The global takes its numbers from the beginning of the row, as many as are there; the answer is the rest of the row.
+    #[tactic(auto, using(std::proofs::lemmas::List::take_min, std::proofs::lemmas::List::drop_min))]
     fn refill<'a>(&mut self, row: &'a [i64]) -> &'a [i64]
-        requires { length self.old.cells ≤ length row.now }
         ensures taken { self.new ≡ record self.old { cells = take (length self.old.cells) row.now } }
         ensures rest { result.now ≡ drop (length self.old.cells) row.now }
     {
-        let (own, more) = row.split_at(self.cells.len());
+        let (own, more) = row.split_at(self.cells.len().min(row.len()));
+        self.cells.truncate(own.len());
         self.cells.as_mut_slice().copy_from_slice(own);
         more
     }
@@ -73,6 +74,13 @@ impl Memory {
     /// The globals take the numbers of a row.
     pub fn refill(&mut self, row: &[i64])
         requires { sum (sizes_of self.old) ≤ length row.now }
+        ensures { self.new ≡ refilled self.old row.now }
+    {
+        self.set_row(row);
+    }
+
+    /// The globals take the numbers of a row, and those past its end lose theirs. It takes no memory.
+    pub fn set_row(&mut self, row: &[i64])
         ensures { self.new ≡ refilled self.old row.now }
     {
         let mut rest = row;

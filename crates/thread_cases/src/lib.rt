@@ -1,8 +1,9 @@
-//! Cases on threads: runs on each number of workers, two workers inside at once, gates before strands, two threads at their seats, and lists of tickets
+//! Cases on threads: two workers inside at once, gates before strands, runs that are recorded, two threads at their seats, and lists of tickets
 //! that several threads take from. Each comes to the same whatever the threads do.
 #![tactic(auto)]
 
 mod endings;
+mod records;
 mod runs;
 mod seats;
 mod tickets;
@@ -23,5 +24,6 @@ pub fn answer<R: AllocGlobal + Files + Threads + Wait + Clock + Sync>(
 ) -> io::Result<()> {
     tickets::answer(rt, rt.alloc(), report)?;
     runs::answer(rt, state, report)?;
+    records::answer(rt, state, report)?;
     seats::answer(rt, state, report)
 }

@@ -1,9 +1,9 @@
-//! Runs on threads: two workers inside at once, and gates before strands.
+//! Runs on threads: two workers inside at once, gates before strands, and a gate that stops a run.
 
 use crate::endings::{Ending, TURNS, is_so};
 use cases::{Lines, verified_file};
-use deque_pool::{Gate, run};
-use shared_run::{Memory, Verified};
+use deque_pool::{Gate, Go, run};
+use shared_run::{Memory, RunFault, Verified};
 use std::alloc::Global;
 use std::hash::RandomState;
 use std::rt::Files;
@@ -51,12 +51,13 @@ struct Meeting {
 }
 
 impl Gate for Meeting {
-    fn pass(&self, worker: u8, strand: u64) {
+    fn pass(&self, worker: u8, strand: u64) -> Go {
         match (worker, strand) {
             (0, 1) => meet(&self.first, &self.second),
             (1, 0) => meet(&self.second, &self.first),
             _ => {}
         }
+        Go::On
     }
 }
 
@@ -89,13 +90,14 @@ impl Counting {
 }
 
 impl Gate for Counting {
-    fn pass(&self, worker: u8, strand: u64) {
+    fn pass(&self, worker: u8, strand: u64) -> Go {
         let count = match (worker, strand) {
             (0, 0) => &self.first,
             (0, 1) => &self.second,
             _ => &self.other,
         };
         let _before = count.fetch_add(1, Ordering::SeqCst);
+        Go::On
     }
 }
 
@@ -114,6 +116,67 @@ fn has_strands<R: Threads + Wait + Clock + Sync>(
         other: AtomicU64::new(0),
     };
     comes_to(rt, alloc, verified, arguments, 1, &counting, wanted) && counting.is_passed(second)
+}
+
+/// Counts how often worker 0 passes it, and how often others do.
+#[derive(Drop)]
+struct Passes {
+    first: AtomicU64,
+    others: AtomicU64,
+}
+
+impl Gate for Passes {
+    fn pass(&self, worker: u8, _strand: u64) -> Go {
+        let count = if worker == 0 {
+            &self.first
+        } else {
+            &self.others
+        };
+        let _before = count.fetch_add(1, Ordering::SeqCst);
+        Go::On
+    }
+}
+
+/// Whether worker 0 of two does a loop without borders in so many strands.
+fn has_passes<R: Threads + Wait + Clock + Sync>(
+    rt: &R,
+    alloc: Global,
+    verified: &Verified,
+    arguments: &[i64],
+    wanted: Ending,
+    strands: u64,
+) -> bool {
+    let passes = Passes {
+        first: AtomicU64::new(0),
+        others: AtomicU64::new(0),
+    };
+    comes_to(rt, alloc, verified, arguments, 2, &passes, wanted)
+        && passes.first.load(Ordering::SeqCst) == strands
+        && passes.others.load(Ordering::SeqCst) == 0
+}
+
+/// Stops a run before a worker's second strand.
+struct Stopping;
+
+impl Gate for Stopping {
+    fn pass(&self, _worker: u8, strand: u64) -> Go {
+        if strand == 1 { Go::Stop } else { Go::On }
+    }
+}
+
+/// Whether a run on so many workers is stopped.
+fn is_stopped<R: Threads + Wait + Clock + Sync>(
+    rt: &R,
+    alloc: Global,
+    verified: &Verified,
+    arguments: &[i64],
+    workers: usize,
+) -> bool {
+    let Ok(memory) = Memory::zeroed(alloc, verified) else {
+        return false;
+    };
+    let end = run(rt, alloc, verified, arguments, memory, workers, &Stopping);
+    matches!(end, Err(RunFault::Stopped))
 }
 
 fn answer_pair<R: AllocGlobal + Files + Threads + Wait + Clock + Sync>(
@@ -147,7 +210,25 @@ fn answer_limit<R: AllocGlobal + Files + Threads + Wait + Clock + Sync>(
     let has_one = has_strands(rt, rt.alloc(), &long, &[16_383], (16_383, 65_537, 1), 0);
     report.holds("a border at the limit is the strand's", has_one)?;
     let has_two = has_strands(rt, rt.alloc(), &long, &[16_384], (16_384, 65_541, 1), 1);
-    report.holds("past the limit goes the next strand", has_two)
+    report.holds("past the limit goes the next strand", has_two)?;
+    // 200,005 instructions are three strands of 65,536 and one of 3,397.
+    let has_four = has_passes(rt, rt.alloc(), &long, &[50_000], (50_000, 200_005, 1), 4);
+    report.holds(
+        "of two workers one does a long loop in four strands",
+        has_four,
+    )
+}
+
+fn answer_stop<R: AllocGlobal + Files + Threads + Wait + Clock + Sync>(
+    rt: &R,
+    state: RandomState,
+    report: &mut Lines,
+) -> io::Result<()> {
+    let long = verified_file(rt, state, "modules/long-loop.ll")?;
+    let is_one = is_stopped(rt, rt.alloc(), &long, &[50_000], 1);
+    report.holds("a gate stops a run of one worker", is_one)?;
+    let is_two = is_stopped(rt, rt.alloc(), &long, &[50_000], 2);
+    report.holds("a gate stops a run of two", is_two)
 }
 
 /// Answers the cases of runs.
@@ -159,5 +240,6 @@ pub fn answer<R: AllocGlobal + Files + Threads + Wait + Clock + Sync>(
     report.title("gates")?;
     answer_pair(rt, state, report)?;
     answer_stores(rt, state, report)?;
-    answer_limit(rt, state, report)
+    answer_limit(rt, state, report)?;
+    answer_stop(rt, state, report)
 }

@@ -58,7 +58,7 @@ fn ends_so<L: Bench>(shared: Shared<'_, L>, seats: Vec<Seat<L>>, reported: u64) 
     requires { (vec_len seats ≡ L.parts) × (0 < L.parts) }
 {
     match shared.finish(seats) {
-        Ok((done, events)) => events == reported && is_so(&done, (64, 518, 2)),
+        Ok((done, history)) => history.total() == reported && is_so(&done, (64, 518, 2)),
         Err(_) => false,
     }
 }

@@ -5,7 +5,7 @@ use Rattle.ticket_lists.specs.declared.taken.Taken.{Taken}
 use Rattle.ticket_lists.specs.declared.taken.Taken.TheVariants.{Ticket, Empty, Again}
 use Rattle.ticket_lists.specs.TicketList.{End, HadFew, Happened, moved}
 
--- the oldest ticket left the list; or there was one ticket at most; or nothing is known
+-- the oldest ticket, in some order of steps with these of the thief; or one ticket at most in some such order; or nothing is known
 abbrev pub Takes : End → End → Taken → Type 0
 Takes old new (Ticket t) = (new ≡ moved old (Oldest t)) × Happened new.moves
 Takes old new Empty = (new ≡ old) × HadFew 1 old.moves

@@ -36,18 +36,18 @@ IsPlayed tickets views =
     × ((seat : ℕ) → length views ≤ seat → moves_of seat log ≡ [])
     × (0 < length views)
 
--- at one moment, after just these steps of a seat, the tickets were these
+-- some order of steps, of which just these are a seat's, leads to these tickets; whether others took these steps is not said
 pub record IsMoment (moves : List Move) (tickets : List Ticket) : Type 0 where
   pub log : List Turn
   pub seat : ℕ
   pub leads : Leads log tickets
   pub own : moves_of seat log ≡ moves
 
--- there was such a moment
+-- there is such an order
 abbrev pub Happened : List Move → Type 0
 Happened moves = (tickets : List Ticket) × IsMoment moves tickets
 
--- there was one with so many tickets at most
+-- there is one that leads to so many tickets at most
 abbrev pub HadFew : ℕ → List Move → Type 0
 HadFew most moves = (tickets : List Ticket) × IsMoment moves tickets × (length tickets ≤ most)
 

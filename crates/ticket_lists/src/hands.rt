@@ -95,7 +95,8 @@ impl Hands {
         self.worker.push_as::<Offers>(ticket)
     }
 
-    /// Takes the ticket at the back. None: at one moment the list was empty.
+    /// Takes the ticket at the back, where there is one. Of what thieves did meanwhile the contract knows nothing: it says that some order of steps, with
+    /// these of the owner, leads to the answer.
     pub fn take_newest(&mut self) -> Option<Ticket>
         ensures taken { IfSome result (λ ticket. self.new ≡ moved self.old (Newest ticket)) }
         ensures offered { IfSome result (λ ticket. Happened self.new.moves) }
@@ -107,7 +108,7 @@ impl Hands {
 }
 
 impl Thief {
-    /// Takes the ticket at the front.
+    /// Takes the ticket at the front. The contract knows this thief's own steps alone, as that of [`Hands::take_newest`] the owner's.
     pub fn take_oldest(&mut self) -> Taken
         ensures { Takes self.old self.new result }
     {

@@ -3,8 +3,8 @@
 pub enum Taken {
     /// The oldest ticket.
     Ticket(shared_run::Ticket),
-    /// At one moment there was one ticket at most.
+    /// None: there was one ticket at most, which is left to the owner.
     Empty,
-    /// Another thread was at the list; nothing is known.
+    /// None: another thread was at the list.
     Again,
 }

@@ -9,7 +9,9 @@ use crate::boards::rows::{Notes, play_drawn, play_rows};
 use lists::OutOfMemory;
 use schedule_core::Machine;
 use serial_machine::serial_run;
-use shared_run::{Bench, Board, Finished, Memory, Places, RunFault, Seat, Shared, Start, Verified};
+use shared_run::{
+    Bench, Board, Finished, History, Memory, Places, RunFault, Seat, Shared, Start, Verified,
+};
 use std::alloc::{AllocError, Global};
 use std::marker::Brand;
 use std::sync::ledger::Blank;
@@ -81,7 +83,7 @@ fn write_fault(run: &Run<'_>, fault: &RunFault, text: &mut String) -> Result<(),
             text.push_str("begin = 802")?;
             memory
         }
-        RunFault::OutOfMemory => return Err(OutOfMemory),
+        RunFault::OutOfMemory | RunFault::Stopped => return Err(OutOfMemory),
     };
     if !memory.same(run.memory) {
         text.push_str(", another memory")?;
@@ -141,7 +143,7 @@ fn alone<'a, L: Bench>(
     run: &Run<'a>,
     board: Board<'a, L>,
     seats: Vec<Seat<L>>,
-) -> Result<Option<(Finished, u64)>, OutOfMemory>
+) -> Result<Option<(Finished, History)>, OutOfMemory>
     requires code { run.now.verified.now ≡ L.code }
     requires all { vec_len seats ≡ L.parts }
     requires some { 0 < L.parts }
@@ -188,11 +190,11 @@ fn play<L: Bench>(
 /// Writes how a run ends, if it does.
 fn write_end_if_any(
     run: &Run<'_>,
-    end: Option<(Finished, u64)>,
+    end: Option<(Finished, History)>,
     notes: &mut Notes,
 ) -> Result<(), OutOfMemory> {
     match end {
-        Some((finished, events)) => write_end(run, &finished, events, notes),
+        Some((finished, history)) => write_end(run, &finished, history.total(), notes),
         None => {
             notes.is_right = false;
             notes.text.push_str("it goes on")?;

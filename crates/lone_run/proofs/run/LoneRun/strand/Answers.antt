@@ -61,8 +61,8 @@ returns-in-None-clause-gets_on c =
     let before = done_before _ _ _ _ _ _ _ c.requires _ _ c.advance-pause.ensures.led in
     (omega (arith, before), within _ _ _ _ _ _ _ (returns-in-None-clause-goes c).3)
 
-pub returns-in_ok-memory-in-Some-clause-ends : goal.returns-in_ok-memory-in-Some-clause-ends
-returns-in_ok-memory-in-Some-clause-ends c =
+pub returns-in-Some-clause-ends : goal.returns-in-Some-clause-ends
+returns-in-Some-clause-ends c =
     let program = c.args.self.now.program.now in
     let places = c.args.self.now.places in
     let m = c.args.self.now.memory in
@@ -72,9 +72,10 @@ returns-in_ok-memory-in-Some-clause-ends c =
     let z = c.in-Some.result in
     let fit : FitsSigned w64 z = search rules in
     let number : to_z w64 (of_z w64 z) ≡ z = to_z-of_z w64 z fit in
-    let kept : c.in_ok-memory-in-Some.memory ≡ refilled m new.cells.cells.items = c.in_ok-memory-in-Some.ensures ∙ ap (λ (xs : List ℤ). refilled m xs) c.as_slice.ensures.value in
+    let kept : c.set_row.new.self ≡ refilled m new.cells.cells.items =
+    c.set_row.ensures ∙ (λ i. refilled (c.take-memory.ensures.all i) (c.as_slice.ensures.value i)) in
     let same : ◌≡◌ {A = Finished} (record { result = z; memory = refilled m new.cells.cells.items; instructions = n; peak = peak })
-    (record { result = to_z w64 (of_z w64 z); memory = c.in_ok-memory-in-Some.memory; instructions = n; peak = peak }) =
+    (record { result = to_z w64 (of_z w64 z); memory = c.set_row.new.self; instructions = n; peak = peak }) =
     λ i. record { result = sym number i; memory = sym kept i; instructions = n; peak = peak } in
     subst (λ (d : Finished). EndsWithinBudget program c.args.self.now.arguments.now m d) same
     (over _ _ _ _ _ _ _ (went_on _ _ _ _ _ _ _ c.requires _ _ c.advance-pause.ensures.moves c.advance-pause.ensures.led) new _ z refl

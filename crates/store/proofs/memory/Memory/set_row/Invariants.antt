@@ -1,6 +1,6 @@
 use Rattle.std.proofs.Common.{◌≡◌, length}
 use Rattle.store.proofs.Refilling.{Partly}
-use Rattle.store.proofs.memory.Memory.refill.Given as goal
+use Rattle.store.proofs.memory.Memory.set_row.Given as goal
 
 abbrev pub invariant-loop-i : goal.invariant-loop-i
 invariant-loop-i l =

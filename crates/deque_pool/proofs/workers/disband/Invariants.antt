@@ -1,5 +1,5 @@
 use Rattle.std.specs.Prelude.{◌≡◌, ◌+◌, ◌≤◌, vec_len, vec_capacity}
-use Rattle.deque_pool.proofs.workers.seats_of.Given as goal
+use Rattle.deque_pool.proofs.workers.disband.Given as goal
 
 abbrev pub invariant-loop-worker : goal.invariant-loop-worker
 invariant-loop-worker g l = (vec_len l.room + vec_len l.crew ≡ vec_len l.fn.crew) × (vec_len l.fn.crew ≤ vec_capacity l.room)

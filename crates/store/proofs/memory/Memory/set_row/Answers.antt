@@ -1,21 +1,13 @@
-use Rattle.std.proofs.Common.{◌∙◌, ◌≤◌, List, length, suc, drop, Some, slice_set, add-one, refl, ap, sym, subst, arith, ℤ}
-use Rattle.std.specs.Prelude.{sum}
+use Rattle.std.proofs.Common.{◌∙◌, List, length, suc, drop, Some, slice_set, add-one, refl, ap, sym, subst, arith, ℤ}
 use Rattle.std.proofs.lemmas.List.{length-set}
 use Rattle.std.proofs.lemmas.Option.{slice_get-get_or}
 use Rattle.store.specs.Cells.{NamedCells}
-use Rattle.store.specs.Rows.{refilled, sizes_of}
-use Rattle.store.proofs.Refilling.{Partly, partly_done, partly_next, partly_room}
-use Rattle.store.proofs.memory.Memory.refill.Goals as goal
+use Rattle.store.specs.Rows.{refilled}
+use Rattle.store.proofs.Refilling.{Partly, partly_done, partly_next}
+use Rattle.store.proofs.memory.Memory.set_row.Goals as goal
 
 pub loop-i-init : goal.loop-i-init
 loop-i-init c = ((refl, refl), refl)
-
-pub refill-rest-requires : goal.refill-rest-requires
-refill-rest-requires c =
-    let items = c.loop-i.self-inside.globals.items in
-    let read = slice_get-get_or items c.loop-i.i _ (omega (arith, c.len-i-end.ensures, c.loop-i-test.true, c.loop-i.invariant.1)) ∙ ap Some (sym c.index_mut.ensures.value) in
-    partly_room c.self.inside.globals.items items c.loop-i.i c.loop-i.rest.now c.args.row.now _ c.loop-i.invariant.0 read
-    (subst (λ (m : List NamedCells). sum (sizes_of m) ≤ length c.args.row.now) (sym c.self.view_is) c.requires)
 
 pub loop-i-preserved : goal.loop-i-preserved
 loop-i-preserved c =

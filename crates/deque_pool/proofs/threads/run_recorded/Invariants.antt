@@ -1,0 +1,7 @@
+use Rattle.deque_pool.proofs.threads.run_recorded.Given as goal
+
+abbrev pub ghosts-run_by-L-Ledger : goal.ghosts-run_by-L-Ledger
+ghosts-run_by-L-Ledger g a = record { name = a.blank.name; parts = a.blank.parts }
+
+abbrev pub ghosts-run_by-L-Bench : goal.ghosts-run_by-L-Bench
+ghosts-run_by-L-Bench g a = record { code = a.verified.now; crew = a.workers }

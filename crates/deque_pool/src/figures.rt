@@ -1,0 +1,58 @@
+/// What a worker did in a run. Each number stays at 2^64 - 1.
+#[derive(Clone, Copy)]
+pub struct Figures {
+    /// The instructions that it did: all workers' together are those of the run.
+    pub instructions: u64,
+    /// The strands that it began, each after its gate.
+    pub strands: u64,
+    /// The tasks that it took: its own again by their tickets, those of others, and those that it found at the board.
+    pub steals: u64,
+    /// The times that it looked for a task.
+    pub searches: u64,
+    /// The strands that were done for nothing: others had meanwhile changed what they rest on.
+    pub strangers: u64,
+    /// The strands that were put on the board.
+    pub publications: u64,
+}
+
+impl Figures {
+    /// Nothing yet.
+    pub(crate) fn none() -> Figures {
+        Figures {
+            instructions: 0,
+            strands: 0,
+            steals: 0,
+            searches: 0,
+            strangers: 0,
+            publications: 0,
+        }
+    }
+
+    /// A strand of so many instructions was put on the board.
+    pub(crate) fn count_publication(&mut self, instructions: u64) {
+        self.instructions = self.instructions.saturating_add(instructions);
+        self.publications = self.publications.saturating_add(1);
+    }
+
+    /// A strand was done for nothing.
+    pub(crate) fn count_stranger(&mut self) {
+        self.strangers = self.strangers.saturating_add(1);
+    }
+
+    /// A strand begins. The answer is how many began before.
+    pub(crate) fn count_strand(&mut self) -> u64 {
+        let before = self.strands;
+        self.strands = self.strands.saturating_add(1);
+        before
+    }
+
+    /// The worker looks for a task.
+    pub(crate) fn count_search(&mut self) {
+        self.searches = self.searches.saturating_add(1);
+    }
+
+    /// It took one.
+    pub(crate) fn count_steal(&mut self) {
+        self.steals = self.steals.saturating_add(1);
+    }
+}

@@ -1,0 +1,147 @@
+//! The rounds of a run on threads. Mostly there is one: its workers leave when the run has ended. Where they left and it has not, though none of
+//! them was refused memory or stopped, they are set to work again.
+ghost use Rattle.std.specs.Prelude.{◌≡◌, ◌<◌, ℕ, None, Some, Err, vec_len, IfOk, OnOk};
+ghost use Rattle.shared_run.specs.crew.Starts.{ArePlaces};
+ghost use Rattle.shared_run.specs.outcome.Requirements.{unmet_in};
+ghost use Rattle.shared_run.specs.store.Made.{IsMadeFor};
+ghost use Rattle.shared_run.specs.store.declared.memory.Memory.{Memory};
+ghost use Rattle.shared_run.specs.schedule_core.Replaying.{IsNumberOfWorkers};
+ghost use Rattle.shared_run.specs.Answer.{IsSerialAnswer, LeadTo};
+ghost use Rattle.shared_run.specs.Story.{origin};
+
+use crate::figures::Figures;
+use crate::gate::Gate;
+use crate::recorded::Recorded;
+use crate::work::work;
+use crate::workers::{Left, Worker, crew_of, disband};
+use crossbeam_utils::CachePadded;
+use lists::OutOfMemory;
+use shared_run::{Bench, Memory, Places, RunFault, Seat, Shared, Verified, places_of};
+use std::alloc::Global;
+use std::sync::atomic::AtomicBool;
+use std::sync::ledger::Blank;
+use std::sync::{Mutex, Wait};
+use std::thread;
+use std::thread::Threads;
+use std::time::Clock;
+
+/// The run of one ledger.
+pub(crate) fn run_by<L: Bench + Send + Sync, G: Gate + Sync, R: Threads + Wait + Clock + Sync>(
+    rt: &R,
+    alloc: Global,
+    verified: &Verified,
+    arguments: &[i64],
+    memory: Memory,
+    workers: usize,
+    gate: &G,
+    blank: Blank,
+) -> Result<Recorded, RunFault>
+    requires made { IsMadeFor verified.now memory }
+    requires code { verified.now ≡ L.code }
+    requires crew { workers ≡ L.crew }
+    requires name { blank.name ≡ L.name }
+    requires parts { blank.parts ≡ L.parts }
+    requires one_each { blank.parts ≡ workers }
+    ensures answer { IfOk result (λ run. IsSerialAnswer (origin verified.now arguments.now memory workers) run.finished) }
+    ensures replays { IfOk result (λ run. LeadTo (origin verified.now arguments.now memory workers) run.history.events run.finished) }
+    ensures in_range { OnOk result (IsNumberOfWorkers workers) }
+    ensures met { OnOk result (unmet_in verified.now arguments.now ≡ None) }
+    ensures bad_arguments { (requirement : ℕ) → unmet_in verified.now arguments.now ≡ Some requirement
+        → result ≡ Err (RunFault.BadArguments requirement memory) }
+    ensures bad_workers { unmet_in verified.now arguments.now ≡ None → ¬ IsNumberOfWorkers workers → result ≡ Err (RunFault.BadWorkers memory) }
+    ensures only_bad_arguments { (requirement : ℕ) (m : Memory) → result ≡ Err (RunFault.BadArguments requirement m)
+        → unmet_in verified.now arguments.now ≡ Some requirement }
+    ensures only_bad_workers { (m : Memory) → result ≡ Err (RunFault.BadWorkers m) → ¬ IsNumberOfWorkers workers }
+{
+    let (mut shared, mut seats) = Shared::<L>::new(
+        alloc, verified, arguments, memory, workers, blank,
+    )?;
+    let Ok(places) = places_of(alloc, verified) else {
+        return Err(RunFault::OutOfMemory);
+    };
+    let Ok(mut figures) = no_figures(alloc, workers) else {
+        return Err(RunFault::OutOfMemory);
+    };
+    for _ in rt.forever() {
+        let own = figures.as_mut_slice();
+        let round = round(rt, alloc, verified, &places, &shared, seats, own, gate);
+        let Ok((back, left)) = round else {
+            return Err(RunFault::OutOfMemory);
+        };
+        match (shared.finish(back), left) {
+            (Ok((finished, history)), _) => {
+                return Ok(Recorded {
+                    finished,
+                    history,
+                    figures,
+                });
+            }
+            (Err(_), Left::Starved) => return Err(RunFault::OutOfMemory),
+            (Err(_), Left::Stopped) => return Err(RunFault::Stopped),
+            (Err((board, all)), Left::Over) => {
+                shared = board;
+                seats = all;
+            }
+        }
+    }
+    unreachable!()
+}
+
+/// Nothing was done yet by so many workers.
+fn no_figures(alloc: Global, workers: usize) -> Result<Vec<Figures>, OutOfMemory> {
+    Ok(vec![in alloc; Figures::none(); workers]?)
+}
+
+/// Lets all workers work until they leave: their seats, and why they left.
+fn round<L: Bench + Send + Sync, G: Gate + Sync, R: Threads + Wait + Clock + Sync>(
+    rt: &R,
+    alloc: Global,
+    verified: &Verified,
+    places: &Places,
+    shared: &Shared<'_, L>,
+    seats: Vec<Seat<L>>,
+    figures: &mut [Figures],
+    gate: &G,
+) -> Result<(Vec<Seat<L>>, Left), OutOfMemory>
+    requires code { verified.now ≡ L.code }
+    requires places { ArePlaces verified.now places.now }
+    ensures { IfOk result (λ back. vec_len back.0 ≡ vec_len seats) }
+{
+    let room = Vec::with_capacity(alloc, seats.len())?;
+    let crew = crew_of(alloc, seats, figures, verified, places)?;
+    work_together(rt, shared, gate, crew.as_slice());
+    Ok(disband(crew, room, figures))
+}
+
+/// The last worker works on the calling thread, each other one on a thread of its own. One whose thread cannot be started takes no part.
+fn work_together<'x, L: Bench + Send + Sync, G: Gate + Sync, R: Threads + Wait + Clock + Sync>(
+    rt: &'x R,
+    shared: &'x Shared<'_, L>,
+    gate: &'x G,
+    crew: &'x [Mutex<Worker<'_, L>>],
+) {
+    let word = CachePadded::new(AtomicBool::new(false));
+    let over: &AtomicBool = &word;
+    let last = crew.len().saturating_sub(1);
+    thread::scope(thread::scope_env(), rt, move |scope| {
+        for number in 0..last {
+            let _ = scope.spawn(move || work_as(rt, shared, over, gate, crew, number));
+        }
+        work_as(rt, shared, over, gate, crew, last);
+    });
+}
+
+/// The work of the worker that stands there in the crew. Its thread has it locked throughout.
+fn work_as<L: Bench, G: Gate, R: Wait + Clock>(
+    rt: &R,
+    shared: &Shared<'_, L>,
+    over: &AtomicBool,
+    gate: &G,
+    crew: &[Mutex<Worker<'_, L>>],
+    number: usize,
+) {
+    if let Some(worker) = crew.get(number) {
+        let mut worker = worker.lock(rt);
+        work(rt, shared, over, gate, &mut worker);
+    }
+}
