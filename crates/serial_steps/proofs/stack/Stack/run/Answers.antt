@@ -45,7 +45,7 @@ loop-budget-preserved c =
     let high = suc (length new.below.items) in
     let on : (globals : List ℕ) (start : Run) (peak : ℕ) → RunsSafely globals prog budget start → HasWalked globals prog places start n peak old → HasWalked globals prog places start (m + 1) (max peak high) new =
     λ globals start peak safe h. subst (Turned globals prog places start (m + 1) peak new) c.in_default.is
-        (turned globals prog places budget m (m + 1) peak start mid new _ safe (walked_on globals prog places budget n m peak start old mid safe h c.comes_to_border.ensures.led) refl c.in_ok-result.ensures.goes) in
+    (turned globals prog places budget m (m + 1) peak start mid new _ safe (walked_on globals prog places budget n m peak start old mid safe h c.comes_to_border.ensures.led) refl c.in_ok-result.ensures.goes) in
     let a = c.len.ensures in
     let b = new.below.ok.0 in
     let long : c.len.result + 1 ≡ high = omega (arith, a, b) in
