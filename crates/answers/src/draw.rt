@@ -25,7 +25,7 @@ fn replay_drawn<W: Write>(
     }
     match read_schedule(job.alloc, text.as_bytes()) {
         Ok(events) => run_replay(job, memory, events.as_slice(), output, beside),
-        Err(fault) => print_schedule_fault(&fault, output),
+        Err(fault) => print_schedule_fault(job, &fault, output, beside),
     }
 }
 

@@ -6,7 +6,7 @@ ghost use Rattle.serial_machine.specs.store.Made.{HasGlobalCells, IsMadeFor};
 
 use crate::dialogue::converse;
 use crate::job::{Job, print_schedule_fault};
-use command_line::{CellWord, Setting, Verb};
+use command_line::{CellWord, Setting};
 use debugger::{
     Debugger, Event, Finished, Machine, Memory, RunFault, Verified, read_schedule, replay,
 };
@@ -41,7 +41,7 @@ pub fn run_schedule<W: Write>(
     };
     match read_schedule(job.alloc, text) {
         Ok(events) => run_events(job, events.as_slice(), output, beside),
-        Err(fault) => print_schedule_fault(&fault, output),
+        Err(fault) => print_schedule_fault(job, &fault, output, beside),
     }
 }
 
@@ -65,7 +65,7 @@ pub fn debug<R: Read, W: Write>(
     };
     match read_schedule(job.alloc, text) {
         Ok(events) => debug_events(job, events, input, output, beside),
-        Err(fault) => print_schedule_fault(&fault, output),
+        Err(fault) => print_schedule_fault(job, &fault, output, beside),
     }
 }
 
@@ -102,7 +102,7 @@ pub fn prepared(job: &Job<'_>) -> Result<Memory, Status>
         return Err(Status::Stopped);
     };
     let request = job.request;
-    let has_shown = request.verb == Verb::Debug || has_cells(&memory, request.show.as_slice());
+    let has_shown = has_cells(&memory, request.show.as_slice());
     if set_cells(&mut memory, request.set.as_slice()) && has_shown {
         Ok(memory)
     } else {

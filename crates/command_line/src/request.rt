@@ -24,6 +24,10 @@ pub enum Verb {
     Show,
     /// Put in the annotations that follow from others.
     Annotate,
+    /// Print a script that completes the words of a shell.
+    Completions,
+    /// Print the manual page.
+    Man,
 }
 
 impl Verb {
@@ -41,8 +45,18 @@ impl Verb {
             Verb::Print => "print",
             Verb::Show => "show",
             Verb::Annotate => "annotate",
+            Verb::Completions => "completions",
+            Verb::Man => "man",
         }
     }
+}
+
+/// A shell whose words are completed.
+#[derive(Clone, Copy)]
+pub enum Shell {
+    Bash,
+    Zsh,
+    Fish,
 }
 
 /// A cell of a global, as `@a:5` names it.
@@ -81,6 +95,8 @@ pub struct Request {
     pub effort: Option<u64>,
     /// The number of the rule to print in place of a module, for the verb that takes one.
     pub rule: Option<u16>,
+    /// The shell whose words to complete, for the verb that takes one.
+    pub shell: Option<Shell>,
     /// How the verb tells of the run, and where to.
     pub telling: Telling,
 }
@@ -99,6 +115,7 @@ impl Drop for Request {
             table: _,
             effort: _,
             rule: _,
+            shell: _,
             telling: _,
         } = self;
     }
@@ -120,6 +137,7 @@ impl Request {
             table: None,
             effort: None,
             rule: None,
+            shell: None,
             telling: Telling::nothing(),
         }
     }
@@ -152,6 +170,8 @@ pub struct WordsFault {
     /// Empty where memory was refused.
     pub text: Option<String>,
     pub memory: bool,
+    /// Whether the text is what was asked for, and no fault.
+    pub is_asked: bool,
 }
 
 impl WordsFault {
@@ -159,6 +179,16 @@ impl WordsFault {
         WordsFault {
             text: Some(text),
             memory: false,
+            is_asked: false,
+        }
+    }
+
+    /// What the words ask for instead of a request.
+    pub fn asked(text: String) -> WordsFault {
+        WordsFault {
+            text: Some(text),
+            memory: false,
+            is_asked: true,
         }
     }
 
@@ -166,6 +196,7 @@ impl WordsFault {
         WordsFault {
             text: None,
             memory: true,
+            is_asked: false,
         }
     }
 }

@@ -60,6 +60,10 @@ fn stop_for_memory(rt: &impl Print) -> Status {
 /// Prints why words are no request, and answers the status.
 fn refuse_words(rt: &(impl Print + Eprint), fault: &WordsFault) -> Status {
     match &fault.text {
+        Some(text) if fault.is_asked => match rt.print(text) {
+            Ok(()) => Status::Done,
+            Err(_) => Status::Stream,
+        },
         Some(text) => {
             let _ = rt.eprint(text);
             Status::Words
@@ -168,10 +172,21 @@ fn tell_beside<R: AllocGlobal + Eprint + Files>(
 
 /// Reads the files, does what is asked and answers the status.
 fn obey<
-    R: AllocGlobal + Clock + Eprint + Files + Input + Print + RandomSource + Sync + Threads + Wait,
->(rt: &R, request: &Request) -> io::Result<u8> {
+    R: AllocGlobal
+        + Clock
+        + Env
+        + Eprint
+        + Files
+        + Input
+        + Print
+        + RandomSource
+        + Sync
+        + Threads
+        + Wait,
+>(rt: &R, request: &Request, has_terminal: bool) -> io::Result<u8> {
     let texts = read_texts(rt, request)?;
     let mut beside = Beside::nothing(rt.alloc());
+    beside.has_colours = has_terminal && !has_no_colours(rt);
     let status = answer(rt, request, &texts, &mut beside)?;
     Ok(tell_beside(rt, request, &texts, &beside, status))
 }
@@ -193,11 +208,29 @@ fn finish<W: Write + Drop>(rt: &impl Eprint, status: u8, output: BufWriter<W>) -
     }
     match output.flush() {
         Ok(()) => status,
+        // Whoever read the output wants no more of it.
+        Err(error) if error.kind() == ErrorKind::BrokenPipe => Status::Stream as u8,
         Err(error) => {
             complain(rt, "standard output", &error);
             Status::Stream as u8
         }
     }
+}
+
+/// Whether the environment says that no colours are wanted: `NO_COLOR` has a value, or the terminal is called dumb.
+fn has_no_colours(rt: &impl Env) -> bool {
+    let mut first = [0u8; 1];
+    let is_asked = match rt.var("NO_COLOR", &mut first) {
+        Ok(length) => length > 0,
+        Err(FillError::TooLong) => true,
+        Err(FillError::NotPresent) => false,
+    };
+    let mut name = [0u8; 8];
+    let is_dumb = match rt.var("TERM", &mut name) {
+        Ok(4) => name.as_slice().starts_with(b"dumb"),
+        _ => false,
+    };
+    is_asked || is_dumb
 }
 
 /// Reads the program's words and obeys them.
@@ -213,17 +246,17 @@ fn obey_words<
         + Sync
         + Threads
         + Wait,
->(rt: &R) -> io::Result<u8> {
+>(rt: &R, has_terminal: bool) -> io::Result<u8> {
     let alloc = rt.alloc();
     let texts = read_words(rt)?;
     let list: Vec<&str> = texts.iter().map(|t| t.as_str()).collect(alloc)?;
     match words(alloc, list.as_slice()) {
-        Ok(request) => obey(rt, &request),
+        Ok(request) => obey(rt, &request, has_terminal),
         Err(fault) => Ok(refuse_words(rt, &fault) as u8),
     }
 }
 
-/// Does what the program's words ask for, and answers its exit status.
+/// Does what the program's words ask for, and answers its exit status. The caller says whether standard error is a terminal.
 pub fn run<
     R: AllocGlobal
         + Clock
@@ -236,8 +269,8 @@ pub fn run<
         + Sync
         + Threads
         + Wait,
->(rt: &R) -> u8 {
-    match obey_words(rt) {
+>(rt: &R, has_terminal: bool) -> u8 {
+    match obey_words(rt, has_terminal) {
         Ok(status) => status,
         Err(error) if error.kind() == ErrorKind::OutOfMemory => stop_for_memory(rt) as u8,
         Err(error) => {

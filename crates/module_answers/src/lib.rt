@@ -4,6 +4,7 @@
 
 mod accepted;
 mod beside;
+mod faults;
 mod files;
 mod reasons;
 mod refusals;
@@ -12,6 +13,7 @@ mod status;
 
 pub use accepted::print_verified;
 pub use beside::Beside;
+pub use faults::note_unverified;
 pub use files::{read_file, read_text, write_file};
 pub use reasons::print_rule;
 pub use refusals::{fail, print_refused, print_unreadable, print_unverified, stop_for_memory};

@@ -1,8 +1,9 @@
 //! The program `tapirvm`: reads a module, verifies it and runs it.
 #![tactic(auto)]
 
+use std::io::IsTerminal;
 use std::process::ExitCode;
 
 fn main(rt: HostRuntime) -> ExitCode {
-    ExitCode::from(commands::run(&rt))
+    ExitCode::from(commands::run(&rt, rt.stderr().is_terminal()))
 }
