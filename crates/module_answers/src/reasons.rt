@@ -1,6 +1,7 @@
 //! What `explain` prints: a rule, or why a module is refused.
 
-use crate::refusals::stop_for_memory;
+use crate::beside::Beside;
+use crate::refusals::{print_undecided, stop_for_memory};
 use crate::status::Status;
 use explain::{Explanation, explain, rule_text, told};
 use lists::OutOfMemory;
@@ -8,29 +9,35 @@ use std::alloc::Global;
 use std::hash::RandomState;
 use std::io;
 use std::io::Write;
+use verifier::Effort;
 
-/// The text of an explanation, and the status: 1 where the module is refused.
+/// The text of an explanation, and the status: 1 where the module is refused, 3 where there is no verdict.
 fn explained(
     alloc: Global,
     state: RandomState,
     text: &[u8],
+    effort: &Effort,
 ) -> Result<(String, Status), OutOfMemory> {
-    let explanation = explain(alloc, state, text)?;
+    let explanation = explain(alloc, state, text, effort)?;
     let status = match &explanation {
         Explanation::Accepted { .. } => Status::Done,
         Explanation::Refused { .. } => Status::Refused,
+        Explanation::Undecided => Status::Stopped,
     };
     Ok((told(alloc, text, &explanation)?, status))
 }
 
-/// Prints why a module is refused, or what it could do without.
+/// Prints why a module is refused, or what it could do without, as far as the effort reaches.
 pub fn print_explanation<W: Write>(
     alloc: Global,
     state: RandomState,
     text: &[u8],
+    effort: &Effort,
     output: &mut W,
+    beside: &mut Beside,
 ) -> io::Result<Status> {
-    match explained(alloc, state, text) {
+    match explained(alloc, state, text, effort) {
+        Ok((_, Status::Stopped)) => print_undecided(output, beside),
         Ok((told, status)) => {
             output.write_all(told.as_bytes())?;
             Ok(status)
