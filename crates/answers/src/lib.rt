@@ -17,11 +17,11 @@ pub use command_line::{
 };
 pub use debugger::{
     Debugger, Event, Finished, Machine, Memory, RunFault, Status as Standing, TaskView, Verified,
-    read_schedule, replay, verify,
+    read_schedule, replay, verify, verify_within,
 };
 pub use job::Job;
 pub use module_answers::{
-    Beside, Status, fail, print_refused, print_unreadable, read_file, read_text, write_file,
+    Beside, Status, fail, print_unreadable, print_unverified, read_file, read_text, write_file,
 };
-pub use requests::answer;
+pub use requests::{answer, effort_of};
 pub use runs::{prepared, print_run, print_unprepared};

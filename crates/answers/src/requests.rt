@@ -15,24 +15,12 @@ use std::hash::RandomState;
 use std::io;
 use std::io::{Read, Write};
 
-/// The steps of search for a verdict that are granted where a command line that asks for the verdict alone names none: a second or two.
+/// The steps of search for a verdict that are granted where a command line names none: a second or two.
 const PLAIN_EFFORT: u64 = 1_000_000_000;
 
-/// The effort that a request grants. Who runs a module wants to run it, however long its verdict takes.
-fn effort_of(request: &Request) -> Effort {
-    match request.verb {
-        Verb::Verify => Effort::of(request.effort.unwrap_or(PLAIN_EFFORT)),
-        Verb::Explain
-        | Verb::Serial
-        | Verb::Run
-        | Verb::Replay
-        | Verb::Debug
-        | Verb::Print
-        | Verb::Show
-        | Verb::Annotate
-        | Verb::Completions
-        | Verb::Man => Effort::unlimited(),
-    }
+/// The effort that a request grants.
+pub fn effort_of(request: &Request) -> Effort {
+    Effort::of(request.effort.unwrap_or(PLAIN_EFFORT))
 }
 
 /// Prints what is made of the program's own words; none where the request is for a module.
@@ -71,10 +59,11 @@ pub fn answer<R: Read, W: Write>(
     let Some(text) = module else {
         return print_unreadable(alloc, request.file.as_str(), output);
     };
-    if let Some(status) = answer_text(alloc, state, request, text, output, beside)? {
+    let effort = effort_of(request);
+    if let Some(status) = answer_text(alloc, state, request, text, &effort, output, beside)? {
         return Ok(status);
     }
-    match verify_within(alloc, state, text, &effort_of(request)) {
+    match verify_within(alloc, state, text, &effort) {
         Ok(verified) => {
             let job = Job {
                 alloc,

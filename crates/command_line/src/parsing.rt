@@ -339,15 +339,19 @@ static MODULE_PARTS: [Part; 1] = [FILE];
 
 static VERIFY_PARTS: [Part; 3] = [FILE, TABLE, EFFORT];
 
-static EXPLAIN_PARTS: [Part; 1] = [FILE_OR_NUMBER];
+static EXPLAIN_PARTS: [Part; 2] = [FILE_OR_NUMBER, EFFORT];
 
-static SERIAL_PARTS: [Part; 4] = [FILE, ARG, SET, SHOW];
+static KNOWN_PARTS: [Part; 2] = [FILE, EFFORT];
 
-static RUN_PARTS: [Part; 7] = [FILE, ARG, SET, SHOW, WORKERS, SEED, SAVE];
+static SERIAL_PARTS: [Part; 5] = [FILE, ARG, SET, SHOW, EFFORT];
 
-static REPLAY_PARTS: [Part; 8] = [FILE, ARG, SET, SHOW, SCHEDULE, WORKERS, TRACE, PICTURE];
+static RUN_PARTS: [Part; 8] = [FILE, ARG, SET, SHOW, WORKERS, SEED, SAVE, EFFORT];
 
-static DEBUG_PARTS: [Part; 6] = [FILE, ARG, SET, SHOW, SCHEDULE, WORKERS];
+static REPLAY_PARTS: [Part; 9] = [
+    FILE, ARG, SET, SHOW, SCHEDULE, WORKERS, TRACE, PICTURE, EFFORT,
+];
+
+static DEBUG_PARTS: [Part; 7] = [FILE, ARG, SET, SHOW, SCHEDULE, WORKERS, EFFORT];
 
 static COMPLETIONS_PARTS: [Part; 1] = [SHELL];
 
@@ -428,7 +432,8 @@ pub(crate) fn parts_of(verb: Verb) -> &'static [Part] {
         Verb::Debug => &DEBUG_PARTS,
         Verb::Completions => &COMPLETIONS_PARTS,
         Verb::Man => &MAN_PARTS,
-        Verb::Print | Verb::Show | Verb::Annotate => &MODULE_PARTS,
+        Verb::Show => &KNOWN_PARTS,
+        Verb::Print | Verb::Annotate => &MODULE_PARTS,
     }
 }
 
@@ -532,7 +537,7 @@ fn read_running(
     request.args = args_of(alloc, matches)?;
     request.set = settings_of(alloc, matches)?;
     request.show = cells_of(alloc, matches)?;
-    Ok(())
+    read_effort(alloc, matches, request)
 }
 
 /// The number of an option, if it is given.
@@ -551,6 +556,18 @@ fn number_of(
     }
 }
 
+/// Reads how much searching is granted.
+fn read_effort(
+    alloc: Global,
+    matches: &ArgMatches<'_>,
+    request: &mut Request,
+) -> Result<(), WordsFault>
+    ensures { request.new.verb ≡ request.old.verb }
+{
+    request.effort = number_of(alloc, matches, "effort", "--effort <N>")?;
+    Ok(())
+}
+
 /// Reads the options of a verification.
 fn read_verify(
     alloc: Global,
@@ -560,8 +577,19 @@ fn read_verify(
     ensures { request.new.verb ≡ request.old.verb }
 {
     request.table = table_of(alloc, matches)?;
-    request.effort = number_of(alloc, matches, "effort", "--effort <N>")?;
-    Ok(())
+    read_effort(alloc, matches, request)
+}
+
+/// Reads the options of an explanation.
+fn read_explain(
+    alloc: Global,
+    matches: &ArgMatches<'_>,
+    request: &mut Request,
+) -> Result<(), WordsFault>
+    ensures { request.new.verb ≡ request.old.verb }
+{
+    request.rule = rule_of(alloc, request.file.as_str())?;
+    read_effort(alloc, matches, request)
 }
 
 /// The file that an option names.
@@ -627,13 +655,14 @@ fn read_options(
 {
     match request.verb {
         Verb::Verify => read_verify(alloc, matches, request)?,
-        Verb::Explain => request.rule = rule_of(alloc, request.file.as_str())?,
+        Verb::Explain => read_explain(alloc, matches, request)?,
         Verb::Run => read_run(alloc, matches, request)?,
         Verb::Replay => read_replay(alloc, matches, request)?,
         Verb::Debug => read_scheduled(alloc, matches, request)?,
         Verb::Serial => read_running(alloc, matches, request)?,
         Verb::Completions => request.shell = Some(shell_of(alloc, request.file.as_str())?),
-        Verb::Print | Verb::Show | Verb::Annotate | Verb::Man => {}
+        Verb::Show => read_effort(alloc, matches, request)?,
+        Verb::Print | Verb::Annotate | Verb::Man => {}
     }
     Ok(())
 }

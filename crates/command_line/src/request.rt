@@ -91,7 +91,7 @@ pub struct Request {
     pub show: Vec<CellWord>,
     /// The name, without `@`, of the function whose costs to print, for the verb that takes one.
     pub table: Option<String>,
-    /// How many steps of search a verdict may take, for the verb that takes a number.
+    /// How many steps of search a verdict may take, where a number is named; of the verbs that ask for one.
     pub effort: Option<u64>,
     /// The number of the rule to print in place of a module, for the verb that takes one.
     pub rule: Option<u16>,

@@ -1,8 +1,8 @@
 //! Runs on threads, and all other answers.
 
 use answers::{
-    Beside, Job, Request, Status, Verb, answer, fail, prepared, print_refused, print_run,
-    print_unprepared, print_unreadable, verify,
+    Beside, Job, Request, Status, Verb, answer, effort_of, fail, prepared, print_run,
+    print_unprepared, print_unreadable, print_unverified, verify_within,
 };
 use deque_pool::OpenGate;
 use std::alloc::Global;
@@ -57,7 +57,7 @@ fn verify_and_run<T: Threads + Wait + Clock + Sync, W: Write>(
     let Some(text) = module else {
         return print_unreadable(alloc, request.file.as_str(), output);
     };
-    match verify(alloc, state, text) {
+    match verify_within(alloc, state, text, &effort_of(request)) {
         Ok(verified) => {
             let job = Job {
                 alloc,
@@ -68,7 +68,7 @@ fn verify_and_run<T: Threads + Wait + Clock + Sync, W: Write>(
             };
             run_on_workers(rt, &job, output, beside)
         }
-        Err(refused) => print_refused(&refused, output),
+        Err(unverified) => print_unverified(&unverified, output, beside),
     }
 }
 

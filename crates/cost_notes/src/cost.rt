@@ -10,7 +10,7 @@ use program::{
     Terminator,
 };
 use ranges::{
-    BlockFacts, EdgeFacts, Effort, Move, Sum, argument_moves, block_facts, push_parts, shows,
+    BlockFacts, EdgeFacts, Effort, Move, Sum, Unanswered, argument_moves, block_facts, push_parts,
     start_facts, stated,
 };
 use std::alloc::Global;
@@ -183,7 +183,7 @@ impl Doing<'_> {
         shares: &[Share<'_>],
         rest: &Sum,
         out: &mut String,
-    ) -> Result<(), OutOfMemory> {
+    ) -> Result<(), Unanswered> {
         self.push_own(alloc, counted, out)?;
         for share in shares {
             self.push_share(alloc, counted, share, out)?;
@@ -200,9 +200,9 @@ impl Doing<'_> {
         counted: Counted,
         shares: &[Share<'_>],
         out: &mut String,
-    ) -> Result<bool, OutOfMemory> {
+    ) -> Result<bool, Unanswered> {
         let rest = self.rest(alloc, counted, shares)?;
-        if shows(alloc, self.known.facts, &rest)? {
+        if self.known.shows(alloc, &rest)? {
             return Ok(false);
         }
         self.push_sides(alloc, counted, shares, &rest, out)?;
@@ -215,7 +215,7 @@ impl Doing<'_> {
         alloc: Global,
         shares: &[Share<'_>],
         findings: &mut Vec<Finding>,
-    ) -> Result<(), OutOfMemory> {
+    ) -> Result<(), Unanswered> {
         let mut notes = String::new(alloc);
         let calls = self.push_counted(alloc, Counted::SelfCalls, shares, &mut notes)?;
         let instructions = self.push_counted(alloc, Counted::Instructions, shares, &mut notes)?;
@@ -244,7 +244,7 @@ fn push_edge<'a>(
     there: Doing<'a>,
     edge: &'a EdgeFacts,
     findings: &mut Vec<Finding>,
-) -> Result<(), OutOfMemory> {
+) -> Result<(), Unanswered> {
     let function = there.known.scene.function;
     match share_of(function, edge.to, edge.moves.as_slice()) {
         Some(share) => there.push_fault(alloc, &[share], findings),
@@ -258,7 +258,7 @@ fn push_edges(
     doing: Doing<'_>,
     edges: &[EdgeFacts],
     findings: &mut Vec<Finding>,
-) -> Result<(), OutOfMemory> {
+) -> Result<(), Unanswered> {
     for edge in edges {
         let facts = edge_known(alloc, doing.known.facts, edge)?;
         let there = Doing {
@@ -280,7 +280,7 @@ fn push_ending(
     ending: &Ending,
     edges: &[EdgeFacts],
     findings: &mut Vec<Finding>,
-) -> Result<(), OutOfMemory> {
+) -> Result<(), Unanswered> {
     let function = doing.known.scene.function;
     match &ending.terminator {
         Terminator::Return { .. } | Terminator::Reattach { .. } => {
@@ -308,7 +308,7 @@ fn push_unshown(
     what: &str,
     sum: &Sum,
     notes: &mut String,
-) -> Result<(), OutOfMemory> {
+) -> Result<(), Unanswered> {
     write!(notes, "  {what}: ")?;
     known.push_gap(alloc, sum, notes)?;
     Ok(notes.push_str("\n")?)
@@ -321,8 +321,8 @@ fn push_sum(
     what: &str,
     sum: &Sum,
     notes: &mut String,
-) -> Result<(), OutOfMemory> {
-    if shows(alloc, known.facts, sum)? {
+) -> Result<(), Unanswered> {
+    if known.shows(alloc, sum)? {
         Ok(())
     } else {
         push_unshown(alloc, known, what, sum, notes)
@@ -336,7 +336,7 @@ fn push_low(
     what: &str,
     form: &Form,
     notes: &mut String,
-) -> Result<(), OutOfMemory> {
+) -> Result<(), Unanswered> {
     let sum = put_in(alloc, &[], form)?;
     push_sum(alloc, known, what, &sum, notes)
 }
@@ -349,7 +349,7 @@ fn push_high(
     number: u64,
     form: &Form,
     notes: &mut String,
-) -> Result<(), OutOfMemory> {
+) -> Result<(), Unanswered> {
     let sum = number_less(alloc, i128::from(number), &[], form)?;
     push_sum(alloc, known, what, &sum, notes)
 }
@@ -359,12 +359,11 @@ fn push_if_any(
     number: u16,
     line: u32,
     notes: String,
-) -> Result<(), OutOfMemory> {
-    if notes.is_empty() {
-        Ok(())
-    } else {
-        push_finding(findings, number, line, notes)
+) -> Result<(), Unanswered> {
+    if !notes.is_empty() {
+        push_finding(findings, number, line, notes)?;
     }
+    Ok(())
 }
 
 /// 701 of a block.
@@ -373,7 +372,7 @@ fn push_start(
     known: Known<'_>,
     left: &Left,
     findings: &mut Vec<Finding>,
-) -> Result<(), OutOfMemory> {
+) -> Result<(), Unanswered> {
     let mut notes = String::new(alloc);
     push_left_notes(alloc, known, left, &mut notes)?;
     push_if_any(findings, 701, left.line, notes)
@@ -384,7 +383,7 @@ fn push_left_notes(
     known: Known<'_>,
     left: &Left,
     notes: &mut String,
-) -> Result<(), OutOfMemory> {
+) -> Result<(), Unanswered> {
     push_low(alloc, known, "self calls left", &left.self_calls, notes)?;
     push_low(alloc, known, "instructions left", &left.instructions, notes)
 }
@@ -395,7 +394,7 @@ fn push_call(
     known: Known<'_>,
     step: &Step,
     findings: &mut Vec<Finding>,
-) -> Result<(), OutOfMemory> {
+) -> Result<(), Unanswered> {
     let Instruction::Call {
         callee,
         arguments,
@@ -431,13 +430,13 @@ fn call_notes(
     alloc: Global,
     known: Known<'_>,
     arguments: &[Argument],
-) -> Result<String, OutOfMemory> {
+) -> Result<String, Unanswered> {
     let mut notes = String::new(alloc);
     push_call_notes(alloc, known, arguments, &mut notes)?;
     if notes.is_empty() || has_measure(known.scene.function) {
         Ok(notes)
     } else {
-        without_measure(alloc, known.scene)
+        Ok(without_measure(alloc, known.scene)?)
     }
 }
 
@@ -447,7 +446,7 @@ fn push_call_notes(
     known: Known<'_>,
     arguments: &[Argument],
     notes: &mut String,
-) -> Result<(), OutOfMemory> {
+) -> Result<(), Unanswered> {
     let form = &known.scene.function.measure.form;
     let moves = argument_moves(alloc, arguments)?;
     let next = put_in(alloc, moves.as_slice(), form)?;
@@ -461,7 +460,7 @@ fn push_next_notes(
     form: &Form,
     next: &Sum,
     notes: &mut String,
-) -> Result<(), OutOfMemory> {
+) -> Result<(), Unanswered> {
     push_sum(
         alloc,
         known,
@@ -477,8 +476,9 @@ fn push_next_notes(
 fn push_head(
     alloc: Global,
     scene: &Scene<'_>,
+    effort: &Effort,
     findings: &mut Vec<Finding>,
-) -> Result<(), OutOfMemory> {
+) -> Result<(), Unanswered> {
     let function = scene.function;
     let Some(entry) = function.blocks.as_slice().first() else {
         return Ok(());
@@ -491,6 +491,7 @@ fn push_head(
         lines: lines.as_slice(),
         stated: facts.len(),
         line: function.line,
+        effort,
     };
     push_measure(alloc, known, findings)?;
     push_budget(alloc, known, &entry.left, findings)
@@ -500,7 +501,7 @@ fn push_measure(
     alloc: Global,
     known: Known<'_>,
     findings: &mut Vec<Finding>,
-) -> Result<(), OutOfMemory> {
+) -> Result<(), Unanswered> {
     let measure = &known.scene.function.measure;
     let mut notes = String::new(alloc);
     push_measure_notes(alloc, known, measure, &mut notes)?;
@@ -512,7 +513,7 @@ fn push_measure_notes(
     known: Known<'_>,
     measure: &Measure,
     notes: &mut String,
-) -> Result<(), OutOfMemory> {
+) -> Result<(), Unanswered> {
     let form = &measure.form;
     push_low(alloc, known, "the measure is at least 0", form, notes)?;
     let what = "the measure is at most its bound";
@@ -524,7 +525,7 @@ fn push_budget(
     known: Known<'_>,
     left: &Left,
     findings: &mut Vec<Finding>,
-) -> Result<(), OutOfMemory> {
+) -> Result<(), Unanswered> {
     let budget = &known.scene.function.budget;
     let mut notes = String::new(alloc);
     push_budget_notes(alloc, known, budget, left, &mut notes)?;
@@ -537,7 +538,7 @@ fn push_budget_notes(
     budget: &Budget,
     left: &Left,
     notes: &mut String,
-) -> Result<(), OutOfMemory> {
+) -> Result<(), Unanswered> {
     let what = "self calls left at the entry";
     push_high(
         alloc,
@@ -585,17 +586,11 @@ fn push_block<'a>(
     scene: &'a Scene<'a>,
     index: usize,
     block: &'a Block,
+    effort: &'a Effort,
     findings: &mut Vec<Finding>,
-) -> Result<(), OutOfMemory> {
-    let (table, _) = block_facts(
-        alloc,
-        scene.program,
-        scene.function,
-        index,
-        block,
-        &Effort::unlimited(),
-    )?;
-    push_tabled_block(alloc, &*scene, index, &*block, &table, findings)
+) -> Result<(), Unanswered> {
+    let (table, _) = block_facts(alloc, scene.program, scene.function, index, block, effort)?;
+    push_tabled_block(alloc, &*scene, index, &*block, &table, effort, findings)
 }
 
 /// Adds the faults inside a block with this table of facts.
@@ -605,8 +600,9 @@ fn push_tabled_block<'a>(
     index: usize,
     block: &'a Block,
     table: &BlockFacts,
+    effort: &'a Effort,
     findings: &mut Vec<Finding>,
-) -> Result<(), OutOfMemory> {
+) -> Result<(), Unanswered> {
     let lines = fact_lines(alloc, scene.function, index, block, table)?;
     let start = start_facts(alloc, scene.function, index, block)?;
     let known = Known {
@@ -615,6 +611,7 @@ fn push_tabled_block<'a>(
         lines: lines.as_slice(),
         stated: start.len(),
         line: block.line,
+        effort,
     };
     push_known_block(alloc, known, block, table, findings)
 }
@@ -626,7 +623,7 @@ fn push_known_block(
     block: &Block,
     table: &BlockFacts,
     findings: &mut Vec<Finding>,
-) -> Result<(), OutOfMemory> {
+) -> Result<(), Unanswered> {
     push_start(alloc, known, &block.left, findings)?;
     push_steps(alloc, known, block, table, findings)?;
     let Some(ending) = &block.ending else {
@@ -651,7 +648,7 @@ fn push_steps(
     block: &Block,
     table: &BlockFacts,
     findings: &mut Vec<Finding>,
-) -> Result<(), OutOfMemory> {
+) -> Result<(), Unanswered> {
     for (place, step) in block.steps.as_slice().iter().enumerate() {
         let facts: &[Fact] = table.at_step(place);
         let there = Known {
@@ -668,24 +665,29 @@ fn push_function(
     alloc: Global,
     scene: &Scene<'_>,
     table: &Table,
+    effort: &Effort,
     findings: &mut Vec<Finding>,
-) -> Result<(), OutOfMemory> {
+) -> Result<(), Unanswered> {
     push_whole(alloc, scene, table, findings)?;
-    push_head(alloc, scene, findings)?;
+    push_head(alloc, scene, effort, findings)?;
     for (index, block) in scene.function.blocks.as_slice().iter().enumerate() {
-        push_block(alloc, &*scene, index, &*block, findings)?;
+        push_block(alloc, &*scene, index, &*block, &*effort, findings)?;
     }
     Ok(())
 }
 
-/// All faults of costs of a text whose numbers and zones are right.
-pub fn cost_findings(alloc: Global, matched: &Matched) -> Result<Vec<Finding>, OutOfMemory> {
+/// All faults of costs of a text whose numbers and zones are right, as far as the effort reaches.
+pub fn cost_findings(
+    alloc: Global,
+    matched: &Matched,
+    effort: &Effort,
+) -> Result<Vec<Finding>, Unanswered> {
     let program = &matched.graph.program;
     let table = make_table(alloc, program, &matched.regions)?;
     let mut findings: Vec<Finding> = Vec::new(alloc);
     for index in 0..program.functions.len() {
         if let Some(scene) = Scene::of(alloc, program, &matched.whole, index)? {
-            push_function(alloc, &scene, &table, &mut findings)?;
+            push_function(alloc, &scene, &table, effort, &mut findings)?;
         }
     }
     Ok(findings)

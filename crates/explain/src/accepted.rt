@@ -1,26 +1,38 @@
 //! What an accepted module could do without.
 
 use cost_notes::push_budgets;
+use fact_notes::spend;
 use findings::{Source, with_line_at};
 use ir_reader::read;
 use lists::OutOfMemory;
 use program::Program;
+use ranges::Unanswered;
 use std::alloc::Global;
-use verifier::{Refused, verify};
+use verifier::{Effort, Refused, Unverified, verify_within};
 
 /// How many annotations are tried: each asks the verifier once.
 const MOST_TRIED: usize = 1_000;
 
+/// The steps that a byte of a text counts for that is judged once more.
+const STEPS_A_BYTE: usize = 50;
+
 /// Whether the text without the line of this number is accepted.
-fn is_unneeded(alloc: Global, source: Source<'_>, number: u32) -> Result<bool, OutOfMemory> {
+fn is_unneeded(
+    alloc: Global,
+    source: Source<'_>,
+    number: u32,
+    effort: &Effort,
+) -> Result<bool, Unanswered> {
+    spend(effort, source.text.len().saturating_mul(STEPS_A_BYTE))?;
     let without = with_line_at(alloc, source.text, number, "")?;
-    match verify(alloc, source.state, without.as_bytes()) {
+    match verify_within(alloc, source.state, without.as_bytes(), effort) {
         Ok(verified) => {
             drop(verified);
             Ok(true)
         }
-        Err(Refused::Fault { .. }) => Ok(false),
-        Err(Refused::Memory) => Err(OutOfMemory),
+        Err(Unverified::Refused(Refused::Fault { .. })) => Ok(false),
+        Err(Unverified::Refused(Refused::Memory)) => Err(Unanswered::OutOfMemory),
+        Err(Unverified::OutOfEffort) => Err(Unanswered::OutOfEffort),
     }
 }
 
@@ -30,16 +42,22 @@ fn push_if_unneeded(
     source: Source<'_>,
     number: u32,
     words: &str,
+    effort: &Effort,
     out: &mut String,
-) -> Result<(), OutOfMemory> {
-    if is_unneeded(alloc, source, number)? {
+) -> Result<(), Unanswered> {
+    if is_unneeded(alloc, source, number, effort)? {
         writeln!(out, "accepted without line {number}: {words}")?;
     }
     Ok(())
 }
 
 /// The annotations without which the module is accepted as well, each taken away alone.
-fn push_unneeded(alloc: Global, source: Source<'_>, out: &mut String) -> Result<(), OutOfMemory> {
+fn push_unneeded(
+    alloc: Global,
+    source: Source<'_>,
+    effort: &Effort,
+    out: &mut String,
+) -> Result<(), Unanswered> {
     let mut number: u32 = 0;
     let mut tried: usize = 0;
     for line in source.text.lines() {
@@ -47,17 +65,18 @@ fn push_unneeded(alloc: Global, source: Source<'_>, out: &mut String) -> Result<
         let words = line.trim();
         if words.starts_with(";!") && tried < MOST_TRIED {
             tried = tried.saturating_add(1);
-            push_if_unneeded(alloc, source, number, words, out)?;
+            push_if_unneeded(alloc, source, number, words, effort, out)?;
         }
     }
     Ok(())
 }
 
-/// What each function's budget has left over, and the annotations that are not needed.
+/// What each function's budget has left over, and the annotations that are not needed, as far as the effort reaches.
 pub fn remarks(
     alloc: Global,
     source: Source<'_>,
     program: &Program,
+    effort: &Effort,
 ) -> Result<String, OutOfMemory> {
     let mut out = String::new(alloc);
     match read(alloc, source.state, source.text.as_bytes()) {
@@ -65,6 +84,12 @@ pub fn remarks(
         Err(Refused::Fault { .. }) => return Ok(out),
         Err(Refused::Memory) => return Err(OutOfMemory),
     }
-    push_unneeded(alloc, source, &mut out)?;
-    Ok(out)
+    match push_unneeded(alloc, source, effort, &mut out) {
+        Ok(()) => Ok(out),
+        Err(Unanswered::OutOfMemory) => Err(OutOfMemory),
+        Err(Unanswered::OutOfEffort) => {
+            out.push_str("the effort is spent: the other annotations are not tried\n")?;
+            Ok(out)
+        }
+    }
 }

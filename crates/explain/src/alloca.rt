@@ -2,11 +2,11 @@
 
 use findings::{Source, with_line_before};
 use footprints::address_cell;
-use lists::OutOfMemory;
 use program::{Address, Alloca, AllocaId, Argument, Block, Instruction, ObjectName, Step};
+use ranges::Unanswered;
 use scenes::{Matched, Scene, match_text};
 use std::alloc::{AllocError, Global};
-use verifier::{Refused, verify};
+use verifier::{Effort, Refused, Unverified, verify_within};
 
 fn alloca_of(object: ObjectName) -> Option<AllocaId> {
     match object {
@@ -29,11 +29,20 @@ fn push_argument_notes(
     scene: &Scene<'_>,
     line: u32,
     arguments: &[Argument],
+    effort: &Effort,
     notes: &mut String,
-) -> Result<(), OutOfMemory> {
+) -> Result<(), Unanswered> {
     for argument in arguments {
         if let Argument::Object(object) = argument {
-            push_alloca_notes(alloc, source, scene, line, alloca_of(*object), notes)?;
+            push_alloca_notes(
+                alloc,
+                source,
+                scene,
+                line,
+                alloca_of(*object),
+                effort,
+                notes,
+            )?;
         }
     }
     Ok(())
@@ -46,17 +55,19 @@ fn is_better(
     line: u32,
     after: u32,
     new: &str,
-) -> Result<bool, OutOfMemory> {
+    effort: &Effort,
+) -> Result<bool, Unanswered> {
     let changed = with_line_before(alloc, source.text, after.saturating_add(1), new)?;
-    match verify(alloc, source.state, changed.as_bytes()) {
+    match verify_within(alloc, source.state, changed.as_bytes(), effort) {
         Ok(verified) => {
             drop(verified);
             Ok(true)
         }
-        Err(Refused::Fault { number, line: at }) => {
+        Err(Unverified::Refused(Refused::Fault { number, line: at })) => {
             Ok(number > 402 || (number == 402 && at > line.saturating_add(1)))
         }
-        Err(Refused::Memory) => Err(OutOfMemory),
+        Err(Unverified::Refused(Refused::Memory)) => Err(Unanswered::OutOfMemory),
+        Err(Unverified::OutOfEffort) => Err(Unanswered::OutOfEffort),
     }
 }
 
@@ -90,11 +101,12 @@ fn push_store(
     name: &str,
     alloca: &Alloca,
     line: u32,
+    effort: &Effort,
     notes: &mut String,
-) -> Result<(), OutOfMemory> {
+) -> Result<(), Unanswered> {
     let after = alloca.line;
     let new = store_line(alloc, name, alloca.cells)?;
-    if is_better(alloc, source, line, after, new.as_str())? {
+    if is_better(alloc, source, line, after, new.as_str(), effort)? {
         writeln!(notes, "    try: {new}, after line {after}")?;
     }
     Ok(())
@@ -107,8 +119,9 @@ fn push_alloca_notes(
     scene: &Scene<'_>,
     line: u32,
     alloca: Option<AllocaId>,
+    effort: &Effort,
     notes: &mut String,
-) -> Result<(), OutOfMemory> {
+) -> Result<(), Unanswered> {
     let Some(id) = alloca else {
         return Ok(());
     };
@@ -117,7 +130,7 @@ fn push_alloca_notes(
     };
     let name = scene.register(found.register);
     push_read(notes, name, found, line)?;
-    push_store(alloc, source, name, found, line, notes)
+    push_store(alloc, source, name, found, line, effort, notes)
 }
 
 fn push_step_notes(
@@ -126,16 +139,25 @@ fn push_step_notes(
     scene: &Scene<'_>,
     block: &Block,
     step: &Step,
+    effort: &Effort,
     notes: &mut String,
-) -> Result<(), OutOfMemory> {
+) -> Result<(), Unanswered> {
     let steps = block.steps.as_slice();
     match &step.instruction {
         Instruction::Load { address, .. } | Instruction::AtomicAdd { address, .. } => {
             let read = alloca_at(steps, *address);
-            push_alloca_notes(alloc, source, scene, step.line, read, notes)
+            push_alloca_notes(alloc, source, scene, step.line, read, effort, notes)
         }
         Instruction::Call { arguments, .. } => {
-            push_argument_notes(alloc, source, scene, step.line, arguments.as_slice(), notes)
+            push_argument_notes(
+                alloc,
+                source,
+                scene,
+                step.line,
+                arguments.as_slice(),
+                effort,
+                notes,
+            )
         }
         _ => Ok(()),
     }
@@ -147,11 +169,12 @@ fn push_block_notes(
     scene: &Scene<'_>,
     line: u32,
     block: &Block,
+    effort: &Effort,
     notes: &mut String,
-) -> Result<(), OutOfMemory> {
+) -> Result<(), Unanswered> {
     for step in block.steps.as_slice() {
         if step.line == line {
-            push_step_notes(alloc, source, scene, block, step, notes)?;
+            push_step_notes(alloc, source, scene, block, step, effort, notes)?;
         }
     }
     Ok(())
@@ -162,10 +185,11 @@ fn push_scene_notes(
     source: Source<'_>,
     scene: &Scene<'_>,
     line: u32,
+    effort: &Effort,
     notes: &mut String,
-) -> Result<(), OutOfMemory> {
+) -> Result<(), Unanswered> {
     for block in scene.function.blocks.as_slice() {
-        push_block_notes(alloc, source, scene, line, block, notes)?;
+        push_block_notes(alloc, source, scene, line, block, effort, notes)?;
     }
     Ok(())
 }
@@ -175,23 +199,29 @@ fn push_program_notes(
     source: Source<'_>,
     matched: &Matched,
     line: u32,
+    effort: &Effort,
     notes: &mut String,
-) -> Result<(), OutOfMemory> {
+) -> Result<(), Unanswered> {
     let program = &matched.graph.program;
     for index in 0..program.functions.len() {
         if let Some(scene) = Scene::of(alloc, program, &matched.whole, index)? {
-            push_scene_notes(alloc, source, &scene, line, notes)?;
+            push_scene_notes(alloc, source, &scene, line, effort, notes)?;
         }
     }
     Ok(())
 }
 
 /// What there is to say of a line that reads cells without values.
-pub fn alloca_notes(alloc: Global, source: Source<'_>, line: u32) -> Result<String, OutOfMemory> {
+pub fn alloca_notes(
+    alloc: Global,
+    source: Source<'_>,
+    line: u32,
+    effort: &Effort,
+) -> Result<String, Unanswered> {
     let mut notes = String::new(alloc);
     let Some(whole) = match_text(alloc, source.state, source.text.as_bytes(), false)? else {
         return Ok(notes);
     };
-    push_program_notes(alloc, source, &whole, line, &mut notes)?;
+    push_program_notes(alloc, source, &whole, line, effort, &mut notes)?;
     Ok(notes)
 }

@@ -9,10 +9,11 @@ use findings::{Finding, Source, push_finding};
 use lists::{OutOfMemory, Seq};
 use name_notes::name_finding;
 use number_notes::number_findings;
+use ranges::Unanswered;
 use scenes::{Matched, match_text};
 use std::alloc::{AllocError, Global};
 use std::hash::RandomState;
-use verifier::{Refused, verify};
+use verifier::{Effort, Refused, Unverified, verify_within};
 use word_notes::word_findings;
 use zone_notes::zone_findings;
 
@@ -22,13 +23,14 @@ fn matched_findings(
     source: Source<'_>,
     matched: &Matched,
     number: u16,
-) -> Result<Vec<Finding>, OutOfMemory> {
+    effort: &Effort,
+) -> Result<Vec<Finding>, Unanswered> {
     if number < 600 {
-        number_findings(alloc, source, matched)
+        number_findings(alloc, source, matched, effort)
     } else if number < 700 {
-        zone_findings(alloc, source, matched)
+        zone_findings(alloc, source, matched, effort)
     } else {
-        cost_findings(alloc, matched)
+        cost_findings(alloc, matched, effort)
     }
 }
 
@@ -37,9 +39,10 @@ fn program_findings(
     alloc: Global,
     source: Source<'_>,
     number: u16,
-) -> Result<Vec<Finding>, OutOfMemory> {
+    effort: &Effort,
+) -> Result<Vec<Finding>, Unanswered> {
     match match_text(alloc, source.state, source.text.as_bytes(), true)? {
-        Some(matched) => matched_findings(alloc, source, &matched, number),
+        Some(matched) => matched_findings(alloc, source, &matched, number, effort),
         None => Ok(Vec::new(alloc)),
     }
 }
@@ -50,12 +53,13 @@ fn findings_of(
     source: Source<'_>,
     number: u16,
     line: u32,
-) -> Result<Vec<Finding>, OutOfMemory> {
+    effort: &Effort,
+) -> Result<Vec<Finding>, Unanswered> {
     if number < 200 {
-        return word_findings(alloc, source, number, line);
+        return Ok(word_findings(alloc, source, number, line)?);
     }
     if number >= 500 {
-        return program_findings(alloc, source, number);
+        return program_findings(alloc, source, number, effort);
     }
     let mut findings: Vec<Finding> = Vec::new(alloc);
     if number == 402 {
@@ -63,7 +67,7 @@ fn findings_of(
             &mut findings,
             number,
             line,
-            alloca_notes(alloc, source, line)?,
+            alloca_notes(alloc, source, line, effort)?,
         )?;
     } else {
         findings.push(name_finding(alloc, source, number, line)?)?;
@@ -88,14 +92,35 @@ fn part(
     Ok(())
 }
 
+/// The faults of the phase as far as the effort reaches; where it is spent, the fault alone that the verifier names, and that no more is told.
+fn findings_within(
+    alloc: Global,
+    source: Source<'_>,
+    number: u16,
+    line: u32,
+    effort: &Effort,
+) -> Result<Vec<Finding>, OutOfMemory> {
+    match findings_of(alloc, source, number, line, effort) {
+        Ok(findings) => Ok(findings),
+        Err(Unanswered::OutOfMemory) => Err(OutOfMemory),
+        Err(Unanswered::OutOfEffort) => {
+            let notes = String::from_str(alloc, "  the effort is spent: no more is told\n")?;
+            let mut findings: Vec<Finding> = Vec::new(alloc);
+            push_finding(&mut findings, number, line, notes)?;
+            Ok(findings)
+        }
+    }
+}
+
 /// What is to be told where the verifier names this fault: of it, and of the others of its phase in the order of their lines.
 fn told_of(
     alloc: Global,
     source: Source<'_>,
     number: u16,
     line: u32,
+    effort: &Effort,
 ) -> Result<(Finding, Vec<Finding>), OutOfMemory> {
-    let findings = findings_of(alloc, source, number, line)?;
+    let findings = findings_within(alloc, source, number, line, effort)?;
     let mut first = Finding {
         number,
         line,
@@ -111,20 +136,26 @@ fn told_of(
 /// Why a module's text is refused, or what it could do without. Its names are hashed with `state`.
 ///
 /// Its first fault is the one that the verifier names. Of numbers, zones and costs all faults are told, of the text those that lines have by
-/// themselves, of the other phases the first one. What is said of a text that is not UTF-8 is that fault alone.
-pub fn explain(alloc: Global, state: RandomState, text: &[u8]) -> Result<Explanation, OutOfMemory>
-    ensures verdict { IfOk result (IsVerdictOn text.now) }
+/// themselves, of the other phases the first one. What is said of a text that is not UTF-8 is that fault alone. All is searched for within this effort:
+/// where it is spent before a verdict, there is none, and where it is spent after it, what is left is not told.
+pub fn explain(
+    alloc: Global,
+    state: RandomState,
+    text: &[u8],
+    effort: &Effort,
+) -> Result<Explanation, OutOfMemory>
+    ensures verdict { IfOk result (IsVerdictOn text.now effort.now) }
 {
     let source = Source {
         text: str::from_utf8(text).unwrap_or(""),
         state,
     };
-    match verify(alloc, state, text) {
+    match verify_within(alloc, state, text, effort) {
         Ok(verified) => Ok(Explanation::Accepted {
-            remarks: remarks(alloc, source, verified.program())?,
+            remarks: remarks(alloc, source, verified.program(), effort)?,
         }),
-        Err(Refused::Fault { number, line }) => {
-            let (first, others) = told_of(alloc, source, number, line)?;
+        Err(Unverified::Refused(Refused::Fault { number, line })) => {
+            let (first, others) = told_of(alloc, source, number, line, effort)?;
             Ok(Explanation::Refused {
                 first: Finding {
                     number,
@@ -134,6 +165,7 @@ pub fn explain(alloc: Global, state: RandomState, text: &[u8]) -> Result<Explana
                 others: Seq::from_vec(others),
             })
         }
-        Err(Refused::Memory) => Err(OutOfMemory),
+        Err(Unverified::Refused(Refused::Memory)) => Err(OutOfMemory),
+        Err(Unverified::OutOfEffort) => Ok(Explanation::Undecided),
     }
 }

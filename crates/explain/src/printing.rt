@@ -69,6 +69,7 @@ fn push_explanation(
     match explanation {
         Explanation::Accepted { remarks } => push_accepted(out, remarks.as_str()),
         Explanation::Refused { first, others } => push_refused(out, text, first, others.as_slice()),
+        Explanation::Undecided => Ok(out.push_str("undecided\n")?),
     }
 }
 

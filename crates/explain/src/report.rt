@@ -13,4 +13,6 @@ pub enum Explanation {
         first: Finding,
         others: Seq<Finding>,
     },
+    /// The effort that was granted is spent before a verdict.
+    Undecided,
 }

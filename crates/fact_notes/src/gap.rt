@@ -1,12 +1,37 @@
-//! By how much facts fall short of a form, and which of them come nearest. All is asked of `shown`.
+//! By how much facts fall short of a form, and which of them come nearest. All is asked as the verifier asks it, as long as the effort reaches.
 
 ghost use Rattle.std.specs.Prelude.{◌≡◌, ◌++◌, IfOk};
 
-use entailment::{push_copies, shown};
+use entailment::{FactCursor, Known, push_copies, shown};
 use linear::{Fact, Form, FormFault};
 use lists::OutOfMemory;
-use ranges::EdgeFacts;
+use ranges::{EdgeFacts, Effort, Unanswered};
 use std::alloc::Global;
+
+/// The steps that it counts for to take a fact into an index or to copy it.
+const STEPS_A_FACT: usize = 30;
+
+/// Counts so many steps, unless the effort is spent.
+pub fn spend(effort: &Effort, steps: usize) -> Result<(), Unanswered> {
+    if effort.is_spent() {
+        return Err(Unanswered::OutOfEffort);
+    }
+    effort.spend(steps as u64);
+    Ok(())
+}
+
+/// Whether the facts show the form.
+pub fn is_shown(
+    alloc: Global,
+    facts: &[Fact],
+    form: &Form,
+    effort: &Effort,
+) -> Result<bool, Unanswered> {
+    spend(effort, facts.len().saturating_mul(STEPS_A_FACT))?;
+    let mut cursor = FactCursor::new(alloc, facts, effort);
+    cursor.index()?;
+    Ok(cursor.known().ask(form)?)
+}
 
 /// The sizes of numbers that a form may be raised by: 2^125.
 const TOO_MUCH: u128 = 42_535_295_865_117_307_932_921_825_928_971_026_432;
@@ -23,24 +48,28 @@ pub fn raised(alloc: Global, form: &Form, amount: i128) -> Result<Option<Form>, 
     }
 }
 
-/// Whether the facts show a form and so many more.
+/// Whether it is known that a form and so many more are at least 0.
 fn is_shown_with(
     alloc: Global,
-    facts: &[Fact],
+    known: &Known<'_>,
     form: &Form,
     amount: i128,
-) -> Result<bool, OutOfMemory> {
+) -> Result<bool, Unanswered> {
     match raised(alloc, form, amount)? {
-        Some(form) => Ok(shown(facts, &form)),
+        Some(form) => Ok(known.ask(&form)?),
         None => Ok(false),
     }
 }
 
 /// A power of 2 with which the form is shown.
-fn amount_enough(alloc: Global, facts: &[Fact], form: &Form) -> Result<Option<i128>, OutOfMemory> {
+fn amount_enough(
+    alloc: Global,
+    known: &Known<'_>,
+    form: &Form,
+) -> Result<Option<i128>, Unanswered> {
     let mut amount: i128 = 1;
     for _step in 0..101 {
-        if is_shown_with(alloc, facts, form, amount)? {
+        if is_shown_with(alloc, known, form, amount)? {
             return Ok(Some(amount));
         }
         amount = amount.saturating_mul(2);
@@ -49,14 +78,27 @@ fn amount_enough(alloc: Global, facts: &[Fact], form: &Form) -> Result<Option<i1
 }
 
 /// The least amount with which the form is shown, where there is one; the form itself is not.
-pub fn shortfall(alloc: Global, facts: &[Fact], form: &Form) -> Result<Option<i128>, OutOfMemory> {
-    let Some(mut least) = amount_enough(alloc, facts, form)? else {
+pub fn shortfall(
+    alloc: Global,
+    facts: &[Fact],
+    form: &Form,
+    effort: &Effort,
+) -> Result<Option<i128>, Unanswered> {
+    spend(effort, facts.len().saturating_mul(STEPS_A_FACT))?;
+    let mut cursor = FactCursor::new(alloc, facts, effort);
+    cursor.index()?;
+    least_amount(alloc, &cursor.known(), form)
+}
+
+/// The same of what is known at a place.
+fn least_amount(alloc: Global, known: &Known<'_>, form: &Form) -> Result<Option<i128>, Unanswered> {
+    let Some(mut least) = amount_enough(alloc, known, form)? else {
         return Ok(None);
     };
     let mut step = least / 2;
     for _half in 0..101 {
         let trial = least.saturating_sub(step);
-        if step > 0 && is_shown_with(alloc, facts, form, trial)? {
+        if step > 0 && is_shown_with(alloc, known, form, trial)? {
             least = trial;
         }
         step = step / 2;
@@ -74,13 +116,21 @@ pub fn first_facts(facts: &[Fact], count: usize) -> &[Fact] {
 }
 
 /// How many of the first facts are enough to show the form.
-fn count_enough(facts: &[Fact], form: &Form) -> usize {
+fn count_enough(
+    alloc: Global,
+    facts: &[Fact],
+    form: &Form,
+    effort: &Effort,
+) -> Result<usize, Unanswered> {
+    let mut cursor = FactCursor::new(alloc, facts, effort);
     for count in 0..facts.len() {
-        if shown(first_facts(facts, count), form) {
-            return count;
+        cursor.seek(count);
+        cursor.index()?;
+        if cursor.known().ask(form)? {
+            return Ok(count);
         }
     }
-    facts.len()
+    Ok(facts.len())
 }
 
 /// Adds that a form is at least 0.
@@ -117,7 +167,14 @@ fn is_shown_by(
 }
 
 /// The place of a fact that shows the form with the one at `last`; `last` itself where it needs no other.
-fn partner(alloc: Global, facts: &[Fact], last: usize, form: &Form) -> Result<usize, OutOfMemory> {
+fn partner(
+    alloc: Global,
+    facts: &[Fact],
+    last: usize,
+    form: &Form,
+    effort: &Effort,
+) -> Result<usize, Unanswered> {
+    spend(effort, last.saturating_mul(STEPS_A_FACT))?;
     if is_shown_by(alloc, facts, last, last, form)? {
         return Ok(last);
     }
@@ -134,9 +191,10 @@ pub fn facts_used(
     alloc: Global,
     facts: &[Fact],
     form: &Form,
-) -> Result<Option<(usize, usize)>, OutOfMemory> {
-    match count_enough(facts, form).checked_sub(1) {
-        Some(last) => Ok(Some((partner(alloc, facts, last, form)?, last))),
+    effort: &Effort,
+) -> Result<Option<(usize, usize)>, Unanswered> {
+    match count_enough(alloc, facts, form, effort)?.checked_sub(1) {
+        Some(last) => Ok(Some((partner(alloc, facts, last, form, effort)?, last))),
         None => Ok(None),
     }
 }
@@ -169,24 +227,30 @@ fn facts_and(alloc: Global, facts: &[Fact], form: &Form) -> Result<Vec<Fact>, Ou
 }
 
 /// Whether the facts show that a form is below 0: from the two all would follow.
-pub fn is_against(alloc: Global, facts: &[Fact], form: &Form) -> Result<bool, OutOfMemory> {
+pub fn is_against(
+    alloc: Global,
+    facts: &[Fact],
+    form: &Form,
+    effort: &Effort,
+) -> Result<bool, Unanswered> {
     let more = facts_and(alloc, facts, form)?;
-    Ok(shown(&more, &Form::from_constant(alloc, -1)))
+    is_shown(alloc, &more, &Form::from_constant(alloc, -1), effort)
 }
 
-/// Whether the facts show a rest, and the form where the rest is a fact too.
+/// Whether a rest is stated, and the facts show the form where the rest is a fact too.
 fn is_step(
     alloc: Global,
-    stated: &[Fact],
+    stated: &Known<'_>,
     facts: &[Fact],
     rest: &Form,
     form: &Form,
-) -> Result<bool, OutOfMemory> {
-    if !shown(stated, rest) {
+    effort: &Effort,
+) -> Result<bool, Unanswered> {
+    if !stated.ask(rest)? {
         return Ok(false);
     }
     let more = facts_and(alloc, facts, rest)?;
-    Ok(shown(&more, form))
+    is_shown(alloc, &more, form, effort)
 }
 
 /// A number from here on only keeps a form off the least values of a width: of i32 the least is about twice as far.
@@ -204,17 +268,18 @@ fn plainer(alloc: Global, form: &Form) -> Result<Option<Form>, OutOfMemory> {
 /// A step from a rest, if it is one: without its number where that does.
 fn step_of(
     alloc: Global,
-    stated: &[Fact],
+    stated: &Known<'_>,
     facts: &[Fact],
     rest: Form,
     form: &Form,
-) -> Result<Option<Form>, OutOfMemory> {
+    effort: &Effort,
+) -> Result<Option<Form>, Unanswered> {
     if let Some(plain) = plainer(alloc, &rest)? {
-        if is_step(alloc, stated, facts, &plain, form)? {
+        if is_step(alloc, stated, facts, &plain, form, effort)? {
             return Ok(Some(plain));
         }
     }
-    let is_taken = is_step(alloc, stated, facts, &rest, form)?;
+    let is_taken = is_step(alloc, stated, facts, &rest, form, effort)?;
     Ok(if is_taken { Some(rest) } else { None })
 }
 
@@ -224,10 +289,24 @@ pub fn step_between(
     stated: &[Fact],
     facts: &[Fact],
     form: &Form,
-) -> Result<Option<Form>, OutOfMemory> {
+    effort: &Effort,
+) -> Result<Option<Form>, Unanswered> {
+    let mut cursor = FactCursor::new(alloc, stated, effort);
+    cursor.index()?;
+    first_step(alloc, &cursor.known(), facts, form, effort)
+}
+
+/// The same beside what is stated at a place, by the first fact that serves.
+fn first_step(
+    alloc: Global,
+    stated: &Known<'_>,
+    facts: &[Fact],
+    form: &Form,
+    effort: &Effort,
+) -> Result<Option<Form>, Unanswered> {
     for fact in facts {
         if let Some(rest) = rest_of(alloc, form, fact)? {
-            let step = step_of(alloc, stated, facts, rest, form)?;
+            let step = step_of(alloc, stated, facts, rest, form, effort)?;
             if step.is_some() {
                 return Ok(step);
             }

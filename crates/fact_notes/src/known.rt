@@ -1,15 +1,15 @@
 //! Notes on what is known at a place, and on what it does not show.
 
-use crate::gap::{facts_used, first_facts, raised, shortfall, step_between};
+use crate::gap::{facts_used, first_facts, is_shown, raised, shortfall, step_between};
 use linear::{Fact, Form};
 use lists::OutOfMemory;
 use program::{Block, Function, Inequality, RegisterId};
-use ranges::{BlockFacts, Sum, sum_form};
+use ranges::{BlockFacts, Effort, Sum, Unanswered, sum_form};
 use scenes::{Scene, push_inequality};
 use std::alloc::{AllocError, Global};
 
 /// The facts at a place with their lines: `line` is that of the facts after those of `lines`. The first `stated` of them are known to a
-/// `shows` line at the place.
+/// `shows` line at the place. What they show is asked as long as the effort reaches.
 #[derive(Clone, Copy)]
 pub struct Known<'a> {
     pub scene: &'a Scene<'a>,
@@ -17,6 +17,7 @@ pub struct Known<'a> {
     pub lines: &'a [u32],
     pub stated: usize,
     pub line: u32,
+    pub effort: &'a Effort,
 }
 
 fn push_lines(lines: &mut Vec<u32>, inequalities: &[Inequality]) -> Result<(), OutOfMemory> {
@@ -116,6 +117,14 @@ fn push_short(out: &mut String, short: Option<i128>) -> Result<(), AllocError> {
 }
 
 impl Known<'_> {
+    /// Whether it is known that a sum is at least 0.
+    pub fn shows(&self, alloc: Global, sum: &Sum) -> Result<bool, Unanswered> {
+        match sum_form(alloc, sum)? {
+            Some(form) => is_shown(alloc, self.facts, &form, self.effort),
+            None => Ok(false),
+        }
+    }
+
     /// The fact at a place, and its line.
     fn push_fact(&self, alloc: Global, place: usize, out: &mut String) -> Result<(), OutOfMemory> {
         if let Some(fact) = self.facts.get(place) {
@@ -163,9 +172,9 @@ impl Known<'_> {
     }
 
     /// The facts that show a form.
-    fn push_used(&self, alloc: Global, form: &Form, out: &mut String) -> Result<(), OutOfMemory> {
-        match facts_used(alloc, self.facts, form)? {
-            Some((first, last)) => self.push_pair(alloc, first, last, out),
+    fn push_used(&self, alloc: Global, form: &Form, out: &mut String) -> Result<(), Unanswered> {
+        match facts_used(alloc, self.facts, form, self.effort)? {
+            Some((first, last)) => Ok(self.push_pair(alloc, first, last, out)?),
             None => Ok(out.push_str("no fact helps")?),
         }
     }
@@ -177,7 +186,7 @@ impl Known<'_> {
         nearest: &Form,
         short: i128,
         out: &mut String,
-    ) -> Result<(), OutOfMemory> {
+    ) -> Result<(), Unanswered> {
         out.push_str("    nearest: ")?;
         self.push_used(alloc, nearest, out)?;
         Ok(writeln!(out, ", short by {short}")?)
@@ -190,7 +199,7 @@ impl Known<'_> {
         form: &Form,
         short: i128,
         out: &mut String,
-    ) -> Result<(), OutOfMemory> {
+    ) -> Result<(), Unanswered> {
         match raised(alloc, form, short)? {
             Some(nearest) => self.push_nearest_facts(alloc, &nearest, short, out),
             None => Ok(()),
@@ -203,8 +212,8 @@ impl Known<'_> {
         alloc: Global,
         form: &Form,
         out: &mut String,
-    ) -> Result<(), OutOfMemory> {
-        match shortfall(alloc, self.facts, form)? {
+    ) -> Result<(), Unanswered> {
+        match shortfall(alloc, self.facts, form, self.effort)? {
             Some(short) => self.push_nearest(alloc, form, short, out),
             None => Ok(out.push_str("    no one or two facts have just these registers\n")?),
         }
@@ -229,11 +238,11 @@ impl Known<'_> {
         form: &Form,
         before: u32,
         out: &mut String,
-    ) -> Result<(), OutOfMemory> {
+    ) -> Result<(), Unanswered> {
         let stated = first_facts(self.facts, self.stated);
-        let step = step_between(alloc, stated, self.facts, form)?;
+        let step = step_between(alloc, stated, self.facts, form, self.effort)?;
         match &step {
-            Some(step) if step.terms.len() <= 4 => self.push_try(alloc, step, before, out),
+            Some(step) if step.terms.len() <= 4 => Ok(self.push_try(alloc, step, before, out)?),
             _ => Ok(()),
         }
     }
@@ -244,17 +253,17 @@ impl Known<'_> {
         alloc: Global,
         form: &Form,
         out: &mut String,
-    ) -> Result<(), OutOfMemory> {
+    ) -> Result<(), Unanswered> {
         if !form.terms.is_empty() {
             push_inequality(alloc, self.scene, form, out)?;
             out.push_str(" is ")?;
         }
-        let short = shortfall(alloc, self.facts, form)?;
+        let short = shortfall(alloc, self.facts, form, self.effort)?;
         Ok(push_short(out, short)?)
     }
 
     /// How far what is known is from showing a sum, in a few words.
-    pub fn push_gap(&self, alloc: Global, sum: &Sum, out: &mut String) -> Result<(), OutOfMemory> {
+    pub fn push_gap(&self, alloc: Global, sum: &Sum, out: &mut String) -> Result<(), Unanswered> {
         match sum_form(alloc, sum)? {
             Some(form) => self.push_form_gap(alloc, &form, out),
             None => Ok(out.push_str("a number past the bounds of a form")?),
@@ -278,7 +287,7 @@ impl Known<'_> {
         form: &Form,
         before: u32,
         out: &mut String,
-    ) -> Result<(), OutOfMemory> {
+    ) -> Result<(), Unanswered> {
         self.push_to_show(alloc, form, out)?;
         self.push_related(alloc, form, out)?;
         self.push_shortfall(alloc, form, out)?;
@@ -292,7 +301,7 @@ impl Known<'_> {
         sum: &Sum,
         before: u32,
         out: &mut String,
-    ) -> Result<(), OutOfMemory> {
+    ) -> Result<(), Unanswered> {
         match sum_form(alloc, sum)? {
             Some(form) => self.push_unshown_form(alloc, &form, before, out),
             None => Ok(out.push_str("  to show: a form past its bounds\n")?),

@@ -54,6 +54,13 @@ pub fn print_refused<W: Write>(refused: &Refused, output: &mut W) -> io::Result<
     }
 }
 
+/// Says that the effort that was granted is spent before a verdict.
+pub fn print_undecided<W: Write>(output: &mut W, beside: &mut Beside) -> io::Result<Status> {
+    writeln!(output, "undecided")?;
+    beside.note("the effort is spent before a verdict; --effort=N grants more")?;
+    Ok(Status::Stopped)
+}
+
 /// Says why a module is not verified: why it is refused, that memory was, or that the effort that was granted is spent.
 pub fn print_unverified<W: Write>(
     unverified: &Unverified,
@@ -62,10 +69,6 @@ pub fn print_unverified<W: Write>(
 ) -> io::Result<Status> {
     match unverified {
         Unverified::Refused(refused) => print_refused(refused, output),
-        Unverified::OutOfEffort => {
-            writeln!(output, "undecided")?;
-            note_effort(beside)?;
-            Ok(Status::Stopped)
-        }
+        Unverified::OutOfEffort => print_undecided(output, beside),
     }
 }

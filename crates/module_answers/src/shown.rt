@@ -10,7 +10,7 @@ use std::alloc::Global;
 use std::hash::RandomState;
 use std::io;
 use std::io::Write;
-use verifier::{Refused, Verified};
+use verifier::{Effort, Refused, Verified};
 use views::{printed, show};
 
 /// Prints a text that a module was shown as.
@@ -24,21 +24,28 @@ fn print_text<W: Write>(text: Result<String, Refused>, output: &mut W) -> io::Re
     }
 }
 
-/// Prints a module that is not run; none where it is verified first.
+/// Prints a module that is not run, or explains it within this effort; none where it is verified first.
 pub fn answer_text<W: Write>(
     alloc: Global,
     state: RandomState,
     request: &Request,
     text: &[u8],
+    effort: &Effort,
     output: &mut W,
     beside: &mut Beside,
 ) -> io::Result<Option<Status>> {
     let status = match request.verb {
         Verb::Print => print_text(printed(alloc, state, text), output)?,
         Verb::Annotate => print_text(annotated(alloc, state, text), output)?,
-        Verb::Explain => {
-            print_explanation(alloc, state, request.file.as_str(), text, output, beside)?
-        }
+        Verb::Explain => print_explanation(
+            alloc,
+            state,
+            request.file.as_str(),
+            text,
+            effort,
+            output,
+            beside,
+        )?,
         _ => return Ok(None),
     };
     Ok(Some(status))

@@ -3,14 +3,17 @@
 use crate::unmet::{Site, Unmet, all_unmet};
 use fact_notes::{
     Known, Matched, Scene, edge_known, fact_lines, first_facts, is_against, match_text,
-    push_inequality,
+    push_inequality, spend,
 };
 use findings::{Finding, Source, line_at, push_finding, with_line_before};
 use linear::{Form, FormFault, RegisterId};
 use lists::OutOfMemory;
 use program::{Block, BlockId};
-use ranges::{BlockFacts, EdgeFacts, Effort, Sum, block_facts, sum_form};
+use ranges::{BlockFacts, EdgeFacts, Effort, Sum, Unanswered, block_facts, sum_form};
 use std::alloc::{AllocError, Global};
+
+/// The steps that a byte of a text counts for that is judged as far as its numbers.
+const STEPS_A_BYTE: usize = 30;
 
 /// Whether a fault stands among those of the text, where one line more stands from this one on.
 fn is_old(unmet: &Unmet, old: &[Unmet], added: u32) -> bool {
@@ -27,9 +30,11 @@ fn unmet_of(
     alloc: Global,
     source: Source<'_>,
     text: &str,
-) -> Result<Option<Vec<Unmet>>, OutOfMemory> {
+    effort: &Effort,
+) -> Result<Option<Vec<Unmet>>, Unanswered> {
+    spend(effort, text.len().saturating_mul(STEPS_A_BYTE))?;
     match match_text(alloc, source.state, text.as_bytes(), true)? {
-        Some(matched) => Ok(Some(all_unmet(alloc, &matched)?)),
+        Some(matched) => Ok(Some(all_unmet(alloc, &matched, effort)?)),
         None => Ok(None),
     }
 }
@@ -41,9 +46,10 @@ fn is_better(
     old: &[Unmet],
     line: &str,
     before: u32,
-) -> Result<bool, OutOfMemory> {
+    effort: &Effort,
+) -> Result<bool, Unanswered> {
     let changed = with_line_before(alloc, source.text, before, line)?;
-    match unmet_of(alloc, source, changed.as_str())? {
+    match unmet_of(alloc, source, changed.as_str(), effort)? {
         Some(new) => Ok(
             new.len() < old.len() && new.iter().all(|unmet| is_old(unmet, old, before)),
         ),
@@ -67,9 +73,11 @@ fn push_if_better(
     annotation: &str,
     after: u32,
     old: &[Unmet],
+    effort: &Effort,
     notes: &mut String,
-) -> Result<(), OutOfMemory> {
-    if is_better(alloc, source, old, annotation, after.saturating_add(1))? {
+) -> Result<(), Unanswered> {
+    let before = after.saturating_add(1);
+    if is_better(alloc, source, old, annotation, before, effort)? {
         writeln!(notes, "    try: {annotation}, after line {after}")?;
     }
     Ok(())
@@ -79,16 +87,24 @@ fn push_if_better(
 fn push_start_line(
     alloc: Global,
     source: Source<'_>,
-    scene: &Scene<'_>,
+    known: Known<'_>,
     block: BlockId,
     form: &Form,
     old: &[Unmet],
     notes: &mut String,
-) -> Result<(), OutOfMemory> {
-    let (word, after) = start_of(scene, block);
+) -> Result<(), Unanswered> {
+    let (word, after) = start_of(known.scene, block);
     let mut line = format!(in alloc; ";! {word} ")?;
-    push_inequality(alloc, scene, form, &mut line)?;
-    push_if_better(alloc, source, line.as_str(), after, old, notes)
+    push_inequality(alloc, known.scene, form, &mut line)?;
+    push_if_better(
+        alloc,
+        source,
+        line.as_str(),
+        after,
+        old,
+        known.effort,
+        notes,
+    )
 }
 
 fn push_edge_to(
@@ -160,7 +176,7 @@ fn push_mending(
     form: &Form,
     old: &[Unmet],
     notes: &mut String,
-) -> Result<(), OutOfMemory> {
+) -> Result<(), Unanswered> {
     match plainer(alloc, form)? {
         Some(plain) => push_if_possible(alloc, source, known, block, &plain, old, notes),
         None => push_if_possible(alloc, source, known, block, form, old, notes),
@@ -176,11 +192,11 @@ fn push_if_possible(
     form: &Form,
     old: &[Unmet],
     notes: &mut String,
-) -> Result<(), OutOfMemory> {
-    if is_against(alloc, known.facts, form)? {
+) -> Result<(), Unanswered> {
+    if is_against(alloc, known.facts, form, known.effort)? {
         Ok(())
     } else {
-        push_start_line(alloc, source, known.scene, block, form, old, notes)
+        push_start_line(alloc, source, known, block, form, old, notes)
     }
 }
 
@@ -192,7 +208,7 @@ fn push_choice(
     sum: &Sum,
     old: &[Unmet],
     notes: &mut String,
-) -> Result<(), OutOfMemory> {
+) -> Result<(), Unanswered> {
     known.push_unshown(alloc, sum, site.line, notes)?;
     let block = BlockId(site.block);
     match sum_form(alloc, sum)? {
@@ -209,7 +225,7 @@ fn push_choices(
     unmet: &Unmet,
     old: &[Unmet],
     notes: &mut String,
-) -> Result<(), OutOfMemory> {
+) -> Result<(), Unanswered> {
     let choices = unmet.choices.as_slice();
     push_choice_head(choices.len(), notes)?;
     for sum in choices {
@@ -235,7 +251,7 @@ fn push_place_notes(
     unmet: &Unmet,
     old: &[Unmet],
     notes: &mut String,
-) -> Result<(), OutOfMemory> {
+) -> Result<(), Unanswered> {
     push_asked(source, known.scene, unmet, edge, notes)?;
     push_choices(alloc, source, known, unmet, old, notes)
 }
@@ -249,7 +265,7 @@ fn push_edge_notes(
     unmet: &Unmet,
     old: &[Unmet],
     notes: &mut String,
-) -> Result<(), OutOfMemory> {
+) -> Result<(), Unanswered> {
     let facts = edge_known(alloc, known.facts, edge)?;
     let there = Known {
         facts: facts.as_slice(),
@@ -265,17 +281,12 @@ fn push_block_notes(
     block: &Block,
     unmet: &Unmet,
     old: &[Unmet],
+    effort: &Effort,
     notes: &mut String,
-) -> Result<(), OutOfMemory> {
+) -> Result<(), Unanswered> {
     let index = unmet.site.block;
-    let (table, _) = block_facts(
-        alloc,
-        scene.program,
-        scene.function,
-        index,
-        block,
-        &Effort::unlimited(),
-    )?;
+    spend(effort, block.steps.len())?;
+    let (table, _) = block_facts(alloc, scene.program, scene.function, index, block, effort)?;
     let lines = fact_lines(alloc, scene.function, index, block, &table)?;
     let known = Known {
         scene,
@@ -283,6 +294,7 @@ fn push_block_notes(
         lines: lines.as_slice(),
         stated: unmet.site.count,
         line: unmet.site.line,
+        effort,
     };
     match edge_of(unmet, &table) {
         Some(edge) => push_edge_notes(alloc, source, known, edge, unmet, old, notes),
@@ -296,29 +308,31 @@ fn notes_of(
     matched: &Matched,
     unmet: &Unmet,
     old: &[Unmet],
-) -> Result<String, OutOfMemory> {
+    effort: &Effort,
+) -> Result<String, Unanswered> {
     let mut notes = String::new(alloc);
     let program = &matched.graph.program;
     let found = Scene::of(alloc, program, &matched.whole, unmet.site.function)?;
     if let Some(scene) = found {
         let blocks = scene.function.blocks.as_slice();
         if let Some(block) = blocks.get(unmet.site.block) {
-            push_block_notes(alloc, source, &scene, block, unmet, old, &mut notes)?;
+            push_block_notes(alloc, source, &scene, block, unmet, old, effort, &mut notes)?;
         }
     }
     Ok(notes)
 }
 
-/// All faults of numbers of a text.
+/// All faults of numbers of a text, as far as the effort reaches.
 pub fn number_findings(
     alloc: Global,
     source: Source<'_>,
     matched: &Matched,
-) -> Result<Vec<Finding>, OutOfMemory> {
+    effort: &Effort,
+) -> Result<Vec<Finding>, Unanswered> {
     let mut findings: Vec<Finding> = Vec::new(alloc);
-    let all = all_unmet(alloc, matched)?;
+    let all = all_unmet(alloc, matched, effort)?;
     for unmet in all.iter() {
-        let notes = notes_of(alloc, source, matched, unmet, all.as_slice())?;
+        let notes = notes_of(alloc, source, matched, unmet, all.as_slice(), effort)?;
         push_finding(&mut findings, unmet.number, unmet.site.line, notes)?;
     }
     Ok(findings)

@@ -1,12 +1,12 @@
 //! What a program owes of its numbers and what is known there does not show.
 
-use fact_notes::{Matched, edge_known, first_facts};
-use linear::Fact;
-use lists::{OutOfMemory, Seq};
+use entailment::{FactBranches, FactCursor, Known};
+use fact_notes::{Matched, spend};
+use lists::Seq;
 use program::{Block, Ending, Function, Inequality, Program, Step};
 use ranges::{
-    BlockFacts, EdgeFacts, Effort, Obligation, Sum, block_facts, inequalities_owed, is_met, owed,
-    owed_at_end,
+    BlockFacts, EdgeFacts, Effort, Obligation, Sum, Unanswered, block_facts, difference_of,
+    inequalities_owed, is_met_at, owed, owed_at_end,
 };
 use std::alloc::Global;
 
@@ -36,6 +36,7 @@ struct Judged<'a> {
     function: &'a Function,
     block: &'a Block,
     table: &'a BlockFacts,
+    effort: &'a Effort,
 }
 
 fn line_of(inequalities: &[Inequality], place: usize) -> Option<u32> {
@@ -45,16 +46,16 @@ fn line_of(inequalities: &[Inequality], place: usize) -> Option<u32> {
     }
 }
 
-/// Adds an obligation, if the facts do not meet it.
+/// Adds an obligation, if what is known does not meet it.
 fn push_if_unmet(
     alloc: Global,
     site: Site,
-    facts: &[Fact],
+    known: &Known<'_>,
     obligation: Obligation,
     asked: Option<u32>,
     unmet: &mut Vec<Unmet>,
-) -> Result<(), OutOfMemory> {
-    if is_met(alloc, facts, &obligation)? {
+) -> Result<(), Unanswered> {
+    if is_met_at(alloc, known, &obligation)? {
         return Ok(());
     }
     Ok(unmet.push(Unmet {
@@ -65,33 +66,49 @@ fn push_if_unmet(
     })?)
 }
 
-/// Adds what the facts do not meet. The inequalities, if there are any, are those that ask it, in the same order.
+/// Adds what is known not to meet. The inequalities, if there are any, are those that ask it, in the same order.
 fn push_unmet(
     alloc: Global,
     site: Site,
-    facts: &[Fact],
+    known: &Known<'_>,
     obligations: Vec<Obligation>,
     asking: &[Inequality],
     unmet: &mut Vec<Unmet>,
-) -> Result<(), OutOfMemory> {
+) -> Result<(), Unanswered> {
     let mut place: usize = 0;
     for obligation in obligations {
         let asked = line_of(asking, place);
-        push_if_unmet(alloc, site, facts, obligation, asked, unmet)?;
+        push_if_unmet(alloc, site, known, obligation, asked, unmet)?;
         place = place.saturating_add(1);
     }
     Ok(())
 }
 
+/// Adds a `shows` line, if it is not shown.
+fn push_if_unshown(
+    alloc: Global,
+    site: Site,
+    known: &Known<'_>,
+    line: &Inequality,
+    unmet: &mut Vec<Unmet>,
+) -> Result<(), Unanswered> {
+    let mut choices = Vec::new(alloc);
+    choices.push(difference_of(alloc, &[], line)?)?;
+    let obligation = Obligation {
+        number: 508,
+        choices: Seq::from_vec(choices),
+    };
+    push_if_unmet(alloc, site, known, obligation, None, unmet)
+}
+
 /// Adds the `shows` lines that are not shown; each is a fact for those after it. `count` facts are known at the last of them.
 fn push_shows(
     alloc: Global,
-    judged: Judged<'_>,
     site: Site,
+    cursor: &mut FactCursor<'_>,
     shows: &[Inequality],
     unmet: &mut Vec<Unmet>,
-) -> Result<(), OutOfMemory> {
-    let facts = judged.table.facts.as_slice();
+) -> Result<(), Unanswered> {
     let before = site.count.saturating_sub(shows.len());
     for (place, line) in shows.iter().enumerate() {
         let count = before.saturating_add(place);
@@ -100,29 +117,12 @@ fn push_shows(
             count,
             ..site
         };
-        let owed = inequalities_owed(alloc, 508, &[], shows)?;
-        push_one(alloc, at, first_facts(facts, count), owed, place, unmet)?;
+        cursor.seek(count);
+        cursor.index()?;
+        push_if_unshown(alloc, at, &cursor.known(), line, unmet)?;
     }
-    Ok(())
-}
-
-/// Adds the obligation at a place of a list, if the facts do not meet it.
-fn push_one(
-    alloc: Global,
-    site: Site,
-    facts: &[Fact],
-    obligations: Vec<Obligation>,
-    place: usize,
-    unmet: &mut Vec<Unmet>,
-) -> Result<(), OutOfMemory> {
-    let mut at: usize = 0;
-    for obligation in obligations {
-        if at == place {
-            push_if_unmet(alloc, site, facts, obligation, None, unmet)?;
-        }
-        at = at.saturating_add(1);
-    }
-    Ok(())
+    cursor.seek(site.count);
+    Ok(cursor.index()?)
 }
 
 /// The inequalities that an instruction is asked by: a callee's `requires`.
@@ -142,30 +142,31 @@ fn push_step(
     alloc: Global,
     judged: Judged<'_>,
     site: Site,
+    cursor: &mut FactCursor<'_>,
     step: &Step,
     unmet: &mut Vec<Unmet>,
-) -> Result<(), OutOfMemory> {
-    push_shows(alloc, judged, site, step.shows.as_slice(), unmet)?;
-    let facts = first_facts(judged.table.facts.as_slice(), site.count);
+) -> Result<(), Unanswered> {
+    push_shows(alloc, site, cursor, step.shows.as_slice(), unmet)?;
     let owed = owed(alloc, judged.program, judged.function, &step.instruction)?;
     let asking = asking_of(judged.program, step);
-    push_unmet(alloc, site, facts, owed, asking, unmet)
+    push_unmet(alloc, site, &cursor.known(), owed, asking, unmet)
 }
 
 fn push_edge(
     alloc: Global,
     judged: Judged<'_>,
     site: Site,
+    facts: &mut FactBranches<'_>,
     edge: &EdgeFacts,
     unmet: &mut Vec<Unmet>,
-) -> Result<(), OutOfMemory> {
+) -> Result<(), Unanswered> {
     let Some(target) = judged.function.blocks.as_slice().get(edge.to.0) else {
         return Ok(());
     };
     let keeps = target.keeps.as_slice();
     let owed = inequalities_owed(alloc, 505, edge.moves.as_slice(), keeps)?;
-    let facts = edge_known(alloc, judged.table.facts.as_slice(), edge)?;
-    push_unmet(alloc, site, &facts, owed, keeps, unmet)
+    facts.switch_to(alloc, edge.facts.as_slice())?;
+    push_unmet(alloc, site, &facts.known(), owed, keeps, unmet)
 }
 
 /// Adds what is not shown of the edges' targets.
@@ -174,13 +175,14 @@ fn push_edges(
     judged: Judged<'_>,
     site: Site,
     unmet: &mut Vec<Unmet>,
-) -> Result<(), OutOfMemory> {
+) -> Result<(), Unanswered> {
+    let mut facts = FactBranches::new(alloc, judged.table.facts.as_slice(), judged.effort);
     for (place, edge) in judged.table.edges.as_slice().iter().enumerate() {
         let at = Site {
             edge: Some(place),
             ..site
         };
-        push_edge(alloc, judged, at, edge, unmet)?;
+        push_edge(alloc, judged, at, &mut facts, edge, unmet)?;
     }
     Ok(())
 }
@@ -189,14 +191,14 @@ fn push_end(
     alloc: Global,
     judged: Judged<'_>,
     site: Site,
+    cursor: &mut FactCursor<'_>,
     ending: &Ending,
     unmet: &mut Vec<Unmet>,
-) -> Result<(), OutOfMemory> {
-    push_shows(alloc, judged, site, ending.shows.as_slice(), unmet)?;
-    let facts = judged.table.facts.as_slice();
+) -> Result<(), Unanswered> {
+    push_shows(alloc, site, cursor, ending.shows.as_slice(), unmet)?;
     let owed = owed_at_end(alloc, judged.function, &ending.terminator)?;
     let asking = judged.function.guarantees.as_slice();
-    push_unmet(alloc, site, facts, owed, asking, unmet)?;
+    push_unmet(alloc, site, &cursor.known(), owed, asking, unmet)?;
     push_edges(alloc, judged, site, unmet)
 }
 
@@ -206,14 +208,15 @@ fn push_block(
     judged: Judged<'_>,
     site: Site,
     unmet: &mut Vec<Unmet>,
-) -> Result<(), OutOfMemory> {
+) -> Result<(), Unanswered> {
+    let mut cursor = FactCursor::new(alloc, judged.table.facts.as_slice(), judged.effort);
     for (place, step) in judged.block.steps.as_slice().iter().enumerate() {
         let at = Site {
             line: step.line,
             count: judged.table.at_step(place).len(),
             ..site
         };
-        push_step(alloc, judged, at, step, unmet)?;
+        push_step(alloc, judged, at, &mut cursor, step, unmet)?;
     }
     match &judged.block.ending {
         Some(ending) => {
@@ -222,7 +225,7 @@ fn push_block(
                 count: judged.table.facts.len(),
                 ..site
             };
-            push_end(alloc, judged, at, ending, unmet)
+            push_end(alloc, judged, at, &mut cursor, ending, unmet)
         }
         None => Ok(()),
     }
@@ -233,17 +236,12 @@ fn push_function(
     program: &Program,
     index: usize,
     function: &Function,
+    effort: &Effort,
     unmet: &mut Vec<Unmet>,
-) -> Result<(), OutOfMemory> {
+) -> Result<(), Unanswered> {
     for (place, block) in function.blocks.as_slice().iter().enumerate() {
-        let (table, broken) = block_facts(
-            alloc,
-            program,
-            function,
-            place,
-            block,
-            &Effort::unlimited(),
-        )?;
+        spend(effort, block.steps.len())?;
+        let (table, broken) = block_facts(alloc, program, function, place, block, effort)?;
         let site = Site {
             function: index,
             block: place,
@@ -257,6 +255,7 @@ fn push_function(
                 function,
                 block,
                 table: &table,
+                effort,
             };
             push_block(alloc, judged, site, unmet)?;
         }
@@ -265,11 +264,15 @@ fn push_function(
 }
 
 /// All that a program owes of its numbers and does not show, in the order of its blocks.
-pub fn all_unmet(alloc: Global, matched: &Matched) -> Result<Vec<Unmet>, OutOfMemory> {
+pub fn all_unmet(
+    alloc: Global,
+    matched: &Matched,
+    effort: &Effort,
+) -> Result<Vec<Unmet>, Unanswered> {
     let program = &matched.graph.program;
     let mut unmet: Vec<Unmet> = Vec::new(alloc);
     for (index, function) in program.functions.as_slice().iter().enumerate() {
-        push_function(alloc, program, index, function, &mut unmet)?;
+        push_function(alloc, program, index, function, effort, &mut unmet)?;
     }
     Ok(unmet)
 }

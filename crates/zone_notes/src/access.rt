@@ -1,20 +1,19 @@
 //! Faults of zones, each with the zone and what stands beside it.
 
 use crate::zone_text::{as_written, push_why_beside, push_why_not, push_zone};
-use entailment::{Effort, FactBranches, FactCursor, Known as KnownFacts};
-use fact_notes::{Known, Matched, Scene, fact_lines};
+use entailment::{FactBranches, FactCursor, Known as KnownFacts};
+use fact_notes::{Known, Matched, Scene, fact_lines, spend};
 use findings::{Finding, Source, push_finding};
 use footprints::{
     Cell, Place, PlacedZone, address_cell, cells_zone, conflict, covers, end_use, is_allowed,
     is_clear, is_empty, passes_on, pointers_of, step_use,
 };
 use linear::RegisterId;
-use lists::OutOfMemory;
 use program::{
     Address, Argument, Block, BlockId, Ending, Function, Instruction, Mode, ObjectName, Operand,
     Pending, Step, Terminator, Zone,
 };
-use ranges::{BlockFacts, EdgeFacts, Task, Way, argument_moves, block_facts};
+use ranges::{BlockFacts, EdgeFacts, Effort, Task, Unanswered, Way, argument_moves, block_facts};
 use std::alloc::Global;
 
 /// A place of a block, with what is known there and what it may touch.
@@ -35,6 +34,7 @@ struct Tasked<'s, 'a> {
     block: &'a Block,
     table: &'a BlockFacts,
     lines: &'a [u32],
+    effort: &'a Effort,
 }
 
 /// What there is to say of a missing cover, and of a conflict.
@@ -83,7 +83,7 @@ impl Spot<'_, '_> {
         alloc: Global,
         y: &PlacedZone<'_>,
         out: &mut String,
-    ) -> Result<(), OutOfMemory> {
+    ) -> Result<(), Unanswered> {
         out.push_str("  touched: ")?;
         push_zone(alloc, self.known.scene, y, out)?;
         Ok(out.push_str("\n")?)
@@ -95,7 +95,7 @@ impl Spot<'_, '_> {
         alloc: Global,
         y: &PlacedZone<'_>,
         out: &mut String,
-    ) -> Result<bool, OutOfMemory> {
+    ) -> Result<bool, Unanswered> {
         let mut is_any = false;
         for zone in self.place.covering {
             let z = as_written(zone);
@@ -111,7 +111,7 @@ impl Spot<'_, '_> {
         alloc: Global,
         y: &PlacedZone<'_>,
         out: &mut String,
-    ) -> Result<(), OutOfMemory> {
+    ) -> Result<(), Unanswered> {
         self.push_touched(alloc, y, out)?;
         if self.push_covering(alloc, y, out)? {
             Ok(())
@@ -126,7 +126,7 @@ impl Spot<'_, '_> {
         alloc: Global,
         y: &PlacedZone<'_>,
         out: &mut String,
-    ) -> Result<(), OutOfMemory> {
+    ) -> Result<(), Unanswered> {
         self.push_touched(alloc, y, out)?;
         for item in self.place.pending {
             let z = as_written(&item.zone);
@@ -143,7 +143,7 @@ impl Spot<'_, '_> {
         alloc: Global,
         y: &PlacedZone<'_>,
         notes: &mut Notes,
-    ) -> Result<(), OutOfMemory> {
+    ) -> Result<(), Unanswered> {
         if !is_allowed(alloc, &self.place, y)? {
             self.push_uncovered(alloc, y, &mut notes.cover)?;
         }
@@ -161,7 +161,7 @@ impl Spot<'_, '_> {
         cell: Cell,
         count: u64,
         notes: &mut Notes,
-    ) -> Result<(), OutOfMemory> {
+    ) -> Result<(), Unanswered> {
         let zone = cells_zone(alloc, self.known.line, mode, cell, count)?;
         self.push_zone_notes(alloc, &as_written(&zone), notes)
     }
@@ -172,7 +172,7 @@ impl Spot<'_, '_> {
         mode: Mode,
         address: Address,
         notes: &mut Notes,
-    ) -> Result<(), OutOfMemory> {
+    ) -> Result<(), Unanswered> {
         match address_cell(self.block.steps.as_slice(), address) {
             Some(cell) => self.push_cells_notes(alloc, mode, cell, 1, notes),
             None => Ok(()),
@@ -186,7 +186,7 @@ impl Spot<'_, '_> {
         callee: &Function,
         arguments: &[Argument],
         notes: &mut Notes,
-    ) -> Result<(), OutOfMemory> {
+    ) -> Result<(), Unanswered> {
         let moves = argument_moves(alloc, arguments)?;
         for zone in callee.zones.as_slice() {
             if let Some(object) = object_put(arguments, zone.object) {
@@ -207,7 +207,7 @@ impl Spot<'_, '_> {
         alloc: Global,
         instruction: &Instruction,
         notes: &mut Notes,
-    ) -> Result<(), OutOfMemory> {
+    ) -> Result<(), Unanswered> {
         match instruction {
             Instruction::Load { address, .. } => {
                 self.push_address_notes(alloc, Mode::Reads, *address, notes)
@@ -243,7 +243,7 @@ impl Spot<'_, '_> {
         findings: &mut Vec<Finding>,
         used: footprints::Use,
         notes: Notes,
-    ) -> Result<(), OutOfMemory> {
+    ) -> Result<(), Unanswered> {
         let Notes { cover, clear } = notes;
         if !used.covered {
             push_finding(findings, used.number, self.known.line, cover)?;
@@ -259,9 +259,11 @@ impl Spot<'_, '_> {
         alloc: Global,
         step: &Step,
         findings: &mut Vec<Finding>,
-    ) -> Result<(), OutOfMemory> {
+    ) -> Result<(), Unanswered> {
         let functions = self.known.scene.program.functions.as_slice();
-        let pointers = pointers_of(alloc, self.block.steps.as_slice())?;
+        let steps = self.block.steps.as_slice();
+        spend(self.known.effort, steps.len())?;
+        let pointers = pointers_of(alloc, steps)?;
         let used = step_use(
             alloc,
             &self.place,
@@ -283,7 +285,7 @@ impl Spot<'_, '_> {
         alloc: Global,
         terminator: &Terminator,
         findings: &mut Vec<Finding>,
-    ) -> Result<(), OutOfMemory> {
+    ) -> Result<(), Unanswered> {
         let blocks = self.known.scene.function.blocks.as_slice();
         let used = end_use(alloc, &self.place, blocks, terminator)?;
         let mut notes = no_notes(alloc);
@@ -302,7 +304,7 @@ impl Spot<'_, '_> {
         region: RegisterId,
         y: &PlacedZone<'_>,
         out: &mut String,
-    ) -> Result<bool, OutOfMemory> {
+    ) -> Result<bool, Unanswered> {
         let known = Known {
             facts: facts.facts(),
             ..self.known
@@ -327,7 +329,7 @@ impl Spot<'_, '_> {
         region: RegisterId,
         zone: &Zone,
         out: &mut String,
-    ) -> Result<(), OutOfMemory> {
+    ) -> Result<(), Unanswered> {
         let scene = self.known.scene;
         let y = as_written(zone);
         push_still_pending(alloc, scene, edge.to, &y, out)?;
@@ -346,7 +348,7 @@ impl Spot<'_, '_> {
         edge: &EdgeFacts,
         region: RegisterId,
         zone: &Zone,
-    ) -> Result<bool, OutOfMemory> {
+    ) -> Result<bool, Unanswered> {
         let y = as_written(zone);
         if is_empty(alloc, facts, &y)? {
             return Ok(true);
@@ -369,7 +371,7 @@ impl Spot<'_, '_> {
         region: RegisterId,
         zone: &Zone,
         out: &mut String,
-    ) -> Result<(), OutOfMemory> {
+    ) -> Result<(), Unanswered> {
         if self.is_passed(alloc, facts, edge, region, zone)? {
             Ok(())
         } else {
@@ -384,7 +386,7 @@ impl Spot<'_, '_> {
         terminator: &Terminator,
         edge: &EdgeFacts,
         out: &mut String,
-    ) -> Result<(), OutOfMemory> {
+    ) -> Result<(), Unanswered> {
         for item in self.place.pending {
             if goes_on(edge.way, item.region) {
                 self.push_if_unpassed(alloc, facts, edge, item.region, &item.zone, out)?;
@@ -406,7 +408,7 @@ impl Spot<'_, '_> {
         terminator: &Terminator,
         edge: &EdgeFacts,
         findings: &mut Vec<Finding>,
-    ) -> Result<(), OutOfMemory> {
+    ) -> Result<(), Unanswered> {
         let blocks = self.known.scene.function.blocks.as_slice();
         if passes_on(alloc, blocks, facts, self.place.pending, terminator, edge)? {
             return Ok(());
@@ -414,7 +416,7 @@ impl Spot<'_, '_> {
         let mut notes = String::new(alloc);
         facts.switch_to(alloc, edge.facts.as_slice())?;
         self.push_edge_notes(alloc, &facts.known(), terminator, edge, &mut notes)?;
-        push_finding(findings, 603, self.known.line, notes)
+        Ok(push_finding(findings, 603, self.known.line, notes)?)
     }
 }
 
@@ -449,7 +451,7 @@ fn push_still_pending(
     to: BlockId,
     y: &PlacedZone<'_>,
     out: &mut String,
-) -> Result<(), OutOfMemory> {
+) -> Result<(), Unanswered> {
     let label = scene.label(to);
     write!(out, "  still pending on the edge to %{label}: ")?;
     push_zone(alloc, scene, y, out)?;
@@ -461,7 +463,7 @@ fn push_none_pending(
     to: BlockId,
     region: RegisterId,
     out: &mut String,
-) -> Result<(), OutOfMemory> {
+) -> Result<(), Unanswered> {
     let label = scene.label(to);
     let name = scene.register(region);
     Ok(writeln!(
@@ -496,10 +498,9 @@ fn push_end(
     ending: &Ending,
     edges: &[EdgeFacts],
     findings: &mut Vec<Finding>,
-) -> Result<(), OutOfMemory> {
+) -> Result<(), Unanswered> {
     spot.push_child(alloc, &ending.terminator, findings)?;
-    let effort = Effort::unlimited();
-    let mut facts = FactBranches::new(alloc, spot.known.facts, &effort);
+    let mut facts = FactBranches::new(alloc, spot.known.facts, spot.known.effort);
     for edge in edges {
         spot.push_edge(alloc, &mut facts, &ending.terminator, edge, findings)?;
     }
@@ -513,7 +514,7 @@ impl Tasked<'_, '_> {
         alloc: Global,
         cursor: &mut FactCursor<'_>,
         findings: &mut Vec<Finding>,
-    ) -> Result<(), OutOfMemory> {
+    ) -> Result<(), Unanswered> {
         for (place, step) in self.block.steps.as_slice().iter().enumerate() {
             cursor.seek(self.table.count_at(place));
             cursor.index()?;
@@ -529,7 +530,7 @@ impl Tasked<'_, '_> {
         alloc: Global,
         cursor: &mut FactCursor<'_>,
         findings: &mut Vec<Finding>,
-    ) -> Result<(), OutOfMemory> {
+    ) -> Result<(), Unanswered> {
         let Some(ending) = &self.block.ending else {
             return Ok(());
         };
@@ -549,10 +550,10 @@ fn push_block<'a>(
     task: Task,
     index: usize,
     block: &'a Block,
+    effort: &'a Effort,
     findings: &mut Vec<Finding>,
-) -> Result<(), OutOfMemory> {
-    let effort = Effort::unlimited();
-    let (table, _) = block_facts(alloc, scene.program, scene.function, index, block, &effort)?;
+) -> Result<(), Unanswered> {
+    let (table, _) = block_facts(alloc, scene.program, scene.function, index, block, effort)?;
     let lines = fact_lines(alloc, scene.function, index, block, &table)?;
     let tasked = Tasked {
         source,
@@ -561,8 +562,9 @@ fn push_block<'a>(
         block: &*block,
         table: &table,
         lines: lines.as_slice(),
+        effort,
     };
-    let mut cursor = FactCursor::new(alloc, table.facts.as_slice(), &effort);
+    let mut cursor = FactCursor::new(alloc, table.facts.as_slice(), effort);
     tasked.push_steps(alloc, &mut cursor, findings)?;
     tasked.push_ending(alloc, &mut cursor, findings)
 }
@@ -581,6 +583,7 @@ fn spot_at<'s, 'a>(
             lines: tasked.lines,
             stated: facts.len(),
             line,
+            effort: tasked.effort,
         },
         place: Place {
             facts: known,
@@ -597,27 +600,32 @@ fn push_function(
     source: Source<'_>,
     scene: &Scene<'_>,
     tasks: &[Task],
+    effort: &Effort,
     findings: &mut Vec<Finding>,
-) -> Result<(), OutOfMemory> {
+) -> Result<(), Unanswered> {
     for (index, block) in scene.function.blocks.as_slice().iter().enumerate() {
         let task = tasks.get(index).copied().unwrap_or(Task::Unreached);
-        push_block(alloc, source, &*scene, task, index, &*block, findings)?;
+        push_block(
+            alloc, source, &*scene, task, index, &*block, &*effort, findings,
+        )?;
     }
     Ok(())
 }
 
-/// All faults of zones of a text whose numbers are right.
+/// All faults of zones of a text whose numbers are right, as far as the effort reaches.
 pub fn zone_findings(
     alloc: Global,
     source: Source<'_>,
     matched: &Matched,
-) -> Result<Vec<Finding>, OutOfMemory> {
+    effort: &Effort,
+) -> Result<Vec<Finding>, Unanswered> {
     let program = &matched.graph.program;
     let tables = matched.regions.functions.as_slice();
     let mut findings: Vec<Finding> = Vec::new(alloc);
     for (index, table) in tables.iter().enumerate() {
         if let Some(scene) = Scene::of(alloc, program, &matched.whole, index)? {
-            push_function(alloc, source, &scene, table.tasks.as_slice(), &mut findings)?;
+            let tasks = table.tasks.as_slice();
+            push_function(alloc, source, &scene, tasks, effort, &mut findings)?;
         }
     }
     Ok(findings)

@@ -6,7 +6,7 @@ use footprints::{PlacedZone, mode_covers, same_object};
 use linear::{Form, side_of};
 use lists::{OutOfMemory, Seq};
 use program::{Mode, Zone};
-use ranges::{Move, Sum, push_parts, shows, sum_form};
+use ranges::{Move, Sum, Unanswered, push_parts, sum_form};
 use std::alloc::Global;
 
 pub fn mode_word(mode: Mode) -> &'static str {
@@ -98,7 +98,7 @@ fn push_gap_line(
     what: &str,
     sum: &Sum,
     out: &mut String,
-) -> Result<(), OutOfMemory> {
+) -> Result<(), Unanswered> {
     out.push_str(what)?;
     known.push_gap(alloc, sum, out)?;
     Ok(out.push_str("\n")?)
@@ -111,8 +111,8 @@ fn push_end(
     what: &str,
     sum: &Sum,
     out: &mut String,
-) -> Result<(), OutOfMemory> {
-    if shows(alloc, known.facts, sum)? {
+) -> Result<(), Unanswered> {
+    if known.shows(alloc, sum)? {
         Ok(())
     } else {
         push_gap_line(alloc, known, what, sum, out)
@@ -125,7 +125,7 @@ fn push_low_end(
     z: &PlacedZone<'_>,
     y: &PlacedZone<'_>,
     out: &mut String,
-) -> Result<(), OutOfMemory> {
+) -> Result<(), Unanswered> {
     let low = between(alloc, y.moves, &y.zone.low, z.moves, &z.zone.low)?;
     push_end(alloc, known, "      its low end: ", &low, out)
 }
@@ -136,7 +136,7 @@ fn push_high_end(
     z: &PlacedZone<'_>,
     y: &PlacedZone<'_>,
     out: &mut String,
-) -> Result<(), OutOfMemory> {
+) -> Result<(), Unanswered> {
     let high = between(alloc, z.moves, &z.zone.high, y.moves, &y.zone.high)?;
     push_end(alloc, known, "      its high end: ", &high, out)
 }
@@ -158,7 +158,7 @@ pub fn push_why_not(
     z: &PlacedZone<'_>,
     y: &PlacedZone<'_>,
     out: &mut String,
-) -> Result<bool, OutOfMemory> {
+) -> Result<bool, Unanswered> {
     if !same_object(z.object, y.object) {
         return Ok(false);
     }
@@ -177,7 +177,7 @@ fn push_behind(
     later: &PlacedZone<'_>,
     earlier: &PlacedZone<'_>,
     out: &mut String,
-) -> Result<(), OutOfMemory> {
+) -> Result<(), Unanswered> {
     let room = between(
         alloc,
         later.moves,
@@ -196,7 +196,7 @@ pub fn push_why_beside(
     z: &PlacedZone<'_>,
     y: &PlacedZone<'_>,
     out: &mut String,
-) -> Result<(), OutOfMemory> {
+) -> Result<(), Unanswered> {
     push_candidate(text, z.zone.line, out)?;
     push_behind(alloc, known, "      to end before it: ", z, y, out)?;
     push_behind(alloc, known, "      to begin after it: ", y, z, out)
