@@ -30,9 +30,6 @@ out_of_effort = 3
 abbrev pub out_of_fuel : ℕ
 out_of_fuel = 5
 
-abbrev pub no_rule : ℕ
-no_rule = 7
-
 abbrev pub bad_arguments : ℕ
 bad_arguments = 801
 
@@ -45,9 +42,6 @@ IsRejection n = (n ≡ refused) ⊎ ((n ≡ out_of_effort) ⊎ (n ≡ out_of_mem
 
 abbrev pub IsVerdictStatus : ℕ → Type 0
 IsVerdictStatus n = (n ≡ done) ⊎ IsRejection n
-
-abbrev pub IsRuleStatus : ℕ → Type 0
-IsRuleStatus n = (n ≡ done) ⊎ ((n ≡ no_rule) ⊎ (n ≡ out_of_memory))
 
 -- of a program that is accepted
 abbrev pub IsRunStatus : ℕ → Type 0

@@ -1,3 +1,4 @@
+use Rattle.std.specs.Prelude.{true}
 use Rattle.std.proofs.Common.{subst}
 use Rattle.ranges.specs.declared.unverified.Unverified.{Unverified}
 use Rattle.refusal.specs.declared.refused.Refused.{Refused}
@@ -6,4 +7,4 @@ use Rattle.kernel_c.proofs.judge.rejection.Goals as goal
 
 pub returns-in-Refused-clause-refused : goal.returns-in-Refused-clause-refused
 returns-in-Refused-clause-refused c = λ text h status.
-    subst (λ (r : Refused). IsRefused text r) (c.refusal.ensures.fault status) (subst (λ (why : Unverified). IsUnverified text why) c.in-Refused.is h)
+    subst (λ (r : Refused). IsRefused text r) (c.refusal.ensures.fault status) (subst (λ (why : Unverified). IsUnverified text true why) c.in-Refused.is h)
