@@ -17,8 +17,7 @@ import ctypes.util
 import os
 import threading
 
-__all__ = ["Kernel", "Outcome", "TapirError", "Refused", "OutOfEffort", "OutOfFuel", "BadArguments", "OtherCells", "BadSchedule", "BadWorkers",
-           "NotEnded", "NoMemory", "Closed", "rule"]
+__all__ = ["Kernel", "Outcome", "TapirError", "Refused", "OutOfEffort", "OutOfFuel", "BadArguments", "OtherCells", "NoMemory", "Closed"]
 
 VERSION = 1
 UNBOUNDED = 2**64 - 1
@@ -26,8 +25,8 @@ UNBOUNDED = 2**64 - 1
 #: The steps of search that a verdict is worth, where the caller does not say. Plain modules take a thousandth of it.
 EFFORT = 1_000_000_000
 
-_DONE, _REFUSED, _OTHER_CELLS, _OUT_OF_EFFORT, _CLOSED, _OUT_OF_FUEL, _NOT_ENDED, _NO_RULE = range(8)
-_BAD_ARGUMENTS, _BAD_WORKERS, _OUT_OF_MEMORY, _BAD_SCHEDULE, _LONG_SCHEDULE = 801, 802, 803, 901, 902
+_DONE, _REFUSED, _OTHER_CELLS, _OUT_OF_EFFORT, _CLOSED, _OUT_OF_FUEL = range(6)
+_BAD_ARGUMENTS, _OUT_OF_MEMORY = 801, 803
 
 
 class TapirError(Exception):
@@ -35,11 +34,11 @@ class TapirError(Exception):
 
 
 class Refused(TapirError):
-    """The module breaks a rule: `rule` and `line` say which one and where, and `words` is what `tapirvm explain` prints."""
+    """The module breaks a rule: `rule` and `line` say which one and where. `tapirvm explain` says why."""
 
-    def __init__(self, number, line, words):
-        super().__init__(f"rule {number}, line {line}\n{words}" if words else f"rule {number}, line {line}")
-        self.rule, self.line, self.words = number, line, words
+    def __init__(self, number, line):
+        super().__init__(f"rule {number}, line {line}")
+        self.rule, self.line = number, line
 
 
 class OutOfEffort(TapirError):
@@ -60,26 +59,6 @@ class BadArguments(TapirError):
 
 class OtherCells(TapirError):
     """There are not as many cells as the globals have."""
-
-
-class BadWorkers(TapirError):
-    """There are from 1 to 64 workers."""
-
-
-class BadSchedule(TapirError):
-    """A line of the schedule is none, or the schedule is too long: `line` is the first such line, from 1."""
-
-    def __init__(self, line, is_long):
-        super().__init__(f"line {line}: " + ("the schedule is too long" if is_long else "neither `step W N` nor `steal W PATH`"))
-        self.line = line
-
-
-class NotEnded(TapirError):
-    """The schedule is over after so many `instructions`, and the run is not."""
-
-    def __init__(self, instructions):
-        super().__init__(f"the schedule is over after {instructions} instructions, and the run is not")
-        self.instructions = instructions
 
 
 class NoMemory(TapirError, MemoryError):
@@ -104,18 +83,14 @@ class _Handle(ctypes.Structure):
     _fields_ = [("live", ctypes.c_bool), ("at", ctypes.c_void_p)]
 
 
-_BYTES, _NUMBERS, _SIZE, _U64 = ctypes.POINTER(ctypes.c_uint8), ctypes.POINTER(ctypes.c_int64), ctypes.c_size_t, ctypes.c_uint64
+_NUMBERS, _SIZE, _U64 = ctypes.POINTER(ctypes.c_int64), ctypes.c_size_t, ctypes.c_uint64
 _TEXT = [ctypes.c_char_p, _SIZE, _U64, _U64, _U64]
 _CALLS = {
     "tapirvm_abi": (ctypes.c_uint32, []),
     "tapirvm_open": (None, [*_TEXT, ctypes.POINTER(_Verdict), ctypes.POINTER(_Handle)]),
     "tapirvm_run": (None, [ctypes.POINTER(_Handle), _U64, _NUMBERS, _SIZE, _NUMBERS, _SIZE, ctypes.POINTER(_Outcome)]),
-    "tapirvm_rows": (None, [ctypes.POINTER(_Handle), _U64, _SIZE, _NUMBERS, _SIZE, _SIZE, _NUMBERS, _SIZE, ctypes.POINTER(_Outcome), _SIZE]),
-    "tapirvm_replay": (None, [ctypes.POINTER(_Handle), _NUMBERS, _SIZE, _NUMBERS, _SIZE, _SIZE, ctypes.c_char_p, _SIZE, ctypes.POINTER(_Outcome)]),
     "tapirvm_share": (ctypes.c_uint32, [ctypes.POINTER(_Handle), ctypes.POINTER(_Handle)]),
     "tapirvm_close": (None, [ctypes.POINTER(_Handle)]),
-    "tapirvm_rule": (ctypes.c_uint32, [ctypes.c_uint16, _BYTES, _SIZE, ctypes.POINTER(_SIZE)]),
-    "tapirvm_explain": (ctypes.c_uint32, [*_TEXT, _BYTES, _SIZE, ctypes.POINTER(_SIZE)]),
 }
 
 
@@ -160,52 +135,16 @@ def _at(numbers):
     return (space.from_buffer(numbers) if len(numbers) else space()), len(numbers)
 
 
-def _words(call, *arguments):
-    """The status and the words of a call that writes words, asked for again with as much room as it needs."""
-    room = 1 << 14
-    while True:
-        out, needed = (ctypes.c_uint8 * room)(), _SIZE(0)
-        status = call(*arguments, out, room, ctypes.byref(needed))
-        if needed.value <= room:
-            return status, bytes(out[:needed.value]).decode()
-        room = needed.value
-
-
-def _fault(outcome, closed_is=Closed):
+def _fault(outcome):
     """The exception of an outcome that is no answer."""
     made = {
         _OTHER_CELLS: lambda: OtherCells("the globals have another number of cells"),
-        _CLOSED: lambda: closed_is("the kernel was closed"),
+        _CLOSED: lambda: Closed("the kernel was closed"),
         _OUT_OF_FUEL: lambda: OutOfFuel("the run does more instructions than the fuel allows"),
-        _NOT_ENDED: lambda: NotEnded(outcome.instructions),
         _BAD_ARGUMENTS: lambda: BadArguments(outcome.requirement),
-        _BAD_WORKERS: lambda: BadWorkers("there are from 1 to 64 workers"),
         _OUT_OF_MEMORY: lambda: NoMemory("the system gave no memory"),
-        _BAD_SCHEDULE: lambda: BadSchedule(outcome.line, False),
-        _LONG_SCHEDULE: lambda: BadSchedule(outcome.line, True),
     }
     return made[outcome.status]()
-
-
-def rule(number):
-    """The text of a rule, with an example and how to mend it. None where no rule has this number."""
-    if not 0 <= number < 2**16:
-        return None
-    status, words = _words(_library.tapirvm_rule, number)
-    if status == _OUT_OF_MEMORY:
-        raise NoMemory("the system gave no memory")
-    return words if status == _DONE else None
-
-
-def explain(text, effort=EFFORT):
-    """What `tapirvm explain` prints of a text: why it is refused, or what it could do without."""
-    low, high = _seed()
-    status, words = _words(_library.tapirvm_explain, bytes(text), len(text), low, high, effort)
-    if status == _OUT_OF_EFFORT:
-        raise OutOfEffort("there is no verdict within the effort")
-    if status == _OUT_OF_MEMORY:
-        raise NoMemory("the system gave no memory")
-    return words
 
 
 def _seed():
@@ -239,20 +178,12 @@ class Kernel:
         low, high = _seed()
         _library.tapirvm_open(text, len(text), low, high, effort, ctypes.byref(verdict), ctypes.byref(self._handle))
         if verdict.status == _REFUSED:
-            raise Refused(verdict.rule, verdict.line, self._reason(text, effort))
+            raise Refused(verdict.rule, verdict.line)
         if verdict.status == _OUT_OF_EFFORT:
             raise OutOfEffort("there is no verdict within the effort")
         if verdict.status == _OUT_OF_MEMORY:
             raise NoMemory("the system gave no memory")
         self.budget, self.depth, self.cells = verdict.budget, verdict.depth, verdict.cells
-
-    @staticmethod
-    def _reason(text, effort):
-        """The words of a refusal, or none where they cannot be had."""
-        try:
-            return explain(text, effort)
-        except TapirError:
-            return ""
 
     def run(self, args=(), cells=None, *, fuel=UNBOUNDED):
         """Runs the serial elision. `cells` are all 0 where none are given. An `array.array("q")` is changed in place; of others a copy is. Raises
@@ -261,36 +192,6 @@ class Kernel:
         (given, count), (at, length), outcome = _at(_numbers(args)), _at(row), _Outcome()
         with self._lock:
             _library.tapirvm_run(ctypes.byref(self._handle), fuel, given, count, at, length, ctypes.byref(outcome))
-        if outcome.status != _DONE:
-            raise _fault(outcome)
-        return Outcome(outcome, row)
-
-    def rows(self, args, cells, *, fuel=UNBOUNDED):
-        """Runs once for each row, in one call. `args` has a list of arguments for each, all of one length, and `cells` is one array that holds the
-        rows' cells one after another: it is changed in place where it is an `array.array("q")`. Gives a list with an Outcome for each row, or the
-        exception that `run` would raise of it. An Outcome's cells are those of its row."""
-        rows = [list(row) for row in args]
-        each = len(rows[0]) if rows else 0
-        if any(len(row) != each for row in rows):
-            raise ValueError("the rows have arguments of different numbers")
-        row = _numbers(cells)
-        if len(row) != len(rows) * self.cells:
-            raise OtherCells(f"{len(rows)} rows of {self.cells} cells have {len(rows) * self.cells} cells, not {len(row)}")
-        outcomes = (_Outcome * max(len(rows), 1))()
-        (given, count), (at, length) = _at(array.array("q", [value for one in rows for value in one])), _at(row)
-        with self._lock:
-            _library.tapirvm_rows(ctypes.byref(self._handle), fuel, each, given, count, self.cells, at, length, outcomes, len(rows))
-        own = lambda k: row[k * self.cells:(k + 1) * self.cells]
-        return [Outcome(outcomes[k], own(k)) if outcomes[k].status == _DONE else _fault(outcomes[k]) for k in range(len(rows))]
-
-    def replay(self, args=(), cells=None, *, workers, schedule):
-        """Runs on so many workers of the model by a schedule: text of lines `step W N` and `steal W PATH`. An ended run's answer is the serial one.
-        Raises as `run` does, and NotEnded, BadWorkers or BadSchedule."""
-        row = array.array("q", bytes(8 * self.cells)) if cells is None else _numbers(cells)
-        lines = schedule.encode() if isinstance(schedule, str) else bytes(schedule)
-        (given, count), (at, length), outcome = _at(_numbers(args)), _at(row), _Outcome()
-        with self._lock:
-            _library.tapirvm_replay(ctypes.byref(self._handle), given, count, at, length, workers, lines, len(lines), ctypes.byref(outcome))
         if outcome.status != _DONE:
             raise _fault(outcome)
         return Outcome(outcome, row)
