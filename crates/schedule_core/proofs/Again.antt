@@ -148,7 +148,7 @@ beside_again a b t = by (nat_le (a.start + a.cells) b.start) refl
 
 blocks_again : (prog : Program) (k : Run) → ∥ BlocksStand prog k ∥₁ → BlocksStand prog k
 blocks_again prog k t = record {
-  owned = λ slot node stands body. block_again prog (slice_get k.blocks.items slot) node.frame.frame (∥∥₁_map t (λ h. h.owned slot node stands body));
+  owned = λ slot node stands body cells. block_again prog (slice_get k.blocks.items slot) node.frame.frame (∥∥₁_map t (λ h. h.owned slot node stands body cells));
   below = ∥∥₁_elim t (Prim.hlevel (props, ⊎_set, ℕ_set, ℤ_set)) (λ h. h.below);
   globals = ∥∥₁_elim t (Prim.hlevel (props, ⊎_set, ℕ_set, ℤ_set)) (λ h. h.globals);
   after = ∥∥₁_elim t (Prim.hlevel (props, ⊎_set, ℕ_set, ℤ_set)) (λ h. h.after);

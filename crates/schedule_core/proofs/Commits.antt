@@ -1,4 +1,4 @@
--- What a strand that is put into a stage makes of it.
+-- What steps that are done at once make of a stage: those of a strand, plain or deep.
 use Rattle.std.proofs.Common.{◌≡◌, ℕ, zero, suc, ◌≤◌, List, [], ◌∷◌, ◌++◌, length, map, Bool, true, false, replicate, refl, sym, ap, ◌∙◌, subst, ℤ}
 use Rattle.std.specs.Prelude.{IsSome, Result, Ok, Err, OnErr}
 use Rattle.std.proofs.Math.Logic.{∥∥₁_elim, ∥∥₁_map}
@@ -13,7 +13,7 @@ use Rattle.running.specs.Events.{Machine, start}
 use Rattle.running.specs.Replay.{or_unchanged, replay}
 use Rattle.program.specs.declared.function.Program.{Program}
 use Rattle.crew_promise.specs.store.Cells.{NamedCells}
-use Rattle.absorbing.specs.Absorbing.{DoesStrand, KeepsHand, LeavesStallsBy, StandsAlone, steps_in}
+use Rattle.absorbing.specs.Absorbing.{DoesStrand, GoesAloneIn, KeepsHand, LeavesStallsBy, StandsAlone, steps_in}
 use Rattle.absorbing.specs.strand.declared.outside.Strand.{Strand}
 use Rattle.absorbing.specs.strands.Law.{Happen, steps_by}
 use Rattle.crew.specs.declared.run.Run.{Run}
@@ -25,10 +25,11 @@ use Rattle.crew.specs.Stalls.{Blocks, StallsAgree, if_enabled, last_blocks, no_b
 use Rattle.engine.specs.declared.activation.Places.{Places}
 use Rattle.frame.specs.declared.event.Event.{Event}
 use Rattle.frame.specs.declared.event.Event.TheVariants.{Step}
+use Rattle.strand_promise.proofs.Law.{alone_too}
 use Rattle.schedule_core.specs.declared.stage.Stage.{Stage}
 use Rattle.schedule_core.specs.Replaying.{AreEnabled, IsMachine, LeavesAsBefore, Replays, ReplaysMore, event_of, first_state, state_after}
 use Rattle.schedule_core.specs.Stages.{GoesWell, IsReached, IsState, program_of, workers_of}
-use Rattle.schedule_core.specs.Strands.{Absorbs}
+use Rattle.schedule_core.specs.Strands.{Absorbs, TakesSteps}
 use Rattle.schedule_core.proofs.Again.{shown_again}
 use Rattle.schedule_core.proofs.Promised.{machine_of, machine_same}
 use Rattle.schedule_core.proofs.Replaying.{leaves_as_before, with_run}
@@ -67,7 +68,7 @@ module _ (prog : Program) (workers : ℕ) where
   well_all [] m w = w
   well_all (e ∷ events) m w =
       well_all events (or_unchanged (running.event prog workers e m) m)
-      (record { safe = λ more. w.safe (e ∷ more); alone = λ more. w.alone (e ∷ more); full = λ more. w.full (e ∷ more) })
+      (record { safe = λ more. w.safe (e ∷ more); deep = λ more. w.deep (e ∷ more); full = λ more. w.full (e ∷ more) })
 
   reached_all : (events : List running.Event) (m : Machine) → IsReached prog workers m → IsReached prog workers (replay prog workers events m)
   reached_all events m r = record {
@@ -77,100 +78,104 @@ module _ (prog : Program) (workers : ℕ) where
     after = replay_all r.events events (start prog r.arguments r.memory) ∙ ap (λ x. replay prog workers events x) r.after;
   }
 
+-- ---- so many steps of a worker
+
+module _ (old : Stage) (k : Run) (many : length k.hands.items ≡ length old.run.hands.items) (w n : ℕ)
+    (does : (m : Machine) → IsState old m → ∥ ((after : Machine) × Happen (program_of old) (workers_of old) (steps_by w n) m after × IsShown (program_of old) old.places after k) ∥₁)
+    (stalls : (m : Machine) → IsState old m → (last : Blocks) → StallsAgree last old.run.cactus → StallsAgree (last_blocks (program_of old) (workers_of old) (steps_by w n) m last) k.cactus)
+  where
+    abbrev es : List running.Event
+    es = steps_by w n
+
+    abbrev after : Machine → Machine
+    after m = replay (program_of old) (workers_of old) es m
+
+    shown_after : (m : Machine) → IsState old m → IsShown (program_of old) old.places (after m) k
+    shown_after m s =
+        shown_again (program_of old) old.places (after m) k
+        (∥∥₁_map (does m s) (λ h. subst (λ (y : Machine). IsShown (program_of old) old.places y k) (sym (happen_replay (program_of old) (workers_of old) es m h.0 h.1)) h.2))
+
+    state_all : (m : Machine) → IsState old m → IsState (with_run old k) (after m)
+    state_all m s = record {
+      shown = shown_after m s;
+      manned = subst (λ c. 1 ≤ c) (sym many) s.manned;
+      reached = subst (λ c. IsReached (program_of old) c (after m)) (sym many) (reached_all (program_of old) (workers_of old) es m s.reached);
+      well = subst (λ c. GoesWell (program_of old) c (after m)) (sym many) (well_all (program_of old) (workers_of old) es m s.well);
+    }
+
+    module _ (arguments : List ℤ) (globals : List NamedCells) (events : List Event) (r : Replays (program_of old) arguments globals (workers_of old) events old) where
+      abbrev first : Machine
+      first = first_state (program_of old) arguments globals
+
+      abbrev now : Machine
+      now = state_after (program_of old) arguments globals (workers_of old) events
+
+      all_events : map event_of (events ++ replicate n (Step w)) ≡ map event_of events ++ es
+      all_events = map-append event_of events (replicate n (Step w)) ∙ ap (λ (l : List running.Event). map event_of events ++ l) (map_steps n w)
+
+      state_is : after now ≡ state_after (program_of old) arguments globals (workers_of old) (events ++ replicate n (Step w))
+      state_is = sym (ap (λ l. replay (program_of old) (workers_of old) l first) all_events ∙ replay_all (program_of old) (workers_of old) (map event_of events) es first)
+
+      blocks_are : last_blocks (program_of old) (workers_of old) es now (last_blocks (program_of old) (workers_of old) (map event_of events) first no_blocks) ≡
+          last_blocks (program_of old) (workers_of old) (map event_of (events ++ replicate n (Step w))) first no_blocks
+      blocks_are =
+          sym (ap (λ l. last_blocks (program_of old) (workers_of old) l first no_blocks) all_events ∙ last_all (program_of old) (workers_of old) (map event_of events) es first no_blocks)
+
+      replays_here : Replays (program_of old) arguments globals (workers_of old) (events ++ replicate n (Step w)) (with_run old k)
+      replays_here = record {
+        program = refl;
+        as_many = many;
+        globals_are = r.globals_are;
+        state = subst (λ y. IsState (with_run old k) y) state_is (state_all now r.state);
+        stalls = subst (λ (l : Blocks). StallsAgree l k.cactus) blocks_are (stalls now r.state _ r.stalls);
+      }
+
+    takes_replays : ReplaysMore old (with_run old k) (replicate n (Step w))
+    takes_replays prog arguments globals workers events r =
+        let own : Replays (program_of old) arguments globals (workers_of old) events old =
+        subst (λ c. Replays (program_of old) arguments globals c events old) (sym r.as_many) (subst (λ q. Replays q arguments globals workers events old) (sym r.program) r) in
+        subst (λ q. Replays q arguments globals workers (events ++ replicate n (Step w)) (with_run old k)) r.program
+        (subst (λ c. Replays (program_of old) arguments globals c (events ++ replicate n (Step w)) (with_run old k)) r.as_many (replays_here arguments globals events own))
+
+    pub takes_steps : TakesSteps old (with_run old k) w n
+    takes_steps = record {
+      replays = takes_replays;
+      enabled = λ m s. enabled_again (program_of old) (workers_of old) es m (∥∥₁_map (does m s) (λ h. happen_enabled (program_of old) (workers_of old) es m h.0 h.1));
+    }
+
+-- ---- a strand's
+
 -- what absorbing rests on
 pub stands_alone : (stage : Stage) → ∥ IsMachine stage ∥₁ → ∥ StandsAlone (program_of stage) stage.places stage.run ∥₁
 stands_alone stage kept =
-    ∥∥₁_map kept (λ k. record {
-      machine = state_after (program_of stage) k.arguments stage.memory (workers_of stage) k.events;
-      shown = k.replays.state.shown;
-      safe = k.replays.state.well.safe;
-      alone = k.replays.state.well.alone [];
-    })
+    ∥∥₁_map kept (λ k.
+    let m = state_after (program_of stage) k.arguments stage.memory (workers_of stage) k.events in
+    let s = k.replays.state in
+    record { machine = m; shown = s.shown; safe = s.well.safe; alone = alone_too (program_of stage) m (s.well.deep []) })
 
--- ---- a strand's steps
-
-module _ (old : Stage) (k : Run) (many : length k.hands.items ≡ length old.run.hands.items) (w : ℕ) (x : Strand) (does : ∥ DoesStrand (program_of old) old.places old.run k w x ∥₁)
-    (stalls : LeavesStallsBy (program_of old) old.places old.run k w (steps_in x.pause x.course.done)) (hand : KeepsHand (program_of old) old.places old.run w x) where
-  abbrev n : ℕ
-  n = steps_in x.pause x.course.done
-
-  abbrev es : List running.Event
-  es = steps_by w n
-
-  abbrev after : Machine → Machine
-  after m = replay (program_of old) (workers_of old) es m
-
-  shown_after : (m : Machine) → IsState old m → IsShown (program_of old) old.places (after m) k
-  shown_after m s =
-      shown_again (program_of old) old.places (after m) k
-      (∥∥₁_map does (λ d.
-      let h = d m s.shown s.well.safe (s.well.alone []) in
-      subst (λ (y : Machine). IsShown (program_of old) old.places y k) (sym (happen_replay (program_of old) (workers_of old) es m h.0 h.1)) h.2))
-
-  state_all : (m : Machine) → IsState old m → IsState (with_run old k) (after m)
-  state_all m s = record {
-    shown = shown_after m s;
-    manned = subst (λ c. 1 ≤ c) (sym many) s.manned;
-    reached = subst (λ c. IsReached (program_of old) c (after m)) (sym many) (reached_all (program_of old) (workers_of old) es m s.reached);
-    well = subst (λ c. GoesWell (program_of old) c (after m)) (sym many) (well_all (program_of old) (workers_of old) es m s.well);
-  }
-
-  module _ (arguments : List ℤ) (globals : List NamedCells) (events : List Event) (r : Replays (program_of old) arguments globals (workers_of old) events old) where
-    abbrev first : Machine
-    first = first_state (program_of old) arguments globals
-
-    abbrev now : Machine
-    now = state_after (program_of old) arguments globals (workers_of old) events
-
-    all_events : map event_of (events ++ replicate n (Step w)) ≡ map event_of events ++ es
-    all_events = map-append event_of events (replicate n (Step w)) ∙ ap (λ (l : List running.Event). map event_of events ++ l) (map_steps n w)
-
-    state_is : after now ≡ state_after (program_of old) arguments globals (workers_of old) (events ++ replicate n (Step w))
-    state_is = sym (ap (λ l. replay (program_of old) (workers_of old) l first) all_events ∙ replay_all (program_of old) (workers_of old) (map event_of events) es first)
-
-    blocks_are : last_blocks (program_of old) (workers_of old) es now (last_blocks (program_of old) (workers_of old) (map event_of events) first no_blocks) ≡
-        last_blocks (program_of old) (workers_of old) (map event_of (events ++ replicate n (Step w))) first no_blocks
-    blocks_are =
-        sym (ap (λ l. last_blocks (program_of old) (workers_of old) l first no_blocks) all_events ∙ last_all (program_of old) (workers_of old) (map event_of events) es first no_blocks)
-
-    replays_here : Replays (program_of old) arguments globals (workers_of old) (events ++ replicate n (Step w)) (with_run old k)
-    replays_here = record {
-      program = refl;
-      as_many = many;
-      globals_are = r.globals_are;
-      state = subst (λ y. IsState (with_run old k) y) state_is (state_all now r.state);
-      stalls = subst (λ (l : Blocks). StallsAgree l k.cactus) blocks_are (stalls now r.state.shown r.state.well.safe (r.state.well.alone []) _ r.stalls);
-    }
-
-  pub absorbs_replays : ReplaysMore old (with_run old k) (replicate n (Step w))
-  absorbs_replays prog arguments globals workers events r =
-      let own : Replays (program_of old) arguments globals (workers_of old) events old =
-      subst (λ c. Replays (program_of old) arguments globals c events old) (sym r.as_many) (subst (λ q. Replays q arguments globals workers events old) (sym r.program) r) in
-      subst (λ q. Replays q arguments globals workers (events ++ replicate n (Step w)) (with_run old k)) r.program
-      (subst (λ c. Replays (program_of old) arguments globals c (events ++ replicate n (Step w)) (with_run old k)) r.as_many (replays_here arguments globals events own))
-
-  pub absorbs : Absorbs old (with_run old k) w x
-  absorbs = record {
-    replays = absorbs_replays;
-    enabled = λ m s.
-        enabled_again (program_of old) (workers_of old) es m
-        (∥∥₁_map does (λ d. let h = d m s.shown s.well.safe (s.well.alone []) in happen_enabled (program_of old) (workers_of old) es m h.0 h.1));
-    hand = λ m s. hand m s.shown s.well.safe (s.well.alone []);
-  }
+pub absorbs : (old : Stage) (k : Run) → length k.hands.items ≡ length old.run.hands.items → (w : ℕ) (x : Strand) → ∥ DoesStrand (program_of old) old.places old.run k w x ∥₁ →
+    LeavesStallsBy (program_of old) old.places old.run k w (steps_in x.pause x.course.done) → KeepsHand (program_of old) old.places old.run w x → Absorbs old (with_run old k) w x
+absorbs old k many w x does stalls hand = record {
+  steps = takes_steps old k many w (steps_in x.pause x.course.done) (λ m s. ∥∥₁_map does (λ d. d m s.shown s.well.safe (alone m s))) (λ m s. stalls m s.shown s.well.safe (alone m s));
+  hand = λ m s. hand m s.shown s.well.safe (alone m s);
+}
+  where
+    alone : (m : Machine) → IsState old m → GoesAloneIn (program_of old) m
+    alone m s = alone_too (program_of old) m (s.well.deep [])
 
 -- ---- a stage stays a machine
 
-module _ (old : Stage) (k : Run) (many : length k.hands.items ≡ length old.run.hands.items) (moves : length k.moves.items ≡ length old.run.moves.items) (follows : Follows old.run.cactus k.cactus) (w : ℕ) (x : Strand) where
-  absorbed_machine : Absorbs old (with_run old k) w x → IsMachine old → IsMachine (with_run old k)
+module _ (old : Stage) (k : Run) (many : length k.hands.items ≡ length old.run.hands.items) (moves : length k.moves.items ≡ length old.run.moves.items) (follows : Follows old.run.cactus k.cactus) (w n : ℕ) where
+  pub absorbed_machine : TakesSteps old (with_run old k) w n → IsMachine old → IsMachine (with_run old k)
   absorbed_machine a m =
-      machine_of old k many moves follows (Step w) m (m.events ++ replicate (steps_in x.pause x.course.done) (Step w))
+      machine_of old k many moves follows (Step w) m (m.events ++ replicate n (Step w))
       (a.replays (program_of old) m.arguments old.memory (workers_of old) m.events m.replays)
 
   pub left_absorbing : (r : Result Bool OutOfMemory) → OnErr r (LeavesAsShown (program_of old) old.places old.run k) → OnErr r (LeavesAsBefore old (with_run old k))
   left_absorbing (Err e) left = leaves_as_before old k many left
   left_absorbing (Ok done) left = tt
 
-  pub machine_absorbing : (r : Result Bool OutOfMemory) → OnErr r (LeavesAsBefore old (with_run old k)) → (r ≡ Ok true → Absorbs old (with_run old k) w x) → (r ≡ Ok false → k ≡ old.run) →
+  pub machine_absorbing : (r : Result Bool OutOfMemory) → OnErr r (LeavesAsBefore old (with_run old k)) → (r ≡ Ok true → TakesSteps old (with_run old k) w n) → (r ≡ Ok false → k ≡ old.run) →
       ∥ IsMachine old ∥₁ → ∥ IsMachine (with_run old k) ∥₁
   machine_absorbing (Err e) left does same kept = ∥∥₁_map kept (machine_same old k many moves follows (Step w) left)
   machine_absorbing (Ok true) left does same kept = ∥∥₁_map kept (absorbed_machine (does refl))

@@ -19,8 +19,8 @@ use Rattle.crew_promise.proofs.serial_machine.schedule_theorem.safe.Safe.{schedu
 use Rattle.crew_promise.specs.Safe.{StartFits}
 use Rattle.crew_promise.proofs.Going.{runs_are_safe}
 use Rattle.crew_promise.proofs.Texts.{texts_fit, starts_fit}
-use Rattle.strand_promise.proofs.Law.{frames_go_alone}
-use Rattle.absorbing.specs.Absorbing.{GoesAloneIn}
+use Rattle.strand_promise.specs.Promise.{StaysSafeDeep}
+use Rattle.strand_promise.proofs.Law.{frames_go_deep}
 use Rattle.crew.specs.Going.{RunsSafely, TextFits}
 use Rattle.crew.specs.Starts.{ArePlaces, HasMoves}
 use Rattle.engine.specs.declared.activation.Places.{Places}
@@ -32,8 +32,8 @@ use Rattle.frame.specs.declared.event.Event.{Event as MachineEvent}
 pub record FromStart (program : Program) (arguments : List ℤ) (globals : List NamedCells) (workers : ℕ) : Type 0 where
   -- no worker's step traps, and each frame in a worker's hand can do its step (crew_promise)
   pub safe : RunsSafely program workers (start program arguments (given globals))
-  -- a worker's frame may go on apart, with other numbers in the cells (strand_promise)
-  pub alone : (events : List Event) → GoesAloneIn program (replay program workers events (start program arguments (given globals)))
+  -- a worker's frame may go deep apart, with other numbers in the cells (strand_promise)
+  pub deep : (events : List Event) → StaysSafeDeep program (replay program workers events (start program arguments (given globals)))
   -- globals keep their numbers (schedule_theorem's `schedules_are_safe`)
   pub full : (events : List Event) → AreFull program (replay program workers events (start program arguments (given globals))).core.memory
   -- the schedule theorem (schedule_theorem's `accepted_programs_keep_their_promise`)
@@ -85,7 +85,7 @@ module _ (program : Program) (a : IsAccepted program) (arguments : List ℤ) (no
     from : FromStart program arguments globals workers
     from = record {
       safe = runs_are_safe a.text program a.means arguments (given globals) taken valued workers some;
-      alone = λ events. frames_go_alone a.text program a.means arguments (given globals) taken valued workers some events;
+      deep = λ events. frames_go_deep a.text program a.means arguments (given globals) taken valued workers some events;
       full = λ events g i global is low.
           (schedules_are_safe a.text program a.means arguments (given globals) taken valued workers some events).globals g i (subst (λ o. i < global_cells o) (sym is) low);
       keeps = λ events.

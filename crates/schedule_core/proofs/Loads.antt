@@ -29,6 +29,7 @@ use Rattle.crew.specs.Layouts.{layout_of, object_at}
 use Rattle.crew.specs.Scheduling.{hand_of}
 use Rattle.crew.specs.Shown.{place_of}
 use Rattle.crew.proofs.Onward.{fits_prop, seen}
+use Rattle.strand_promise.proofs.Law.{alone_too}
 use Rattle.schedule_core.specs.declared.stage.Stage.{Stage}
 use Rattle.schedule_core.specs.Replaying.{IsMachine, state_after}
 use Rattle.schedule_core.specs.Stages.{program_of, workers_of}
@@ -51,7 +52,7 @@ module _ (stage : Stage) (kept : ∥ IsMachine stage ∥₁) (worker slot : ℕ)
         goes = record {
           shown = g.shows.shown;
           apart = s.shown.shows.cells.apart;
-          stays = s.well.alone [] worker (place_of node) g.frame (hand_is stage m s worker slot node hand stands) g.is (object_at stage.places stage.run.cactus);
+          stays = alone_too (program_of stage) m (s.well.deep []) worker (place_of node) g.frame (hand_is stage m s worker slot node hand stands) g.is (object_at stage.places stage.run.cactus);
         };
       })
 

@@ -6,6 +6,7 @@ pub mod Parents
 pub mod Spots
 pub mod Over
 pub mod Strands
+pub mod Piles
 -- for the crates above
 pub use Rattle.crew_promise.specs.conditions as conditions
 pub use Rattle.crew_promise.specs.outcome as outcome

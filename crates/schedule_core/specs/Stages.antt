@@ -6,7 +6,7 @@ use Rattle.running.specs.Replay.{replay}
 use Rattle.program.specs.declared.function.Global.{Global}
 use Rattle.program.specs.declared.function.Program.{Program}
 use Rattle.crew_promise.specs.store.Cells.{NamedCells, cell_at, number_of}
-use Rattle.absorbing.specs.Absorbing.{GoesAloneIn}
+use Rattle.strand_promise.specs.Promise.{StaysSafeDeep}
 use Rattle.crew.specs.Going.{RunsSafely}
 use Rattle.crew.specs.Shown.{IsShown}
 use Rattle.schedule_core.specs.declared.stage.Stage.{Stage}
@@ -56,10 +56,10 @@ pub record IsReached (prog : Program) (workers : ℕ) (m : Machine) : Type 0 whe
   pub events : List Event
   pub after : replay prog workers events (start prog arguments memory) ≡ m
 
--- wherever events lead from this machine, workers can go on, their frames may go on apart, and the globals' cells hold numbers
+-- wherever events lead from this machine, workers can go on, their frames may go deep apart, and the globals' cells hold numbers
 pub record GoesWell (prog : Program) (workers : ℕ) (m : Machine) : Type 0 where
   pub safe : RunsSafely prog workers m
-  pub alone : (events : List Event) → GoesAloneIn prog (replay prog workers events m)
+  pub deep : (events : List Event) → StaysSafeDeep prog (replay prog workers events m)
   pub full : (events : List Event) → AreFull prog (replay prog workers events m).core.memory
 
 -- the stage stands as this machine

@@ -35,11 +35,13 @@ abbrev pub LacksRoom : Stage → ℕ → Strand → Type 0
 LacksRoom stage worker x =
     (m : running.Machine) → IsState stage m → (p : Path) → m.hands worker ≡ Some p → vec_capacity x.course.path < length p
 
--- How many instructions of the worker a strand is: its own, and the border's where it stands at one. Each of these steps is enabled, after them
--- the stage is the other, and up to the border the worker runs the same frame.
+-- so many steps of the worker are enabled one after the other, and after them the stage is the other
+pub record TakesSteps (old new : Stage) (worker steps : ℕ) : Type 0 where
+  pub replays : ReplaysMore old new (replicate steps (Step worker))
+  pub enabled : (m : running.Machine) → IsState old m → AreEnabled (program_of old) (workers_of old) (steps_by worker steps) m
+
+-- A strand is its instructions, and the border's where it stands at one; up to the border the worker runs the same frame.
 pub record Absorbs (old new : Stage) (worker : ℕ) (x : Strand) : Type 0 where
-  pub replays : ReplaysMore old new (replicate (steps_in x.pause x.course.done) (Step worker))
-  pub enabled : (m : running.Machine) → IsState old m →
-      AreEnabled (program_of old) (workers_of old) (steps_by worker (steps_in x.pause x.course.done)) m
+  pub steps : TakesSteps old new worker (steps_in x.pause x.course.done)
   pub hand : (m : running.Machine) → IsState old m →
       (replay (program_of old) (workers_of old) (steps_by worker x.course.done) m).hands worker ≡ m.hands worker

@@ -9,6 +9,7 @@ mod globals;
 mod laws;
 mod machine;
 mod parent;
+mod piles;
 mod schedule;
 mod stage;
 mod stands;
@@ -17,6 +18,7 @@ mod view;
 
 pub use absorb::{blank_strand, places_of, steps_of};
 pub use absorbing::{Pause, Strand};
+pub use deep_strand::Pile;
 pub use engine::Places;
 pub use frame::Event;
 pub use laws::ended_enables_nothing;

@@ -51,14 +51,14 @@ module _ (o : Origin) (events : List Event) (stage : Stage) (legal : IsLegal o e
   here P p = subst (λ c. P o.program c) legal.replays.as_many (subst (λ (q : Program). P q (workers_of stage)) legal.replays.program p)
 
   enabled_here : AreEnabled o.program o.workers (steps_by w n) (reached o events)
-  enabled_here = here (λ q c. AreEnabled q c (steps_by w n) (reached o events)) (a.enabled (reached o events) legal.replays.state)
+  enabled_here = here (λ q c. AreEnabled q c (steps_by w n) (reached o events)) (a.steps.enabled (reached o events) legal.replays.state)
 
   pub hand_here : (replay o.program o.workers (steps_by w x.course.done) (reached o events)).hands w ≡ (reached o events).hands w
   hand_here = here (λ q c. (replay q c (steps_by w x.course.done) (reached o events)).hands w ≡ (reached o events).hands w) (a.hand (reached o events) legal.replays.state)
 
   pub legal_absorbed : (more : List Event) → more ≡ events ++ replicate n (Step w) → IsLegal o more new
   legal_absorbed more is = subst (λ (l : List Event). IsLegal o l new) (sym is) (record {
-    replays = a.replays o.program o.arguments o.memory o.workers events legal.replays;
+    replays = a.steps.replays o.program o.arguments o.memory o.workers events legal.replays;
     enabled =
         subst (λ l. AreEnabled o.program o.workers l (first_of o)) (sym (all_steps events n w))
         (enabled_all o.program o.workers (map event_of events) (steps_by w n) (first_of o) legal.enabled enabled_here);

@@ -40,7 +40,7 @@ left : (c : goal.After-absorb) → OnErr c.absorb.result (LeavesAsBefore c.args.
 left c =
     let old = c.args.stage.now in
     let k = c.absorb.new.run in
-    left_absorbing old k c.absorb.ensures.workers c.absorb.ensures.moves c.absorb.ensures.follows c.args.worker c.args.strand.now c.absorb.result
+    left_absorbing old k c.absorb.ensures.workers c.absorb.ensures.moves c.absorb.ensures.follows c.args.worker (steps_in c.args.strand.now.pause c.args.strand.now.course.done) c.absorb.result
     (subst (λ (q : Program). OnErr c.absorb.result (LeavesAsShown q old.places old.run k)) c.program-program.ensures.value c.absorb.ensures.refused)
 
 pub returns-clause-does : goal.returns-clause-does
@@ -53,4 +53,5 @@ pub returns-clause-machine : goal.returns-clause-machine
 returns-clause-machine c =
     let old = c.args.stage.now in
     let k = c.absorb.new.run in
-    machine_absorbing old k c.absorb.ensures.workers c.absorb.ensures.moves c.absorb.ensures.follows c.args.worker c.args.strand.now c.absorb.result (left c) (does c) c.absorb.ensures.left c.requires.machine
+    machine_absorbing old k c.absorb.ensures.workers c.absorb.ensures.moves c.absorb.ensures.follows c.args.worker (steps_in c.args.strand.now.pause c.args.strand.now.course.done) c.absorb.result (left c)
+    (λ is. (does c is).steps) c.absorb.ensures.left c.requires.machine
