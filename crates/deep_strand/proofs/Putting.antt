@@ -1,5 +1,5 @@
 -- What a pile's cells may hold, and what an access does, by whether the cell is one of the segment.
-use Rattle.std.proofs.Common.{◌≡◌, ◌≢◌, ℕ, ◌+◌, ◌<◌, List, length, refl, ap, sym, ◌∙◌, subst, arith, ℤ, pos, negsuc, ◌-ℤ◌, Option, Some, None}
+use Rattle.std.proofs.Common.{◌≡◌, ◌≢◌, ℕ, zero, suc, ◌+◌, ◌<◌, List, [], ◌∷◌, length, refl, ap, sym, ◌∙◌, subst, arith, ℤ, pos, negsuc, ◌-ℤ◌, Option, Some, None}
 use Rattle.std.specs.Prelude.{slice_get, slice_set}
 use Rattle.std.proofs.lemmas.Int.{ints}
 use Rattle.std.proofs.lemmas.Option.{same_Some}
@@ -18,7 +18,9 @@ pub own_place : (x : PileCells) (a : ℤ) (place : ℕ) → a ≡ pos (x.start +
 own_place x a place is = let at : a -ℤ pos x.start ≡ pos place = omega (arith, ints, is) in ap (cell_in x.own.items) at
 
 set_long : (xs : List ℤ) (n : ℕ) (z : ℤ) → length (slice_set xs n z) ≡ length xs
-set_long xs n z = search
+set_long [] n z = refl
+set_long (x ∷ xs) zero z = refl
+set_long (x ∷ xs) (suc n) z = ap suc (set_long xs n z)
 
 pub own_put : (x after : PileCells) (a z : ℤ) (place : ℕ) → a ≡ pos (x.start + place) → place < length x.own.items → after.own.items ≡ slice_set x.own.items place z → after.start ≡ x.start → after.log ≡ x.log → IsOwnPut x a z after
 own_put x after a z place is within items start log = record {
@@ -32,7 +34,7 @@ own_put x after a z place is within items start log = record {
 }
   where
     from : (c : ℤ) → ((n : ℕ) → c ≡ pos n → n ≡ place → ⊥) → cell_in (slice_set x.own.items place z) c ≡ cell_in x.own.items c
-    from (pos n) away = get_other x.own.items n place z (λ e. away n refl e)
+    from (pos n) away = get_other x.own.items place n z (λ e. away n refl e)
     from (negsuc n) away = refl
 
 -- it holds just its number
