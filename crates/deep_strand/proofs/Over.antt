@@ -93,14 +93,19 @@ module _ (l k : Layout) (s : Segment) (home : ℕ) (p : Path) (sizes : List ℕ)
     abbrev Older : Cell → Type 0
     Older c = IsOlder k (more.at c.object) c.object c.index
 
-    own_at : (c : Cell) → Own c → IsAt (address more c) home (home + sum sizes)
-    own_at c t =
+    own_address : (c : Cell) (t : Own c) → address more c ≡ pos (home + (start_in sizes t.alloca + c.index))
+    own_address c t =
         let below = start_below sizes t.alloca c.index t.within in
         let fits : home + (start_in sizes t.alloca + c.index) < 9223372036854775808 = omega (arith, below, room, small) in
         let regroup : pos (home + start_in sizes t.alloca) +ℤ pos c.index ≡ pos (home + (start_in sizes t.alloca + c.index)) = omega (arith, ints) in
+        ap (λ (x : ℤ). wrapped Bits64 (x +ℤ pos c.index)) t.at_is ∙ ap (wrapped Bits64) regroup ∙ int_wrap_fits w64 (pos (home + (start_in sizes t.alloca + c.index))) (record { sfits = fits })
+
+    own_at : (c : Cell) → Own c → IsAt (address more c) home (home + sum sizes)
+    own_at c t =
+        let below = start_below sizes t.alloca c.index t.within in
         record {
           place = home + (start_in sizes t.alloca + c.index);
-          is = ap (λ (x : ℤ). wrapped Bits64 (x +ℤ pos c.index)) t.at_is ∙ ap (wrapped Bits64) regroup ∙ int_wrap_fits w64 (pos (home + (start_in sizes t.alloca + c.index))) (record { sfits = fits });
+          is = own_address c t;
           after = omega arith;
           before = omega (arith, below);
         }
@@ -119,9 +124,7 @@ module _ (l k : Layout) (s : Segment) (home : ℕ) (p : Path) (sizes : List ℕ)
 
     apart_cells : (c d : Cell) → Own c ⊎ Older c → Own d ⊎ Older d → address more c ≡ address more d → c ≡ d
     apart_cells c d (inl t) (inl u) e =
-        let x = own_at c t in
-        let y = own_at d u in
-        let places : x.place ≡ y.place = same_pos x.place y.place (sym x.is ∙ e ∙ y.is) in
+        let places : home + (start_in sizes t.alloca + c.index) ≡ home + (start_in sizes u.alloca + d.index) = same_pos _ _ (sym (own_address c t) ∙ e ∙ own_address d u) in
         let less : start_in sizes t.alloca + c.index ≡ start_in sizes u.alloca + d.index = omega (arith, places) in
         let same = same_alloca sizes t.alloca u.alloca c.index d.index t.within u.within less in
         cell_is c d (t.object ∙ ap (λ (n : ℕ). Local p n) same.0 ∙ sym u.object) same.1
