@@ -1,0 +1,19 @@
+-- Where a pile fits a run.
+use Rattle.std.specs.Prelude.{◌≡◌, ℕ, Some}
+use Rattle.cactus.specs.declared.node.Node.{Node}
+use Rattle.cactus.specs.Frames.{node_at}
+use Rattle.strand.specs.Standing.{IsCopy}
+use Rattle.crew.specs.declared.activation.Activation.{Activation}
+use Rattle.crew.specs.declared.run.Run.{Run}
+use Rattle.crew.specs.Scheduling.{hand_of}
+use Rattle.absorbing.specs.Fitting.{HoldReads}
+use Rattle.deep_strand.specs.declared.pile.Pile.{Pile}
+
+-- the worker runs the base, word for word as it was loaded, at its path, and what was read is there
+pub record FitsDeep (k : Run) (worker : ℕ) (x : Pile) (slot : ℕ) : Type 0 where
+  pub node : Node Activation
+  pub hand : hand_of k.hands.items worker ≡ Some slot
+  pub stands : node_at k.cactus slot ≡ Some node
+  pub path : node.path.numbers ≡ x.base.path.items
+  pub frame : IsCopy x.base.frame node.frame.frame
+  pub reads : HoldReads x.cells.reads k.cells.cells.items
