@@ -4,6 +4,7 @@ use command_line::Request;
 use debugger::{RunFault, ScheduleFault, Verified};
 use module_answers::{Beside, Status, stop_for_memory};
 use std::alloc::{AllocError, Global};
+use std::hash::RandomState;
 use std::io;
 use std::io::Write;
 
@@ -11,6 +12,8 @@ use std::io::Write;
 #[derive(Clone, Copy)]
 pub struct Job<'a> {
     pub alloc: Global,
+    /// What a text is read with.
+    pub state: RandomState,
     pub request: &'a Request,
     /// The module's text.
     pub text: &'a [u8],
@@ -79,10 +82,34 @@ impl<'a> Job<'a> {
     }
 }
 
-pub fn print_schedule_fault<W: Write>(fault: &ScheduleFault, output: &mut W) -> io::Result<Status> {
-    if matches!(fault, ScheduleFault::Memory) {
-        return stop_for_memory(output);
+/// The line of a schedule's fault, and what is wrong there in words; none where memory was refused.
+fn wrong_line(fault: &ScheduleFault) -> Option<(u32, &'static str)> {
+    match fault {
+        ScheduleFault::BadLine(line) => Some((
+            *line,
+            "no line of a schedule, which are step W N, not twice in a row for one worker, and steal W PATH",
+        )),
+        ScheduleFault::TooLong(line) => Some((
+            *line,
+            "the schedule is too long: at most 1048576 events, in as many bytes",
+        )),
+        ScheduleFault::Memory => None,
     }
+}
+
+/// Says what is wrong with a schedule.
+pub fn print_schedule_fault<W: Write>(
+    job: &Job<'_>,
+    fault: &ScheduleFault,
+    output: &mut W,
+    beside: &mut Beside,
+) -> io::Result<Status> {
+    let Some((line, words)) = wrong_line(fault) else {
+        return stop_for_memory(output);
+    };
     writeln!(output, "schedule {fault}")?;
+    if let Some(file) = &job.request.schedule {
+        beside.note_at(file.as_str(), u64::from(line), words)?;
+    }
     Ok(Status::Schedule)
 }

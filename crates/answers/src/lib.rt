@@ -8,6 +8,8 @@
 mod dialogue;
 mod draw;
 mod job;
+mod json;
+mod people;
 mod requests;
 mod runs;
 mod tell;

@@ -2,13 +2,14 @@
 
 use crate::draw::run_drawn;
 use crate::job::Job;
+use crate::json::Asked;
 use crate::runs::{debug, run_serial};
 use crate::tell::tell_replay;
-use command_line::{Request, Verb};
+use command_line::{Request, Verb, completions, manual};
 use debugger::{Effort, verify_within};
 use module_answers::{
-    Beside, Status, answer_text, print_known, print_rule, print_unreadable, print_unverified,
-    print_verified,
+    Beside, Status, answer_text, note_unverified, print_known, print_rule, print_unreadable,
+    print_unverified, print_verified,
 };
 use std::alloc::Global;
 use std::hash::RandomState;
@@ -29,8 +30,25 @@ fn effort_of(request: &Request) -> Effort {
         | Verb::Debug
         | Verb::Print
         | Verb::Show
-        | Verb::Annotate => Effort::unlimited(),
+        | Verb::Annotate
+        | Verb::Completions
+        | Verb::Man => Effort::unlimited(),
     }
+}
+
+/// Prints what is made of the program's own words; none where the request is for a module.
+fn answer_words<W: Write>(
+    alloc: Global,
+    request: &Request,
+    output: &mut W,
+) -> io::Result<Option<Status>> {
+    let text = match (request.verb, request.shell) {
+        (Verb::Completions, Some(shell)) => completions(alloc, shell)?,
+        (Verb::Man, _) => manual(alloc)?,
+        _ => return Ok(None),
+    };
+    output.write_all(text.as_bytes())?;
+    Ok(Some(Status::Done))
 }
 
 /// Answers a request by the status, over the bytes of the files: `None` where one could not be read. What is told beside the output is
@@ -48,16 +66,32 @@ pub fn answer<R: Read, W: Write>(
     if let Some(number) = request.rule {
         return print_rule(alloc, number, output);
     }
+    if let Some(status) = answer_words(alloc, request, output)? {
+        return Ok(status);
+    }
     let Some(text) = module else {
         return print_unreadable(alloc, request.file.as_str(), output);
     };
-    if let Some(status) = answer_text(alloc, state, request.verb, text, output)? {
+    if request.is_json {
+        let asked = Asked {
+            alloc,
+            state,
+            request,
+            text,
+        };
+        return match request.verb {
+            Verb::Explain => asked.answer_explained(output, beside),
+            _ => asked.answer_verdict(&effort_of(request), output, beside),
+        };
+    }
+    if let Some(status) = answer_text(alloc, state, request, text, output, beside)? {
         return Ok(status);
     }
     match verify_within(alloc, state, text, &effort_of(request)) {
         Ok(verified) => {
             let job = Job {
                 alloc,
+                state,
                 request,
                 text,
                 verified: &verified,
@@ -65,7 +99,12 @@ pub fn answer<R: Read, W: Write>(
             };
             answer_verified(&job, state, input, output, beside)
         }
-        Err(unverified) => print_unverified(&unverified, output, beside),
+        Err(unverified) => {
+            if request.verb == Verb::Verify {
+                note_unverified(alloc, request.file.as_str(), text, &unverified, beside)?;
+            }
+            print_unverified(&unverified, output, beside)
+        }
     }
 }
 
@@ -82,8 +121,6 @@ fn answer_verified<R: Read, W: Write>(
         Verb::Run => run_drawn(job, output, beside),
         Verb::Debug => debug(job, input, output, beside),
         Verb::Serial => run_serial(job, output, beside),
-        Verb::Verify | Verb::Print | Verb::Annotate | Verb::Explain => {
-            print_verified(job.verified, job.request, output)
-        }
+        _ => { print_verified(job.verified, job.request, output) }
     }
 }

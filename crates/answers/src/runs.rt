@@ -6,7 +6,8 @@ ghost use Rattle.serial_machine.specs.store.Made.{HasGlobalCells, IsMadeFor};
 
 use crate::dialogue::converse;
 use crate::job::{Job, print_schedule_fault};
-use command_line::{CellWord, Setting, Verb};
+use crate::people::guide;
+use command_line::{CellWord, Setting};
 use debugger::{
     Debugger, Event, Finished, Machine, Memory, RunFault, Verified, read_schedule, replay,
 };
@@ -41,12 +42,12 @@ pub fn run_schedule<W: Write>(
     };
     match read_schedule(job.alloc, text) {
         Ok(events) => run_events(job, events.as_slice(), output, beside),
-        Err(fault) => print_schedule_fault(&fault, output),
+        Err(fault) => print_schedule_fault(job, &fault, output, beside),
     }
 }
 
 /// Says that the schedule's file could not be read.
-fn print_no_schedule<W: Write>(job: &Job<'_>, output: &mut W) -> io::Result<Status> {
+pub fn print_no_schedule<W: Write>(job: &Job<'_>, output: &mut W) -> io::Result<Status> {
     match &job.request.schedule {
         Some(file) => print_unreadable(job.alloc, file.as_str(), output),
         None => Ok(Status::Unreadable),
@@ -65,7 +66,7 @@ pub fn debug<R: Read, W: Write>(
     };
     match read_schedule(job.alloc, text) {
         Ok(events) => debug_events(job, events, input, output, beside),
-        Err(fault) => print_schedule_fault(&fault, output),
+        Err(fault) => print_schedule_fault(job, &fault, output, beside),
     }
 }
 
@@ -88,6 +89,7 @@ fn debug_events<R: Read, W: Write>(
     } = *job;
     let args = request.args.as_slice();
     match Debugger::new(alloc, verified, args, memory, request.workers, events) {
+        Ok(mut debugger) if request.is_interactive => guide(job, &mut debugger, input, output),
         Ok(mut debugger) => converse(alloc, &mut debugger, input, output),
         Err(fault) => job.print_run_fault(&fault, output, beside),
     }
@@ -102,7 +104,7 @@ pub fn prepared(job: &Job<'_>) -> Result<Memory, Status>
         return Err(Status::Stopped);
     };
     let request = job.request;
-    let has_shown = request.verb == Verb::Debug || has_cells(&memory, request.show.as_slice());
+    let has_shown = has_cells(&memory, request.show.as_slice());
     if set_cells(&mut memory, request.set.as_slice()) && has_shown {
         Ok(memory)
     } else {
@@ -133,7 +135,7 @@ fn run_events<W: Write>(
 }
 
 /// The answer of a run by these events.
-pub fn run_replay<W: Write>(
+fn run_replay<W: Write>(
     job: &Job<'_>,
     memory: Memory,
     events: &[Event],
@@ -163,7 +165,8 @@ pub fn print_run<W: Write>(
     }
 }
 
-fn print_replayed<W: Write>(
+/// The answer of a run that stands so.
+pub fn print_replayed<W: Write>(
     job: &Job<'_>,
     machine: Machine<'_>,
     output: &mut W,

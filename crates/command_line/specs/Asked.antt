@@ -18,6 +18,8 @@ word_of verb.Debug = codes "debug"
 word_of verb.Print = codes "print"
 word_of verb.Show = codes "show"
 word_of verb.Annotate = codes "annotate"
+word_of verb.Completions = codes "completions"
+word_of verb.Man = codes "man"
 
 -- the words were parsed by a command, and the command that they have to name is that of this verb
 pub record IsAsked (words : List (List ℕ)) (v : Verb) : Type 0 where

@@ -4,10 +4,15 @@
 //! ([`text_of`]) and a word again where a file is opened ([`bytes_of`]).
 #![tactic(auto)]
 
+mod manual_page;
 mod parsing;
 mod request;
+mod shells;
+mod version;
 mod word;
 
+pub use manual_page::manual;
 pub use parsing::{is_name, words};
-pub use request::{CellWord, Request, Setting, Telling, Verb, WordsFault};
+pub use request::{CellWord, Request, Setting, Shell, Telling, Verb, WordsFault};
+pub use shells::completions;
 pub use word::{bytes_of, is_raw, text_of};

@@ -3,14 +3,19 @@
 ghost use Rattle.std.specs.Prelude.{◌≡◌, IfOk, IfSome, map};
 ghost use Rattle.command_line.specs.Asked.{IsAsked, word_of};
 
-use crate::request::{CellWord, Request, Setting, Verb, WordsFault};
+use crate::request::{CellWord, Request, Setting, Shell, Verb, WordsFault};
+use crate::version::VERSION_LINES;
 use clap::error::ErrorKind;
 use clap::{Arg, ArgAction, ArgMatches, Command, Error};
 use rules::rule_text;
 use std::alloc::{AllocError, Global};
 
+/// What the program is.
+pub(crate) const ABOUT: &str =
+    "A verified fork-join machine for LLVM IR with Tapir's detach, reattach and sync";
+
 /// What the help of each command tells last.
-const STATUSES: &str = "\
+pub(crate) const STATUSES: &str = "\
 Statuses:
   0  done
   1  the module is refused
@@ -41,7 +46,7 @@ Example:
 Statuses:
   as those of run --help";
 
-static VERBS: [Verb; 9] = [
+pub(crate) static VERBS: [Verb; 11] = [
     Verb::Verify,
     Verb::Explain,
     Verb::Serial,
@@ -51,6 +56,8 @@ static VERBS: [Verb; 9] = [
     Verb::Print,
     Verb::Show,
     Verb::Annotate,
+    Verb::Completions,
+    Verb::Man,
 ];
 
 /// Whether a text is a name by the rules of the module's text, without its sigil.
@@ -173,16 +180,39 @@ fn table_of(alloc: Global, matches: &ArgMatches<'_>) -> Result<Option<String>, W
     }
 }
 
-fn fault_of(alloc: Global, error: Error) -> WordsFault {
-    if error.kind() == ErrorKind::OutOfMemory {
-        return WordsFault::out_of_memory();
+/// What clap says, with a tip that works for a number below 0.
+fn told(alloc: Global, error: &Error) -> Result<String, AllocError> {
+    let text = format!(in alloc; "{error}")?;
+    match text.as_str().split_once("use '-- -") {
+        Some((before, after)) => format!(in alloc; "{before}use '--arg=-{after}"),
+        None => Ok(text),
     }
-    fault_with(format!(in alloc; "{error}"))
+}
+
+fn fault_of(alloc: Global, error: Error) -> WordsFault {
+    match error.kind() {
+        ErrorKind::OutOfMemory => WordsFault::out_of_memory(),
+        ErrorKind::DisplayVersion => match told(alloc, &error) {
+            Ok(text) => WordsFault::asked(text),
+            Err(_) => WordsFault::out_of_memory(),
+        },
+        _ => fault_with(told(alloc, &error)),
+    }
+}
+
+/// The shell of a word.
+fn shell_of(alloc: Global, word: &str) -> Result<Shell, WordsFault> {
+    match word {
+        "bash" => Ok(Shell::Bash),
+        "zsh" => Ok(Shell::Zsh),
+        "fish" => Ok(Shell::Fish),
+        _ => Err(wrong_value(alloc, "<SHELL>", word)),
+    }
 }
 
 /// How a word or an option of a command is given.
 #[derive(Clone, Copy)]
-enum Given {
+pub(crate) enum Given {
     /// A word that has to be there.
     Word,
     /// An option with a value.
@@ -191,19 +221,17 @@ enum Given {
     Required,
     /// An option with a value, which may be given more than once.
     Repeated,
-    /// An option with a value, which needs this option too.
-    With(&'static str),
     /// An option without a value.
     Flag,
 }
 
 /// A word or an option of a command.
 #[derive(Clone, Copy)]
-struct Part {
-    name: &'static str,
-    value: &'static str,
-    given: Given,
-    help: &'static str,
+pub(crate) struct Part {
+    pub(crate) name: &'static str,
+    pub(crate) value: &'static str,
+    pub(crate) given: Given,
+    pub(crate) help: &'static str,
 }
 
 const FILE: Part = Part {
@@ -266,13 +294,13 @@ const SEED: Part = Part {
     name: "seed",
     value: "S",
     given: Given::Option,
-    help: "draws the events, at most 1048576, at random by this number",
+    help: "draws the events at random by this number",
 };
 
 const SAVE: Part = Part {
     name: "save",
     value: "OUT",
-    given: Given::With("seed"),
+    given: Given::Option,
     help: "writes the events to a file, as replay takes them",
 };
 
@@ -297,20 +325,72 @@ const PICTURE: Part = Part {
     help: "writes a picture of the run to a file, as SVG",
 };
 
+const JSON_OUT: Part = Part {
+    name: "json",
+    value: "OUT",
+    given: Given::Option,
+    help: "writes a line of JSON for each event to a file",
+};
+
+const PAGE: Part = Part {
+    name: "page",
+    value: "OUT",
+    given: Given::Option,
+    help: "writes a page to step through the run to a file, as HTML",
+};
+
+const STATS: Part = Part {
+    name: "stats",
+    value: "",
+    given: Given::Flag,
+    help: "prints what each worker did after the answer",
+};
+
+const JSON: Part = Part {
+    name: "json",
+    value: "",
+    given: Given::Flag,
+    help: "prints the answer as one object of JSON",
+};
+
+const INTERACTIVE: Part = Part {
+    name: "interactive",
+    value: "",
+    given: Given::Flag,
+    help: "answers as it does people at a terminal",
+};
+
+const SHELL: Part = Part {
+    name: "shell",
+    value: "SHELL",
+    given: Given::Word,
+    help: "bash, zsh or fish",
+};
+
 /// The words and options of the commands, as their help lists them; a command that only reads a module takes its file alone.
 static MODULE_PARTS: [Part; 1] = [FILE];
 
-static VERIFY_PARTS: [Part; 3] = [FILE, TABLE, EFFORT];
+static VERIFY_PARTS: [Part; 4] = [FILE, TABLE, EFFORT, JSON];
 
-static EXPLAIN_PARTS: [Part; 1] = [FILE_OR_NUMBER];
+static EXPLAIN_PARTS: [Part; 2] = [FILE_OR_NUMBER, JSON];
+
+static SHOW_PARTS: [Part; 2] = [FILE, JSON];
 
 static SERIAL_PARTS: [Part; 4] = [FILE, ARG, SET, SHOW];
 
-static RUN_PARTS: [Part; 7] = [FILE, ARG, SET, SHOW, WORKERS, SEED, SAVE];
+static RUN_PARTS: [Part; 12] = [
+    FILE, ARG, SET, SHOW, WORKERS, SEED, SAVE, TRACE, STATS, PICTURE, JSON_OUT, PAGE,
+];
 
-static REPLAY_PARTS: [Part; 8] = [FILE, ARG, SET, SHOW, SCHEDULE, WORKERS, TRACE, PICTURE];
+static REPLAY_PARTS: [Part; 12] = [
+    FILE, ARG, SET, SHOW, SCHEDULE, WORKERS, SAVE, TRACE, STATS, PICTURE, JSON_OUT, PAGE,
+];
 
-static DEBUG_PARTS: [Part; 6] = [FILE, ARG, SET, SHOW, SCHEDULE, WORKERS];
+static DEBUG_PARTS: [Part; 7] = [FILE, ARG, SET, SHOW, SCHEDULE, WORKERS, INTERACTIVE];
+
+static COMPLETIONS_PARTS: [Part; 1] = [SHELL];
+
+static MAN_PARTS: [Part; 0] = [];
 
 /// An option with a value.
 fn option<'a>(arg: Arg<'a>, part: &Part, action: ArgAction) -> Arg<'a> {
@@ -324,7 +404,6 @@ fn arg_of<'a>(alloc: Global, part: &Part) -> Result<Arg<'a>, AllocError> {
         Given::Option => Ok(option(arg, part, ArgAction::Set)),
         Given::Required => Ok(option(arg, part, ArgAction::Set).required(true)),
         Given::Repeated => Ok(option(arg, part, ArgAction::Append)),
-        Given::With(other) => option(arg, part, ArgAction::Set).requires_arg(other),
         Given::Flag => Ok(arg.long(part.name).action(ArgAction::SetTrue)),
     }
 }
@@ -338,7 +417,7 @@ fn args_for<'a>(alloc: Global, parts: &[Part]) -> Result<Vec<Arg<'a>>, AllocErro
 }
 
 /// What the help tells of a verb first.
-fn about_of(verb: Verb) -> &'static str {
+pub(crate) fn about_of(verb: Verb) -> &'static str {
     match verb {
         Verb::Verify => "verifies a module, and tells its budget and depth",
         Verb::Explain => {
@@ -353,11 +432,31 @@ fn about_of(verb: Verb) -> &'static str {
         Verb::Print => "prints the canonical text of a module",
         Verb::Show => "tells what the verifier knows of each block of a module",
         Verb::Annotate => "prints a module with annotations put in that follow from others",
+        Verb::Completions => "prints a script that completes the words of this program in a shell",
+        Verb::Man => "prints the manual page",
+    }
+}
+
+/// A call of a verb, as its help shows one.
+pub(crate) fn example_of(verb: Verb) -> &'static str {
+    match verb {
+        Verb::Verify => "$ tapirvm verify fib.ll --table @fib",
+        Verb::Explain => "$ tapirvm explain fib.ll\n$ tapirvm explain 602",
+        Verb::Serial => "$ tapirvm serial pair.ll --arg 7 --show @a:0",
+        Verb::Run =>
+            "$ tapirvm run fib.ll --workers 4 --arg 10\n$ tapirvm run fib.ll --workers 4 --arg 6 --seed 1 --save s.txt --page fib.html",
+        Verb::Replay => "$ tapirvm replay pair.ll s.txt --workers 2 --arg 7 --trace",
+        Verb::Debug => "$ tapirvm debug pair.ll s.txt --workers 2 --arg 7",
+        Verb::Print => "$ tapirvm print fib.ll",
+        Verb::Show => "$ tapirvm show fib.ll",
+        Verb::Annotate => "$ tapirvm annotate fib.ll > annotated.ll",
+        Verb::Completions => "$ source <(tapirvm completions bash)",
+        Verb::Man => "$ tapirvm man > tapirvm.1 && man ./tapirvm.1",
     }
 }
 
 /// The words and options of a verb.
-fn parts_of(verb: Verb) -> &'static [Part] {
+pub(crate) fn parts_of(verb: Verb) -> &'static [Part] {
     match verb {
         Verb::Verify => &VERIFY_PARTS,
         Verb::Explain => &EXPLAIN_PARTS,
@@ -365,39 +464,61 @@ fn parts_of(verb: Verb) -> &'static [Part] {
         Verb::Run => &RUN_PARTS,
         Verb::Replay => &REPLAY_PARTS,
         Verb::Debug => &DEBUG_PARTS,
-        Verb::Print | Verb::Show | Verb::Annotate => &MODULE_PARTS,
+        Verb::Completions => &COMPLETIONS_PARTS,
+        Verb::Man => &MAN_PARTS,
+        Verb::Show => &SHOW_PARTS,
+        Verb::Print | Verb::Annotate => &MODULE_PARTS,
     }
 }
 
 /// The command of a verb.
-fn verb_command<'a>(alloc: Global, verb: Verb) -> Result<Command<'a>, AllocError> {
+fn verb_command<'a>(alloc: Global, verb: Verb, ending: &'a str) -> Result<Command<'a>, AllocError> {
     let args = args_for(alloc, parts_of(verb))?;
     let name: &'a str = verb.word();
     let about: &'a str = about_of(verb);
-    let ending: &'a str = if verb == Verb::Debug {
-        DIALOGUE
-    } else {
-        STATUSES
-    };
     Command::new(alloc, name)
         .about(about)
         .after_help(ending)
         .args(args)
 }
 
-/// The commands of the verbs, in their order.
-fn verb_commands<'a>(alloc: Global) -> Result<Vec<Command<'a>>, AllocError> {
-    let mut commands = Vec::new(alloc);
+/// How the help of each verb ends, in their order.
+fn endings(alloc: Global) -> Result<Vec<String>, AllocError> {
+    let mut endings = Vec::new(alloc);
     for verb in VERBS {
-        commands.push(verb_command(alloc, verb)?)?;
+        endings.push(ending_of(alloc, verb)?)?;
+    }
+    Ok(endings)
+}
+
+/// An example and the statuses; of the dialogue its commands.
+fn ending_of(alloc: Global, verb: Verb) -> Result<String, AllocError> {
+    if verb == Verb::Debug {
+        return String::from_str(alloc, DIALOGUE);
+    }
+    let mut ending = String::from_str(alloc, "Example:\n")?;
+    for line in example_of(verb).lines() {
+        writeln!(ending, "  {line}")?;
+    }
+    ending.push_str("\n")?;
+    ending.push_str(STATUSES)?;
+    Ok(ending)
+}
+
+/// The commands of the verbs, in their order.
+fn verb_commands<'a>(alloc: Global, endings: &'a [String]) -> Result<Vec<Command<'a>>, AllocError> {
+    let mut commands = Vec::new(alloc);
+    for (verb, ending) in VERBS.iter().zip(endings) {
+        commands.push(verb_command(alloc, *verb, ending.as_str())?)?;
     }
     Ok(commands)
 }
 
-fn command<'a>(alloc: Global) -> Result<Command<'a>, AllocError> {
-    let commands = verb_commands(alloc)?;
+fn command<'a>(alloc: Global, endings: &'a [String]) -> Result<Command<'a>, AllocError> {
+    let commands = verb_commands(alloc, endings)?;
     Command::new(alloc, "tapirvm")
-        .about("A verified fork-join machine for LLVM IR with Tapir's detach, reattach and sync")
+        .about(ABOUT)
+        .version(VERSION_LINES)
         .after_help(STATUSES)
         .subcommand_required(true)
         .subcommands(commands)
@@ -479,6 +600,24 @@ fn read_verify(
 {
     request.table = table_of(alloc, matches)?;
     request.effort = number_of(alloc, matches, "effort", "--effort <N>")?;
+    request.is_json = matches.get_flag("json");
+    Ok(())
+}
+
+/// Reads what is to be told of a run.
+fn read_telling(
+    alloc: Global,
+    matches: &ArgMatches<'_>,
+    request: &mut Request,
+) -> Result<(), WordsFault>
+    ensures { request.new.verb ≡ request.old.verb }
+{
+    request.telling.trace = matches.get_flag("trace");
+    request.telling.stats = matches.get_flag("stats");
+    request.telling.save = written_file(alloc, matches, "save")?;
+    request.telling.picture = written_file(alloc, matches, "picture")?;
+    request.telling.json = written_file(alloc, matches, "json")?;
+    request.telling.page = written_file(alloc, matches, "page")?;
     Ok(())
 }
 
@@ -504,7 +643,13 @@ fn read_run(
 {
     read_running(alloc, matches, request)?;
     request.telling.seed = number_of(alloc, matches, "seed", "--seed <S>")?;
-    request.telling.file = written_file(alloc, matches, "save")?;
+    read_telling(alloc, matches, request)?;
+    if request.telling.seed.is_none() && request.telling.is_any() {
+        return Err(fault_with(String::from_str(
+            alloc,
+            "error: what a run on threads did is not told: --seed <S> draws its events\n",
+        )));
+    }
     Ok(())
 }
 
@@ -530,8 +675,19 @@ fn read_replay(
     ensures { request.new.verb ≡ request.old.verb }
 {
     read_scheduled(alloc, matches, request)?;
-    request.telling.trace = matches.get_flag("trace");
-    request.telling.file = written_file(alloc, matches, "picture")?;
+    read_telling(alloc, matches, request)
+}
+
+/// Reads the options of a dialogue.
+fn read_debug(
+    alloc: Global,
+    matches: &ArgMatches<'_>,
+    request: &mut Request,
+) -> Result<(), WordsFault>
+    ensures { request.new.verb ≡ request.old.verb }
+{
+    read_scheduled(alloc, matches, request)?;
+    request.is_interactive = matches.get_flag("interactive");
     Ok(())
 }
 
@@ -545,12 +701,17 @@ fn read_options(
 {
     match request.verb {
         Verb::Verify => read_verify(alloc, matches, request)?,
-        Verb::Explain => request.rule = rule_of(alloc, request.file.as_str())?,
+        Verb::Explain => {
+            request.rule = rule_of(alloc, request.file.as_str())?;
+            request.is_json = matches.get_flag("json");
+        }
         Verb::Run => read_run(alloc, matches, request)?,
         Verb::Replay => read_replay(alloc, matches, request)?,
-        Verb::Debug => read_scheduled(alloc, matches, request)?,
+        Verb::Debug => read_debug(alloc, matches, request)?,
         Verb::Serial => read_running(alloc, matches, request)?,
-        Verb::Print | Verb::Show | Verb::Annotate => {}
+        Verb::Show => request.is_json = matches.get_flag("json"),
+        Verb::Completions => request.shell = Some(shell_of(alloc, request.file.as_str())?),
+        Verb::Print | Verb::Annotate | Verb::Man => {}
     }
     Ok(())
 }
@@ -571,7 +732,11 @@ fn verb_of(word: &str) -> Option<Verb>
 fn request_for(alloc: Global, verb: Verb, matches: &ArgMatches<'_>) -> Result<Request, WordsFault>
     ensures { IfOk result (λ r. r.verb ≡ verb) }
 {
-    let file = word_named(alloc, matches, "file", "<FILE>")?;
+    let file = match verb {
+        Verb::Man => String::new(alloc),
+        Verb::Completions => word_named(alloc, matches, "shell", "<SHELL>")?,
+        _ => word_named(alloc, matches, "file", "<FILE>")?,
+    };
     let mut request = Request::of_file(alloc, verb, file);
     read_options(alloc, matches, &mut request)?;
     Ok(request)
@@ -581,7 +746,8 @@ fn request_for(alloc: Global, verb: Verb, matches: &ArgMatches<'_>) -> Result<Re
 pub fn words<'a>(alloc: Global, words: &'a [&'a str]) -> Result<Request, WordsFault>
     ensures { IfOk result (λ r. IsAsked (map (λ w. w.now) words.now) r.verb) }
 {
-    let parsed = match command(alloc)?.try_get_matches_from(words) {
+    let endings = endings(alloc)?;
+    let parsed = match command(alloc, endings.as_slice())?.try_get_matches_from(words) {
         Ok(matches) => matches,
         Err(error) => return Err(fault_of(alloc, error)),
     };

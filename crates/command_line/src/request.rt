@@ -24,6 +24,10 @@ pub enum Verb {
     Show,
     /// Put in the annotations that follow from others.
     Annotate,
+    /// Print a script that completes the words of a shell.
+    Completions,
+    /// Print the manual page.
+    Man,
 }
 
 impl Verb {
@@ -41,8 +45,18 @@ impl Verb {
             Verb::Print => "print",
             Verb::Show => "show",
             Verb::Annotate => "annotate",
+            Verb::Completions => "completions",
+            Verb::Man => "man",
         }
     }
+}
+
+/// A shell whose words are completed.
+#[derive(Clone, Copy)]
+pub enum Shell {
+    Bash,
+    Zsh,
+    Fish,
 }
 
 /// A cell of a global, as `@a:5` names it.
@@ -81,6 +95,14 @@ pub struct Request {
     pub effort: Option<u64>,
     /// The number of the rule to print in place of a module, for the verb that takes one.
     pub rule: Option<u16>,
+    /// The shell whose words to complete, for the verb that takes one.
+    pub shell: Option<Shell>,
+    /// Whether the answer is an object of JSON, for the verbs that have one.
+    pub is_json: bool,
+    /// Whether a dialogue is for people, whatever its input is.
+    pub is_interactive: bool,
+    /// Whether answers may have colours: the caller says so, who knows where they go.
+    pub has_colours: bool,
     /// How the verb tells of the run, and where to.
     pub telling: Telling,
 }
@@ -99,6 +121,10 @@ impl Drop for Request {
             table: _,
             effort: _,
             rule: _,
+            shell: _,
+            is_json: _,
+            is_interactive: _,
+            has_colours: _,
             telling: _,
         } = self;
     }
@@ -120,29 +146,50 @@ impl Request {
             table: None,
             effort: None,
             rule: None,
+            shell: None,
+            is_json: false,
+            is_interactive: false,
+            has_colours: false,
             telling: Telling::nothing(),
         }
     }
 }
 
-/// What is told of a run beside its answer.
+/// What is told of a run beside its answer. A file is named where something is to be written there.
 #[derive(Drop)]
 pub struct Telling {
-    /// A line for each event of a replay.
+    /// A line for each event.
     pub trace: bool,
+    /// What each worker did, after the answer.
+    pub stats: bool,
     /// Draws the events of a run by this seed; without one its workers have threads.
     pub seed: Option<u64>,
-    /// The file to write: the picture of a replay, or the schedule of a run that is drawn.
-    pub file: Option<String>,
+    /// The events, as a schedule.
+    pub save: Option<String>,
+    pub picture: Option<String>,
+    /// A line of JSON for each event.
+    pub json: Option<String>,
+    pub page: Option<String>,
 }
 
 impl Telling {
     pub fn nothing() -> Telling {
         Telling {
             trace: false,
+            stats: false,
             seed: None,
-            file: None,
+            save: None,
+            picture: None,
+            json: None,
+            page: None,
         }
+    }
+
+    /// Whether anything is told of the events.
+    pub fn is_any(&self) -> bool {
+        let is_written = self.save.is_some() || self.picture.is_some();
+        let is_listed = self.json.is_some() || self.page.is_some();
+        self.trace || self.stats || is_written || is_listed
     }
 }
 
@@ -152,6 +199,8 @@ pub struct WordsFault {
     /// Empty where memory was refused.
     pub text: Option<String>,
     pub memory: bool,
+    /// Whether the text is what was asked for, and no fault.
+    pub is_asked: bool,
 }
 
 impl WordsFault {
@@ -159,6 +208,16 @@ impl WordsFault {
         WordsFault {
             text: Some(text),
             memory: false,
+            is_asked: false,
+        }
+    }
+
+    /// What the words ask for instead of a request.
+    pub fn asked(text: String) -> WordsFault {
+        WordsFault {
+            text: Some(text),
+            memory: false,
+            is_asked: true,
         }
     }
 
@@ -166,6 +225,7 @@ impl WordsFault {
         WordsFault {
             text: None,
             memory: true,
+            is_asked: false,
         }
     }
 }

@@ -15,6 +15,14 @@ use std::time::Clock;
 /// More bytes than a word of a command line has.
 const WORD_ROOM: usize = 131_072;
 
+/// Which of the program's streams are terminals.
+#[derive(Clone, Copy)]
+pub struct Terminals {
+    pub input: bool,
+    pub output: bool,
+    pub error: bool,
+}
+
 /// The files that a request names, each with why it could not be read.
 #[derive(Drop)]
 struct Texts {
@@ -60,6 +68,10 @@ fn stop_for_memory(rt: &impl Print) -> Status {
 /// Prints why words are no request, and answers the status.
 fn refuse_words(rt: &(impl Print + Eprint), fault: &WordsFault) -> Status {
     match &fault.text {
+        Some(text) if fault.is_asked => match rt.print(text) {
+            Ok(()) => Status::Done,
+            Err(_) => Status::Stream,
+        },
         Some(text) => {
             let _ = rt.eprint(text);
             Status::Words
@@ -85,18 +97,15 @@ fn explain_status(rt: &impl Eprint, request: &Request, status: u8, texts: &Texts
     }
 }
 
-/// Writes the file that is asked for, if one is.
-fn write_asked<R: AllocGlobal + Eprint + Files>(rt: &R, request: &Request, text: &str) -> Status {
-    let Some(file) = &request.telling.file else {
-        return Status::Done;
-    };
-    match write_file(rt, file.as_str(), text) {
-        Ok(()) => Status::Done,
-        Err(error) => {
-            complain(rt, file.as_str(), &error);
-            Status::Stream
+/// Writes the files that are asked for, up to one that cannot be written.
+fn write_asked<R: AllocGlobal + Eprint + Files>(rt: &R, beside: &Beside) -> Status {
+    for file in &beside.files {
+        if let Err(error) = write_file(rt, file.word.as_str(), file.text.as_str()) {
+            complain(rt, file.word.as_str(), &error);
+            return Status::Stream;
         }
     }
+    Status::Done
 }
 
 /// The text of the file that a word names, or why it cannot be read; want of memory is no such reason.
@@ -161,17 +170,28 @@ fn tell_beside<R: AllocGlobal + Eprint + Files>(
     let _ = rt.eprint(beside.notes.as_str());
     explain_status(rt, request, status, texts);
     if status == Status::Done as u8 {
-        return write_asked(rt, request, beside.file.as_str()) as u8;
+        return write_asked(rt, beside) as u8;
     }
     status
 }
 
 /// Reads the files, does what is asked and answers the status.
 fn obey<
-    R: AllocGlobal + Clock + Eprint + Files + Input + Print + RandomSource + Sync + Threads + Wait,
->(rt: &R, request: &Request) -> io::Result<u8> {
+    R: AllocGlobal
+        + Clock
+        + Env
+        + Eprint
+        + Files
+        + Input
+        + Print
+        + RandomSource
+        + Sync
+        + Threads
+        + Wait,
+>(rt: &R, request: &Request, terminals: Terminals) -> io::Result<u8> {
     let texts = read_texts(rt, request)?;
     let mut beside = Beside::nothing(rt.alloc());
+    beside.has_colours = terminals.error && !has_no_colours(rt);
     let status = answer(rt, request, &texts, &mut beside)?;
     Ok(tell_beside(rt, request, &texts, &beside, status))
 }
@@ -193,11 +213,30 @@ fn finish<W: Write + Drop>(rt: &impl Eprint, status: u8, output: BufWriter<W>) -
     }
     match output.flush() {
         Ok(()) => status,
+        // Whoever read the output wants no more of it.
+        Err(error) if error.kind() == ErrorKind::BrokenPipe => Status::Stream as u8,
         Err(error) => {
             complain(rt, "standard output", &error);
             Status::Stream as u8
         }
     }
+}
+
+/// Whether the environment says that no colours are wanted: `NO_COLOR` has a value.
+fn has_no_colours(rt: &impl Env) -> bool {
+    let mut first = [0u8; 1];
+    match rt.var("NO_COLOR", &mut first) {
+        Ok(length) => length > 0,
+        Err(FillError::TooLong) => true,
+        Err(FillError::NotPresent) => false,
+    }
+}
+
+/// Makes a request suit the streams: a dialogue between terminals is for people, and an output that is one has colours.
+fn suit(rt: &impl Env, request: &mut Request, terminals: Terminals) {
+    let is_dialogue = terminals.input && terminals.output;
+    request.is_interactive = request.is_interactive || is_dialogue;
+    request.has_colours = terminals.output && !has_no_colours(rt);
 }
 
 /// Reads the program's words and obeys them.
@@ -213,12 +252,15 @@ fn obey_words<
         + Sync
         + Threads
         + Wait,
->(rt: &R) -> io::Result<u8> {
+>(rt: &R, terminals: Terminals) -> io::Result<u8> {
     let alloc = rt.alloc();
     let texts = read_words(rt)?;
     let list: Vec<&str> = texts.iter().map(|t| t.as_str()).collect(alloc)?;
     match words(alloc, list.as_slice()) {
-        Ok(request) => obey(rt, &request),
+        Ok(mut request) => {
+            suit(rt, &mut request, terminals);
+            obey(rt, &request, terminals)
+        }
         Err(fault) => Ok(refuse_words(rt, &fault) as u8),
     }
 }
@@ -236,8 +278,8 @@ pub fn run<
         + Sync
         + Threads
         + Wait,
->(rt: &R) -> u8 {
-    match obey_words(rt) {
+>(rt: &R, terminals: Terminals) -> u8 {
+    match obey_words(rt, terminals) {
         Ok(status) => status,
         Err(error) if error.kind() == ErrorKind::OutOfMemory => stop_for_memory(rt) as u8,
         Err(error) => {

@@ -13,5 +13,5 @@ pub use answers::{
     Standing, Status, TaskView, Telling, Verb, Verified, WordsFault, bytes_of, read_file,
     read_schedule, read_text, replay, text_of, verify, words,
 };
-pub use host::run;
+pub use host::{Terminals, run};
 pub use requests::act;

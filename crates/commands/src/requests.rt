@@ -61,6 +61,7 @@ fn verify_and_run<T: Threads + Wait + Clock + Sync, W: Write>(
         Ok(verified) => {
             let job = Job {
                 alloc,
+                state,
                 request,
                 text,
                 verified: &verified,

@@ -6,14 +6,15 @@ ghost use Rattle.schedule_core.specs.store.declared.memory.Memory.{Memory};
 ghost use Rattle.schedule_core.specs.outcome.Requirements.{unmet_in};
 ghost use Rattle.schedule_core.specs.Replaying.{IsNumberOfWorkers};
 ghost use Rattle.schedule_core.specs.Stages.{global_named};
-ghost use Rattle.schedule_core.specs.Viewed.{IsTask, status_in};
+ghost use Rattle.schedule_core.specs.FrameViews.{IsFrameAt, IsHeldBy};
+ghost use Rattle.schedule_core.specs.Viewed.{IsTask, place_in, status_in};
 ghost use Rattle.debugger.specs.Sessions.{AreMarks, Debugs, HasLineAt, IsAt, IsFirstStop, Session, Stays, state_at};
 
 use crate::debugger::Debugger;
 use crate::marks::Marks;
 use frame::Path;
 use lists::OutOfMemory;
-use schedule_core::{Event, Machine, Memory, RunFault, TaskView, Verified};
+use schedule_core::{Event, FrameView, Machine, Memory, RunFault, TaskView, Verified};
 use std::alloc::Global;
 
 /// Does the events from one position up to another, and keeps marks on the way.
@@ -225,5 +226,36 @@ impl<'v> Debugger<'v> {
         ensures { (s : Session) → Debugs s self.now → result ≡ global_named (state_at s self.now.position) s.globals name.now index }
     {
         self.machine.get_global(name, index)
+    }
+
+    /// The events of the schedule.
+    pub fn events(&self) -> &[Event]
+        ensures { result.now ≡ self.now.events.items }
+    {
+        self.events.as_slice()
+    }
+
+    /// The machine at the position.
+    pub fn machine(&self) -> &Machine<'v>
+        ensures { (s : Session) → Debugs s self.now → IsAt s self.now.position result.now.stage }
+    {
+        &self.machine
+    }
+
+    /// The frame of the path, and so its registers; none where no such frame lives.
+    pub fn show_frame(&self, path: &Path) -> Option<FrameView<'_>>
+        ensures shown { (s : Session) → Debugs s self.now
+            → IfSome result (IsFrameAt self.now.machine.stage (state_at s self.now.position) path.now) }
+        ensures absent { (s : Session) → Debugs s self.now → IfNone result ((state_at s self.now.position).core.frames (place_in path.now) ≡ None) }
+    {
+        self.machine.frame(path)
+    }
+
+    /// What a cell of an alloca holds, of the frame of this path; none where there is no such cell. A cell without a value may hold any.
+    pub fn show_alloca(&self, path: &Path, alloca: usize, index: u64) -> Option<i64>
+        ensures { (s : Session) → Debugs s self.now
+            → IsHeldBy self.now.machine.stage (state_at s self.now.position) path.now alloca index result }
+    {
+        self.machine.alloca_cell(path, alloca, index)
     }
 }

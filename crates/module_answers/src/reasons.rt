@@ -1,5 +1,7 @@
 //! What `explain` prints: a rule, or why a module is refused.
 
+use crate::beside::Beside;
+use crate::faults::note_fault;
 use crate::refusals::stop_for_memory;
 use crate::status::Status;
 use explain::{Explanation, explain, rule_text, told};
@@ -9,16 +11,21 @@ use std::hash::RandomState;
 use std::io;
 use std::io::Write;
 
-/// The text of an explanation, and the status: 1 where the module is refused.
+/// The text of an explanation, and the status: 1 where the module is refused. Its first fault is told beside it.
 fn explained(
     alloc: Global,
     state: RandomState,
+    file: &str,
     text: &[u8],
+    beside: &mut Beside,
 ) -> Result<(String, Status), OutOfMemory> {
     let explanation = explain(alloc, state, text)?;
     let status = match &explanation {
         Explanation::Accepted { .. } => Status::Done,
-        Explanation::Refused { .. } => Status::Refused,
+        Explanation::Refused { first, .. } => {
+            note_fault(alloc, file, text, first.number, first.line, beside)?;
+            Status::Refused
+        }
     };
     Ok((told(alloc, text, &explanation)?, status))
 }
@@ -27,10 +34,12 @@ fn explained(
 pub fn print_explanation<W: Write>(
     alloc: Global,
     state: RandomState,
+    file: &str,
     text: &[u8],
     output: &mut W,
+    beside: &mut Beside,
 ) -> io::Result<Status> {
-    match explained(alloc, state, text) {
+    match explained(alloc, state, file, text, beside) {
         Ok((told, status)) => {
             output.write_all(told.as_bytes())?;
             Ok(status)

@@ -1,6 +1,7 @@
 //! What is said where a module is not taken, and of streams and memory.
 
 use crate::beside::Beside;
+use crate::faults::note_effort;
 use crate::status::Status;
 use command_line::bytes_of;
 use std::alloc::Global;
@@ -21,8 +22,11 @@ pub fn fail<W: Write>(
     output: &mut W,
     beside: &mut Beside,
 ) -> Status {
-    if error.kind() == ErrorKind::OutOfMemory {
-        return stop_for_memory(output).unwrap_or(Status::Stream);
+    match error.kind() {
+        ErrorKind::OutOfMemory => return stop_for_memory(output).unwrap_or(Status::Stream),
+        // Whoever read the output wants no more of it.
+        ErrorKind::BrokenPipe => return Status::Stream,
+        _ => {}
     }
     if let Ok(line) = format!(in alloc; "standard input or output: {error}") {
         let _ = beside.note(line.as_str());
@@ -60,7 +64,7 @@ pub fn print_unverified<W: Write>(
         Unverified::Refused(refused) => print_refused(refused, output),
         Unverified::OutOfEffort => {
             writeln!(output, "undecided")?;
-            beside.note("the effort is spent before a verdict; --effort=N grants more")?;
+            note_effort(beside)?;
             Ok(Status::Stopped)
         }
     }

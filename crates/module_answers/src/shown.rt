@@ -1,10 +1,11 @@
 //! Modules as people see them: answers that run nothing.
 
+use crate::beside::Beside;
 use crate::reasons::print_explanation;
 use crate::refusals::print_refused;
 use crate::status::Status;
 use annotate::annotated;
-use command_line::Verb;
+use command_line::{Request, Verb};
 use std::alloc::Global;
 use std::hash::RandomState;
 use std::io;
@@ -27,14 +28,17 @@ fn print_text<W: Write>(text: Result<String, Refused>, output: &mut W) -> io::Re
 pub fn answer_text<W: Write>(
     alloc: Global,
     state: RandomState,
-    verb: Verb,
+    request: &Request,
     text: &[u8],
     output: &mut W,
+    beside: &mut Beside,
 ) -> io::Result<Option<Status>> {
-    let status = match verb {
+    let status = match request.verb {
         Verb::Print => print_text(printed(alloc, state, text), output)?,
         Verb::Annotate => print_text(annotated(alloc, state, text), output)?,
-        Verb::Explain => print_explanation(alloc, state, text, output)?,
+        Verb::Explain => {
+            print_explanation(alloc, state, request.file.as_str(), text, output, beside)?
+        }
         _ => return Ok(None),
     };
     Ok(Some(status))

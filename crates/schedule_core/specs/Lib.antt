@@ -1,6 +1,7 @@
 pub mod Stages
 pub mod Lines
 pub mod Viewed
+pub mod FrameViews
 pub mod Replaying
 pub mod Parents
 pub mod Spots

@@ -5,6 +5,7 @@
 
 mod absorb;
 mod events;
+mod frames;
 mod globals;
 mod laws;
 mod machine;
@@ -17,8 +18,9 @@ mod view;
 
 pub use absorb::{blank_strand, places_of, steps_of};
 pub use absorbing::{Pause, Strand};
-pub use engine::Places;
+pub use engine::{Frame, Places};
 pub use frame::Event;
+pub use frames::FrameView;
 pub use laws::ended_enables_nothing;
 pub use machine::Machine;
 pub use outcome::{Finished, Memory, RunFault, Verified, unmet_requirement};

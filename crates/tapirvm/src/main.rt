@@ -1,8 +1,15 @@
 //! The program `tapirvm`: reads a module, verifies it and runs it.
 #![tactic(auto)]
 
+use commands::Terminals;
+use std::io::IsTerminal;
 use std::process::ExitCode;
 
 fn main(rt: HostRuntime) -> ExitCode {
-    ExitCode::from(commands::run(&rt))
+    let terminals = Terminals {
+        input: rt.stdin().is_terminal(),
+        output: rt.stdout().is_terminal(),
+        error: rt.stderr().is_terminal(),
+    };
+    ExitCode::from(commands::run(&rt, terminals))
 }
