@@ -222,14 +222,20 @@ fn finish<W: Write + Drop>(rt: &impl Eprint, status: u8, output: BufWriter<W>) -
     }
 }
 
-/// Whether the environment says that no colours are wanted: `NO_COLOR` has a value.
+/// Whether the environment says that no colours are wanted: `NO_COLOR` has a value, or the terminal is called dumb.
 fn has_no_colours(rt: &impl Env) -> bool {
     let mut first = [0u8; 1];
-    match rt.var("NO_COLOR", &mut first) {
+    let is_asked = match rt.var("NO_COLOR", &mut first) {
         Ok(length) => length > 0,
         Err(FillError::TooLong) => true,
         Err(FillError::NotPresent) => false,
-    }
+    };
+    let mut name = [0u8; 8];
+    let is_dumb = match rt.var("TERM", &mut name) {
+        Ok(4) => name.as_slice().starts_with(b"dumb"),
+        _ => false,
+    };
+    is_asked || is_dumb
 }
 
 /// Makes a request suit the streams: a dialogue between terminals is for people, and an output that is one has colours.

@@ -24,7 +24,7 @@ struct Reading {
 /// The lines of a block that may come more than once, each as the members of a list.
 #[derive(Drop)]
 struct Lists {
-    open: String,
+    opened: String,
     pending: String,
     foot: String,
     knows: String,
@@ -57,7 +57,7 @@ fn word_and_rest(line: &str) -> (&str, &str) {
 impl Reading {
     /// Closes the block, with its lists.
     fn close_block(&mut self) -> Result<(), AllocError> {
-        close_list(&mut self.out, "open", &mut self.lists.open)?;
+        close_list(&mut self.out, "open", &mut self.lists.opened)?;
         close_list(&mut self.out, "pending", &mut self.lists.pending)?;
         close_list(&mut self.out, "foot", &mut self.lists.foot)?;
         close_list(&mut self.out, "knows", &mut self.lists.knows)?;
@@ -102,7 +102,7 @@ impl Reading {
     /// A line of a block.
     fn member(&mut self, word: &str, rest: &str) -> Result<(), AllocError> {
         match word {
-            "open" => push_member(&mut self.lists.open, rest),
+            "open" => push_member(&mut self.lists.opened, rest),
             "pending" => push_member(&mut self.lists.pending, rest),
             "foot" => push_member(&mut self.lists.foot, rest),
             "knows" => push_member(&mut self.lists.knows, rest),
@@ -195,7 +195,7 @@ pub fn known_json(alloc: Global, shown: &str) -> Result<String, OutOfMemory> {
         out: String::from_str(alloc, "{\"verdict\":\"accepted\"")?,
         inside: Inside::Module,
         lists: Lists {
-            open: String::new(alloc),
+            opened: String::new(alloc),
             pending: String::new(alloc),
             foot: String::new(alloc),
             knows: String::new(alloc),

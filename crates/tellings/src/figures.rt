@@ -65,16 +65,16 @@ impl Figures {
     }
 
     /// The instructions and steals of all workers.
-    fn sum(&self) -> WorkerFigures {
-        let mut sum = WorkerFigures {
+    fn total(&self) -> WorkerFigures {
+        let mut total = WorkerFigures {
             instructions: 0,
             steals: 0,
         };
         for figures in &self.workers {
-            sum.instructions = sum.instructions.saturating_add(figures.instructions);
-            sum.steals = sum.steals.saturating_add(figures.steals);
+            total.instructions = total.instructions.saturating_add(figures.instructions);
+            total.steals = total.steals.saturating_add(figures.steals);
         }
-        sum
+        total
     }
 
     /// The lines of a run's figures: a line for each worker, then all together, with the longest chain and what could be done at once: the
@@ -84,7 +84,7 @@ impl Figures {
         let WorkerFigures {
             instructions,
             steals,
-        } = self.sum();
+        } = self.total();
         let rounds = self.rounds;
         write!(
             out,
