@@ -46,11 +46,11 @@ fn push_place(out: &mut String, place: Option<&Place>) -> Result<(), AllocError>
 }
 
 /// The registers of a frame that were set, as an object; nothing where there are none.
-pub fn push_settings(
+pub fn push_settings<'a>(
     out: &mut String,
-    names: &Names<'_>,
+    names: &'a Names<'a>,
     key: &str,
-    settings: &Settings,
+    settings: &'a Settings,
 ) -> Result<(), AllocError> {
     if settings.list.is_empty() {
         return Ok(());
@@ -69,7 +69,11 @@ pub fn push_settings(
     out.push_str("}")
 }
 
-fn push_written(out: &mut String, names: &Names<'_>, written: &Written) -> Result<(), AllocError> {
+fn push_written<'a>(
+    out: &mut String,
+    names: &'a Names<'a>,
+    written: &'a Written,
+) -> Result<(), AllocError> {
     match written {
         Written::Nothing => Ok(()),
         Written::Cell { cell, number } => {
@@ -119,10 +123,10 @@ fn push_outcome(alloc: Global, out: &mut String, outcome: &Outcome) -> Result<()
 }
 
 /// What the event set: first what the instruction did, then what the frame was given that it leads to.
-fn push_change(
+fn push_change<'a>(
     out: &mut String,
-    names: &Names<'_>,
-    change: Option<&Change>,
+    names: &'a Names<'a>,
+    change: Option<&'a Change>,
 ) -> Result<(), AllocError> {
     let Some(change) = change else {
         return Ok(());
@@ -133,11 +137,11 @@ fn push_change(
 }
 
 /// An event as an object, without a line's end.
-pub fn push_event(
+pub fn push_event<'a>(
     alloc: Global,
     out: &mut String,
-    names: &Names<'_>,
-    numbered: Numbered<'_>,
+    names: &'a Names<'a>,
+    numbered: Numbered<'a>,
 ) -> Result<(), AllocError> {
     let number = numbered.number;
     let round = numbered.round;

@@ -121,10 +121,10 @@ pub struct ValueName<'a> {
     pub value: &'a Value,
 }
 
-fn write_cell<W: fmt::Write>(
+fn write_cell<'a, W: fmt::Write>(
     f: &mut fmt::Formatter<W>,
-    names: &Names<'_>,
-    cell: &CellPlace,
+    names: &'a Names<'a>,
+    cell: &'a CellPlace,
 ) -> fmt::Result {
     let thing = ThingName {
         names,

@@ -93,7 +93,11 @@ fn push_source(out: &mut String, source: &str) -> Result<(), AllocError> {
 
 impl Page {
     /// The page of a run that begins so, before its first event.
-    pub fn start(alloc: Global, names: &Names<'_>, start: Start<'_>) -> Result<Page, AllocError> {
+    pub fn start<'a>(
+        alloc: Global,
+        names: &'a Names<'a>,
+        start: Start<'a>,
+    ) -> Result<Page, AllocError> {
         let mut text = String::new(alloc);
         push_head(&mut text, start.title)?;
         let workers = start.workers;
@@ -113,7 +117,11 @@ impl Page {
     }
 
     /// The next event. Past the most that a page tells it is counted alone.
-    pub fn add(&mut self, names: &Names<'_>, numbered: Numbered<'_>) -> Result<(), AllocError> {
+    pub fn add<'a>(
+        &mut self,
+        names: &'a Names<'a>,
+        numbered: Numbered<'a>,
+    ) -> Result<(), AllocError> {
         if self.events < MOST_EVENTS {
             self.text
                 .push_str(if self.events == 0 { "\n" } else { ",\n" })?;

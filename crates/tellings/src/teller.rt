@@ -35,10 +35,10 @@ pub fn refused(_error: OutOfMemory) -> io::Error {
 
 impl Teller {
     /// Before the first event.
-    pub fn new(
-        subject: Subject<'_>,
+    pub fn new<'a>(
+        subject: Subject<'a>,
         wanted: Wanted,
-        root: &Settings,
+        root: &'a Settings,
     ) -> Result<Teller, OutOfMemory> {
         let alloc = subject.alloc;
         let workers = subject.workers;
@@ -89,7 +89,11 @@ impl Teller {
     }
 
     /// The event on the page and as a line of JSON.
-    fn add_line(&mut self, subject: Subject<'_>, numbered: Numbered<'_>) -> Result<(), AllocError> {
+    fn add_line<'a>(
+        &mut self,
+        subject: Subject<'a>,
+        numbered: Numbered<'a>,
+    ) -> Result<(), AllocError> {
         if let Some(page) = &mut self.page {
             page.add(subject.names, numbered)?;
         }
@@ -101,11 +105,11 @@ impl Teller {
     }
 
     /// The next event, but for the trace.
-    fn add_event(
+    fn add_event<'a>(
         &mut self,
-        subject: Subject<'_>,
-        event: &Event,
-        moment: &Moment,
+        subject: Subject<'a>,
+        event: &'a Event,
+        moment: &'a Moment,
     ) -> Result<(), OutOfMemory> {
         if let Some(script) = &mut self.script {
             script.add(event)?;

@@ -258,10 +258,10 @@ fn no_settings(alloc: Global) -> Settings {
 }
 
 /// The parameters of a frame, as it begins.
-pub fn parameters_of(
+pub fn parameters_of<'a>(
     alloc: Global,
-    program: &Program,
-    machine: &Machine<'_>,
+    program: &'a Program,
+    machine: &'a Machine<'a>,
     path: &Path,
 ) -> Result<Settings, OutOfMemory> {
     let Some(view) = machine.frame(path) else {
@@ -282,10 +282,10 @@ pub fn parameters_of(
 }
 
 /// The phis of the block that a frame has entered.
-fn entered(
+fn entered<'a>(
     alloc: Global,
-    program: &Program,
-    machine: &Machine<'_>,
+    program: &'a Program,
+    machine: &'a Machine<'a>,
     path: &Path,
 ) -> Result<Settings, OutOfMemory> {
     let Some(view) = machine.frame(path) else {
@@ -306,10 +306,10 @@ fn entered(
 }
 
 /// One register of a frame.
-fn one_register(
+fn one_register<'a>(
     alloc: Global,
-    program: &Program,
-    machine: &Machine<'_>,
+    program: &'a Program,
+    machine: &'a Machine<'a>,
     path: &Path,
     register: Option<RegisterId>,
 ) -> Result<Settings, OutOfMemory> {
