@@ -16,6 +16,8 @@
 /* the most that this host reads (one byte past the longest text, so that a longer one is refused), and pays for */
 enum { MOST_BYTES = (1 << 20) + 1, MOST_ARGUMENTS = 16, MOST_CELLS = 1 << 16, MOST_INSTRUCTIONS = 1000000, MOST_FRAMES = 1000 };
 
+#define MOST_STEPS UINT64_C(1000000000)
+
 static uint8_t text[MOST_BYTES];
 static int64_t cells[MOST_CELLS], arguments[MOST_ARGUMENTS];
 static uint64_t seed[2];
@@ -89,6 +91,10 @@ int main(int count, char **words) {
     }
     if (verdict.status == TAPIRVM_OUT_OF_MEMORY) {
         printf("out of memory or time\n");
+        return 1;
+    }
+    if (verdict.status == TAPIRVM_OUT_OF_EFFORT) {
+        printf("too dear to judge\n");
         return 1;
     }
     if (verdict.budget > MOST_INSTRUCTIONS || verdict.depth > MOST_FRAMES || verdict.cells > MOST_CELLS) {

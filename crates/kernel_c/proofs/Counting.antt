@@ -1,13 +1,12 @@
 -- A row with as many numbers as a program's globals have cells.
-use Rattle.std.proofs.Common.{◌≡◌, ◌∙◌, ℕ, zero, suc, ◌-◌, ◌^◌, ◌<◌, ◌≤◌, List, [], ◌∷◌, length, take, drop, Some, refl, ap, sym, arith, slice_get, ℤ}
-use Rattle.std.specs.Prelude.{IsSome, map, min, sum, sum_by}
-use Rattle.std.proofs.lemmas.List.{length-drop, length-take-le}
-use Rattle.std.proofs.lemmas.List.Sums.{sum-map, sum_by-cons}
+use Rattle.std.proofs.Common.{◌≡◌, ◌∙◌, ℕ, zero, suc, ◌-◌, ◌^◌, ◌<◌, ◌≤◌, List, [], ◌∷◌, length, Some, refl, ap, sym, arith, slice_get, ℤ}
+use Rattle.std.specs.Prelude.{IsSome, map, min, sum}
 use Rattle.program.specs.declared.function.Global.{Global}
 use Rattle.program.specs.declared.function.Program.{Program}
 use Rattle.outcome.specs.store.Cells.{NamedCells, cell_at}
 use Rattle.outcome.specs.store.Made.{HasGlobalCells, IsMadeFor}
 use Rattle.outcome.specs.store.Rows.{refilled, sizes_of}
+use Rattle.serial_machine.proofs.Held.{sizes_kept}
 use Rattle.kernel_c.specs.Told.{cells_in, sizes_in}
 
 -- ---- as many
@@ -21,17 +20,6 @@ pub as_many : (program : Program) (row : List ℤ) → cells_in program ≡ leng
 as_many program row same small = below_cap (sum (sizes_in program)) (length row) (2 ^ 64 - 1) same (omega (arith, small))
 
 -- ---- numbers for all cells
-
-sizes_kept : (m : List NamedCells) (row : List ℤ) → sum_by (λ (g : NamedCells). length g.cells) m ≤ length row →
-    sizes_of (refilled m row) ≡ sizes_of m
-sizes_kept [] row room = refl
-sizes_kept (x ∷ m) row room =
-    let n = length x.cells in
-    let all = sum_by-cons (λ (g : NamedCells). length g.cells) x m in
-    let first : length (take n row) ≡ n = length-take-le n row (omega (arith, room, all)) in
-    let cut = length-drop n row in
-    let rest : sizes_of (refilled m (drop n row)) ≡ sizes_of m = sizes_kept m (drop n row) (omega (arith, room, all, cut)) in
-    λ i. first i ∷ rest i
 
 there : (xs : List ℤ) (i : ℕ) → i < length xs → IsSome (slice_get xs i)
 there [] i low = absurd (omega (arith, low))
@@ -56,8 +44,8 @@ module _ (program : Program) (zeroed : List NamedCells) (made : IsMadeFor progra
   total : sum (sizes_of zeroed) ≡ length row
   total = ap (λ (l : List ℕ). sum l) made ∙ sym long
 
+  pub filled_made : IsMadeFor program (refilled zeroed row)
+  filled_made = sizes_kept zeroed row (omega (arith, total)) ∙ made
+
   pub filled_cells : HasGlobalCells program (refilled zeroed row)
-  filled_cells g i global is low =
-      let all = sum-map (λ (g : NamedCells). length g.cells) zeroed in
-      let kept = sizes_kept zeroed row (omega (arith, total, all)) in
-      cells_there (refilled zeroed row) program.globals (kept ∙ made) g i global is low
+  filled_cells g i global is low = cells_there (refilled zeroed row) program.globals filled_made g i global is low

@@ -1,5 +1,5 @@
 -- What a host in C is told, by the statuses of its header.
-use Rattle.std.specs.Prelude.{◌≡◌, ◌≢◌, ◌⊎◌, ℕ, ◌^◌, ◌-◌, List, length, map, min, sum, Some, None, ℤ}
+use Rattle.std.specs.Prelude.{◌≡◌, ◌≢◌, ◌⊎◌, ℕ, ◌^◌, ◌-◌, ◌≤◌, List, length, map, min, sum, Some, None, ℤ}
 use Rattle.program.specs.declared.function.Global.{Global}
 use Rattle.program.specs.declared.function.Program.{Program}
 use Rattle.refusal.specs.declared.refused.Refused.TheVariants.{Fault}
@@ -9,7 +9,7 @@ use Rattle.outcome.specs.store.Cells.{NamedCells, zeros}
 use Rattle.outcome.specs.store.Rows.{refilled, row_of}
 use Rattle.outcome.specs.Requirements.{unmet_in}
 use Rattle.outcome.specs.declared.outcome.Finished.{Finished}
-use Rattle.serial_machine.specs.Promise.{EndsWithinBudget}
+use Rattle.serial_machine.specs.Promise.{EndsWithinBudget, TakesMore}
 use Rattle.kernel_c.specs.declared.told.Outcome.{Outcome}
 use Rattle.kernel_c.specs.declared.told.Verdict.{Verdict}
 
@@ -24,21 +24,37 @@ refused = 1
 abbrev pub other_cells : ℕ
 other_cells = 2
 
+abbrev pub out_of_effort : ℕ
+out_of_effort = 3
+
+abbrev pub out_of_fuel : ℕ
+out_of_fuel = 5
+
+abbrev pub no_rule : ℕ
+no_rule = 7
+
 abbrev pub bad_arguments : ℕ
 bad_arguments = 801
 
 abbrev pub out_of_memory : ℕ
 out_of_memory = 803
 
+-- of a text that is not accepted
+abbrev pub IsRejection : ℕ → Type 0
+IsRejection n = (n ≡ refused) ⊎ ((n ≡ out_of_effort) ⊎ (n ≡ out_of_memory))
+
 abbrev pub IsVerdictStatus : ℕ → Type 0
-IsVerdictStatus n = (n ≡ done) ⊎ ((n ≡ refused) ⊎ (n ≡ out_of_memory))
+IsVerdictStatus n = (n ≡ done) ⊎ IsRejection n
+
+abbrev pub IsRuleStatus : ℕ → Type 0
+IsRuleStatus n = (n ≡ done) ⊎ ((n ≡ no_rule) ⊎ (n ≡ out_of_memory))
 
 -- of a program that is accepted
 abbrev pub IsRunStatus : ℕ → Type 0
-IsRunStatus n = (n ≡ done) ⊎ ((n ≡ bad_arguments) ⊎ ((n ≡ other_cells) ⊎ (n ≡ out_of_memory)))
+IsRunStatus n = (n ≡ done) ⊎ ((n ≡ bad_arguments) ⊎ ((n ≡ other_cells) ⊎ ((n ≡ out_of_fuel) ⊎ (n ≡ out_of_memory))))
 
 abbrev pub IsOutcomeStatus : ℕ → Type 0
-IsOutcomeStatus n = (n ≡ refused) ⊎ IsRunStatus n
+IsOutcomeStatus n = (n ≡ refused) ⊎ ((n ≡ out_of_effort) ⊎ IsRunStatus n)
 
 -- ---- what each means
 
@@ -65,6 +81,12 @@ pub record Accepts (text : List ℕ) (verdict : Verdict) : Type 0 where
 abbrev pub Refuses : List ℕ → ℕ → ℕ → Type 0
 Refuses text rule line = IsRefused text (Fault rule line)
 
+abbrev pub BreaksRule : List ℕ → Type 0
+BreaksRule text = (rule line : ℕ) × Refuses text rule line
+
+abbrev pub HasProgram : List ℕ → Type 0
+HasProgram text = (program : Program) × IsProgramOf text program
+
 -- the outcome tells what the run came to, and the row has the numbers of its globals
 pub record Shows (finished : Finished) (row : List ℤ) (outcome : Outcome) : Type 0 where
   pub result : outcome.result ≡ finished.result
@@ -72,17 +94,27 @@ pub record Shows (finished : Finished) (row : List ℤ) (outcome : Outcome) : Ty
   pub peak : outcome.peak ≡ finished.peak
   pub numbers : row ≡ row_of finished.memory
 
--- the program's serial run, from the numbers before, comes to the outcome and to the numbers after
-pub record RunsProgram (program : Program) (arguments before after : List ℤ) (outcome : Outcome) : Type 0 where
+-- the program's serial run, from the numbers before, comes to the outcome and to the numbers after, within the fuel
+pub record RunsProgram (program : Program) (fuel : ℕ) (arguments before after : List ℤ) (outcome : Outcome) : Type 0 where
   pub taken : unmet_in program arguments ≡ None
   pub long : length before ≡ sum (sizes_in program)
   pub finished : Finished
   pub ends : EndsWithinBudget program arguments (memory_from program before) finished
+  pub within : finished.instructions ≤ fuel
   pub shown : Shows finished after outcome
 
+-- its serial run, from these numbers, takes more instructions than the fuel allows
+pub record ExceedsProgram (program : Program) (fuel : ℕ) (arguments row : List ℤ) : Type 0 where
+  pub taken : unmet_in program arguments ≡ None
+  pub long : length row ≡ sum (sizes_in program)
+  pub more : TakesMore program arguments (memory_from program row) fuel
+
 -- so does that of the program that the text means
-abbrev pub Runs : List ℕ → List ℤ → List ℤ → List ℤ → Outcome → Type 0
-Runs text arguments before after outcome = (program : Program) × IsProgramOf text program × RunsProgram program arguments before after outcome
+abbrev pub Runs : List ℕ → ℕ → List ℤ → List ℤ → List ℤ → Outcome → Type 0
+Runs text fuel arguments before after outcome = (program : Program) × IsProgramOf text program × RunsProgram program fuel arguments before after outcome
+
+abbrev pub Exceeds : List ℕ → ℕ → List ℤ → List ℤ → Type 0
+Exceeds text fuel arguments row = (program : Program) × IsProgramOf text program × ExceedsProgram program fuel arguments row
 
 -- the arguments are not those of the program that the text means
 abbrev pub Lacks : List ℕ → List ℤ → ℕ → Type 0

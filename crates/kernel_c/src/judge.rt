@@ -1,17 +1,18 @@
-//! The call that verifies a module.
+//! The verdict on a text, and the call that answers it alone.
 
-ghost use Rattle.std.specs.Prelude.{◌≡◌};
-ghost use Rattle.kernel_c.specs.Told.{Accepts, Refuses, IsVerdictStatus, cells_in, done, refused};
+ghost use Rattle.std.specs.Prelude.{◌≡◌, List, ℕ};
+ghost use Rattle.kernel_c.specs.Told.{Accepts, IsRejection, IsVerdictStatus, Refuses, cells_in, done, refused};
+ghost use Rattle.verifier.specs.Accepted.{IsUnverified};
 ghost use Rattle.verifier.specs.Budgets.{IsDepthOf, budget_of};
 
 use crate::cells::count_cells;
 use crate::seed::{Seed, verify_seeded};
-use crate::told::{DONE, OUT_OF_MEMORY, REFUSED, Verdict, plain_verdict};
+use crate::told::{DONE, OUT_OF_EFFORT, OUT_OF_MEMORY, REFUSED, Verdict, plain_verdict};
 use std::alloc::Global;
-use verifier::{Refused, Verified};
+use verifier::{Refused, Unverified, Verified};
 
 /// The verdict on a module that is accepted.
-fn acceptance(kernel: &Verified) -> Verdict
+pub fn acceptance(kernel: &Verified) -> Verdict
     ensures status { result.status ≡ done }
     ensures budget { result.budget ≡ budget_of kernel.now }
     ensures depth { IsDepthOf kernel.now result.depth }
@@ -27,30 +28,42 @@ fn acceptance(kernel: &Verified) -> Verdict
     }
 }
 
-/// The verdict on a text.
-fn judged(alloc: Global, text: &[u8], seed: &Seed) -> Verdict
-    ensures accepted { result.status ≡ done → Accepts text.now result }
-    ensures refused { result.status ≡ refused → Refuses text.now result.rule result.line }
-    ensures statuses { IsVerdictStatus result.status }
+/// The verdict on a module that is not.
+pub fn rejection(why: Unverified) -> Verdict
+    ensures refused { (text : List ℕ) → IsUnverified text why → result.status ≡ refused → Refuses text result.rule result.line }
+    ensures statuses { IsRejection result.status }
 {
-    match verify_seeded(alloc, seed, text) {
-        Ok(kernel) => acceptance(&kernel),
-        Err(Refused::Fault { number, line }) => Verdict {
+    match why {
+        Unverified::Refused(Refused::Fault { number, line }) => Verdict {
             rule: number,
             line,
             ..plain_verdict(REFUSED)
         },
-        Err(Refused::Memory) => plain_verdict(OUT_OF_MEMORY),
+        Unverified::Refused(Refused::Memory) => plain_verdict(OUT_OF_MEMORY),
+        Unverified::OutOfEffort => plain_verdict(OUT_OF_EFFORT),
     }
 }
 
-/// Verifies a module.
+/// The verdict on a text.
+fn judged(alloc: Global, text: &[u8], seed: &Seed, effort: u64) -> Verdict
+    ensures accepted { result.status ≡ done → Accepts text.now result }
+    ensures refused { result.status ≡ refused → Refuses text.now result.rule result.line }
+    ensures statuses { IsVerdictStatus result.status }
+{
+    match verify_seeded(alloc, seed, text, effort) {
+        Ok(kernel) => acceptance(&kernel),
+        Err(why) => rejection(why),
+    }
+}
+
+/// Verifies a module within some effort.
 #[unsafe(no_mangle)]
 pub extern "C" fn tapirvm_verify(
     alloc: Global,
     text: &[u8],
     seed_low: u64,
     seed_high: u64,
+    effort: u64,
     verdict: &mut Verdict,
 )
     ensures accepted { verdict.new.status ≡ done → Accepts text.now verdict.new }
@@ -61,5 +74,5 @@ pub extern "C" fn tapirvm_verify(
         low: seed_low,
         high: seed_high,
     };
-    *verdict = judged(alloc, text, &seed);
+    *verdict = judged(alloc, text, &seed, effort);
 }

@@ -1,14 +1,26 @@
-//! The verifier and the serial run for hosts that are written in C, as `include/tapirvm.h` declares them.
+//! The verifier and the serial machine for hosts that are written in C, as `include/tapirvm.h` declares them.
 //!
-//! Each call takes a module's text and judges it anew, so nothing is kept between calls, and C owns all memory that it sees.
+//! A module is judged by `tapirvm_open`, which keeps it in a [`Handle`], and run from there by `tapirvm_run`, `tapirvm_rows` and `tapirvm_replay`.
+//! `tapirvm_verify` and `tapirvm_serial` judge a text anew and keep nothing. `tapirvm_rule` and `tapirvm_explain` give reasons in words.
 #![tactic(auto)]
 
+mod abi;
 mod cells;
+mod handle;
 mod judge;
+mod kernel;
+mod loose;
+mod open;
+mod run;
 mod seed;
 mod serial;
+mod shared;
 mod told;
 
+pub use abi::tapirvm_abi;
+pub use handle::Handle;
 pub use judge::tapirvm_verify;
+pub use open::{tapirvm_close, tapirvm_open, tapirvm_share};
+pub use run::tapirvm_run;
 pub use serial::tapirvm_serial;
 pub use told::{Outcome, Verdict};

@@ -1,13 +1,13 @@
 //! Where the verifier's tables get their random numbers from: from the host.
 
 ghost use Rattle.std.specs.Prelude.{IfErr, IfOk};
-ghost use Rattle.verifier.specs.Accepted.{IsProgramOf, IsRefused};
+ghost use Rattle.verifier.specs.Accepted.{IsProgramOf, IsUnverified};
 
 use std::alloc::Global;
 use std::hash::RandomState;
 use std::io;
 use std::random::RandomSource;
-use verifier::{Refused, Verified, verify};
+use verifier::{Effort, Refused, Unverified, Verified, verify_within};
 
 /// Numbers that whoever wrote the text does not know.
 #[derive(Drop)]
@@ -27,13 +27,18 @@ impl RandomSource for Seed {
     }
 }
 
-/// Verifies a text, with tables of this seed.
-pub fn verify_seeded(alloc: Global, seed: &Seed, text: &[u8]) -> Result<Verified, Refused>
+/// Verifies a text within some effort, with tables of this seed.
+pub fn verify_seeded(
+    alloc: Global,
+    seed: &Seed,
+    text: &[u8],
+    effort: u64,
+) -> Result<Verified, Unverified>
     ensures accepted { IfOk result (IsProgramOf text.now) }
-    ensures refused { IfErr result (IsRefused text.now) }
+    ensures refused { IfErr result (IsUnverified text.now) }
 {
     match RandomState::new(seed) {
-        Ok(state) => verify(alloc, state, text),
-        Err(_) => Err(Refused::Memory),
+        Ok(state) => verify_within(alloc, state, text, &Effort::of(effort)),
+        Err(_) => Err(Unverified::Refused(Refused::Memory)),
     }
 }

@@ -1,23 +1,45 @@
-//! The call that runs a module serially.
+//! The serial run over a row of the globals' numbers, and the call that judges a text anew for it.
 
-ghost use Rattle.std.specs.Prelude.{◌≡◌, ◌≢◌, ◌⊎◌, Some, length, sum};
+ghost use Rattle.std.specs.Prelude.{◌≡◌, ◌≢◌, ◌⊎◌, IfErr, IfOk, OnOk, Some, length, sum};
 ghost use Rattle.outcome.specs.Requirements.{unmet_in};
-ghost use Rattle.refusal.specs.declared.refused.Refused.TheVariants.{Fault};
-ghost use Rattle.kernel_c.specs.Told.{HasOtherCells, IsOutcomeStatus, IsRunStatus, Lacks, Refuses, Runs, RunsProgram, Shows};
-ghost use Rattle.kernel_c.specs.Told.{bad_arguments, done, other_cells, out_of_memory, refused, sizes_in};
+ghost use Rattle.outcome.specs.store.Made.{HasGlobalCells, IsMadeFor};
+ghost use Rattle.outcome.specs.store.Rows.{sizes_of};
+ghost use Rattle.kernel_c.specs.Told.{Exceeds, ExceedsProgram, HasOtherCells, IsOutcomeStatus, IsRunStatus, Lacks, Refuses, Runs, RunsProgram, Shows};
+ghost use Rattle.kernel_c.specs.Told.{bad_arguments, done, memory_from, other_cells, out_of_fuel, out_of_memory, refused, sizes_in};
 
 use crate::cells::count_cells;
+use crate::judge::rejection;
 use crate::seed::{Seed, verify_seeded};
 use crate::told::{
-    BAD_ARGUMENTS, DONE, OTHER_CELLS, OUT_OF_MEMORY, Outcome, REFUSED, plain_outcome,
+    BAD_ARGUMENTS, DONE, OTHER_CELLS, OUT_OF_FUEL, OUT_OF_MEMORY, Outcome, plain_outcome,
 };
 use outcome::{Finished, Memory, RunFault};
-use serial_machine::serial_run;
+use serial_machine::{Unfinished, serial_run_within};
 use std::alloc::Global;
-use verifier::{Refused, Verified};
+use verifier::Verified;
 
-/// The row takes the numbers of the globals at the end.
-fn finish(finished: &Finished, cells: &mut [i64]) -> Outcome
+/// Memory with the numbers of a row; else the status: there are not as many as the globals have cells, or memory was refused.
+pub fn filled(alloc: Global, kernel: &Verified, cells: &[i64]) -> Result<Memory, u32>
+    ensures filled { IfOk result (λ memory. memory ≡ memory_from kernel.now cells.now) }
+    ensures long { OnOk result (length cells.now ≡ sum (sizes_in kernel.now)) }
+    ensures cells { IfOk result (HasGlobalCells kernel.now) }
+    ensures made { IfOk result (IsMadeFor kernel.now) }
+    ensures other { IfErr result (λ status. status ≡ other_cells → length cells.now ≢ sum (sizes_in kernel.now)) }
+    ensures statuses { IfErr result (λ status. (status ≡ other_cells) ⊎ (status ≡ out_of_memory)) }
+{
+    if count_cells(kernel.program()) != cells.len() as u64 {
+        return Err(OTHER_CELLS);
+    }
+    let Ok(mut memory) = Memory::zeroed(alloc, kernel) else {
+        return Err(OUT_OF_MEMORY);
+    };
+    memory.refill(cells);
+    Ok(memory)
+}
+
+/// The row takes the numbers of the globals at the end, which are as many.
+pub fn finish(finished: &Finished, cells: &mut [i64]) -> Outcome
+    requires { sum (sizes_of finished.now.memory) ≡ length cells.old }
     ensures ran { result.status ≡ done → Shows finished.now cells.new result }
     ensures kept { result.status ≢ done → cells.new ≡ cells.old }
     ensures statuses { (result.status ≡ done) ⊎ (result.status ≡ out_of_memory) }
@@ -25,10 +47,6 @@ fn finish(finished: &Finished, cells: &mut [i64]) -> Outcome
     let Ok(row) = finished.memory.row() else {
         return plain_outcome(OUT_OF_MEMORY);
     };
-    // a run keeps the sizes of its globals, which its promise does not say
-    if row.len() != cells.len() {
-        return plain_outcome(OUT_OF_MEMORY);
-    }
     cells.copy_from_slice(row.as_slice());
     Outcome {
         result: finished.result,
@@ -38,79 +56,84 @@ fn finish(finished: &Finished, cells: &mut [i64]) -> Outcome
     }
 }
 
-/// Runs a module over a row of its globals' numbers.
-fn run_over(alloc: Global, kernel: &Verified, arguments: &[i64], cells: &mut [i64]) -> Outcome
-    ensures ran { result.status ≡ done → RunsProgram kernel.now arguments.now cells.old cells.new result }
+/// Runs a module within some fuel over a row of its globals' numbers.
+pub fn run_over(
+    alloc: Global,
+    kernel: &Verified,
+    fuel: u64,
+    arguments: &[i64],
+    cells: &mut [i64],
+) -> Outcome
+    ensures ran { result.status ≡ done → RunsProgram kernel.now fuel arguments.now cells.old cells.new result }
+    ensures fuel { result.status ≡ out_of_fuel → ExceedsProgram kernel.now fuel arguments.now cells.old }
     ensures arguments { result.status ≡ bad_arguments → unmet_in kernel.now arguments.now ≡ Some result.requirement }
     ensures cells { result.status ≡ other_cells → length cells.old ≢ sum (sizes_in kernel.now) }
     ensures kept { result.status ≢ done → cells.new ≡ cells.old }
     ensures statuses { IsRunStatus result.status }
 {
-    if count_cells(kernel.program()) != cells.len() as u64 {
-        return plain_outcome(OTHER_CELLS);
-    }
-    let Ok(mut memory) = Memory::zeroed(alloc, kernel) else {
-        return plain_outcome(OUT_OF_MEMORY);
+    let memory = match filled(alloc, kernel, cells) {
+        Ok(memory) => memory,
+        Err(status) => return plain_outcome(status),
     };
-    memory.refill(cells);
-    match serial_run(alloc, kernel, arguments, memory) {
+    match serial_run_within(alloc, kernel, arguments, memory, fuel) {
         Ok(finished) => finish(&finished, cells),
-        Err(RunFault::BadArguments { requirement, .. }) => Outcome {
+        Err(Unfinished::OutOfFuel { .. }) => plain_outcome(OUT_OF_FUEL),
+        Err(Unfinished::Fault(RunFault::BadArguments { requirement, .. })) => Outcome {
             requirement: requirement as u64,
             ..plain_outcome(BAD_ARGUMENTS)
         },
-        Err(RunFault::BadWorkers { .. } | RunFault::OutOfMemory) => plain_outcome(OUT_OF_MEMORY),
+        Err(Unfinished::Fault(RunFault::OutOfMemory)) => plain_outcome(OUT_OF_MEMORY),
+        Err(Unfinished::Fault(_)) => unreachable!(),
     }
 }
 
-/// The outcome of a text that is refused.
-fn refusal(why: Refused) -> Outcome
-    ensures fault { result.status ≡ refused → why ≡ Fault result.rule result.line }
-    ensures statuses { (result.status ≡ refused) ⊎ (result.status ≡ out_of_memory) }
-{
-    match why {
-        Refused::Fault { number, line } => Outcome {
-            rule: number,
-            line,
-            ..plain_outcome(REFUSED)
-        },
-        Refused::Memory => plain_outcome(OUT_OF_MEMORY),
-    }
-}
-
-/// Verifies a text, and runs its module.
+/// Verifies a text within some effort, and runs its module within some fuel.
 fn run_text(
     alloc: Global,
     text: &[u8],
     seed: &Seed,
+    effort: u64,
+    fuel: u64,
     arguments: &[i64],
     cells: &mut [i64],
 ) -> Outcome
-    ensures ran { result.status ≡ done → Runs text.now arguments.now cells.old cells.new result }
+    ensures ran { result.status ≡ done → Runs text.now fuel arguments.now cells.old cells.new result }
+    ensures fuel { result.status ≡ out_of_fuel → Exceeds text.now fuel arguments.now cells.old }
     ensures refused { result.status ≡ refused → Refuses text.now result.rule result.line }
     ensures arguments { result.status ≡ bad_arguments → Lacks text.now arguments.now result.requirement }
     ensures cells { result.status ≡ other_cells → HasOtherCells text.now cells.old }
     ensures kept { result.status ≢ done → cells.new ≡ cells.old }
     ensures statuses { IsOutcomeStatus result.status }
 {
-    match verify_seeded(alloc, seed, text) {
-        Ok(kernel) => run_over(alloc, &kernel, arguments, cells),
-        Err(why) => refusal(why),
+    match verify_seeded(alloc, seed, text, effort) {
+        Ok(kernel) => run_over(alloc, &kernel, fuel, arguments, cells),
+        Err(why) => {
+            let verdict = rejection(why);
+            Outcome {
+                rule: verdict.rule,
+                line: verdict.line,
+                ..plain_outcome(verdict.status)
+            }
+        }
     }
 }
 
-/// Verifies a module, and runs its serial elision from the numbers of its globals, each global after the one before it.
+/// Verifies a module within some effort, and runs its serial elision within some fuel from the numbers of its globals, each global after the
+/// one before it.
 #[unsafe(no_mangle)]
 pub extern "C" fn tapirvm_serial(
     alloc: Global,
     text: &[u8],
     seed_low: u64,
     seed_high: u64,
+    effort: u64,
+    fuel: u64,
     arguments: &[i64],
     cells: &mut [i64],
     outcome: &mut Outcome,
 )
-    ensures ran { outcome.new.status ≡ done → Runs text.now arguments.now cells.old cells.new outcome.new }
+    ensures ran { outcome.new.status ≡ done → Runs text.now fuel arguments.now cells.old cells.new outcome.new }
+    ensures fuel { outcome.new.status ≡ out_of_fuel → Exceeds text.now fuel arguments.now cells.old }
     ensures refused { outcome.new.status ≡ refused → Refuses text.now outcome.new.rule outcome.new.line }
     ensures arguments { outcome.new.status ≡ bad_arguments → Lacks text.now arguments.now outcome.new.requirement }
     ensures cells { outcome.new.status ≡ other_cells → HasOtherCells text.now cells.old }
@@ -121,5 +144,5 @@ pub extern "C" fn tapirvm_serial(
         low: seed_low,
         high: seed_high,
     };
-    *outcome = run_text(alloc, text, &seed, arguments, cells);
+    *outcome = run_text(alloc, text, &seed, effort, fuel, arguments, cells);
 }

@@ -1,0 +1,9 @@
+use Rattle.kernel_c.proofs.open.opened.Goals as goal
+
+pub returns-in-Some-clause-accepted : goal.returns-in-Some-clause-accepted
+returns-in-Some-clause-accepted c is_done =
+    let said = c.acceptance-verdict.ensures in
+    record {
+      accepts = record { program = c.in-Ok.kernel; means = c.in-Ok.ensures.accepted; budget = said.budget; depth = said.depth; cells = said.cells };
+      held = c.in-Some.ensures;
+    }
