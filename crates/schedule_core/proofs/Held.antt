@@ -19,6 +19,7 @@ use Rattle.program.specs.declared.function.Global.{Global}
 use Rattle.crew_promise.specs.store.Cells.{NamedCells, cell_at, cell_named, cell_of, number_of, size_of}
 use Rattle.crew_promise.specs.store.Made.{IsMadeFor}
 use Rattle.crew_promise.specs.store.Rows.{refilled, sizes_of}
+use Rattle.crew_promise.proofs.serial_machine.Held.{sizes_kept}
 use Rattle.engine.specs.Flat.{cell_in}
 use Rattle.engine.specs.Starts.{global_starts, starts_from}
 use Rattle.crew.specs.Layouts.{number_in}
@@ -161,7 +162,7 @@ module _ (stage : Stage) (made : IsMadeFor (program_of stage) stage.memory) (sma
           omega (arith, low, ends)
 
   pub holds_globals : HoldsGlobals m stage.memory (refilled stage.memory row)
-  holds_globals = record { names = names_kept stage.memory row; cells = λ g i. by g i (nat_lt i (size_in sizes g)) refl }
+  holds_globals = record { names = names_kept stage.memory row; sizes = sizes_kept stage.memory row row_is_long; cells = λ g i. by g i (nat_lt i (size_in sizes g)) refl }
     where
       by : (g i : ℕ) (b : Bool) → nat_lt i (size_in sizes g) ≡ b → cell_at (refilled stage.memory row) g i ≡ m.core.memory (cell g i)
       by g i true e = let low = ltb-true i (size_in sizes g) e in refilled_get stage.memory row g i low ∙ sym (in_row g i low)

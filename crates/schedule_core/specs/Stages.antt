@@ -6,6 +6,7 @@ use Rattle.running.specs.Replay.{replay}
 use Rattle.program.specs.declared.function.Global.{Global}
 use Rattle.program.specs.declared.function.Program.{Program}
 use Rattle.crew_promise.specs.store.Cells.{NamedCells, cell_at, number_of}
+use Rattle.crew_promise.specs.store.Rows.{sizes_of}
 use Rattle.absorbing.specs.Absorbing.{GoesAloneIn}
 use Rattle.crew.specs.Going.{RunsSafely}
 use Rattle.crew.specs.Shown.{IsShown}
@@ -42,9 +43,10 @@ AreFull prog memory =
 abbrev pub global_named : Machine → List NamedCells → List ℕ → ℕ → Option ℤ
 global_named m globals name i = option_and_then (λ g. m.core.memory (record { object = Shared g; index = i })) (number_of globals name)
 
--- these globals, of the same names, hold what the machine's memory does
+-- these globals, of the same names and sizes, hold what the machine's memory does
 pub record HoldsGlobals (m : Machine) (before after : List NamedCells) : Type 0 where
   pub names : names_of after ≡ names_of before
+  pub sizes : sizes_of after ≡ sizes_of before
   pub cells : (g i : ℕ) → cell_at after g i ≡ m.core.memory (record { object = Shared g; index = i })
 
 -- ---- states
