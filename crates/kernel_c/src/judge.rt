@@ -1,7 +1,8 @@
 //! The verdict on a text, and the call that answers it alone.
 
-ghost use Rattle.std.specs.Prelude.{◌≡◌, List, ℕ};
-ghost use Rattle.kernel_c.specs.Told.{Accepts, IsRejection, IsVerdictStatus, Refuses, cells_in, done, refused};
+ghost use Rattle.std.specs.Prelude.{◌≡◌, ◌⊎◌, List, ℕ};
+ghost use Rattle.refusal.specs.declared.refused.Refused.TheVariants.{Fault};
+ghost use Rattle.kernel_c.specs.Told.{Accepts, IsRejection, IsVerdictStatus, Refuses, cells_in, done, out_of_memory, refused};
 ghost use Rattle.verifier.specs.Accepted.{IsUnverified};
 ghost use Rattle.verifier.specs.Budgets.{IsDepthOf, budget_of};
 
@@ -28,18 +29,28 @@ pub fn acceptance(kernel: &Verified) -> Verdict
     }
 }
 
-/// The verdict on a module that is not.
+/// The verdict on a text that is refused.
+fn refusal(why: Refused) -> Verdict
+    ensures fault { result.status ≡ refused → why ≡ Fault result.rule result.line }
+    ensures statuses { (result.status ≡ refused) ⊎ (result.status ≡ out_of_memory) }
+{
+    match why {
+        Refused::Fault { number, line } => Verdict {
+            rule: number,
+            line,
+            ..plain_verdict(REFUSED)
+        },
+        Refused::Memory => plain_verdict(OUT_OF_MEMORY),
+    }
+}
+
+/// The verdict on a text that is not accepted.
 pub fn rejection(why: Unverified) -> Verdict
     ensures refused { (text : List ℕ) → IsUnverified text why → result.status ≡ refused → Refuses text result.rule result.line }
     ensures statuses { IsRejection result.status }
 {
     match why {
-        Unverified::Refused(Refused::Fault { number, line }) => Verdict {
-            rule: number,
-            line,
-            ..plain_verdict(REFUSED)
-        },
-        Unverified::Refused(Refused::Memory) => plain_verdict(OUT_OF_MEMORY),
+        Unverified::Refused(refused) => refusal(refused),
         Unverified::OutOfEffort => plain_verdict(OUT_OF_EFFORT),
     }
 }

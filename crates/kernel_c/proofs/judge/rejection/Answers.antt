@@ -1,8 +1,9 @@
-use Rattle.std.proofs.Common.{◌∙◌, ap, subst}
+use Rattle.std.proofs.Common.{subst}
 use Rattle.ranges.specs.declared.unverified.Unverified.{Unverified}
-use Rattle.ranges.specs.declared.unverified.Unverified.TheVariants.{Refused as RefusedBy}
-use Rattle.verifier.specs.Accepted.{IsUnverified}
+use Rattle.refusal.specs.declared.refused.Refused.{Refused}
+use Rattle.verifier.specs.Accepted.{IsRefused, IsUnverified}
 use Rattle.kernel_c.proofs.judge.rejection.Goals as goal
 
-pub returns-in-Refused-Fault-clause-refused : goal.returns-in-Refused-Fault-clause-refused
-returns-in-Refused-Fault-clause-refused c = λ text h status. subst (λ (why : Unverified). IsUnverified text why) (c.in-Refused-Fault.is ∙ ap RefusedBy c.in-Refused-Fault.field-0-is) h
+pub returns-in-Refused-clause-refused : goal.returns-in-Refused-clause-refused
+returns-in-Refused-clause-refused c = λ text h status.
+    subst (λ (r : Refused). IsRefused text r) (c.refusal.ensures.fault status) (subst (λ (why : Unverified). IsUnverified text why) c.in-Refused.is h)
