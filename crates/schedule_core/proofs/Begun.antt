@@ -16,7 +16,7 @@ use Rattle.crew.specs.Stalls.{StallsAgree, no_blocks}
 use Rattle.crew.specs.Starts.{ArePlaces, Begins, HasMoves, IsRowOf}
 use Rattle.frame.specs.declared.event.Event.{Event}
 use Rattle.schedule_core.specs.declared.stage.Stage.{Stage}
-use Rattle.schedule_core.specs.Replaying.{IsMachine, KeepsItsSchedule, KeepsItWith, Replays, first_state, state_after}
+use Rattle.schedule_core.specs.Replaying.{IsMachine, KeepsItsSchedule, KeepsItWith, Replays, StaysLow, first_state, state_after}
 use Rattle.crew_promise.specs.store.Made.{IsMadeFor}
 use Rattle.schedule_core.specs.Stages.{IsState, given, program_of, workers_of}
 use Rattle.schedule_core.proofs.Grounds.{FromStart, laws}
@@ -127,8 +127,13 @@ kept_with stage event (Ok done) = λ prog arguments globals workers events repla
   serial = k.serial;
   is_serial = k.is_serial;
   within_budget = k.within_budget;
+  within_depth = k.within_depth;
   schedule = k.onwards (event ∷ []);
+  low = k.low_onwards (event ∷ []);
   onwards = λ more.
       subst (λ (l : List Event). KeepsSchedule prog workers k.serial (state_after prog arguments globals workers l)) (sym (append_assoc events (event ∷ []) more))
       (k.onwards (event ∷ more));
+  low_onwards = λ more.
+      subst (λ (l : List Event). StaysLow k.serial (state_after prog arguments globals workers l)) (sym (append_assoc events (event ∷ []) more))
+      (k.low_onwards (event ∷ more));
 }

@@ -26,6 +26,7 @@ use Rattle.crew.specs.Starts.{ArePlaces, HasMoves}
 use Rattle.engine.specs.declared.activation.Places.{Places}
 use Rattle.schedule_core.specs.Replaying.{KeepsItsSchedule, event_of}
 use Rattle.schedule_core.specs.Stages.{AreFull, given}
+use Rattle.schedule_core.proofs.Depths.{stays_low}
 use Rattle.frame.specs.declared.event.Event.{Event as MachineEvent}
 
 -- of one program, from arguments that `main` takes and memory that was made for it
@@ -94,8 +95,11 @@ module _ (program : Program) (a : IsAccepted program) (arguments : List ℤ) (no
             serial = p.serial;
             is_serial = p.is_serial;
             within_budget = p.within_budget;
+            within_depth = p.within_depth;
             schedule = p.every_schedule workers some (map event_of events);
+            low = stays_low program workers p.serial arguments (given globals) (p.every_schedule workers some) (map event_of events);
             onwards = λ more. p.every_schedule workers some (map event_of (events ++ more));
+            low_onwards = λ more. stays_low program workers p.serial arguments (given globals) (p.every_schedule workers some) (map event_of (events ++ more));
           };
     }
 

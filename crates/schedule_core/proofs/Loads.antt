@@ -1,11 +1,12 @@
 -- A worker's frame as a strand is loaded with it.
-use Rattle.std.proofs.Common.{◌≡◌, ◌≢◌, ℕ, ℤ, List, [], Option, Some, None, Bool, true, false, cond, refl, sym, ap, ◌∙◌, slice_get}
+use Rattle.std.proofs.Common.{◌≡◌, ◌≢◌, ℕ, ◌<◌, ◌≤◌, ℤ, List, [], length, Option, Some, None, Bool, true, false, cond, refl, sym, ap, ◌∙◌, arith, slice_get}
 use Rattle.std.specs.Option.{option_map}
 use Rattle.std.proofs.Math.Logic.{∥∥₁_elim, ∥∥₁_map}
 use Rattle.std.proofs.Props.{props}
 use Rattle.std.proofs.Math.Nat.{ℕ_set}
 use Rattle.std.proofs.Math.IntN.{ℤ_set}
 use mathlib.Core.Sum.{⊎_set}
+use Rattle.std.proofs.lemmas.List.{length-reverse}
 use Rattle.program.specs.declared.function.Program.{Program}
 use Rattle.cactus.specs.declared.node.Node.{Node}
 use Rattle.cactus.specs.Frames.{node_at}
@@ -31,10 +32,14 @@ use Rattle.crew.specs.Shown.{place_of}
 use Rattle.crew.proofs.Onward.{fits_prop, seen}
 use Rattle.strand_promise.proofs.Law.{alone_too}
 use Rattle.schedule_core.specs.declared.stage.Stage.{Stage}
-use Rattle.schedule_core.specs.Replaying.{IsMachine, state_after}
+use Rattle.schedule_core.specs.Replaying.{IsMachine, KeepsItsSchedule, state_after}
 use Rattle.schedule_core.specs.Stages.{program_of, workers_of}
-use Rattle.schedule_core.specs.Strands.{IsLoaded}
+use Rattle.schedule_core.specs.Strands.{HasRoomFor, IsLoaded}
+use Rattle.schedule_core.proofs.Grounds.{laws}
 use Rattle.schedule_core.proofs.Views.{hand_is}
+
+room_left : (place path most depth room : ℕ) → place ≡ path → place < most → most ≤ depth → depth ≤ room → path ≤ room
+room_left place path most depth room same low within large = omega (arith, same, low, within, large)
 
 module _ (stage : Stage) (kept : ∥ IsMachine stage ∥₁) (worker slot : ℕ) (node : Node Activation) (hand : hand_of stage.run.hands.items worker ≡ Some slot) (stands : node_at stage.run.cactus slot ≡ Some node) where
   pub frame_fits : FrameFits (program_of stage) node.frame.frame
@@ -55,6 +60,19 @@ module _ (stage : Stage) (kept : ∥ IsMachine stage ∥₁) (worker slot : ℕ)
           stays = alone_too (program_of stage) m (s.well.deep []) worker (place_of node) g.frame (hand_is stage m s worker slot node hand stands) g.is (object_at stage.places stage.run.cactus);
         };
       })
+
+  -- a strand of the module has room for its path
+  pub path_fits : (room : ℕ) → ∥ HasRoomFor (program_of stage) room ∥₁ → length node.path.numbers ≤ room
+  path_fits room some =
+      ∥∥₁_elim kept (Prim.hlevel (props, ⊎_set, ℕ_set, ℤ_set)) (λ k.
+      ∥∥₁_elim some (Prim.hlevel (props, ⊎_set, ℕ_set, ℤ_set)) (λ h.
+      let m = state_after (program_of stage) k.arguments stage.memory (workers_of stage) k.events in
+      let s = k.replays.state in
+      let g = seen (program_of stage) stage.places stage.run slot node node.frame stands m s.shown in
+      let theorem : KeepsItsSchedule (program_of stage) k.arguments stage.memory (workers_of stage) k.events =
+      (laws.from_start (program_of stage) k.accepted k.arguments k.taken stage.memory k.made (workers_of stage) s.manned).keeps k.events in
+      room_left (length (place_of node)) (length node.path.numbers) theorem.serial.depth h.depth room (length-reverse node.path.numbers)
+      (theorem.low (place_of node) g.frame g.is) (theorem.within_depth h.depth h.is_depth) h.within))
 
 -- ---- a loaded strand is not blank
 

@@ -1,12 +1,13 @@
 -- What events do to a stage, one and many.
 use Rattle.std.specs.Prelude.{◌≡◌, ⊤, ℕ, ◌≤◌, ◌<◌, List, [], ◌∷◌, ◌++◌, length, reverse, map, sum, Bool, true, false, Some, None, IsSome, ℤ}
 use Rattle.running.specs.Paths.{Path as RunningPath}
+use Rattle.running.specs.Frames.{Frame}
 use Rattle.running.specs.Events as running
 use Rattle.running.specs.Replay.{or_unchanged, replay}
 use Rattle.running.specs.SerialMeaning.{Outcome, IsSerialMeaning}
 use Rattle.crew_promise.specs.conditions.theorem.Schedules.{KeepsSchedule}
 use Rattle.crew_promise.specs.verifier.Accepted.{IsAccepted}
-use Rattle.crew_promise.specs.verifier.Budgets.{budget_of}
+use Rattle.crew_promise.specs.verifier.Budgets.{budget_of, IsDepthOf}
 use Rattle.program.specs.declared.function.Program.{Program}
 use Rattle.crew_promise.specs.outcome.Requirements.{unmet_in}
 use Rattle.crew_promise.specs.store.Cells.{NamedCells}
@@ -119,15 +120,23 @@ pub record IsMachine (stage : Stage) : Type 0 where
   pub events : List Event
   pub replays : Replays (program_of stage) arguments stage.memory (workers_of stage) events stage
 
+-- no frame stands deeper than the deepest of the serial run
+abbrev pub StaysLow : Outcome → running.Machine → Type 0
+StaysLow serial m = (p : RunningPath) (f : Frame) → m.core.frames p ≡ Some f → length p < serial.depth
+
 -- The schedule theorem of the definitions' state after these events: no step has trapped; the instructions are no more than serially, and within the
--- budget; living frames are at most the workers times the serial depth; and once it has ended, its memory, result, count and depth are those of the serial run.
+-- budget; no frame is deeper than serially, and within the depth; living frames are at most the workers times the serial depth; and once it has ended,
+-- its memory, result, count and depth are those of the serial run.
 pub record KeepsItsSchedule (prog : Program) (arguments : List ℤ) (globals : List NamedCells) (workers : ℕ) (events : List Event) : Type 0 where
   pub serial : Outcome
   pub is_serial : IsSerialMeaning prog arguments (given globals) serial
   pub within_budget : serial.count ≤ budget_of prog
+  pub within_depth : (depth : ℕ) → IsDepthOf prog depth → serial.depth ≤ depth
   pub schedule : KeepsSchedule prog workers serial (state_after prog arguments globals workers events)
+  pub low : StaysLow serial (state_after prog arguments globals workers events)
   -- and so after whatever events follow these
   pub onwards : (more : List Event) → KeepsSchedule prog workers serial (state_after prog arguments globals workers (events ++ more))
+  pub low_onwards : (more : List Event) → StaysLow serial (state_after prog arguments globals workers (events ++ more))
 
 -- the theorem of a schedule that led to the stage holds with this event more
 abbrev pub KeepsItWith : Stage → Event → Type 0

@@ -1,6 +1,5 @@
 -- What strands are to a stage: copies of a worker's frame that went on apart.
-use Rattle.std.specs.Prelude.{◌≡◌, ◌≢◌, ℕ, ◌<◌, [], length, replicate, Some, vec_capacity}
-use Rattle.running.specs.Paths.{Path}
+use Rattle.std.specs.Prelude.{◌≡◌, ◌≢◌, ℕ, ◌≤◌, [], replicate, Some, vec_capacity}
 use Rattle.running.specs.Events as running
 use Rattle.running.specs.Replay.{replay}
 use Rattle.program.specs.declared.function.Program.{Program}
@@ -10,15 +9,23 @@ use Rattle.absorbing.specs.strand.declared.outside.Strand.{Strand}
 use Rattle.absorbing.specs.strand.declared.standing.Pause.TheVariants.{Blank}
 use Rattle.absorbing.specs.strands.Law.{steps_by}
 use Rattle.crew.specs.Starts.{ArePlaces}
+use Rattle.crew_promise.specs.verifier.Budgets.{IsDepthOf}
 use Rattle.frame.specs.declared.event.Event.TheVariants.{Step}
 use Rattle.schedule_core.specs.declared.stage.Stage.{Stage}
 use Rattle.schedule_core.specs.Replaying.{AreEnabled, ReplaysMore}
 use Rattle.schedule_core.specs.Stages.{IsState, program_of, workers_of}
 
--- the strand was made for the module
+-- so many numbers of a path are room for each frame of the module's runs
+pub record HasRoomFor (program : Program) (room : ℕ) : Type 0 where
+  pub depth : ℕ
+  pub is_depth : IsDepthOf program depth
+  pub within : depth ≤ room
+
+-- the strand was made for the module, with room for the path of each frame
 pub record IsMadeOf (program : Program) (x : Strand) : Type 0 where
   pub module_is : x.program.now ≡ program
   pub places_are : ArePlaces program x.places.now
+  pub room : ∥ HasRoomFor program (vec_capacity x.course.path) ∥₁
 
 -- the worker runs the frame that was loaded, word for word, at its path, and each cell that was read holds what was read
 abbrev pub FitsStage : Stage → ℕ → Strand → Type 0
@@ -29,11 +36,6 @@ pub record IsLoaded (stage : Stage) (worker : ℕ) (x : Strand) : Type 0 where
   pub fits : FitsStage stage worker x
   pub done : x.course.done ≡ 0
   pub reads : x.course.cells.reads ≡ []
-
--- the worker runs no frame, or one at a longer path than the strand has room for
-abbrev pub LacksRoom : Stage → ℕ → Strand → Type 0
-LacksRoom stage worker x =
-    (m : running.Machine) → IsState stage m → (p : Path) → m.hands worker ≡ Some p → vec_capacity x.course.path < length p
 
 -- so many steps of the worker are enabled one after the other, and after them the stage is the other
 pub record TakesSteps (old new : Stage) (worker steps : ℕ) : Type 0 where

@@ -1,5 +1,5 @@
 //! Strands: what a worker did outside of the machine on a copy of its frame, done at once.
-ghost use Rattle.std.specs.Prelude.{◌≡◌, ◌↔◌, ℤ, IfOk, IsTrue, Ok, OnErr, Some, false, true};
+ghost use Rattle.std.specs.Prelude.{◌≡◌, ◌↔◌, ℤ, IfOk, IsTrue, None, Ok, OnErr, Some, false, true};
 ghost use Rattle.running.specs.Cells.{Cell};
 ghost use Rattle.running.specs.Events.{Machine as RunningMachine};
 ghost use Rattle.engine.specs.Flat.{cell_in};
@@ -12,7 +12,7 @@ ghost use Rattle.crew.specs.Starts.{ArePlaces};
 ghost use Rattle.schedule_core.specs.Replaying.{IsMachine, LeavesAsBefore};
 ghost use Rattle.schedule_core.specs.Spots.{KeepsSpots};
 ghost use Rattle.schedule_core.specs.Stages.{IsState, program_of};
-ghost use Rattle.schedule_core.specs.Strands.{Absorbs, FitsStage, IsLoaded, IsMadeOf, LacksRoom};
+ghost use Rattle.schedule_core.specs.Strands.{Absorbs, FitsStage, IsLoaded, IsMadeOf};
 
 use crate::machine::Machine;
 use crate::stage::Stage;
@@ -31,23 +31,6 @@ pub fn places_of(alloc: Global, verified: &Verified) -> Result<Places, OutOfMemo
     ensures { IfOk result (ArePlaces verified.now) }
 {
     Places::of_program(alloc, verified.program())
-}
-
-/// A blank strand of the module, with room for the frames of its runs.
-///
-/// # Errors
-///
-/// Memory was refused.
-pub fn blank_strand<'p>(
-    alloc: Global,
-    verified: &'p Verified,
-    places: &'p Places,
-) -> Result<Strand<'p>, OutOfMemory>
-    requires { ArePlaces verified.now places.now }
-    ensures made { IfOk result (IsMadeOf verified.now) }
-    ensures blank { IfOk result (λ strand. strand.pause ≡ Some Blank) }
-{
-    Strand::new(alloc, verified.program(), places, verified.depth() as usize)
 }
 
 /// How many steps of its worker a strand is: its instructions, and the border's where it stands at one.
@@ -95,15 +78,15 @@ impl Machine<'_> {
         absorb_into(&mut self.stage, worker, strand)
     }
 
-    /// Loads the frame that the worker runs next into a blank strand; it takes no memory. The answer is whether there is such a frame, and
-    /// the strand has room for its path; if not, the strand is as it was.
+    /// Loads the frame that the worker runs next into a blank strand; it takes no memory. The answer is whether there is such a frame; if
+    /// not, the strand is as it was.
     pub fn load_strand(&self, worker: u8, strand: &mut Strand<'_>) -> bool
         requires made { IsMadeOf (program_of self.now.stage) strand.old }
         requires blank { strand.old.pause ≡ Some Blank }
         ensures made { IsMadeOf (program_of self.now.stage) strand.new }
         ensures loaded { IsTrue result → IsLoaded self.now.stage worker strand.new }
         ensures not_loaded { result ≡ false → strand.new ≡ strand.old }
-        ensures lacks { result ≡ false → LacksRoom self.now.stage worker strand.old }
+        ensures idle { result ≡ false → (m : RunningMachine) → IsState self.now.stage m → m.hands worker ≡ None }
     {
         let Some(slot) = self.stage.run.hand(worker) else {
             return false;
@@ -112,12 +95,8 @@ impl Machine<'_> {
             return false;
         };
         let path = node.path.numbers.as_slice();
-        if path.len() <= strand.room() {
-            strand.load(&node.frame.frame, path);
-            true
-        } else {
-            false
-        }
+        strand.load(&node.frame.frame, path);
+        true
     }
 
     /// What the cell at an address holds; none where there is no such cell.

@@ -15,7 +15,7 @@ mod stands;
 mod task;
 mod view;
 
-pub use absorb::{blank_strand, places_of, steps_of};
+pub use absorb::{places_of, steps_of};
 pub use absorbing::{Pause, Strand};
 pub use engine::Places;
 pub use frame::Event;

@@ -1,5 +1,5 @@
 -- What the calls of a board do.
-use Rattle.std.specs.Prelude.{◌≡◌, ◌↔◌, ℕ, ℤ, ◌+◌, List, [], ◌∷◌, ◌++◌, length, replicate}
+use Rattle.std.specs.Prelude.{◌≡◌, ◌≢◌, ◌↔◌, ℕ, ℤ, ◌+◌, List, [], ◌∷◌, ◌++◌, length, replicate}
 use Rattle.std.specs.Prelude.{Option, Some, None, Bool, true, false, is_none, is_some, IsSome, IfSome}
 use Rattle.std.specs.Option.{option_map}
 use Rattle.running.specs.Paths.{Path as RunningPath}
@@ -11,7 +11,7 @@ use Rattle.program.specs.declared.function.Program.{Program}
 use Rattle.frame.specs.declared.path.Path.{Path}
 use Rattle.frame.specs.declared.event.Event.{Event}
 use Rattle.frame.specs.declared.event.Event.TheVariants.{Step, Steal}
-use Rattle.schedule_core.specs.Strands.{Absorbs, FitsStage, IsLoaded, LacksRoom}
+use Rattle.schedule_core.specs.Strands.{Absorbs, FitsStage, IsLoaded}
 use Rattle.schedule_core.specs.absorbing.Absorbing.{steps_in}
 use Rattle.schedule_core.specs.strand.declared.outside.Strand.{Strand}
 use Rattle.schedule_core.specs.strand.declared.standing.Pause.TheVariants.{Blank, Border, Need}
@@ -66,10 +66,9 @@ pub record IsFilled (x y : Strand) (at z : ℤ) : Type 0 where
   pub done : y.course.done ≡ x.course.done
   pub pause : y.pause ≡ None
 
--- why a strand gets nothing: no cell stands at the address that it needs, it needs none and holds a frame, or the frame's path is too long
-abbrev pub IsStranger : Story → Place → Strand → Type 0
-IsStranger s p x =
-    ((at : ℤ) → x.pause ≡ Some (Need at) → cell_in s.stage.run.cells.cells.items at ≡ None) × (x.pause ≡ Some Blank → LacksRoom s.stage p.worker x)
+-- why a strand gets nothing: it holds a frame, and needs no cell, or one that is not there
+abbrev pub IsStranger : Story → Strand → Type 0
+IsStranger s x = (x.pause ≢ Some Blank) × ((at : ℤ) → x.pause ≡ Some (Need at) → cell_in s.stage.run.cells.cells.items at ≡ None)
 
 -- what the event makes of the state, where it is enabled
 abbrev pub outcome : Story → Event → Option Machine
@@ -126,7 +125,7 @@ abbrev pub Fetches : Story → Place → Strand → Strand → Fetched → Type 
 Fetches s p x y fetched.Frame = (x.pause ≡ Some Blank) × IsLoaded s.stage p.worker y
 Fetches s p x y fetched.Cell = (at z : ℤ) × (x.pause ≡ Some (Need at)) × (cell_in s.stage.run.cells.cells.items at ≡ Some z) × IsFilled x y at z
 Fetches s p x y fetched.Idle = (y ≡ x) × (x.pause ≡ Some Blank) × ((state_of s).hands p.worker ≡ None)
-Fetches s p x y fetched.Stranger = (y ≡ x) × IsStranger s p x
+Fetches s p x y fetched.Stranger = (y ≡ x) × IsStranger s x
 
 -- as many steps of the worker as a strand did instructions, up to its border's
 abbrev pub before_border : Story → Place → Strand → Story

@@ -27,7 +27,7 @@ pub enum Fetched {
     Cell,
     /// Nothing: the worker runs no task.
     Idle,
-    /// Nothing: the cell is gone, the strand is neither blank nor in need, or it has no room for the frame's path.
+    /// Nothing: the cell is gone, or the strand is neither blank nor in need.
     Stranger,
 }
 

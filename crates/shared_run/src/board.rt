@@ -207,7 +207,7 @@ impl<'a, L: Bench> Board<'a, L> {
         }
     }
 
-    /// Gives a blank strand the frame that the seat's worker runs next.
+    /// Gives a blank strand the frame that the seat's worker runs next; it has room for each.
     fn fetch_frame(&self, seat: &Seat<L>, strand: &mut Strand<'_>) -> Fetched
         requires made { IsMadeOf L.code strand.old }
         requires blank { strand.old.pause ≡ Some pause.Blank }
@@ -215,14 +215,10 @@ impl<'a, L: Bench> Board<'a, L> {
         ensures fetches { Fetches self.now seat.now strand.old strand.new result }
     {
         let worker = seat.worker();
-        let machine = self.machine();
-        if machine.depth_of(worker).is_none() {
-            return Fetched::Idle;
-        }
-        if machine.load_strand(worker, strand) {
+        if self.machine().load_strand(worker, strand) {
             Fetched::Frame
         } else {
-            Fetched::Stranger
+            Fetched::Idle
         }
     }
 

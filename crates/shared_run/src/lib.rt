@@ -23,10 +23,9 @@ pub use answers::{Claimed, Committed, Fetched, Stepped};
 pub use bench::Bench;
 pub use board::Board;
 pub use history::{Entry, History};
-pub use outside::{advance, clear};
+pub use outside::{advance, blank_strand, clear};
 pub use schedule_core::{
-    Event, Finished, Memory, Pause, Places, RunFault, Strand, Verified, blank_strand, places_of,
-    steps_of,
+    Event, Finished, Memory, Pause, Places, RunFault, Strand, Verified, places_of, steps_of,
 };
 pub use seat::Seat;
 pub use shared::Shared;

@@ -1,10 +1,30 @@
-//! Strands of a run, outside of its board: what changes them keeps them strands of its module.
-ghost use Rattle.std.specs.Prelude.{◌≡◌, Some};
+//! Strands of a run, outside of its board: they are made for its module, and what changes them keeps them strands of it.
+ghost use Rattle.std.specs.Prelude.{◌≡◌, IfOk, Some};
+ghost use Rattle.crew.specs.Starts.{ArePlaces};
 ghost use Rattle.schedule_core.specs.Strands.{IsMadeOf};
 ghost use Rattle.schedule_core.specs.strand.declared.standing.Pause.TheVariants.{Blank};
 
 use crate::bench::Bench;
-use schedule_core::{Pause, Strand};
+use lists::OutOfMemory;
+use schedule_core::{Pause, Places, Strand, Verified};
+use std::alloc::Global;
+
+/// A blank strand of the module, with room for the frames of its runs: none is deeper than the module's depth.
+///
+/// # Errors
+///
+/// Memory was refused.
+pub fn blank_strand<'p>(
+    alloc: Global,
+    verified: &'p Verified,
+    places: &'p Places,
+) -> Result<Strand<'p>, OutOfMemory>
+    requires { ArePlaces verified.now places.now }
+    ensures made { IfOk result (IsMadeOf verified.now) }
+    ensures blank { IfOk result (λ strand. strand.pause ≡ Some Blank) }
+{
+    Strand::new(alloc, verified.program(), places, verified.depth() as usize)
+}
 
 /// The strand is blank from here on.
 #[tactic(auto, using(crate::proofs::Made::made_still))]

@@ -1,23 +1,17 @@
 -- The sums of the rules on numbers and zones have forms.
-use Rattle.std.proofs.Common.{◌≡◌, ◌∙◌, ℕ, zero, suc, ◌+◌, ◌*◌, ◌^◌, ◌<◌, ◌≤◌, ℤ, pos, negsuc, ◌*ℤ◌, ◌-ℤ◌, Bool, true, false, List, [], ◌∷◌, ◌++◌, map, Option, Some, None, refl, sym, ap, subst, arith}
-use Rattle.std.specs.Prelude.{◌==◌, ◌&&◌, ◌||◌, if◌then◌else◌, int_le, slice_get, sum_by, unsigned_abs, IsSome}
-use Rattle.std.specs.List.{All, Contains, filter_map}
-use Rattle.std.specs.Option.{option_map}
+use Rattle.std.proofs.Common.{◌≡◌, ◌∙◌, ℕ, suc, ◌+◌, ◌^◌, ◌<◌, ◌≤◌, ℤ, pos, negsuc, ◌*ℤ◌, ◌-ℤ◌, Bool, true, false, List, [], ◌∷◌, Option, Some, None, refl, subst, arith}
+use Rattle.std.specs.Prelude.{◌&&◌, if◌then◌else◌, int_le, sum_by, unsigned_abs}
+use Rattle.std.specs.List.{All}
 use Rattle.std.proofs.lemmas.Bool.{and_parts, leb-true}
 use Rattle.std.proofs.lemmas.Int.{ints, unsigned_abs-mul}
-use Rattle.std.proofs.lemmas.List.Elements.{All-append, All-cons, All-contains, All-head, All-map, All-nil, All-tail}
+use Rattle.std.proofs.lemmas.List.Elements.{All-append, All-cons, All-head, All-nil, All-tail}
 use Rattle.std.proofs.lemmas.List.Sums.{sum_by-cons}
 use Rattle.linear.specs.declared.form.Fact.{Fact}
 use Rattle.linear.specs.declared.form.RegisterId.{RegisterId}
-use Rattle.linear.specs.Forms.{Combination}
 use Rattle.syntax.specs.declared.operator.BinaryOperator.{BinaryOperator}
 use Rattle.syntax.specs.declared.operator.BinaryOperator.TheVariants as operator
 use Rattle.syntax.specs.declared.operator.Conversion.{Conversion}
 use Rattle.syntax.specs.declared.operator.Conversion.TheVariants.{Truncate, SignExtend, ZeroExtend}
-use Rattle.syntax.specs.declared.operator.Predicate.{Predicate}
-use Rattle.syntax.specs.declared.operator.Predicate.TheVariants as predicate
-use Rattle.syntax.specs.declared.operator.Width.{Width}
-use Rattle.syntax.specs.declared.operator.Width.TheVariants.{Bits64, Bits32}
 use Rattle.program.specs.declared.annotation.Inequality.{Inequality}
 use Rattle.program.specs.declared.instruction.Argument.{Argument}
 use Rattle.program.specs.declared.instruction.Argument.TheVariants as argument
@@ -27,16 +21,15 @@ use Rattle.program.specs.declared.function.Function.{Function}
 use Rattle.cfg.specs.declared.structure.Move.{Move}
 use Rattle.ranges.specs.obligations.declared.sum.Part.{Part}
 use Rattle.ranges.specs.obligations.declared.sum.Sum.{Sum}
-use Rattle.ranges.specs.obligations.declared.sum.Obligation.{Obligation}
 use Rattle.ranges.specs.obligations.Sums.{one, two, three}
-use Rattle.ranges.specs.Sums.{shows, shows_form, is_met, sum_form}
+use Rattle.ranges.specs.Sums.{shows}
 use Rattle.ranges.specs.obligations.Inequalities.{difference_of, differences_of, argument_operand, argument_moves, result_of, result_moves, register_operand, call_moves}
 use Rattle.ranges.specs.obligations.Scales.{is_scale, scale_number, scale_left, scale_right, scale_of}
 use Rattle.ranges.specs.Learned.{is_multiple, is_product, is_between, is_quotient, is_divisor, quotient_by, remainder_by, masked_by, binary_sums, is_32_bits, conversion_sums, call_sums}
-use Rattle.verdict_laws.specs.Sums.{IsWord, IsModest}
-use Rattle.verdict_laws.specs.Limited.{IsLimited, AreWords}
+use Rattle.verdict_laws.specs.Sums.{IsWord}
+use Rattle.verdict_laws.specs.Limited.{AreWords}
 use Rattle.verdict_laws.specs.Written.{AreSidesLimited, IsArgumentWord}
-use Rattle.verdict_laws.specs.Formed.{HasForm, HaveForms, HasChoices}
+use Rattle.verdict_laws.specs.Formed.{HasForm, HaveForms}
 use Rattle.verdict_laws.proofs.Limited.{limited_forms_ask_little}
 use Rattle.verdict_laws.proofs.Sums.{modest_sums_have_forms}
 use Rattle.verdict_laws.proofs.limits.Forms.{small}

@@ -1,13 +1,12 @@
 -- The sums that are asked at the places of a program have forms.
-use Rattle.std.proofs.Common.{◌≡◌, ◌∙◌, ℕ, ◌+◌, ◌^◌, ◌<◌, ◌≤◌, ℤ, pos, negsuc, ◌*ℤ◌, ◌-ℤ◌, Bool, true, false, List, [], ◌∷◌, ◌++◌, map, Option, Some, None, refl, sym, ap, subst, arith}
-use Rattle.std.specs.Prelude.{◌==◌, ◌||◌, if◌then◌else◌, slice_get, unsigned_abs, IsSome}
-use Rattle.std.specs.List.{All, Contains, cons_option}
+use Rattle.std.proofs.Common.{◌≡◌, ℕ, ◌^◌, ◌<◌, ◌≤◌, ℤ, pos, negsuc, ◌*ℤ◌, ◌-ℤ◌, Bool, true, false, List, [], ◌∷◌, map, Option, Some, None, refl, subst, arith}
+use Rattle.std.specs.Prelude.{◌==◌, if◌then◌else◌, slice_get, unsigned_abs}
+use Rattle.std.specs.List.{All, cons_option}
 use Rattle.std.specs.Option.{option_map}
 use Rattle.std.proofs.lemmas.Int.{ints}
 use Rattle.std.proofs.lemmas.List.Elements.{All-cons, All-contains, All-head, All-nil, All-tail}
 use Rattle.linear.specs.declared.form.Fact.{Fact}
 use Rattle.linear.specs.declared.form.RegisterId.{RegisterId}
-use Rattle.linear.specs.Forms.{Combination}
 use Rattle.syntax.specs.declared.operator.BinaryOperator.{BinaryOperator}
 use Rattle.syntax.specs.declared.operator.BinaryOperator.TheVariants as operator
 use Rattle.syntax.specs.declared.operator.Predicate.{Predicate}
@@ -42,22 +41,22 @@ use Rattle.ranges.specs.declared.edge.EdgeSums.{EdgeSums}
 use Rattle.ranges.specs.obligations.declared.sum.Obligation.{Obligation}
 use Rattle.ranges.specs.obligations.declared.sum.Part.{Part}
 use Rattle.ranges.specs.obligations.declared.sum.Sum.{Sum}
-use Rattle.ranges.specs.Edges.{compare_of, compared, at_least, above, compare_sums, branch_sums, case_sums, edge_to, edges_out, edge_facts, edge_owed, keeps_of}
+use Rattle.ranges.specs.Edges.{compare_of, compared, at_least, above, compare_sums, branch_sums, case_sums, edge_to, edges_out, keeps_of}
 use Rattle.ranges.specs.obligations.Inequalities.{difference_of, argument_moves, result_of, result_moves}
 use Rattle.ranges.specs.obligations.Scales.{scale_of}
 use Rattle.ranges.specs.Learned.{learned}
 use Rattle.ranges.specs.obligations.Owed.{must, half, greatest, last_bit, is_not_zero, is_not_least_by_minus_one, product_owed, is_amount, binary_owed, index_owed, inequalities_owed, call_owed, owed, owed_at_end}
 use Rattle.ranges.specs.obligations.Sums.{one, two}
 use Rattle.footprints.specs.Footprints.{form_at}
-use Rattle.footprints.specs.Zones.{Span}
 use Rattle.phase_laws.proofs.defined.Lists.{at_within}
 use Rattle.verdict_laws.specs.Sums.{IsWord}
 use Rattle.verdict_laws.specs.Limited.{IsLimited, AreWords}
-use Rattle.verdict_laws.specs.Written.{AreSidesLimited, AreEndsLimited, IsArgumentWord, HasWords, EndsInWords, IsCaseNumber, TakesWords, IsStepLimited, IsEndLimited, IsEndLimitedIfAny, IsBlockLimited, IsFunctionLimited}
-use Rattle.verdict_laws.specs.Formed.{HasForm, HaveForms, HasChoices, IsStepFormed, IsEndFormed, IsBlockFormed, AreCompared, HasFormedSums, SumsHaveForms}
+use Rattle.verdict_laws.specs.Written.{AreSidesLimited, IsArgumentWord, HasWords, EndsInWords, IsCaseNumber, TakesWords, IsStepLimited, IsEndLimited, IsEndLimitedIfAny, IsBlockLimited, IsFunctionLimited}
+use Rattle.verdict_laws.specs.Formed.{HasForm, HaveForms, HasChoices, IsStepFormed, IsEndFormed, IsBlockFormed, SumsHaveForms}
+use Rattle.verdict_laws.proofs.Plain.{shown_plain}
 use Rattle.verdict_laws.proofs.Limited.{limited_forms_ask_little, none_moved}
 use Rattle.verdict_laws.proofs.Sums.{modest_sums_have_forms}
-use Rattle.verdict_laws.proofs.Formed.{IsSmallPart, small_part, one_formed, two_formed, none_formed, with_formed, pair_formed, plus_one, minus_one, opposite, IsScaled, product_scaled, binary_formed, conversion_formed, difference_formed, differences_formed, argument_words, call_formed}
+use Rattle.verdict_laws.proofs.Formed.{small_part, one_formed, two_formed, none_formed, with_formed, pair_formed, plus_one, minus_one, opposite, IsScaled, product_scaled, binary_formed, conversion_formed, difference_formed, differences_formed, argument_words, call_formed}
 use Rattle.verdict_laws.proofs.limits.Forms.{weight_cons}
 use Rattle.verdict_laws.proofs.limits.Objects.{objects_few}
 use Rattle.verdict_laws.proofs.limits.Texts.{forms_are_limited}
@@ -378,6 +377,7 @@ sums_have_forms = record {
         blocks = λ f b function block at_f at_b. block_formed program all few f b function block at_f at_b;
       };
   accesses = λ line mode cell count word few. record { low = end_limited cell.index 0 word (omega arith); high = end_limited cell.index count word few };
+  plain = shown_plain;
   zones = λ z y h k words words'. record {
     lows = modest_sums_have_forms _ (limited_forms_ask_little.differences z.moves y.moves z.zone.low y.zone.low words words' h.low k.low);
     highs = modest_sums_have_forms _ (limited_forms_ask_little.differences z.moves y.moves z.zone.high y.zone.high words words' h.high k.high);

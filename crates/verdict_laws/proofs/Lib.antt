@@ -6,4 +6,5 @@ pub mod limits
 pub mod Sums
 pub mod Limited
 pub mod Formed
+pub mod Plain
 pub mod FormedPlaces

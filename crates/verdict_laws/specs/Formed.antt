@@ -1,14 +1,15 @@
--- The law: no sum that the rules on numbers and zones ask of a program that a text means passes the bounds of a form, whether the rules are kept or broken. So no
--- text is refused for these bounds. Of the rules on costs `Limited` says the same where less than 2^98 is done.
-use Rattle.std.specs.Prelude.{◌≡◌, ℕ, ◌≤◌, ◌^◌, List, [], Some, All, Contains, IsSome, slice_get}
+-- The law: no sum that the rules on numbers and zones ask of a program that a text means passes the bounds of a form, whether the rules are kept or broken, and
+-- facts show such a sum just where they show it as it stands, over the integers without bounds. So no text is refused for these bounds. Of the rules on costs
+-- `Limited` says the same where less than 2^98 is done.
+use Rattle.std.specs.Prelude.{◌≡◌, ◌↔◌, ℕ, ◌≤◌, ◌^◌, List, [], Some, All, Contains, IsSome, IsTrue, slice_get}
 use Rattle.syntax.specs.declared.operator.Mode.{Mode}
+use Rattle.entailment.specs.Shown.{IsShown}
 use Rattle.linear.specs.declared.form.Fact.{Fact}
 use Rattle.program.specs.declared.function.Block.{Block}
 use Rattle.program.specs.declared.function.Function.{Function}
 use Rattle.program.specs.declared.function.Program.{Program}
 use Rattle.program.specs.declared.instruction.Ending.{Ending}
 use Rattle.program.specs.declared.instruction.Step.{Step}
-use Rattle.ranges.specs.cfg.declared.structure.Move.{Move}
 use Rattle.ranges.specs.declared.edge.EdgeSums.{EdgeSums}
 use Rattle.ranges.specs.obligations.declared.sum.Obligation.{Obligation}
 use Rattle.ranges.specs.obligations.declared.sum.Sum.{Sum}
@@ -16,10 +17,11 @@ use Rattle.ranges.specs.Edges.{edges_out, edge_facts, edge_owed}
 use Rattle.ranges.specs.obligations.Inequalities.{differences_of}
 use Rattle.ranges.specs.Learned.{learned}
 use Rattle.ranges.specs.obligations.Owed.{owed, owed_at_end}
-use Rattle.ranges.specs.Sums.{sum_form}
+use Rattle.ranges.specs.Sums.{shows, sum_form}
 use Rattle.footprints.specs.declared.access.Cell.{Cell}
 use Rattle.footprints.specs.Footprints.{cells_zone}
 use Rattle.footprints.specs.Zones.{Span, between}
+use Rattle.verdict_laws.specs.Plain.{plain_form}
 use Rattle.verdict_laws.specs.Sums.{IsWord}
 use Rattle.verdict_laws.specs.Limited.{AreWords}
 use Rattle.verdict_laws.specs.Written.{AreEndsLimited, IsRead}
@@ -73,4 +75,6 @@ pub record SumsHaveForms : Type 0 where
   pub numbers : (program : Program) → IsRead program → HasFormedSums program
   -- the cells that an access touches are a zone of the same kind
   pub accesses : (line : ℕ) (mode : Mode) (cell : Cell) (count : ℕ) → IsWord cell.index → count ≤ 2 ^ 63 → AreEndsLimited (cells_zone line mode cell count)
+  -- one that has a form is shown just where it is shown as it stands
+  pub plain : (facts : List Fact) (sum : Sum) → HasForm sum → IsTrue (shows facts sum) ↔ IsShown facts (plain_form sum)
   pub zones : (z y : Span) → AreEndsLimited z.zone → AreEndsLimited y.zone → AreWords z.moves → AreWords y.moves → AreCompared z y

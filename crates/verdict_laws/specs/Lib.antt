@@ -4,3 +4,4 @@ pub mod Sums
 pub mod Limited
 pub mod Written
 pub mod Formed
+pub mod Plain

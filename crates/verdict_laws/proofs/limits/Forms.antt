@@ -1,6 +1,6 @@
 -- A form of an annotation is limited.
-use Rattle.std.proofs.Common.{◌≡◌, ◌∙◌, ℕ, zero, suc, ◌+◌, ◌*◌, ◌^◌, ◌<◌, ◌≤◌, ℤ, pos, negsuc, ◌+ℤ◌, Bool, true, false, List, [], ◌∷◌, length, Option, Some, None, Result, Ok, insert, refl, sym, ap, subst, arith}
-use Rattle.std.specs.Prelude.{◌==◌, ◌&&◌, int_le, nat_le, if◌then◌else◌, slice_get, slice_set, sum_by, unsigned_abs}
+use Rattle.std.proofs.Common.{◌≡◌, ◌∙◌, ℕ, zero, suc, ◌+◌, ◌*◌, ◌≤◌, ℤ, pos, negsuc, ◌+ℤ◌, Bool, true, false, List, [], ◌∷◌, length, Option, Some, None, Ok, insert, refl, ap, subst, arith}
+use Rattle.std.specs.Prelude.{◌==◌, int_le, nat_le, if◌then◌else◌, slice_set, unsigned_abs}
 use Rattle.std.specs.List.{prefix_len}
 use Rattle.std.proofs.lemmas.Bool.{and_parts, leb-true}
 use Rattle.std.proofs.lemmas.Int.{ints}
@@ -9,17 +9,16 @@ use Rattle.linear.specs.declared.form.Form.{Form}
 use Rattle.linear.specs.declared.form.RegisterId.{RegisterId}
 use Rattle.linear.specs.declared.form.Term.{Term}
 use Rattle.linear.specs.Forms.{constant_form}
-use Rattle.linear.specs.Made.{is_below, is_bounded, coefficient_at, own_coefficient, placed_at, placed, with_terms, with_term}
+use Rattle.linear.specs.Made.{is_below, is_bounded, coefficient_at, placed_at, placed, with_terms, with_term}
 use Rattle.syntax.specs.declared.annotation.Form.{Form as FormText}
 use Rattle.syntax.specs.declared.annotation.Term.{Term as TermText}
 use Rattle.refusal.specs.declared.refused.Refused.TheVariants.{Fault}
 use Rattle.ir_annotation.specs.Canonical.{IsCanonical}
 use Rattle.scopes.specs.declared.form.Place.{Place}
-use Rattle.scopes.specs.Fault.{unless_of}
 use Rattle.scopes.specs.Form.{is_small_coefficient, keeps_limits, term_of, within_bounds, with_one, with_all, form_in_scope}
 use Rattle.scopes.specs.Scope.{Scope}
 use Rattle.scopes.proofs.Inversion.{Each, made_ok, then_ok, both_ok, same_ok, unless_ok, err_not_ok}
-use Rattle.verifier.proofs.Lists.{each_of, all_count}
+use Rattle.verifier.proofs.Lists.{each_of}
 use Rattle.verdict_laws.specs.Limited.{weight, IsLimited}
 
 -- ---- terms that are put in their places

@@ -1,6 +1,6 @@
 -- The numbers of a spelled line are of 64 bits.
-use Rattle.std.proofs.Common.{◌≡◌, ℕ, ◌<◌, ◌≤◌, ◌^◌, ℤ, pos, negsuc, true, List, [], ◌∷◌, ◌++◌, refl, subst, Result, Ok, Option, Some, None, arith}
-use Rattle.std.specs.Prelude.{◌&&◌, flat_map, nat_lt, unsigned_abs}
+use Rattle.std.proofs.Common.{◌≡◌, ℕ, ◌<◌, ◌≤◌, ◌^◌, ℤ, pos, negsuc, true, List, [], ◌∷◌, ◌++◌, subst, Ok, arith}
+use Rattle.std.specs.Prelude.{◌&&◌, flat_map, unsigned_abs}
 use Rattle.std.specs.List.{All}
 use Rattle.std.proofs.lemmas.Bool.{and_parts}
 use Rattle.std.proofs.lemmas.Bool.Decides.{nat_tests}

@@ -1,7 +1,7 @@
 -- What a text's limits leave of the functions that it means.
-use Rattle.std.proofs.Common.{◌≡◌, ◌∙◌, ℕ, List, [], ◌∷◌, ◌++◌, length, Option, Some, None, sym, ap, subst, Result, Ok}
+use Rattle.std.proofs.Common.{◌≡◌, ◌∙◌, ℕ, List, [], length, Option, Some, None, sym, ap, subst, Result, Ok}
 use Rattle.std.specs.List.{All}
-use Rattle.std.proofs.lemmas.List.Elements.{All-append, All-contains, All-nil, All-weaker}
+use Rattle.std.proofs.lemmas.List.Elements.{All-append, All-nil, All-weaker}
 use Rattle.linear.specs.declared.form.Form.{Form}
 use Rattle.program.specs.declared.annotation.Inequality.{Inequality}
 use Rattle.program.specs.declared.annotation.Left.{Left}
@@ -14,7 +14,6 @@ use Rattle.program.specs.declared.function.Program.{Program}
 use Rattle.program.specs.declared.instruction.Ending.{Ending}
 use Rattle.program.specs.declared.instruction.Phi.{Phi}
 use Rattle.program.specs.declared.instruction.Step.{Step}
-use Rattle.syntax.specs.declared.annotation.BlockNotes.{BlockNotes}
 use Rattle.syntax.specs.declared.annotation.FunctionNotes.{FunctionNotes}
 use Rattle.syntax.specs.declared.annotation.Inequality.{Inequality as InequalityText}
 use Rattle.syntax.specs.declared.annotation.Left.{Left as LeftText}
@@ -32,13 +31,12 @@ use Rattle.syntax.specs.declared.operator.Mode.{Mode}
 use Rattle.syntax.specs.declared.terminator.Ending.{Ending as EndingText}
 use Rattle.refusal.specs.declared.refused.Refused.{Refused}
 use Rattle.ir_annotation.specs.Annotations.{IsInequality, IsZone, IsPending, IsLeft}
-use Rattle.ir_reader.specs.Kept.{IsZoneOf, AreFunctionNotesWritten, AreBlockNotesWritten, IsPhiWritten, IsStepWritten, IsEndingWritten, IsEndingWrittenIfAny, IsBlockWritten, IsFunctionWritten, IsKeptFunction, IsKeptModule}
+use Rattle.ir_reader.specs.Kept.{IsZoneOf, AreFunctionNotesWritten, IsPhiWritten, IsStepWritten, IsEndingWritten, IsEndingWrittenIfAny, IsBlockWritten, IsKeptFunction, IsKeptModule}
 use Rattle.ir_reader.proofs.Keeping.{answers_kept}
 use Rattle.scopes.specs.declared.form.Place.{Place}
 use Rattle.scopes.specs.declared.form.Place.TheVariants as place
 use Rattle.scopes.specs.declared.layout.Layout.{Layout}
 use Rattle.scopes.specs.Address.{Items}
-use Rattle.scopes.specs.Fault.{all_from}
 use Rattle.scopes.specs.Form.{inequality_between, inequality_of, inequalities_of}
 use Rattle.scopes.specs.Item.{items_of}
 use Rattle.scopes.specs.Layout.{layout_of}

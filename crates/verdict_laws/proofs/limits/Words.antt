@@ -1,5 +1,5 @@
 -- The numbers of instructions, phis and terminators are of 64 bits.
-use Rattle.std.proofs.Common.{◌≡◌, ◌∙◌, ℕ, ◌+◌, Bool, true, List, [], ◌∷◌, ◌++◌, Option, Some, None, refl, ap, subst, Result, Ok, Err, nat_eq}
+use Rattle.std.proofs.Common.{◌≡◌, ◌∙◌, ℕ, ◌+◌, Bool, true, List, [], ◌∷◌, ◌++◌, Option, Some, None, ap, subst, Result, Ok, Err, nat_eq}
 use Rattle.std.specs.Prelude.{not, pos, nat_le, slice_get, is_some}
 use Rattle.std.specs.List.{All}
 use Rattle.std.proofs.lemmas.List.Elements.{All-nil, All-cons, All-head, All-tail}
@@ -44,12 +44,12 @@ use Rattle.ir_instruction.specs.Grammar.{binary_shape}
 use Rattle.scopes.specs.declared.address.WholeObject.{WholeObject}
 use Rattle.scopes.specs.Address.{Items, object_of}
 use Rattle.scopes.specs.Fault.{and_then, both_of, made_of, unless_of}
-use Rattle.scopes.specs.Operand.{fits_width, operand_of}
+use Rattle.scopes.specs.Operand.{operand_of}
 use Rattle.scopes.specs.Scope.{Scope}
 use Rattle.scopes.specs.Table.{look_up}
-use Rattle.scopes.proofs.Inversion.{Each, made_ok, then_ok, both_ok, same_ok, unless_ok, err_not_ok}
+use Rattle.scopes.proofs.Inversion.{Each, made_ok, then_ok, both_ok, same_ok, err_not_ok}
 use Rattle.types.specs.declared.call.ResolvedCall.{ResolvedCall}
-use Rattle.types.specs.Call.{Named, are_distinct, as_function, expected, fits_extent, is_any_named, takes_number, takes_object, argument_of, arguments_of, passed_call, fitting_arguments, known_call, found_call, called, call_of}
+use Rattle.types.specs.Call.{Named, are_distinct, as_function, expected, fits_extent, is_any_named, takes_number, takes_object, argument_of, arguments_of, passed_call, fitting_arguments, known_call, found_call, called}
 use Rattle.types.specs.Instruction.{defined_of, alloca_id_of, instruction_of, entry_of, phi_of}
 use Rattle.types.specs.Terminator.{case_of, return_of, terminator_of}
 use Rattle.verifier.proofs.Lists.{each_of}
