@@ -1,5 +1,5 @@
 -- A replay that has ended comes to what the serial run does.
-use Rattle.std.proofs.Common.{◌≡◌, ℕ, ◌≤◌, List, [], length, map, Option, Some, None, true, refl, sym, ap, ◌∙◌, subst, arith, ℤ}
+use Rattle.std.proofs.Common.{◌≡◌, ℕ, List, [], length, map, Option, Some, None, true, refl, sym, ap, ◌∙◌, subst, arith, ℤ}
 use Rattle.std.specs.Prelude.{is_none, sum}
 use Rattle.frame.specs.declared.event.Event.{Event}
 use Rattle.program.specs.declared.function.Program.{Program}
@@ -20,7 +20,7 @@ use Rattle.serial_machine.proofs.Arguments.{are_taken}
 use Rattle.serial_machine.proofs.Globals.{globals_there}
 use Rattle.serial_machine.proofs.schedule_theorem.Promise.{accepted_programs_keep_their_promise}
 use Rattle.kernel_c.specs.Told.{memory_from, sizes_in}
-use Rattle.kernel_c.specs.Replayed.{EndsBy, HasEndedIn, IsAfter, StandsBy, StandsIn}
+use Rattle.kernel_c.specs.Replayed.{EndsBy, HasEndedIn, IsAfter}
 use Rattle.kernel_c.specs.declared.told.Outcome.{Outcome}
 
 -- ---- from memory that was filled with a row

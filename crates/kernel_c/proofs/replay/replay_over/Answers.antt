@@ -15,7 +15,7 @@ returns-in-Ok-replay-clause-ended c is =
     let cells : HasGlobalCells program (memory_from program row) = subst (λ (m : List NamedCells). HasGlobalCells program m) filled.filled filled.cells in
     let after = is_after program args.arguments.now row args.workers args.events.now _ filled.filled ran.met filled.long ran.in_range ran.keeps in
     let ended = c.come_to.ensures.ended is _ (stands_after program args.arguments.now row args.workers args.events.now _ filled.filled _ ran.replays) in
-    ends_by program c.program.ensures.accepted args.arguments.now row args.workers args.events.now ran.met cells after _ _ ended
+    ends_by program c.program-program.ensures.accepted args.arguments.now row args.workers args.events.now ran.met cells after _ _ ended
 
 pub returns-in-Ok-replay-clause-stands : goal.returns-in-Ok-replay-clause-stands
 returns-in-Ok-replay-clause-stands c is =

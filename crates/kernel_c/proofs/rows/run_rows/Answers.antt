@@ -1,8 +1,7 @@
-use Rattle.std.proofs.Common.{◌≡◌, ◌∙◌, ◌+◌, ◌-◌, ◌*◌, ◌<◌, ◌≤◌, ◌++◌, ℕ, List, length, take, drop, Some, add-one, refl, ap, sym, subst, arith, ℤ}
-use Rattle.std.specs.Prelude.{min}
+use Rattle.std.proofs.Common.{◌≡◌, ◌∙◌, ◌+◌, ◌-◌, ◌*◌, ◌<◌, ◌++◌, ℕ, List, length, take, drop, refl, ap, subst, arith, ℤ}
 use Rattle.std.proofs.Math.Nat.{suc-mul}
 use Rattle.std.proofs.lemmas.Option.{slice_get_within}
-use Rattle.kernel_c.proofs.OneMore.{AreDone, one_more}
+use Rattle.kernel_c.proofs.OneMore.{one_more}
 use Rattle.kernel_c.proofs.Parts.{as_long, part_long, rest_is}
 use Rattle.kernel_c.proofs.rows.run_rows.Goals as goal
 
