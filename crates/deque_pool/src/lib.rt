@@ -5,6 +5,7 @@
 mod alone;
 mod figures;
 mod gate;
+mod outlook;
 mod recorded;
 mod rounds;
 mod threads;

@@ -7,25 +7,36 @@ use std::sync::Wait;
 /// The most cells that a strand reads.
 const MOST_CELLS: u32 = 256;
 
-/// Gives the worker's strand what it waits for.
-fn fetch<L: Bench, R: Wait>(rt: &R, shared: &Shared<'_, L>, worker: &mut Worker<'_, L>) -> Fetched {
+/// Loads the frame that the worker runs next into its strand. The answer is whether there is one.
+fn load<L: Bench, R: Wait>(rt: &R, shared: &Shared<'_, L>, worker: &mut Worker<'_, L>) -> bool {
+    clear::<L>(&mut worker.strand);
     let board = shared.board.lock(rt);
-    board.fetch(&worker.seat, &mut worker.strand)
+    match board.fetch(&worker.seat, &mut worker.strand) {
+        Fetched::Frame => true,
+        Fetched::Idle => false,
+        // A blank strand needs no cell, and has room for each frame.
+        Fetched::Cell | Fetched::Stranger => unreachable!(),
+    }
+}
+
+/// Gives the worker's strand the cell that it needs. The answer is whether that is there.
+fn fill<L: Bench, R: Wait>(rt: &R, shared: &Shared<'_, L>, worker: &mut Worker<'_, L>) -> bool {
+    let board = shared.board.lock(rt);
+    board.fetch(&worker.seat, &mut worker.strand) == Fetched::Cell
 }
 
 /// Loads the frame that the worker runs next, and goes on with it outside of the board; the cells that it needs are fetched. The answer is
-/// what the load came to.
+/// whether there is such a frame.
 pub(crate) fn go<L: Bench, R: Wait>(
     rt: &R,
     shared: &Shared<'_, L>,
     worker: &mut Worker<'_, L>,
-) -> Fetched {
-    clear::<L>(&mut worker.strand);
-    let loaded = fetch(rt, shared, worker);
-    if loaded == Fetched::Frame {
+) -> bool {
+    let has_frame = load(rt, shared, worker);
+    if has_frame {
         go_on(rt, shared, worker);
     }
-    loaded
+    has_frame
 }
 
 /// Goes on with a strand up to a pause at which it has all cells that it needs, or no such cell is there.
@@ -34,7 +45,7 @@ fn go_on<L: Bench, R: Wait>(rt: &R, shared: &Shared<'_, L>, worker: &mut Worker<
         let Pause::Need { .. } = advance::<L>(&mut worker.strand) else {
             return;
         };
-        if fetch(rt, shared, worker) != Fetched::Cell {
+        if !fill(rt, shared, worker) {
             return;
         }
     }

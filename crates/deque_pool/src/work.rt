@@ -1,9 +1,11 @@
 //! The loop of a worker on its thread.
+ghost use Rattle.std.specs.Prelude.{◌≡◌, ◌↔◌};
 
 use crate::gate::{Gate, Go};
+use crate::outlook::Left;
 use crate::turns::{commit, go};
-use crate::workers::{Left, Worker};
-use shared_run::{Bench, Claimed, Committed, Fetched, Shared, steps_of};
+use crate::workers::Worker;
+use shared_run::{Bench, Claimed, Committed, Shared, steps_of};
 use std::sync::Wait;
 use std::sync::atomic::{AtomicBool, Ordering};
 use std::thread;
@@ -78,37 +80,33 @@ fn do_strand<L: Bench, R: Wait>(
     shared: &Shared<'_, L>,
     worker: &mut Worker<'_, L>,
 ) -> Next {
-    match go(rt, shared, worker) {
-        Fetched::Idle => return Next::Search,
-        // It has no room for the frame's path: all begin again, with strands of their own.
-        Fetched::Stranger => return Next::Leave(Left::Over),
-        Fetched::Frame | Fetched::Cell => {}
+    if !go(rt, shared, worker) {
+        return Next::Search;
     }
-    match commit(rt, shared, worker) {
-        Committed::After { ready, idle, ended } => {
+    let committed = commit(rt, shared, worker);
+    match committed {
+        Committed::After { ready, .. } => {
             worker.figures.count_publication(steps_of(&worker.strand));
             if let Some(ticket) = ready {
                 // A task whose ticket is refused is still found at the board.
                 let _ = worker.hands.offer(ticket);
             }
-            after(idle, ended)
         }
-        Committed::Stranger => {
-            worker.figures.count_stranger();
-            Next::Strand
-        }
-        Committed::OutOfMemory => Next::Leave(Left::Starved),
+        Committed::Stranger => worker.figures.count_stranger(),
+        Committed::OutOfMemory => {}
     }
+    after(committed)
 }
 
-/// What comes after a strand that was put on the board.
-fn after(idle: bool, ended: bool) -> Next {
-    if ended {
-        Next::Leave(Left::Over)
-    } else if idle {
-        Next::Search
-    } else {
-        Next::Strand
+/// What comes after a commit.
+fn after(committed: Committed) -> Next
+    ensures { (result ≡ Next.Leave Left.Starved) ↔ (committed ≡ Committed.OutOfMemory) }
+{
+    match committed {
+        Committed::After { ended: true, .. } => Next::Leave(Left::Over),
+        Committed::After { idle: true, .. } => Next::Search,
+        Committed::After { .. } | Committed::Stranger => Next::Strand,
+        Committed::OutOfMemory => Next::Leave(Left::Starved),
     }
 }
 
@@ -122,12 +120,19 @@ fn search<L: Bench, R: Wait>(rt: &R, shared: &Shared<'_, L>, worker: &mut Worker
         None => board.claim_first(&mut worker.seat),
     };
     drop(board);
+    if let Claimed::Taken = claimed {
+        worker.figures.count_steal();
+    }
+    after_claim(claimed, ticket.is_some())
+}
+
+/// What comes after a claim, of a ticket's task or of the first that is ready.
+fn after_claim(claimed: Claimed, by_ticket: bool) -> Next
+    ensures { (result ≡ Next.Leave Left.Starved) ↔ (claimed ≡ Claimed.OutOfMemory) }
+{
     match claimed {
-        Claimed::Taken => {
-            worker.figures.count_steal();
-            Next::Strand
-        }
-        Claimed::Gone if ticket.is_some() => Next::Search,
+        Claimed::Taken => Next::Strand,
+        Claimed::Gone if by_ticket => Next::Search,
         Claimed::Gone => Next::Rest,
         Claimed::OutOfMemory => Next::Leave(Left::Starved),
     }
