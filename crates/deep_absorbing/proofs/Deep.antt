@@ -1,0 +1,159 @@
+-- A pile that fits a run is a deep strand of the machine that is shown.
+use Rattle.std.proofs.Common.{◌≡◌, ◌∙◌, ℕ, suc, List, [], ◌∷◌, length, reverse, Option, Some, None, Bool, true, false, cond, find, refl, sym, ap, subst, ℤ}
+use Rattle.std.specs.Option.{option_map}
+use Rattle.std.specs.Ordering.{int_eq}
+use Rattle.std.proofs.lemmas.Bool.Decides.{Decides-int_eq}
+use Rattle.std.proofs.lemmas.Option.{same_Some}
+use Rattle.std.proofs.lemmas.List.Elements.{All-cons, All-nil}
+use Rattle.std.specs.List.{All}
+use Rattle.running.specs.Paths.{Path}
+use Rattle.running.specs.Frames as frames
+use Rattle.running.specs.Frames.{OnCall}
+use Rattle.running.specs.Counts.{count_in}
+use Rattle.running.specs.State.{State, may_go, none_within}
+use Rattle.running.specs.Events.{Machine}
+use Rattle.running.proofs.ChildCounts.{counted_none}
+use Rattle.program.specs.declared.function.Program.{Program}
+use Rattle.cactus.specs.declared.node.Node.{Node}
+use Rattle.engine.specs.declared.activation.Places.{Places}
+use Rattle.engine.specs.Flat.{cell_in}
+use Rattle.engine.specs.Shows.{IsIn, Layout, address}
+use Rattle.frame.specs.Reading.{wait_of}
+use Rattle.strand.specs.Buffers.{value_in}
+use Rattle.strand.specs.declared.cells.Read.{Read}
+use Rattle.strand.proofs.Beginning.{copy_back, copy_shows}
+use Rattle.crew.specs.declared.activation.Activation.{Activation}
+use Rattle.crew.specs.declared.run.Run.{Run}
+use Rattle.crew.specs.Going.{RunsSafely}
+use Rattle.crew.specs.Layouts.{layout_of, object_at}
+use Rattle.crew.specs.Shown.{IsShown, place_of}
+use Rattle.crew.proofs.Onward.{free_callee, seen, standing}
+use Rattle.crew.proofs.Standing.{can_step, may_go_on}
+use Rattle.crew.proofs.Views.{hand_seen}
+use Rattle.absorbing.specs.Fitting.{HoldReads}
+use Rattle.absorbing.proofs.Sound.{never_traps}
+use Rattle.deep_strands.specs.Deep.{DeepStrand, IsDeep, Placed}
+use Rattle.deep_strands.specs.Law.{Fits, IsOrderly, ReadsAgree, Runs}
+use Rattle.deep_strands.proofs.Law.{deep_reads_are_there}
+use Rattle.deep_strand.specs.Along.{GoesDeep, IsAlong, IsUnderWay}
+use Rattle.deep_strand.specs.Shown.{ShowsPile}
+use Rattle.deep_strand.specs.declared.pile.Pile.{Pile}
+use Rattle.deep_absorbing.specs.Absorbing.{GoesDeepIn}
+use Rattle.deep_absorbing.specs.Fitting.{FitsDeep, HasNoChild}
+use Rattle.deep_absorbing.proofs.Bases.{WaitsForNone}
+
+pub record IsDeepStrand (prog : Program) (places : Places) (k : Run) (worker : ℕ) (x : Pile) (m : Machine) : Type 0 where
+  pub strand : DeepStrand
+  pub is : IsDeep prog strand
+  pub shown : ShowsPile (layout_of prog places k.cactus m.core) prog places strand x
+  pub fits : Fits m worker strand
+  -- the base waits for no call
+  pub free : WaitsForNone strand.base.frame.waits
+
+-- ---- reads
+
+-- what is found among the reads is what the row holds
+read_holds : (reads : List Read) (row : List ℤ) → HoldReads reads row → (a v : ℤ) → value_in reads a ≡ Some v → cell_in row a ≡ Some v
+read_holds [] row hold a v e = absurd cc
+read_holds (r ∷ reads) row hold a v e = by (int_eq a r.at) refl (λ h. read_holds reads row (λ i s at. hold (suc i) s at) a v h)
+  where
+    by : (b : Bool) → int_eq a r.at ≡ b → (value_in reads a ≡ Some v → cell_in row a ≡ Some v) → cell_in row a ≡ Some v
+    by true is more =
+        let here : a ≡ r.at = (Decides-int_eq a r.at).0 is in
+        let value : Some r.value ≡ Some v = sym (ap (λ t. option_map (λ (x : Read). x.value) (cond t (Some r) (find (λ (x : Read). int_eq a x.at) reads))) is) ∙ e in
+        ap (cell_in row) here ∙ (hold 0 r refl ∙ value)
+    by false is more = more (sym (ap (λ t. option_map (λ (x : Read). x.value) (cond t (Some r) (find (λ (x : Read). int_eq a x.at) reads))) is) ∙ e)
+
+-- ---- regions
+
+-- no child lives in the regions that a base passed: it had none, or it passed no sync
+all_clear : (s : State) (q : Path) (made : ℕ) (childless : Bool) → (childless ≡ true → (region : ℕ) → none_within s q made region ≡ true) → (synced : List ℕ) → (childless ≡ false → synced ≡ []) →
+    All (λ r. none_within s q made r ≡ true) synced
+all_clear s q made childless clear [] none = All-nil (λ r. none_within s q made r ≡ true)
+all_clear s q made true clear (r ∷ synced) none = All-cons (λ r. none_within s q made r ≡ true) r synced (clear refl r) (all_clear s q made true clear synced (λ e. absurd cc))
+all_clear s q made false clear (r ∷ synced) none = absurd (let h : r ∷ synced ≡ [] = none refl in cc)
+
+-- ---- the strand
+
+module _ (prog : Program) (places : Places) (k : Run) (worker slot : ℕ) (x : Pile) (fits : FitsDeep k worker x slot) (way : IsUnderWay prog places x)
+    (m : Machine) (shown : IsShown prog places m k) (safe : RunsSafely prog (length k.hands.items) m) (orderly : IsOrderly m) (deep : GoesDeepIn prog places m) where
+  abbrev node : Node Activation
+  node = fits.node
+
+  abbrev p : Path
+  p = place_of node
+
+  abbrev l : Layout
+  l = layout_of prog places k.cactus m.core
+
+  abbrev g : frames.Frame
+  g = (seen prog places k slot node node.frame fits.stands m shown).frame
+
+  hand : m.hands worker ≡ Some p
+  hand = shown.shows.hands worker ∙ hand_seen k.cactus k.hands.items worker slot node fits.hand fits.stands
+
+  -- the counts of the node are those of living children
+  none_lives : HasNoChild node.frame → (region : ℕ) → none_within m.core p g.made region ≡ true
+  none_lives none region =
+      let s = seen prog places k slot node node.frame fits.stands m shown in
+      counted_none m.core p region g.made
+      (sym (ap (λ (o : Option frames.Frame). count_in m.core p o region) s.is) ∙ (sym (shown.agrees.counts slot region node fits.stands) ∙ none region))
+
+  clear : x.base.childless ≡ true → (region : ℕ) → none_within m.core p g.made region ≡ true
+  clear childless = none_lives (fits.childless childless)
+
+  runs_of : (d : DeepStrand) → d.base.path ≡ p → d.base.frame ≡ g → (x.base.childless ≡ false → d.synced ≡ []) → Runs m worker d
+  runs_of d path frame synced = record {
+    hand = hand ∙ ap Some (sym path);
+    frame = ap m.core.frames path ∙ ((seen prog places k slot node node.frame fits.stands m shown).is ∙ ap Some (sym frame));
+    synced = all_clear m.core d.base.path d.base.frame.made x.base.childless
+        (λ childless region. (λ i. none_within m.core (path i) (frame i).made region) ∙ clear childless region) d.synced synced;
+  }
+
+  goes : GoesDeep prog places l (reverse x.base.path.items) g x.base.frame x.base.childless
+  goes =
+      let s = seen prog places k slot node node.frame fits.stands m shown in
+      subst (λ q. GoesDeep prog places l q g x.base.frame x.base.childless) (ap reverse fits.path)
+      (deep (object_at places k.cactus) shown.shows.cells.apart worker p g x.base.frame hand s.is
+      (copy_shows node.frame.frame x.base.frame (copy_back x.base.frame node.frame.frame fits.frame) l places p g s.shows.shown)
+      (s.shows.waits ∙ ap wait_of fits.frame.waits) x.base.childless clear)
+
+  abbrev along : IsAlong prog places l g x
+  along = way.along l g goes
+
+  goes_on : may_go m.core p g.made g.waits ≡ true
+  goes_on =
+      let v = seen prog places k slot node node.frame fits.stands m shown in
+      let st = standing prog places k slot node node.frame fits.stands m shown worker fits.hand safe in
+      may_go_on prog (length k.hands.items) worker p m g v.is (can_step prog (length k.hands.items) worker p m g m.core.memory st).goes
+
+  path_is : along.strand.base.path ≡ p
+  path_is = ap (λ (b : Placed). b.path) along.base ∙ ap reverse (sym fits.path)
+
+  frame_is : along.strand.base.frame ≡ g
+  frame_is = ap (λ (b : Placed). b.frame) along.base
+
+  runs : Runs m worker along.strand
+  runs = runs_of along.strand path_is frame_is along.shown.synced
+
+  reads_agree : ReadsAgree m along.strand
+  reads_agree c v z read has =
+      let inside : IsIn l c = shown.shows.cells.inside c z has in
+      let found : value_in x.cells.reads (address l c) ≡ Some v = sym (along.shown.kept.reads c inside) ∙ read in
+      let held : cell_in k.cells.cells.items (address l c) ≡ Some v = read_holds x.cells.reads k.cells.cells.items fits.reads (address l c) v found in
+      same_Some z v (sym (shown.shows.cells.values c z has) ∙ held)
+
+  pub deep_strand : IsDeepStrand prog places k worker x m
+  deep_strand = record {
+    strand = along.strand;
+    is = along.is;
+    shown = along.shown;
+    fits = deep_reads_are_there prog (length k.hands.items) m worker along.strand along.is runs orderly (never_traps prog (length k.hands.items) m safe shown.shows.trapped) reads_agree;
+    free = λ n register e. (let h : may_go m.core p g.made (OnCall n register) ≡ true = ap (may_go m.core p g.made) (sym e ∙ ap (λ (f : frames.Frame). f.waits) frame_is) ∙ goes_on in cc);
+  }
+
+  -- nobody calls on it
+  pub callee_none : node.frame.callee ≡ None
+  callee_none =
+      let v = seen prog places k slot node node.frame fits.stands m shown in
+      free_callee m.core p g.made k.cactus node node.frame.frame.waits (ap (may_go m.core p g.made) (sym v.shows.waits) ∙ goes_on) (shown.agrees.nodes slot node fits.stands).callee
