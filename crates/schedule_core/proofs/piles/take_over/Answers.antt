@@ -8,7 +8,7 @@ use Rattle.deep_absorbing.specs.Absorbing.{DoesDeep, LeavesStallsDeep, StandsDee
 use Rattle.schedule_core.specs.Stages.{program_of}
 use Rattle.schedule_core.specs.Strands.{TakesSteps}
 use Rattle.schedule_core.proofs.Commits.{same_places}
-use Rattle.schedule_core.proofs.Piles.{machine_taking, same_taking, stands_deep, takes_pile}
+use Rattle.schedule_core.proofs.PileSteps.{machine_taking, same_taking, stands_deep, takes_pile}
 use Rattle.schedule_core.proofs.Promised.{text_fits}
 use Rattle.schedule_core.proofs.Replaying.{with_run}
 use Rattle.schedule_core.proofs.piles.take_over.Goals as goal

@@ -9,7 +9,7 @@ use Rattle.strand.specs.declared.cells.StrandCells.{StrandCells}
 use Rattle.schedule_core.specs.Stages.{program_of}
 use Rattle.schedule_core.proofs.Bases.{may_load}
 use Rattle.schedule_core.proofs.Loads.{frame_fits}
-use Rattle.schedule_core.proofs.Piles.{is_begun}
+use Rattle.schedule_core.proofs.PileSteps.{is_begun}
 use Rattle.schedule_core.proofs.Views.{empty_hand, no_hand}
 use Rattle.schedule_core.proofs.machine.Machine.load_pile.Goals as goal
 
