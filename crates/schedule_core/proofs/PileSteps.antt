@@ -11,10 +11,7 @@ use Rattle.running.specs.Events.{Machine}
 use Rattle.program.specs.declared.function.Program.{Program}
 use Rattle.cactus.specs.declared.node.Node.{Node}
 use Rattle.cactus.specs.Frames.{node_at}
-use Rattle.strand.specs.Standing.{IsCopy}
-use Rattle.strand.specs.declared.cells.Read.{Read}
-use Rattle.strand.proofs.Beginning.{copy_back}
-use Rattle.absorbing.specs.Fitting.{HoldReads}
+use Rattle.absorbing.specs.strand.Standing.{IsCopy}
 use Rattle.engine.specs.declared.activation.Places.{Places}
 use Rattle.crew.specs.declared.activation.Activation.{Activation}
 use Rattle.crew.specs.declared.run.Run.{Run}
@@ -33,6 +30,7 @@ use Rattle.schedule_core.specs.Stages.{IsState, program_of, workers_of}
 use Rattle.schedule_core.specs.Strands.{TakesSteps}
 use Rattle.schedule_core.proofs.Bases.{loads_here, orderly_here}
 use Rattle.schedule_core.proofs.Commits.{absorbed_machine, same_places, takes_steps}
+use Rattle.schedule_core.proofs.Loads.{copy_back, none_read}
 use Rattle.schedule_core.proofs.Replaying.{with_run}
 
 pub places_in : (stage : Stage) → ∥ IsMachine stage ∥₁ → ArePlaces (program_of stage) stage.places
@@ -68,9 +66,6 @@ module _ (old : Stage) (k : Run) (many : length k.hands.items ≡ length old.run
   machine_taking (Ok false) same does left kept = subst (λ (y : Run). ∥ IsMachine (with_run old y) ∥₁) (sym (left refl)) kept
 
 -- ---- a frame that is loaded
-
-none_read : (reads : List Read) (row : List ℤ) → reads ≡ [] → HoldReads reads row
-none_read reads row none i r e = absurd (let f : None ≡ Some r = sym (ap (λ (l : List Read). slice_get l i) none) ∙ e in cc)
 
 module _ (stage : Stage) (kept : ∥ IsMachine stage ∥₁) (worker slot : ℕ) (node : Node Activation) (x : Pile) (hand : hand_of stage.run.hands.items worker ≡ Some slot) (stands : node_at stage.run.cactus slot ≡ Some node) where
   pub is_begun : x.base.path.items ≡ node.path.numbers → IsCopy node.frame.frame x.base.frame → (x.base.childless ≡ true → HasNoChild node.frame) → x.done ≡ 0 → x.cells.reads ≡ [] →

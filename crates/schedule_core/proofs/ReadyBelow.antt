@@ -55,8 +55,8 @@ walked frames all left start slot found over walk =
 
 none_under : (frames : Frames Activation) (n : ℕ) (spots : List Spot) → AreFoundUnder frames n None spots → spots ≡ []
 none_under frames zero spots e = e
-none_under frames (suc n) spots (inl (s, spot, rest, at, more)) = absurd (cc)
-none_under frames (suc n) spots (inr (off, below)) = none_under frames n spots below
+none_under frames (suc n) spots (inl h) = absurd (let e : None ≡ Some h.0 = h.3 in cc)
+none_under frames (suc n) spots (inr h) = none_under frames n spots h.1
 
 -- ---- in the definitions
 

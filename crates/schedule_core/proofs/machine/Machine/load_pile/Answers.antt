@@ -5,7 +5,6 @@ use Rattle.cactus.specs.Frames.{node_at}
 use Rattle.crew.specs.Scheduling.{hand_of}
 use Rattle.deep_strand.specs.Along.{MayBegin}
 use Rattle.deep_absorbing.specs.Fitting.{HasNoChild}
-use Rattle.strand.specs.declared.cells.StrandCells.{StrandCells}
 use Rattle.schedule_core.specs.Stages.{program_of}
 use Rattle.schedule_core.proofs.Bases.{may_load}
 use Rattle.schedule_core.proofs.Loads.{frame_fits}
@@ -13,8 +12,8 @@ use Rattle.schedule_core.proofs.PileSteps.{is_begun}
 use Rattle.schedule_core.proofs.Views.{empty_hand, no_hand}
 use Rattle.schedule_core.proofs.machine.Machine.load_pile.Goals as goal
 
-pub returns-in_ok-load-clause-begun : goal.returns-in_ok-load-clause-begun
-returns-in_ok-load-clause-begun c here =
+pub returns-clause-begun : goal.returns-clause-begun
+returns-clause-begun c here =
     let stage = c.args.self.now.stage in
     let slot = c.in-Some.slot in
     let node = c.in-Some-node.node.now in
@@ -32,6 +31,6 @@ returns-in_ok-load-clause-begun c here =
 pub returns-in_default-clause-idle : goal.returns-in_default-clause-idle
 returns-in_default-clause-idle c e m state = no_hand c.args.self.now.stage m state c.args.worker (sym c.hand.ensures.slot ∙ c.in_default.is)
 
-pub returns-in_default-2-clause-idle : goal.returns-in_default-2-clause-idle
-returns-in_default-2-clause-idle c e m state =
-    empty_hand c.args.self.now.stage m state _ c.args.worker c.in-Some.slot (sym c.hand.ensures.slot ∙ c.in-Some.is) (sym c.node.ensures ∙ ap option_copied c.in_default-2.is)
+pub returns-in_default-node-clause-idle : goal.returns-in_default-node-clause-idle
+returns-in_default-node-clause-idle c e m state =
+    empty_hand c.args.self.now.stage m state _ c.args.worker c.in-Some.slot (sym c.hand.ensures.slot ∙ c.in-Some.is) (sym c.node.ensures ∙ ap option_copied c.in_default-node.is)

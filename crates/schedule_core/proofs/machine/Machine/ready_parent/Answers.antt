@@ -6,7 +6,7 @@ returns-in_err-parent-clause-none c m state = rw c.from_residual.ensures (no_par
 
 pub returns-in_err-spot-clause-none : goal.returns-in_err-spot-clause-none
 returns-in_err-spot-clause-none c m state =
-    rw c.from_residual.ensures (not_ready c.args.self.now.stage m state c.args.worker c.in_ok-parent.parent c.in_ok-parent.ensures.child (c.in_err-spot.ensures.none state.shown.agrees.tree))
+    rw c.from_residual-in_err-spot.ensures (not_ready c.args.self.now.stage m state c.args.worker c.in_ok-parent.parent c.in_ok-parent.ensures.child (c.in_err-spot.ensures.none state.shown.agrees.tree))
 
 pub returns-clause-shown : goal.returns-clause-shown
 returns-clause-shown c m state = shown c.args.self.now.stage m state c.args.worker c.in_ok-parent.parent c.in_ok-spot.spot c.in_ok-parent.ensures.child c.in_ok-spot.ensures.has
