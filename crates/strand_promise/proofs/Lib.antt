@@ -3,3 +3,5 @@ pub mod Numbers
 pub mod Facts
 pub mod Alone
 pub mod Law
+pub mod Living
+pub mod Loading

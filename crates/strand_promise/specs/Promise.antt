@@ -15,12 +15,15 @@ use Rattle.crew_promise.specs.schedule_theorem.Promise.{AreTaken, HasGlobals}
 use Rattle.crew_promise.specs.schedule_theorem.safe.Kept.{IsWithin}
 use Rattle.crew.specs.Going.{PointsUp}
 use Rattle.crew.specs.Layouts.{living}
+use Rattle.crew.specs.Starts.{ArePlaces}
 use Rattle.absorbing.specs.Absorbing.{GoesAloneIn}
 use Rattle.engine.specs.Arguments.{ArgumentsAreWhole}
 use Rattle.engine.specs.Shows.{Layout}
+use Rattle.engine.specs.declared.activation.Places.{Places}
 use Rattle.strand.specs.Alone.{StaysSafeAlone}
 use Rattle.deep_strands.specs.Deep.{DeepStrand, IsDeep}
 use Rattle.deep_strands.specs.Law.{Runs, absorbed}
+use Rattle.deep_strand.specs.Along.{LoadsGoDeep}
 
 -- ---- by itself
 
@@ -59,3 +62,12 @@ FramesGoDeep =
     (text : List ℕ) (program : Program) → IsProgramOf text program → (arguments : List ℤ) (memory : Memory) → AreTaken program arguments →
     HasGlobals program memory → (workers : ℕ) → 1 ≤ workers → (events : List Event) →
     StaysSafeDeep program (replay program workers events (start program arguments memory))
+
+-- ---- as the base of a worker's stack
+
+-- wherever a schedule leads
+abbrev pub LoadedFramesGoDeep : Type 0
+LoadedFramesGoDeep =
+    (text : List ℕ) (program : Program) → IsProgramOf text program → (places : Places) → ArePlaces program places → (arguments : List ℤ) (memory : Memory) →
+    AreTaken program arguments → HasGlobals program memory → (workers : ℕ) → 1 ≤ workers → (events : List Event) →
+    LoadsGoDeep program places (living program (replay program workers events (start program arguments memory)).core) (replay program workers events (start program arguments memory))

@@ -2,7 +2,7 @@
 //! the cells of living objects hold meanwhile, since no rule of the verifier rests on a number that was loaded. There is no code to run here.
 #![tactic(auto)]
 
-ghost use Rattle.strand_promise.specs.Promise.{FramesGoAlone, FramesGoDeep};
+ghost use Rattle.strand_promise.specs.Promise.{FramesGoAlone, FramesGoDeep, LoadedFramesGoDeep};
 
 /// Of a program that `verify` takes, with arguments that `main` takes and globals that have values: wherever a schedule leads, each worker's
 /// frame can do its next step, and each after it up to its next border, with any numbers in the cells of living objects at each step. It does
@@ -15,4 +15,10 @@ pub fn frames_go_alone()
 /// detaches, syncs and ends of frames of its own, and wherever that comes, its next step is safe.
 pub fn frames_go_deep()
     ensures { FramesGoDeep }
+{}
+
+/// Of the same programs, arguments and globals: wherever a schedule leads, a frame that shows a worker's frame, wherever objects begin that
+/// live then, may be the base of a stack of the worker's own. What this goes on to within 65,536 instructions is safe.
+pub fn loaded_frames_go_deep()
+    ensures { LoadedFramesGoDeep }
 {}
