@@ -1,5 +1,5 @@
 -- The base, written.
-use Rattle.std.proofs.Common.{◌≡◌, ◌∙◌, ◌+◌, ℕ, suc, length, Option, Some, None, refl, sym, ap, arith}
+use Rattle.std.proofs.Common.{◌≡◌, ◌∙◌, ◌+◌, ℕ, length, Some, None, refl, sym, ap, arith}
 use Rattle.std.specs.Prelude.{slice_get}
 use Rattle.engine.specs.declared.activation.Frame.{Frame}
 use Rattle.crew.specs.declared.activation.Activation.{Activation}

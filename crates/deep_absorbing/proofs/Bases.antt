@@ -1,6 +1,6 @@
 -- What a deep strand keeps of its base, and which calls its frames wait for.
-use Rattle.std.proofs.Common.{◌≡◌, ◌≢◌, ◌∙◌, ℕ, suc, List, [], ◌∷◌, Option, Some, None, refl, sym, ap, subst}
-use Rattle.running.specs.Frames.{Frame, Wait, Free, OnRegion, OnCall}
+use Rattle.std.proofs.Common.{◌≡◌, ◌≢◌, ◌∙◌, ℕ, suc, List, [], ◌∷◌, Option, refl, sym, ap, subst}
+use Rattle.running.specs.Frames.{Wait, Free, OnCall}
 use Rattle.running.specs.State.{continued, resumed, synced, waiting, wait_after, went}
 use Rattle.linear.specs.declared.form.RegisterId.{RegisterId}
 use Rattle.program.specs.declared.function.Program.{Program}

@@ -1,10 +1,10 @@
 -- The cells of a run into which a pile's writes were put hold what the machine that absorbed the strand has.
 use Rattle.std.proofs.Common.{◌≡◌, ◌<◌, ◌⊎◌, inl, inr, ℕ, zero, suc, List, Option, Some, None, refl, sym, ap, ◌∙◌, subst, arith, ℤ}
-use Rattle.std.specs.Prelude.{IsTrue, nat_lt, negsuc, pos, length}
+use Rattle.std.specs.Prelude.{IsTrue, nat_lt, negsuc, pos}
 use Rattle.std.specs.Option.{option_map}
 use Rattle.running.specs.Cells.{Cell, Memory}
 use Rattle.running.specs.State.{sum_in}
-use Rattle.deep_strands.specs.Footprint.{Footprint, Write, put}
+use Rattle.deep_strands.specs.Footprint.{Footprint, put}
 use Rattle.engine.specs.Flat.{cell_in, is_cell}
 use Rattle.engine.specs.Shows.{Layout, IsIn, ShowsCells, address}
 use Rattle.strand.specs.Buffers.{Buffers, change_in}

@@ -1,7 +1,6 @@
 -- What a pile did happens as steps of the worker, and the run after the commit shows the machine after them.
-use Rattle.std.proofs.Common.{◌≡◌, ◌∙◌, ◌+◌, ◌<◌, ℕ, List, length, Some, None, refl, sym, ap, subst}
+use Rattle.std.proofs.Common.{◌≡◌, ◌∙◌, ◌<◌, ℕ, List, length, Some, None, sym, ap, subst}
 use Rattle.std.specs.Option.{option_map}
-use Rattle.std.specs.Vec.{with_item}
 use Rattle.std.proofs.lemmas.Option.{same_Some}
 use Rattle.running.specs.Events.{Machine}
 use Rattle.program.specs.declared.function.Program.{Program}
@@ -23,13 +22,13 @@ use Rattle.deep_strands.proofs.Law.{deep_strands_are_steps}
 use Rattle.deep_strand.specs.Along.{IsUnderWay}
 use Rattle.deep_strand.specs.declared.pile.Pile.{Pile}
 use Rattle.deep_absorbing.specs.Absorbing.{Absorbs, DoesDeep, GoesDeepIn, LeavesStallsDeep}
-use Rattle.deep_absorbing.specs.Committing.{IsBase, IsCommitted, last_of}
+use Rattle.deep_absorbing.specs.Committing.{IsBase, IsCommitted}
 use Rattle.deep_absorbing.specs.Fitting.{FitsDeep}
 use Rattle.deep_absorbing.specs.Linking.{AreLinks}
 use Rattle.deep_absorbing.proofs.Deep.{IsDeepStrand, callee_none, deep_strand}
 use Rattle.deep_absorbing.proofs.Noting.{last_off}
 use Rattle.deep_absorbing.proofs.Shown.{committed_shown, committed_stalls, mid_tree}
-use Rattle.deep_absorbing.proofs.Stood.{AreSeated, final, final_tree, seated, still_there}
+use Rattle.deep_absorbing.proofs.Stood.{AreSeated, final_tree, seated, still_there}
 
 module _ (prog : Program) (places : Places) (moves : ℕ) (text : TextFits prog places moves) (k new : Run) (x : Pile) (worker slot : ℕ) (fits : FitsDeep k worker x slot) (within : worker < length k.hands.items) (way : IsUnderWay prog places x)
     (mid : Frames Activation) (links : List (Link Activation)) (are : AreLinks worker x links) (slots : List ℕ) (adds : AddsChain k.cactus mid slot links slots) (grows : GrowsChain k.cactus mid slot links)

@@ -1,11 +1,9 @@
 -- Frames above the base have no cells, and so it does not matter where their homes are.
-use Rattle.std.proofs.Common.{◌≡◌, ◌∙◌, ℕ, ◌+◌, ◌<◌, List, [], ◌∷◌, reverse, Option, Some, None, refl, sym, ap, subst, arith, ℤ, pos, ◌+ℤ◌}
+use Rattle.std.proofs.Common.{◌≡◌, ◌∙◌, ℕ, List, [], ◌∷◌, Some, refl, sym, ap, subst, arith, ℤ, pos, ◌+ℤ◌}
 use Rattle.std.specs.Prelude.{slice_get, sum}
 use Rattle.running.specs.Paths.{Path}
-use Rattle.running.specs.Cells.{Shared, Local}
 use Rattle.running.specs.Frames as frames
 use Rattle.running.specs.Frames.{Body, Child}
-use Rattle.program.specs.declared.function.Function.{Function}
 use Rattle.program.specs.declared.function.Program.{Program}
 use Rattle.program.specs.declared.identifier.FunctionId.{FunctionId}
 use Rattle.program.specs.declared.identifier.ObjectName.TheVariants as object
@@ -14,7 +12,7 @@ use Rattle.frame.specs.declared.frame.Role.TheVariants as role
 use Rattle.frame.specs.Reading.{role_of}
 use Rattle.engine.specs.declared.activation.Frame.{Frame}
 use Rattle.engine.specs.declared.activation.Places.{Places}
-use Rattle.engine.specs.Activation.{FrameFits, ShowsFrame, allocas_of, bases_in}
+use Rattle.engine.specs.Activation.{FrameFits, ShowsFrame, allocas_of}
 use Rattle.engine.specs.Shows.{Layout, ShowsBases}
 use Rattle.engine.specs.Starts.{starts_from}
 use Rattle.engine.specs.Words.{bases}
@@ -23,7 +21,7 @@ use Rattle.strand.proofs.Beginning.{copy_fits, copy_shows}
 use Rattle.crew.specs.declared.run.Block.{Block}
 use Rattle.crew.specs.Going.{TextFits}
 use Rattle.crew.specs.Layouts.{alloca_cells, number_in, own_at}
-use Rattle.crew.specs.Shown.{HasBlock, IsBlockOf, cells_in}
+use Rattle.crew.specs.Shown.{HasBlock, cells_in}
 use Rattle.crew.proofs.Rows.{cells_are, size_in, size_is, sizes_of, starts_are}
 use Rattle.deep_strand.specs.Shown.{HasNoAllocas}
 use Rattle.deep_absorbing.specs.Linking.{home_above, homeless}

@@ -1,5 +1,5 @@
 -- Frames stay in their uses of slots over a commit, and those that it makes are new uses.
-use Rattle.std.proofs.Common.{◌≡◌, ◌≢◌, ◌∙◌, ◌+◌, ◌<◌, ◌≤◌, ℕ, List, [], ◌∷◌, length, Option, Some, None, ◌⊎◌, inl, inr, refl, sym, ap, subst, arith}
+use Rattle.std.proofs.Common.{◌≡◌, ◌∙◌, ◌<◌, ◌≤◌, ℕ, List, [], ◌∷◌, Option, Some, None, ◌⊎◌, inl, inr, refl, sym, ap, arith}
 use Rattle.std.proofs.lemmas.Bool.Decides.{eqb_tells}
 use Rattle.std.proofs.lemmas.Option.{same_Some}
 use Rattle.cactus.specs.declared.node.Link.{Link}
@@ -8,10 +8,10 @@ use Rattle.cactus.specs.Frames.{Frames, frame_at, node_at}
 use Rattle.cactus.specs.Chain.{AddsUpTo}
 use Rattle.cactus.specs.Lending.{with_frame}
 use Rattle.crew.specs.declared.activation.Activation.{Activation}
-use Rattle.crew.specs.Follows.{Follows, IsNewUse, IsSameUse, KeepsUses}
+use Rattle.crew.specs.Follows.{Follows, IsSameUse, KeepsUses}
 use Rattle.crew.proofs.Uses.{follows_kept, kept_uses, same_uses, written_uses}
 use Rattle.deep_absorbing.specs.Committing.{linked_up, under, under_at, waiting_at}
-use Rattle.deep_absorbing.proofs.Stood.{chain_free, chain_made, chain_out, none_some, out_of_free}
+use Rattle.deep_absorbing.proofs.Stood.{chain_free, chain_made, chain_out, out_of_free}
 
 -- a use of a slot that was free
 record IsFresh (old new : Frames Activation) (z : ℕ) (n : Node Activation) : Type 0 where

@@ -1,5 +1,5 @@
 -- Each frame of the pile stands in its slot as the machine has it that absorbed the strand.
-use Rattle.std.proofs.Common.{Vec, Global, ◌≡◌, ◌≢◌, ◌∙◌, ◌+◌, ◌-◌, ◌<◌, ℕ, suc, List, [], ◌∷◌, ◌++◌, length, max, reverse, Option, Some, None, ◌⊎◌, inl, inr, refl, sym, ap, subst, arith, ◌+ℤ◌}
+use Rattle.std.proofs.Common.{Vec, Global, ◌≡◌, ◌≢◌, ◌∙◌, ◌+◌, ◌-◌, ◌<◌, ℕ, List, [], ◌∷◌, ◌++◌, length, reverse, Option, Some, None, ◌⊎◌, inl, inr, refl, sym, ap, subst, arith, ◌+ℤ◌}
 use Rattle.std.specs.Prelude.{◌↔◌, slice_get}
 use Rattle.std.specs.Vec.{with_item}
 use Rattle.std.proofs.lemmas.List.{reverse-reverse}
@@ -12,7 +12,6 @@ use Rattle.running.specs.Counts.{count_of}
 use Rattle.running.specs.Events.{Machine}
 use Rattle.running.proofs.Places.{same_path_tells}
 use Rattle.linear.specs.declared.form.RegisterId.{RegisterId}
-use Rattle.program.specs.declared.function.Function.{Function}
 use Rattle.program.specs.declared.function.Program.{Program}
 use Rattle.frame.specs.declared.frame.Wait.{Wait}
 use Rattle.frame.specs.declared.frame.Wait.TheVariants as wait
@@ -33,19 +32,19 @@ use Rattle.crew.specs.declared.activation.Activation.{Activation}
 use Rattle.crew.specs.declared.run.Run.{Run}
 use Rattle.crew.specs.Layouts.{alloca_at, alloca_cells, layout_of, number_in, own_at}
 use Rattle.crew.specs.Scheduling.{counted_in, hand_of, living_in}
-use Rattle.crew.specs.Shown.{CalleeStands, HasBlock, HasTaker, IsShown, NodeFits, ShowsAt, ShowsNode, place_of}
+use Rattle.crew.specs.Shown.{CalleeStands, HasBlock, HasTaker, IsShown, ShowsAt, ShowsNode, place_of}
 use Rattle.crew.proofs.Changed.{Holds, Told, anew}
 use Rattle.crew.proofs.Handing.{hand_set, taken_up}
 use Rattle.deep_strands.specs.Deep.{Placed}
 use Rattle.deep_strands.specs.Law.{counts_in, no_count}
 use Rattle.deep_strands.proofs.Rising.{IsBehind, of_call, of_detach}
 use Rattle.deep_absorbing.specs.Committing.{by_wait, last_of, under}
-use Rattle.deep_absorbing.specs.Linking.{counted_above, runner_below}
+use Rattle.deep_absorbing.specs.Linking.{counted_above}
 use Rattle.deep_absorbing.proofs.Bases.{WaitsForNone}
-use Rattle.deep_absorbing.proofs.Climbing.{Climbs, IsNext, IsOff, IsOn, highest}
+use Rattle.deep_absorbing.proofs.Climbing.{Climbs, IsOff, IsOn, highest}
 use Rattle.deep_absorbing.proofs.Linked.{AreLinked, head_of}
 use Rattle.deep_absorbing.proofs.Seats.{Seat, role_counts, seat_up}
-use Rattle.deep_absorbing.proofs.Stood.{AreFree, Held, IsOut, NodeIs, last_out}
+use Rattle.deep_absorbing.proofs.Stood.{AreFree, Held, IsOut, last_out}
 use Rattle.crew.specs.Going.{TextFits}
 
 -- ---- a frame that knows its callee's slot

@@ -1,8 +1,8 @@
 -- A deep strand's steps tell the blocks of its own frames alone, so frames that are stalled elsewhere stay so.
-use Rattle.std.proofs.Common.{◌≡◌, ◌≢◌, ◌∙◌, ℕ, suc, List, [], ◌∷◌, Option, Some, None, refl, sym, ap, subst, eq-eqb}
+use Rattle.std.proofs.Common.{◌≡◌, ◌≢◌, ◌∙◌, ℕ, suc, List, [], ◌∷◌, Some, None, refl, sym, ap, eq-eqb}
 use Rattle.running.specs.Paths.{Path}
 use Rattle.running.specs.Frames.{Frame}
-use Rattle.running.specs.Events.{Machine, Step}
+use Rattle.running.specs.Events.{Machine}
 use Rattle.running.specs.Replay.{NeverTraps}
 use Rattle.program.specs.declared.function.Program.{Program}
 use Rattle.strands.specs.Law.{steps_by}

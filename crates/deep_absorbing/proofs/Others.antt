@@ -1,10 +1,9 @@
 -- What a deep strand leaves of the frames that are not its own.
-use Rattle.std.proofs.Common.{◌≡◌, ◌≢◌, ◌∙◌, ◌-◌, ◌<◌, ℕ, zero, suc, List, [], ◌∷◌, Option, Some, None, ◌⊎◌, inl, inr, refl, sym, ap, subst, arith}
+use Rattle.std.proofs.Common.{◌≡◌, ◌≢◌, ◌∙◌, ◌-◌, ℕ, zero, suc, List, [], ◌∷◌, Option, Some, None, inl, inr, refl, sym, ap, subst}
 use Rattle.running.specs.Paths.{Path}
 use Rattle.running.specs.Frames.{Frame}
 use Rattle.running.specs.State.{State, children_within, outside, outside_role}
 use Rattle.running.specs.Counts.{count_of}
-use Rattle.running.specs.Events.{Machine}
 use Rattle.running.proofs.ChildCounts.{count_at}
 use Rattle.running.proofs.Places.{same_path_tells}
 use Rattle.program.specs.declared.function.Program.{Program}

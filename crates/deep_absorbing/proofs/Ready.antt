@@ -1,5 +1,5 @@
 -- What a pile that fits a run gives: its writes are cells of the row, and its frames can be counted.
-use Rattle.std.proofs.Common.{◌≡◌, ◌∙◌, ◌+◌, ◌-◌, ◌<◌, ◌≤◌, ℕ, zero, suc, List, [], ◌∷◌, ◌++◌, length, map, reverse, Option, Some, None, Bool, true, false, cond, find, refl, sym, ap, subst, arith, ℤ}
+use Rattle.std.proofs.Common.{◌≡◌, ◌∙◌, ◌+◌, ◌<◌, ◌≤◌, ℕ, zero, suc, List, [], ◌∷◌, length, reverse, Some, Bool, true, false, cond, find, refl, sym, ap, subst, arith, ℤ}
 use Rattle.std.specs.Prelude.{IsTrue, slice_get}
 use Rattle.std.specs.Option.{option_map}
 use Rattle.std.specs.Ordering.{int_eq}
@@ -12,12 +12,9 @@ use Rattle.running.specs.Counts.{count_of}
 use Rattle.running.specs.Events.{Machine}
 use Rattle.running.proofs.ChildCounts.{count_at}
 use Rattle.cactus.specs.Frames.{frame_at}
-use Rattle.linear.specs.declared.form.RegisterId.{RegisterId}
-use Rattle.program.specs.declared.identifier.BlockId.{BlockId}
 use Rattle.program.specs.declared.identifier.FunctionId.{FunctionId}
 use Rattle.program.specs.declared.function.Program.{Program}
-use Rattle.frame.specs.declared.frame.Role.TheVariants as role
-use Rattle.strands.specs.Law.{Happen, steps_by}
+use Rattle.strands.specs.Law.{steps_by}
 use Rattle.engine.specs.declared.activation.Frame.{Frame}
 use Rattle.engine.specs.declared.activation.Places.{Places}
 use Rattle.engine.specs.Flat.{is_cell}

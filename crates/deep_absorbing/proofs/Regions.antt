@@ -1,13 +1,13 @@
 -- A detached child's region is a register of its parent.
-use Rattle.std.proofs.Common.{◌≡◌, ◌∙◌, ◌<◌, ℕ, zero, suc, List, [], ◌∷◌, ◌++◌, length, reverse, Option, Some, None, Bool, true, false, cond, eqb, ◌&&◌, refl, sym, ap, subst, arith, append_assoc, ℤ}
+use Rattle.std.proofs.Common.{◌≡◌, ◌∙◌, ◌<◌, ℕ, zero, suc, List, [], ◌∷◌, ◌++◌, length, reverse, Option, Some, None, Bool, true, false, eqb, ◌&&◌, refl, sym, ap, subst, arith, ℤ}
 use Rattle.std.specs.Prelude.{⊤, slice_get}
 use Rattle.std.proofs.lemmas.Option.{same_Some}
-use Rattle.std.proofs.lemmas.List.{reverse-append, reverse-reverse}
+use Rattle.std.proofs.lemmas.List.{reverse-reverse}
 use Rattle.running.specs.Paths.{Path, same_path}
 use Rattle.running.specs.Cells.{Memory}
 use Rattle.running.specs.Frames as frames
 use Rattle.running.specs.Frames.{Item, Does, Ends, Role, Child, Body, Registers, Value, item_at, region_of}
-use Rattle.running.specs.Effect.{Action, Detach, Call, Reattach, Sync, Return, action_of, argument_values, calls, if_own, item_action, reattaches, registers_along, returns, returns_value, syncs, within}
+use Rattle.running.specs.Effect.{Action, Detach, argument_values, calls, if_own, item_action, reattaches, registers_along, returns, returns_value, syncs}
 use Rattle.running.specs.State.{continued, waiting, went, synced, resumed}
 use Rattle.linear.specs.declared.form.RegisterId.{RegisterId}
 use Rattle.program.specs.declared.identifier.BlockId.{BlockId}
@@ -15,12 +15,10 @@ use Rattle.program.specs.declared.function.Function.{Function}
 use Rattle.program.specs.declared.function.Program.{Program}
 use Rattle.program.specs.declared.instruction.Instruction.TheVariants as instruction
 use Rattle.program.specs.declared.instruction.Terminator.TheVariants as terminator
-use Rattle.frame.specs.declared.frame.Role as machine
 use Rattle.frame.specs.declared.frame.Role.TheVariants as role
 use Rattle.frame.specs.Reading.{role_of}
 use Rattle.engine.specs.declared.activation.Frame.{Frame}
 use Rattle.engine.specs.declared.activation.Places.{Places}
-use Rattle.engine.specs.Activation.{FrameFits}
 use Rattle.engine.specs.Shows.{Layout}
 use Rattle.engine.proofs.Turns.{there_is}
 use Rattle.crew.specs.Going.{TextFits}

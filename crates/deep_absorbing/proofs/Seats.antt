@@ -1,5 +1,5 @@
 -- What the scheduler knows of each frame that a commit puts on the board, before each knows the slot of its callee.
-use Rattle.std.proofs.Common.{◌≡◌, ◌≢◌, ◌∙◌, ◌+◌, ◌-◌, ◌<◌, ℕ, List, [], ◌∷◌, ◌++◌, length, reverse, Option, Some, None, ◌⊎◌, inl, inr, Bool, true, false, cond, eqb, eq-eqb, refl, sym, ap, subst, arith, ℤ, pos, ◌+ℤ◌}
+use Rattle.std.proofs.Common.{◌≡◌, ◌≢◌, ◌∙◌, ◌+◌, ◌-◌, ◌<◌, ℕ, List, [], ◌∷◌, ◌++◌, length, reverse, Option, Some, None, inl, inr, eq-eqb, refl, sym, ap, subst, arith, ℤ, ◌+ℤ◌}
 use Rattle.std.specs.Prelude.{slice_get}
 use Rattle.std.proofs.lemmas.Bool.Decides.{eqb_tells}
 use Rattle.std.proofs.lemmas.List.{reverse-append, reverse-reverse}
@@ -9,8 +9,6 @@ use Rattle.running.specs.Frames as frames
 use Rattle.running.specs.Frames.{OnCall}
 use Rattle.running.specs.Counts.{count_of}
 use Rattle.running.specs.Events.{Machine}
-use Rattle.linear.specs.declared.form.RegisterId.{RegisterId}
-use Rattle.program.specs.declared.identifier.BlockId.{BlockId}
 use Rattle.program.specs.declared.identifier.FunctionId.{FunctionId}
 use Rattle.program.specs.declared.function.Function.{Function}
 use Rattle.program.specs.declared.function.Program.{Program}
@@ -33,7 +31,7 @@ use Rattle.crew.specs.declared.run.Run.{Run}
 use Rattle.crew.specs.Going.{TextFits}
 use Rattle.crew.specs.Layouts.{alloca_at, alloca_cells, layout_of, number_in, own_at, own_cells}
 use Rattle.crew.specs.Scheduling.{counted_in, hand_of}
-use Rattle.crew.specs.Shown.{HasBlock, IsBlockOf, IsShown, ShowsAt, ShowsNode, place_of}
+use Rattle.crew.specs.Shown.{HasBlock, IsShown, ShowsAt, ShowsNode, place_of}
 use Rattle.crew.proofs.Handing.{own_hand}
 use Rattle.crew.proofs.Lengths.{not_there}
 use Rattle.crew.proofs.Views.{hand_seen, named_at_place}

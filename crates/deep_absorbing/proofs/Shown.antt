@@ -1,6 +1,5 @@
 -- The run after a commit shows the machine that absorbed the deep strand.
-use Rattle.std.proofs.Common.{Vec, Global, ◌≡◌, ◌≢◌, ◌∙◌, ◌+◌, ◌-◌, ◌<◌, ◌≤◌, ℕ, suc, List, [], ◌∷◌, ◌++◌, length, max, reverse, Option, Some, None, ◌⊎◌, inl, inr, refl, sym, ap, subst, arith, ℤ}
-use Rattle.std.specs.Prelude.{◌↔◌, IsSome}
+use Rattle.std.proofs.Common.{Vec, Global, ◌≡◌, ◌≢◌, ◌∙◌, ◌+◌, ◌-◌, ◌<◌, ◌≤◌, ℕ, List, [], ◌∷◌, ◌++◌, length, max, reverse, Option, Some, None, ◌⊎◌, inl, inr, refl, sym, ap, subst, arith}
 use Rattle.std.specs.Option.{option_map}
 use Rattle.std.specs.Vec.{with_item}
 use Rattle.std.specs.List.{All}
@@ -10,7 +9,6 @@ use Rattle.std.proofs.lemmas.Option.{same_Some}
 use Rattle.std.proofs.lemmas.Bool.Decides.{eqb_tells}
 use Rattle.running.specs.Paths.{Path}
 use Rattle.running.specs.Frames as frames
-use Rattle.running.specs.State.{State}
 use Rattle.running.specs.Counts.{count_of}
 use Rattle.running.specs.Events.{Machine}
 use Rattle.linear.specs.declared.form.RegisterId.{RegisterId}
@@ -21,20 +19,17 @@ use Rattle.cactus.specs.declared.node.Link.{Link}
 use Rattle.cactus.specs.declared.node.Node.{Node}
 use Rattle.cactus.specs.Frames.{Frames, Lives, node_at}
 use Rattle.cactus.specs.ByPath.{named, IsTree}
-use Rattle.cactus.specs.Chain.{AddsUpTo, GrowsChain, RiseFrom}
-use Rattle.cactus.specs.Lending.{with_frame}
+use Rattle.cactus.specs.Chain.{GrowsChain, RiseFrom}
 use Rattle.cactus.proofs.ByPathLemmas.{FoundAt, named_found, named_is, named_none, not_named}
 use Rattle.engine.specs.declared.activation.Frame.{Frame}
 use Rattle.engine.specs.declared.activation.Places.{Places}
 use Rattle.engine.specs.declared.flat.Flat.{Flat}
-use Rattle.engine.specs.Flat.{cell_in, is_cell}
-use Rattle.engine.specs.Shows.{Layout, ShowsCells}
+use Rattle.engine.specs.Shows.{Layout}
 use Rattle.crew.specs.declared.activation.Activation.{Activation}
 use Rattle.crew.specs.declared.run.Run.{Run}
 use Rattle.crew.specs.Going.{TextFits}
 use Rattle.crew.specs.Layouts.{layout_of}
-use Rattle.crew.specs.Scheduling.{hand_of}
-use Rattle.crew.specs.Shown.{CalleeStands, IsShown, ShowsAt, place_of}
+use Rattle.crew.specs.Shown.{CalleeStands, IsShown, place_of}
 use Rattle.crew.specs.Stalls.{Blocks, StallsAgree}
 use Rattle.crew.proofs.Changed.{Holds, Told, alike, changed_by, changed_by_shown, kept_holds}
 use Rattle.crew.proofs.Handing.{held_then, others_stay, seen_at, seen_then}
@@ -46,12 +41,12 @@ use Rattle.deep_strands.specs.Law.{IsOrderly, absorbed, no_count}
 use Rattle.deep_strand.specs.declared.pile.Pile.{Pile}
 use Rattle.deep_absorbing.specs.Committing.{IsBase, last_of}
 use Rattle.deep_absorbing.specs.Fitting.{FitsDeep}
-use Rattle.deep_absorbing.specs.Linking.{AreLinks, frames_of}
+use Rattle.deep_absorbing.specs.Linking.{AreLinks}
 use Rattle.deep_absorbing.proofs.Cells.{cells_later}
 use Rattle.deep_absorbing.proofs.Climbing.{Climbed, Climbs, IsOff, climbed}
 use Rattle.deep_absorbing.proofs.Deep.{IsDeepStrand}
 use Rattle.deep_absorbing.proofs.Levels.{Levels, by_path, by_slot, levels, top_there}
-use Rattle.deep_absorbing.proofs.Linked.{AreLinked, are_linked, head_of}
+use Rattle.deep_absorbing.proofs.Linked.{AreLinked, are_linked}
 use Rattle.deep_absorbing.proofs.Others.{count_same, living_off, on_base}
 use Rattle.deep_absorbing.proofs.Ready.{as_many_below, below_done}
 use Rattle.deep_absorbing.proofs.Seats.{seat_base, unnamed}

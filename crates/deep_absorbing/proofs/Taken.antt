@@ -1,11 +1,10 @@
 -- What a commit asks for, of a pile that is under way and fits a run that stands safely.
-use Rattle.std.proofs.Common.{◌≡◌, ◌∙◌, ◌+◌, ◌<◌, ◌≤◌, ℕ, List, length, Option, Some, None, refl, sym, ap, subst, arith, ℤ}
+use Rattle.std.proofs.Common.{◌≡◌, ◌∙◌, ◌+◌, ◌<◌, ℕ, List, length, Option, Some, refl, sym, ap, subst, arith}
 use Rattle.std.specs.Prelude.{IsSome, IsTrue, slice_get}
 use Rattle.std.specs.Option.{option_map}
 use Rattle.std.proofs.Math.Logic.{∥∥₁_elim, ∥∥₁_map}
 use Rattle.std.proofs.Props.{props}
 use Rattle.std.proofs.lemmas.List.{get_or_past}
-use Rattle.std.proofs.lemmas.Option.{same_Some}
 use Rattle.program.specs.declared.function.Program.{Program}
 use Rattle.cactus.specs.declared.node.Link.{Link}
 use Rattle.cactus.specs.declared.node.Node.{Node}
@@ -14,14 +13,12 @@ use Rattle.cactus.specs.Chain.{AddsChain, GrowsChain}
 use Rattle.engine.specs.declared.activation.Frame.{Frame}
 use Rattle.engine.specs.declared.activation.Places.{Places}
 use Rattle.engine.specs.Flat.{is_cell}
-use Rattle.engine.proofs.Turns.{there_is}
 use Rattle.strand.specs.declared.cells.Written.{Written}
 use Rattle.crew.specs.declared.activation.Activation.{Activation}
 use Rattle.crew.specs.declared.run.Run.{Run}
 use Rattle.crew.specs.Follows.{Follows}
 use Rattle.crew.specs.Going.{TextFits}
 use Rattle.crew.specs.Scheduling.{hand_of}
-use Rattle.crew.proofs.Views.{frame_found}
 use Rattle.deep_strand.specs.Along.{IsUnderWay}
 use Rattle.deep_strand.specs.declared.pile.Pile.{Pile}
 use Rattle.deep_absorbing.specs.Absorbing.{DoesDeep, LeavesStallsDeep, StandsDeep}

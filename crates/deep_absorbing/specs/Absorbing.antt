@@ -1,5 +1,5 @@
 -- What a run comes to that takes over a pile.
-use Rattle.std.specs.Prelude.{◌≡◌, ℕ, length}
+use Rattle.std.specs.Prelude.{ℕ, length}
 use Rattle.running.specs.Events.{Machine}
 use Rattle.program.specs.declared.function.Program.{Program}
 use Rattle.strands.specs.Law.{Happen, steps_by}

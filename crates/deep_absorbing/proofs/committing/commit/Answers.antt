@@ -1,6 +1,6 @@
 use Rattle.std.proofs.Common.{◌≡◌, ◌∙◌, ◌+◌, List, Some, ℤ, length, max, sym, ap, subst}
 use Rattle.std.specs.Option.{option_copied_mut}
-use Rattle.std.specs.Vec.{with_item, with_items}
+use Rattle.std.specs.Vec.{with_item}
 use Rattle.std.proofs.lemmas.List.{with_items_is}
 use Rattle.engine.specs.declared.flat.Flat.{Flat}
 use Rattle.strand.specs.declared.cells.Written.{Written}

@@ -1,4 +1,4 @@
-use Rattle.std.proofs.Common.{◌+◌, ◌<◌, length, sym, subst, arith}
+use Rattle.std.proofs.Common.{sym, subst, arith}
 use Rattle.cactus.specs.Frames.{Frames}
 use Rattle.crew.specs.Follows.{Follows}
 use Rattle.crew.specs.declared.activation.Activation.{Activation}
