@@ -1,8 +1,8 @@
 -- What each frame keeps with what its caller relies on is so of each state that a schedule leads to, whatever its cells hold.
-use Rattle.std.proofs.Common.{◌≡◌, ◌≢◌, ◌∙◌, ℕ, List, [], Some, None, sym, ap, subst, ℤ}
+use Rattle.std.proofs.Common.{◌≡◌, ◌∙◌, ℕ, List, [], None, sym, ap, subst, ℤ}
 use Rattle.running.specs.Paths.{Path}
 use Rattle.running.specs.Cells.{Memory}
-use Rattle.running.specs.Frames.{Free, OnCall, Halted, Frame}
+use Rattle.running.specs.Frames.{Free, OnCall, Frame}
 use Rattle.running.specs.State.{State, Change, apply, root_frame, start_state}
 use Rattle.running.specs.Tree.{Tree}
 use Rattle.running.specs.Events.{Event, start}

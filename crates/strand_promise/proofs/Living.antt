@@ -1,5 +1,5 @@
 -- Frames of a deep strand that own no cells leave the objects that live, and what they may point to is not their own.
-use Rattle.std.proofs.Common.{◌≡◌, ◌∙◌, ℕ, suc, ◌<◌, List, [], ◌∷◌, Option, Some, None, Bool, true, false, cond, refl, sym, ap, subst, arith, slice_get}
+use Rattle.std.proofs.Common.{◌≡◌, ◌∙◌, ℕ, ◌<◌, List, [], ◌∷◌, Some, Bool, true, false, cond, refl, sym, ap, subst, arith, slice_get}
 use Rattle.running.specs.Paths.{Path, same_path}
 use Rattle.running.specs.Cells.{Object, Shared, Local, owns}
 use Rattle.running.specs.Frames.{Role, Child, Body, cells_of}
