@@ -22,7 +22,7 @@ use Rattle.frame.specs.declared.event.Event.{Event}
 use Rattle.frame.specs.declared.event.Event.TheVariants.{Step, Steal}
 use Rattle.schedule_core.specs.declared.stage.Stage.{Stage}
 use Rattle.schedule_core.proofs.Unchanged.{as_it_was}
-use Rattle.shared_run.specs.declared.ticket.Ticket.{Ticket}
+use Rattle.schedule_core.specs.declared.ready.Spot.{Spot as Ticket}
 use Rattle.shared_run.specs.declared.answers.Stepped.TheVariants as stepped
 use Rattle.shared_run.specs.declared.answers.Claimed.{Claimed}
 use Rattle.shared_run.specs.declared.answers.Claimed.TheVariants as claimed

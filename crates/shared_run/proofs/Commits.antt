@@ -1,8 +1,8 @@
 -- What a commit answers, from what the machine says of the strand.
-use Rattle.std.proofs.Common.{◌≡◌, ◌↔◌, ℕ, zero, suc, ◌+◌, List, [], ◌∷◌, ◌++◌, length, map, replicate, Option, Some, None, Bool, true, refl, sym, ap, ◌∙◌, subst, arith}
+use Rattle.std.proofs.Common.{◌≡◌, ◌↔◌, ℕ, zero, suc, ◌+◌, ◌<◌, ◌^◌, List, [], ◌∷◌, ◌++◌, length, length-append, map, replicate, Option, Some, None, Bool, true, refl, sym, ap, ◌∙◌, subst, arith}
 use Rattle.std.specs.Prelude.{IsSome, IsTrue, IfSome, IfNone, is_none}
 use Rattle.std.specs.Option.{option_map}
-use Rattle.std.proofs.lemmas.List.{map-append}
+use Rattle.std.proofs.lemmas.List.{length-replicate, map-append}
 use Rattle.running.specs.Paths.{Path as RunningPath}
 use Rattle.running.specs.Events as running
 use Rattle.running.specs.Events.{Machine, event}
@@ -16,15 +16,16 @@ use Rattle.schedule_core.specs.strand.declared.standing.Pause.TheVariants.{Blank
 use Rattle.schedule_core.specs.Parents.{HasNoReadyParent, IsReadyParent}
 use Rattle.schedule_core.specs.Replaying.{AreEnabled, event_of}
 use Rattle.schedule_core.specs.Stages.{program_of, workers_of}
-use Rattle.schedule_core.specs.Strands.{Absorbs}
+use Rattle.schedule_core.specs.Strands.{Absorbs, TakesSteps}
 use Rattle.frame.specs.declared.event.Event.{Event}
 use Rattle.frame.specs.declared.event.Event.TheVariants.{Step}
 use Rattle.schedule_core.specs.declared.stage.Stage.{Stage}
 use Rattle.schedule_core.proofs.Commits.{map_steps, replay_all}
-use Rattle.shared_run.specs.declared.ticket.Ticket.{Ticket}
+use Rattle.schedule_core.specs.declared.ready.Spot.{Spot as Ticket}
 use Rattle.shared_run.specs.declared.answers.Committed.TheVariants as committed
 use Rattle.shared_run.specs.Calls.{Absorbing, Appends, Commits, EndsInDetach, IsOneBelow, IsParents, before_border, depth_in}
 use Rattle.shared_run.specs.Story.{IsLegal, Origin, Place, Story, first_of, reached, state_of}
+use Rattle.shared_run.proofs.Bound.{room}
 use Rattle.shared_run.proofs.Calls.{none_is, ready_exact, true_is}
 use Rattle.shared_run.proofs.Stories.{manned_after, untrapped_after}
 
@@ -42,31 +43,38 @@ all_steps events n w = map-append event_of events (replicate n (Step w)) ∙ ap 
 pub reached_steps : (o : Origin) (events : List Event) (n w : ℕ) → reached o (events ++ replicate n (Step w)) ≡ replay o.program o.workers (steps_by w n) (reached o events)
 reached_steps o events n w = ap (λ l. replay o.program o.workers l (first_of o)) (all_steps events n w) ∙ replay_all o.program o.workers (map event_of events) (steps_by w n) (first_of o)
 
-module _ (o : Origin) (events : List Event) (stage : Stage) (legal : IsLegal o events stage) (new : Stage) (w : ℕ) (x : Strand) (a : Absorbs stage new w x) where
-  abbrev n : ℕ
-  n = steps_in x.pause x.course.done
-
+module _ (o : Origin) (events : List Event) (stage : Stage) (legal : IsLegal o events stage) where
   -- the stage's module and workers are the start's
   here : (P : Program → ℕ → Type 0) → P (program_of stage) (workers_of stage) → P o.program o.workers
   here P p = subst (λ c. P o.program c) legal.replays.as_many (subst (λ (q : Program). P q (workers_of stage)) legal.replays.program p)
 
-  enabled_here : AreEnabled o.program o.workers (steps_by w n) (reached o events)
-  enabled_here = here (λ q c. AreEnabled q c (steps_by w n) (reached o events)) (a.steps.enabled (reached o events) legal.replays.state)
+  module _ (new : Stage) (w n : ℕ) (a : TakesSteps stage new w n) where
+    enabled_here : AreEnabled o.program o.workers (steps_by w n) (reached o events)
+    enabled_here = here (λ q c. AreEnabled q c (steps_by w n) (reached o events)) (a.enabled (reached o events) legal.replays.state)
 
-  pub hand_here : (replay o.program o.workers (steps_by w x.course.done) (reached o events)).hands w ≡ (reached o events).hands w
-  hand_here = here (λ q c. (replay q c (steps_by w x.course.done) (reached o events)).hands w ≡ (reached o events).hands w) (a.hand (reached o events) legal.replays.state)
+    -- with the steps appended
+    pub legal_steps : (more : List Event) → more ≡ events ++ replicate n (Step w) → IsLegal o more new
+    legal_steps more is = subst (λ (l : List Event). IsLegal o l new) (sym is) (record {
+      replays = a.replays o.program o.arguments o.memory o.workers events legal.replays;
+      enabled =
+          subst (λ l. AreEnabled o.program o.workers l (first_of o)) (sym (all_steps events n w))
+          (enabled_all o.program o.workers (map event_of events) (steps_by w n) (first_of o) legal.enabled enabled_here);
+      manned = legal.manned;
+      accepted = legal.accepted;
+      taken = legal.taken;
+      made = legal.made;
+    })
 
-  pub legal_absorbed : (more : List Event) → more ≡ events ++ replicate n (Step w) → IsLegal o more new
-  legal_absorbed more is = subst (λ (l : List Event). IsLegal o l new) (sym is) (record {
-    replays = a.steps.replays o.program o.arguments o.memory o.workers events legal.replays;
-    enabled =
-        subst (λ l. AreEnabled o.program o.workers l (first_of o)) (sym (all_steps events n w))
-        (enabled_all o.program o.workers (map event_of events) (steps_by w n) (first_of o) legal.enabled enabled_here);
-    manned = legal.manned;
-    accepted = legal.accepted;
-    taken = legal.taken;
-    made = legal.made;
-  })
+    -- so there is room for their count
+    pub room_for : length events + n < 2 ^ 64
+    room_for =
+        let r = room o (events ++ replicate n (Step w)) new (legal_steps (events ++ replicate n (Step w)) refl) in
+        omega (arith, r, length-append events (replicate n (Step w)), length-replicate n (Step w))
+
+  pub hand_here : (new : Stage) (w : ℕ) (x : Strand) → Absorbs stage new w x →
+      (replay o.program o.workers (steps_by w x.course.done) (reached o events)).hands w ≡ (reached o events).hands w
+  hand_here new w x a =
+      here (λ q c. (replay q c (steps_by w x.course.done) (reached o events)).hands w ≡ (reached o events).hands w) (a.hand (reached o events) legal.replays.state)
 
 -- ---- the last step
 
@@ -133,7 +141,7 @@ module _ (s t : Story) (p q : Place) (legal : IsLegal s.start s.events s.stage) 
         let prog = s.start.program in
         let workers = s.start.workers in
         let enabled : AreEnabled prog workers (steps_by w (suc x.course.done)) (state_of s) =
-        subst (λ k. AreEnabled prog workers (steps_by w k) (state_of s)) many (enabled_here s.start s.events s.stage legal t.stage w x a) in
+        subst (λ k. AreEnabled prog workers (steps_by w k) (state_of s)) many (enabled_here s.start s.events s.stage legal t.stage w (steps_in x.pause x.course.done) a.steps) in
         let done : event prog workers (running.Step w) (state_of mid) ≡ Some (state_of t) =
         ap (λ m. event prog workers (running.Step w) m) state_mid
         ∙ (step_after prog workers w x.course.done (state_of s) enabled

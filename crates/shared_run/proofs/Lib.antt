@@ -6,3 +6,4 @@ pub mod Begun
 pub mod Calls
 pub mod Commits
 pub mod Made
+pub mod Stacks

@@ -18,7 +18,7 @@ use Rattle.schedule_core.specs.strand.declared.standing.Pause.TheVariants.{Blank
 use Rattle.schedule_core.specs.engine.Flat.{cell_in}
 use Rattle.schedule_core.specs.Replaying.{event_of, LeavesAsBefore, Replays}
 use Rattle.schedule_core.specs.Viewed.{place_in, status_in, IsFirstReady}
-use Rattle.shared_run.specs.declared.ticket.Ticket.{Ticket}
+use Rattle.schedule_core.specs.declared.ready.Spot.{Spot as Ticket}
 use Rattle.shared_run.specs.declared.answers.Stepped.{Stepped}
 use Rattle.shared_run.specs.declared.answers.Stepped.TheVariants as stepped
 use Rattle.shared_run.specs.declared.answers.Fetched.{Fetched}

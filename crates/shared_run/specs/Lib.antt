@@ -1,6 +1,7 @@
 pub mod Spelled
 pub mod Story
 pub mod Calls
+pub mod Stacks
 pub mod Answer
 -- for the crates above
 pub use Rattle.schedule_core.specs.outcome as outcome

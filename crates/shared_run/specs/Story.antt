@@ -11,7 +11,7 @@ use Rattle.frame.specs.declared.event.Event.{Event}
 use Rattle.schedule_core.specs.declared.stage.Stage.{Stage}
 use Rattle.schedule_core.specs.Replaying.{AreEnabled, event_of, first_state, state_after, IsNumberOfWorkers, Replays}
 use Rattle.schedule_core.specs.Spots.{path_of_use}
-use Rattle.shared_run.specs.declared.ticket.Ticket.{Ticket}
+use Rattle.schedule_core.specs.declared.ready.Spot.{Spot as Ticket}
 
 -- where a run begins
 pub record Origin : Type 0 where

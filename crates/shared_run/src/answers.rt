@@ -49,6 +49,28 @@ pub enum Committed {
     OutOfMemory,
 }
 
+/// What a private stack was given to begin with.
+#[derive(Clone, Copy, PartialEq, Eq)]
+pub enum Loaded {
+    /// The frame that the seat's worker runs next.
+    Frame,
+    /// Nothing: the worker runs no task.
+    Idle,
+    /// Memory was refused.
+    OutOfMemory,
+}
+
+/// What a publication came to.
+#[derive(Clone, Copy, PartialEq, Eq)]
+pub enum Published {
+    /// The stack's instructions were done.
+    Done,
+    /// The stack holds no frame, the worker does not run its base as it was loaded, or a cell that was read holds something else.
+    Stranger,
+    /// Memory was refused.
+    OutOfMemory,
+}
+
 /// What a claim came to.
 #[derive(Clone, Copy)]
 pub enum Claimed {

@@ -33,9 +33,9 @@ use std::sync::ledger::{Blank, Book, Share};
 pub struct Board<'a, L: Bench> {
     alloc: Global,
     start: Start<'a>,
-    history: History,
-    machine: Machine<'a>,
-    book: Book<L>,
+    pub(crate) history: History,
+    pub(crate) machine: Machine<'a>,
+    pub(crate) book: Book<L>,
 }
 
 impl<'a, L: Bench> Model for Board<'a, L> {

@@ -12,14 +12,16 @@
 mod answers;
 mod bench;
 mod board;
+mod deep;
 mod history;
 mod outside;
 mod seat;
 mod shared;
+mod stack;
 mod start;
 mod ticket;
 
-pub use answers::{Claimed, Committed, Fetched, Stepped};
+pub use answers::{Claimed, Committed, Fetched, Loaded, Published, Stepped};
 pub use bench::Bench;
 pub use board::Board;
 pub use history::{Entry, History};
@@ -29,5 +31,6 @@ pub use schedule_core::{
 };
 pub use seat::Seat;
 pub use shared::Shared;
+pub use stack::{MOST_INSTRUCTIONS, PrivateStack, Standing};
 pub use start::Start;
 pub use ticket::Ticket;

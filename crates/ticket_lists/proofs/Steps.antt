@@ -7,7 +7,7 @@ use mathlib.Core.Option.{some, some-ne-none, some-injective}
 use lib.ListN.{get_elem?}
 use Rattle.crossbeam_deque.specs.Tasks.{Pushes, Takes, Pops, Admits}
 use Rattle.crossbeam_deque.proofs.Lists.{at_set}
-use Rattle.shared_run.specs.declared.ticket.Ticket.{Ticket}
+use Rattle.shared_run.specs.schedule_core.declared.ready.Spot.{Spot as Ticket}
 use Rattle.ticket_lists.specs.declared.ticket_list.Move.{Move}
 use Rattle.ticket_lists.specs.declared.ticket_list.Move.TheVariants.{Offer, Newest, Oldest}
 use Rattle.ticket_lists.specs.declared.ticket_list.View.{View}

@@ -2,7 +2,7 @@
 use Rattle.std.specs.Prelude.{◌≡◌, ◌≢◌, ℕ, ◌==◌, ◌+◌, ◌≤◌, ◌<◌, List, [], ◌∷◌, ◌++◌, Bool, length, sum_by, if◌then◌else◌}
 use mathlib.Core.Option.{some}
 use lib.ListN.{get_elem?}
-use Rattle.shared_run.specs.declared.ticket.Ticket.{Ticket}
+use Rattle.shared_run.specs.schedule_core.declared.ready.Spot.{Spot as Ticket}
 use Rattle.ticket_lists.specs.declared.ticket_list.Move.{Move}
 use Rattle.ticket_lists.specs.declared.ticket_list.Move.TheVariants.{Offer, Newest, Oldest}
 use Rattle.ticket_lists.specs.declared.ticket_list.View.{View}

@@ -6,10 +6,9 @@ use Rattle.program.specs.declared.function.Program.{Program}
 use Rattle.schedule_core.specs.absorbing.Absorbing.{steps_in}
 use Rattle.frame.specs.declared.event.Event.TheVariants.{Step}
 use Rattle.schedule_core.specs.Strands.{FitsStage, IsMadeOf}
-use Rattle.shared_run.specs.Story.{IsLegal, place, story}
-use Rattle.shared_run.proofs.Bound.{room}
+use Rattle.shared_run.specs.Story.{place, story}
 use Rattle.shared_run.proofs.Calls.{same_story, stays_same}
-use Rattle.shared_run.proofs.Commits.{legal_absorbed}
+use Rattle.shared_run.proofs.Commits.{legal_steps, room_for}
 use Rattle.shared_run.proofs.board.Board.absorb.Goals as goal
 
 pub absorb-requires : goal.absorb-requires
@@ -21,14 +20,10 @@ push_steps-requires-clause-count g c =
     let events = c.self.inside.history.events in
     let w = c.seat.inside.worker in
     let x = c.args.strand.now in
-    let more = events ++ replicate (steps_in x.pause x.course.done) (Step w) in
     let absorbs = c.in-Ok-true.ensures.does (ap Ok c.in-Ok-true.field-0-test) in
-    let legal : IsLegal o more c.absorb.new.self.stage = legal_absorbed o events c.self.inside.machine.stage c.self.invariant.0 c.absorb.new.self.stage w x absorbs more refl in
-    let small = room o more c.absorb.new.self.stage legal in
-    let long = length-append events (replicate (steps_in x.pause x.course.done) (Step w)) in
-    let steps = length-replicate (steps_in x.pause x.course.done) (Step w) in
+    let small = room_for o events c.self.inside.machine.stage c.self.invariant.0 c.absorb.new.self.stage w (steps_in x.pause x.course.done) absorbs.steps in
     let same = ap length c.reserve.ensures.events in
-    omega (arith, small, long, steps, same, c.steps_of-count.ensures)
+    omega (arith, small, same, c.steps_of-count.ensures)
 
 pub invariant_of-self-in-Ok-true : goal.invariant_of-self-in-Ok-true
 invariant_of-self-in-Ok-true g c =
@@ -41,7 +36,7 @@ invariant_of-self-in-Ok-true g c =
     let more : c.push_steps.new.self.events ≡ events ++ replicate n (Step w) =
     c.push_steps.ensures ∙ (ap (λ xs. xs ++ replicate c.steps_of-count.result (Step w)) c.reserve.ensures.events ∙ ap (λ k. events ++ replicate k (Step w)) c.steps_of-count.ensures) in
     let count = ap length more in (
-      legal_absorbed o events c.self.inside.machine.stage c.self.invariant.0 c.absorb.new.self.stage w x absorbs c.push_steps.new.self.events more,
+      legal_steps o events c.self.inside.machine.stage c.self.invariant.0 c.absorb.new.self.stage w n absorbs.steps c.push_steps.new.self.events more,
       omega (arith, count, length-append events (replicate n (Step w)), length-replicate n (Step w), c.add.ensures.total, c.self.invariant.1, c.steps_of-count.ensures),
       c.self.invariant.2,
       c.self.invariant.3,

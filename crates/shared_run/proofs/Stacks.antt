@@ -1,0 +1,43 @@
+-- What a private stack keeps, and what a publication answers.
+use Rattle.std.proofs.Common.{◌≡◌, ◌≢◌, ℕ, refl, sym, ap, ◌∙◌, subst, length}
+use Rattle.std.proofs.Math.Logic.{∥∥₁_map}
+use Rattle.program.specs.declared.function.Program.{Program}
+use Rattle.crew.specs.Starts.{ArePlaces}
+use Rattle.schedule_core.specs.engine.declared.activation.Places.{Places}
+use Rattle.schedule_core.specs.deep_strand.Along.{IsUnderWay}
+use Rattle.schedule_core.specs.deep_strand.Going.{IsGoing}
+use Rattle.schedule_core.specs.deep_strand.declared.pile.Pile.{Pile}
+use Rattle.schedule_core.specs.deep_strand.declared.going.Pause.{Pause}
+use Rattle.schedule_core.specs.deep_strand.declared.going.Pause.TheVariants as pause
+use Rattle.schedule_core.specs.Piles.{HasRoomFor, IsPileOf}
+use Rattle.shared_run.specs.declared.stack.Standing.{Standing}
+use Rattle.shared_run.specs.declared.stack.Standing.TheVariants.{Blank, Going, Border, Full, Need, Spoilt}
+use Rattle.shared_run.specs.Stacks.{Holds, IsUp, Onward}
+
+module _ (prog : Program) (places : Places) (x : Pile) where
+  pub under_way : (s : Standing) → Holds prog places x s → IsUp s → ∥ IsUnderWay prog places x ∥₁
+  under_way Blank h up = absurd up
+  under_way Going h up = h.1
+  under_way Border h up = h.1
+  under_way Full h up = h.1
+  under_way (Need at) h up = ∥∥₁_map h.1 (λ g. g.way)
+  under_way Spoilt h up = absurd up
+
+  pub has_room : (s : Standing) → Holds prog places x s → s ≢ Spoilt → HasRoomFor prog x
+  has_room Blank h off = h
+  has_room Going h off = h.0
+  has_room Border h off = h.0
+  has_room Full h off = h.0
+  has_room (Need at) h off = h.0
+  has_room Spoilt h off = absurd (off refl)
+
+  -- at a pause
+  pub holds_onward : (r : Pause) (s : Standing) → Onward r s → HasRoomFor prog x → ∥ IsGoing prog places x r ∥₁ → Holds prog places x s
+  holds_onward pause.Border s is room going = subst (λ y. Holds prog places x y) (sym is) (room, ∥∥₁_map going (λ g. g.way))
+  holds_onward pause.Limit s is room going = subst (λ y. Holds prog places x y) (sym is) (room, ∥∥₁_map going (λ g. g.way))
+  holds_onward pause.Full s is room going = subst (λ y. Holds prog places x y) (sym is) (room, ∥∥₁_map going (λ g. g.way))
+  holds_onward (pause.Need at) s is room going = subst (λ y. Holds prog places x y) (sym is) (room, going)
+
+  pub pile_of : (code : Program) (s : Standing) → prog ≡ code → ArePlaces prog places → Holds prog places x s → IsUp s → IsPileOf code x
+  pile_of code s is are h up =
+      subst (λ (q : Program). IsPileOf q x) is (record { places = places; places_are = are; way = under_way s h up })

@@ -1,0 +1,48 @@
+use Rattle.std.proofs.Common.{◌≡◌, ◌+◌, refl, ap, ◌∙◌, ◌++◌, replicate, length, length-append, arith}
+use Rattle.std.proofs.lemmas.List.{length-replicate}
+use Rattle.std.specs.Prelude.{Ok}
+use Rattle.frame.specs.declared.event.Event.TheVariants.{Step}
+use Rattle.shared_run.specs.Story.{story}
+use Rattle.shared_run.proofs.Calls.{same_story, stays_same}
+use Rattle.shared_run.proofs.Commits.{legal_steps, room_for}
+use Rattle.shared_run.proofs.board.Board.publish.Goals as goal
+
+pub returns-in-Err : goal.returns-in-Err
+returns-in-Err g c =
+    let o = c.self.inside.start in
+    let stage = c.self.inside.machine.stage in
+    let events = c.self.inside.history.events in
+    rw (← c.self.view_is)
+    (stays_same (story o events stage) (story o c.reserve.new.self.events stage) c.args.seat.now c.args.seat.now (same_story o events c.reserve.new.self.events stage stage c.reserve.ensures.events refl, refl))
+
+pub push_steps-requires-clause-count : goal.push_steps-requires-clause-count
+push_steps-requires-clause-count g c =
+    let o = c.self.inside.start in
+    let events = c.self.inside.history.events in
+    let small = room_for o events c.self.inside.machine.stage c.self.invariant.0 c.absorb_deep.new.self.stage c.seat.inside.worker c.in-Some.pile.now.done (c.in-Ok-true.ensures.does (ap Ok c.in-Ok-true.field-0-test)) in
+    let same = ap length c.reserve.ensures.events in
+    omega (arith, small, same)
+
+pub invariant_of-self-in-Ok-true : goal.invariant_of-self-in-Ok-true
+invariant_of-self-in-Ok-true g c =
+    let o = c.self.inside.start in
+    let events = c.self.inside.history.events in
+    let w = c.seat.inside.worker in
+    let n = c.in-Some.pile.now.done in
+    let more : c.push_steps.new.self.events ≡ events ++ replicate n (Step w) =
+    c.push_steps.ensures ∙ ap (λ xs. xs ++ replicate n (Step w)) c.reserve.ensures.events in
+    let count = ap length more in (
+      legal_steps o events c.self.inside.machine.stage c.self.invariant.0 c.absorb_deep.new.self.stage w n (c.in-Ok-true.ensures.does (ap Ok c.in-Ok-true.field-0-test)) c.push_steps.new.self.events more,
+      omega (arith, count, length-append events (replicate n (Step w)), length-replicate n (Step w), c.add.ensures.total, c.self.invariant.1),
+      c.self.invariant.2,
+      c.self.invariant.3,
+    )
+
+pub returns-in-Err-absorb_deep : goal.returns-in-Err-absorb_deep
+returns-in-Err-absorb_deep g c =
+    let o = c.self.inside.start in
+    let stage = c.self.inside.machine.stage in
+    let events = c.self.inside.history.events in
+    rw (← c.self.view_is)
+    (stays_same (story o events stage) (story o c.reserve.new.self.events c.absorb_deep.new.self.stage) c.args.seat.now c.args.seat.now
+    (same_story o events c.reserve.new.self.events stage c.absorb_deep.new.self.stage c.reserve.ensures.events c.in-Err-absorb_deep.ensures.refused, refl))

@@ -1,0 +1,85 @@
+-- A worker's private stack, and what the calls of a board do with it.
+use Rattle.std.specs.Prelude.{◌≡◌, ◌≢◌, ⊤, ℕ, ℤ, ◌++◌, replicate, None, Some, Bool, true, false, List, reverse}
+use Rattle.program.specs.declared.function.Program.{Program}
+use Rattle.frame.specs.declared.event.Event.TheVariants.{Step}
+use Rattle.schedule_core.specs.engine.declared.activation.Places.{Places}
+use Rattle.schedule_core.specs.engine.Flat.{cell_in}
+use Rattle.schedule_core.specs.deep_strand.Along.{IsUnderWay}
+use Rattle.schedule_core.specs.deep_strand.Going.{IsGoing}
+use Rattle.schedule_core.specs.deep_strand.declared.pile.Pile.{Pile}
+use Rattle.schedule_core.specs.deep_strand.declared.going.Pause.{Pause}
+use Rattle.schedule_core.specs.deep_strand.declared.going.Pause.TheVariants as pause
+use Rattle.schedule_core.specs.declared.ready.Spot.{Spot}
+use Rattle.schedule_core.specs.Piles.{FitsStack, HasRoomFor, IsBegun}
+use Rattle.schedule_core.specs.ReadyBelow.{AreReadyBelow}
+use Rattle.schedule_core.specs.Strands.{TakesSteps}
+use Rattle.shared_run.specs.declared.answers.Loaded.{Loaded}
+use Rattle.shared_run.specs.declared.answers.Loaded.TheVariants as loaded
+use Rattle.shared_run.specs.declared.answers.Published.{Published}
+use Rattle.shared_run.specs.declared.answers.Published.TheVariants as published
+use Rattle.shared_run.specs.declared.stack.Standing.{Standing}
+use Rattle.shared_run.specs.declared.stack.Standing.TheVariants.{Blank, Going, Border, Full, Need, Spoilt}
+use Rattle.shared_run.specs.Calls.{Appends, Same, Stays}
+use Rattle.shared_run.specs.Story.{Place, Story, state_of}
+
+-- the worker's frames outside of the board, and how they stand
+pub record Apart : Type 0 where
+  pub pile : Pile
+  pub standing : Standing
+
+-- it holds a frame
+abbrev pub IsUp : Standing → Type 0
+IsUp Blank = ⊥
+IsUp Going = ⊤
+IsUp Border = ⊤
+IsUp Full = ⊤
+IsUp (Need at) = ⊤
+IsUp Spoilt = ⊥
+
+-- what is kept of the pile where it stands so
+abbrev pub Holds : Program → Places → Pile → Standing → Type 0
+Holds prog places x Blank = HasRoomFor prog x
+Holds prog places x Going = HasRoomFor prog x × ∥ IsUnderWay prog places x ∥₁
+Holds prog places x Border = HasRoomFor prog x × ∥ IsUnderWay prog places x ∥₁
+Holds prog places x Full = HasRoomFor prog x × ∥ IsUnderWay prog places x ∥₁
+Holds prog places x (Need at) = HasRoomFor prog x × ∥ IsGoing prog places x (pause.Need at) ∥₁
+Holds prog places x Spoilt = ⊤
+
+-- how it stands at a pause
+abbrev pub Onward : Pause → Standing → Type 0
+Onward pause.Border s = s ≡ Border
+Onward pause.Limit s = s ≡ Going
+Onward pause.Full s = s ≡ Full
+Onward (pause.Need at) s = s ≡ Need at
+
+-- ---- what the board gives
+
+-- the frame that the worker runs next, before its first instruction
+abbrev pub Loads : Story → Place → Apart → Loaded → Type 0
+Loads s p y loaded.Frame = (y.standing ≡ Going) × IsBegun s.stage p.worker y.pile
+Loads s p y loaded.Idle = (state_of s).hands p.worker ≡ None
+Loads s p y loaded.OutOfMemory = ⊤
+
+-- the cell that it needs; or there is none, or it needs none, and it is as it was
+abbrev pub Fills : Story → Apart → Apart → Bool → Type 0
+Fills s x y true =
+    (at z : ℤ) × (x.standing ≡ Need at) × (cell_in s.stage.run.cells.cells.items at ≡ Some z) × (y.standing ≡ Going) ×
+    (y.pile ≡ record x.pile { cells = y.pile.cells })
+Fills s x y false = (y ≡ x) × ((at : ℤ) → x.standing ≡ Need at → cell_in s.stage.run.cells.cells.items at ≡ None)
+
+-- ---- what is put on the board
+
+-- it holds a frame, the seat's worker runs the base as it was loaded, and each cell that was read holds what was read
+abbrev pub FitsBoard : Story → Place → Apart → Type 0
+FitsBoard s p x = IsUp x.standing × FitsStack s.stage p.worker x.pile
+
+-- its instructions as steps of the seat's worker, which are enabled one after the other, or nothing
+abbrev pub Publishes : Apart → Story → Story → Place → Place → Published → Type 0
+Publishes x s t p q published.Done =
+    FitsBoard s p x × Appends (replicate x.pile.done (Step p.worker)) s t p q × TakesSteps s.stage t.stage p.worker x.pile.done
+Publishes x s t p q published.Stranger = Same s t p q × ¬ FitsBoard s p x
+Publishes x s t p q published.OutOfMemory = Stays s t p q
+
+-- the tickets name, outermost first, the ready tasks whose tops are among so many frames below the one that the seat's worker runs next
+abbrev pub AreReadyTickets : Story → Place → ℕ → List Spot → Type 0
+AreReadyTickets s p levels tickets = AreReadyBelow s.stage (state_of s) p.worker levels (reverse tickets)

@@ -1,0 +1,81 @@
+//! What a board does with its workers' private stacks.
+ghost use Rattle.std.specs.Prelude.{OnOk};
+ghost use Rattle.shared_run.specs.Stacks.{AreReadyTickets, Fills, Loads, Publishes};
+
+use crate::answers::{Loaded, Published};
+use crate::bench::Bench;
+use crate::board::Board;
+use crate::seat::Seat;
+use crate::stack::{PrivateStack, Standing};
+use crate::ticket::Ticket;
+use lists::OutOfMemory;
+
+impl<L: Bench> Board<'_, L> {
+    /// Gives a private stack the frame that the seat's worker runs next.
+    pub fn fetch_base(&self, seat: &Seat<L>, stack: &mut PrivateStack<'_, L>) -> Loaded
+        ensures { Loads self.now seat.now stack.new result }
+    {
+        match stack.load(self.machine(), seat.worker()) {
+            Ok(true) => Loaded::Frame,
+            Ok(false) => Loaded::Idle,
+            Err(OutOfMemory) => Loaded::OutOfMemory,
+        }
+    }
+
+    /// Gives a private stack the cell that it needs. The answer is whether it needs one, and there is such a cell.
+    pub fn fetch_need(&self, stack: &mut PrivateStack<'_, L>) -> bool
+        ensures { Fills self.now stack.old stack.new result }
+    {
+        let Standing::Need { at } = stack.standing() else {
+            return false;
+        };
+        match self.machine().cell_at(at) {
+            Some(value) => {
+                stack.fill(at, value);
+                true
+            }
+            None => false,
+        }
+    }
+
+    /// What a private stack did outside of the board, as steps of the seat's worker. So it is where the worker runs the base that was loaded, and each
+    /// cell that was read holds what was read. Where the stack stands at a border, the border's step is one of [`Board::step`].
+    pub fn publish(&mut self, seat: &mut Seat<L>, stack: &PrivateStack<'_, L>) -> Published
+        ensures { Publishes stack.now self.old self.new seat.old seat.new result }
+    {
+        let Some(pile) = stack.pile() else {
+            return Published::Stranger;
+        };
+        if let Err(OutOfMemory) = self.history.reserve() {
+            return Published::OutOfMemory;
+        }
+        match self.machine.absorb_deep(seat.worker, pile) {
+            Ok(true) => {
+                self.history.push_steps(seat.worker, pile.done);
+                self.book.add(&mut seat.share, pile.done);
+                Published::Done
+            }
+            Ok(false) => Published::Stranger,
+            Err(OutOfMemory) => Published::OutOfMemory,
+        }
+    }
+
+    /// Tickets of the ready tasks whose tops are among so many frames below the one that the seat's worker runs next, the outermost first.
+    ///
+    /// # Errors
+    ///
+    /// Memory was refused.
+    pub fn ready_tickets(
+        &self,
+        seat: &Seat<L>,
+        levels: usize,
+        tickets: &mut Vec<Ticket>,
+    ) -> Result<(), OutOfMemory>
+        ensures { OnOk result (AreReadyTickets self.now seat.now levels tickets.new.items) }
+    {
+        tickets.clear();
+        tickets.reserve(levels)?;
+        self.machine().ready_below(seat.worker(), levels, tickets);
+        Ok(())
+    }
+}
