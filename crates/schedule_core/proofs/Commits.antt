@@ -166,7 +166,7 @@ absorbs old k many w x does stalls hand = record {
 -- ---- a stage stays a machine
 
 module _ (old : Stage) (k : Run) (many : length k.hands.items ≡ length old.run.hands.items) (moves : length k.moves.items ≡ length old.run.moves.items) (follows : Follows old.run.cactus k.cactus) (w n : ℕ) where
-  absorbed_machine : TakesSteps old (with_run old k) w n → IsMachine old → IsMachine (with_run old k)
+  pub absorbed_machine : TakesSteps old (with_run old k) w n → IsMachine old → IsMachine (with_run old k)
   absorbed_machine a m =
       machine_of old k many moves follows (Step w) m (m.events ++ replicate n (Step w))
       (a.replays (program_of old) m.arguments old.memory (workers_of old) m.events m.replays)

@@ -12,6 +12,7 @@ use Rattle.cactus.specs.declared.node.Node.{Node}
 use Rattle.cactus.specs.Frames.{node_at}
 use Rattle.engine.specs.Activation.{FrameFits}
 use Rattle.engine.specs.Shows.{Layout}
+use Rattle.engine.specs.declared.activation.Frame.{Frame}
 use Rattle.engine.specs.declared.activation.Places.{Places}
 use Rattle.absorbing.specs.Fitting.{FitsRun, HoldReads}
 use Rattle.absorbing.specs.strand.Along.{IsGoing, MayBegin, MayGo, pause_in}
@@ -112,8 +113,20 @@ going_not_blank prog places x pause going blank =
 
 -- ---- what is loaded fits
 
-none_read : (reads : List Read) (row : List ℤ) → reads ≡ [] → HoldReads reads row
+pub none_read : (reads : List Read) (row : List ℤ) → reads ≡ [] → HoldReads reads row
 none_read reads row none i r e = absurd (let f : None ≡ Some r = sym (ap (λ (l : List Read). slice_get l i) none) ∙ e in cc)
+
+pub copy_back : (f g : Frame) → IsCopy f g → IsCopy g f
+copy_back f g copy = record {
+  function = sym copy.function;
+  place = sym copy.place;
+  registers = sym copy.registers;
+  home = sym copy.home;
+  made = sym copy.made;
+  waits = sym copy.waits;
+  role = sym copy.role;
+  depth = sym copy.depth;
+}
 
 pub is_loaded : (stage : Stage) (worker slot : ℕ) (node : Node Activation) (x : Strand) → hand_of stage.run.hands.items worker ≡ Some slot → node_at stage.run.cactus slot ≡ Some node →
     x.course.path.items ≡ node.path.numbers → IsCopy node.frame.frame x.course.loaded → x.course.done ≡ 0 → x.course.cells.reads ≡ [] → x.pause ≢ Some Blank → IsLoaded stage worker x
@@ -125,15 +138,6 @@ is_loaded stage worker slot node x hand stands path copy done reads going = reco
       hand = hand;
       stands = stands;
       path = sym path;
-      frame = record {
-        function = sym copy.function;
-        place = sym copy.place;
-        registers = sym copy.registers;
-        home = sym copy.home;
-        made = sym copy.made;
-        waits = sym copy.waits;
-        role = sym copy.role;
-        depth = sym copy.depth;
-      };
+      frame = copy_back node.frame.frame x.course.loaded copy;
       reads = none_read x.course.cells.reads stage.run.cells.cells.items reads;
     }

@@ -38,12 +38,7 @@ impl Machine<'_> {
         ensures none { (m : running.Machine) → IsState self.now.stage m → IfNone result (HasNoReadyParent (workers_of self.now.stage) m worker) }
     {
         let parent = self.parent_slot(worker)?;
-        let top = self.stage.run.cactus.node(parent)?;
-        if !top.frame.is_ready() {
-            return None;
-        }
-        let lowest = self.stage.run.lowest_below(parent)?;
-        let node = self.stage.run.cactus.node(lowest)?;
-        Some((lowest, node.generation))
+        let spot = self.ready_spot(parent)?;
+        Some((spot.slot, spot.generation))
     }
 }

@@ -1,0 +1,49 @@
+-- A worker's frame of a stage may be the base of a stack of its own.
+use Rattle.std.proofs.Common.{◌≡◌, ◌∙◌, ℕ, ◌+◌, ◌<◌, [], Some, Bool, true, sym, arith}
+use Rattle.std.proofs.Math.Logic.{∥∥₁_map}
+use Rattle.running.specs.Events.{Machine}
+use Rattle.running.proofs.ChildCounts.{count_at, counted_none}
+use Rattle.cactus.specs.declared.node.Node.{Node}
+use Rattle.cactus.specs.Frames.{node_at}
+use Rattle.crew.specs.declared.activation.Activation.{Activation}
+use Rattle.crew.specs.Layouts.{layout_of, living, object_at}
+use Rattle.crew.specs.Scheduling.{counted_in, hand_of}
+use Rattle.crew.specs.Shown.{place_of}
+use Rattle.crew.specs.Starts.{ArePlaces}
+use Rattle.crew.proofs.Onward.{seen}
+use Rattle.deep_strands.specs.Law.{IsOrderly}
+use Rattle.deep_strands.proofs.Reached.{orderly}
+use Rattle.deep_strand.specs.Along.{LoadsGoDeep, MayBegin}
+use Rattle.strand_promise.proofs.Loading.{loads_go_deep}
+use Rattle.schedule_core.specs.declared.stage.Stage.{Stage}
+use Rattle.schedule_core.specs.Replaying.{IsMachine, state_after}
+use Rattle.schedule_core.specs.Stages.{IsState, program_of, workers_of}
+use Rattle.schedule_core.proofs.Reached.{reached_manned}
+use Rattle.schedule_core.proofs.Views.{hand_is}
+
+module _ (stage : Stage) (m : Machine) (s : IsState stage m) where
+  pub orderly_here : IsOrderly m
+  orderly_here = orderly (workers_of stage) m (reached_manned (program_of stage) (workers_of stage) m s.manned s.reached s.shown.shows.trapped)
+
+  few_done : m.core.done + 65538 < 18446744073709551616
+  few_done = let counted = (s.well.safe []).counted in omega (arith, counted)
+
+  pub loads_here : ArePlaces (program_of stage) stage.places → LoadsGoDeep (program_of stage) stage.places (living (program_of stage) m.core) m
+  loads_here are = loads_go_deep (program_of stage) stage.places are m orderly_here (s.well.deep []) few_done
+
+module _ (stage : Stage) (kept : ∥ IsMachine stage ∥₁) (worker slot : ℕ) (node : Node Activation) (hand : hand_of stage.run.hands.items worker ≡ Some slot) (stands : node_at stage.run.cactus slot ≡ Some node)
+    (childless : Bool) (none : childless ≡ true → (region : ℕ) → counted_in node.frame region ≡ 0)
+  where
+    pub may_load : ∥ MayBegin (program_of stage) stage.places node.path.numbers node.frame.frame childless ∥₁
+    may_load =
+        ∥∥₁_map kept (λ k.
+        let m = state_after (program_of stage) k.arguments stage.memory (workers_of stage) k.events in
+        let s = k.replays.state in
+        let g = seen (program_of stage) stage.places stage.run slot node node.frame stands m s.shown in
+        record {
+          layout = layout_of (program_of stage) stage.places stage.run.cactus m.core;
+          frame = g.frame;
+          goes = loads_here stage m s k.places (object_at stage.places stage.run.cactus) s.shown.shows.cells.apart worker (place_of node) g.frame node.frame.frame
+              (hand_is stage m s worker slot node hand stands) g.is g.shows.shown g.shows.waits childless (λ is region.
+              counted_none m.core (place_of node) region g.frame.made (sym (s.shown.agrees.counts slot region node stands ∙ count_at m.core (place_of node) g.frame region g.is) ∙ none is region));
+        })

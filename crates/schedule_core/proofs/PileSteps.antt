@@ -1,0 +1,87 @@
+-- What a pile did is so many steps of its worker, and a worker's frame that was loaded fits.
+use Rattle.std.proofs.Common.{◌≡◌, ℕ, [], length, Some, true, false, Bool, refl, sym, ap, subst}
+use Rattle.std.specs.Prelude.{Result, Ok, Err, OnErr}
+use Rattle.std.proofs.Math.Logic.{∥∥₁_elim, ∥∥₁_map}
+use Rattle.std.proofs.Props.{props}
+use Rattle.std.proofs.Math.Nat.{ℕ_set}
+use Rattle.std.proofs.Math.IntN.{ℤ_set}
+use mathlib.Core.Sum.{⊎_set}
+use Rattle.lists.specs.declared.memory.OutOfMemory.{OutOfMemory}
+use Rattle.cactus.specs.declared.node.Node.{Node}
+use Rattle.cactus.specs.Frames.{node_at}
+use Rattle.absorbing.specs.strand.Standing.{IsCopy}
+use Rattle.engine.specs.declared.activation.Places.{Places}
+use Rattle.crew.specs.declared.activation.Activation.{Activation}
+use Rattle.crew.specs.declared.run.Run.{Run}
+use Rattle.crew.specs.Follows.{Follows}
+use Rattle.crew.specs.Scheduling.{hand_of}
+use Rattle.crew.specs.Starts.{ArePlaces}
+use Rattle.deep_strands.specs.Law.{absorbed}
+use Rattle.deep_strand.specs.Along.{IsUnderWay}
+use Rattle.deep_strand.specs.declared.pile.Pile.{Pile}
+use Rattle.deep_absorbing.specs.Absorbing.{DoesDeep, LeavesStallsDeep, StandsDeep}
+use Rattle.deep_absorbing.specs.Fitting.{HasNoChild}
+use Rattle.schedule_core.specs.declared.stage.Stage.{Stage}
+use Rattle.schedule_core.specs.Piles.{IsBegun}
+use Rattle.schedule_core.specs.Replaying.{IsMachine, state_after}
+use Rattle.schedule_core.specs.Stages.{program_of, workers_of}
+use Rattle.schedule_core.specs.Strands.{TakesSteps}
+use Rattle.schedule_core.proofs.Bases.{loads_here, orderly_here}
+use Rattle.schedule_core.proofs.Commits.{absorbed_machine, same_places, takes_steps}
+use Rattle.schedule_core.proofs.Loads.{copy_back, none_read}
+use Rattle.schedule_core.proofs.Replaying.{with_run}
+
+pub places_in : (stage : Stage) → ∥ IsMachine stage ∥₁ → ArePlaces (program_of stage) stage.places
+places_in stage kept = ∥∥₁_elim kept (Prim.hlevel (props, ⊎_set, ℕ_set, ℤ_set)) (λ m. m.places)
+
+pub stands_deep : (stage : Stage) → ∥ IsMachine stage ∥₁ → ∥ StandsDeep (program_of stage) stage.places stage.run ∥₁
+stands_deep stage kept =
+    ∥∥₁_map kept (λ k.
+    let m = state_after (program_of stage) k.arguments stage.memory (workers_of stage) k.events in
+    let s = k.replays.state in
+    record { machine = m; shown = s.shown; safe = s.well.safe; orderly = orderly_here stage m s; deep = loads_here stage m s k.places })
+
+-- ---- a pile's steps
+
+pub takes_pile : (old : Stage) → ∥ IsMachine old ∥₁ → (k : Run) → length k.hands.items ≡ length old.run.hands.items → (w : ℕ) (x : Pile) → ∥ DoesDeep (program_of old) old.places old.run k w x ∥₁ →
+    LeavesStallsDeep (program_of old) old.places old.run k w x → TakesSteps old (with_run old k) w x.done
+takes_pile old kept k many w x does stalls =
+    let are = places_in old kept in
+    takes_steps old k many w x.done
+    (λ m s. ∥∥₁_map does (λ d. let a = d m s.shown s.well.safe (orderly_here old m s) (loads_here old m s are) in (absorbed m w a.strand, a.steps, a.shown)))
+    (λ m s. stalls m s.shown s.well.safe (orderly_here old m s) (loads_here old m s are))
+
+-- ---- a stage stays a machine
+
+module _ (old : Stage) (k : Run) (many : length k.hands.items ≡ length old.run.hands.items) (moves : length k.moves.items ≡ length old.run.moves.items) (follows : Follows old.run.cactus k.cactus) (w n : ℕ) where
+  pub same_taking : (r : Result Bool OutOfMemory) → OnErr r (k ≡ old.run) → OnErr r (with_run old k ≡ old)
+  same_taking (Err e) same = ap (with_run old) same
+  same_taking (Ok done) same = tt
+
+  pub machine_taking : (r : Result Bool OutOfMemory) → OnErr r (k ≡ old.run) → (r ≡ Ok true → TakesSteps old (with_run old k) w n) → (r ≡ Ok false → k ≡ old.run) → ∥ IsMachine old ∥₁ → ∥ IsMachine (with_run old k) ∥₁
+  machine_taking (Err e) same does left kept = subst (λ (y : Run). ∥ IsMachine (with_run old y) ∥₁) (sym same) kept
+  machine_taking (Ok true) same does left kept = ∥∥₁_map kept (absorbed_machine old k many moves follows w n (does refl))
+  machine_taking (Ok false) same does left kept = subst (λ (y : Run). ∥ IsMachine (with_run old y) ∥₁) (sym (left refl)) kept
+
+-- ---- a frame that is loaded
+
+module _ (stage : Stage) (kept : ∥ IsMachine stage ∥₁) (worker slot : ℕ) (node : Node Activation) (x : Pile) (hand : hand_of stage.run.hands.items worker ≡ Some slot) (stands : node_at stage.run.cactus slot ≡ Some node) where
+  pub is_begun : x.base.path.items ≡ node.path.numbers → IsCopy node.frame.frame x.base.frame → (x.base.childless ≡ true → HasNoChild node.frame) → x.done ≡ 0 → x.cells.reads ≡ [] →
+      ∥ IsUnderWay (program_of stage) stage.places x ∥₁ → IsBegun stage worker x
+  is_begun path copy childless done reads way = record {
+    way = λ places are. subst (λ (q : Places). ∥ IsUnderWay (program_of stage) q x ∥₁) (sym (same_places stage kept places are)) way;
+    fits = (
+      slot,
+      record {
+        node = node;
+        hand = hand;
+        stands = stands;
+        path = sym path;
+        frame = copy_back node.frame.frame x.base.frame copy;
+        childless = childless;
+        reads = none_read x.cells.reads stage.run.cells.cells.items reads;
+      },
+    );
+    done = done;
+    reads = reads;
+  }

@@ -1,0 +1,15 @@
+use Rattle.std.proofs.Common.{rules, sym, subst, ℤ, FitsSigned}
+use Rattle.std.specs.Int.{w64}
+use Rattle.std.proofs.lemmas.Int.{to_z-of_z}
+use Rattle.program.specs.declared.function.Program.{Program}
+use Rattle.deep_strand.specs.Going.{IsGoing}
+use Rattle.deep_strand.specs.declared.going.Pause.TheVariants.{Need}
+use Rattle.schedule_core.proofs.piles.fill_pile.Goals as goal
+
+pub fill-requires : goal.fill-requires
+fill-requires c =
+    let fit : FitsSigned w64 c.args.at = search rules in
+    record {
+      going = subst (λ (z : ℤ). ∥ IsGoing c.program.result.now c.args.places.now c.args.pile.now (Need z) ∥₁) (sym (to_z-of_z w64 c.args.at fit))
+          (subst (λ (q : Program). ∥ IsGoing q c.args.places.now c.args.pile.now (Need c.args.at) ∥₁) (sym c.program.ensures.value) c.requires.going);
+    }

@@ -1,0 +1,35 @@
+-- What piles are to a stage: stacks of frames that went on apart, from a worker's frame on.
+use Rattle.std.specs.Prelude.{◌≡◌, ℕ, [], length, None}
+use Rattle.running.specs.Events as running
+use Rattle.program.specs.declared.function.Program.{Program}
+use Rattle.engine.specs.declared.activation.Places.{Places}
+use Rattle.crew.specs.Starts.{ArePlaces, HasMoves}
+use Rattle.deep_strand.specs.Along.{IsUnderWay}
+use Rattle.deep_strand.specs.declared.pile.Pile.{Pile}
+use Rattle.deep_absorbing.specs.Fitting.{FitsDeep}
+use Rattle.schedule_core.specs.declared.stage.Stage.{Stage}
+use Rattle.schedule_core.specs.Stages.{IsState, program_of}
+
+-- for the phi moves of any edge
+abbrev pub HasRoomFor : Program → Pile → Type 0
+HasRoomFor program x = HasMoves program (length x.moves.items)
+
+-- the pile is under way in the module, whose objects begin at these places
+pub record IsPileOf (program : Program) (x : Pile) : Type 0 where
+  pub places : Places
+  pub places_are : ArePlaces program places
+  pub way : ∥ IsUnderWay program places x ∥₁
+
+-- the worker runs the base as it was loaded, at its path, without children if it had none, and each cell that was read holds what was read
+abbrev pub FitsStack : Stage → ℕ → Pile → Type 0
+FitsStack stage worker x = (slot : ℕ) × FitsDeep stage.run worker x slot
+
+-- the base is the worker's frame, before its first instruction
+pub record IsBegun (stage : Stage) (worker : ℕ) (x : Pile) : Type 0 where
+  pub way : (places : Places) → ArePlaces (program_of stage) places → ∥ IsUnderWay (program_of stage) places x ∥₁
+  pub fits : FitsStack stage worker x
+  pub done : x.done ≡ 0
+  pub reads : x.cells.reads ≡ []
+
+abbrev pub RunsNothing : Stage → ℕ → Type 0
+RunsNothing stage worker = (m : running.Machine) → IsState stage m → m.hands worker ≡ None

@@ -1,0 +1,72 @@
+//! The ready tasks whose tops stand below the frame that a worker runs, as a deep strand leaves them.
+ghost use Rattle.std.specs.Prelude.{◌≡◌, ◌+◌, ◌<◌, ◌≤◌, [], IfSome, IfNone, reverse, vec_capacity, vec_len};
+ghost use Rattle.running.specs.Events as running;
+ghost use Rattle.cactus.specs.ByPath.{IsTree};
+ghost use Rattle.schedule_core.specs.ReadyBelow.{AreReadyBelow, IsNotReady, IsSpotOf, Notes, maker_of};
+ghost use Rattle.schedule_core.specs.Stages.{IsState};
+
+use crate::machine::Machine;
+
+/// Names a task: the use of a slot in which its lowest frame stands.
+#[derive(Clone, Copy)]
+pub struct Spot {
+    pub slot: usize,
+    pub generation: u64,
+}
+
+impl Machine<'_> {
+    /// The ready task of which the slot's frame is the top.
+    pub(crate) fn ready_spot(&self, slot: usize) -> Option<Spot>
+        ensures has { IfSome result (IsSpotOf self.now.stage.run.cactus slot) }
+        ensures none { IsTree self.now.stage.run.cactus → IfNone result (IsNotReady self.now.stage.run.cactus slot) }
+    {
+        let top = self.stage.run.cactus.node(slot)?;
+        if !top.frame.is_ready() {
+            return None;
+        }
+        let lowest = self.stage.run.lowest_below(slot)?;
+        let node = self.stage.run.cactus.node(lowest)?;
+        Some(Spot {
+            slot: lowest,
+            generation: node.generation,
+        })
+    }
+
+    /// The slot of the frame that made the slot's.
+    fn maker(&self, slot: Option<usize>) -> Option<usize>
+        ensures { result ≡ maker_of self.now.stage.run.cactus slot }
+    {
+        self.stage.run.cactus.node(slot?)?.parent
+    }
+
+    /// Adds the task of which the slot's frame is the top, if it is ready.
+    fn note(&self, slot: Option<usize>, spots: &mut Vec<Spot>)
+        requires room { vec_len spots.old < vec_capacity spots.old }
+        ensures notes { IsTree self.now.stage.run.cactus → Notes self.now.stage.run.cactus slot spots.old.items spots.new.items }
+        ensures one { vec_len spots.new ≤ vec_len spots.old + 1 }
+        ensures as_large { vec_capacity spots.new ≡ vec_capacity spots.old }
+    {
+        let Some(top) = slot else {
+            return;
+        };
+        let Some(spot) = self.ready_spot(top) else {
+            return;
+        };
+        spots.push_reserved(spot);
+    }
+
+    /// The ready tasks whose tops are among so many frames below the one that the worker runs next, the outermost first; it takes no memory.
+    /// After a pile's steps these are the tasks that its detaches left, where it had so many frames below its top.
+    pub fn ready_below(&self, worker: u8, levels: usize, spots: &mut Vec<Spot>)
+        requires empty { spots.old.items ≡ [] }
+        requires room { levels ≤ vec_capacity spots.old }
+        ensures { (m : running.Machine) → IsState self.now.stage m → AreReadyBelow self.now.stage m worker levels (reverse spots.new.items) }
+    {
+        let mut slot = self.stage.run.hand(worker);
+        for _level in 0..levels {
+            slot = self.maker(slot);
+            self.note(slot, spots);
+        }
+        spots.reverse();
+    }
+}
