@@ -3,8 +3,10 @@
 #![tactic(auto)]
 
 mod alone;
+mod demand;
 mod figures;
 mod gate;
+mod pace;
 mod recorded;
 mod rounds;
 mod threads;

@@ -1,16 +1,17 @@
 //! The loop of a worker on its thread.
 
+use crate::demand::Demand;
 use crate::gate::{Gate, Go};
-use crate::turns::{commit, go};
+use crate::turns::{Posted, Turn, go, load, post};
 use crate::workers::{Left, Worker};
-use shared_run::{Bench, Claimed, Committed, Fetched, Shared, steps_of};
+use shared_run::{Bench, Claimed, Loaded, Shared};
 use std::sync::Wait;
 use std::sync::atomic::{AtomicBool, Ordering};
 use std::thread;
 use std::time::{Clock, Duration};
 
 /// How many searches in vain a worker makes with no more than a yield between them.
-const YIELDS: u32 = 16;
+const YIELDS: u32 = 64;
 
 /// The shortest sleep between two searches, in microseconds; each further one is twice as long, up to `DOUBLINGS` times.
 const SHORTEST_SLEEP: u64 = 64;
@@ -31,11 +32,12 @@ pub(crate) fn work<L: Bench, G: Gate, R: Wait + Clock>(
     rt: &R,
     shared: &Shared<'_, L>,
     over: &AtomicBool,
+    demand: &Demand,
     gate: &G,
     worker: &mut Worker<'_, L>,
 ) {
     let me = worker.seat.worker();
-    let mut next = begin(rt, shared, worker);
+    let mut next = begin(rt, shared, demand, worker);
     let mut rests: u32 = 0;
     for _ in rt.forever() {
         if over.load(Ordering::SeqCst) {
@@ -45,11 +47,11 @@ pub(crate) fn work<L: Bench, G: Gate, R: Wait + Clock>(
             Next::Strand => {
                 rests = 0;
                 next = match gate.pass(me, worker.figures.count_strand()) {
-                    Go::On => do_strand(rt, shared, worker),
+                    Go::On => do_strand(rt, shared, demand, worker),
                     Go::Stop => Next::Leave(Left::Stopped),
                 };
             }
-            Next::Search => next = search(rt, shared, worker),
+            Next::Search => next = search(rt, shared, worker, rests),
             Next::Rest => {
                 rest(rt, rests);
                 rests = rests.saturating_add(1);
@@ -64,40 +66,45 @@ pub(crate) fn work<L: Bench, G: Gate, R: Wait + Clock>(
 }
 
 /// Worker 0 begins with `root`, and the others have no task.
-fn begin<L: Bench, R: Wait>(rt: &R, shared: &Shared<'_, L>, worker: &Worker<'_, L>) -> Next {
+fn begin<L: Bench, R: Wait>(
+    rt: &R,
+    shared: &Shared<'_, L>,
+    demand: &Demand,
+    worker: &Worker<'_, L>,
+) -> Next {
     let board = shared.board.lock(rt);
     match board.machine().depth_of(worker.seat.worker()) {
-        Some(_) => Next::Strand,
+        Some(_) => {
+            demand.fall(1);
+            Next::Strand
+        }
         None => Next::Search,
     }
 }
 
-/// One strand of the worker's task; a task that it leaves ready is offered.
+/// One strand of the worker's task; tasks that it leaves ready are offered.
 fn do_strand<L: Bench, R: Wait>(
     rt: &R,
     shared: &Shared<'_, L>,
+    demand: &Demand,
     worker: &mut Worker<'_, L>,
 ) -> Next {
-    match go(rt, shared, worker) {
-        Fetched::Idle => return Next::Search,
-        // It has no room for the frame's path: all begin again, with strands of their own.
-        Fetched::Stranger => return Next::Leave(Left::Over),
-        Fetched::Frame | Fetched::Cell => {}
+    match load(rt, shared, worker) {
+        Loaded::Frame => {}
+        Loaded::Idle => return Next::Search,
+        Loaded::OutOfMemory => return Next::Leave(Left::Starved),
     }
-    match commit(rt, shared, worker) {
-        Committed::After { ready, idle, ended } => {
-            worker.figures.count_publication(steps_of(&worker.strand));
-            if let Some(ticket) = ready {
-                // A task whose ticket is refused is still found at the board.
-                let _ = worker.hands.offer(ticket);
-            }
-            after(idle, ended)
-        }
-        Committed::Stranger => {
+    let turn = go(rt, shared, demand, worker);
+    if turn == Turn::Starved {
+        return Next::Leave(Left::Starved);
+    }
+    match post(rt, shared, demand, worker, turn) {
+        Posted::After { idle, ended } => after(idle, ended),
+        Posted::Stranger => {
             worker.figures.count_stranger();
             Next::Strand
         }
-        Committed::OutOfMemory => Next::Leave(Left::Starved),
+        Posted::Starved => Next::Leave(Left::Starved),
     }
 }
 
@@ -112,10 +119,18 @@ fn after(idle: bool, ended: bool) -> Next {
     }
 }
 
-/// Claims a task by a ticket, or, where there is none, the first that is ready.
-fn search<L: Bench, R: Wait>(rt: &R, shared: &Shared<'_, L>, worker: &mut Worker<'_, L>) -> Next {
+/// Claims a task by a ticket; where there is none, the first that is ready at the board, at which a worker looks no more while it only yields.
+fn search<L: Bench, R: Wait>(
+    rt: &R,
+    shared: &Shared<'_, L>,
+    worker: &mut Worker<'_, L>,
+    rests: u32,
+) -> Next {
     worker.figures.count_search();
     let ticket = worker.next_ticket();
+    if ticket.is_none() && 0 < rests && rests < YIELDS {
+        return Next::Rest;
+    }
     let mut board = shared.board.lock(rt);
     let claimed = match ticket {
         Some(ticket) => board.claim(&mut worker.seat, ticket),
