@@ -48,18 +48,18 @@ static uint64_t drawn(uint64_t *state) {
 }
 
 static void run_rows(struct tapirvm_handle *kernel, const struct job *job, size_t cells, uint64_t state) {
-    int64_t *arguments = room(job->arguments, sizeof *arguments), *row = room(cells, sizeof *row);
+    int64_t *arguments = room(row_count * job->arguments, sizeof *arguments), *row = room(row_count * cells, sizeof *row);
+    struct tapirvm_outcome *outcomes = room(row_count, sizeof *outcomes);
+    for (size_t k = 0; k < row_count * job->arguments; k++)
+        arguments[k] = job->least + (int64_t)(drawn(&state) % (uint64_t)(job->most - job->least + 1));
+    for (size_t k = 0; k < row_count * cells; k++) row[k] = (int64_t)(k * 7 % 16);
+    tapirvm_rows(kernel, MOST_INSTRUCTIONS, job->arguments, arguments, row_count * job->arguments, cells, row, row_count * cells, outcomes, row_count);
     for (size_t k = 0; k < row_count; k++) {
-        for (size_t n = 0; n < job->arguments; n++)
-            arguments[n] = job->least + (int64_t)(drawn(&state) % (uint64_t)(job->most - job->least + 1));
-        for (size_t n = 0; n < cells; n++) row[n] = (int64_t)((k + 7 * n) % 16);
-        struct tapirvm_outcome outcome = {0};
-        tapirvm_run(kernel, MOST_INSTRUCTIONS, arguments, job->arguments, row, cells, &outcome);
-        if (outcome.status == TAPIRVM_DONE) {
+        if (outcomes[k].status == TAPIRVM_DONE) {
             totals.done++;
-            totals.instructions += outcome.instructions;
-            totals.digest += (uint64_t)outcome.result * (k + 1);
-        } else if (outcome.status == TAPIRVM_BAD_ARGUMENTS) {
+            totals.instructions += outcomes[k].instructions;
+            totals.digest += (uint64_t)outcomes[k].result * (k + 1);
+        } else if (outcomes[k].status == TAPIRVM_BAD_ARGUMENTS) {
             totals.unmet++;
         } else {
             totals.failed++;
@@ -67,6 +67,7 @@ static void run_rows(struct tapirvm_handle *kernel, const struct job *job, size_
     }
     free(arguments);
     free(row);
+    free(outcomes);
 }
 
 static void do_job(size_t number, uint8_t *text) {

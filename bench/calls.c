@@ -6,6 +6,7 @@
 #include <inttypes.h>
 #include <stdio.h>
 #include <stdlib.h>
+#include <string.h>
 
 #define EFFORT UINT64_C(1000000000)
 
@@ -107,6 +108,64 @@ static void run(void) {
     tapirvm_close(&handle);
 }
 
+/* six rows of pair.ll: the fifth has too few cells, the sixth no arguments and no cells */
+static void rows(void) {
+    struct tapirvm_handle handle = open_text("pair.ll");
+    struct tapirvm_outcome outcomes[6] = {{0}};
+    int64_t arguments[5] = {1, 2, 3, 4, 5}, cells[9] = {0};
+    cells[8] = 9;
+    tapirvm_rows(&handle, 14, 1, arguments, 5, 2, cells, 9, outcomes, 6);
+    for (int row = 0; row < 4; row++) {
+        want("row", outcomes[row].status, TAPIRVM_DONE);
+        want("its result", outcomes[row].result, 2 * (row + 1));
+        want("its cells", cells[2 * row] == row + 1 && cells[2 * row + 1] == row + 1, 1);
+    }
+    want("row with one cell", outcomes[4].status, TAPIRVM_OTHER_CELLS);
+    want("its cell", cells[8], 9);
+    want("row with nothing", outcomes[5].status, TAPIRVM_OTHER_CELLS);
+    tapirvm_rows(&handle, 13, 1, arguments, 5, 2, cells, 9, outcomes, 6);
+    want("row without fuel", outcomes[3].status, TAPIRVM_OUT_OF_FUEL);
+    tapirvm_rows(&handle, 14, SIZE_MAX, arguments, 5, SIZE_MAX, cells, 9, outcomes, 2);
+    want("one large row", outcomes[0].status, TAPIRVM_OTHER_CELLS);
+    tapirvm_rows(&handle, 14, 0, arguments, 5, 2, cells, 8, outcomes, 1);
+    want("row without arguments", outcomes[0].status, TAPIRVM_BAD_ARGUMENTS);
+    tapirvm_close(&handle);
+    tapirvm_rows(&handle, 14, 1, arguments, 5, 2, cells, 9, outcomes, 6);
+    want("row of what is closed", outcomes[5].status, TAPIRVM_CLOSED);
+}
+
+static uint32_t replay(struct tapirvm_handle *handle, size_t workers, const char *schedule, struct tapirvm_outcome *outcome, int64_t cells[2]) {
+    int64_t argument = 7;
+    cells[0] = cells[1] = 0;
+    tapirvm_replay(handle, &argument, 1, cells, 2, workers, (const uint8_t *)schedule, strlen(schedule), outcome);
+    return outcome->status;
+}
+
+static void replays(void) {
+    struct tapirvm_handle handle = open_text("pair.ll");
+    struct tapirvm_outcome outcome = {0};
+    int64_t cells[2];
+    want("replay", replay(&handle, 1, "step 0 14\n", &outcome, cells), TAPIRVM_DONE);
+    want("result", outcome.result, 14);
+    want("instructions", (int64_t)outcome.instructions, 14);
+    want("cells", cells[0] == 7 && cells[1] == 7, 1);
+    want("replay with a steal", replay(&handle, 2, "step 0 2\nsteal 1 root\nstep 1 3\nstep 0 20\n", &outcome, cells), TAPIRVM_DONE);
+    want("result", outcome.result, 14);
+    want("instructions", (int64_t)outcome.instructions, 14);
+    want("too short", replay(&handle, 1, "step 0 13\n", &outcome, cells), TAPIRVM_NOT_ENDED);
+    want("instructions", (int64_t)outcome.instructions, 13);
+    want("cells are kept", cells[0] == 0 && cells[1] == 0, 1);
+    want("no events", replay(&handle, 64, "", &outcome, cells), TAPIRVM_NOT_ENDED);
+    want("no workers", replay(&handle, 0, "", &outcome, cells), TAPIRVM_BAD_WORKERS);
+    want("65 workers", replay(&handle, 65, "", &outcome, cells), TAPIRVM_BAD_WORKERS);
+    want("no line feed", replay(&handle, 1, "step 0 13\nstep 1 1", &outcome, cells), TAPIRVM_BAD_SCHEDULE);
+    want("its line", outcome.line, 2);
+    want("many events", replay(&handle, 1, "step 0 1048577\n", &outcome, cells), TAPIRVM_LONG_SCHEDULE);
+    want("its line", outcome.line, 1);
+    tapirvm_close(&handle);
+    want("replay what is closed", replay(&handle, 1, "step 0 14\n", &outcome, cells), TAPIRVM_CLOSED);
+}
+
 static void share(void) {
     struct tapirvm_handle one = open_text("pair.ll"), two = open_text("add-one.ll");
     struct tapirvm_outcome outcome = {0};
@@ -120,13 +179,41 @@ static void share(void) {
     want("nothing is held", two.live, 0);
 }
 
+static void words(void) {
+    static uint8_t out[1 << 16];
+    size_t needed = 1;
+    want("rule", tapirvm_rule(204, out, sizeof out, &needed), TAPIRVM_DONE);
+    want("it begins with its number", memcmp(out, "204: ", 5), 0);
+    want("and ends with a line feed", out[needed - 1], '\n');
+    size_t all = needed;
+    memset(out, 'x', 16);
+    want("rule in ten bytes", tapirvm_rule(204, out, 10, &needed), TAPIRVM_DONE);
+    want("needed", needed == all, 1);
+    want("no more are written", memcmp(out, "204: ", 5) == 0 && out[10] == 'x', 1);
+    want("no rule", tapirvm_rule(999, out, sizeof out, &needed), TAPIRVM_NO_RULE);
+    want("no words", (int64_t)needed, 0);
+    struct text text = read_text("alias.ll");
+    want("explain", tapirvm_explain(text.bytes, text.length, 1, 2, EFFORT, out, sizeof out, &needed), TAPIRVM_REFUSED);
+    want("it begins with the verdict", memcmp(out, "refused 204 line 17\n", 20), 0);
+    text = read_text("pair.ll");
+    want("explain pair.ll", tapirvm_explain(text.bytes, text.length, 1, 2, EFFORT, out, sizeof out, &needed), TAPIRVM_DONE);
+    want("it is accepted", memcmp(out, "accepted\n", 9), 0);
+    want("explain without effort", tapirvm_explain(text.bytes, text.length, 1, 2, 0, out, sizeof out, &needed), TAPIRVM_OUT_OF_EFFORT);
+    want("its words", needed == 10 && memcmp(out, "undecided\n", 10) == 0, 1);
+    want("explain in no room", tapirvm_explain(text.bytes, text.length, 1, 2, 0, out, 0, &needed), TAPIRVM_OUT_OF_EFFORT);
+    want("needed", (int64_t)needed, 10);
+}
+
 int main(int count, char **given) {
     if (count != 2) return 2;
     examples = given[1];
     want("version", tapirvm_abi(), TAPIRVM_VERSION);
     judge();
     run();
+    rows();
+    replays();
     share();
+    words();
     printf("%d answers of the calls in C, %d differences\n", asked, wrong);
     return wrong != 0;
 }

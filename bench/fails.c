@@ -88,10 +88,38 @@ static uint32_t try_run(void) {
     return outcome.status;
 }
 
+static uint32_t try_rows(void) {
+    struct tapirvm_outcome outcome = {0};
+    tapirvm_rows(&kept, TAPIRVM_UNBOUNDED, argument_count, arguments, argument_count, cell_count, cells, cell_count, &outcome, 1);
+    return outcome.status;
+}
+
+static uint32_t try_replay(void) {
+    static const char schedule[] = "step 0 3\nsteal 1 root\nstep 0 1000\n";
+    struct tapirvm_outcome outcome = {0};
+    tapirvm_replay(&kept, arguments, argument_count, cells, cell_count, 2, (const uint8_t *)schedule, sizeof schedule - 1, &outcome);
+    return outcome.status == TAPIRVM_NOT_ENDED ? TAPIRVM_DONE : outcome.status;
+}
+
+static uint32_t try_explain(void) {
+    static uint8_t out[1 << 12];
+    size_t needed = 0;
+    uint32_t status = tapirvm_explain(text, length, 1, 2, EFFORT, out, sizeof out, &needed);
+    return (needed > 0) == (status == TAPIRVM_DONE) ? status : UINT32_MAX;
+}
+
+static uint32_t try_rule(void) {
+    static uint8_t out[1 << 12];
+    size_t needed = 0;
+    uint32_t status = tapirvm_rule(204, out, sizeof out, &needed);
+    return (needed > 0) == (status == TAPIRVM_DONE) ? status : UINT32_MAX;
+}
+
 static const struct {
     const char *name;
     uint32_t (*ask)(void);
-} calls[] = {{"verify", try_verify}, {"open", try_open}, {"share", try_share}, {"serial", try_serial}, {"run", try_run}};
+} calls[] = {{"verify", try_verify}, {"open", try_open},     {"share", try_share},     {"serial", try_serial}, {"run", try_run},
+             {"rows", try_rows},     {"replay", try_replay}, {"explain", try_explain}, {"rule", try_rule}};
 
 /* how many requests are refused in turn until none is left to refuse; counts what is wrong */
 static long sweep(const char *name, uint32_t (*ask)(void), int *wrong) {

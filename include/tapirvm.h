@@ -1,13 +1,14 @@
 /* The verifier and the serial machine for hosts in C, in the library that `rt lib` makes of crates/kernel_c.
  *
- * A host judges the text of a module within some effort, keeps the module in a handle, and runs its serial elision within some fuel as often as it
- * likes. Beside that stand two calls that judge a text anew and keep nothing. Calls with structs of their own may be made from several threads at once.
+ * A host judges the text of a module within some effort, keeps the module in a handle, and runs it as often as it likes: serially within some
+ * fuel, row by row over many rows of arguments and cells, or by a schedule. Beside that stand two calls that judge a text anew and keep nothing,
+ * and two that give reasons in words. Calls with structs of their own may be made from several threads at once.
  *
  * The proofs of the library take for granted, and no compiler checks, that the caller keeps these:
  * - No pointer is null, also where its length is 0, and each is aligned for its type.
  * - At least as many elements as the length says stand there and have been given values, and so has each struct.
- * - During a call nobody else reads or writes the handle, the cells, the verdict and the outcome, and nobody writes
- *   the text and the arguments. What is written overlaps nothing else of the call.
+ * - During a call nobody else reads or writes the handle, the cells, the verdict, the outcome and the bytes of a text that is written, and nobody
+ *   writes the text, the arguments and the schedule. What is written overlaps nothing else of the call.
  * - A handle is all zeroes (TAPIRVM_NOTHING), or as a call left it. The host writes nothing into it, and never uses two copies of one: it is moved
  *   only where the old place is not used again. It is for one call at a time, in any thread, where a lock, a start or a join of a thread orders the
  *   calls. What a handle holds is lost where it is overwritten by other means than a call.
@@ -27,7 +28,7 @@ extern "C" {
 #endif
 
 /* The version of this header. The library's is what tapirvm_abi answers: a host of a shared library goes on only where both are equal. */
-#define TAPIRVM_VERSION 1
+#define TAPIRVM_VERSION 2
 
 uint32_t tapirvm_abi(void);
 
@@ -35,14 +36,19 @@ uint32_t tapirvm_abi(void);
 #define TAPIRVM_UNBOUNDED UINT64_MAX
 
 enum tapirvm_status {
-    TAPIRVM_DONE = 0,            /* the module is accepted; the run has ended */
-    TAPIRVM_REFUSED = 1,         /* the module breaks a rule */
-    TAPIRVM_OTHER_CELLS = 2,     /* there are not as many cells as the globals have */
-    TAPIRVM_OUT_OF_EFFORT = 3,   /* there is no verdict within the effort; nothing is said of the module */
-    TAPIRVM_CLOSED = 4,          /* the handle holds nothing */
-    TAPIRVM_OUT_OF_FUEL = 5,     /* the run does more instructions than the fuel allows */
-    TAPIRVM_BAD_ARGUMENTS = 801, /* the arguments are not those of @main */
-    TAPIRVM_OUT_OF_MEMORY = 803  /* malloc or realloc gave none; nothing is said of the module */
+    TAPIRVM_DONE = 0,             /* the module is accepted; the run has ended; the words are there */
+    TAPIRVM_REFUSED = 1,          /* the module breaks a rule */
+    TAPIRVM_OTHER_CELLS = 2,      /* there are not as many cells as the globals have */
+    TAPIRVM_OUT_OF_EFFORT = 3,    /* there is no verdict within the effort; nothing is said of the module */
+    TAPIRVM_CLOSED = 4,           /* the handle holds nothing */
+    TAPIRVM_OUT_OF_FUEL = 5,      /* the run does more instructions than the fuel allows */
+    TAPIRVM_NOT_ENDED = 6,        /* the schedule is over, and the run is not */
+    TAPIRVM_NO_RULE = 7,          /* no rule has this number */
+    TAPIRVM_BAD_ARGUMENTS = 801,  /* the arguments are not those of @main */
+    TAPIRVM_BAD_WORKERS = 802,    /* there are not from 1 to 64 workers */
+    TAPIRVM_OUT_OF_MEMORY = 803,  /* malloc or realloc gave none; nothing is said of the module */
+    TAPIRVM_BAD_SCHEDULE = 901,   /* a line of the schedule is none */
+    TAPIRVM_LONG_SCHEDULE = 902   /* with a line the schedule has over 1,048,576 bytes or events */
 };
 
 struct tapirvm_verdict {
@@ -57,7 +63,7 @@ struct tapirvm_verdict {
 struct tapirvm_outcome {
     uint32_t status;       /* each call names its statuses */
     uint16_t rule;         /* where the module is refused: the rule, and the line that breaks it, from 1 */
-    uint32_t line;
+    uint32_t line;         /* where the schedule is bad: its first bad line, from 1 */
     uint64_t requirement;  /* where the arguments are bad: 0 for their number, else the first `requires` of @main that they do not meet, from 1 */
     int64_t result;        /* where the run has ended: what @main returned, */
     uint64_t instructions; /* the instructions that were done, */
@@ -89,6 +95,18 @@ void tapirvm_open(const uint8_t *text, size_t length, uint64_t seed_low, uint64_
 void tapirvm_run(struct tapirvm_handle *handle, uint64_t fuel, const int64_t *arguments, size_t argument_count, int64_t *cells, size_t cell_count,
                  struct tapirvm_outcome *outcome);
 
+/* Runs it once for each outcome, as tapirvm_run does, over rows: the first run has the first arguments_each of the arguments and the first
+ * cells_each of the cells, the next run those that follow, and so on, and each has the fuel for itself. A row for which too few are left is
+ * shorter, so its status is TAPIRVM_BAD_ARGUMENTS or _OTHER_CELLS. What no row has stays as it is. */
+void tapirvm_rows(struct tapirvm_handle *handle, uint64_t fuel, size_t arguments_each, const int64_t *arguments, size_t argument_count,
+                  size_t cells_each, int64_t *cells, size_t cell_count, struct tapirvm_outcome *outcomes, size_t outcome_count);
+
+/* Runs it on so many workers of the model by a schedule: bytes, of which each line, ended by a line feed, is `step W N` or `steal W PATH`.
+ * TAPIRVM_DONE, where the run has ended: then the answer is that of the serial run. TAPIRVM_NOT_ENDED with the instructions so far.
+ * _OTHER_CELLS, _CLOSED, _BAD_ARGUMENTS, _BAD_WORKERS, _OUT_OF_MEMORY; _BAD_SCHEDULE or _LONG_SCHEDULE with the line. */
+void tapirvm_replay(struct tapirvm_handle *handle, const int64_t *arguments, size_t argument_count, int64_t *cells, size_t cell_count,
+                    size_t workers, const uint8_t *schedule, size_t schedule_length, struct tapirvm_outcome *outcome);
+
 /* Keeps in the other handle what this one keeps, so that both may run it at the same time, in two threads. What the other one held is given back.
  * TAPIRVM_DONE, or the other one holds nothing: _CLOSED where this one does, _OUT_OF_MEMORY. */
 uint32_t tapirvm_share(struct tapirvm_handle *handle, struct tapirvm_handle *other);
@@ -104,6 +122,19 @@ void tapirvm_verify(const uint8_t *text, size_t length, uint64_t seed_low, uint6
 /* Judges a module and runs its serial elision. The statuses of tapirvm_run but _CLOSED, and TAPIRVM_REFUSED and _OUT_OF_EFFORT. */
 void tapirvm_serial(const uint8_t *text, size_t length, uint64_t seed_low, uint64_t seed_high, uint64_t effort, uint64_t fuel,
                     const int64_t *arguments, size_t argument_count, int64_t *cells, size_t cell_count, struct tapirvm_outcome *outcome);
+
+/* ---- Reasons in words
+ *
+ * As many bytes are written as there is room for, without a 0 at the end, and `needed` says how many there are. Where the status brings no words it
+ * is 0, and nothing is written. The words are UTF-8, in lines that end with a line feed. */
+
+/* A rule with an example and how to mend it. TAPIRVM_DONE with words; _NO_RULE or _OUT_OF_MEMORY without. */
+uint32_t tapirvm_rule(uint16_t number, uint8_t *out, size_t room, size_t *needed);
+
+/* Why a module is refused, or what it could do without, as far as the effort reaches: what `tapirvm explain` prints. TAPIRVM_DONE where it is
+ * accepted, TAPIRVM_REFUSED or _OUT_OF_EFFORT, with words; _OUT_OF_MEMORY without. */
+uint32_t tapirvm_explain(const uint8_t *text, size_t length, uint64_t seed_low, uint64_t seed_high, uint64_t effort, uint8_t *out, size_t room,
+                         size_t *needed);
 
 #ifdef __cplusplus
 }

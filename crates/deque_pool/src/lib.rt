@@ -6,6 +6,7 @@ mod alone;
 mod demand;
 mod figures;
 mod gate;
+mod outlook;
 mod pace;
 mod recorded;
 mod rounds;

@@ -1,5 +1,5 @@
-//! The rounds of a run on threads. Mostly there is one: its workers leave when the run has ended. Where they left and it has not, though none of
-//! them was refused memory or stopped, they are set to work again.
+//! The rounds of a run on threads. There is one: its workers leave when the run has ended. No contract tells what stands behind a lock, so where they
+//! left and it has not ended, though none of them was refused memory or stopped, they are set to work again.
 ghost use Rattle.std.specs.Prelude.{◌≡◌, ◌<◌, ℕ, None, Some, Err, vec_len, IfOk, OnOk};
 ghost use Rattle.shared_run.specs.crew.Starts.{ArePlaces};
 ghost use Rattle.shared_run.specs.outcome.Requirements.{unmet_in};
@@ -12,9 +12,10 @@ ghost use Rattle.shared_run.specs.Story.{origin};
 use crate::demand::Demand;
 use crate::figures::Figures;
 use crate::gate::Gate;
+use crate::outlook::{Left, Outlook, what_next};
 use crate::recorded::Recorded;
 use crate::work::work;
-use crate::workers::{Left, Worker, crew_of, disband};
+use crate::workers::{Worker, crew_of, disband};
 use crossbeam_utils::CachePadded;
 use lists::OutOfMemory;
 use shared_run::{Bench, Memory, Places, RunFault, Seat, Shared, Verified, places_of};
@@ -69,7 +70,7 @@ pub(crate) fn run_by<L: Bench + Send + Sync, G: Gate + Sync, R: Threads + Wait +
         let Ok((back, left)) = round else {
             return Err(RunFault::OutOfMemory);
         };
-        match (shared.finish(back), left) {
+        match (shared.finish(back), what_next(left.as_slice())) {
             (Ok((finished, history)), _) => {
                 return Ok(Recorded {
                     finished,
@@ -77,9 +78,9 @@ pub(crate) fn run_by<L: Bench + Send + Sync, G: Gate + Sync, R: Threads + Wait +
                     figures,
                 });
             }
-            (Err(_), Left::Starved) => return Err(RunFault::OutOfMemory),
-            (Err(_), Left::Stopped) => return Err(RunFault::Stopped),
-            (Err((board, all)), Left::Over) => {
+            (Err(_), Outlook::OutOfMemory) => return Err(RunFault::OutOfMemory),
+            (Err(_), Outlook::Stopped) => return Err(RunFault::Stopped),
+            (Err((board, all)), Outlook::Again) => {
                 shared = board;
                 seats = all;
             }
@@ -93,7 +94,7 @@ fn no_figures(alloc: Global, workers: usize) -> Result<Vec<Figures>, OutOfMemory
     Ok(vec![in alloc; Figures::none(); workers]?)
 }
 
-/// Lets all workers work until they leave: their seats, and why they left.
+/// Lets all workers work until they leave: their seats, and why each of them left.
 fn round<L: Bench + Send + Sync, G: Gate + Sync, R: Threads + Wait + Clock + Sync>(
     rt: &R,
     alloc: Global,
@@ -103,15 +104,17 @@ fn round<L: Bench + Send + Sync, G: Gate + Sync, R: Threads + Wait + Clock + Syn
     seats: Vec<Seat<L>>,
     figures: &mut [Figures],
     gate: &G,
-) -> Result<(Vec<Seat<L>>, Left), OutOfMemory>
+) -> Result<(Vec<Seat<L>>, Vec<Left>), OutOfMemory>
     requires code { verified.now ≡ L.code }
     requires places { ArePlaces verified.now places.now }
-    ensures { IfOk result (λ back. vec_len back.0 ≡ vec_len seats) }
+    ensures seats { IfOk result (λ back. vec_len back.0 ≡ vec_len seats) }
+    ensures left { IfOk result (λ back. vec_len back.1 ≡ vec_len seats) }
 {
     let room = Vec::with_capacity(alloc, seats.len())?;
+    let left = Vec::with_capacity(alloc, seats.len())?;
     let crew = crew_of(alloc, seats, figures, verified, places)?;
     work_together(rt, shared, gate, crew.as_slice());
-    Ok(disband(crew, room, figures))
+    Ok(disband(crew, room, left, figures))
 }
 
 /// The last worker works on the calling thread, each other one on a thread of its own. One whose thread cannot be started takes no part.

@@ -1,9 +1,11 @@
 //! The loop of a worker on its thread.
+ghost use Rattle.std.specs.Prelude.{◌≡◌, ◌↔◌};
 
 use crate::demand::Demand;
 use crate::gate::{Gate, Go};
+use crate::outlook::Left;
 use crate::turns::{Posted, Turn, go, load, post};
-use crate::workers::{Left, Worker};
+use crate::workers::Worker;
 use shared_run::{Bench, Claimed, Loaded, Shared};
 use std::sync::Wait;
 use std::sync::atomic::{AtomicBool, Ordering};
@@ -98,24 +100,22 @@ fn do_strand<L: Bench, R: Wait>(
     if turn == Turn::Starved {
         return Next::Leave(Left::Starved);
     }
-    match post(rt, shared, demand, worker, turn) {
-        Posted::After { idle, ended } => after(idle, ended),
-        Posted::Stranger => {
-            worker.figures.count_stranger();
-            Next::Strand
-        }
-        Posted::Starved => Next::Leave(Left::Starved),
+    let posted = post(rt, shared, demand, worker, turn);
+    if let Posted::Stranger = posted {
+        worker.figures.count_stranger();
     }
+    after(posted)
 }
 
-/// What comes after a strand that was put on the board.
-fn after(idle: bool, ended: bool) -> Next {
-    if ended {
-        Next::Leave(Left::Over)
-    } else if idle {
-        Next::Search
-    } else {
-        Next::Strand
+/// What comes after a strand that was to be put on the board.
+fn after(posted: Posted) -> Next
+    ensures { (result ≡ Next.Leave Left.Starved) ↔ (posted ≡ Posted.Starved) }
+{
+    match posted {
+        Posted::After { ended: true, .. } => Next::Leave(Left::Over),
+        Posted::After { idle: true, .. } => Next::Search,
+        Posted::After { .. } | Posted::Stranger => Next::Strand,
+        Posted::Starved => Next::Leave(Left::Starved),
     }
 }
 
@@ -137,12 +137,19 @@ fn search<L: Bench, R: Wait>(
         None => board.claim_first(&mut worker.seat),
     };
     drop(board);
+    if let Claimed::Taken = claimed {
+        worker.figures.count_steal();
+    }
+    after_claim(claimed, ticket.is_some())
+}
+
+/// What comes after a claim, of a ticket's task or of the first that is ready.
+fn after_claim(claimed: Claimed, by_ticket: bool) -> Next
+    ensures { (result ≡ Next.Leave Left.Starved) ↔ (claimed ≡ Claimed.OutOfMemory) }
+{
     match claimed {
-        Claimed::Taken => {
-            worker.figures.count_steal();
-            Next::Strand
-        }
-        Claimed::Gone if ticket.is_some() => Next::Search,
+        Claimed::Taken => Next::Strand,
+        Claimed::Gone if by_ticket => Next::Search,
         Claimed::Gone => Next::Rest,
         Claimed::OutOfMemory => Next::Leave(Left::Starved),
     }

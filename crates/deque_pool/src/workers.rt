@@ -3,34 +3,13 @@ ghost use Rattle.std.specs.Prelude.{◌≡◌, vec_len, vec_capacity, ◌≤◌,
 ghost use Rattle.shared_run.specs.crew.Starts.{ArePlaces};
 
 use crate::figures::Figures;
+use crate::outlook::Left;
 use crate::pace::Pace;
 use lists::OutOfMemory;
 use shared_run::{Bench, Places, PrivateStack, Seat, Ticket, Verified};
 use std::alloc::Global;
 use std::sync::Mutex;
 use ticket_lists::{Hands, Taken, Thief};
-
-/// Why a worker left its work.
-#[derive(Clone, Copy)]
-pub(crate) enum Left {
-    /// It was refused memory.
-    Starved,
-    /// The gate stopped the run.
-    Stopped,
-    /// All was done, or another left first.
-    Over,
-}
-
-impl Left {
-    /// Why two workers left.
-    fn and(self, other: Left) -> Left {
-        match (self, other) {
-            (Left::Starved, _) | (_, Left::Starved) => Left::Starved,
-            (Left::Stopped, _) | (_, Left::Stopped) => Left::Stopped,
-            (Left::Over, Left::Over) => Left::Over,
-        }
-    }
-}
 
 /// A worker: its seat, its stack, its list of tickets, and its ends of the others' lists, from the next worker on; what it has done, and why it left.
 #[derive(Drop)]
@@ -157,19 +136,21 @@ fn thieves_from(
     Ok(thieves)
 }
 
-/// The seats of all workers, in `room`, which is empty, and why they left; what they have done by now goes into `figures`.
+/// The seats of all workers, in `room`, and why each of them left, in `left`, which are empty; what they have done by now goes into `figures`.
 pub(crate) fn disband<L: Bench>(
     mut crew: Vec<Mutex<Worker<'_, L>>>,
     mut room: Vec<Seat<L>>,
+    mut left: Vec<Left>,
     figures: &mut [Figures],
-) -> (Vec<Seat<L>>, Left)
-    requires { (vec_len room ≡ 0) × (vec_len crew ≤ vec_capacity room) }
-    ensures { vec_len result.0 ≡ vec_len crew.entry }
+) -> (Vec<Seat<L>>, Vec<Left>)
+    requires room { (vec_len room ≡ 0) × (vec_len crew ≤ vec_capacity room) }
+    requires left { (vec_len left ≡ 0) × (vec_len crew ≤ vec_capacity left) }
+    ensures seats { vec_len result.0 ≡ vec_len crew.entry }
+    ensures left { vec_len result.1 ≡ vec_len crew.entry }
 {
-    let mut left = Left::Over;
     while let Some(worker) = crew.pop() {
         let worker = worker.into_inner();
-        left = left.and(worker.left);
+        left.push_reserved(worker.left);
         if let Some(own) = figures.get_mut(usize::from(worker.seat.worker())) {
             *own = worker.figures;
         }

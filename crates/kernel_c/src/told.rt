@@ -20,11 +20,26 @@ pub const CLOSED: u32 = 4;
 /// The run does more instructions than the fuel allows.
 pub const OUT_OF_FUEL: u32 = 5;
 
+/// The schedule is over, and the run is not.
+pub const NOT_ENDED: u32 = 6;
+
+/// No rule has this number.
+pub const NO_RULE: u32 = 7;
+
 /// The arguments are not those of `main`.
 pub const BAD_ARGUMENTS: u32 = 801;
 
+/// There are not from 1 to 64 workers.
+pub const BAD_WORKERS: u32 = 802;
+
 /// Memory was refused.
 pub const OUT_OF_MEMORY: u32 = 803;
+
+/// A line of the schedule is none.
+pub const BAD_SCHEDULE: u32 = 901;
+
+/// With a line the schedule has too many bytes or events.
+pub const LONG_SCHEDULE: u32 = 902;
 
 /// What is said of a module.
 #[repr(C)]
@@ -50,7 +65,7 @@ pub struct Outcome {
     pub status: u32,
     /// The rule that is broken, where the module is refused.
     pub rule: u16,
-    /// The line that breaks it.
+    /// The line that breaks it, or the first bad line of a schedule.
     pub line: u32,
     /// Where the arguments are not those of `main`: 0 for their number, else the first `requires` that they do not meet, from 1.
     pub requirement: u64,

@@ -34,16 +34,16 @@ module _ (stage : Stage) (m : Machine) (s : IsState stage m) where
 module _ (stage : Stage) (kept : ∥ IsMachine stage ∥₁) (worker slot : ℕ) (node : Node Activation) (hand : hand_of stage.run.hands.items worker ≡ Some slot) (stands : node_at stage.run.cactus slot ≡ Some node)
     (childless : Bool) (none : childless ≡ true → (region : ℕ) → counted_in node.frame region ≡ 0)
   where
-  pub may_load : ∥ MayBegin (program_of stage) stage.places node.path.numbers node.frame.frame childless ∥₁
-  may_load =
-      ∥∥₁_map kept (λ k.
-      let m = state_after (program_of stage) k.arguments stage.memory (workers_of stage) k.events in
-      let s = k.replays.state in
-      let g = seen (program_of stage) stage.places stage.run slot node node.frame stands m s.shown in
-      record {
-        layout = layout_of (program_of stage) stage.places stage.run.cactus m.core;
-        frame = g.frame;
-        goes = loads_here stage m s k.places (object_at stage.places stage.run.cactus) s.shown.shows.cells.apart worker (place_of node) g.frame node.frame.frame
-            (hand_is stage m s worker slot node hand stands) g.is g.shows.shown g.shows.waits childless (λ is region.
-            counted_none m.core (place_of node) region g.frame.made (sym (s.shown.agrees.counts slot region node stands ∙ count_at m.core (place_of node) g.frame region g.is) ∙ none is region));
-      })
+    pub may_load : ∥ MayBegin (program_of stage) stage.places node.path.numbers node.frame.frame childless ∥₁
+    may_load =
+        ∥∥₁_map kept (λ k.
+        let m = state_after (program_of stage) k.arguments stage.memory (workers_of stage) k.events in
+        let s = k.replays.state in
+        let g = seen (program_of stage) stage.places stage.run slot node node.frame stands m s.shown in
+        record {
+          layout = layout_of (program_of stage) stage.places stage.run.cactus m.core;
+          frame = g.frame;
+          goes = loads_here stage m s k.places (object_at stage.places stage.run.cactus) s.shown.shows.cells.apart worker (place_of node) g.frame node.frame.frame
+              (hand_is stage m s worker slot node hand stands) g.is g.shows.shown g.shows.waits childless (λ is region.
+              counted_none m.core (place_of node) region g.frame.made (sym (s.shown.agrees.counts slot region node stands ∙ count_at m.core (place_of node) g.frame region g.is) ∙ none is region));
+        })

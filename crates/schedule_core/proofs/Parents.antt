@@ -1,33 +1,28 @@
 -- The slot of a child's parent is that of the task whose top detached it.
 use Rattle.std.proofs.Common.{◌≡◌, ◌≢◌, ℕ, List, [], ◌∷◌, reverse, Option, Some, None, true, refl, sym, ap, ◌∙◌, subst}
-use Rattle.std.specs.Prelude.{IfSome, IsSomeAnd}
+use Rattle.std.specs.Prelude.{IfSome}
 use Rattle.running.specs.Paths.{Path as RunningPath}
 use Rattle.running.specs.Frames as defined
 use Rattle.running.specs.Events as running
 use Rattle.running.specs.Events.{Machine}
 use Rattle.linear.specs.declared.form.RegisterId.{RegisterId}
 use Rattle.program.specs.declared.identifier.BlockId.{BlockId}
-use Rattle.frame.specs.declared.path.Path.{Path}
 use Rattle.frame.specs.declared.frame.Role.{Role}
 use Rattle.frame.specs.declared.frame.Role.TheVariants as role
 use Rattle.frame.specs.Reading.{role_of}
 use Rattle.cactus.specs.declared.node.Node.{Node}
-use Rattle.cactus.specs.Frames.{node_at, frame_at, HasPath, Lives}
-use Rattle.cactus.proofs.FramesLemmas.{node_of_use-own}
+use Rattle.cactus.specs.Frames.{node_at}
 use Rattle.crew.specs.declared.activation.Activation.{Activation}
 use Rattle.crew.specs.declared.run.Run.{Run}
-use Rattle.crew.specs.Lowest.{IsLowestBelow}
 use Rattle.crew.specs.Scheduling.{hand_of}
-use Rattle.crew.specs.Shown.{CalleeStands, place_of}
-use Rattle.crew.specs.Tasks.{IsReady}
-use Rattle.crew.proofs.Stealing.{ready_standing, standing_is}
-use Rattle.crew.proofs.Topmost.{hand_found, holder_is}
+use Rattle.crew.specs.Shown.{place_of}
+use Rattle.crew.proofs.Topmost.{hand_found}
 use Rattle.schedule_core.specs.declared.ready.Spot.{Spot}
 use Rattle.schedule_core.specs.declared.stage.Stage.{Stage}
 use Rattle.schedule_core.specs.ReadyBelow.{IsNotReady, IsSpotOf}
 use Rattle.schedule_core.specs.Parents.{HasNoParentSlot, HasNoReadyParent, IsParentSlot, IsReadyParent}
-use Rattle.schedule_core.specs.Stages.{IsState, program_of, workers_of}
-use Rattle.schedule_core.specs.Viewed.{place_in, IsReadyAt}
+use Rattle.schedule_core.specs.Stages.{IsState, workers_of}
+use Rattle.schedule_core.specs.Viewed.{place_in}
 use Rattle.schedule_core.proofs.ReadyBelow.{ready_top, unready}
 use Rattle.schedule_core.proofs.TaskPlaces.{below_place, here_at}
 use Rattle.schedule_core.proofs.Views.{hand_is}

@@ -1,5 +1,5 @@
 -- What a pile did is so many steps of its worker, and a worker's frame that was loaded fits.
-use Rattle.std.proofs.Common.{◌≡◌, ◌∙◌, ℕ, List, [], length, Some, None, true, false, Bool, refl, sym, ap, subst, slice_get, ℤ}
+use Rattle.std.proofs.Common.{◌≡◌, ℕ, [], length, Some, true, false, Bool, refl, sym, ap, subst}
 use Rattle.std.specs.Prelude.{Result, Ok, Err, OnErr}
 use Rattle.std.proofs.Math.Logic.{∥∥₁_elim, ∥∥₁_map}
 use Rattle.std.proofs.Props.{props}
@@ -7,8 +7,6 @@ use Rattle.std.proofs.Math.Nat.{ℕ_set}
 use Rattle.std.proofs.Math.IntN.{ℤ_set}
 use mathlib.Core.Sum.{⊎_set}
 use Rattle.lists.specs.declared.memory.OutOfMemory.{OutOfMemory}
-use Rattle.running.specs.Events.{Machine}
-use Rattle.program.specs.declared.function.Program.{Program}
 use Rattle.cactus.specs.declared.node.Node.{Node}
 use Rattle.cactus.specs.Frames.{node_at}
 use Rattle.absorbing.specs.strand.Standing.{IsCopy}
@@ -22,11 +20,11 @@ use Rattle.deep_strands.specs.Law.{absorbed}
 use Rattle.deep_strand.specs.Along.{IsUnderWay}
 use Rattle.deep_strand.specs.declared.pile.Pile.{Pile}
 use Rattle.deep_absorbing.specs.Absorbing.{DoesDeep, LeavesStallsDeep, StandsDeep}
-use Rattle.deep_absorbing.specs.Fitting.{FitsDeep, HasNoChild}
+use Rattle.deep_absorbing.specs.Fitting.{HasNoChild}
 use Rattle.schedule_core.specs.declared.stage.Stage.{Stage}
-use Rattle.schedule_core.specs.Piles.{FitsStack, IsBegun}
+use Rattle.schedule_core.specs.Piles.{IsBegun}
 use Rattle.schedule_core.specs.Replaying.{IsMachine, state_after}
-use Rattle.schedule_core.specs.Stages.{IsState, program_of, workers_of}
+use Rattle.schedule_core.specs.Stages.{program_of, workers_of}
 use Rattle.schedule_core.specs.Strands.{TakesSteps}
 use Rattle.schedule_core.proofs.Bases.{loads_here, orderly_here}
 use Rattle.schedule_core.proofs.Commits.{absorbed_machine, same_places, takes_steps}

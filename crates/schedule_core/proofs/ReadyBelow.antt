@@ -1,7 +1,6 @@
 -- The ready tops that a walk over slots finds are those of the definitions.
-use Rattle.std.proofs.Common.{◌≡◌, ◌≢◌, ◌∙◌, ◌⊎◌, ◌-◌, ◌+◌, ◌<◌, ◌≤◌, ℕ, zero, suc, List, [], ◌∷◌, ◌++◌, append-nil, append_assoc, reverse, Option, Some, None, inl, inr, refl, sym, ap, subst, arith}
-use Rattle.std.specs.Prelude.{IsSomeAnd, option_and_then}
-use Rattle.std.proofs.lemmas.List.{reverse-reverse}
+use Rattle.std.proofs.Common.{◌≡◌, ◌≢◌, ◌∙◌, ◌⊎◌, ℕ, zero, suc, List, [], ◌∷◌, ◌++◌, append-nil, append_assoc, reverse, Option, Some, None, inl, inr, refl, sym, ap, subst}
+use Rattle.std.specs.Prelude.{option_and_then}
 use Rattle.std.proofs.lemmas.Option.{same_Some}
 use Rattle.running.specs.Paths.{Path as RunningPath}
 use Rattle.running.specs.Events as running

@@ -1,7 +1,5 @@
-use Rattle.std.proofs.Common.{◌≡◌, ◌∙◌, ◌-◌, ◌+◌, ◌<◌, ◌≤◌, suc, ℕ, reverse, List, Option, sym, ap, subst, arith}
+use Rattle.std.proofs.Common.{◌≡◌, ◌∙◌, ◌-◌, ◌+◌, suc, ℕ, reverse, List, Option, sym, ap, subst, arith}
 use Rattle.std.proofs.lemmas.List.{reverse-reverse}
-use Rattle.cactus.specs.Frames.{Frames}
-use Rattle.crew.specs.declared.activation.Activation.{Activation}
 use Rattle.crew.specs.Scheduling.{hand_of}
 use Rattle.schedule_core.specs.declared.ready.Spot.{Spot}
 use Rattle.schedule_core.specs.ReadyBelow.{AreReadyBelow, Notes}

@@ -1,4 +1,4 @@
-use Rattle.std.proofs.Common.{◌≡◌, ◌-◌, ◌+◌, ◌≤◌}
+use Rattle.std.proofs.Common.{◌-◌, ◌≤◌}
 use Rattle.std.specs.Prelude.{vec_capacity, vec_len}
 use Rattle.cactus.specs.ByPath.{IsTree}
 use Rattle.crew.specs.Scheduling.{hand_of}
