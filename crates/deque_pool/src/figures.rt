@@ -28,9 +28,14 @@ impl Figures {
         }
     }
 
+    /// The worker did so many instructions.
+    pub(crate) fn count_instructions(&mut self, instructions: u64) {
+        self.instructions = self.instructions.saturating_add(instructions);
+    }
+
     /// A strand of so many instructions was put on the board.
     pub(crate) fn count_publication(&mut self, instructions: u64) {
-        self.instructions = self.instructions.saturating_add(instructions);
+        self.count_instructions(instructions);
         self.publications = self.publications.saturating_add(1);
     }
 

@@ -3,9 +3,11 @@
 #![tactic(auto)]
 
 mod alone;
+mod demand;
 mod figures;
 mod gate;
 mod outlook;
+mod pace;
 mod recorded;
 mod rounds;
 mod threads;

@@ -9,6 +9,7 @@ ghost use Rattle.shared_run.specs.schedule_core.Replaying.{IsNumberOfWorkers};
 ghost use Rattle.shared_run.specs.Answer.{IsSerialAnswer, LeadTo};
 ghost use Rattle.shared_run.specs.Story.{origin};
 
+use crate::demand::Demand;
 use crate::figures::Figures;
 use crate::gate::Gate;
 use crate::outlook::{Left, Outlook, what_next};
@@ -125,12 +126,14 @@ fn work_together<'x, L: Bench + Send + Sync, G: Gate + Sync, R: Threads + Wait +
 ) {
     let word = CachePadded::new(AtomicBool::new(false));
     let over: &AtomicBool = &word;
+    let idle = CachePadded::new(Demand::of(crew.len()));
+    let demand: &Demand = &idle;
     let last = crew.len().saturating_sub(1);
     thread::scope(thread::scope_env(), rt, move |scope| {
         for number in 0..last {
-            let _ = scope.spawn(move || work_as(rt, shared, over, gate, crew, number));
+            let _ = scope.spawn(move || work_as(rt, shared, over, demand, gate, crew, number));
         }
-        work_as(rt, shared, over, gate, crew, last);
+        work_as(rt, shared, over, demand, gate, crew, last);
     });
 }
 
@@ -139,12 +142,13 @@ fn work_as<L: Bench, G: Gate, R: Wait + Clock>(
     rt: &R,
     shared: &Shared<'_, L>,
     over: &AtomicBool,
+    demand: &Demand,
     gate: &G,
     crew: &[Mutex<Worker<'_, L>>],
     number: usize,
 ) {
     if let Some(worker) = crew.get(number) {
         let mut worker = worker.lock(rt);
-        work(rt, shared, over, gate, &mut worker);
+        work(rt, shared, over, demand, gate, &mut worker);
     }
 }

@@ -1,62 +1,170 @@
-//! A strand: what a worker does outside of the board on a copy of its frame. The board is locked only to load it, to fill it and to commit it.
+//! A strand: what a worker does outside of the board on a stack of its own. The board is locked only to load it, to fetch a cell, and to publish it.
 
+use crate::demand::Demand;
 use crate::workers::Worker;
-use shared_run::{Bench, Committed, Fetched, Pause, Shared, advance, clear};
+use shared_run::{Bench, Board, Loaded, MOST_INSTRUCTIONS, Published, Shared, Standing, Stepped};
 use std::sync::Wait;
 
-/// The most cells that a strand reads.
-const MOST_CELLS: u32 = 256;
+/// A strand looks for others' demand after so many instructions at first, then each time it has done twice as many, up to the longest slice.
+const SHORTEST_SLICE: u64 = 2;
 
-/// Loads the frame that the worker runs next into its strand. The answer is whether there is one.
-fn load<L: Bench, R: Wait>(rt: &R, shared: &Shared<'_, L>, worker: &mut Worker<'_, L>) -> bool {
-    clear::<L>(&mut worker.strand);
-    let board = shared.board.lock(rt);
-    match board.fetch(&worker.seat, &mut worker.strand) {
-        Fetched::Frame => true,
-        Fetched::Idle => false,
-        // A blank strand needs no cell, and has room for each frame.
-        Fetched::Cell | Fetched::Stranger => unreachable!(),
-    }
+const LONGEST_SLICE: u64 = 1_000;
+
+/// More pauses than the slices and the cells of a strand make.
+const MOST_PAUSES: u32 = 1_000;
+
+/// Where a strand is put on the board.
+#[derive(Clone, Copy, PartialEq, Eq)]
+pub(crate) enum Turn {
+    /// Next is what only the board can do.
+    Border,
+    /// It has done all that it may, or needs what is not there.
+    Limit,
+    /// Others wait for tasks.
+    Asked,
+    /// Memory was refused.
+    Starved,
 }
 
-/// Gives the worker's strand the cell that it needs. The answer is whether that is there.
+/// What became of a strand that was to be put on the board.
+#[derive(Clone, Copy)]
+pub(crate) enum Posted {
+    /// It was done.
+    After {
+        /// Whether the worker runs no task now.
+        idle: bool,
+        /// Whether `main` has returned.
+        ended: bool,
+    },
+    /// It was done for nothing.
+    Stranger,
+    /// Memory was refused.
+    Starved,
+}
+
+/// Loads the frame that the worker runs next.
+pub(crate) fn load<L: Bench, R: Wait>(
+    rt: &R,
+    shared: &Shared<'_, L>,
+    worker: &mut Worker<'_, L>,
+) -> Loaded {
+    let board = shared.board.lock(rt);
+    board.fetch_base(&worker.seat, &mut worker.stack)
+}
+
+/// Gives the worker's stack the cell that it needs; whether there is one.
 fn fill<L: Bench, R: Wait>(rt: &R, shared: &Shared<'_, L>, worker: &mut Worker<'_, L>) -> bool {
     let board = shared.board.lock(rt);
-    board.fetch(&worker.seat, &mut worker.strand) == Fetched::Cell
+    board.fetch_need(&mut worker.stack)
 }
 
-/// Loads the frame that the worker runs next, and goes on with it outside of the board; the cells that it needs are fetched. The answer is
-/// whether there is such a frame.
+/// Whether others wait for a task that the strand would leave ready, and it is not too soon.
+fn is_asked<L: Bench>(demand: &Demand, worker: &Worker<'_, L>) -> bool {
+    demand.is_there() && worker.pace.is_due(worker.stack.done()) && worker.stack.has_ready_frame()
+}
+
+/// Goes on with the loaded frame outside of the board, to where the strand is to be put on it.
 pub(crate) fn go<L: Bench, R: Wait>(
     rt: &R,
     shared: &Shared<'_, L>,
+    demand: &Demand,
     worker: &mut Worker<'_, L>,
-) -> bool {
-    let has_frame = load(rt, shared, worker);
-    if has_frame {
-        go_on(rt, shared, worker);
-    }
-    has_frame
-}
-
-/// Goes on with a strand up to a pause at which it has all cells that it needs, or no such cell is there.
-fn go_on<L: Bench, R: Wait>(rt: &R, shared: &Shared<'_, L>, worker: &mut Worker<'_, L>) {
-    for _ in 0..=MOST_CELLS {
-        let Pause::Need { .. } = advance::<L>(&mut worker.strand) else {
-            return;
-        };
-        if !fill(rt, shared, worker) {
-            return;
+) -> Turn {
+    for _ in 0..MOST_PAUSES {
+        let slice = worker.stack.done().clamp(SHORTEST_SLICE, LONGEST_SLICE);
+        match worker.stack.advance(slice) {
+            Standing::Border => return Turn::Border,
+            Standing::Spoilt => return Turn::Starved,
+            Standing::Need { .. } => {
+                if !fill(rt, shared, worker) {
+                    return Turn::Limit;
+                }
+            }
+            Standing::Going => {
+                if worker.stack.done() == MOST_INSTRUCTIONS {
+                    return Turn::Limit;
+                }
+                if is_asked(demand, worker) {
+                    return Turn::Asked;
+                }
+            }
+            Standing::Blank | Standing::Full => return Turn::Limit,
         }
     }
+    Turn::Limit
 }
 
-/// Commits the worker's strand.
-pub(crate) fn commit<L: Bench, R: Wait>(
+/// Puts the strand on the board. The worker has the tickets of the tasks that are ready then.
+fn publish<L: Bench>(board: &mut Board<'_, L>, worker: &mut Worker<'_, L>) -> Published {
+    worker.tickets.clear();
+    if worker.stack.done() == 0 {
+        return Published::Done;
+    }
+    let published = board.publish(&mut worker.seat, &worker.stack);
+    if published == Published::Done {
+        let levels = worker.stack.frames_below();
+        // A task without a ticket is still found at the board.
+        let _ = board.ready_tickets(&worker.seat, levels, &mut worker.tickets);
+    }
+    published
+}
+
+/// The border's step. A child that ends takes its parent on, where no other worker has.
+fn step_over<L: Bench>(
+    board: &mut Board<'_, L>,
+    demand: &Demand,
+    worker: &mut Worker<'_, L>,
+) -> Posted {
+    let parent = board.machine().ready_parent(worker.seat.worker());
+    match board.step(&mut worker.seat) {
+        Stepped::Done { ready, idle, ended } => {
+            worker.figures.count_instructions(1);
+            if let Some(ticket) = ready {
+                demand.fall(1);
+                worker.offer(ticket);
+            }
+            if worker.stack.is_at_reattach() {
+                match parent {
+                    Some(own) => {
+                        demand.rise();
+                        worker.take_back(own);
+                    }
+                    None => worker.pace.note_theft(),
+                }
+            }
+            if idle {
+                demand.rise();
+            }
+            Posted::After { idle, ended }
+        }
+        Stepped::Idle => Posted::Stranger,
+        Stepped::OutOfMemory => Posted::Starved,
+    }
+}
+
+/// Puts the worker's strand on the board, with the border's step where it stands at one, and offers the tasks that it leaves ready.
+pub(crate) fn post<L: Bench, R: Wait>(
     rt: &R,
     shared: &Shared<'_, L>,
+    demand: &Demand,
     worker: &mut Worker<'_, L>,
-) -> Committed {
+    turn: Turn,
+) -> Posted {
     let mut board = shared.board.lock(rt);
-    board.commit(&mut worker.seat, &worker.strand)
+    match publish(&mut board, worker) {
+        Published::Done => {}
+        Published::Stranger => return Posted::Stranger,
+        Published::OutOfMemory => return Posted::Starved,
+    }
+    worker.note_publication(turn == Turn::Asked);
+    demand.fall(worker.tickets.len());
+    worker.offer_tickets();
+    if turn == Turn::Border {
+        step_over(&mut board, demand, worker)
+    } else {
+        Posted::After {
+            idle: false,
+            ended: false,
+        }
+    }
 }

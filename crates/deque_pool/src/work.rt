@@ -1,18 +1,19 @@
 //! The loop of a worker on its thread.
 ghost use Rattle.std.specs.Prelude.{◌≡◌, ◌↔◌};
 
+use crate::demand::Demand;
 use crate::gate::{Gate, Go};
 use crate::outlook::Left;
-use crate::turns::{commit, go};
+use crate::turns::{Posted, Turn, go, load, post};
 use crate::workers::Worker;
-use shared_run::{Bench, Claimed, Committed, Shared, steps_of};
+use shared_run::{Bench, Claimed, Loaded, Shared};
 use std::sync::Wait;
 use std::sync::atomic::{AtomicBool, Ordering};
 use std::thread;
 use std::time::{Clock, Duration};
 
 /// How many searches in vain a worker makes with no more than a yield between them.
-const YIELDS: u32 = 16;
+const YIELDS: u32 = 64;
 
 /// The shortest sleep between two searches, in microseconds; each further one is twice as long, up to `DOUBLINGS` times.
 const SHORTEST_SLEEP: u64 = 64;
@@ -33,11 +34,12 @@ pub(crate) fn work<L: Bench, G: Gate, R: Wait + Clock>(
     rt: &R,
     shared: &Shared<'_, L>,
     over: &AtomicBool,
+    demand: &Demand,
     gate: &G,
     worker: &mut Worker<'_, L>,
 ) {
     let me = worker.seat.worker();
-    let mut next = begin(rt, shared, worker);
+    let mut next = begin(rt, shared, demand, worker);
     let mut rests: u32 = 0;
     for _ in rt.forever() {
         if over.load(Ordering::SeqCst) {
@@ -47,11 +49,11 @@ pub(crate) fn work<L: Bench, G: Gate, R: Wait + Clock>(
             Next::Strand => {
                 rests = 0;
                 next = match gate.pass(me, worker.figures.count_strand()) {
-                    Go::On => do_strand(rt, shared, worker),
+                    Go::On => do_strand(rt, shared, demand, worker),
                     Go::Stop => Next::Leave(Left::Stopped),
                 };
             }
-            Next::Search => next = search(rt, shared, worker),
+            Next::Search => next = search(rt, shared, worker, rests),
             Next::Rest => {
                 rest(rt, rests);
                 rests = rests.saturating_add(1);
@@ -66,54 +68,69 @@ pub(crate) fn work<L: Bench, G: Gate, R: Wait + Clock>(
 }
 
 /// Worker 0 begins with `root`, and the others have no task.
-fn begin<L: Bench, R: Wait>(rt: &R, shared: &Shared<'_, L>, worker: &Worker<'_, L>) -> Next {
+fn begin<L: Bench, R: Wait>(
+    rt: &R,
+    shared: &Shared<'_, L>,
+    demand: &Demand,
+    worker: &Worker<'_, L>,
+) -> Next {
     let board = shared.board.lock(rt);
     match board.machine().depth_of(worker.seat.worker()) {
-        Some(_) => Next::Strand,
+        Some(_) => {
+            demand.fall(1);
+            Next::Strand
+        }
         None => Next::Search,
     }
 }
 
-/// One strand of the worker's task; a task that it leaves ready is offered.
+/// One strand of the worker's task; tasks that it leaves ready are offered.
 fn do_strand<L: Bench, R: Wait>(
     rt: &R,
     shared: &Shared<'_, L>,
+    demand: &Demand,
     worker: &mut Worker<'_, L>,
 ) -> Next {
-    if !go(rt, shared, worker) {
-        return Next::Search;
+    match load(rt, shared, worker) {
+        Loaded::Frame => {}
+        Loaded::Idle => return Next::Search,
+        Loaded::OutOfMemory => return Next::Leave(Left::Starved),
     }
-    let committed = commit(rt, shared, worker);
-    match committed {
-        Committed::After { ready, .. } => {
-            worker.figures.count_publication(steps_of(&worker.strand));
-            if let Some(ticket) = ready {
-                // A task whose ticket is refused is still found at the board.
-                let _ = worker.hands.offer(ticket);
-            }
-        }
-        Committed::Stranger => worker.figures.count_stranger(),
-        Committed::OutOfMemory => {}
+    let turn = go(rt, shared, demand, worker);
+    if turn == Turn::Starved {
+        return Next::Leave(Left::Starved);
     }
-    after(committed)
+    let posted = post(rt, shared, demand, worker, turn);
+    if let Posted::Stranger = posted {
+        worker.figures.count_stranger();
+    }
+    after(posted)
 }
 
-/// What comes after a commit.
-fn after(committed: Committed) -> Next
-    ensures { (result ≡ Next.Leave Left.Starved) ↔ (committed ≡ Committed.OutOfMemory) }
+/// What comes after a strand that was to be put on the board.
+fn after(posted: Posted) -> Next
+    ensures { (result ≡ Next.Leave Left.Starved) ↔ (posted ≡ Posted.Starved) }
 {
-    match committed {
-        Committed::After { ended: true, .. } => Next::Leave(Left::Over),
-        Committed::After { idle: true, .. } => Next::Search,
-        Committed::After { .. } | Committed::Stranger => Next::Strand,
-        Committed::OutOfMemory => Next::Leave(Left::Starved),
+    match posted {
+        Posted::After { ended: true, .. } => Next::Leave(Left::Over),
+        Posted::After { idle: true, .. } => Next::Search,
+        Posted::After { .. } | Posted::Stranger => Next::Strand,
+        Posted::Starved => Next::Leave(Left::Starved),
     }
 }
 
-/// Claims a task by a ticket, or, where there is none, the first that is ready.
-fn search<L: Bench, R: Wait>(rt: &R, shared: &Shared<'_, L>, worker: &mut Worker<'_, L>) -> Next {
+/// Claims a task by a ticket; where there is none, the first that is ready at the board, at which a worker looks no more while it only yields.
+fn search<L: Bench, R: Wait>(
+    rt: &R,
+    shared: &Shared<'_, L>,
+    worker: &mut Worker<'_, L>,
+    rests: u32,
+) -> Next {
     worker.figures.count_search();
     let ticket = worker.next_ticket();
+    if ticket.is_none() && 0 < rests && rests < YIELDS {
+        return Next::Rest;
+    }
     let mut board = shared.board.lock(rt);
     let claimed = match ticket {
         Some(ticket) => board.claim(&mut worker.seat, ticket),

@@ -1,26 +1,28 @@
 //! The workers of a run.
 ghost use Rattle.std.specs.Prelude.{◌≡◌, vec_len, vec_capacity, ◌≤◌, IfOk};
 ghost use Rattle.shared_run.specs.crew.Starts.{ArePlaces};
-ghost use Rattle.shared_run.specs.schedule_core.Strands.{IsMadeOf};
 
 use crate::figures::Figures;
 use crate::outlook::Left;
+use crate::pace::Pace;
 use lists::OutOfMemory;
-use shared_run::{Bench, Places, Seat, Strand, Ticket, Verified, blank_strand};
+use shared_run::{Bench, Places, PrivateStack, Seat, Ticket, Verified};
 use std::alloc::Global;
 use std::sync::Mutex;
 use ticket_lists::{Hands, Taken, Thief};
 
-/// A worker: its seat, its strand, its tickets, and its ends of the others' tickets, from the next worker on; what it has done, and why it left.
+/// A worker: its seat, its stack, its list of tickets, and its ends of the others' lists, from the next worker on; what it has done, and why it left.
 #[derive(Drop)]
 pub(crate) struct Worker<'p, L: Bench> {
     pub(crate) seat: Seat<L>,
-    pub(crate) strand: Strand<'p>,
+    pub(crate) stack: PrivateStack<'p, L>,
+    /// Room for the tickets of one publication.
+    pub(crate) tickets: Vec<Ticket>,
     pub(crate) hands: Hands,
     pub(crate) thieves: Vec<Thief>,
+    pub(crate) pace: Pace,
     pub(crate) figures: Figures,
     pub(crate) left: Left,
-    ghost made: { IsMadeOf L.code strand },
 }
 
 impl<L: Bench> Worker<'_, L> {
@@ -35,6 +37,34 @@ impl<L: Bench> Worker<'_, L> {
             }
         }
         None
+    }
+
+    /// Offers a ticket. A task whose ticket is refused is still found at the board.
+    pub(crate) fn offer(&mut self, ticket: Ticket) {
+        let _ = self.hands.offer(ticket);
+    }
+
+    /// Offers the tickets of a publication, the outermost task's first.
+    pub(crate) fn offer_tickets(&mut self) {
+        for ticket in self.tickets.as_slice() {
+            let _ = self.hands.offer(*ticket);
+        }
+    }
+
+    /// Takes the ticket back of a task that the worker goes on with: it is the newest, unless a thief has taken it in vain.
+    pub(crate) fn take_back(&mut self, own: (usize, u64)) {
+        if let Some(ticket) = self.hands.take_newest()
+            && (ticket.slot != own.0 || ticket.generation != own.1)
+        {
+            self.offer(ticket);
+        }
+    }
+
+    /// The strand was put on the board, for others or because it had to be.
+    pub(crate) fn note_publication(&mut self, for_others: bool) {
+        let done = self.stack.done();
+        self.figures.count_publication(done);
+        self.pace.note(done, for_others);
     }
 }
 
@@ -57,15 +87,17 @@ pub(crate) fn crew_of<'p, L: Bench>(
         let Some(hands) = own.pop() else {
             return Err(OutOfMemory);
         };
-        let strand = blank_strand(alloc, verified, places)?;
+        let stack = PrivateStack::new(alloc, verified, places)?;
         let me = seats.len();
         let thieves = thieves_from(alloc, &mut ends, me)?;
         let figures = figures.get(me).copied().unwrap_or(Figures::none());
         crew.push(Mutex::new(Worker {
             seat,
-            strand,
+            stack,
+            tickets: Vec::new(alloc),
             hands,
             thieves,
+            pace: Pace::new(),
             figures,
             left: Left::Over,
         }))?;
