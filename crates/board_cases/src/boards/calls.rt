@@ -3,7 +3,7 @@
 use cases::number_in;
 use shared_run::Ticket;
 
-/// A call of a worker at the board, or of its strand.
+/// A call of a worker at the board, or of its strand or its private stack.
 #[derive(Clone, Copy)]
 pub enum Call {
     Step,
@@ -15,6 +15,13 @@ pub enum Call {
     Advance,
     /// Clears the strand, fetches, and advances with each cell that is needed.
     Go,
+    /// Loads the private stack.
+    Base,
+    /// Goes on with it by so many instructions.
+    On,
+    /// Fetches the cell that it needs.
+    Need,
+    Publish,
 }
 
 impl Call {
@@ -28,8 +35,20 @@ impl Call {
             "fetch" => Some(Call::Fetch),
             "advance" => Some(Call::Advance),
             "go" => Some(Call::Go),
+            "base" => Some(Call::Base),
+            "on" => Some(Call::On),
+            "need" => Some(Call::Need),
+            "publish" => Some(Call::Publish),
             _ => None,
         }
+    }
+
+    /// Whether it may change the board.
+    pub fn is_event(self) -> bool {
+        matches!(
+            self,
+            Call::Step | Call::Commit | Call::Claim | Call::ClaimFirst | Call::Publish
+        )
     }
 
     /// The name of a call that takes memory.
@@ -39,17 +58,21 @@ impl Call {
             Call::Commit => "Board::commit",
             Call::Claim => "Board::claim",
             Call::ClaimFirst => "Board::claim_first",
+            Call::Base => "Board::fetch_base",
+            Call::On => "PrivateStack::advance",
+            Call::Publish => "Board::publish",
             _ => "a call that takes no memory",
         }
     }
 }
 
-/// What a line asks for: the worker's call, how often, and by which ticket.
+/// What a line asks for: the worker's call, how often, by how many instructions, and by which ticket.
 #[derive(Clone, Copy)]
 pub struct Asked {
     pub worker: usize,
     pub call: Call,
     pub times: u64,
+    pub count: u64,
     pub ticket: Ticket,
 }
 
@@ -67,13 +90,15 @@ fn meant(tickets: &[Ticket], word: &str) -> Option<Ticket> {
     }
 }
 
-/// What is asked by `step 0 6`, which is six steps of worker 0, `claim 1 2`, by the second ticket, or a call with a worker alone.
+/// What is asked by `step 0 6`, which is six steps of worker 0, `on 0 6`, by so many instructions at once, `claim 1 2`, by the second ticket, or a call
+/// with a worker alone.
 pub fn asked_in(line: &str, tickets: &[Ticket]) -> Option<Asked> {
     let (word, rest) = line.split_once(" ")?;
     let (worker, rest) = rest.split_once(" ").unwrap_or((rest, ""));
     let call = Call::of_word(word)?;
+    let count = number_in(rest).unwrap_or(1);
     let times = match call {
-        Call::Step => number_in(rest).unwrap_or(1),
+        Call::Step => count,
         _ => 1,
     };
     let none = Ticket {
@@ -84,6 +109,7 @@ pub fn asked_in(line: &str, tickets: &[Ticket]) -> Option<Asked> {
         worker: number_in(worker)? as usize,
         call,
         times,
+        count,
         ticket: meant(tickets, rest).unwrap_or(none),
     })
 }

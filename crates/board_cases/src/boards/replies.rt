@@ -2,7 +2,10 @@
 
 use frame::Path;
 use schedule_core::Machine;
-use shared_run::{Claimed, Committed, Entry, Fetched, History, Pause, Stepped, Ticket};
+use shared_run::{
+    Claimed, Committed, Entry, Fetched, History, Loaded, Pause, Published, Standing, Stepped,
+    Ticket,
+};
 use std::alloc::AllocError;
 
 /// What a call came to.
@@ -13,6 +16,8 @@ pub enum Answer {
     Ready(Ticket),
     /// Where a strand stands, and how many instructions it did.
     Paused(Pause, u64),
+    /// The same of a private stack.
+    Stands(Standing, u64),
     /// Nothing was done.
     Not(&'static str),
     OutOfMemory,
@@ -39,6 +44,7 @@ impl Answer {
                 None => text.push_str("done, nothing ready"),
             },
             Answer::Paused(pause, done) => write_paused(text, pause, done),
+            Answer::Stands(standing, done) => write_standing(text, standing, done),
             Answer::OutOfMemory => text.push_str("out of memory"),
         }
     }
@@ -60,6 +66,17 @@ fn write_paused(text: &mut String, pause: Pause, done: u64) -> Result<(), AllocE
         Pause::Limit => write!(text, "limit after {done}"),
         Pause::Full => write!(text, "full after {done}"),
         Pause::Need { at } => write!(text, "needs cell {at} after {done}"),
+    }
+}
+
+fn write_standing(text: &mut String, standing: Standing, done: u64) -> Result<(), AllocError> {
+    match standing {
+        Standing::Blank => text.push_str("blank"),
+        Standing::Going => write!(text, "goes on after {done}"),
+        Standing::Border => write!(text, "border after {done}"),
+        Standing::Full => write!(text, "full after {done}"),
+        Standing::Need { at } => write!(text, "needs cell {at} after {done}"),
+        Standing::Spoilt => text.push_str("spoilt"),
     }
 }
 
@@ -104,6 +121,22 @@ pub fn fetched(fetched: Fetched) -> Answer {
         Fetched::Cell => Answer::Done("cell"),
         Fetched::Idle => Answer::Not("idle"),
         Fetched::Stranger => Answer::Not("stranger"),
+    }
+}
+
+pub fn loaded(loaded: Loaded) -> Answer {
+    match loaded {
+        Loaded::Frame => Answer::Done("base"),
+        Loaded::Idle => Answer::Not("idle"),
+        Loaded::OutOfMemory => Answer::OutOfMemory,
+    }
+}
+
+pub fn published(published: Published) -> Answer {
+    match published {
+        Published::Done => Answer::Done("published"),
+        Published::Stranger => Answer::Not("stranger"),
+        Published::OutOfMemory => Answer::OutOfMemory,
     }
 }
 

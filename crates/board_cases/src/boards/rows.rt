@@ -16,9 +16,13 @@ use std::alloc::{AllocError, Global};
 const MOST_CALLS: u32 = 4000;
 
 /// The calls that a seed draws, as often as they stand here.
-const WORDS: [&str; 10] = [
-    "step", "commit", "commit", "claim", "first", "clear", "fetch", "advance", "go", "go",
+const WORDS: [&str; 18] = [
+    "step", "step", "commit", "commit", "claim", "first", "clear", "fetch", "advance", "go",
+    "base", "base", "on", "on", "need", "need", "publish", "publish",
 ];
+
+/// By how many instructions a private stack goes on, as often as they stand here.
+const COUNTS: [u64; 6] = [1, 2, 3, 7, 20, 100_000];
 
 /// What is written of a run.
 #[derive(Drop)]
@@ -60,7 +64,7 @@ fn tried<L: Bench>(
     mirror: &Mirror<'_>,
     notes: &mut Notes,
 ) -> Answer {
-    let answer = player.call(board, seat, asked.call, asked.ticket);
+    let answer = player.call(board, seat, asked);
     let Answer::OutOfMemory = answer else {
         return answer;
     };
@@ -68,7 +72,7 @@ fn tried<L: Bench>(
     if !mirror.shows(&*board) {
         notes.is_right = false;
     }
-    player.call(board, seat, asked.call, asked.ticket)
+    player.call(board, seat, asked)
 }
 
 /// The call, which is to come to what is due, and to lead the board where its history does.
@@ -81,16 +85,17 @@ fn checked<L: Bench>(
     notes: &mut Notes,
 ) -> Result<Answer, OutOfMemory> {
     let worker = seat.worker();
-    let is_due = player.is_due(board.machine(), worker, asked.call, asked.ticket);
+    let is_due = player.is_due(board.machine(), worker, asked);
     let answer = tried(board, seat, player, asked, &*mirror, notes);
     let events = mirror.catch_up(board.history())?;
     player.done = player.done.saturating_add(events);
-    if is_due != answer.is_done() || !mirror.shows(&*board) {
+    if is_due != answer.is_done() || asked.call.is_event() && !mirror.shows(&*board) {
         notes.is_right = false;
     }
     if let Answer::Ready(ticket) = answer {
         notes.tickets.push(ticket)?;
     }
+    notes.tickets.extend_from_slice(player.tickets.as_slice())?;
     Ok(answer)
 }
 
@@ -197,6 +202,11 @@ fn draw_line(
         "claim" => {
             let ticket = drawn_below(state, tickets).saturating_add(1);
             write!(line, "claim {worker} {ticket}")
+        }
+        "on" => {
+            let at = drawn_below(state, COUNTS.len());
+            let count = COUNTS.as_slice().get(at).copied().unwrap_or(1);
+            write!(line, "on {worker} {count}")
         }
         _ => write!(line, "{word} {worker}"),
     }
