@@ -5,8 +5,7 @@ use Rattle.std.specs.Option.{option_map}
 use Rattle.std.specs.Ordering.{int_eq}
 use Rattle.std.proofs.lemmas.Option.{same_Some}
 use Rattle.running.specs.Cells.{Cell, same_cell}
-use Rattle.running.specs.Arithmetic.{cell_sum}
-use Rattle.running.specs.Effect.{adds_to, stores}
+use Rattle.running.specs.Effect.{stores}
 use Rattle.running.specs.Frames.{Frame}
 use Rattle.running.proofs.Actions.{same_cell_itself}
 use Rattle.running.proofs.SameCells.{same_cell_tells}
@@ -16,9 +15,9 @@ use Rattle.strand.specs.Buffers.{raised_change}
 use Rattle.strand.specs.Showing.{AreApart}
 use Rattle.strand.specs.declared.cells.Change.{Change}
 use Rattle.strand.specs.declared.cells.Change.TheVariants.{Stored, Delta}
-use Rattle.page_log.specs.Doing.{IsChanged, IsLoaded}
+use Rattle.page_log.specs.Doing.{IsChanged}
 use Rattle.page_log.specs.Known.{at_address, first_of, read_after, settled_change, value_of}
-use Rattle.page_log.specs.Logs.{Log, changed_log, empty_log, filled_log, loaded_log, place_of, same_page, value_at}
+use Rattle.page_log.specs.Logs.{Log, empty_log, filled_log, loaded_log, place_of, same_page, value_at}
 use Rattle.page_log.proofs.Addresses.{address_tells}
 use Rattle.deep_strand.specs.Kept.{ShowsKept, write_of}
 
