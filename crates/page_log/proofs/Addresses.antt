@@ -1,5 +1,5 @@
 -- Addresses and lists.
-use Rattle.std.proofs.Common.{◌≡◌, ◌≢◌, ◌<◌, ◌/◌, ◌%◌, ◌⊎◌, ℕ, zero, suc, ℤ, refl, ap, arith, Bool, true, false, List, [], ◌∷◌, length, set, Option, Some, inl, inr}
+use Rattle.std.proofs.Common.{◌≡◌, ◌≢◌, ◌<◌, ◌/◌, ◌%◌, ◌⊎◌, ℕ, zero, suc, ℤ, refl, ap, arith, Bool, true, false, List, [], ◌∷◌, length, set, Some, inl, inr}
 use Rattle.std.specs.Prelude.{slice_get}
 use Rattle.std.specs.Ordering.{int_eq}
 use Rattle.std.proofs.lemmas.Bool.Decides.{Decides-int_eq}

@@ -1,5 +1,5 @@
 -- What loads, stores and adds make of a page.
-use Rattle.std.proofs.Common.{◌≡◌, ◌≢◌, ◌<◌, ◌⊎◌, ℕ, ℤ, refl, sym, ap, ◌∙◌, Bool, true, false, List, length, set, Option, Some, None, inl, inr, pos}
+use Rattle.std.proofs.Common.{◌≡◌, ◌≢◌, ◌<◌, ◌⊎◌, ℕ, ℤ, sym, ap, ◌∙◌, Bool, true, false, length, set, Option, Some, inl, inr}
 use Rattle.running.specs.Arithmetic.{cell_sum}
 use Rattle.strand.specs.Buffers.{raised_change}
 use Rattle.strand.specs.declared.cells.Change.{Change}

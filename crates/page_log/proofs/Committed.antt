@@ -1,5 +1,5 @@
 -- A table against a row of the board's cells, one page after the other.
-use Rattle.std.proofs.Common.{◌≡◌, ◌≢◌, ◌<◌, ◌≤◌, ◌+◌, ◌*◌, ◌/◌, ◌%◌, ◌⊎◌, ℕ, zero, suc, ℤ, pos, negsuc, refl, sym, ap, ◌∙◌, subst, arith, Bool, true, false, cond, nat_le, nat_lt, List, [], ◌∷◌, length, Option, Some, None, inl, inr}
+use Rattle.std.proofs.Common.{◌≡◌, ◌≢◌, ◌<◌, ◌+◌, ◌*◌, ◌/◌, ◌%◌, ℕ, zero, suc, ℤ, pos, negsuc, refl, sym, ap, ◌∙◌, arith, Bool, true, false, cond, nat_le, nat_lt, List, [], ◌∷◌, length, Option, Some, None, inl, inr}
 use Rattle.std.specs.Prelude.{IsTrue, slice_get, slice_index}
 use Rattle.std.proofs.lemmas.Bool.Decides.{eqb_tells, leb_tells}
 use Rattle.std.proofs.lemmas.List.{get_or_past}
@@ -8,10 +8,9 @@ use Rattle.engine.specs.Flat.{cell_in, is_cell}
 use Rattle.strand.specs.declared.cells.Change.{Change}
 use Rattle.page_log.specs.Committing.{Agrees, IsPutInto, PageAgrees, PageDiffers, PageIsPut}
 use Rattle.page_log.specs.Known.{put_change}
-use Rattle.page_log.specs.Logs.{place_of}
 use Rattle.page_log.specs.Pages.{Kept}
 use Rattle.page_log.specs.Paging.{kept_of}
-use Rattle.page_log.specs.Tables.{IsTable, Table, entry_of, log_of, page_in, told, told_by}
+use Rattle.page_log.specs.Tables.{IsTable, Table, entry_of, log_of, told}
 use Rattle.page_log.specs.declared.page.Page.{Page}
 use Rattle.page_log.proofs.Keeping.{below_tells}
 use Rattle.page_log.proofs.Paged.{told_at, untold}

@@ -1,6 +1,6 @@
 -- What a cell may hold after an access.
-use Rattle.std.proofs.Common.{◌≡◌, ◌≢◌, ◌+ℤ◌, ℕ, zero, suc, ℤ, refl, sym, ap, ◌∙◌, arith, Bool, true, false, cond, Option, Some, None, Result, Ok, Err, inl, inr, w64}
-use Rattle.std.specs.Prelude.{OnOk, OnErr, slice_get}
+use Rattle.std.proofs.Common.{◌≡◌, ◌≢◌, ◌+ℤ◌, ℕ, ℤ, refl, sym, ap, ◌∙◌, arith, Bool, true, false, cond, Option, Some, None, Result, Ok, Err, inl, inr, w64}
+use Rattle.std.specs.Prelude.{OnOk, OnErr}
 use Rattle.std.specs.Int.{int_wrap}
 use Rattle.std.proofs.lemmas.Int.{ints, int_wrap-add_left, int_wrap-add_right}
 use Rattle.std.proofs.lemmas.Option.{same_Some}
@@ -14,8 +14,8 @@ use Rattle.page_log.specs.Doing.{IsChanged, IsLoaded, may_hold}
 use Rattle.page_log.specs.Known.{settled_change, value_of}
 use Rattle.page_log.specs.Logs.{Log, changed_log, loaded_log, place_of, value_at}
 use Rattle.page_log.specs.Pages.{Kept}
-use Rattle.page_log.specs.Paging.{kept_of, near_by, number_at, number_if, reads_by}
-use Rattle.page_log.specs.Tables.{Table, entry_of, log_of, page_in, told, told_by}
+use Rattle.page_log.specs.Paging.{kept_of, near_by, number_at, number_if}
+use Rattle.page_log.specs.Tables.{Table, entry_of, log_of, page_in, told_by}
 use Rattle.page_log.specs.declared.page.Page.{Page}
 use Rattle.page_log.proofs.Addresses.{address_tells}
 use Rattle.page_log.proofs.Keeping.{below_is}

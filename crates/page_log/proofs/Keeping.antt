@@ -1,15 +1,13 @@
 -- What a page's words show, as bits are set and numbers written.
-use Rattle.std.proofs.Common.{◌≡◌, ◌≢◌, ◌<◌, ◌≤◌, ◌+◌, ◌-◌, ◌++◌, ◌⊎◌, ℕ, suc, ℤ, refl, sym, ap, ◌∙◌, subst, arith, Bool, true, false, cond, nat_eq, nat_lt, List, length, take, drop, set, Option, Some, None, inl, inr, pos}
+use Rattle.std.proofs.Common.{◌≡◌, ◌≢◌, ◌<◌, ◌≤◌, ◌-◌, ◌++◌, ◌⊎◌, ℕ, suc, ℤ, refl, sym, ap, ◌∙◌, arith, Bool, true, false, cond, nat_lt, List, length, take, drop, set, Some, inl, inr, pos}
 use Rattle.std.specs.Prelude.{slice_get}
 use Rattle.std.proofs.lemmas.Bool.Decides.{eqb_tells, leb_tells}
 use Rattle.std.proofs.lemmas.List.{get_or-set_same, get_or-set_other, get_or-append_right, get_or_append_left, get_or-take, length-take-le}
 use Rattle.std.proofs.lemmas.List.Edits.{get_or-between}
 use Rattle.std.proofs.lemmas.Option.{slice_get-get_or, slice_get_past}
-use Rattle.running.specs.Arithmetic.{cell_sum}
-use Rattle.strand.specs.declared.cells.Change.{Change}
 use Rattle.strand.specs.declared.cells.Change.TheVariants.{Stored, Delta}
 use Rattle.page_log.specs.Bits.{is_set}
-use Rattle.page_log.specs.Known.{at_place, first_of, read_after, settled_change, value_of}
+use Rattle.page_log.specs.Known.{at_place, first_of}
 use Rattle.page_log.specs.Paging.{change_by, near_by, number_at, number_if, reads_by, writes_by}
 
 pub below_tells : (j n : ℕ) → ((nat_lt j n ≡ true) × (j < n)) ⊎ ((nat_lt j n ≡ false) × (n ≤ j))

@@ -1,9 +1,9 @@
 -- A page against a row of the board's cells.
-use Rattle.std.proofs.Common.{◌≡◌, ◌≢◌, ◌<◌, ◌≤◌, ◌+◌, ◌*◌, ◌/◌, ◌%◌, ◌||◌, ◌⊎◌, ℕ, suc, ℤ, pos, refl, sym, ap, ◌∙◌, subst, arith, Bool, true, false, List, length, set, Option, Some, None, inl, inr}
+use Rattle.std.proofs.Common.{◌≡◌, ◌≢◌, ◌<◌, ◌≤◌, ◌+◌, ◌*◌, ◌/◌, ◌||◌, ℕ, ℤ, pos, refl, sym, ap, ◌∙◌, subst, arith, Bool, true, false, List, length, set, Option, Some, None, inl, inr}
 use Rattle.std.specs.Prelude.{slice_get}
 use Rattle.std.proofs.lemmas.Bool.Decides.{eqb_tells}
 use Rattle.std.proofs.lemmas.Nat.{div-mul-add}
-use Rattle.std.proofs.lemmas.Option.{same_Some, slice_get-get_or}
+use Rattle.std.proofs.lemmas.Option.{slice_get-get_or}
 use Rattle.running.specs.Arithmetic.{cell_sum}
 use Rattle.strand.specs.declared.cells.Change.{Change}
 use Rattle.page_log.specs.Bits.{is_set}

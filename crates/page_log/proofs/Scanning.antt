@@ -1,5 +1,5 @@
 -- The next bit of a mask.
-use Rattle.std.proofs.Common.{◌≡◌, ◌<◌, ◌≤◌, ◌+◌, ◌-◌, ◌/◌, ◌%◌, ◌^◌, ◌||◌, ◌⊎◌, ℕ, suc, max, refl, sym, ap, ◌∙◌, subst, arith, Bool, true, false, nat_eq, shr-shr, inl, inr, w64}
+use Rattle.std.proofs.Common.{◌≡◌, ◌<◌, ◌≤◌, ◌+◌, ◌-◌, ◌/◌, ◌%◌, ◌^◌, ◌||◌, ◌⊎◌, ℕ, max, sym, ap, ◌∙◌, arith, true, false, nat_eq, shr-shr, inl, inr, w64}
 use Rattle.std.specs.Int.{bit_at, trailing_zeros}
 use Rattle.std.specs.Prelude.{bit_or}
 use Rattle.std.proofs.lemmas.Bool.Decides.{leb_tells}

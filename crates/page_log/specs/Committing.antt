@@ -1,5 +1,5 @@
 -- How what was read is compared with a row of the board's cells, and what was written is put into one.
-use Rattle.std.specs.Prelude.{◌≡◌, ◌≢◌, ◌<◌, ◌/◌, ◌*◌, ◌+◌, ℕ, ℤ, List, Some, None, length, slice_get}
+use Rattle.std.specs.Prelude.{◌≡◌, ◌≢◌, ◌<◌, ◌/◌, ◌*◌, ◌+◌, ℕ, ℤ, List, Some, length, slice_get}
 use Rattle.engine.specs.Flat.{cell_in}
 use Rattle.page_log.specs.Known.{put_change}
 use Rattle.page_log.specs.Logs.{Log}

@@ -1,5 +1,5 @@
 -- What accesses do to a log.
-use Rattle.std.specs.Prelude.{◌≡◌, ℤ, Bool, true, false, cond, IsSome, Some, None}
+use Rattle.std.specs.Prelude.{◌≡◌, ℤ, true, false, cond, IsSome, Some, None}
 use Rattle.engine.specs.Access.{Access, Loads, Stores, Adds}
 use Rattle.strand.specs.Buffers.{raised_change}
 use Rattle.strand.specs.declared.cells.Change.{Change}

@@ -15,14 +15,17 @@ impl Cells for PageLog {
 
     ghost refuses = { TableRefuses };
 
+    #[inline(always)]
     fn load(&mut self, at: i64) -> Result<i64, Stop> {
         self.load_at(&at)
     }
 
+    #[inline(always)]
     fn store(&mut self, at: i64, number: i64) -> Result<(), Stop> {
         self.store_at(&at, &number)
     }
 
+    #[inline(always)]
     fn add(&mut self, at: i64, number: i64) -> Result<(), Stop> {
         self.add_at(&at, &number)
     }

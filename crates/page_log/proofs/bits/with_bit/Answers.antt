@@ -1,4 +1,4 @@
-use Rattle.std.proofs.Common.{◌≡◌, ℕ, ap, Bool, nat_eq, w64}
+use Rattle.std.proofs.Common.{ℕ, ap, nat_eq, w64}
 use Rattle.std.proofs.lemmas.Nat.Bits.{bit_at_set_same, bit_at_set_other}
 use Rattle.page_log.proofs.bits.with_bit.Goals as goal
 

@@ -1,10 +1,10 @@
-use Rattle.std.proofs.Common.{◌≡◌, ◌∙◌, ◌<◌, ap, sym, subst, refl, arith, length, Option, Some, ℕ, suc, ℤ}
+use Rattle.std.proofs.Common.{◌≡◌, ◌∙◌, ap, subst, refl, arith, length, Some, ℕ, suc}
 use Rattle.std.specs.Prelude.{slice_get}
 use Rattle.std.proofs.lemmas.Option.{slice_get_read}
 use Rattle.page_log.specs.Holding.{table_of}
 use Rattle.page_log.specs.Known.{value_of}
 use Rattle.page_log.specs.Logs.{loaded_log, value_at}
-use Rattle.page_log.specs.Pages.{Kept, loaded_page}
+use Rattle.page_log.specs.Pages.{loaded_page}
 use Rattle.page_log.specs.Paging.{kept_of}
 use Rattle.page_log.specs.Tables.{IsTable, Table, entry_of, log_of}
 use Rattle.page_log.proofs.Paged.{loaded_table, repaged, slot_within, value_here}

@@ -1,9 +1,8 @@
-use Rattle.std.proofs.Common.{◌≡◌, ◌∙◌, ◌<◌, ◌/◌, ◌+◌, ap, sym, subst, refl, arith, length, set, ℕ, suc, ℤ, pos, List}
+use Rattle.std.proofs.Common.{◌≡◌, ◌∙◌, ◌<◌, ◌/◌, ◌+◌, ap, sym, subst, arith, length, set, ℕ, List}
 use Rattle.std.specs.Prelude.{slice_index}
 use Rattle.page_log.specs.Holding.{table_of}
 use Rattle.page_log.specs.Logs.{with_page}
 use Rattle.page_log.specs.Pages.{blank_page}
-use Rattle.page_log.specs.Paging.{kept_of}
 use Rattle.page_log.specs.Tables.{IsTable, Table, entry_of, log_of}
 use Rattle.page_log.proofs.Paged.{opened_log, opened_table}
 use Rattle.page_log.proofs.log.PageLog.open.Goals as goal

@@ -1,15 +1,13 @@
-use Rattle.std.proofs.Common.{◌≡◌, ◌∙◌, ◌<◌, ap, sym, subst, refl, arith, length, Option, Some, ℕ, suc, ℤ, List}
+use Rattle.std.proofs.Common.{◌≡◌, ◌∙◌, ap, subst, refl, arith, length, Some, ℕ, suc}
 use Rattle.std.specs.Prelude.{slice_get}
 use Rattle.std.proofs.lemmas.Option.{slice_get_read}
-use Rattle.strand.specs.Buffers.{raised_change}
-use Rattle.strand.specs.declared.cells.Change.{Change}
 use Rattle.strand.specs.declared.cells.Change.TheVariants.{Stored}
 use Rattle.page_log.specs.Holding.{table_of}
-use Rattle.page_log.specs.Logs.{Log, with_change, with_page, with_values}
-use Rattle.page_log.specs.Pages.{changed_page, filled_page}
+use Rattle.page_log.specs.Logs.{Log, with_change, with_page}
+use Rattle.page_log.specs.Pages.{changed_page}
 use Rattle.page_log.specs.Paging.{kept_of}
 use Rattle.page_log.specs.Tables.{IsTable, Table, entry_of, log_of}
-use Rattle.page_log.proofs.Paged.{changed_table, filled_table, raised_here, repaged, slot_within}
+use Rattle.page_log.proofs.Paged.{changed_table, repaged, slot_within}
 use Rattle.page_log.proofs.log.PageLog.store_at.Goals as goal
 
 pub index_mut-requires : goal.index_mut-requires

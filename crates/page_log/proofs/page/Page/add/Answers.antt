@@ -1,9 +1,8 @@
-use Rattle.std.proofs.Common.{◌≡◌, ◌∙◌, ap, sym, arith, rules, true, false, inl, inr, ◌⊎◌, ℤ, w64}
+use Rattle.std.proofs.Common.{◌≡◌, ◌∙◌, ap, sym, arith, rules, false, inl, inr, ℤ, w64}
 use Rattle.std.specs.Prelude.{FitsSigned}
 use Rattle.std.proofs.lemmas.Int.{to_z-of_z}
 use mir.Val.{to_z, of_z}
 use Rattle.running.specs.Arithmetic.{cell_sum}
-use Rattle.strand.specs.declared.cells.Change.{Change}
 use Rattle.strand.specs.declared.cells.Change.TheVariants.{Stored}
 use Rattle.page_log.specs.Bits.{is_set}
 use Rattle.page_log.specs.Pages.{changed_page}

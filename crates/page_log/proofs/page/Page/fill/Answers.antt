@@ -1,4 +1,4 @@
-use Rattle.std.proofs.Common.{◌≡◌, ◌∙◌, ◌-◌, ap, refl, arith, length, take, drop, List, ℤ}
+use Rattle.std.proofs.Common.{◌≡◌, ◌-◌, ap, refl, arith, length, drop, List, ℤ}
 use Rattle.std.proofs.lemmas.List.{length-drop, length-take}
 use Rattle.page_log.specs.Paging.{reads_by, writes_by}
 use Rattle.page_log.proofs.Keeping.{near_filled, near_stays, reads_filled}

@@ -1,9 +1,7 @@
-use Rattle.std.proofs.Common.{◌≡◌, ◌∙◌, ◌<◌, sym, arith, rules, length, true, false, ℤ, pos, w64}
+use Rattle.std.proofs.Common.{◌∙◌, sym, arith, rules, w64}
 use Rattle.std.specs.Prelude.{FitsSigned}
 use Rattle.std.proofs.lemmas.Int.{to_z-of_z}
-use mir.Val.{to_z, of_z}
 use Rattle.running.specs.Arithmetic.{cell_sum}
-use Rattle.page_log.specs.Bits.{is_set}
 use Rattle.page_log.specs.Paging.{number_at}
 use Rattle.page_log.proofs.Changing.{loaded_delta, loaded_stored, loaded_unwritten}
 use Rattle.page_log.proofs.page.Page.load.Goals as goal
