@@ -338,3 +338,35 @@ module _ (directory : List ℕ) (pages : List Page) (none : (n : ℕ) → slice_
     reads = λ a. untold (λ (x : Kept). x.reads) unused a (none_for a) i;
     writes = λ a. untold (λ (x : Kept). x.writes) unused a (none_for a) i;
   }
+
+-- ---- more pages may be in use
+
+module _ (t : Table) (ok : IsTable t) (directory : List ℕ) (same : (n : ℕ) → slice_index directory n ≡ slice_index t.directory n) where
+  abbrev pub wider : Table
+  wider = record t { directory = directory }
+
+  pub wider_table : length directory ≤ 144115188075855872 → IsTable wider
+  wider_table numbers = record {
+    room = ok.room;
+    few = ok.few;
+    numbers = numbers;
+    slots = λ n s e. ok.slots n s (sym (same n) ∙ e);
+    numbered = λ n s p e h. ok.numbered n s p (sym (same n) ∙ e) h;
+    listed = λ s p lt h. same p.number ∙ ok.listed s p lt h;
+  }
+
+  same_entry : (a : ℤ) → entry_of directory a ≡ entry_of t.directory a
+  same_entry (pos n) = same (n / 64)
+  same_entry (negsuc n) = refl
+
+  same_told : {X : Type 0} (f : Kept → ℕ → Option X) (a : ℤ) → told f wider a ≡ told f t a
+  same_told f a = ap (λ (e : ℕ). told_by f (page_in t.pages e) (place_of a)) (same_entry a)
+
+  pub wider_log : (count : ℕ) → length directory ≡ count → log_of wider ≡ record (log_of t) { pages = count }
+  wider_log count long = λ i. record (log_of t) {
+    pages = long i;
+    has_page = λ n. nat_lt 0 (same n i);
+    near = λ a. same_told (λ (x : Kept). x.near) a i;
+    reads = λ a. same_told (λ (x : Kept). x.reads) a i;
+    writes = λ a. same_told (λ (x : Kept). x.writes) a i;
+  }

@@ -1,5 +1,5 @@
 -- What a log shows, by addresses.
-use Rattle.std.specs.Prelude.{◌/◌, ◌%◌, ℕ, suc, ℤ, pos, negsuc, Bool, true, false, cond, ◌&&◌, ◌||◌, nat_eq, nat_lt, List, Option, Some, None, slice_get}
+use Rattle.std.specs.Prelude.{◌+◌, ◌*◌, ◌/◌, ◌%◌, ℕ, suc, ℤ, pos, negsuc, Bool, true, false, cond, ◌&&◌, ◌||◌, nat_eq, nat_lt, min, List, [], take, drop, Option, Some, None, slice_get}
 use Rattle.std.specs.Int.{w64, cast_unsigned}
 use Rattle.strand.specs.declared.cells.Change.{Change}
 use Rattle.page_log.specs.Known.{at_address, at_place, first_of, read_after, settled_change, value_of}
@@ -16,6 +16,10 @@ pub record Log : Type 0 where
 
 abbrev pub empty_log : ℕ → Log
 empty_log pages = record { pages = pages; used = 0; has_page = λ n. false; near = λ a. None; reads = λ a. None; writes = λ a. None }
+
+-- the pages of so many cells; addresses are numbers of 64 bits
+abbrev pub pages_of : ℕ → ℕ
+pages_of cells = min cells 9223372036854775807 / 64 + 1
 
 -- the place of an address among its page's cells
 abbrev pub place_of : ℤ → ℕ
@@ -65,3 +69,10 @@ with_values x a values = record x { near = λ b. cond (same_page a b) (first_of 
 
 abbrev pub filled_log : Log → ℤ → List ℤ → Log
 filled_log x a values = with_values (with_page x a) a values
+
+-- ---- the board's cells
+
+-- the cells of the address's page, from the page's first on
+abbrev pub page_around : List ℤ → ℤ → List ℤ
+page_around row (pos n) = take 64 (drop (n / 64 * 64) row)
+page_around row (negsuc n) = []

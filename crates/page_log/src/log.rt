@@ -1,10 +1,10 @@
-ghost use Rattle.std.specs.Prelude.{◌≡◌, ◌≢◌, ◌<◌, ◌≤◌, ◌+◌, ◌/◌, ℕ, ℤ, pos, suc, true, false, min, length, slice_index};
+ghost use Rattle.std.specs.Prelude.{◌≡◌, ◌≢◌, ◌<◌, ◌≤◌, ◌/◌, ℕ, ℤ, pos, suc, true, false, max, length, slice_index};
 ghost use Rattle.std.specs.Prelude.{IfErr, IfNone, IfOk, IfSome, IsTrue, None, OnErr, OnOk, OnSome, Some, ◌↔◌};
 ghost use Rattle.engine.specs.Flat.{is_cell};
 ghost use Rattle.strand.specs.Buffers.{raised_change};
 ghost use Rattle.page_log.specs.Committing.{Agrees, IsPutInto};
 ghost use Rattle.page_log.specs.Doing.{IsChanged, IsLoaded, IsMissing, LacksPlace};
-ghost use Rattle.page_log.specs.Logs.{empty_log, filled_log, has_place, loaded_log, place_of, value_at, with_page};
+ghost use Rattle.page_log.specs.Logs.{empty_log, filled_log, has_place, loaded_log, pages_of, place_of, value_at, with_page};
 ghost use Rattle.page_log.specs.Tables.{IsTable, entry_of, log_of};
 
 use crate::page::{CELLS, Page};
@@ -68,23 +68,39 @@ fn forget(directory: &mut [u32], pages: &[Page], used: usize)
     }
 }
 
+/// The pages of so many cells.
+fn page_count(cells: usize) -> usize
+    ensures { result ≡ pages_of cells }
+{
+    cells.min(i64::MAX as usize) / CELLS + 1
+}
+
 impl PageLog {
-    /// A log of nothing, with room for 512 pages of so many cells.
-    pub fn new(alloc: Global, cells: usize) -> Result<PageLog, OutOfMemory>
-        ensures { IfOk result (λ made. log_of made ≡ empty_log (min cells 9223372036854775807 / 64 + 1)) }
+    /// A log of nothing, with room for 512 pages; [`PageLog::widen`] says of how many cells.
+    pub fn new(alloc: Global) -> Result<PageLog, OutOfMemory>
+        ensures { IfOk result (λ made. log_of made ≡ empty_log 0) }
     {
-        let count = cells.min(i64::MAX as usize) / CELLS + 1;
-        let mut directory = Vec::with_capacity(alloc, count)?;
-        directory.resize(count, 0)?;
         let mut pages = Vec::with_capacity(alloc, PAGES)?;
         for _ in 0..PAGES {
             pages.push_reserved(Page::new(0));
         }
         Ok(PageLog {
-            directory,
+            directory: Vec::new(alloc),
             pages,
             used: 0,
         })
+    }
+
+    /// From now on any of so many cells of the board has a page.
+    pub fn widen(&mut self, cells: usize) -> Result<(), OutOfMemory>
+        ensures wide { OnOk result (log_of self.new ≡ record (log_of self.old) { pages = max (log_of self.old).pages (pages_of cells) }) }
+        ensures refused { OnErr result (log_of self.new ≡ log_of self.old) }
+    {
+        let count = page_count(cells);
+        if count > self.directory.len() {
+            self.directory.resize(count, 0)?;
+        }
+        Ok(())
     }
 
     /// Forgets all cells.
