@@ -1,4 +1,5 @@
 pub mod Addresses
+pub mod Around
 pub mod Changing
 pub mod Committed
 pub mod Holding

@@ -341,6 +341,17 @@ module _ (directory : List ℕ) (pages : List Page) (none : (n : ℕ) → slice_
 
 -- ---- more pages may be in use
 
+-- a directory to which zeros were added
+pub same_index : (old new : List ℕ) → ((k : ℕ) → k < length old → slice_index new k ≡ slice_index old k) → ((k : ℕ) → length old ≤ k → k < length new → slice_index new k ≡ 0) →
+    (k : ℕ) → slice_index new k ≡ slice_index old k
+same_index old new kept added k = elim (below_tells k (length old)) [
+  | inl p ↦ kept k p.1
+  | inr p ↦ elim (below_tells k (length new)) [
+    | inl q ↦ added k p.1 q.1 ∙ sym (get_or_past old k 0 p.1)
+    | inr q ↦ get_or_past new k 0 q.1 ∙ sym (get_or_past old k 0 p.1)
+  ]
+]
+
 module _ (t : Table) (ok : IsTable t) (directory : List ℕ) (same : (n : ℕ) → slice_index directory n ≡ slice_index t.directory n) where
   abbrev pub wider : Table
   wider = record t { directory = directory }

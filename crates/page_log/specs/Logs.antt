@@ -72,7 +72,10 @@ filled_log x a values = with_values (with_page x a) a values
 
 -- ---- the board's cells
 
--- the cells of the address's page, from the page's first on
+-- the cells of the page that has the one of this index, from the page's first on
+abbrev pub page_from : List ℤ → ℕ → List ℤ
+page_from row n = take 64 (drop (n / 64 * 64) row)
+
 abbrev pub page_around : List ℤ → ℤ → List ℤ
-page_around row (pos n) = take 64 (drop (n / 64 * 64) row)
+page_around row (pos n) = page_from row n
 page_around row (negsuc n) = []

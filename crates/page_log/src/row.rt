@@ -1,8 +1,22 @@
-ghost use Rattle.std.specs.Prelude.{◌≡◌, ◌≤◌, IfNone, IfSome, IsSome, None, OnSome, length};
+ghost use Rattle.std.specs.Prelude.{◌≡◌, ◌<◌, ◌≤◌, IfNone, IfSome, IsSome, None, OnSome, length};
 ghost use Rattle.engine.specs.Flat.{cell_in};
-ghost use Rattle.page_log.specs.Logs.{page_around};
+ghost use Rattle.page_log.specs.Logs.{page_around, page_from};
 
 use crate::page::CELLS;
+
+/// The cells of the page that has the one of this index, from the page's first on.
+fn page_from(row: &[i64], index: usize) -> &[i64]
+    requires { index < length row.now }
+    ensures page { result.now ≡ page_from row.now index }
+    ensures few { length result.now ≤ 64 }
+{
+    let first = index / CELLS * CELLS;
+    if row.len() - first > CELLS {
+        &row[first..first + CELLS]
+    } else {
+        &row[first..]
+    }
+}
 
 /// The cells of the address's page as the row of the board's cells has them, from the page's first cell on; the last page may have fewer than
 /// 64. None where the row has no such cell.
@@ -19,9 +33,5 @@ pub fn page_around(row: &[i64], at: i64) -> Option<&[i64]>
     if index >= row.len() {
         return None;
     }
-    let rest = &row[index / CELLS * CELLS..];
-    if rest.len() <= CELLS {
-        return Some(rest);
-    }
-    Some(&rest[..CELLS])
+    Some(page_from(row, index))
 }
