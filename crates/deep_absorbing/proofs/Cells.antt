@@ -7,10 +7,11 @@ use Rattle.running.specs.State.{sum_in}
 use Rattle.deep_strands.specs.Footprint.{Footprint, put}
 use Rattle.engine.specs.Flat.{cell_in, is_cell}
 use Rattle.engine.specs.Shows.{Layout, IsIn, ShowsCells, address}
-use Rattle.strand.specs.Buffers.{Buffers, change_in}
 use Rattle.strand.specs.declared.cells.Change.{Change}
 use Rattle.strand.specs.declared.cells.Change.TheVariants.{Stored, Delta}
-use Rattle.absorbing.specs.Putting.{IsPutInto, put_change}
+use Rattle.page_log.specs.Committing.{IsPutInto}
+use Rattle.page_log.specs.Known.{put_change}
+use Rattle.page_log.specs.Logs.{Log}
 use Rattle.deep_strand.specs.Kept.{ShowsKept, write_of}
 
 below_or : (a b : ℕ) → (a < b) ⊎ (a < b → ⊥)
@@ -18,7 +19,7 @@ below_or a zero = inr (λ h. omega (arith, h))
 below_or zero (suc b) = inl (omega arith)
 below_or (suc a) (suc b) = elim (below_or a b) [ inl h ↦ inl (omega (arith, h)) | inr h ↦ inr (λ k. h (omega (arith, k))) ]
 
-module _ (l : Layout) (f : Footprint) (b : Buffers) (kept : ShowsKept l f b) (m : Memory) (old new : List ℤ) (were : ShowsCells l (is_cell old) (λ a z. cell_in old a ≡ Some z) m) (puts : IsPutInto b.writes old new) where
+module _ (l : Layout) (f : Footprint) (b : Log) (kept : ShowsKept l f b) (m : Memory) (old new : List ℤ) (were : ShowsCells l (is_cell old) (λ a z. cell_in old a ≡ Some z) m) (puts : IsPutInto b old new) where
   abbrev pub later : Memory
   later x = put (f.writes x) (m x)
 
@@ -49,7 +50,7 @@ module _ (l : Layout) (f : Footprint) (b : Buffers) (kept : ShowsKept l f b) (m 
   pub cells_later : ShowsCells l (is_cell new) (λ a z. cell_in new a ≡ Some z) later
   cells_later = record {
     values = λ c z e.
-        puts.cells (address l c) ∙ value_put c z (change_in b.writes (address l c)) (ap (λ u. put u (m c)) (sym (kept.writes c (inside_later c z e))) ∙ e);
+        puts.cells (address l c) ∙ value_put c z (b.writes (address l c)) (ap (λ u. put u (m c)) (sym (kept.writes c (inside_later c z e))) ∙ e);
     inside = inside_later;
     reached = λ c here. kept_cell (address l c) (were.reached c here);
     apart = were.apart;

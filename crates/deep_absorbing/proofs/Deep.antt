@@ -1,8 +1,5 @@
 -- A pile that fits a run is a deep strand of the machine that is shown.
-use Rattle.std.proofs.Common.{◌≡◌, ◌∙◌, ℕ, suc, List, [], ◌∷◌, length, reverse, Option, Some, None, Bool, true, false, cond, find, refl, sym, ap, subst, ℤ}
-use Rattle.std.specs.Option.{option_map}
-use Rattle.std.specs.Ordering.{int_eq}
-use Rattle.std.proofs.lemmas.Bool.Decides.{Decides-int_eq}
+use Rattle.std.proofs.Common.{◌≡◌, ◌∙◌, ℕ, List, [], ◌∷◌, length, reverse, Option, Some, None, Bool, true, false, refl, sym, ap, subst}
 use Rattle.std.proofs.lemmas.Option.{same_Some}
 use Rattle.std.proofs.lemmas.List.Elements.{All-cons, All-nil}
 use Rattle.std.specs.List.{All}
@@ -19,8 +16,7 @@ use Rattle.engine.specs.declared.activation.Places.{Places}
 use Rattle.engine.specs.Flat.{cell_in}
 use Rattle.engine.specs.Shows.{IsIn, Layout, address}
 use Rattle.frame.specs.Reading.{wait_of}
-use Rattle.strand.specs.Buffers.{value_in}
-use Rattle.strand.specs.declared.cells.Read.{Read}
+use Rattle.page_log.specs.Tables.{log_of}
 use Rattle.strand.proofs.Beginning.{copy_back, copy_shows}
 use Rattle.crew.specs.declared.activation.Activation.{Activation}
 use Rattle.crew.specs.declared.run.Run.{Run}
@@ -30,7 +26,6 @@ use Rattle.crew.specs.Shown.{IsShown, place_of}
 use Rattle.crew.proofs.Onward.{free_callee, seen, standing}
 use Rattle.crew.proofs.Standing.{can_step, may_go_on}
 use Rattle.crew.proofs.Views.{hand_seen}
-use Rattle.absorbing.specs.Fitting.{HoldReads}
 use Rattle.absorbing.proofs.Sound.{never_traps}
 use Rattle.deep_strands.specs.Deep.{DeepStrand, IsDeep, Placed}
 use Rattle.deep_strands.specs.Law.{Fits, IsOrderly, ReadsAgree, Runs}
@@ -49,20 +44,6 @@ pub record IsDeepStrand (prog : Program) (places : Places) (k : Run) (worker : �
   pub fits : Fits m worker strand
   -- the base waits for no call
   pub free : WaitsForNone strand.base.frame.waits
-
--- ---- reads
-
--- what is found among the reads is what the row holds
-read_holds : (reads : List Read) (row : List ℤ) → HoldReads reads row → (a v : ℤ) → value_in reads a ≡ Some v → cell_in row a ≡ Some v
-read_holds [] row hold a v e = absurd cc
-read_holds (r ∷ reads) row hold a v e = by (int_eq a r.at) refl (λ h. read_holds reads row (λ i s at. hold (suc i) s at) a v h)
-  where
-    by : (b : Bool) → int_eq a r.at ≡ b → (value_in reads a ≡ Some v → cell_in row a ≡ Some v) → cell_in row a ≡ Some v
-    by true is more =
-        let here : a ≡ r.at = (Decides-int_eq a r.at).0 is in
-        let value : Some r.value ≡ Some v = sym (ap (λ t. option_map (λ (x : Read). x.value) (cond t (Some r) (find (λ (x : Read). int_eq a x.at) reads))) is) ∙ e in
-        ap (cell_in row) here ∙ (hold 0 r refl ∙ value)
-    by false is more = more (sym (ap (λ t. option_map (λ (x : Read). x.value) (cond t (Some r) (find (λ (x : Read). int_eq a x.at) reads))) is) ∙ e)
 
 -- ---- regions
 
@@ -139,8 +120,8 @@ module _ (prog : Program) (places : Places) (k : Run) (worker slot : ℕ) (x : P
   reads_agree : ReadsAgree m along.strand
   reads_agree c v z read has =
       let inside : IsIn l c = shown.shows.cells.inside c z has in
-      let found : value_in x.cells.reads (address l c) ≡ Some v = sym (along.shown.kept.reads c inside) ∙ read in
-      let held : cell_in k.cells.cells.items (address l c) ≡ Some v = read_holds x.cells.reads k.cells.cells.items fits.reads (address l c) v found in
+      let found : (log_of x.cells).reads (address l c) ≡ Some v = sym (along.shown.kept.reads c inside) ∙ read in
+      let held : cell_in k.cells.cells.items (address l c) ≡ Some v = fits.reads (address l c) v found in
       same_Some z v (sym (shown.shows.cells.values c z has) ∙ held)
 
   pub deep_strand : IsDeepStrand prog places k worker x m

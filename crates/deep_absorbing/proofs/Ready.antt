@@ -1,11 +1,7 @@
 -- What a pile that fits a run gives: its writes are cells of the row, and its frames can be counted.
-use Rattle.std.proofs.Common.{◌≡◌, ◌∙◌, ◌+◌, ◌<◌, ◌≤◌, ℕ, zero, suc, List, [], ◌∷◌, length, reverse, Some, Bool, true, false, cond, find, refl, sym, ap, subst, arith, ℤ}
+use Rattle.std.proofs.Common.{◌≡◌, ◌≢◌, ◌∙◌, ◌+◌, ◌<◌, ◌≤◌, ℕ, zero, suc, List, [], ◌∷◌, length, reverse, Option, Some, None, Bool, true, false, cond, refl, sym, ap, subst, arith, ℤ}
 use Rattle.std.specs.Prelude.{IsTrue, slice_get}
-use Rattle.std.specs.Option.{option_map}
-use Rattle.std.specs.Ordering.{int_eq}
-use Rattle.std.proofs.lemmas.Bool.Decides.{Decides-int_eq}
 use Rattle.std.proofs.lemmas.List.{length-reverse}
-use Rattle.std.proofs.lemmas.Option.{same_Some}
 use Rattle.running.specs.Paths.{Path}
 use Rattle.running.specs.State.{State, children_within, outside}
 use Rattle.running.specs.Counts.{count_of}
@@ -19,9 +15,8 @@ use Rattle.engine.specs.declared.activation.Frame.{Frame}
 use Rattle.engine.specs.declared.activation.Places.{Places}
 use Rattle.engine.specs.Flat.{is_cell}
 use Rattle.engine.specs.Shows.{Layout}
-use Rattle.strand.specs.Buffers.{change_in}
 use Rattle.strand.specs.declared.cells.Change.{Change}
-use Rattle.strand.specs.declared.cells.Written.{Written}
+use Rattle.page_log.specs.Tables.{log_of}
 use Rattle.crew.specs.declared.activation.Activation.{Activation}
 use Rattle.crew.specs.declared.run.Run.{Run}
 use Rattle.crew.specs.Scheduling.{counted_in}
@@ -45,21 +40,10 @@ use Rattle.engine.proofs.Turns.{there_is}
 use Rattle.deep_absorbing.proofs.Bases.{as_base}
 use Rattle.deep_absorbing.proofs.Regions.{base_regions, lowest_frame, regions_fit}
 
--- what is listed is found
-change_there : (ws : List Written) (i : ℕ) (w : Written) → slice_get ws i ≡ Some w → (u : Change) × (change_in ws w.at ≡ Some u)
-change_there [] i w e = absurd cc
-change_there (v ∷ ws) i w e = by (int_eq w.at v.at) refl i e (λ j at. change_there ws j w at)
-  where
-    by : (b : Bool) → int_eq w.at v.at ≡ b → (j : ℕ) → slice_get (v ∷ ws) j ≡ Some w → ((j : ℕ) → slice_get ws j ≡ Some w → (u : Change) × (change_in ws w.at ≡ Some u)) →
-        (u : Change) × (change_in (v ∷ ws) w.at ≡ Some u)
-    by true is j at later = (v.change, ap (λ t. option_map (λ (x : Written). x.change) (cond t (Some v) (find (λ (x : Written). int_eq w.at x.at) ws))) is)
-    by false is zero at later =
-        let same : v ≡ w = same_Some v w at in
-        let yes : int_eq w.at v.at ≡ true = (Decides-int_eq w.at v.at).1 (ap (λ (x : Written). x.at) (sym same)) in
-        absurd (let e2 : true ≡ false = sym yes ∙ is in cc)
-    by false is (suc j) at later =
-        let (u, found) = later j at in
-        (u, ap (λ t. option_map (λ (x : Written). x.change) (cond t (Some v) (find (λ (x : Written). int_eq w.at x.at) ws))) is ∙ found)
+-- what is not nothing is something
+some_change : (o : Option Change) → o ≢ None → (u : Change) × (o ≡ Some u)
+some_change None there = absurd (there refl)
+some_change (Some u) there = (u, refl)
 
 children_most : (s : State) (q : Path) (r n : ℕ) → children_within s q n r ≤ n
 children_most s q r zero = omega arith
@@ -92,10 +76,10 @@ module _ (prog : Program) (places : Places) (k : Run) (x : Pile) (worker slot : 
   abbrev m : Machine
   m = st.machine
 
-  pub within_row : (i : ℕ) (w : Written) → slice_get x.cells.writes i ≡ Some w → IsTrue (is_cell k.cells.cells.items w.at)
-  within_row i w at =
-      let (u, found) = change_there x.cells.writes i w at in
-      let (c, inside, is_at) = d.shown.kept.written_there w.at u found in
+  pub within_row : (a : ℤ) → (log_of x.cells).writes a ≢ None → IsTrue (is_cell k.cells.cells.items a)
+  within_row a written =
+      let (u, found) = some_change ((log_of x.cells).writes a) written in
+      let (c, inside, is_at) = d.shown.kept.written_there a u found in
       subst (λ (a : ℤ). IsTrue (is_cell k.cells.cells.items a)) (sym is_at) (st.shown.shows.cells.reached c inside)
 
   pub counted_after : x.done + m.core.done + 2 < 9223372036854775808

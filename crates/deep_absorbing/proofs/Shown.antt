@@ -35,7 +35,8 @@ use Rattle.crew.proofs.Changed.{Holds, Told, alike, changed_by, changed_by_shown
 use Rattle.crew.proofs.Handing.{held_then, others_stay, seen_at, seen_then}
 use Rattle.crew.proofs.Onward.{seen}
 use Rattle.crew.proofs.Views.{hand_seen}
-use Rattle.absorbing.specs.Putting.{IsPutInto}
+use Rattle.page_log.specs.Committing.{IsPutInto}
+use Rattle.page_log.specs.Tables.{log_of}
 use Rattle.deep_strands.specs.Deep.{Placed}
 use Rattle.deep_strands.specs.Law.{IsOrderly, absorbed, no_count}
 use Rattle.deep_strand.specs.declared.pile.Pile.{Pile}
@@ -109,7 +110,7 @@ module _ (prog : Program) (places : Places) (moves : ℕ) (text : TextFits prog 
         (grows node shown.agrees.tree fits.stands rises free).tree
 
     module _ (new : Frames Activation) (tree : IsTree new) (base : Activation) (is_base : IsBase x node.frame base) (slots : List ℕ) (seats : AreSeated k.cactus new slot node.path.numbers base links slots) (cells : Flat)
-        (puts : IsPutInto x.cells.writes k.cells.cells.items cells.cells.items) where
+        (puts : IsPutInto (log_of x.cells) k.cells.cells.items cells.cells.items) where
       abbrev top : ℕ
       top = last_of slot slots
 
@@ -243,7 +244,7 @@ module _ (prog : Program) (places : Places) (moves : ℕ) (text : TextFits prog 
         seen = seen_then prog places m k shown slot node fits.stands worker fits.hand within (Some top) new (Some d.strand.top.path) seen_top (λ z n away stands. still z n stands);
         held = held_then prog places m k shown slot node fits.stands worker fits.hand within (Some top) new lives_top (λ z n away stands. still z n stands);
         made = few;
-        holds_cells = cells_later l d.strand.footprint x.cells d.shown.kept m.core.memory k.cells.cells.items cells.cells.items shown.shows.cells puts;
+        holds_cells = cells_later l d.strand.footprint (log_of x.cells) d.shown.kept m.core.memory k.cells.cells.items cells.cells.items shown.shows.cells puts;
         done_is = (let a = d.shown.done in let b = shown.shows.done in omega (arith, a, b));
         peak_is = (let a = d.shown.deepest in let b = shown.shows.peak in omega (arith, a, b));
         result = refl;

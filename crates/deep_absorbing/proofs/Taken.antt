@@ -1,5 +1,5 @@
 -- What a commit asks for, of a pile that is under way and fits a run that stands safely.
-use Rattle.std.proofs.Common.{◌≡◌, ◌∙◌, ◌+◌, ◌<◌, ℕ, List, length, Option, Some, refl, sym, ap, subst, arith}
+use Rattle.std.proofs.Common.{◌≡◌, ◌≢◌, ◌∙◌, ◌+◌, ◌<◌, ℕ, ℤ, List, length, Option, Some, None, refl, sym, ap, subst, arith}
 use Rattle.std.specs.Prelude.{IsSome, IsTrue, slice_get}
 use Rattle.std.specs.Option.{option_map}
 use Rattle.std.proofs.Math.Logic.{∥∥₁_elim, ∥∥₁_map}
@@ -13,7 +13,7 @@ use Rattle.cactus.specs.Chain.{AddsChain, GrowsChain}
 use Rattle.engine.specs.declared.activation.Frame.{Frame}
 use Rattle.engine.specs.declared.activation.Places.{Places}
 use Rattle.engine.specs.Flat.{is_cell}
-use Rattle.strand.specs.declared.cells.Written.{Written}
+use Rattle.page_log.specs.Tables.{log_of}
 use Rattle.crew.specs.declared.activation.Activation.{Activation}
 use Rattle.crew.specs.declared.run.Run.{Run}
 use Rattle.crew.specs.Follows.{Follows}
@@ -58,8 +58,8 @@ module _ (prog : Program) (places : Places) (moves : ℕ) (text : TextFits prog 
   pub counted : k.instructions + x.done < 18446744073709551616
   counted = ∥∥₁_elim way (hlevel props) (λ w. ∥∥₁_elim safe (hlevel props) (λ st. steps_room prog places k x worker slot fits st (strand_of w st)))
 
-  pub within : (i : ℕ) (w : Written) → slice_get x.cells.writes i ≡ Some w → IsTrue (is_cell k.cells.cells.items w.at)
-  within i u at = ∥∥₁_elim way (hlevel props) (λ w. ∥∥₁_elim safe (hlevel props) (λ st. within_row prog places k x worker slot fits st (strand_of w st) i u at))
+  pub within : (a : ℤ) → (log_of x.cells).writes a ≢ None → IsTrue (is_cell k.cells.cells.items a)
+  within a written = ∥∥₁_elim way (hlevel props) (λ w. ∥∥₁_elim safe (hlevel props) (λ st. within_row prog places k x worker slot fits st (strand_of w st) a written))
 
   -- ---- once the frames were made
 

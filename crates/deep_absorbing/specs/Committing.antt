@@ -12,7 +12,8 @@ use Rattle.engine.specs.declared.activation.Frame.{Frame}
 use Rattle.crew.specs.declared.activation.Activation.{Activation}
 use Rattle.crew.specs.declared.run.Run.{Run}
 use Rattle.crew.specs.Scheduling.{counted_in}
-use Rattle.absorbing.specs.Putting.{IsPutInto}
+use Rattle.page_log.specs.Committing.{IsPutInto}
+use Rattle.page_log.specs.Tables.{log_of}
 use Rattle.deep_strand.specs.declared.pile.Pile.{Pile}
 use Rattle.deep_absorbing.specs.Linking.{counted_above, frames_of}
 
@@ -73,7 +74,7 @@ pub record IsCommitted (old new : Run) (worker slot : ℕ) (x : Pile) (slots : L
   pub base : Activation
   pub is_base : IsBase x was base
   pub cactus : new.cactus ≡ linked_up (with_frame old.cactus slot base) slot slots
-  pub cells : IsPutInto x.cells.writes old.cells.cells.items new.cells.cells.items
+  pub cells : IsPutInto (log_of x.cells) old.cells.cells.items new.cells.cells.items
   pub only : new ≡ record old {
     cactus = new.cactus;
     cells = new.cells;

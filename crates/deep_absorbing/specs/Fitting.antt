@@ -6,7 +6,8 @@ use Rattle.strand.specs.Standing.{IsCopy}
 use Rattle.crew.specs.declared.activation.Activation.{Activation}
 use Rattle.crew.specs.declared.run.Run.{Run}
 use Rattle.crew.specs.Scheduling.{counted_in, hand_of}
-use Rattle.absorbing.specs.Fitting.{HoldReads}
+use Rattle.page_log.specs.Committing.{Agrees}
+use Rattle.page_log.specs.Tables.{log_of}
 use Rattle.deep_strand.specs.declared.pile.Pile.{Pile}
 
 abbrev pub HasNoChild : Activation → Type 0
@@ -20,4 +21,4 @@ pub record FitsDeep (k : Run) (worker : ℕ) (x : Pile) (slot : ℕ) : Type 0 wh
   pub path : node.path.numbers ≡ x.base.path.items
   pub frame : IsCopy x.base.frame node.frame.frame
   pub childless : x.base.childless ≡ true → HasNoChild node.frame
-  pub reads : HoldReads x.cells.reads k.cells.cells.items
+  pub reads : Agrees (log_of x.cells) k.cells.cells.items

@@ -1,4 +1,4 @@
-ghost use Rattle.std.specs.Prelude.{◌≡◌, ◌+◌, ◌^◌, ◌<◌, ℕ, IsSome, IsTrue, Some, length, slice_get, vec_len};
+ghost use Rattle.std.specs.Prelude.{◌≡◌, ◌≢◌, ◌+◌, ◌^◌, ◌<◌, ℕ, ℤ, IsSome, IsTrue, None, Some, length, slice_get, vec_len};
 ghost use Rattle.linear.specs.declared.form.RegisterId.{RegisterId};
 ghost use Rattle.program.specs.declared.identifier.BlockId.{BlockId};
 ghost use Rattle.frame.specs.declared.frame.Role.TheVariants as Role;
@@ -7,12 +7,11 @@ ghost use Rattle.crew.specs.declared.activation.Activation.{Activation as Living
 ghost use Rattle.crew.specs.Scheduling.{counted_in};
 ghost use Rattle.engine.specs.declared.activation.Frame.{Frame as ShownFrame};
 ghost use Rattle.engine.specs.Flat.{is_cell};
-ghost use Rattle.strand.specs.declared.cells.Written.{Written as ShownWritten};
+ghost use Rattle.page_log.specs.Tables.{log_of};
 ghost use Rattle.deep_absorbing.specs.Committing.{IsBase, IsCommitted, MayCount, last_of, linked_up, waiting_at};
 ghost use Rattle.deep_absorbing.specs.Linking.{frames_of};
 
 use crate::linking::{above, count_above, frame_of};
-use absorbing::put_writes;
 use cactus::Cactus;
 use crew::{Activation, Run};
 use deep_strand::Pile;
@@ -83,14 +82,14 @@ fn link_up(frames: &mut Cactus<Activation>, slot: usize, slots: &[usize]) -> usi
 pub(crate) fn commit(run: &mut Run, worker: u8, slot: usize, slots: &[usize], pile: &Pile)
     requires lives { IsSome (frame_at run.old.cactus slot) }
     requires worker { worker < vec_len run.old.hands }
-    requires within { (i : ℕ) (w : ShownWritten) → slice_get pile.now.cells.writes i ≡ Some w → IsTrue (is_cell run.old.cells.cells.items w.at) }
+    requires within { (a : ℤ) → (log_of pile.now.cells).writes a ≢ None → IsTrue (is_cell run.old.cells.cells.items a) }
     requires registers { (a : Living) → frame_at run.old.cactus slot ≡ Some a → (f : ShownFrame) → slice_get (frames_of pile.now) 0 ≡ Some f →
         length f.registers.items ≡ length a.frame.registers.items }
     requires counts { (a : Living) → frame_at run.old.cactus slot ≡ Some a → MayCount pile.now a }
     requires counted { run.old.instructions + pile.now.done < 2 ^ 64 }
     ensures { IsCommitted run.old run.new worker slot pile.now slots.now }
 {
-    put_writes(run.cells.cells.as_mut_slice(), pile.cells.writes());
+    pile.cells.write_into(run.cells.cells.as_mut_slice());
     let Some(base) = run.cactus.frame_mut(slot) else {
         unreachable!()
     };

@@ -1,7 +1,7 @@
 ghost use Rattle.std.specs.Prelude.{◌≡◌, ◌↔◌, ℕ, IfNone, IfSome, IsTrue, true};
 ghost use Rattle.deep_absorbing.specs.Fitting.{FitsDeep, HasNoChild};
 
-use absorbing::{hold_reads, is_same, same_numbers};
+use absorbing::{is_same, same_numbers};
 use crew::{Activation, Run};
 use deep_strand::Pile;
 
@@ -35,7 +35,7 @@ pub fn fitting_deep(run: &Run, worker: u8, pile: &Pile) -> Option<usize>
     if same_numbers(node.path.numbers.as_slice(), pile.base.path.as_slice())
         && is_same(&node.frame.frame, &pile.base.frame)
         && is_as_childless(pile, &node.frame)
-        && hold_reads(pile.cells.reads(), run.cells.cells.as_slice())
+        && pile.cells.reads_agree(run.cells.cells.as_slice())
     {
         Some(slot)
     } else {

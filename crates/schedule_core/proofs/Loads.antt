@@ -113,7 +113,7 @@ going_not_blank prog places x pause going blank =
 
 -- ---- what is loaded fits
 
-pub none_read : (reads : List Read) (row : List ℤ) → reads ≡ [] → HoldReads reads row
+none_read : (reads : List Read) (row : List ℤ) → reads ≡ [] → HoldReads reads row
 none_read reads row none i r e = absurd (let f : None ≡ Some r = sym (ap (λ (l : List Read). slice_get l i) none) ∙ e in cc)
 
 pub copy_back : (f g : Frame) → IsCopy f g → IsCopy g f

@@ -1,5 +1,5 @@
 -- What a pile did is so many steps of its worker, and a worker's frame that was loaded fits.
-use Rattle.std.proofs.Common.{◌≡◌, ℕ, [], length, Some, true, false, Bool, refl, sym, ap, subst}
+use Rattle.std.proofs.Common.{◌≡◌, ◌∙◌, ℕ, ℤ, length, Some, None, true, false, Bool, refl, sym, ap, subst}
 use Rattle.std.specs.Prelude.{Result, Ok, Err, OnErr}
 use Rattle.std.proofs.Math.Logic.{∥∥₁_elim, ∥∥₁_map}
 use Rattle.std.proofs.Props.{props}
@@ -16,6 +16,7 @@ use Rattle.crew.specs.declared.run.Run.{Run}
 use Rattle.crew.specs.Follows.{Follows}
 use Rattle.crew.specs.Scheduling.{hand_of}
 use Rattle.crew.specs.Starts.{ArePlaces}
+use Rattle.page_log.specs.Tables.{log_of}
 use Rattle.deep_strands.specs.Law.{absorbed}
 use Rattle.deep_strand.specs.Along.{IsUnderWay}
 use Rattle.deep_strand.specs.declared.pile.Pile.{Pile}
@@ -28,7 +29,7 @@ use Rattle.schedule_core.specs.Stages.{program_of, workers_of}
 use Rattle.schedule_core.specs.Strands.{TakesSteps}
 use Rattle.schedule_core.proofs.Bases.{loads_here, orderly_here}
 use Rattle.schedule_core.proofs.Commits.{absorbed_machine, same_places, takes_steps}
-use Rattle.schedule_core.proofs.Loads.{copy_back, none_read}
+use Rattle.schedule_core.proofs.Loads.{copy_back}
 use Rattle.schedule_core.proofs.Replaying.{with_run}
 
 pub places_in : (stage : Stage) → ∥ IsMachine stage ∥₁ → ArePlaces (program_of stage) stage.places
@@ -66,7 +67,7 @@ module _ (old : Stage) (k : Run) (many : length k.hands.items ≡ length old.run
 -- ---- a frame that is loaded
 
 module _ (stage : Stage) (kept : ∥ IsMachine stage ∥₁) (worker slot : ℕ) (node : Node Activation) (x : Pile) (hand : hand_of stage.run.hands.items worker ≡ Some slot) (stands : node_at stage.run.cactus slot ≡ Some node) where
-  pub is_begun : x.base.path.items ≡ node.path.numbers → IsCopy node.frame.frame x.base.frame → (x.base.childless ≡ true → HasNoChild node.frame) → x.done ≡ 0 → x.cells.reads ≡ [] →
+  pub is_begun : x.base.path.items ≡ node.path.numbers → IsCopy node.frame.frame x.base.frame → (x.base.childless ≡ true → HasNoChild node.frame) → x.done ≡ 0 → ((a : ℤ) → (log_of x.cells).reads a ≡ None) →
       ∥ IsUnderWay (program_of stage) stage.places x ∥₁ → IsBegun stage worker x
   is_begun path copy childless done reads way = record {
     way = λ places are. subst (λ (q : Places). ∥ IsUnderWay (program_of stage) q x ∥₁) (sym (same_places stage kept places are)) way;
@@ -79,7 +80,7 @@ module _ (stage : Stage) (kept : ∥ IsMachine stage ∥₁) (worker slot : ℕ)
         path = sym path;
         frame = copy_back node.frame.frame x.base.frame copy;
         childless = childless;
-        reads = none_read x.cells.reads stage.run.cells.cells.items reads;
+        reads = λ a v read. absurd (let none : None ≡ Some v = sym (reads a) ∙ read in cc);
       },
     );
     done = done;

@@ -18,6 +18,7 @@ pub use Rattle.absorbing.specs as absorbing
 pub use Rattle.absorbing.specs.strand as strand
 pub use Rattle.deep_absorbing.specs as deep_absorbing
 pub use Rattle.deep_strand.specs as deep_strand
+pub use Rattle.page_log.specs as page_log
 pub use Rattle.engine.specs as engine
 pub use Rattle.crew.specs as crew
 pub use Rattle.program.specs as program

@@ -1,9 +1,10 @@
 -- What piles are to a stage: stacks of frames that went on apart, from a worker's frame on.
-use Rattle.std.specs.Prelude.{◌≡◌, ℕ, [], length, None}
+use Rattle.std.specs.Prelude.{◌≡◌, ℕ, ℤ, length, None}
 use Rattle.running.specs.Events as running
 use Rattle.program.specs.declared.function.Program.{Program}
 use Rattle.engine.specs.declared.activation.Places.{Places}
 use Rattle.crew.specs.Starts.{ArePlaces, HasMoves}
+use Rattle.page_log.specs.Tables.{log_of}
 use Rattle.deep_strand.specs.Along.{IsUnderWay}
 use Rattle.deep_strand.specs.declared.pile.Pile.{Pile}
 use Rattle.deep_absorbing.specs.Fitting.{FitsDeep}
@@ -29,7 +30,7 @@ pub record IsBegun (stage : Stage) (worker : ℕ) (x : Pile) : Type 0 where
   pub way : (places : Places) → ArePlaces (program_of stage) places → ∥ IsUnderWay (program_of stage) places x ∥₁
   pub fits : FitsStack stage worker x
   pub done : x.done ≡ 0
-  pub reads : x.cells.reads ≡ []
+  pub reads : (a : ℤ) → (log_of x.cells).reads a ≡ None
 
 abbrev pub RunsNothing : Stage → ℕ → Type 0
 RunsNothing stage worker = (m : running.Machine) → IsState stage m → m.hands worker ≡ None

@@ -1,7 +1,10 @@
 //! Piles: what a worker did outside of the machine on a stack of its own, across calls, detaches and what ends them, done at once.
-ghost use Rattle.std.specs.Prelude.{◌≡◌, ◌↔◌, ◌≤◌, IfOk, IsTrue, Ok, OnErr, OnOk, false, true};
+ghost use Rattle.std.specs.Prelude.{◌≡◌, ◌↔◌, ◌≤◌, IfNone, IfOk, IfSome, IsSome, IsTrue, None, Ok, OnErr, OnOk, OnSome, false, length, true};
 ghost use Rattle.crew.specs.Follows.{Follows};
 ghost use Rattle.crew.specs.Starts.{ArePlaces};
+ghost use Rattle.engine.specs.Flat.{cell_in};
+ghost use Rattle.page_log.specs.Logs.{filled_log, page_around};
+ghost use Rattle.page_log.specs.Tables.{log_of};
 ghost use Rattle.deep_strand.specs.Along.{IsUnderWay};
 ghost use Rattle.deep_strand.specs.Going.{IsGoing};
 ghost use Rattle.schedule_core.specs.Piles.{FitsStack, HasRoomFor, IsBegun, IsPileOf, RunsNothing};
@@ -18,6 +21,7 @@ use deep_strand::{Pause, Pile};
 use engine::Places;
 use lists::OutOfMemory;
 use outcome::Verified;
+use page_log::page_around;
 use std::alloc::Global;
 
 /// A pile without a base, with room for the phi moves of the module.
@@ -57,13 +61,15 @@ pub fn advance_pile(
     pile.go(verified.program(), places, limit)
 }
 
-/// The cell at the address, which the pile needs, holds the value.
-pub fn fill_pile(pile: &mut Pile, verified: &Verified, places: &Places, at: i64, value: i64)
+/// The page of the address, whose cell the pile needs, holds these values.
+pub fn fill_pile(pile: &mut Pile, verified: &Verified, places: &Places, at: i64, page: &[i64])
+    requires few { length page.now ≤ 64 }
     requires going { ∥ IsGoing verified.now places.now pile.old (Pause.Need at) ∥₁ }
     ensures only { pile.new ≡ record pile.old { cells = pile.new.cells } }
+    ensures filled { log_of pile.new.cells ≡ filled_log (log_of pile.old.cells) at page.now }
     ensures way { ∥ IsUnderWay verified.now places.now pile.new ∥₁ }
 {
-    pile.fill(verified.program(), places, &at, &value);
+    pile.fill(verified.program(), places, &at, page);
 }
 
 /// A pile's steps, if the pile fits. The answer is whether it does; where it does not, nothing changes.
@@ -121,7 +127,22 @@ impl Machine<'_> {
             return Ok(false);
         };
         let childless = has_no_child(&node.frame);
-        pile.load(&node.frame.frame, node.path.numbers.as_slice(), childless)?;
+        pile.load(
+            &node.frame.frame,
+            node.path.numbers.as_slice(),
+            childless,
+            self.stage.run.cells.cells.len(),
+        )?;
         Ok(true)
+    }
+
+    /// What the cells of an address's page hold, from the page's first cell on; none where there is no cell at the address.
+    pub fn page_at(&self, at: i64) -> Option<&[i64]>
+        ensures page { IfSome result (λ page. page.now ≡ page_around self.now.stage.run.cells.cells.items at) }
+        ensures few { IfSome result (λ page. length page.now ≤ 64) }
+        ensures there { OnSome result (IsSome (cell_in self.now.stage.run.cells.cells.items at)) }
+        ensures none { IfNone result (cell_in self.now.stage.run.cells.cells.items at ≡ None) }
+    {
+        page_around(self.stage.run.cells.cells.as_slice(), at)
     }
 }

@@ -1,9 +1,11 @@
 -- A worker's private stack, and what the calls of a board do with it.
-use Rattle.std.specs.Prelude.{◌≡◌, ◌≢◌, ⊤, ℕ, ℤ, ◌++◌, replicate, None, Some, Bool, true, false, List, reverse}
+use Rattle.std.specs.Prelude.{◌≡◌, ◌≢◌, ⊤, ℕ, ℤ, ◌++◌, replicate, IsSome, None, Bool, true, false, List, reverse}
 use Rattle.program.specs.declared.function.Program.{Program}
 use Rattle.frame.specs.declared.event.Event.TheVariants.{Step}
 use Rattle.schedule_core.specs.engine.declared.activation.Places.{Places}
 use Rattle.schedule_core.specs.engine.Flat.{cell_in}
+use Rattle.schedule_core.specs.page_log.Logs.{filled_log, page_around}
+use Rattle.schedule_core.specs.page_log.Tables.{log_of}
 use Rattle.schedule_core.specs.deep_strand.Along.{IsUnderWay}
 use Rattle.schedule_core.specs.deep_strand.Going.{IsGoing}
 use Rattle.schedule_core.specs.deep_strand.declared.pile.Pile.{Pile}
@@ -60,11 +62,12 @@ Loads s p y loaded.Frame = (y.standing ≡ Going) × IsBegun s.stage p.worker y.
 Loads s p y loaded.Idle = (state_of s).hands p.worker ≡ None
 Loads s p y loaded.OutOfMemory = ⊤
 
--- the cell that it needs; or there is none, or it needs none, and it is as it was
+-- the page of the cell that it needs; or there is none, or it needs none, and it is as it was
 abbrev pub Fills : Story → Apart → Apart → Bool → Type 0
 Fills s x y true =
-    (at z : ℤ) × (x.standing ≡ Need at) × (cell_in s.stage.run.cells.cells.items at ≡ Some z) × (y.standing ≡ Going) ×
-    (y.pile ≡ record x.pile { cells = y.pile.cells })
+    (at : ℤ) × (x.standing ≡ Need at) × IsSome (cell_in s.stage.run.cells.cells.items at) × (y.standing ≡ Going) ×
+    (y.pile ≡ record x.pile { cells = y.pile.cells }) ×
+    (log_of y.pile.cells ≡ filled_log (log_of x.pile.cells) at (page_around s.stage.run.cells.cells.items at))
 Fills s x y false = (y ≡ x) × ((at : ℤ) → x.standing ≡ Need at → cell_in s.stage.run.cells.cells.items at ≡ None)
 
 -- ---- what is put on the board

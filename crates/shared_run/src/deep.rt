@@ -22,16 +22,16 @@ impl<L: Bench> Board<'_, L> {
         }
     }
 
-    /// Gives a private stack the cell that it needs. The answer is whether it needs one, and there is such a cell.
+    /// Gives a private stack the page of the cell that it needs. The answer is whether it needs one, and there is such a cell.
     pub fn fetch_need(&self, stack: &mut PrivateStack<'_, L>) -> bool
         ensures { Fills self.now stack.old stack.new result }
     {
         let Standing::Need { at } = stack.standing() else {
             return false;
         };
-        match self.machine().cell_at(at) {
-            Some(value) => {
-                stack.fill(at, value);
+        match self.machine().page_at(at) {
+            Some(page) => {
+                stack.fill(at, page);
                 true
             }
             None => false,

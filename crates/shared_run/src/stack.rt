@@ -1,5 +1,7 @@
-ghost use Rattle.std.specs.Prelude.{◌≡◌, ◌≢◌, ◌↔◌, IfOk, IfSome, IfNone, IsTrue, OnOk, Ok, false, true};
+ghost use Rattle.std.specs.Prelude.{◌≡◌, ◌≢◌, ◌↔◌, ◌≤◌, IfOk, IfSome, IfNone, IsTrue, OnOk, Ok, false, length, true};
 ghost use Rattle.crew.specs.Starts.{ArePlaces};
+ghost use Rattle.schedule_core.specs.page_log.Logs.{filled_log};
+ghost use Rattle.schedule_core.specs.page_log.Tables.{log_of};
 ghost use Rattle.schedule_core.specs.Piles.{IsBegun, IsPileOf, RunsNothing};
 ghost use Rattle.schedule_core.specs.Stages.{program_of};
 ghost use Rattle.shared_run.specs.Stacks.{IsUp, Onward};
@@ -26,7 +28,7 @@ pub enum Standing {
     Going,
     /// Next is what only the board can do.
     Border,
-    /// The next instruction needs a place in a buffer that is full.
+    /// The next instruction needs one more page of cells than there are.
     Full,
     /// The next instruction loads the cell at this address, which is not at hand.
     Need { at: i64 },
@@ -226,13 +228,15 @@ impl<'p, L: Bench> PrivateStack<'p, L> {
         }
     }
 
-    /// The cell that it needs, at this address, holds the value.
-    pub(crate) fn fill(&mut self, at: i64, value: i64)
-        requires { self.old.standing ≡ Standing.Need at }
+    /// The page of the cell that it needs, at this address, holds these values.
+    pub(crate) fn fill(&mut self, at: i64, page: &[i64])
+        requires few { length page.now ≤ 64 }
+        requires needs { self.old.standing ≡ Standing.Need at }
         ensures goes_on { self.new.standing ≡ Standing.Going }
         ensures only { self.new.pile ≡ record self.old.pile { cells = self.new.pile.cells } }
+        ensures filled { log_of self.new.pile.cells ≡ filled_log (log_of self.old.pile.cells) at page.now }
     {
-        fill_pile(&mut self.pile, self.verified, self.places, at, value);
+        fill_pile(&mut self.pile, self.verified, self.places, at, page);
         self.standing = Standing::Going;
     }
 }

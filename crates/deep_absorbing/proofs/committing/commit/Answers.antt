@@ -3,19 +3,21 @@ use Rattle.std.specs.Option.{option_copied_mut}
 use Rattle.std.specs.Vec.{with_item}
 use Rattle.std.proofs.lemmas.List.{with_items_is}
 use Rattle.engine.specs.declared.flat.Flat.{Flat}
-use Rattle.strand.specs.declared.cells.Written.{Written}
+use Rattle.page_log.specs.Committing.{IsPutInto}
+use Rattle.page_log.specs.Logs.{Log}
+use Rattle.page_log.specs.Tables.{log_of}
 use Rattle.crew.specs.declared.run.Run.{Run}
-use Rattle.absorbing.specs.Putting.{IsPutInto}
 use Rattle.deep_absorbing.proofs.committing.commit.Goals as goal
 
 pub returns : goal.returns
 returns c =
     let k = c.args.run.now in
     let x = c.args.pile.now in
-    let row = c.put_writes.new.row in
+    let log : Log = log_of x.cells in
+    let row = c.write_into.new.row in
     let after = c.set_hand.new.self in
     let set = c.set_hand.ensures in
-    let long : length row ≡ k.cells.cells.len = c.put_writes.ensures.long ∙ (ap (λ (xs : List ℤ). length xs) c.as_mut_slice.ensures.value ∙ sym k.cells.cells.ok.0) in
+    let long : length row ≡ k.cells.cells.len = c.write_into.ensures.long ∙ (ap (λ (xs : List ℤ). length xs) c.as_mut_slice.ensures.value ∙ sym k.cells.cells.ok.0) in
     record {
       was = c.in-Some.base.now;
       stood = sym c.frame_mut.ensures.value ∙ ap option_copied_mut c.in-Some.is;
@@ -23,10 +25,9 @@ returns c =
       is_base = c.write_base.ensures;
       cactus = ap (λ (r : Run). r.cactus) set ∙ c.link_up-top.ensures.linked;
       cells =
-          subst (λ (cs : Flat). IsPutInto x.cells.writes k.cells.cells.items cs.cells.items) (sym (ap (λ (r : Run). r.cells) set))
-          (subst (λ xs. IsPutInto x.cells.writes k.cells.cells.items xs) (sym (with_items_is k.cells.cells row long))
-          (subst (λ (ws : List Written). IsPutInto ws k.cells.cells.items row) c.writes.ensures.is
-          (subst (λ (old : List ℤ). IsPutInto c.writes.result.now old row) c.as_mut_slice.ensures.value c.put_writes.ensures)));
+          subst (λ (cs : Flat). IsPutInto log k.cells.cells.items cs.cells.items) (sym (ap (λ (r : Run). r.cells) set))
+          (subst (λ xs. IsPutInto log k.cells.cells.items xs) (sym (with_items_is k.cells.cells row long))
+          (subst (λ (old : List ℤ). IsPutInto log old row) c.as_mut_slice.ensures.value c.write_into.ensures));
       only =
           (λ i. record {
             alloc = (set i).alloc;

@@ -10,6 +10,7 @@ pub fill-requires : goal.fill-requires
 fill-requires c =
     let fit : FitsSigned w64 c.args.at = search rules in
     record {
+      few = c.requires.few;
       going = subst (λ (z : ℤ). ∥ IsGoing c.program.result.now c.args.places.now c.args.pile.now (Need z) ∥₁) (sym (to_z-of_z w64 c.args.at fit))
           (subst (λ (q : Program). ∥ IsGoing q c.args.places.now c.args.pile.now (Need c.args.at) ∥₁) (sym c.program.ensures.value) c.requires.going);
     }

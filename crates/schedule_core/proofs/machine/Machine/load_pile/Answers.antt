@@ -3,6 +3,7 @@ use Rattle.std.specs.Option.{option_copied}
 use Rattle.std.proofs.Math.Logic.{∥∥₁_map}
 use Rattle.cactus.specs.Frames.{node_at}
 use Rattle.crew.specs.Scheduling.{hand_of}
+use Rattle.page_log.specs.Logs.{Log}
 use Rattle.deep_strand.specs.Along.{MayBegin}
 use Rattle.deep_absorbing.specs.Fitting.{HasNoChild}
 use Rattle.schedule_core.specs.Stages.{program_of}
@@ -23,7 +24,7 @@ returns-clause-begun c here =
     let none : c.has_no_child-childless.result ≡ true → HasNoChild node.frame = c.has_no_child-childless.ensures.0 in
     let path = c.as_slice.ensures in
     let loaded = c.in_ok-load.ensures in
-    is_begun stage kept c.args.worker slot node c.load.new.self hand stands (loaded.path ∙ path) loaded.loaded (λ e. none (sym loaded.childless ∙ e)) loaded.done (ap (λ b. b.reads) loaded.reads)
+    is_begun stage kept c.args.worker slot node c.load.new.self hand stands (loaded.path ∙ path) loaded.loaded (λ e. none (sym loaded.childless ∙ e)) loaded.done (λ a. ap (λ (x : Log). x.reads a) loaded.cells)
     (∥∥₁_map (may_load stage kept c.args.worker slot node hand stands c.has_no_child-childless.result none) (λ begins.
     loaded.way (program_of stage) stage.places (frame_fits stage kept c.args.worker slot node hand stands)
     (subst (λ (l : List ℕ). MayBegin (program_of stage) stage.places l node.frame.frame c.has_no_child-childless.result) (sym path) begins)))
