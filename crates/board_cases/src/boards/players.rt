@@ -88,14 +88,18 @@ impl<'p, L: Bench> Player<'p, L> {
         loaded(answer)
     }
 
-    /// Goes on with the stack.
-    fn on(&mut self, count: u64) -> Answer {
-        let before = self.stack.standing();
-        let standing = self.stack.advance(count);
-        if standing == Standing::Spoilt && before != standing {
-            return Answer::OutOfMemory;
+    /// Goes on with the stack. One that was refused memory is loaded once more first.
+    fn on(&mut self, board: &Board<'_, L>, seat: &Seat<L>, count: u64) -> Answer {
+        if self.stack.standing() == Standing::Spoilt {
+            let answer = self.base(board, seat);
+            if !matches!(answer, Answer::Done(_)) {
+                return answer;
+            }
         }
-        Answer::Stands(standing, self.stack.done())
+        match self.stack.advance(count) {
+            Standing::Spoilt => Answer::OutOfMemory,
+            standing => Answer::Stands(standing, self.stack.done()),
+        }
     }
 
     /// Puts the stack on the board, and gets the tickets of the tasks that are ready then.
@@ -128,7 +132,7 @@ impl<'p, L: Bench> Player<'p, L> {
             Call::Advance => self.stand(),
             Call::Go => self.go(&*board, &*seat),
             Call::Base => self.base(&*board, &*seat),
-            Call::On => self.on(asked.count),
+            Call::On => self.on(&*board, &*seat, asked.count),
             Call::Need if board.fetch_need(&mut self.stack) => Answer::Done("cell"),
             Call::Need => Answer::Not("no need"),
             Call::Publish => self.publish(board, seat),
