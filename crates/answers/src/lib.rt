@@ -8,6 +8,7 @@
 mod dialogue;
 mod draw;
 mod job;
+mod json;
 mod requests;
 mod runs;
 mod tell;
@@ -25,3 +26,6 @@ pub use module_answers::{
 };
 pub use requests::{answer, effort_of};
 pub use runs::{prepared, print_run, print_unprepared};
+pub use tell::{is_told, tell_course};
+pub use tellings::{Crew, Effort};
+pub use traces::Course;
