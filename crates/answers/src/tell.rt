@@ -90,30 +90,35 @@ fn keep_told<W: Write>(
 }
 
 /// Tells of a run with the names of its text.
-fn tell_named<C: Course, W: Write>(
-    job: &Job<'_>,
-    module: &Module,
+fn tell_named<'x, C: Course, W: Write>(
+    job: &Job<'x>,
+    module: &'x Module,
     memory: Memory,
     course: &mut C,
-    crew: Crew<'_>,
+    crew: Crew<'x>,
     output: &mut W,
     beside: &mut Beside,
 ) -> io::Result<Status>
     requires { IsMadeFor job.now.verified.now memory }
 {
     let alloc = job.alloc;
-    let Ok(names) = Names::of(alloc, job.verified.program(), module) else {
+    let program = job.verified.program();
+    let Ok(names) = Names::of(alloc, program, module) else {
         return Err(io::Error::from(AllocError));
     };
-    let lines: Vec<&str> = job.source().lines().collect(alloc)?;
+    let source = job.source();
+    let list: Vec<&str> = source.lines().collect(alloc)?;
+    let title = job.request.file.as_str();
+    let lines = list.as_slice();
+    let arguments = job.request.args.as_slice();
     let subject = Subject {
         alloc,
         verified: job.verified,
         names: &names,
-        title: job.request.file.as_str(),
-        source: job.source(),
-        lines: lines.as_slice(),
-        arguments: job.request.args.as_slice(),
+        title,
+        source,
+        lines,
+        arguments,
         workers: job.request.workers,
         crew,
     };
@@ -128,18 +133,22 @@ fn tell_named<C: Course, W: Write>(
 }
 
 /// Runs by the events of a course. What is asked to be told of them comes before the answer, the figures after it.
-pub fn tell_course<C: Course, W: Write>(
-    job: &Job<'_>,
+pub fn tell_course<'x, C: Course, W: Write>(
+    job: &Job<'x>,
     memory: Memory,
     course: &mut C,
-    crew: Crew<'_>,
+    crew: Crew<'x>,
     output: &mut W,
     beside: &mut Beside,
 ) -> io::Result<Status>
     requires { IsMadeFor job.now.verified.now memory }
 {
     match read(job.alloc, job.state, job.text) {
-        Ok(module) => tell_named(job, &module, memory, course, crew, output, beside),
+        Ok(module) => {
+            let near = *job;
+            let crew = Crew { ..crew };
+            tell_named(&near, &module, memory, course, crew, output, beside)
+        }
         // It was read before.
         Err(_) => stop_for_memory(output),
     }
@@ -163,7 +172,11 @@ fn tell_schedule<W: Write>(
         Err(status) => return print_unprepared(status, output),
     };
     let mut course = Listed::new(job.alloc, events.as_slice());
-    tell_course(job, memory, &mut course, Crew::none(), output, beside)
+    let crew = Crew {
+        efforts: &[],
+        microseconds: 0,
+    };
+    tell_course(job, memory, &mut course, crew, output, beside)
 }
 
 /// Runs by a schedule, and tells of its events where that is asked for.

@@ -93,7 +93,8 @@ fn tell_recorded<W: Write>(
         next: 0,
         done: 0,
     };
-    tell_course(job, memory, &mut events, crew, output, beside)
+    let near = *job;
+    tell_course(&near, memory, &mut events, crew, output, beside)
 }
 
 /// Runs the module on workers, each on a thread of its own, and tells of the events that were done.
