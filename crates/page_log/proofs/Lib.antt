@@ -1,0 +1,9 @@
+pub mod Addresses
+pub mod Changing
+pub mod Committed
+pub mod Holding
+pub mod Keeping
+pub mod Paged
+pub mod Rows
+pub mod Scanning
+pub mod Slots
