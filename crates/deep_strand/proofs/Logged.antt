@@ -9,7 +9,7 @@ use Rattle.running.specs.Effect.{stores}
 use Rattle.running.specs.Frames.{Frame}
 use Rattle.running.proofs.Actions.{same_cell_itself}
 use Rattle.running.proofs.SameCells.{same_cell_tells}
-use Rattle.deep_strands.specs.Footprint.{Footprint, Write, added_to, held, known, put, raised, settled, stored, untouched, with_read, with_writes}
+use Rattle.deep_strands.specs.Footprint.{Footprint, Write, added_to, held, known, raised, settled, stored, untouched, with_read, with_writes}
 use Rattle.engine.specs.Shows.{Layout, IsIn, address}
 use Rattle.strand.specs.Buffers.{raised_change}
 use Rattle.strand.specs.Showing.{AreApart}
