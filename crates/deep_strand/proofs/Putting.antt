@@ -27,7 +27,7 @@ there (x ∷ xs) (suc n) lt = there xs n (omega (arith, lt))
 pub own_there : (x : PileCells) (a : ℤ) (place : ℕ) → a ≡ pos (x.start + place) → place < length x.own.items → (v : ℤ) × (own_cell x a ≡ Some v)
 own_there x a place is within = let (v, here) = there x.own.items place within in (v, own_place x a place is ∙ here)
 
-set_long : (xs : List ℤ) (n : ℕ) (z : ℤ) → length (slice_set xs n z) ≡ length xs
+pub set_long : (xs : List ℤ) (n : ℕ) (z : ℤ) → length (slice_set xs n z) ≡ length xs
 set_long [] n z = refl
 set_long (x ∷ xs) zero z = refl
 set_long (x ∷ xs) (suc n) z = ap suc (set_long xs n z)

@@ -1,5 +1,9 @@
-ghost use Rattle.std.specs.Prelude.{◌≡◌, ◌<◌, ◌≤◌, ◌+◌, pos, IfNone, IfSome, None, Some, length, slice_get};
+ghost use Rattle.std.specs.Prelude.{◌≡◌, ◌≢◌, ◌<◌, ◌≤◌, ◌+◌, ◌↔◌, ℤ, pos, IfNone, IfSome, IsTrue, None, Some, length, slice_get};
+ghost use Rattle.engine.specs.Flat.{is_cell};
+ghost use Rattle.page_log.specs.Committing.{Agrees};
+ghost use Rattle.page_log.specs.Tables.{log_of};
 ghost use Rattle.deep_strand.specs.OwnCells.{CellsDo, CellsRefuse, any_cell, may_be, own_cell};
+ghost use Rattle.deep_strand.specs.Putting.{ArePutInto, IsCopiedTo};
 
 use engine::{Cells, sum};
 use page_log::PageLog;
@@ -45,6 +49,43 @@ impl PileCells {
         ensures { result ≤ self.now.start + length self.now.own.items }
     {
         self.start.saturating_add(self.own.len() as u64)
+    }
+}
+
+/// Copies so many numbers to a place in the row.
+fn copy_to(row: &mut [i64], place: usize, numbers: &[i64], count: usize)
+    requires numbers { count ≤ length numbers.now }
+    requires row { place + count ≤ length row.old }
+    ensures { IsCopiedTo numbers.now count place row.old row.new }
+{
+    for number in 0..count {
+        row[place + number] = number_at(numbers, number);
+    }
+}
+
+impl PileCells {
+    /// Whether the row of the board's cells holds what was read of it.
+    pub fn reads_agree(&self, row: &[i64]) -> bool
+        ensures { IsTrue result ↔ Agrees (log_of self.now.log) row.now }
+    {
+        self.log.reads_agree(row)
+    }
+
+    /// Puts the cells of its own frames, which end here, and what it wrote of others into the row of the board's cells.
+    pub fn write_into(&self, end: u64, row: &mut [i64])
+        requires begins { self.now.start ≤ end }
+        requires own { end ≤ self.now.start + length self.now.own.items }
+        requires row { end ≤ length row.old }
+        requires written { (a : ℤ) → (log_of self.now.log).writes a ≢ None → IsTrue (is_cell row.old a) }
+        ensures { ArePutInto self.now end row.old row.new }
+    {
+        self.log.write_into(row);
+        copy_to(
+            row,
+            self.start as usize,
+            self.own.as_slice(),
+            (end - self.start) as usize,
+        );
     }
 }
 
