@@ -6,8 +6,8 @@ use Rattle.std.proofs.lemmas.Int.{ints}
 use Rattle.linear.specs.Forms.{Combination, constant_form}
 use Rattle.linear.specs.declared.form.Fact.{Fact}
 use Rattle.ranges.specs.cfg.declared.structure.Move.{Move}
-use Rattle.ranges.specs.obligations.declared.sum.Part.{Part}
-use Rattle.ranges.specs.obligations.declared.sum.Sum.{Sum}
+use Rattle.ranges.specs.ranges_owed.declared.sum.Part.{Part}
+use Rattle.ranges.specs.ranges_owed.declared.sum.Sum.{Sum}
 use Rattle.ranges.specs.Sums.{with_parts, start_of, sum_form, shows_form, shows}
 use Rattle.cost_table.specs.Rules.{left_behind, less_form}
 use Rattle.cost_table.specs.Tables.{as_u128}

@@ -15,10 +15,10 @@ use Rattle.program.specs.declared.instruction.Terminator.{Terminator}
 use Rattle.program.specs.declared.instruction.Terminator.TheVariants as terminator
 use Rattle.refusal.specs.declared.broken.Broken.{Broken}
 use Rattle.ranges.specs.cfg.declared.structure.Move.{Move}
-use Rattle.ranges.specs.obligations.declared.sum.Sum.{Sum}
+use Rattle.ranges.specs.ranges_owed.declared.sum.Sum.{Sum}
 use Rattle.ranges.specs.declared.table.EdgeFacts.{EdgeFacts}
 use Rattle.ranges.specs.Sums.{shows}
-use Rattle.ranges.specs.obligations.Inequalities.{parts_of, argument_moves}
+use Rattle.ranges.specs.ranges_owed.Inequalities.{parts_of, argument_moves}
 use Rattle.ranges.specs.Places.{start_facts, facts_at_step, facts_at_end, edges_known}
 use Rattle.cost_table.specs.Cost.{cost, calls_done, instructions_done}
 

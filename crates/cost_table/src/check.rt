@@ -13,7 +13,7 @@ use crate::judge::{
 };
 use crate::table::{Table, make_table};
 use crate::work::work_of;
-use entailment::{Effort, FactCursor};
+use linear_shown::{Effort, FactCursor};
 use linear::Fact;
 use lists::OutOfMemory;
 use program::{Block, Function, Program, Step};

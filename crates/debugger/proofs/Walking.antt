@@ -3,7 +3,7 @@ use Rattle.std.proofs.Common.{◌≡◌, ◌≢◌, ◌↔◌, inl, inr, ℕ, �
 use Rattle.std.proofs.lemmas.Bool.Decides.{eqb_tells}
 use Rattle.std.proofs.lemmas.List.{take_more}
 use Rattle.std.specs.Prelude.{IfNone, IfSome, IsTrue}
-use Rattle.running.specs.Events as running
+use Rattle.semantics.specs.Events as running
 use Rattle.frame.specs.declared.path.Path.{Path}
 use Rattle.schedule_core.specs.store.Cells.{NamedCells}
 use Rattle.frame.specs.declared.event.Event.{Event}

@@ -1,6 +1,6 @@
 -- A debugger stands between two events of a list.
 use Rattle.std.specs.Prelude.{◌≡◌, ◌⊎◌, ◌<◌, ◌≤◌, ℕ, ℤ, List, All, length, take}
-use Rattle.running.specs.Events as running
+use Rattle.semantics.specs.Events as running
 use Rattle.program.specs.declared.function.Program.{Program}
 use Rattle.frame.specs.declared.path.Path.{Path}
 use Rattle.schedule_core.specs.store.Cells.{NamedCells}

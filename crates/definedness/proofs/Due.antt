@@ -7,12 +7,12 @@ use Rattle.std.proofs.lemmas.List.Elements.{Contains-append_left, Contains-push}
 use Rattle.std.proofs.lemmas.List.Sums.{sum_by-set, length-filter, count_by-le-length}
 use Rattle.linear.specs.declared.form.RegisterId.{RegisterId}
 use Rattle.cfg.specs.declared.structure.BlockEdges.{BlockEdges}
-use Rattle.alloca_labels.specs.declared.fork.Fork.{Fork}
-use Rattle.alloca_labels.specs.declared.sets.Label.{Label}
-use Rattle.alloca_labels.specs.declared.sets.Label.TheVariants.{Sure, Due}
-use Rattle.alloca_labels.specs.declared.sets.Sets.{Sets}
+use Rattle.definedness_allocas.specs.declared.fork.Fork.{Fork}
+use Rattle.definedness_allocas.specs.declared.sets.Label.{Label}
+use Rattle.definedness_allocas.specs.declared.sets.Label.TheVariants.{Sure, Due}
+use Rattle.definedness_allocas.specs.declared.sets.Sets.{Sets}
 use Rattle.definedness.specs.Sure.{Labels}
-use Rattle.alloca_labels.specs.Sets.{has, due_in, label_in, is_sure_label, label_at, label_of, count_sure, IsFit}
+use Rattle.definedness_allocas.specs.Sets.{has, due_in, label_in, is_sure_label, label_at, label_of, count_sure, IsFit}
 use Rattle.definedness.specs.Settling.{due_and_given, weight, load, KeepsBoth, IsTableLabelling, IsBelow, Lowers}
 use Rattle.definedness.proofs.Settling.{puts_lowers, label_here, lowers_none, unsure_held}
 

@@ -11,7 +11,7 @@ use Rattle.region_match.specs.declared.task.Task.TheVariants.{Child}
 use Rattle.region_match.specs.Rules.{ending_at}
 use Rattle.region_match.specs.Tasks.{task_at, AreTasks}
 use Rattle.region_match.proofs.Conversion.{label_of as label_of_task, child_task}
-use Rattle.alloca_labels.specs.declared.fork.Fork.{Fork}
+use Rattle.definedness_allocas.specs.declared.fork.Fork.{Fork}
 use Rattle.definedness.specs.Sure.{IsReattach, IsEndOf}
 use Rattle.definedness.specs.ForkOf.{IsForkOf}
 

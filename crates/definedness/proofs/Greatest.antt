@@ -14,12 +14,12 @@ use Rattle.cfg.specs.declared.structure.Way.{Way}
 use Rattle.cfg.specs.declared.structure.Way.TheVariants.{Branch, Detached, Continued, Synced}
 use Rattle.cfg.specs.Paths.{edges_of}
 use Rattle.cfg.proofs.Searching.{edges_within}
-use Rattle.alloca_labels.specs.declared.fork.Fork.{Fork}
-use Rattle.alloca_labels.specs.declared.sets.Label.{Label}
-use Rattle.alloca_labels.specs.declared.sets.Label.TheVariants.{Due}
-use Rattle.alloca_labels.specs.declared.sets.Sets.{Sets}
+use Rattle.definedness_allocas.specs.declared.fork.Fork.{Fork}
+use Rattle.definedness_allocas.specs.declared.sets.Label.{Label}
+use Rattle.definedness_allocas.specs.declared.sets.Label.TheVariants.{Due}
+use Rattle.definedness_allocas.specs.declared.sets.Sets.{Sets}
 use Rattle.definedness.specs.Sure.{Labels}
-use Rattle.alloca_labels.specs.Sets.{due_in, label_in, is_sure_label, label_at, label_of, ended_in, IsHeldBy, EdgeGives, IsFit}
+use Rattle.definedness_allocas.specs.Sets.{due_in, label_in, is_sure_label, label_at, label_of, ended_in, IsHeldBy, EdgeGives, IsFit}
 use Rattle.definedness.specs.Settling.{IsTableLabelling, IsBelow, Lowers, IsSettledAt, IsAllSure, IsGreatest}
 use Rattle.definedness.proofs.Settling.{lowers_then}
 

@@ -8,13 +8,13 @@ use Rattle.std.proofs.lemmas.Option.{slice_get-get_or, slice_get_past}
 use Rattle.linear.specs.declared.form.RegisterId.{RegisterId}
 use Rattle.program.specs.declared.function.Block.{Block}
 use Rattle.cfg.specs.declared.structure.BlockEdges.{BlockEdges}
-use Rattle.alloca_labels.specs.declared.fork.Fork.{Fork}
-use Rattle.alloca_labels.specs.declared.sets.Sets.{Sets}
+use Rattle.definedness_allocas.specs.declared.fork.Fork.{Fork}
+use Rattle.definedness_allocas.specs.declared.sets.Sets.{Sets}
 use Rattle.definedness.specs.declared.table.Given.{Given}
 use Rattle.definedness.specs.ForkOf.{IsForkOf}
 use Rattle.definedness.specs.Needs.{numbers_at}
 use Rattle.definedness.specs.Sure.{Labels, IsStored, IsFork, IsEndOf, IsNeverSure}
-use Rattle.alloca_labels.specs.Sets.{label_of, Stores, region_in, Forks, ended_in, Ends}
+use Rattle.definedness_allocas.specs.Sets.{label_of, Stores, region_in, Forks, ended_in, Ends}
 use Rattle.definedness.specs.Settling.{IsTableLabelling, IsGreatest}
 use Rattle.definedness.proofs.Forking.{end_within}
 use Rattle.definedness.proofs.Labelled.{labelling_to}

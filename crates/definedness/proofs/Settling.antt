@@ -10,12 +10,12 @@ use Rattle.linear.specs.declared.form.RegisterId.{RegisterId}
 use Rattle.cfg.specs.declared.structure.BlockEdges.{BlockEdges}
 use Rattle.cfg.specs.declared.structure.Way.{Way}
 use Rattle.cfg.specs.declared.structure.Way.TheVariants.{Branch, Detached, Continued, Synced}
-use Rattle.alloca_labels.specs.declared.fork.Fork.{Fork}
-use Rattle.alloca_labels.specs.declared.sets.Label.{Label}
-use Rattle.alloca_labels.specs.declared.sets.Label.TheVariants.{Sure, Due}
-use Rattle.alloca_labels.specs.declared.sets.Sets.{Sets}
+use Rattle.definedness_allocas.specs.declared.fork.Fork.{Fork}
+use Rattle.definedness_allocas.specs.declared.sets.Label.{Label}
+use Rattle.definedness_allocas.specs.declared.sets.Label.TheVariants.{Sure, Due}
+use Rattle.definedness_allocas.specs.declared.sets.Sets.{Sets}
 use Rattle.definedness.specs.Sure.{Labels}
-use Rattle.alloca_labels.specs.Sets.{due_in, label_in, is_sure_label, label_at, label_of, count_sure, Stores, ended_in, Ends, IsHeldBy, EdgeGives, IsFit}
+use Rattle.definedness_allocas.specs.Sets.{due_in, label_in, is_sure_label, label_at, label_of, count_sure, Stores, ended_in, Ends, IsHeldBy, EdgeGives, IsFit}
 use Rattle.definedness.specs.Settling.{weight, load, IsTableLabelling, IsBelow, Lowers, NotesEnd}
 
 pub option_cases : (o : Option ℕ) (n : ℕ) → (o ≡ Some n) ⊎ (o ≡ Some n → ⊥)

@@ -3,7 +3,7 @@ use Rattle.std.specs.Prelude.{◌≡◌, ◌↔◌, ℕ, List, Some}
 use Rattle.linear.specs.declared.form.RegisterId.{RegisterId}
 use Rattle.program.specs.declared.function.Block.{Block}
 use Rattle.cfg.specs.declared.structure.BlockEdges.{BlockEdges}
-use Rattle.alloca_labels.specs.declared.fork.Fork.{Fork}
+use Rattle.definedness_allocas.specs.declared.fork.Fork.{Fork}
 use Rattle.definedness.specs.Sure.{IsFork, IsEndOf}
 
 pub record IsForkOf (bodies : List Block) (blocks : List BlockEdges) (b : ℕ) (fork : Fork) : Type 0 where

@@ -6,12 +6,12 @@ use Rattle.linear.specs.declared.form.RegisterId.{RegisterId}
 use Rattle.cfg.specs.declared.structure.BlockEdges.{BlockEdges}
 use Rattle.cfg.specs.declared.structure.Edge.{Edge}
 use Rattle.cfg.specs.declared.structure.Way.{Way}
-use Rattle.alloca_labels.specs.declared.fork.Fork.{Fork}
-use Rattle.alloca_labels.specs.declared.sets.Label.{Label}
-use Rattle.alloca_labels.specs.declared.sets.Label.TheVariants.{Sure, Due}
-use Rattle.alloca_labels.specs.declared.sets.Sets.{Sets}
-use Rattle.alloca_labels.specs.Labels.{Labels, IsLabelling}
-use Rattle.alloca_labels.specs.Sets.{has, due_in, label_at, label_of, Stores, Forks, Ends, EdgeGives, IsFit}
+use Rattle.definedness_allocas.specs.declared.fork.Fork.{Fork}
+use Rattle.definedness_allocas.specs.declared.sets.Label.{Label}
+use Rattle.definedness_allocas.specs.declared.sets.Label.TheVariants.{Sure, Due}
+use Rattle.definedness_allocas.specs.declared.sets.Sets.{Sets}
+use Rattle.definedness_allocas.specs.Labels.{Labels, IsLabelling}
+use Rattle.definedness_allocas.specs.Sets.{has, due_in, label_at, label_of, Stores, Forks, Ends, EdgeGives, IsFit}
 
 abbrev pub IsTableLabelling : List Bool → List Fork → List BlockEdges → Labels → Type 0
 IsTableLabelling stops forks blocks l = IsLabelling (Stores stops) (Forks forks) (Ends forks) blocks l

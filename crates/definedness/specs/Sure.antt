@@ -8,7 +8,7 @@ use Rattle.program.specs.declared.instruction.Terminator.TheVariants.{Reattach}
 use Rattle.cfg.specs.declared.structure.BlockEdges.{BlockEdges}
 use Rattle.region_match.specs.Rules.{ending_at, IsDetach}
 use Rattle.region_match.specs.Tasks.{HasTask}
-pub use Rattle.alloca_labels.specs.Labels.{Labels, IsHeld, IsAdded, IsLabelling}
+pub use Rattle.definedness_allocas.specs.Labels.{Labels, IsHeld, IsAdded, IsLabelling}
 use Rattle.definedness.specs.declared.table.Given.{Given}
 use Rattle.definedness.specs.Needs.{numbers_at}
 

@@ -1,5 +1,5 @@
 ghost use Rattle.std.specs.Prelude.{◌≡◌, ◌<◌, ◌↔◌, ℕ, Some, length, IsTrue, IfOk, slice_get};
-ghost use Rattle.alloca_labels.specs.declared.fork.Fork.{Fork};
+ghost use Rattle.definedness_allocas.specs.declared.fork.Fork.{Fork};
 ghost use Rattle.linear.specs.declared.form.RegisterId.{RegisterId};
 ghost use Rattle.region_match.specs.declared.task.Task.TheVariants.{Child};
 ghost use Rattle.region_match.specs.Rules.{ending_at};
@@ -7,7 +7,7 @@ ghost use Rattle.region_match.specs.Tasks.{AreTasks};
 ghost use Rattle.definedness.specs.Sure.{IsFork, IsReattach, IsEndOf};
 ghost use Rattle.definedness.specs.ForkOf.{IsForkOf};
 
-use alloca_labels::Fork;
+use definedness_allocas::Fork;
 use cfg::BlockEdges;
 use program::{Block, RegisterId, Terminator};
 use region_match::{Task, ending_of};

@@ -1,9 +1,9 @@
 ghost use Rattle.std.specs.Prelude.{◌≡◌, IfOk};
 ghost use Rattle.std.specs.List.{filter, list_all};
-ghost use Rattle.alloca_labels.specs.Sets.{has, due_in, label_at};
+ghost use Rattle.definedness_allocas.specs.Sets.{has, due_in, label_at};
 ghost use Rattle.definedness.specs.Settling.{due_and_given};
 
-use alloca_labels::{Label, Sets, is_among};
+use definedness_allocas::{Label, Sets, is_among};
 use program::RegisterId;
 use std::alloc::{AllocError, Global};
 

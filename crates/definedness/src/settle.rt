@@ -2,13 +2,13 @@ ghost use Rattle.std.specs.Prelude.{◌≡◌, ◌↔◌, ◌+◌, ◌<◌, ◌�
 ghost use Rattle.std.specs.Prelude.{Contains, IfOk, OnOk};
 ghost use Rattle.linear.specs.declared.form.RegisterId.{RegisterId};
 ghost use Rattle.cfg.specs.Paths.{edges_of};
-ghost use Rattle.alloca_labels.specs.declared.sets.Label.TheVariants.{Due};
-ghost use Rattle.alloca_labels.specs.Labels.{Labels};
-ghost use Rattle.alloca_labels.specs.Sets.{due_in, label_in, label_of, count_sure, Ends, IsFit};
+ghost use Rattle.definedness_allocas.specs.declared.sets.Label.TheVariants.{Due};
+ghost use Rattle.definedness_allocas.specs.Labels.{Labels};
+ghost use Rattle.definedness_allocas.specs.Sets.{due_in, label_in, label_of, count_sure, Ends, IsFit};
 ghost use Rattle.definedness.specs.Settling.{IsBelow, IsTableLabelling, IsSettledAt, IsAllSure, KeepsBoth, Lowers, NotesEnd, IsGreatest};
 
 use crate::given::{copy_given, is_given};
-use alloca_labels::{Fork, Label, Sets, is_stored, label_along};
+use definedness_allocas::{Fork, Label, Sets, is_stored, label_along};
 use cfg::{BlockEdges, Edge, no_marks};
 use lists::Seq;
 use program::RegisterId;

@@ -1,15 +1,15 @@
 ghost use Rattle.std.specs.Prelude.{◌≡◌, ◌<◌, ◌≤◌, ◌↔◌, ℕ, None, Some, true, false, length, All, Contains, IfOk, slice_get, slice_index_or, OnOk};
 ghost use Rattle.program.specs.declared.function.Block.{Block};
-ghost use Rattle.alloca_labels.specs.declared.fork.Fork.{Fork};
+ghost use Rattle.definedness_allocas.specs.declared.fork.Fork.{Fork};
 ghost use Rattle.definedness.specs.ForkOf.{IsForkOf};
 ghost use Rattle.definedness.specs.Needs.{mark_at};
 ghost use Rattle.definedness.specs.Sure.{IsNeverSure};
-ghost use Rattle.alloca_labels.specs.Sets.{label_of};
+ghost use Rattle.definedness_allocas.specs.Sets.{label_of};
 ghost use Rattle.definedness.specs.Settling.{AreNeverSure};
 
 use crate::settle::settle;
 use crate::table::{Given, Row, giving};
-use alloca_labels::{Fork, Sets};
+use definedness_allocas::{Fork, Sets};
 use cfg::{BlockEdges, no_marks};
 use lists::Seq;
 use program::Block;

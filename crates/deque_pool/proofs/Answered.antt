@@ -1,14 +1,14 @@
 -- What one worker alone answers.
 use Rattle.std.proofs.Common.{◌≡◌, ℕ, List, ℤ, Option, Some, refl, subst}
 use Rattle.std.specs.Prelude.{IfSome}
-use Rattle.running.specs.SerialMeaning.{Gave}
+use Rattle.semantics.specs.SerialMeaning.{Gave}
 use Rattle.program.specs.declared.function.Program.{Program}
 use Rattle.shared_run.specs.outcome.Serially.{memory_of_globals}
 use Rattle.shared_run.specs.outcome.declared.outcome.Finished.{Finished}
 use Rattle.shared_run.specs.store.Cells.{NamedCells}
 use Rattle.shared_run.specs.Answer.{IsSerialAnswer}
 use Rattle.shared_run.specs.Story.{origin}
-use Rattle.lone_run.specs.serial_machine.Promise.{EndsWithinBudget}
+use Rattle.deque_pool_alone.specs.serial_machine.Promise.{EndsWithinBudget}
 
 pub answered : (program : Program) (arguments : List ℤ) (memory : List NamedCells) (workers : ℕ) (done : Finished) → EndsWithinBudget program arguments memory done → IsSerialAnswer (origin program arguments memory workers) done
 answered program arguments memory workers done e = record {

@@ -4,11 +4,11 @@ ghost use Rattle.shared_run.specs.outcome.Requirements.{unmet_in};
 ghost use Rattle.shared_run.specs.store.Made.{IsMadeFor};
 ghost use Rattle.shared_run.specs.Answer.{IsSerialAnswer};
 ghost use Rattle.shared_run.specs.Story.{origin};
-ghost use Rattle.lone_run.specs.UnderWay.{IsRefusal};
+ghost use Rattle.deque_pool_alone.specs.UnderWay.{IsRefusal};
 
 use crate::gate::{Gate, Go};
 use lists::OutOfMemory;
-use lone_run::LoneRun;
+use deque_pool_alone::LoneRun;
 use shared_run::{Finished, Memory, RunFault, Verified};
 use std::alloc::Global;
 use std::sync::Wait;

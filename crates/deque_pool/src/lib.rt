@@ -20,4 +20,4 @@ pub use gate::{Gate, Go, OpenGate};
 pub use recorded::Recorded;
 pub use shared_run::{Entry, History};
 pub use threads::{run, run_recorded};
-pub use ticket_lists::{Hands, Taken, Thief, each_as_often};
+pub use deque_pool_tickets::{Hands, Taken, Thief, each_as_often};

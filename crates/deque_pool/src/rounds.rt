@@ -1,7 +1,7 @@
 //! The rounds of a run on threads. There is one: its workers leave when the run has ended. No contract tells what stands behind a lock, so where they
 //! left and it has not ended, though none of them was refused memory or stopped, they are set to work again.
 ghost use Rattle.std.specs.Prelude.{◌≡◌, ◌<◌, ℕ, None, Some, Err, vec_len, IfOk, OnOk};
-ghost use Rattle.shared_run.specs.crew.Starts.{ArePlaces};
+ghost use Rattle.shared_run.specs.schedule_workers.Starts.{ArePlaces};
 ghost use Rattle.shared_run.specs.outcome.Requirements.{unmet_in};
 ghost use Rattle.shared_run.specs.store.Made.{IsMadeFor};
 ghost use Rattle.shared_run.specs.store.declared.memory.Memory.{Memory};

@@ -1,6 +1,6 @@
 //! The workers of a run.
 ghost use Rattle.std.specs.Prelude.{◌≡◌, vec_len, vec_capacity, ◌≤◌, IfOk};
-ghost use Rattle.shared_run.specs.crew.Starts.{ArePlaces};
+ghost use Rattle.shared_run.specs.schedule_workers.Starts.{ArePlaces};
 
 use crate::figures::Figures;
 use crate::outlook::Left;
@@ -9,7 +9,7 @@ use lists::OutOfMemory;
 use shared_run::{Bench, Places, PrivateStack, Seat, Ticket, Verified};
 use std::alloc::Global;
 use std::sync::Mutex;
-use ticket_lists::{Hands, Taken, Thief};
+use deque_pool_tickets::{Hands, Taken, Thief};
 
 /// A worker: its seat, its stack, its list of tickets, and its ends of the others' lists, from the next worker on; what it has done, and why it left.
 #[derive(Drop)]

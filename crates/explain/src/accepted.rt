@@ -1,8 +1,8 @@
 //! What an accepted module could do without.
 
-use cost_notes::push_budgets;
-use fact_notes::spend;
-use findings::{Source, with_line_at};
+use explain_costs::push_budgets;
+use explain_facts::spend;
+use explain_findings::{Source, with_line_at};
 use ir_reader::read;
 use lists::OutOfMemory;
 use program::Program;

@@ -4,18 +4,18 @@ ghost use Rattle.explain.specs.Verdict.{IsVerdictOn};
 use crate::accepted::remarks;
 use crate::alloca::alloca_notes;
 use crate::report::Explanation;
-use cost_notes::cost_findings;
-use findings::{Finding, Source, push_finding};
+use explain_costs::cost_findings;
+use explain_findings::{Finding, Source, push_finding};
 use lists::{OutOfMemory, Seq};
-use name_notes::name_finding;
-use number_notes::number_findings;
+use explain_names::name_finding;
+use explain_numbers::number_findings;
 use ranges::Unanswered;
-use scenes::{Matched, match_text};
+use explain_scenes::{Matched, match_text};
 use std::alloc::{AllocError, Global};
 use std::hash::RandomState;
 use verifier::{Effort, Refused, Unverified, verify_within};
-use word_notes::word_findings;
-use zone_notes::zone_findings;
+use explain_words::word_findings;
+use explain_zones::zone_findings;
 
 /// The faults of a phase over the program: that of numbers, of zones or of costs.
 fn matched_findings(

@@ -11,7 +11,7 @@ mod printing;
 mod report;
 
 pub use explaining::explain;
-pub use findings::Finding;
+pub use explain_findings::Finding;
 pub use printing::told;
 pub use report::Explanation;
 pub use rules::rule_text;

@@ -1,4 +1,4 @@
-use findings::Finding;
+use explain_findings::Finding;
 use lists::Seq;
 
 /// What a module's text comes to.

@@ -7,17 +7,17 @@ use Rattle.std.proofs.lemmas.List.Folds.{Any-from_list_any}
 use Rattle.linear.specs.declared.form.Term.{Term}
 use Rattle.linear.specs.declared.form.Fact.{Fact}
 use Rattle.linear.specs.Forms.{Combination}
-use Rattle.entailment.specs.Shown.{AllHold}
+use Rattle.linear_shown.specs.Shown.{AllHold}
 use Rattle.linear.proofs.Values.{distributes, associates}
 use Rattle.program.specs.declared.annotation.Zone.{Zone}
 use Rattle.program.specs.declared.identifier.ObjectName.{ObjectName}
 use Rattle.program.specs.declared.identifier.ObjectName.TheVariants.{Global, Alloca, Parameter}
 use Rattle.ranges.specs.cfg.declared.structure.Move.{Move}
-use Rattle.ranges.specs.obligations.declared.sum.Part.{Part}
-use Rattle.ranges.specs.obligations.Inequalities.{parts_of}
+use Rattle.ranges.specs.ranges_owed.declared.sum.Part.{Part}
+use Rattle.ranges.specs.ranges_owed.Inequalities.{parts_of}
 use Rattle.ranges.specs.Truth.{parts_value}
 use Rattle.ranges.proofs.Truth.{shown_true}
-use Rattle.zones.specs.Zones.{Span, as_written, same_object, mode_covers, modes_agree, between, shows_order, is_empty, covers, is_apart, conflict, is_covered}
+use Rattle.footprints_zones.specs.Zones.{Span, as_written, same_object, mode_covers, modes_agree, between, shows_order, is_empty, covers, is_apart, conflict, is_covered}
 use Rattle.footprints.specs.Cells.{moved, terms_value, end_value, HasCell}
 
 -- ---- the value of a difference

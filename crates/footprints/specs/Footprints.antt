@@ -29,13 +29,13 @@ use Rattle.program.specs.Steps.{first_said}
 use Rattle.ranges.specs.cfg.declared.structure.Way.{Way}
 use Rattle.ranges.specs.cfg.declared.structure.Way.TheVariants.{Branch, Detached, Continued, Synced}
 use Rattle.ranges.specs.declared.table.EdgeFacts.{EdgeFacts}
-use Rattle.ranges.specs.obligations.Inequalities.{argument_moves}
+use Rattle.ranges.specs.ranges_owed.Inequalities.{argument_moves}
 use Rattle.footprints.specs.declared.access.Cell.{Cell}
-use Rattle.zones.specs.declared.place.Use.{Use}
-use Rattle.zones.specs.Zones.{Span, span, as_written, covers, is_empty}
-pub use Rattle.zones.specs.Places.{Place, place_of, is_own}
-unfoldable pub use Rattle.zones.specs.Places.{is_allowed, is_clear}
-pub use Rattle.feet.specs.Feet.{foot_use}
+use Rattle.footprints_zones.specs.declared.place.Use.{Use}
+use Rattle.footprints_zones.specs.Zones.{Span, span, as_written, covers, is_empty}
+pub use Rattle.footprints_zones.specs.Places.{Place, place_of, is_own}
+unfoldable pub use Rattle.footprints_zones.specs.Places.{is_allowed, is_clear}
+pub use Rattle.footprints_feet.specs.Feet.{foot_use}
 
 -- ---- the cell of an address
 

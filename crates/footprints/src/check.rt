@@ -15,7 +15,7 @@ ghost use Rattle.footprints.specs.Rules.{IsBlockBrokenBy, IsBlockBroken, IsFunct
 use crate::access::{Pointer, pointers_of};
 use crate::judge::{edges_fault, step_fault, use_fault};
 use crate::touch::{child_foot, end_use};
-use entailment::{Effort, FactCursor, Known};
+use linear_shown::{Effort, FactCursor, Known};
 use linear::Fact;
 use program::{Block, BlockId, Ending, Function, Instruction, Program, Step, Zone};
 use ranges::{
@@ -24,7 +24,7 @@ use ranges::{
 };
 use refusal::{Broken, lower};
 use std::alloc::Global;
-use zones::{Place, index_for};
+use footprints_zones::{Place, index_for};
 
 /// The task of a block.
 fn task_at(tasks: &[Task], index: usize) -> Task

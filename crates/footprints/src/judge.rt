@@ -10,13 +10,13 @@ ghost use Rattle.footprints.specs.Rules.{IsUseBroken, IsEdgeBroken};
 use crate::access::Pointer;
 use crate::pass::passes_on;
 use crate::touch::{end_use, step_use};
-use entailment::{Effort, FactBranches};
+use linear_shown::{Effort, FactBranches};
 use linear::Fact;
 use program::{Block, Ending, Function, Step};
 use ranges::{EdgeFacts, Unanswered};
 use refusal::{Broken, lower};
 use std::alloc::Global;
-use zones::{Place, Use};
+use footprints_zones::{Place, Use};
 
 /// The rule of this number at this line, unless it holds.
 fn fault_unless(holds: bool, line: u32, number: u16) -> Option<Broken>

@@ -2,10 +2,10 @@
 
 ghost use Rattle.std.specs.Prelude.{◌≡◌, ℕ, ℤ, List, Any, true, false};
 ghost use Rattle.linear.specs.declared.form.Fact.{Fact};
-ghost use Rattle.entailment.specs.Shown.{AllHold};
+ghost use Rattle.linear_shown.specs.Shown.{AllHold};
 ghost use Rattle.program.specs.declared.annotation.Zone.{Zone};
 ghost use Rattle.program.specs.declared.identifier.ObjectName.{ObjectName};
-ghost use Rattle.zones.specs.Zones.{Span, as_written, mode_covers, modes_agree, is_empty, covers, is_apart, conflict, is_covered};
+ghost use Rattle.footprints_zones.specs.Zones.{Span, as_written, mode_covers, modes_agree, is_empty, covers, is_apart, conflict, is_covered};
 ghost use Rattle.footprints.specs.Cells.{HasCell};
 
 /// At register values that meet the facts, an empty zone has no cell.

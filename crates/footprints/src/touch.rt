@@ -2,8 +2,8 @@ ghost use Rattle.std.specs.Prelude.{◌≡◌, List, Some, IfOk, slice_get};
 ghost use Rattle.std.specs.List.{list_all};
 ghost use Rattle.syntax.specs.declared.operator.Mode.TheVariants.{Writes};
 ghost use Rattle.program.specs.declared.annotation.Zone.{Zone as ZoneKind};
-ghost use Rattle.zones.specs.Zones.{as_written};
-ghost use Rattle.ranges.specs.obligations.Inequalities.{argument_moves};
+ghost use Rattle.footprints_zones.specs.Zones.{as_written};
+ghost use Rattle.ranges.specs.ranges_owed.Inequalities.{argument_moves};
 ghost use Rattle.program.specs.declared.instruction.Step.{Step as StepKind};
 ghost use Rattle.footprints.specs.Pointers.{pointers_of};
 ghost use Rattle.footprints.specs.Footprints.{place_of, address_cell, first_cell, cells_zone, is_allowed, is_clear, cell_use, access_use, put_object};
@@ -11,13 +11,13 @@ ghost use Rattle.footprints.specs.Footprints.{put_in, is_put_allowed, is_put_cle
 ghost use Rattle.footprints.specs.Footprints.{end_use};
 
 use crate::access::{Cell, Pointer, cell_of, cells_zone, first_cell};
-use feet::foot_use;
+use footprints_feet::foot_use;
 use program::{
     Address, Argument, Block, Function, FunctionId, Instruction, Mode, ObjectName, Terminator, Zone,
 };
 use ranges::{Move, Unanswered, argument_moves};
 use std::alloc::Global;
-use zones::{MeasuredPlace, Place, PlacedZone, Use, as_written, is_allowed, is_clear};
+use footprints_zones::{MeasuredPlace, Place, PlacedZone, Use, as_written, is_allowed, is_clear};
 
 /// Of what touches nothing.
 fn no_use() -> Use

@@ -1,6 +1,6 @@
 -- How the parts of a machine's frame read in the definitions of running.
-use Rattle.running.specs.Frames as frames
-use Rattle.running.specs.Frames.{Free, OnRegion, OnCall}
+use Rattle.semantics.specs.Frames as frames
+use Rattle.semantics.specs.Frames.{Free, OnRegion, OnCall}
 use Rattle.frame.specs.declared.frame.Wait.{Wait}
 use Rattle.frame.specs.declared.frame.Wait.TheVariants as wait
 use Rattle.frame.specs.declared.frame.Role.{Role}

@@ -1,6 +1,6 @@
 ghost use Rattle.std.specs.Prelude.{◌≡◌, slice_get};
 ghost use Rattle.std.specs.Option.{option_copied};
-ghost use Rattle.running.specs.Frames as frames;
+ghost use Rattle.semantics.specs.Frames as frames;
 
 use program::{Block, BlockId, FunctionId, Program, RegisterId};
 

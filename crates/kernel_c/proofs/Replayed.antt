@@ -3,10 +3,10 @@ use Rattle.std.proofs.Common.{◌≡◌, ℕ, List, [], length, map, Option, Som
 use Rattle.std.specs.Prelude.{is_none, sum}
 use Rattle.frame.specs.declared.event.Event.{Event}
 use Rattle.program.specs.declared.function.Program.{Program}
-use Rattle.running.specs.Events as running
-use Rattle.running.specs.Frames.{Frame}
-use Rattle.running.specs.Replay.{NeverTraps, has_ended}
-use Rattle.running.specs.SerialMeaning.{Gave}
+use Rattle.semantics.specs.Events as running
+use Rattle.semantics.specs.Frames.{Frame}
+use Rattle.semantics.specs.Replay.{NeverTraps, has_ended}
+use Rattle.semantics.specs.SerialMeaning.{Gave}
 use Rattle.outcome.specs.Requirements.{unmet_in}
 use Rattle.outcome.specs.store.Cells.{NamedCells}
 use Rattle.outcome.specs.store.Made.{HasGlobalCells}
@@ -14,11 +14,11 @@ use Rattle.outcome.specs.verifier.Accepted.{IsAccepted}
 use Rattle.schedule_core.specs.Replaying.{IsNumberOfWorkers, KeepsItsSchedule, Replays, event_of, first_state, state_after}
 use Rattle.schedule_core.specs.Stages.{IsState, given}
 use Rattle.schedule_core.specs.declared.stage.Stage.{Stage}
-use Rattle.schedule_core.proofs.crew_promise.Results.{IsOpen, always_open}
-use Rattle.serial_machine.specs.schedule_theorem.Promise.{KeepsItsPromise}
+use Rattle.schedule_core.proofs.laws_workers.Results.{IsOpen, always_open}
+use Rattle.serial_machine.specs.laws_schedule.Promise.{KeepsItsPromise}
 use Rattle.serial_machine.proofs.Arguments.{are_taken}
 use Rattle.serial_machine.proofs.Globals.{globals_there}
-use Rattle.serial_machine.proofs.schedule_theorem.Promise.{accepted_programs_keep_their_promise}
+use Rattle.serial_machine.proofs.laws_schedule.Promise.{accepted_programs_keep_their_promise}
 use Rattle.kernel_c.specs.Told.{memory_from, sizes_in}
 use Rattle.kernel_c.specs.Replayed.{EndsBy, HasEndedIn, IsAfter}
 use Rattle.kernel_c.specs.declared.told.Outcome.{Outcome}

@@ -1,9 +1,9 @@
 -- What a host is told of a run by a schedule.
 use Rattle.std.specs.Prelude.{◌≡◌, ◌⊎◌, ℕ, List, length, sum, Some, None, ℤ}
-use Rattle.running.specs.Cells.{Shared}
-use Rattle.running.specs.Events as running
-use Rattle.running.specs.SerialMeaning.{Gave, IsSerialMeaning}
-use Rattle.running.specs.SerialMeaning as serial_meaning
+use Rattle.semantics.specs.Cells.{Shared}
+use Rattle.semantics.specs.Events as running
+use Rattle.semantics.specs.SerialMeaning.{Gave, IsSerialMeaning}
+use Rattle.semantics.specs.SerialMeaning as serial_meaning
 use Rattle.program.specs.declared.function.Program.{Program}
 use Rattle.frame.specs.declared.event.Event.{Event}
 use Rattle.outcome.specs.Requirements.{unmet_in}

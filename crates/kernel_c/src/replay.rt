@@ -3,7 +3,7 @@
 ghost use Rattle.std.specs.Prelude.{◌≡◌, ◌≢◌, ◌⊎◌, None, Some, length, sum};
 ghost use Rattle.outcome.specs.Requirements.{unmet_in};
 ghost use Rattle.outcome.specs.store.Rows.{sizes_of};
-ghost use Rattle.running.specs.Events as running;
+ghost use Rattle.semantics.specs.Events as running;
 ghost use Rattle.schedule_core.specs.Replaying.{IsNumberOfWorkers};
 ghost use Rattle.schedule_core.specs.Stages.{IsState};
 ghost use Rattle.schedule_text.specs.ScheduleText.{IsBadLine, IsTooLong};

@@ -1,7 +1,7 @@
 -- What a run that has ended comes to, by the serial meaning.
 use Rattle.std.specs.Prelude.{◌≡◌, ℕ, List, map, Option, Some, None, ℤ}
-use Rattle.running.specs.Cells.{Object, Shared, Local, Memory}
-use Rattle.running.specs.SerialMeaning.{Gave, IsSerialMeaning}
+use Rattle.semantics.specs.Cells.{Object, Shared, Local, Memory}
+use Rattle.semantics.specs.SerialMeaning.{Gave, IsSerialMeaning}
 use Rattle.program.specs.declared.function.Program.{Program}
 use Rattle.store.specs.Cells.{NamedCells, cell_at}
 use Rattle.outcome.specs.declared.outcome.Finished.{Finished}

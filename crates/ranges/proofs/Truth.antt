@@ -11,16 +11,16 @@ use Rattle.std.proofs.lemmas.List.Elements.{All-nil, All-cons, All-head, All-tai
 use Rattle.std.proofs.lemmas.List.Folds.{Any-from_list_any}
 use Rattle.linear.specs.declared.form.Fact.{Fact}
 use Rattle.linear.specs.Forms.{Combination, IsForm, constant_form, Holds, value}
-use Rattle.entailment.specs.Shown.{AllHold}
+use Rattle.linear_shown.specs.Shown.{AllHold}
 use Rattle.linear.specs.Made.{is_bounded, term_form, with_constant}
 use Rattle.linear.proofs.Added.{term_added, number_added, added_value}
-use Rattle.entailment.proofs.Tested.{shown_from_test}
-use Rattle.entailment.proofs.Sound.{shown_holds}
+use Rattle.linear_shown.proofs.Tested.{shown_from_test}
+use Rattle.linear_shown.proofs.Sound.{shown_holds}
 use Rattle.program.specs.declared.instruction.Operand.{Operand}
 use Rattle.program.specs.declared.instruction.Operand.TheVariants.{Number, Register}
-use Rattle.obligations.specs.declared.sum.Part.{Part}
-use Rattle.obligations.specs.declared.sum.Sum.{Sum}
-use Rattle.obligations.specs.declared.sum.Obligation.{Obligation}
+use Rattle.ranges_owed.specs.declared.sum.Part.{Part}
+use Rattle.ranges_owed.specs.declared.sum.Sum.{Sum}
+use Rattle.ranges_owed.specs.declared.sum.Obligation.{Obligation}
 use Rattle.ranges.specs.Sums.{with_operand, with_parts, sum_form, fact_of, facts_of, shows_form, shows, is_met}
 use Rattle.ranges.specs.Truth.{operand_value, parts_value, sum_value, IsTrueAt}
 

@@ -10,7 +10,7 @@ use Rattle.program.specs.declared.annotation.Inequality.{Inequality}
 use Rattle.program.specs.declared.instruction.Step.{Step}
 use Rattle.program.specs.declared.function.Function.{Function}
 use Rattle.ranges.specs.Sums.{fact_of, facts_of}
-use Rattle.obligations.specs.Inequalities.{difference_of}
+use Rattle.ranges_owed.specs.Inequalities.{difference_of}
 use Rattle.ranges.specs.Learned.{learned}
 use Rattle.ranges.specs.Places.{stated, with_shows, after_step, facts_before}
 use Rattle.ranges.specs.Walks.{IsWalkedTo, IsWalked}

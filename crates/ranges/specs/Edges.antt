@@ -17,17 +17,17 @@ use Rattle.program.specs.declared.instruction.Terminator.{Terminator}
 use Rattle.program.specs.declared.instruction.Terminator.TheVariants as terminator
 use Rattle.program.specs.declared.function.Block.{Block}
 use Rattle.program.specs.Steps.{first_said}
-use Rattle.obligations.specs.cfg.declared.structure.Way.{Way}
-use Rattle.obligations.specs.cfg.declared.structure.Way.TheVariants.{Branch, Detached, Continued, Synced}
-use Rattle.obligations.specs.cfg.Edges.{moves_from}
-use Rattle.obligations.specs.declared.sum.Sum.{Sum}
-use Rattle.obligations.specs.declared.sum.Obligation.{Obligation}
+use Rattle.ranges_owed.specs.cfg.declared.structure.Way.{Way}
+use Rattle.ranges_owed.specs.cfg.declared.structure.Way.TheVariants.{Branch, Detached, Continued, Synced}
+use Rattle.ranges_owed.specs.cfg.Edges.{moves_from}
+use Rattle.ranges_owed.specs.declared.sum.Sum.{Sum}
+use Rattle.ranges_owed.specs.declared.sum.Obligation.{Obligation}
 use Rattle.ranges.specs.declared.edge.Comparison.{Comparison}
 use Rattle.ranges.specs.declared.edge.EdgeSums.{EdgeSums}
 use Rattle.ranges.specs.declared.table.EdgeFacts.{EdgeFacts}
-use Rattle.obligations.specs.Sums.{one, two}
+use Rattle.ranges_owed.specs.Sums.{one, two}
 use Rattle.ranges.specs.Sums.{facts_of}
-use Rattle.obligations.specs.Owed.{inequalities_owed}
+use Rattle.ranges_owed.specs.Owed.{inequalities_owed}
 
 -- ---- the compare that a branch takes
 

@@ -14,12 +14,12 @@ use Rattle.program.specs.declared.instruction.Instruction.TheVariants as instruc
 use Rattle.program.specs.declared.instruction.Operand.{Operand}
 use Rattle.program.specs.declared.instruction.Operand.TheVariants.{Number, Register}
 use Rattle.program.specs.declared.function.Function.{Function}
-use Rattle.obligations.specs.declared.sum.Part.{Part}
-use Rattle.obligations.specs.declared.sum.Sum.{Sum}
-use Rattle.obligations.specs.Scales.{scale_of}
-use Rattle.obligations.specs.Sums.{one, two, three}
+use Rattle.ranges_owed.specs.declared.sum.Part.{Part}
+use Rattle.ranges_owed.specs.declared.sum.Sum.{Sum}
+use Rattle.ranges_owed.specs.Scales.{scale_of}
+use Rattle.ranges_owed.specs.Sums.{one, two, three}
 use Rattle.ranges.specs.Sums.{shows}
-use Rattle.obligations.specs.Inequalities.{call_moves, differences_of}
+use Rattle.ranges_owed.specs.Inequalities.{call_moves, differences_of}
 
 -- d = c * x, as two inequalities
 abbrev pub is_multiple : Operand → ℤ → Operand → List Sum

@@ -7,6 +7,6 @@ pub mod Walks
 pub mod Truth
 pub mod Judged
 -- for the crates above
-pub use Rattle.obligations.specs as obligations
-pub use Rattle.obligations.specs.cfg as cfg
+pub use Rattle.ranges_owed.specs as ranges_owed
+pub use Rattle.ranges_owed.specs.cfg as cfg
 pub use Rattle.region_match.specs as region_match

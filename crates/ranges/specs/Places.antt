@@ -12,7 +12,7 @@ use Rattle.ranges.specs.declared.table.EdgeFacts.{EdgeFacts}
 use Rattle.ranges.specs.declared.table.Facts.{Facts}
 use Rattle.ranges.specs.declared.table.FunctionFacts.{FunctionFacts}
 use Rattle.ranges.specs.Sums.{facts_of}
-use Rattle.obligations.specs.Inequalities.{differences_of}
+use Rattle.ranges_owed.specs.Inequalities.{differences_of}
 use Rattle.ranges.specs.Learned.{learned}
 use Rattle.ranges.specs.Edges.{edges_out, all_edge_facts, all_with_known}
 

@@ -8,11 +8,11 @@ use Rattle.program.specs.declared.function.Block.{Block}
 use Rattle.program.specs.declared.function.Function.{Function}
 use Rattle.program.specs.declared.function.Program.{Program}
 use Rattle.refusal.specs.declared.broken.Broken.{Broken}
-use Rattle.obligations.specs.declared.sum.Obligation.{Obligation}
+use Rattle.ranges_owed.specs.declared.sum.Obligation.{Obligation}
 use Rattle.ranges.specs.declared.table.EdgeFacts.{EdgeFacts}
 use Rattle.ranges.specs.Sums.{shows, is_met}
-use Rattle.obligations.specs.Inequalities.{difference_of}
-use Rattle.obligations.specs.Owed.{owed, owed_at_end}
+use Rattle.ranges_owed.specs.Inequalities.{difference_of}
+use Rattle.ranges_owed.specs.Owed.{owed, owed_at_end}
 use Rattle.ranges.specs.Edges.{edge_owed}
 use Rattle.ranges.specs.Places.{start_facts, with_shows, facts_before, facts_at_end, edges_known}
 

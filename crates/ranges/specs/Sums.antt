@@ -5,12 +5,12 @@ use Rattle.std.specs.Option.{option_map, option_to_list}
 use Rattle.linear.specs.declared.form.Fact.{Fact}
 use Rattle.linear.specs.Forms.{Combination, constant_form}
 use Rattle.linear.specs.Made.{is_bounded, with_term, with_constant}
-use Rattle.entailment.specs.Tested.{is_shown}
+use Rattle.linear_shown.specs.Tested.{is_shown}
 use Rattle.program.specs.declared.instruction.Operand.{Operand}
 use Rattle.program.specs.declared.instruction.Operand.TheVariants.{Number, Register}
-use Rattle.obligations.specs.declared.sum.Part.{Part}
-use Rattle.obligations.specs.declared.sum.Sum.{Sum}
-use Rattle.obligations.specs.declared.sum.Obligation.{Obligation}
+use Rattle.ranges_owed.specs.declared.sum.Part.{Part}
+use Rattle.ranges_owed.specs.declared.sum.Sum.{Sum}
+use Rattle.ranges_owed.specs.declared.sum.Obligation.{Obligation}
 
 -- ---- the form of a sum
 

@@ -2,8 +2,8 @@
 use Rattle.std.specs.Prelude.{ℕ, ℤ, pos, ◌+ℤ◌, ◌*ℤ◌, ◌≤ℤ◌, List, [], ◌∷◌}
 use Rattle.program.specs.declared.instruction.Operand.{Operand}
 use Rattle.program.specs.declared.instruction.Operand.TheVariants.{Number, Register}
-use Rattle.obligations.specs.declared.sum.Part.{Part}
-use Rattle.obligations.specs.declared.sum.Sum.{Sum}
+use Rattle.ranges_owed.specs.declared.sum.Part.{Part}
+use Rattle.ranges_owed.specs.declared.sum.Sum.{Sum}
 
 abbrev pub operand_value : (ℕ → ℤ) → Operand → ℤ
 operand_value v (Number z) = z

@@ -7,7 +7,7 @@ use Rattle.program.specs.declared.function.Block.{Block}
 use Rattle.program.specs.declared.function.Function.{Function}
 use Rattle.refusal.specs.declared.broken.Broken.{Broken}
 use Rattle.ranges.specs.declared.table.EdgeFacts.{EdgeFacts}
-use Rattle.obligations.specs.Owed.{owed_at_end}
+use Rattle.ranges_owed.specs.Owed.{owed_at_end}
 use Rattle.ranges.specs.Edges.{edges_out, all_edge_facts, edge_owed}
 use Rattle.ranges.specs.Places.{with_shows, facts_before}
 use Rattle.ranges.specs.Rules.{AreUnmet, AreUnshown}

@@ -8,7 +8,7 @@ ghost use Rattle.ranges.specs.Rules.{IsFunctionBroken, IsRangeBroken};
 use crate::table::{BlockFacts, Facts, FunctionFacts};
 use crate::unverified::{Unanswered, Unverified};
 use crate::walk::block_facts;
-use entailment::Effort;
+use linear_shown::Effort;
 use lists::Seq;
 use program::{Function, Program};
 use refusal::{Broken, lower};

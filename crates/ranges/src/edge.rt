@@ -1,6 +1,6 @@
 ghost use Rattle.std.specs.Prelude.{◌≡◌, ◌++◌, ◌∷◌, [], List, true, false, negsuc, ◌*ℤ◌, map, IfOk, OnOk};
 ghost use Rattle.syntax.specs.declared.operator.Predicate.TheVariants.{Equal};
-ghost use Rattle.obligations.specs.cfg.declared.structure.Way.TheVariants.{Branch};
+ghost use Rattle.ranges_owed.specs.cfg.declared.structure.Way.TheVariants.{Branch};
 ghost use Rattle.program.specs.declared.instruction.Case.{Case};
 ghost use Rattle.ranges.specs.Sums.{facts_of};
 ghost use Rattle.ranges.specs.Edges.{compare_of, compared, at_least, above, compare_sums, branch_sums, case_sums, edge_to, edges_out};
@@ -9,9 +9,9 @@ ghost use Rattle.ranges.specs.Edges.{edge_facts, all_edge_facts, with_known, all
 
 use crate::know::push_facts;
 use crate::table::EdgeFacts;
-use entailment::{Effort, FactList};
+use linear_shown::{Effort, FactList};
 use lists::{OutOfMemory, Seq};
-use obligations::{Sum, Way, make_moves};
+use ranges_owed::{Sum, Way, make_moves};
 use program::{
     Block, BlockId, Case, Instruction, Operand, Predicate, RegisterId, Step, Terminator,
 };

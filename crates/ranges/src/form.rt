@@ -5,7 +5,7 @@ ghost use Rattle.ranges.specs.Sums.{with_operand, start_of, sum_form};
 
 use linear::{Form, FormFault};
 use lists::OutOfMemory;
-use obligations::{Part, Sum};
+use ranges_owed::{Part, Sum};
 use program::Operand;
 use std::alloc::Global;
 

@@ -3,10 +3,10 @@ ghost use Rattle.ranges.specs.Sums.{facts_of, shows, is_met};
 
 use crate::form::sum_form;
 use crate::unverified::Unanswered;
-use entailment::{FactList, Known, find_shown};
+use linear_shown::{FactList, Known, find_shown};
 use linear::Fact;
 use lists::OutOfMemory;
-use obligations::{Obligation, Sum};
+use ranges_owed::{Obligation, Sum};
 use std::alloc::Global;
 
 /// Adds that a sum is at least 0; one past the bounds of a form says nothing.

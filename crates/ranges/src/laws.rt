@@ -2,9 +2,9 @@
 
 ghost use Rattle.std.specs.Prelude.{◌≡◌, ℕ, ℤ, List, All, Any, true};
 ghost use Rattle.linear.specs.declared.form.Fact.{Fact};
-ghost use Rattle.entailment.specs.Shown.{AllHold};
-ghost use Rattle.obligations.specs.declared.sum.Sum.{Sum};
-ghost use Rattle.obligations.specs.declared.sum.Obligation.{Obligation};
+ghost use Rattle.linear_shown.specs.Shown.{AllHold};
+ghost use Rattle.ranges_owed.specs.declared.sum.Sum.{Sum};
+ghost use Rattle.ranges_owed.specs.declared.sum.Obligation.{Obligation};
 ghost use Rattle.ranges.specs.Sums.{facts_of, shows, is_met};
 ghost use Rattle.ranges.specs.Truth.{IsTrueAt};
 

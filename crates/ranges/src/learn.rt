@@ -1,7 +1,7 @@
 ghost use Rattle.std.specs.Prelude.{◌≡◌, ◌++◌, ◌∷◌, [], pos, ◌≤ℤ◌, ◌-ℤ◌, true, IfOk, OnOk, slice_get};
 ghost use Rattle.syntax.specs.declared.operator.BinaryOperator.TheVariants.{AddNoWrap, SubtractNoWrap};
-ghost use Rattle.obligations.specs.Scales.{is_scale, scale_of};
-ghost use Rattle.obligations.specs.Sums.{one, three};
+ghost use Rattle.ranges_owed.specs.Scales.{is_scale, scale_of};
+ghost use Rattle.ranges_owed.specs.Sums.{one, three};
 ghost use Rattle.ranges.specs.Sums.{shows};
 ghost use Rattle.ranges.specs.Learned.{is_multiple, is_product, is_between, is_quotient, is_divisor, quotient_by};
 ghost use Rattle.ranges.specs.Learned.{remainder_by, masked_by, binary_sums, is_32_bits, conversion_sums, call_sums, learned};
@@ -9,9 +9,9 @@ ghost use Rattle.ranges.specs.Learned.{remainder_by, masked_by, binary_sums, is_
 use crate::edge::opposite_number;
 use crate::know::shows_at;
 use crate::unverified::Unanswered;
-use entailment::Known;
+use linear_shown::Known;
 use linear::RegisterId;
-use obligations::{Sum, call_moves, differences_of, opposite, scale_of};
+use ranges_owed::{Sum, call_moves, differences_of, opposite, scale_of};
 use program::{Argument, BinaryOperator, Conversion, Function, FunctionId, Instruction, Operand};
 use std::alloc::Global;
 

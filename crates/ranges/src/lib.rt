@@ -26,10 +26,10 @@ mod walk;
 
 pub use check::check_ranges;
 pub use edge::{Comparison, EdgeSums, edges_out};
-pub use entailment::{Effort, OutOfEffort};
+pub use linear_shown::{Effort, OutOfEffort};
 pub use form::sum_form;
 pub use know::{is_met, is_met_at, shows, shows_at};
-pub use obligations::{
+pub use ranges_owed::{
     Move, Obligation, Part, Sum, Way, argument_moves, call_moves, difference_of, inequalities_owed,
     owed, owed_at_end, push_parts, result_moves,
 };

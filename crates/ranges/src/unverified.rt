@@ -4,7 +4,7 @@ ghost use Rattle.std.specs.Prelude.{◌≡◌, ◌⊎◌, IsTrue};
 ghost use Rattle.refusal.specs.declared.refused.Refused.TheVariants.{Fault, Memory};
 ghost use Rattle.ranges.specs.declared.unverified.Unverified.TheVariants.{Refused as RefusedBy, OutOfEffort as NotJudged};
 
-use entailment::{Effort, OutOfEffort};
+use linear_shown::{Effort, OutOfEffort};
 use lists::OutOfMemory;
 use refusal::{Broken, Refused};
 use std::alloc::{AllocError, AllocFailed};

@@ -7,10 +7,10 @@ use Rattle.std.proofs.Math.Nat.{ℕ_set}
 use Rattle.std.proofs.Math.IntN.{ℤ_set}
 use mathlib.Core.Sum.{⊎_set}
 use Rattle.std.proofs.lemmas.Bool.Decides.{nat_tests}
-use Rattle.running.specs.Paths.{Path}
-use Rattle.running.specs.Frames as frames
-use Rattle.running.specs.Frames.{Value, Word, Truth, Pointer, Region}
-use Rattle.running.specs.Events.{Machine}
+use Rattle.semantics.specs.Paths.{Path}
+use Rattle.semantics.specs.Frames as frames
+use Rattle.semantics.specs.Frames.{Value, Word, Truth, Pointer, Region}
+use Rattle.semantics.specs.Events.{Machine}
 use Rattle.program.specs.declared.function.Program.{Program}
 use Rattle.linear.specs.declared.form.RegisterId.{RegisterId}
 use Rattle.frame.specs.declared.frame.Wait.{Wait}
@@ -18,17 +18,17 @@ use Rattle.frame.specs.declared.frame.Wait.TheVariants as wait
 use Rattle.cactus.specs.declared.node.Node.{Node}
 use Rattle.cactus.specs.ByPath.{IsBelow, IsTree, named}
 use Rattle.cactus.specs.Frames.{Frames, node_at}
-use Rattle.engine.specs.Activation.{ShowsFrame}
-use Rattle.engine.specs.Shows.{Layout, Stands}
-use Rattle.engine.specs.declared.activation.Frame.{Frame}
-use Rattle.engine.specs.declared.activation.Places.{Places}
-use Rattle.crew.specs.declared.activation.Activation.{Activation}
-use Rattle.crew.specs.declared.run.Block.{Block}
-use Rattle.crew.specs.declared.run.Run.{Run}
-use Rattle.crew.specs.Layouts.{layout_of}
-use Rattle.crew.proofs.Onward.{fits_prop}
-use Rattle.crew.proofs.Returned.{has_result_prop}
-use Rattle.crew.specs.Shown.{Agrees, AreBeside, BlocksStand, CalleeStands, HasTaker, IsBlockOf, IsShown, NodeFits, ShowsAt, ShowsMachine, ShowsNode}
+use Rattle.frame_engine.specs.Activation.{ShowsFrame}
+use Rattle.frame_engine.specs.Shows.{Layout, Stands}
+use Rattle.frame_engine.specs.declared.activation.Frame.{Frame}
+use Rattle.frame_engine.specs.declared.activation.Places.{Places}
+use Rattle.schedule_workers.specs.declared.activation.Activation.{Activation}
+use Rattle.schedule_workers.specs.declared.run.Block.{Block}
+use Rattle.schedule_workers.specs.declared.run.Run.{Run}
+use Rattle.schedule_workers.specs.Layouts.{layout_of}
+use Rattle.schedule_workers.proofs.Onward.{fits_prop}
+use Rattle.schedule_workers.proofs.Returned.{has_result_prop}
+use Rattle.schedule_workers.specs.Shown.{Agrees, AreBeside, BlocksStand, CalleeStands, HasTaker, IsBlockOf, IsShown, NodeFits, ShowsAt, ShowsMachine, ShowsNode}
 
 absurd_again : {A : Type 0} → ∥ ⊥ ∥₁ → A
 absurd_again t = absurd (∥∥₁_elim t (Prim.hlevel (props, ⊎_set, ℕ_set, ℤ_set)) (λ h. h))

@@ -1,20 +1,20 @@
 -- A worker's frame of a stage may be the base of a stack of its own.
 use Rattle.std.proofs.Common.{◌≡◌, ◌∙◌, ℕ, ◌+◌, ◌<◌, [], Some, Bool, true, sym, arith}
 use Rattle.std.proofs.Math.Logic.{∥∥₁_map}
-use Rattle.running.specs.Events.{Machine}
-use Rattle.running.proofs.ChildCounts.{count_at, counted_none}
+use Rattle.semantics.specs.Events.{Machine}
+use Rattle.semantics.proofs.ChildCounts.{count_at, counted_none}
 use Rattle.cactus.specs.declared.node.Node.{Node}
 use Rattle.cactus.specs.Frames.{node_at}
-use Rattle.crew.specs.declared.activation.Activation.{Activation}
-use Rattle.crew.specs.Layouts.{layout_of, living, object_at}
-use Rattle.crew.specs.Scheduling.{counted_in, hand_of}
-use Rattle.crew.specs.Shown.{place_of}
-use Rattle.crew.specs.Starts.{ArePlaces}
-use Rattle.crew.proofs.Onward.{seen}
-use Rattle.deep_strands.specs.Law.{IsOrderly}
-use Rattle.deep_strands.proofs.Reached.{orderly}
-use Rattle.deep_strand.specs.Along.{LoadsGoDeep, MayBegin}
-use Rattle.strand_promise.proofs.Loading.{loads_go_deep}
+use Rattle.schedule_workers.specs.declared.activation.Activation.{Activation}
+use Rattle.schedule_workers.specs.Layouts.{layout_of, living, object_at}
+use Rattle.schedule_workers.specs.Scheduling.{counted_in, hand_of}
+use Rattle.schedule_workers.specs.Shown.{place_of}
+use Rattle.schedule_workers.specs.Starts.{ArePlaces}
+use Rattle.schedule_workers.proofs.Onward.{seen}
+use Rattle.laws_stacks.specs.Law.{IsOrderly}
+use Rattle.laws_stacks.proofs.Reached.{orderly}
+use Rattle.private_stack.specs.Along.{LoadsGoDeep, MayBegin}
+use Rattle.laws_workers_strands.proofs.Loading.{loads_go_deep}
 use Rattle.schedule_core.specs.declared.stage.Stage.{Stage}
 use Rattle.schedule_core.specs.Replaying.{IsMachine, state_after}
 use Rattle.schedule_core.specs.Stages.{IsState, program_of, workers_of}

@@ -6,18 +6,18 @@ use Rattle.std.proofs.lemmas.List.{length-append}
 use Rattle.program.specs.declared.function.Global.{Global}
 use Rattle.program.specs.declared.function.Program.{Program}
 use Rattle.lists.specs.declared.memory.OutOfMemory.{OutOfMemory}
-use Rattle.crew_promise.specs.conditions.theorem.Schedules.{KeepsSchedule}
-use Rattle.crew_promise.specs.verifier.Accepted.{IsAccepted}
-use Rattle.crew_promise.specs.outcome.Requirements.{unmet_in}
-use Rattle.crew_promise.specs.store.Cells.{NamedCells, cell_at}
-use Rattle.crew_promise.specs.store.Rows.{row_of, sizes_of}
-use Rattle.crew.specs.Follows.{AreGiven}
-use Rattle.crew.specs.Stalls.{StallsAgree, no_blocks}
-use Rattle.crew.specs.Starts.{ArePlaces, Begins, HasMoves, IsRowOf}
+use Rattle.laws_workers.specs.laws_conditions.theorem.Schedules.{KeepsSchedule}
+use Rattle.laws_workers.specs.verifier.Accepted.{IsAccepted}
+use Rattle.laws_workers.specs.outcome.Requirements.{unmet_in}
+use Rattle.laws_workers.specs.store.Cells.{NamedCells, cell_at}
+use Rattle.laws_workers.specs.store.Rows.{row_of, sizes_of}
+use Rattle.schedule_workers.specs.Follows.{AreGiven}
+use Rattle.schedule_workers.specs.Stalls.{StallsAgree, no_blocks}
+use Rattle.schedule_workers.specs.Starts.{ArePlaces, Begins, HasMoves, IsRowOf}
 use Rattle.frame.specs.declared.event.Event.{Event}
 use Rattle.schedule_core.specs.declared.stage.Stage.{Stage}
 use Rattle.schedule_core.specs.Replaying.{IsMachine, KeepsItsSchedule, KeepsItWith, Replays, StaysLow, first_state, state_after}
-use Rattle.crew_promise.specs.store.Made.{IsMadeFor}
+use Rattle.laws_workers.specs.store.Made.{IsMadeFor}
 use Rattle.schedule_core.specs.Stages.{IsState, given, program_of, workers_of}
 use Rattle.schedule_core.proofs.Grounds.{FromStart, laws}
 

@@ -8,24 +8,24 @@ use Rattle.std.proofs.Math.IntN.{ℤ_set}
 use mathlib.Core.Sum.{⊎_set}
 use Rattle.std.proofs.lemmas.List.{map-append}
 use Rattle.lists.specs.declared.memory.OutOfMemory.{OutOfMemory}
-use Rattle.running.specs.Events as running
-use Rattle.running.specs.Events.{Machine, start}
-use Rattle.running.specs.Replay.{or_unchanged, replay}
+use Rattle.semantics.specs.Events as running
+use Rattle.semantics.specs.Events.{Machine, start}
+use Rattle.semantics.specs.Replay.{or_unchanged, replay}
 use Rattle.program.specs.declared.function.Program.{Program}
-use Rattle.crew_promise.specs.store.Cells.{NamedCells}
-use Rattle.absorbing.specs.Absorbing.{DoesStrand, GoesAloneIn, KeepsHand, LeavesStallsBy, StandsAlone, steps_in}
-use Rattle.absorbing.specs.strand.declared.outside.Strand.{Strand}
-use Rattle.absorbing.specs.strands.Law.{Happen, steps_by}
-use Rattle.crew.specs.declared.run.Run.{Run}
-use Rattle.crew.specs.Follows.{Follows}
-use Rattle.crew.specs.Left.{LeavesAsShown}
-use Rattle.crew.specs.Shown.{IsShown}
-use Rattle.crew.specs.Starts.{ArePlaces}
-use Rattle.crew.specs.Stalls.{Blocks, StallsAgree, if_enabled, last_blocks, no_blocks, noted}
-use Rattle.engine.specs.declared.activation.Places.{Places}
+use Rattle.laws_workers.specs.store.Cells.{NamedCells}
+use Rattle.schedule_commit.specs.Absorbing.{DoesStrand, GoesAloneIn, KeepsHand, LeavesStallsBy, StandsAlone, steps_in}
+use Rattle.schedule_commit.specs.frame_strand.declared.outside.Strand.{Strand}
+use Rattle.schedule_commit.specs.laws_strands.Law.{Happen, steps_by}
+use Rattle.schedule_workers.specs.declared.run.Run.{Run}
+use Rattle.schedule_workers.specs.Follows.{Follows}
+use Rattle.schedule_workers.specs.Left.{LeavesAsShown}
+use Rattle.schedule_workers.specs.Shown.{IsShown}
+use Rattle.schedule_workers.specs.Starts.{ArePlaces}
+use Rattle.schedule_workers.specs.Stalls.{Blocks, StallsAgree, if_enabled, last_blocks, no_blocks, noted}
+use Rattle.frame_engine.specs.declared.activation.Places.{Places}
 use Rattle.frame.specs.declared.event.Event.{Event}
 use Rattle.frame.specs.declared.event.Event.TheVariants.{Step}
-use Rattle.strand_promise.proofs.Law.{alone_too}
+use Rattle.laws_workers_strands.proofs.Law.{alone_too}
 use Rattle.schedule_core.specs.declared.stage.Stage.{Stage}
 use Rattle.schedule_core.specs.Replaying.{AreEnabled, IsMachine, LeavesAsBefore, Replays, ReplaysMore, event_of, first_state, state_after}
 use Rattle.schedule_core.specs.Stages.{GoesWell, IsReached, IsState, program_of, workers_of}

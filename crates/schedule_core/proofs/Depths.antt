@@ -1,21 +1,21 @@
 -- No frame stands deeper than the deepest of the serial run: each schedule can be gone on with to its end, where its peak is the serial depth.
 use Rattle.std.proofs.Common.{◌≡◌, ◌∙◌, ℕ, zero, suc, ◌+◌, ◌<◌, ◌≤◌, List, [], ◌∷◌, length, Option, Some, None, Bool, true, false, refl, sym, ap, subst, arith, le_trans, ℤ}
-use Rattle.running.specs.Paths.{Path}
-use Rattle.running.specs.Cells.{Memory}
-use Rattle.running.specs.Frames.{Frame}
-use Rattle.running.specs.State.{State, Change, apply, change_of}
-use Rattle.running.specs.Tree.{Tree}
-use Rattle.running.specs.SerialMeaning.{Outcome}
-use Rattle.running.specs.Events.{Machine, Event, Step, event, by_change, by_frame, by_hand, start}
-use Rattle.running.specs.Replay.{NeverTraps, has_ended, or_unchanged, replay}
-use Rattle.running.proofs.Deep.{Deep, deep_kept}
-use Rattle.running.proofs.Starting.{start_deep, start_tree}
-use Rattle.running.proofs.Steps.{Does}
-use Rattle.running.proofs.TreeKept.{step_keeps_tree}
+use Rattle.semantics.specs.Paths.{Path}
+use Rattle.semantics.specs.Cells.{Memory}
+use Rattle.semantics.specs.Frames.{Frame}
+use Rattle.semantics.specs.State.{State, Change, apply, change_of}
+use Rattle.semantics.specs.Tree.{Tree}
+use Rattle.semantics.specs.SerialMeaning.{Outcome}
+use Rattle.semantics.specs.Events.{Machine, Event, Step, event, by_change, by_frame, by_hand, start}
+use Rattle.semantics.specs.Replay.{NeverTraps, has_ended, or_unchanged, replay}
+use Rattle.semantics.proofs.Deep.{Deep, deep_kept}
+use Rattle.semantics.proofs.Starting.{start_deep, start_tree}
+use Rattle.semantics.proofs.Steps.{Does}
+use Rattle.semantics.proofs.TreeKept.{step_keeps_tree}
 use Rattle.program.specs.declared.function.Program.{Program}
-use Rattle.crew_promise.specs.conditions.theorem.Schedules.{KeepsSchedule}
-use Rattle.crew_promise.proofs.conditions.theorem.Theorem.{not_trapped}
-use Rattle.crew_promise.proofs.schedule_theorem.safe.Replayed.{from_later, replay_good}
+use Rattle.laws_workers.specs.laws_conditions.theorem.Schedules.{KeepsSchedule}
+use Rattle.laws_workers.proofs.laws_conditions.theorem.Theorem.{not_trapped}
+use Rattle.laws_workers.proofs.laws_schedule.safe.Replayed.{from_later, replay_good}
 use Rattle.schedule_core.specs.Replaying.{StaysLow}
 
 -- ---- numbers

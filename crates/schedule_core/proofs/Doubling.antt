@@ -5,13 +5,13 @@ use Rattle.std.proofs.Props.{props}
 use Rattle.std.proofs.Math.Nat.{ℕ_set}
 use Rattle.std.proofs.Math.IntN.{ℤ_set}
 use mathlib.Core.Sum.{⊎_set}
-use Rattle.running.specs.Events.{Machine}
-use Rattle.crew_promise.specs.store.Cells.{NamedCells}
-use Rattle.engine.specs.declared.activation.Places.{Places}
-use Rattle.crew.specs.Copying.{IsCopy}
-use Rattle.crew.specs.Starts.{ArePlaces, HasMoves}
-use Rattle.crew.specs.Stalls.{last_blocks, no_blocks}
-use Rattle.crew.specs.declared.run.Run.{Run}
+use Rattle.semantics.specs.Events.{Machine}
+use Rattle.laws_workers.specs.store.Cells.{NamedCells}
+use Rattle.frame_engine.specs.declared.activation.Places.{Places}
+use Rattle.schedule_workers.specs.Copying.{IsCopy}
+use Rattle.schedule_workers.specs.Starts.{ArePlaces, HasMoves}
+use Rattle.schedule_workers.specs.Stalls.{last_blocks, no_blocks}
+use Rattle.schedule_workers.specs.declared.run.Run.{Run}
 use Rattle.schedule_core.specs.declared.stage.Stage.{Stage}
 use Rattle.schedule_core.specs.Replaying.{IsMachine, Replays, ReplaysTheSame, StandsAsWell, event_of, first_state, state_after}
 use Rattle.schedule_core.specs.Stages.{GoesWell, IsReached, IsState, program_of, workers_of}

@@ -8,10 +8,10 @@ use Rattle.std.specs.declared.cmp.Ordering.{Ordering}
 use Rattle.std.specs.declared.cmp.Ordering.TheVariants.{Less, Equal, Greater}
 use Rattle.std.proofs.lemmas.List.{reverse-reverse}
 use Rattle.std.proofs.lemmas.Cmp.{nat_list_cmp_total}
-use Rattle.running.specs.Frames as defined
-use Rattle.running.specs.Events as running
-use Rattle.running.specs.Events.{Machine}
-use Rattle.running.specs.Tasks.{OnTask, is_lowest}
+use Rattle.semantics.specs.Frames as defined
+use Rattle.semantics.specs.Events as running
+use Rattle.semantics.specs.Events.{Machine}
+use Rattle.semantics.specs.Tasks.{OnTask, is_lowest}
 use Rattle.frame.specs.declared.path.Path.{Path}
 use Rattle.frame.specs.declared.frame.Wait.{Wait}
 use Rattle.frame.specs.declared.frame.Wait.TheVariants as wait
@@ -21,11 +21,11 @@ use Rattle.cactus.specs.Frames.{Frames, frame_at, node_at}
 use Rattle.cactus.specs.ByPath.{IsTree}
 use Rattle.slab.specs.Slab.{entries_from}
 use Rattle.slab.proofs.SlabLemmas.{Contains-entries}
-use Rattle.crew.specs.declared.activation.Activation.{Activation}
-use Rattle.crew.specs.Lowest.{IsLowestBelow, lowest, under}
-use Rattle.crew.specs.Shown.{CalleeStands, place_of}
-use Rattle.crew.specs.Tasks.{IsLowest, IsReady}
-use Rattle.crew.proofs.Topmost.{holder_is}
+use Rattle.schedule_workers.specs.declared.activation.Activation.{Activation}
+use Rattle.schedule_workers.specs.Lowest.{IsLowestBelow, lowest, under}
+use Rattle.schedule_workers.specs.Shown.{CalleeStands, place_of}
+use Rattle.schedule_workers.specs.Tasks.{IsLowest, IsReady}
+use Rattle.schedule_workers.proofs.Topmost.{holder_is}
 use Rattle.schedule_core.specs.declared.stage.Stage.{Stage}
 use Rattle.schedule_core.specs.Stages.{IsState, program_of, workers_of}
 use Rattle.schedule_core.specs.Viewed.{status_in, Advances, IsAtMost, IsNamedBelow, IsReadyAt, IsLesser, IsFirstReady, IsNoneReady}

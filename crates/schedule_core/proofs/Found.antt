@@ -1,18 +1,18 @@
 -- The views that `task` and `task_of` find.
 use Rattle.std.proofs.Common.{◌≡◌, ℕ, Option, Some, None, refl, sym, ◌∙◌, subst}
 use Rattle.std.specs.Prelude.{IfNone, IfSome, IsSome}
-use Rattle.running.specs.Events.{Machine}
+use Rattle.semantics.specs.Events.{Machine}
 use Rattle.frame.specs.declared.path.Path.{Path}
 use Rattle.cactus.specs.declared.node.Node.{Node}
 use Rattle.cactus.specs.Frames.{Frames, node_at, HasPath, Lives}
 use Rattle.cactus.specs.ByPath.{IsTree}
-use Rattle.crew.specs.declared.activation.Activation.{Activation}
-use Rattle.crew.specs.Lowest.{IsLowestBelow}
-use Rattle.crew.specs.Scheduling.{hand_of}
-use Rattle.crew.specs.Shown.{place_of}
-use Rattle.crew.specs.Tasks.{FindsTop, nobody, no_task, task, top_within}
-use Rattle.crew.proofs.Stealing.{top_place}
-use Rattle.crew.proofs.Topmost.{TopIs, ended_at}
+use Rattle.schedule_workers.specs.declared.activation.Activation.{Activation}
+use Rattle.schedule_workers.specs.Lowest.{IsLowestBelow}
+use Rattle.schedule_workers.specs.Scheduling.{hand_of}
+use Rattle.schedule_workers.specs.Shown.{place_of}
+use Rattle.schedule_workers.specs.Tasks.{FindsTop, nobody, no_task, task, top_within}
+use Rattle.schedule_workers.proofs.Stealing.{top_place}
+use Rattle.schedule_workers.proofs.Topmost.{TopIs, ended_at}
 use Rattle.schedule_core.specs.declared.stage.Stage.{Stage}
 use Rattle.schedule_core.specs.declared.task.TaskView.{TaskView}
 use Rattle.schedule_core.specs.Stages.{IsState, program_of}

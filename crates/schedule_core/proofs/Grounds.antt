@@ -1,29 +1,29 @@
 -- The laws on accepted programs that a machine rests on.
 use Rattle.std.proofs.Common.{◌≡◌, ℕ, zero, suc, ◌<◌, ◌≤◌, List, [], ◌∷◌, ◌++◌, length, map, None, Some, arith, refl, ap, sym, subst, slice_get, ℤ}
 use Rattle.std.specs.Prelude.{IsSome}
-use Rattle.running.specs.Events.{Event, start}
-use Rattle.running.specs.Frames.{global_cells}
-use Rattle.running.specs.Replay.{replay}
+use Rattle.semantics.specs.Events.{Event, start}
+use Rattle.semantics.specs.Frames.{global_cells}
+use Rattle.semantics.specs.Replay.{replay}
 use Rattle.program.specs.declared.function.Global.{Global}
 use Rattle.program.specs.declared.function.Program.{Program}
-use Rattle.crew_promise.specs.verifier.Accepted.{IsAccepted}
-use Rattle.crew_promise.specs.outcome.Requirements.{unmet_in}
-use Rattle.crew_promise.specs.store.Cells.{NamedCells, cell_at}
-use Rattle.crew_promise.specs.store.Made.{HasGlobalCells, IsMadeFor}
-use Rattle.crew_promise.specs.store.Rows.{sizes_of}
-use Rattle.crew_promise.specs.schedule_theorem.Promise.{AreTaken, HasGlobals}
-use Rattle.crew_promise.proofs.serial_machine.Arguments.{are_taken}
-use Rattle.crew_promise.proofs.serial_machine.Globals.{globals_given}
-use Rattle.crew_promise.proofs.serial_machine.schedule_theorem.Promise.{accepted_programs_keep_their_promise}
-use Rattle.crew_promise.proofs.serial_machine.schedule_theorem.safe.Safe.{schedules_are_safe}
-use Rattle.crew_promise.specs.Safe.{StartFits}
-use Rattle.crew_promise.proofs.Going.{runs_are_safe}
-use Rattle.crew_promise.proofs.Texts.{texts_fit, starts_fit}
-use Rattle.strand_promise.specs.Promise.{StaysSafeDeep}
-use Rattle.strand_promise.proofs.Law.{frames_go_deep}
-use Rattle.crew.specs.Going.{RunsSafely, TextFits}
-use Rattle.crew.specs.Starts.{ArePlaces, HasMoves}
-use Rattle.engine.specs.declared.activation.Places.{Places}
+use Rattle.laws_workers.specs.verifier.Accepted.{IsAccepted}
+use Rattle.laws_workers.specs.outcome.Requirements.{unmet_in}
+use Rattle.laws_workers.specs.store.Cells.{NamedCells, cell_at}
+use Rattle.laws_workers.specs.store.Made.{HasGlobalCells, IsMadeFor}
+use Rattle.laws_workers.specs.store.Rows.{sizes_of}
+use Rattle.laws_workers.specs.laws_schedule.Promise.{AreTaken, HasGlobals}
+use Rattle.laws_workers.proofs.serial_machine.Arguments.{are_taken}
+use Rattle.laws_workers.proofs.serial_machine.Globals.{globals_given}
+use Rattle.laws_workers.proofs.serial_machine.laws_schedule.Promise.{accepted_programs_keep_their_promise}
+use Rattle.laws_workers.proofs.serial_machine.laws_schedule.safe.Safe.{schedules_are_safe}
+use Rattle.laws_workers.specs.Safe.{StartFits}
+use Rattle.laws_workers.proofs.Going.{runs_are_safe}
+use Rattle.laws_workers.proofs.Texts.{texts_fit, starts_fit}
+use Rattle.laws_workers_strands.specs.Promise.{StaysSafeDeep}
+use Rattle.laws_workers_strands.proofs.Law.{frames_go_deep}
+use Rattle.schedule_workers.specs.Going.{RunsSafely, TextFits}
+use Rattle.schedule_workers.specs.Starts.{ArePlaces, HasMoves}
+use Rattle.frame_engine.specs.declared.activation.Places.{Places}
 use Rattle.schedule_core.specs.Replaying.{KeepsItsSchedule, event_of}
 use Rattle.schedule_core.specs.Stages.{AreFull, given}
 use Rattle.schedule_core.proofs.Depths.{stays_low}

@@ -9,21 +9,21 @@ use Rattle.std.proofs.Props.{props}
 use Rattle.std.proofs.Math.Nat.{ℕ_set}
 use Rattle.std.proofs.Math.IntN.{ℤ_set}
 use mathlib.Core.Sum.{⊎_set}
-use Rattle.running.specs.Arithmetic.{cell_sum, signed, wrapped}
-use Rattle.running.specs.Cells.{Cell, Shared}
+use Rattle.semantics.specs.Arithmetic.{cell_sum, signed, wrapped}
+use Rattle.semantics.specs.Cells.{Cell, Shared}
 use Rattle.lists.specs.declared.memory.OutOfMemory.{OutOfMemory}
-use Rattle.running.specs.Events.{Machine}
+use Rattle.semantics.specs.Events.{Machine}
 use Rattle.syntax.specs.declared.operator.Width.TheVariants.{Bits64}
 use Rattle.program.specs.Cells.{global_cells}
 use Rattle.program.specs.declared.function.Global.{Global}
-use Rattle.crew_promise.specs.store.Cells.{NamedCells, cell_at, cell_named, cell_of, number_of, size_of}
-use Rattle.crew_promise.specs.store.Made.{IsMadeFor}
-use Rattle.crew_promise.specs.store.Rows.{refilled, sizes_of}
-use Rattle.crew_promise.proofs.serial_machine.Held.{sizes_kept}
-use Rattle.engine.specs.Flat.{cell_in}
-use Rattle.engine.specs.Starts.{global_starts, starts_from}
-use Rattle.crew.specs.Layouts.{number_in}
-use Rattle.crew.proofs.Rows.{first_row_address, global_size, size_in, small_number, start_in, sum_more}
+use Rattle.laws_workers.specs.store.Cells.{NamedCells, cell_at, cell_named, cell_of, number_of, size_of}
+use Rattle.laws_workers.specs.store.Made.{IsMadeFor}
+use Rattle.laws_workers.specs.store.Rows.{refilled, sizes_of}
+use Rattle.laws_workers.proofs.serial_machine.Held.{sizes_kept}
+use Rattle.frame_engine.specs.Flat.{cell_in}
+use Rattle.frame_engine.specs.Starts.{global_starts, starts_from}
+use Rattle.schedule_workers.specs.Layouts.{number_in}
+use Rattle.schedule_workers.proofs.Rows.{first_row_address, global_size, size_in, small_number, start_in, sum_more}
 use Rattle.schedule_core.specs.declared.stage.Stage.{Stage}
 use Rattle.schedule_core.specs.Replaying.{IsMachine}
 use Rattle.schedule_core.specs.Stages.{HoldsGlobals, IsState, global_named, names_of, program_of}

@@ -3,21 +3,21 @@ use Rattle.std.proofs.Common.{◌≡◌, ℕ, List, map, reverse, Option, Some, 
 use Rattle.std.specs.Prelude.{IfSome, option_and_then}
 use Rattle.std.specs.Option.{option_map}
 use Rattle.linear.specs.declared.form.RegisterId.{RegisterId}
-use Rattle.running.specs.Paths.{Path as RunningPath}
-use Rattle.running.specs.Frames.{Frame as RunningFrame, block_at}
-use Rattle.running.specs.Events as running
-use Rattle.running.specs.Events.{Machine}
+use Rattle.semantics.specs.Paths.{Path as RunningPath}
+use Rattle.semantics.specs.Frames.{Frame as RunningFrame, block_at}
+use Rattle.semantics.specs.Events as running
+use Rattle.semantics.specs.Events.{Machine}
 use Rattle.program.specs.declared.function.Block.{Block}
 use Rattle.program.specs.declared.function.Program.{Program}
 use Rattle.program.specs.declared.identifier.BlockId.{BlockId}
 use Rattle.frame.specs.declared.frame.Wait.{Wait}
 use Rattle.frame.specs.declared.frame.Wait.TheVariants as wait
 use Rattle.frame.specs.declared.path.Path.{Path}
-use Rattle.crew_promise.specs.store.Cells.{NamedCells}
-use Rattle.engine.specs.declared.activation.Frame.{Frame}
-use Rattle.crew.specs.Shown.{place_of}
-use Rattle.crew.specs.Stalls.{Blocks, StallsAgree, last_blocks, no_blocks}
-use Rattle.crew.proofs.Onward.{seen}
+use Rattle.laws_workers.specs.store.Cells.{NamedCells}
+use Rattle.frame_engine.specs.declared.activation.Frame.{Frame}
+use Rattle.schedule_workers.specs.Shown.{place_of}
+use Rattle.schedule_workers.specs.Stalls.{Blocks, StallsAgree, last_blocks, no_blocks}
+use Rattle.schedule_workers.proofs.Onward.{seen}
 use Rattle.frame.specs.declared.event.Event.{Event}
 use Rattle.schedule_core.specs.declared.stage.Stage.{Stage}
 use Rattle.schedule_core.specs.declared.task.Status.{Status}

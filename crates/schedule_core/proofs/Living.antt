@@ -5,19 +5,19 @@ use Rattle.std.specs.List.{AllByRecursion, IsDistinct}
 use Rattle.std.specs.Set.{is_member}
 use Rattle.std.proofs.lemmas.List.{reverse-reverse}
 use Rattle.std.proofs.lemmas.List.Recursion.{is_count_by}
-use Rattle.running.specs.Paths.{Path, same_path}
-use Rattle.running.specs.Replay.{CountsFrames}
-use Rattle.running.proofs.Actions.{same_path_itself}
-use Rattle.running.proofs.Places.{same_path_tells, same_path_apart}
+use Rattle.semantics.specs.Paths.{Path, same_path}
+use Rattle.semantics.specs.Replay.{CountsFrames}
+use Rattle.semantics.proofs.Actions.{same_path_itself}
+use Rattle.semantics.proofs.Places.{same_path_tells, same_path_apart}
 use Rattle.cactus.specs.declared.node.Node.{Node}
 use Rattle.cactus.specs.Frames.{Frames}
 use Rattle.cactus.specs.ByPath.{first_named, named}
-use Rattle.crew.specs.declared.activation.Activation.{Activation}
-use Rattle.crew.specs.Shown.{ShowsAt, place_of}
-use Rattle.engine.specs.declared.activation.Places.{Places}
-use Rattle.engine.specs.Shows.{Layout}
-use Rattle.running.specs.Events.{Machine}
-use Rattle.running.specs.Frames as frames
+use Rattle.schedule_workers.specs.declared.activation.Activation.{Activation}
+use Rattle.schedule_workers.specs.Shown.{ShowsAt, place_of}
+use Rattle.frame_engine.specs.declared.activation.Places.{Places}
+use Rattle.frame_engine.specs.Shows.{Layout}
+use Rattle.semantics.specs.Events.{Machine}
+use Rattle.semantics.specs.Frames as frames
 use Rattle.schedule_core.specs.declared.stage.Stage.{Stage}
 use Rattle.schedule_core.specs.Stages.{IsState}
 

@@ -10,28 +10,28 @@ use Rattle.std.proofs.lemmas.List.{length-reverse}
 use Rattle.program.specs.declared.function.Program.{Program}
 use Rattle.cactus.specs.declared.node.Node.{Node}
 use Rattle.cactus.specs.Frames.{node_at}
-use Rattle.engine.specs.Activation.{FrameFits}
-use Rattle.engine.specs.Shows.{Layout}
-use Rattle.engine.specs.declared.activation.Frame.{Frame}
-use Rattle.engine.specs.declared.activation.Places.{Places}
-use Rattle.absorbing.specs.Fitting.{FitsRun, HoldReads}
-use Rattle.absorbing.specs.strand.Along.{IsGoing, MayBegin, MayGo, pause_in}
-use Rattle.absorbing.specs.strand.Standing.{IsCopy}
-use Rattle.absorbing.specs.strand.declared.cells.Read.{Read}
-use Rattle.absorbing.specs.strand.declared.outside.Strand.{Strand}
-use Rattle.absorbing.specs.strand.declared.standing.Course.{Course}
-use Rattle.absorbing.specs.strand.declared.standing.Pause.{Pause}
-use Rattle.absorbing.specs.strand.declared.standing.Pause.TheVariants.{Blank}
-use Rattle.absorbing.specs.strands.Footprint.{Footprint, held}
-use Rattle.absorbing.specs.strands.Strands as strands
-use Rattle.absorbing.specs.strands.Strands.{Access, Nowhere, Loads, Stores, Adds, access_of, is_border, is_full, most_done, need, next_of, pause_of}
+use Rattle.frame_engine.specs.Activation.{FrameFits}
+use Rattle.frame_engine.specs.Shows.{Layout}
+use Rattle.frame_engine.specs.declared.activation.Frame.{Frame}
+use Rattle.frame_engine.specs.declared.activation.Places.{Places}
+use Rattle.schedule_commit.specs.Fitting.{FitsRun, HoldReads}
+use Rattle.schedule_commit.specs.frame_strand.Along.{IsGoing, MayBegin, MayGo, pause_in}
+use Rattle.schedule_commit.specs.frame_strand.Standing.{IsCopy}
+use Rattle.schedule_commit.specs.frame_strand.declared.cells.Read.{Read}
+use Rattle.schedule_commit.specs.frame_strand.declared.outside.Strand.{Strand}
+use Rattle.schedule_commit.specs.frame_strand.declared.standing.Course.{Course}
+use Rattle.schedule_commit.specs.frame_strand.declared.standing.Pause.{Pause}
+use Rattle.schedule_commit.specs.frame_strand.declared.standing.Pause.TheVariants.{Blank}
+use Rattle.schedule_commit.specs.laws_strands.Footprint.{Footprint, held}
+use Rattle.schedule_commit.specs.laws_strands.Strands as strands
+use Rattle.schedule_commit.specs.laws_strands.Strands.{Access, Nowhere, Loads, Stores, Adds, access_of, is_border, is_full, most_done, need, next_of, pause_of}
 use Rattle.std.specs.Prelude.{is_some, nat_le}
-use Rattle.crew.specs.declared.activation.Activation.{Activation}
-use Rattle.crew.specs.Layouts.{layout_of, object_at}
-use Rattle.crew.specs.Scheduling.{hand_of}
-use Rattle.crew.specs.Shown.{place_of}
-use Rattle.crew.proofs.Onward.{fits_prop, seen}
-use Rattle.strand_promise.proofs.Law.{alone_too}
+use Rattle.schedule_workers.specs.declared.activation.Activation.{Activation}
+use Rattle.schedule_workers.specs.Layouts.{layout_of, object_at}
+use Rattle.schedule_workers.specs.Scheduling.{hand_of}
+use Rattle.schedule_workers.specs.Shown.{place_of}
+use Rattle.schedule_workers.proofs.Onward.{fits_prop, seen}
+use Rattle.laws_workers_strands.proofs.Law.{alone_too}
 use Rattle.schedule_core.specs.declared.stage.Stage.{Stage}
 use Rattle.schedule_core.specs.Replaying.{IsMachine, KeepsItsSchedule, state_after}
 use Rattle.schedule_core.specs.Stages.{program_of, workers_of}

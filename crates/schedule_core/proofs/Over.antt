@@ -1,12 +1,12 @@
 -- Where the root has returned there is no frame, and so nothing that an event could move.
 use Rattle.std.proofs.Common.{◌≡◌, ℕ, [], ◌∷◌, Option, Some, None, Bool, true, false, cond, refl, sym, ap, ◌∙◌, ltb, is_none, ◌&&◌}
-use Rattle.running.specs.Paths.{Path}
-use Rattle.running.specs.Arithmetic.{Trap}
-use Rattle.running.specs.Frames.{Frame}
-use Rattle.running.specs.State.{State}
-use Rattle.running.specs.Tree.{Tree}
-use Rattle.running.specs.Events.{Machine, Event, Step, Steal, by_frame, by_hand, event, sound_event, start, status_of, stolen, if_ready, unless_trapped}
-use Rattle.running.specs.Replay.{replay}
+use Rattle.semantics.specs.Paths.{Path}
+use Rattle.semantics.specs.Arithmetic.{Trap}
+use Rattle.semantics.specs.Frames.{Frame}
+use Rattle.semantics.specs.State.{State}
+use Rattle.semantics.specs.Tree.{Tree}
+use Rattle.semantics.specs.Events.{Machine, Event, Step, Steal, by_frame, by_hand, event, sound_event, start, status_of, stolen, if_ready, unless_trapped}
+use Rattle.semantics.specs.Replay.{replay}
 use Rattle.program.specs.declared.function.Program.{Program}
 use Rattle.schedule_core.specs.Over.{EndedEnablesNothing}
 use Rattle.schedule_core.proofs.Reached.{reached_manned}

@@ -1,10 +1,10 @@
 -- The slot of a child's parent is that of the task whose top detached it.
 use Rattle.std.proofs.Common.{◌≡◌, ◌≢◌, ℕ, List, [], ◌∷◌, reverse, Option, Some, None, true, refl, sym, ap, ◌∙◌, subst}
 use Rattle.std.specs.Prelude.{IfSome}
-use Rattle.running.specs.Paths.{Path as RunningPath}
-use Rattle.running.specs.Frames as defined
-use Rattle.running.specs.Events as running
-use Rattle.running.specs.Events.{Machine}
+use Rattle.semantics.specs.Paths.{Path as RunningPath}
+use Rattle.semantics.specs.Frames as defined
+use Rattle.semantics.specs.Events as running
+use Rattle.semantics.specs.Events.{Machine}
 use Rattle.linear.specs.declared.form.RegisterId.{RegisterId}
 use Rattle.program.specs.declared.identifier.BlockId.{BlockId}
 use Rattle.frame.specs.declared.frame.Role.{Role}
@@ -12,11 +12,11 @@ use Rattle.frame.specs.declared.frame.Role.TheVariants as role
 use Rattle.frame.specs.Reading.{role_of}
 use Rattle.cactus.specs.declared.node.Node.{Node}
 use Rattle.cactus.specs.Frames.{node_at}
-use Rattle.crew.specs.declared.activation.Activation.{Activation}
-use Rattle.crew.specs.declared.run.Run.{Run}
-use Rattle.crew.specs.Scheduling.{hand_of}
-use Rattle.crew.specs.Shown.{place_of}
-use Rattle.crew.proofs.Topmost.{hand_found}
+use Rattle.schedule_workers.specs.declared.activation.Activation.{Activation}
+use Rattle.schedule_workers.specs.declared.run.Run.{Run}
+use Rattle.schedule_workers.specs.Scheduling.{hand_of}
+use Rattle.schedule_workers.specs.Shown.{place_of}
+use Rattle.schedule_workers.proofs.Topmost.{hand_found}
 use Rattle.schedule_core.specs.declared.ready.Spot.{Spot}
 use Rattle.schedule_core.specs.declared.stage.Stage.{Stage}
 use Rattle.schedule_core.specs.ReadyBelow.{IsNotReady, IsSpotOf}

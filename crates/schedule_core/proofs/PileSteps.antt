@@ -9,19 +9,19 @@ use mathlib.Core.Sum.{⊎_set}
 use Rattle.lists.specs.declared.memory.OutOfMemory.{OutOfMemory}
 use Rattle.cactus.specs.declared.node.Node.{Node}
 use Rattle.cactus.specs.Frames.{node_at}
-use Rattle.absorbing.specs.strand.Standing.{IsCopy}
-use Rattle.engine.specs.declared.activation.Places.{Places}
-use Rattle.crew.specs.declared.activation.Activation.{Activation}
-use Rattle.crew.specs.declared.run.Run.{Run}
-use Rattle.crew.specs.Follows.{Follows}
-use Rattle.crew.specs.Scheduling.{hand_of}
-use Rattle.crew.specs.Starts.{ArePlaces}
-use Rattle.page_log.specs.Tables.{log_of}
-use Rattle.deep_strands.specs.Law.{absorbed}
-use Rattle.deep_strand.specs.Along.{IsUnderWay}
-use Rattle.deep_strand.specs.declared.pile.Pile.{Pile}
-use Rattle.deep_absorbing.specs.Absorbing.{DoesDeep, LeavesStallsDeep, StandsDeep}
-use Rattle.deep_absorbing.specs.Fitting.{HasNoChild}
+use Rattle.schedule_commit.specs.frame_strand.Standing.{IsCopy}
+use Rattle.frame_engine.specs.declared.activation.Places.{Places}
+use Rattle.schedule_workers.specs.declared.activation.Activation.{Activation}
+use Rattle.schedule_workers.specs.declared.run.Run.{Run}
+use Rattle.schedule_workers.specs.Follows.{Follows}
+use Rattle.schedule_workers.specs.Scheduling.{hand_of}
+use Rattle.schedule_workers.specs.Starts.{ArePlaces}
+use Rattle.private_stack_log.specs.Tables.{log_of}
+use Rattle.laws_stacks.specs.Law.{absorbed}
+use Rattle.private_stack.specs.Along.{IsUnderWay}
+use Rattle.private_stack.specs.declared.pile.Pile.{Pile}
+use Rattle.schedule_publish.specs.Absorbing.{DoesDeep, LeavesStallsDeep, StandsDeep}
+use Rattle.schedule_publish.specs.Fitting.{HasNoChild}
 use Rattle.schedule_core.specs.declared.stage.Stage.{Stage}
 use Rattle.schedule_core.specs.Piles.{IsBegun}
 use Rattle.schedule_core.specs.Replaying.{IsMachine, state_after}

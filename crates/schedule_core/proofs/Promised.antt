@@ -7,23 +7,23 @@ use Rattle.std.proofs.Math.Nat.{ℕ_set}
 use Rattle.std.proofs.Math.IntN.{ℤ_set}
 use mathlib.Core.Sum.{⊎_set}
 use Rattle.lists.specs.declared.memory.OutOfMemory.{OutOfMemory}
-use Rattle.running.specs.Paths.{Path}
+use Rattle.semantics.specs.Paths.{Path}
 use Rattle.frame.specs.declared.path.Path.{Path as Name}
-use Rattle.running.specs.Events as running
-use Rattle.running.specs.Events.{Machine}
-use Rattle.running.specs.Replay.{has_ended}
+use Rattle.semantics.specs.Events as running
+use Rattle.semantics.specs.Events.{Machine}
+use Rattle.semantics.specs.Replay.{has_ended}
 use Rattle.program.specs.declared.function.Program.{Program}
-use Rattle.crew_promise.specs.verifier.Accepted.{IsAccepted}
+use Rattle.laws_workers.specs.verifier.Accepted.{IsAccepted}
 use Rattle.cactus.specs.Frames.{Frames}
-use Rattle.crew.specs.declared.activation.Activation.{Activation}
-use Rattle.crew.specs.declared.run.Run.{Run}
-use Rattle.crew.specs.Events.{DoesEvent, Grows, LeavesStalls}
-use Rattle.crew.specs.Follows.{AreGiven, Follows}
-use Rattle.crew.specs.Going.{DoesSteal, StandsSafely, TextFits}
-use Rattle.crew.specs.Left.{LeavesAsShown}
-use Rattle.crew.specs.Stalls.{KeepsStalls}
-use Rattle.crew.specs.Starts.{ArePlaces, HasMoves}
-use Rattle.engine.specs.declared.activation.Places.{Places}
+use Rattle.schedule_workers.specs.declared.activation.Activation.{Activation}
+use Rattle.schedule_workers.specs.declared.run.Run.{Run}
+use Rattle.schedule_workers.specs.Events.{DoesEvent, Grows, LeavesStalls}
+use Rattle.schedule_workers.specs.Follows.{AreGiven, Follows}
+use Rattle.schedule_workers.specs.Going.{DoesSteal, StandsSafely, TextFits}
+use Rattle.schedule_workers.specs.Left.{LeavesAsShown}
+use Rattle.schedule_workers.specs.Stalls.{KeepsStalls}
+use Rattle.schedule_workers.specs.Starts.{ArePlaces, HasMoves}
+use Rattle.frame_engine.specs.declared.activation.Places.{Places}
 use Rattle.frame.specs.declared.event.Event.{Event}
 use Rattle.frame.specs.declared.event.Event.TheVariants.{Step, Steal}
 use Rattle.schedule_core.specs.declared.stage.Stage.{Stage}

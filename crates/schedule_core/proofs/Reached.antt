@@ -1,10 +1,10 @@
 -- What holds of every state that a schedule leads to where no step has trapped.
 use Rattle.std.proofs.Common.{◌≡◌, ℕ, ◌≤◌, List, [], ◌∷◌, ◌++◌, Some, None, refl, ap, ◌∙◌, subst}
-use Rattle.running.specs.Events.{Machine, Event, event, start}
-use Rattle.running.specs.Replay.{replay, or_unchanged}
-use Rattle.running.proofs.Workers.{Manned}
-use Rattle.running.proofs.Starting.{start_manned}
-use Rattle.deep_strands.proofs.Reached.{after_replay}
+use Rattle.semantics.specs.Events.{Machine, Event, event, start}
+use Rattle.semantics.specs.Replay.{replay, or_unchanged}
+use Rattle.semantics.proofs.Workers.{Manned}
+use Rattle.semantics.proofs.Starting.{start_manned}
+use Rattle.laws_stacks.proofs.Reached.{after_replay}
 use Rattle.program.specs.declared.function.Program.{Program}
 use Rattle.schedule_core.specs.Stages.{IsReached}
 

@@ -2,17 +2,17 @@
 use Rattle.std.proofs.Common.{◌≡◌, ◌≢◌, ◌∙◌, ◌⊎◌, ℕ, zero, suc, List, [], ◌∷◌, ◌++◌, append-nil, append_assoc, reverse, Option, Some, None, inl, inr, refl, sym, ap, subst}
 use Rattle.std.specs.Prelude.{option_and_then}
 use Rattle.std.proofs.lemmas.Option.{same_Some}
-use Rattle.running.specs.Paths.{Path as RunningPath}
-use Rattle.running.specs.Events as running
-use Rattle.running.specs.Events.{Machine}
+use Rattle.semantics.specs.Paths.{Path as RunningPath}
+use Rattle.semantics.specs.Events as running
+use Rattle.semantics.specs.Events.{Machine}
 use Rattle.cactus.specs.declared.node.Node.{Node}
 use Rattle.cactus.specs.Frames.{Frames, HasPath, node_at}
 use Rattle.cactus.proofs.FramesLemmas.{node_of_use-own}
-use Rattle.crew.specs.declared.activation.Activation.{Activation}
-use Rattle.crew.specs.Scheduling.{hand_of}
-use Rattle.crew.specs.Shown.{CalleeStands, place_of}
-use Rattle.crew.proofs.Stealing.{ready_standing, standing_is}
-use Rattle.crew.proofs.Topmost.{holder_is}
+use Rattle.schedule_workers.specs.declared.activation.Activation.{Activation}
+use Rattle.schedule_workers.specs.Scheduling.{hand_of}
+use Rattle.schedule_workers.specs.Shown.{CalleeStands, place_of}
+use Rattle.schedule_workers.proofs.Stealing.{ready_standing, standing_is}
+use Rattle.schedule_workers.proofs.Topmost.{holder_is}
 use Rattle.schedule_core.specs.declared.ready.Spot.{Spot}
 use Rattle.schedule_core.specs.declared.stage.Stage.{Stage}
 use Rattle.schedule_core.specs.ReadyBelow.{AreReadyBelow, AreReadyFrom, AreReadyUnder, IsNotReady, IsReadyTop, IsSpotOf, Notes, maker_of}

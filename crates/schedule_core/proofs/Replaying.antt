@@ -1,16 +1,16 @@
 -- One event after another.
 use Rattle.std.proofs.Common.{◌≡◌, ℕ, ◌≤◌, List, [], ◌∷◌, ◌++◌, append_assoc, append-nil, length, map, Option, Some, None, Bool, true, false, cond, refl, sym, ap, ◌∙◌, subst, ℤ}
-use Rattle.running.specs.Events as running
-use Rattle.running.specs.Events.{Machine}
-use Rattle.running.specs.Replay.{or_unchanged, replay}
+use Rattle.semantics.specs.Events as running
+use Rattle.semantics.specs.Events.{Machine}
+use Rattle.semantics.specs.Replay.{or_unchanged, replay}
 use Rattle.program.specs.declared.function.Program.{Program}
-use Rattle.crew_promise.specs.store.Cells.{NamedCells}
-use Rattle.crew.specs.declared.run.Run.{Run}
-use Rattle.crew.specs.Events.{DoesEvent, LeavesStalls}
-use Rattle.crew.specs.Going as crew
-use Rattle.crew.specs.Left.{LeavesAsShown}
-use Rattle.crew.specs.Shown.{IsShown}
-use Rattle.crew.specs.Stalls.{Blocks, StallsAgree, if_enabled, last_blocks, no_blocks, noted}
+use Rattle.laws_workers.specs.store.Cells.{NamedCells}
+use Rattle.schedule_workers.specs.declared.run.Run.{Run}
+use Rattle.schedule_workers.specs.Events.{DoesEvent, LeavesStalls}
+use Rattle.schedule_workers.specs.Going as crew
+use Rattle.schedule_workers.specs.Left.{LeavesAsShown}
+use Rattle.schedule_workers.specs.Shown.{IsShown}
+use Rattle.schedule_workers.specs.Stalls.{Blocks, StallsAgree, if_enabled, last_blocks, no_blocks, noted}
 use Rattle.frame.specs.declared.event.Event.{Event}
 use Rattle.schedule_core.specs.declared.stage.Stage.{Stage}
 use Rattle.schedule_core.specs.Replaying.{Becomes, Happens, LeavesAsBefore, Replays, ReplaysMore, ReplaysOneMore, ReplaysTheSame, event_of, first_state, state_after}

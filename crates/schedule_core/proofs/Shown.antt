@@ -1,24 +1,24 @@
 -- A view of two slots shows a task of the definitions.
 use Rattle.std.proofs.Common.{◌≡◌, ℕ, [], reverse, Option, Some, None, true, cond, refl, sym, ap, ◌∙◌, subst}
-use Rattle.running.specs.State.{may_go}
-use Rattle.running.specs.Events as running
-use Rattle.running.specs.Events.{Machine}
+use Rattle.semantics.specs.State.{may_go}
+use Rattle.semantics.specs.Events as running
+use Rattle.semantics.specs.Events.{Machine}
 use Rattle.frame.specs.declared.path.Path.{Path}
 use Rattle.frame.specs.declared.frame.Wait.{Wait}
 use Rattle.frame.specs.declared.frame.Wait.TheVariants as wait
-use Rattle.engine.specs.declared.activation.Frame.{Frame}
+use Rattle.frame_engine.specs.declared.activation.Frame.{Frame}
 use Rattle.cactus.specs.declared.node.Node.{Node}
 use Rattle.cactus.specs.Frames.{Frames, node_at, Lives}
-use Rattle.crew.specs.declared.activation.Activation.{Activation}
-use Rattle.crew.specs.Layouts.{layout_of}
-use Rattle.crew.specs.Lowest.{IsLowestBelow, lowest, under}
-use Rattle.crew.specs.Scheduling.{hand_of}
-use Rattle.crew.specs.Shown.{CalleeStands, ShowsNode, place_of}
-use Rattle.crew.specs.Tasks.{FindsTop, nobody, no_task, task, top_within, IsLowest}
-use Rattle.crew.proofs.Onward.{free_callee, seen}
-use Rattle.crew.proofs.Standing.{may_go_on}
-use Rattle.crew.proofs.Stealing.{standing, standing_is, status_of_nobody, status_of_no_task, status_of_top, top_place}
-use Rattle.crew.proofs.Topmost.{TopIs, ended_at, holder_is}
+use Rattle.schedule_workers.specs.declared.activation.Activation.{Activation}
+use Rattle.schedule_workers.specs.Layouts.{layout_of}
+use Rattle.schedule_workers.specs.Lowest.{IsLowestBelow, lowest, under}
+use Rattle.schedule_workers.specs.Scheduling.{hand_of}
+use Rattle.schedule_workers.specs.Shown.{CalleeStands, ShowsNode, place_of}
+use Rattle.schedule_workers.specs.Tasks.{FindsTop, nobody, no_task, task, top_within, IsLowest}
+use Rattle.schedule_workers.proofs.Onward.{free_callee, seen}
+use Rattle.schedule_workers.proofs.Standing.{may_go_on}
+use Rattle.schedule_workers.proofs.Stealing.{standing, standing_is, status_of_nobody, status_of_no_task, status_of_top, top_place}
+use Rattle.schedule_workers.proofs.Topmost.{TopIs, ended_at, holder_is}
 use Rattle.schedule_core.specs.declared.stage.Stage.{Stage}
 use Rattle.schedule_core.specs.declared.task.TaskView.{TaskView}
 use Rattle.schedule_core.specs.Stages.{IsState, program_of, workers_of}

@@ -13,8 +13,8 @@ use Rattle.cactus.specs.declared.node.Node.{Node}
 use Rattle.cactus.specs.Frames.{Frames, node_at, node_of_use, of_generation, HasPath}
 use Rattle.cactus.specs.ByPath.{IsTree}
 use Rattle.cactus.proofs.FramesLemmas.{node_of_use-own}
-use Rattle.crew.specs.declared.activation.Activation.{Activation}
-use Rattle.crew.specs.Follows.{Follows}
+use Rattle.schedule_workers.specs.declared.activation.Activation.{Activation}
+use Rattle.schedule_workers.specs.Follows.{Follows}
 use Rattle.schedule_core.specs.declared.stage.Stage.{Stage}
 use Rattle.schedule_core.specs.Replaying.{IsMachine}
 use Rattle.schedule_core.specs.Spots.{path_of_use, KeepsSpots}

@@ -2,14 +2,14 @@
 use Rattle.std.proofs.Common.{◌≡◌, ◌≢◌, ℕ, suc, ◌≤◌, List, [], ◌∷◌, length, reverse, Option, Some, None, true, false, ◌⊎◌, inl, inr, refl, sym, ap, ◌∙◌, subst, arith}
 use Rattle.std.proofs.lemmas.List.{reverse-reverse}
 use Rattle.linear.specs.declared.form.RegisterId.{RegisterId}
-use Rattle.running.specs.Paths.{Path, Under, itself, deeper}
-use Rattle.running.specs.Frames.{Frame, OnCall, Body}
-use Rattle.running.specs.State.{State}
-use Rattle.running.specs.Tree.{Tree}
-use Rattle.running.specs.Tasks.{OnTask, is_lowest, is_called, PartIntoTasks}
-use Rattle.running.specs.Events as running
-use Rattle.running.specs.Events.{Machine}
-use Rattle.running.proofs.TaskLaws.{frames_on_tasks}
+use Rattle.semantics.specs.Paths.{Path, Under, itself, deeper}
+use Rattle.semantics.specs.Frames.{Frame, OnCall, Body}
+use Rattle.semantics.specs.State.{State}
+use Rattle.semantics.specs.Tree.{Tree}
+use Rattle.semantics.specs.Tasks.{OnTask, is_lowest, is_called, PartIntoTasks}
+use Rattle.semantics.specs.Events as running
+use Rattle.semantics.specs.Events.{Machine}
+use Rattle.semantics.proofs.TaskLaws.{frames_on_tasks}
 use Rattle.frame.specs.declared.frame.Wait.{Wait as Waits}
 use Rattle.frame.specs.declared.frame.Wait.TheVariants as waits
 use Rattle.frame.specs.declared.frame.Role.{Role}
@@ -19,14 +19,14 @@ use Rattle.cactus.specs.declared.node.Node.{Node}
 use Rattle.cactus.specs.Frames.{node_at}
 use Rattle.cactus.specs.ByPath.{named, IsBelow}
 use Rattle.cactus.proofs.ByPathLemmas.{FoundAt, named_found}
-use Rattle.crew.specs.declared.activation.Activation.{Activation}
-use Rattle.crew.specs.Layouts.{layout_of}
-use Rattle.crew.specs.Lowest.{IsLowestBelow, lowest, under}
-use Rattle.crew.specs.Shown.{CalleeStands, ShowsAt, place_of}
-use Rattle.crew.specs.Tasks.{IsLowest}
-use Rattle.crew.proofs.Onward.{seen}
-use Rattle.crew.proofs.Stealing.{task_tells}
-use Rattle.crew.proofs.Topmost.{reverse_last, same_place}
+use Rattle.schedule_workers.specs.declared.activation.Activation.{Activation}
+use Rattle.schedule_workers.specs.Layouts.{layout_of}
+use Rattle.schedule_workers.specs.Lowest.{IsLowestBelow, lowest, under}
+use Rattle.schedule_workers.specs.Shown.{CalleeStands, ShowsAt, place_of}
+use Rattle.schedule_workers.specs.Tasks.{IsLowest}
+use Rattle.schedule_workers.proofs.Onward.{seen}
+use Rattle.schedule_workers.proofs.Stealing.{task_tells}
+use Rattle.schedule_workers.proofs.Topmost.{reverse_last, same_place}
 use Rattle.schedule_core.specs.declared.stage.Stage.{Stage}
 use Rattle.schedule_core.specs.Stages.{IsState, program_of, workers_of}
 use Rattle.schedule_core.proofs.Spots.{same_node}

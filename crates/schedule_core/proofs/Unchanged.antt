@@ -2,8 +2,8 @@
 use Rattle.std.proofs.Common.{◌≡◌, ℕ, Some, refl}
 use Rattle.cactus.specs.declared.node.Node.{Node}
 use Rattle.cactus.specs.Frames.{node_at}
-use Rattle.crew.specs.declared.activation.Activation.{Activation}
-use Rattle.crew.specs.Follows.{IsSameUse}
+use Rattle.schedule_workers.specs.declared.activation.Activation.{Activation}
+use Rattle.schedule_workers.specs.Follows.{IsSameUse}
 use Rattle.schedule_core.specs.declared.stage.Stage.{Stage}
 use Rattle.schedule_core.specs.Replaying.{LeavesAsBefore}
 

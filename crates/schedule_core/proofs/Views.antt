@@ -9,21 +9,21 @@ use Rattle.std.proofs.Math.IntN.{ℤ_set}
 use mathlib.Core.Sum.{⊎_set}
 use Rattle.std.proofs.lemmas.Bool.{ltb-true, ltb-false}
 use Rattle.std.proofs.lemmas.List.{get_or_past, length-reverse, reverse-reverse}
-use Rattle.running.specs.Paths.{Path as RunningPath}
-use Rattle.running.specs.Frames.{Frame, block_at}
-use Rattle.running.specs.Events.{Machine}
+use Rattle.semantics.specs.Paths.{Path as RunningPath}
+use Rattle.semantics.specs.Frames.{Frame, block_at}
+use Rattle.semantics.specs.Events.{Machine}
 use Rattle.program.specs.declared.function.Block.{Block}
 use Rattle.frame.specs.declared.path.Path.{Path}
 use Rattle.cactus.specs.declared.node.Node.{Node}
 use Rattle.cactus.specs.Frames.{Frames, node_at, HasPath, HasNoPath}
 use Rattle.cactus.specs.ByPath.{named}
 use Rattle.cactus.proofs.ByPathLemmas.{not_named}
-use Rattle.crew.specs.declared.activation.Activation.{Activation}
-use Rattle.crew.specs.Layouts.{layout_of}
-use Rattle.crew.specs.Scheduling.{hand_of}
-use Rattle.crew.specs.Shown.{ShowsAt, place_of}
-use Rattle.crew.proofs.Onward.{seen}
-use Rattle.crew.proofs.Views.{hand_seen, node_tells}
+use Rattle.schedule_workers.specs.declared.activation.Activation.{Activation}
+use Rattle.schedule_workers.specs.Layouts.{layout_of}
+use Rattle.schedule_workers.specs.Scheduling.{hand_of}
+use Rattle.schedule_workers.specs.Shown.{ShowsAt, place_of}
+use Rattle.schedule_workers.proofs.Onward.{seen}
+use Rattle.schedule_workers.proofs.Views.{hand_seen, node_tells}
 use Rattle.schedule_core.specs.declared.stage.Stage.{Stage}
 use Rattle.schedule_core.specs.Lines.{StandsAt, line_in, line_of_worker, next_line, place_line}
 use Rattle.schedule_core.specs.Replaying.{IsMachine}

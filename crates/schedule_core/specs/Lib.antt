@@ -9,16 +9,16 @@ pub mod Strands
 pub mod Piles
 pub mod ReadyBelow
 -- for the crates above
-pub use Rattle.crew_promise.specs.conditions as conditions
-pub use Rattle.crew_promise.specs.outcome as outcome
-pub use Rattle.crew_promise.specs.schedule_theorem as schedule_theorem
-pub use Rattle.crew_promise.specs.store as store
-pub use Rattle.crew_promise.specs.verifier as verifier
-pub use Rattle.absorbing.specs as absorbing
-pub use Rattle.absorbing.specs.strand as strand
-pub use Rattle.deep_absorbing.specs as deep_absorbing
-pub use Rattle.deep_strand.specs as deep_strand
-pub use Rattle.page_log.specs as page_log
-pub use Rattle.engine.specs as engine
-pub use Rattle.crew.specs as crew
+pub use Rattle.laws_workers.specs.laws_conditions as laws_conditions
+pub use Rattle.laws_workers.specs.outcome as outcome
+pub use Rattle.laws_workers.specs.laws_schedule as laws_schedule
+pub use Rattle.laws_workers.specs.store as store
+pub use Rattle.laws_workers.specs.verifier as verifier
+pub use Rattle.schedule_commit.specs as schedule_commit
+pub use Rattle.schedule_commit.specs.frame_strand as frame_strand
+pub use Rattle.schedule_publish.specs as schedule_publish
+pub use Rattle.private_stack.specs as private_stack
+pub use Rattle.private_stack_log.specs as private_stack_log
+pub use Rattle.frame_engine.specs as frame_engine
+pub use Rattle.schedule_workers.specs as schedule_workers
 pub use Rattle.program.specs as program

@@ -1,19 +1,19 @@
 -- The lines of a module at which frames stand.
 use Rattle.std.specs.Prelude.{◌≡◌, ℕ, List, Option, Some, None, option_and_then, slice_get}
 use Rattle.std.specs.Option.{option_map, option_map_or}
-use Rattle.running.specs.Paths.{Path as RunningPath}
-use Rattle.running.specs.Frames.{block_at}
-use Rattle.running.specs.Frames as running_frames
-use Rattle.running.specs.Events as running
-use Rattle.running.specs.Replay.{replay}
+use Rattle.semantics.specs.Paths.{Path as RunningPath}
+use Rattle.semantics.specs.Frames.{block_at}
+use Rattle.semantics.specs.Frames as running_frames
+use Rattle.semantics.specs.Events as running
+use Rattle.semantics.specs.Replay.{replay}
 use Rattle.program.specs.declared.function.Block.{Block}
 use Rattle.program.specs.declared.function.Program.{Program}
 use Rattle.program.specs.declared.identifier.BlockId.{BlockId}
 use Rattle.program.specs.declared.identifier.FunctionId.{FunctionId}
 use Rattle.program.specs.declared.instruction.Step.{Step}
 use Rattle.program.specs.declared.instruction.Ending.{Ending}
-use Rattle.engine.specs.declared.activation.Frame.{Frame}
-use Rattle.crew.specs.Stalls.{Blocks, no_blocks, last_blocks}
+use Rattle.frame_engine.specs.declared.activation.Frame.{Frame}
+use Rattle.schedule_workers.specs.Stalls.{Blocks, no_blocks, last_blocks}
 use Rattle.schedule_core.specs.declared.task.Status.{Status}
 use Rattle.schedule_core.specs.declared.task.Status.TheVariants.{Running, Ready, Stalled}
 

@@ -1,8 +1,8 @@
 -- After the end.
 use Rattle.std.specs.Prelude.{◌≡◌, ℕ, ◌≤◌, List, None, true, ℤ}
-use Rattle.running.specs.Cells.{Memory}
-use Rattle.running.specs.Events.{Event, event, start}
-use Rattle.running.specs.Replay.{replay, has_ended}
+use Rattle.semantics.specs.Cells.{Memory}
+use Rattle.semantics.specs.Events.{Event, event, start}
+use Rattle.semantics.specs.Replay.{replay, has_ended}
 use Rattle.program.specs.declared.function.Program.{Program}
 
 -- in a state that a schedule leads to, and in which the root has returned, no event is enabled

@@ -1,15 +1,15 @@
 -- The parent of the child that a worker runs.
 use Rattle.std.specs.Prelude.{◌≡◌, ◌≢◌, ℕ, ◌∷◌, length, Some, None, true}
-use Rattle.running.specs.Paths.{Path as RunningPath}
-use Rattle.running.specs.Frames as defined
-use Rattle.running.specs.Events as running
+use Rattle.semantics.specs.Paths.{Path as RunningPath}
+use Rattle.semantics.specs.Frames as defined
+use Rattle.semantics.specs.Events as running
 use Rattle.frame.specs.declared.path.Path.{Path}
 use Rattle.frame.specs.declared.frame.Role.TheVariants.{Body}
 use Rattle.cactus.specs.declared.node.Node.{Node}
 use Rattle.cactus.specs.Frames.{node_at, HasPath}
-use Rattle.crew.specs.declared.activation.Activation.{Activation}
-use Rattle.crew.specs.declared.run.Run.{Run}
-use Rattle.crew.specs.Scheduling.{hand_of}
+use Rattle.schedule_workers.specs.declared.activation.Activation.{Activation}
+use Rattle.schedule_workers.specs.declared.run.Run.{Run}
+use Rattle.schedule_workers.specs.Scheduling.{hand_of}
 use Rattle.schedule_core.specs.Viewed.{place_in, status_in}
 
 -- the top of the worker's task is a child of the frame in the slot

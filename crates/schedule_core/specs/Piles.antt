@@ -1,13 +1,13 @@
 -- What piles are to a stage: stacks of frames that went on apart, from a worker's frame on.
 use Rattle.std.specs.Prelude.{◌≡◌, ℕ, ℤ, length, None}
-use Rattle.running.specs.Events as running
+use Rattle.semantics.specs.Events as running
 use Rattle.program.specs.declared.function.Program.{Program}
-use Rattle.engine.specs.declared.activation.Places.{Places}
-use Rattle.crew.specs.Starts.{ArePlaces, HasMoves}
-use Rattle.page_log.specs.Tables.{log_of}
-use Rattle.deep_strand.specs.Along.{IsUnderWay}
-use Rattle.deep_strand.specs.declared.pile.Pile.{Pile}
-use Rattle.deep_absorbing.specs.Fitting.{FitsDeep}
+use Rattle.frame_engine.specs.declared.activation.Places.{Places}
+use Rattle.schedule_workers.specs.Starts.{ArePlaces, HasMoves}
+use Rattle.private_stack_log.specs.Tables.{log_of}
+use Rattle.private_stack.specs.Along.{IsUnderWay}
+use Rattle.private_stack.specs.declared.pile.Pile.{Pile}
+use Rattle.schedule_publish.specs.Fitting.{FitsDeep}
 use Rattle.schedule_core.specs.declared.stage.Stage.{Stage}
 use Rattle.schedule_core.specs.Stages.{IsState, program_of}
 

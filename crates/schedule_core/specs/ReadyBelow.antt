@@ -1,13 +1,13 @@
 -- The ready tasks whose tops stand below the frame that a worker runs.
 use Rattle.std.specs.Prelude.{◌≡◌, ◌≢◌, ◌⊎◌, ℕ, zero, suc, List, [], ◌∷◌, ◌++◌, Option, Some, None, IsSomeAnd, option_and_then}
-use Rattle.running.specs.Paths.{Path as RunningPath}
-use Rattle.running.specs.Events as running
+use Rattle.semantics.specs.Paths.{Path as RunningPath}
+use Rattle.semantics.specs.Events as running
 use Rattle.frame.specs.declared.path.Path.{Path}
 use Rattle.cactus.specs.declared.node.Node.{Node}
 use Rattle.cactus.specs.Frames.{Frames, HasPath, frame_at, node_at}
-use Rattle.crew.specs.declared.activation.Activation.{Activation}
-use Rattle.crew.specs.Lowest.{IsLowestBelow}
-use Rattle.crew.specs.Tasks.{IsReady}
+use Rattle.schedule_workers.specs.declared.activation.Activation.{Activation}
+use Rattle.schedule_workers.specs.Lowest.{IsLowestBelow}
+use Rattle.schedule_workers.specs.Tasks.{IsReady}
 use Rattle.schedule_core.specs.declared.ready.Spot.{Spot}
 use Rattle.schedule_core.specs.declared.stage.Stage.{Stage}
 use Rattle.schedule_core.specs.Stages.{workers_of}

@@ -1,24 +1,24 @@
 -- What events do to a stage, one and many.
 use Rattle.std.specs.Prelude.{◌≡◌, ⊤, ℕ, ◌≤◌, ◌<◌, List, [], ◌∷◌, ◌++◌, length, reverse, map, sum, Bool, true, false, Some, None, IsSome, ℤ}
-use Rattle.running.specs.Paths.{Path as RunningPath}
-use Rattle.running.specs.Frames.{Frame}
-use Rattle.running.specs.Events as running
-use Rattle.running.specs.Replay.{or_unchanged, replay}
-use Rattle.running.specs.SerialMeaning.{Outcome, IsSerialMeaning}
-use Rattle.crew_promise.specs.conditions.theorem.Schedules.{KeepsSchedule}
-use Rattle.crew_promise.specs.verifier.Accepted.{IsAccepted}
-use Rattle.crew_promise.specs.verifier.Budgets.{budget_of, IsDepthOf}
+use Rattle.semantics.specs.Paths.{Path as RunningPath}
+use Rattle.semantics.specs.Frames.{Frame}
+use Rattle.semantics.specs.Events as running
+use Rattle.semantics.specs.Replay.{or_unchanged, replay}
+use Rattle.semantics.specs.SerialMeaning.{Outcome, IsSerialMeaning}
+use Rattle.laws_workers.specs.laws_conditions.theorem.Schedules.{KeepsSchedule}
+use Rattle.laws_workers.specs.verifier.Accepted.{IsAccepted}
+use Rattle.laws_workers.specs.verifier.Budgets.{budget_of, IsDepthOf}
 use Rattle.program.specs.declared.function.Program.{Program}
-use Rattle.crew_promise.specs.outcome.Requirements.{unmet_in}
-use Rattle.crew_promise.specs.store.Cells.{NamedCells}
-use Rattle.crew_promise.specs.store.Rows.{sizes_of}
-use Rattle.crew.specs.Events.{GrowsAtStep}
-use Rattle.crew.specs.Follows.{AreGiven, KeepsUses}
-use Rattle.crew.specs.Stalls.{StallsAgree, last_blocks, no_blocks}
-use Rattle.crew.specs.Starts.{ArePlaces, HasMoves}
+use Rattle.laws_workers.specs.outcome.Requirements.{unmet_in}
+use Rattle.laws_workers.specs.store.Cells.{NamedCells}
+use Rattle.laws_workers.specs.store.Rows.{sizes_of}
+use Rattle.schedule_workers.specs.Events.{GrowsAtStep}
+use Rattle.schedule_workers.specs.Follows.{AreGiven, KeepsUses}
+use Rattle.schedule_workers.specs.Stalls.{StallsAgree, last_blocks, no_blocks}
+use Rattle.schedule_workers.specs.Starts.{ArePlaces, HasMoves}
 use Rattle.schedule_core.specs.Spots.{KeepsSpots}
 use Rattle.schedule_core.specs.Lines.{line_after, line_or_zero}
-use Rattle.crew_promise.specs.store.Made.{IsMadeFor}
+use Rattle.laws_workers.specs.store.Made.{IsMadeFor}
 use Rattle.schedule_core.specs.Stages.{given, program_of, workers_of, IsState}
 use Rattle.frame.specs.declared.event.Event.{Event}
 use Rattle.frame.specs.declared.event.Event.TheVariants.{Step, Steal}

@@ -4,7 +4,7 @@ use Rattle.std.specs.Option.{option_map}
 use Rattle.frame.specs.declared.path.Path.{Path}
 use Rattle.cactus.specs.declared.node.Node.{Node}
 use Rattle.cactus.specs.Frames.{Frames, node_of_use}
-use Rattle.crew.specs.declared.activation.Activation.{Activation}
+use Rattle.schedule_workers.specs.declared.activation.Activation.{Activation}
 
 -- the path of the frame that lives in this use of the slot
 abbrev pub path_of_use : Frames Activation → ℕ → ℕ → Option Path

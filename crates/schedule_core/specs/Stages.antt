@@ -1,15 +1,15 @@
 -- What a stage stands for: a machine of the definitions, from which each schedule goes well.
 use Rattle.std.specs.Prelude.{◌≡◌, ℕ, ◌≤◌, ◌<◌, List, length, map, Option, Some, None, IsSome, option_and_then, slice_get, ℤ}
-use Rattle.running.specs.Cells.{Object, Shared, Local, Memory}
-use Rattle.running.specs.Events.{Machine, Event, start}
-use Rattle.running.specs.Replay.{replay}
+use Rattle.semantics.specs.Cells.{Object, Shared, Local, Memory}
+use Rattle.semantics.specs.Events.{Machine, Event, start}
+use Rattle.semantics.specs.Replay.{replay}
 use Rattle.program.specs.declared.function.Global.{Global}
 use Rattle.program.specs.declared.function.Program.{Program}
-use Rattle.crew_promise.specs.store.Cells.{NamedCells, cell_at, number_of}
-use Rattle.crew_promise.specs.store.Rows.{sizes_of}
-use Rattle.strand_promise.specs.Promise.{StaysSafeDeep}
-use Rattle.crew.specs.Going.{RunsSafely}
-use Rattle.crew.specs.Shown.{IsShown}
+use Rattle.laws_workers.specs.store.Cells.{NamedCells, cell_at, number_of}
+use Rattle.laws_workers.specs.store.Rows.{sizes_of}
+use Rattle.laws_workers_strands.specs.Promise.{StaysSafeDeep}
+use Rattle.schedule_workers.specs.Going.{RunsSafely}
+use Rattle.schedule_workers.specs.Shown.{IsShown}
 use Rattle.schedule_core.specs.declared.stage.Stage.{Stage}
 
 -- ---- parts of a stage

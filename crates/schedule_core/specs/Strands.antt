@@ -1,15 +1,15 @@
 -- What strands are to a stage: copies of a worker's frame that went on apart.
 use Rattle.std.specs.Prelude.{◌≡◌, ◌≢◌, ℕ, ◌≤◌, [], replicate, Some, vec_capacity}
-use Rattle.running.specs.Events as running
-use Rattle.running.specs.Replay.{replay}
+use Rattle.semantics.specs.Events as running
+use Rattle.semantics.specs.Replay.{replay}
 use Rattle.program.specs.declared.function.Program.{Program}
-use Rattle.absorbing.specs.Absorbing.{steps_in}
-use Rattle.absorbing.specs.Fitting.{FitsRun}
-use Rattle.absorbing.specs.strand.declared.outside.Strand.{Strand}
-use Rattle.absorbing.specs.strand.declared.standing.Pause.TheVariants.{Blank}
-use Rattle.absorbing.specs.strands.Law.{steps_by}
-use Rattle.crew.specs.Starts.{ArePlaces}
-use Rattle.crew_promise.specs.verifier.Budgets.{IsDepthOf}
+use Rattle.schedule_commit.specs.Absorbing.{steps_in}
+use Rattle.schedule_commit.specs.Fitting.{FitsRun}
+use Rattle.schedule_commit.specs.frame_strand.declared.outside.Strand.{Strand}
+use Rattle.schedule_commit.specs.frame_strand.declared.standing.Pause.TheVariants.{Blank}
+use Rattle.schedule_commit.specs.laws_strands.Law.{steps_by}
+use Rattle.schedule_workers.specs.Starts.{ArePlaces}
+use Rattle.laws_workers.specs.verifier.Budgets.{IsDepthOf}
 use Rattle.frame.specs.declared.event.Event.TheVariants.{Step}
 use Rattle.schedule_core.specs.declared.stage.Stage.{Stage}
 use Rattle.schedule_core.specs.Replaying.{AreEnabled, ReplaysMore}

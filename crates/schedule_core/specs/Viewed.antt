@@ -3,20 +3,20 @@ use Rattle.std.specs.Prelude.{◌≡◌, ◌≢◌, ◌⊎◌, ℕ, reverse, Opt
 use Rattle.std.specs.Cmp.Lexicographic.{slice_cmp}
 use Rattle.std.specs.Ordering.{nat_cmp}
 use Rattle.std.specs.declared.cmp.Ordering.TheVariants.{Greater}
-use Rattle.running.specs.Paths.{Path as RunningPath}
-use Rattle.running.specs.Frames.{Frame}
-use Rattle.running.specs.Events as running
+use Rattle.semantics.specs.Paths.{Path as RunningPath}
+use Rattle.semantics.specs.Frames.{Frame}
+use Rattle.semantics.specs.Events as running
 use Rattle.frame.specs.declared.path.Path.{Path}
 use Rattle.frame.specs.declared.frame.Wait as frame_wait
 use Rattle.frame.specs.declared.frame.Wait.TheVariants as wait
 use Rattle.cactus.specs.declared.node.Node.{Node}
 use Rattle.cactus.specs.Frames.{Frames, node_at}
 use Rattle.cactus.specs.ByPath.{IsTree}
-use Rattle.crew.specs.declared.activation.Activation.{Activation}
-use Rattle.crew.specs.Tasks.{IsReady}
-use Rattle.crew.specs.Layouts.{layout_of}
-use Rattle.crew.specs.Shown.{ShowsNode}
-use Rattle.crew.specs.Lowest.{IsLowestBelow}
+use Rattle.schedule_workers.specs.declared.activation.Activation.{Activation}
+use Rattle.schedule_workers.specs.Tasks.{IsReady}
+use Rattle.schedule_workers.specs.Layouts.{layout_of}
+use Rattle.schedule_workers.specs.Shown.{ShowsNode}
+use Rattle.schedule_workers.specs.Lowest.{IsLowestBelow}
 use Rattle.schedule_core.specs.Stages.{program_of, workers_of}
 use Rattle.schedule_core.specs.declared.stage.Stage.{Stage}
 use Rattle.schedule_core.specs.declared.task.Status.{Status}

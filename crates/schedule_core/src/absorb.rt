@@ -1,14 +1,14 @@
 //! Strands: what a worker did outside of the machine on a copy of its frame, done at once.
 ghost use Rattle.std.specs.Prelude.{◌≡◌, ◌↔◌, ℤ, IfOk, IsTrue, None, Ok, OnErr, Some, false, true};
-ghost use Rattle.running.specs.Cells.{Cell};
-ghost use Rattle.running.specs.Events.{Machine as RunningMachine};
-ghost use Rattle.engine.specs.Flat.{cell_in};
-ghost use Rattle.engine.specs.Shows.{address};
-ghost use Rattle.absorbing.specs.Absorbing.{steps_in};
-ghost use Rattle.absorbing.specs.strand.declared.standing.Pause.TheVariants.{Blank};
-ghost use Rattle.crew.specs.Follows.{Follows};
-ghost use Rattle.crew.specs.Layouts.{layout_of};
-ghost use Rattle.crew.specs.Starts.{ArePlaces};
+ghost use Rattle.semantics.specs.Cells.{Cell};
+ghost use Rattle.semantics.specs.Events.{Machine as RunningMachine};
+ghost use Rattle.frame_engine.specs.Flat.{cell_in};
+ghost use Rattle.frame_engine.specs.Shows.{address};
+ghost use Rattle.schedule_commit.specs.Absorbing.{steps_in};
+ghost use Rattle.schedule_commit.specs.frame_strand.declared.standing.Pause.TheVariants.{Blank};
+ghost use Rattle.schedule_workers.specs.Follows.{Follows};
+ghost use Rattle.schedule_workers.specs.Layouts.{layout_of};
+ghost use Rattle.schedule_workers.specs.Starts.{ArePlaces};
 ghost use Rattle.schedule_core.specs.Replaying.{IsMachine, LeavesAsBefore};
 ghost use Rattle.schedule_core.specs.Spots.{KeepsSpots};
 ghost use Rattle.schedule_core.specs.Stages.{IsState, program_of};
@@ -16,8 +16,8 @@ ghost use Rattle.schedule_core.specs.Strands.{Absorbs, FitsStage, IsLoaded, IsMa
 
 use crate::machine::Machine;
 use crate::stage::Stage;
-use absorbing::{Pause, Strand, absorb, cell};
-use engine::Places;
+use schedule_commit::{Pause, Strand, absorb, cell};
+use frame_engine::Places;
 use lists::OutOfMemory;
 use outcome::Verified;
 use std::alloc::Global;

@@ -1,16 +1,16 @@
 ghost use Rattle.std.specs.Prelude.{◌≡◌, ◌≢◌, ◌<◌, ℕ, [], Some, None, Err, Ok, true, false, IfOk, OnOk, OnErr, length, sum};
-ghost use Rattle.running.specs.Events.{Machine};
-ghost use Rattle.crew_promise.specs.outcome.Requirements.{unmet_in};
-ghost use Rattle.crew_promise.specs.store.declared.memory.Memory.{Memory};
-ghost use Rattle.crew.specs.Follows.{Follows};
+ghost use Rattle.semantics.specs.Events.{Machine};
+ghost use Rattle.laws_workers.specs.outcome.Requirements.{unmet_in};
+ghost use Rattle.laws_workers.specs.store.declared.memory.Memory.{Memory};
+ghost use Rattle.schedule_workers.specs.Follows.{Follows};
 ghost use Rattle.schedule_core.specs.Replaying.{GrowsOnly, Happens, IsMachine, IsNumberOfWorkers, LeavesAsBefore};
 ghost use Rattle.schedule_core.specs.Replaying.{Replays, ReplaysMore, ReplaysOneMore, StandsAsWell, event_of};
-ghost use Rattle.crew_promise.specs.store.Made.{IsMadeFor};
+ghost use Rattle.laws_workers.specs.store.Made.{IsMadeFor};
 ghost use Rattle.schedule_core.specs.Stages.{IsState, program_of};
 
 use crate::stage::Stage;
-use crew::{Run, most_moves};
-use engine::Places;
+use schedule_workers::{Run, most_moves};
+use frame_engine::Places;
 use frame::Event;
 use lists::OutOfMemory;
 use outcome::{Memory, RunFault, Verified, unmet_requirement};

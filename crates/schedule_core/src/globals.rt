@@ -1,14 +1,14 @@
 //! What the globals hold.
 
 ghost use Rattle.std.specs.Prelude.{◌≡◌, ℤ, IfOk, Some};
-ghost use Rattle.running.specs.Events as running;
-ghost use Rattle.engine.specs.Flat.{cell_in};
-ghost use Rattle.crew.specs.Layouts.{number_in};
+ghost use Rattle.semantics.specs.Events as running;
+ghost use Rattle.frame_engine.specs.Flat.{cell_in};
+ghost use Rattle.schedule_workers.specs.Layouts.{number_in};
 ghost use Rattle.schedule_core.specs.Stages.{HoldsGlobals, IsState, global_named};
 
 use crate::machine::Machine;
 use crate::stage::Stage;
-use engine::sum;
+use frame_engine::sum;
 use lists::OutOfMemory;
 use outcome::Memory;
 

@@ -18,9 +18,9 @@ mod task;
 mod view;
 
 pub use absorb::{places_of, steps_of};
-pub use absorbing::{Pause, Strand};
-pub use deep_strand::{Pause as PilePause, Pile};
-pub use engine::Places;
+pub use schedule_commit::{Pause, Strand};
+pub use private_stack::{Pause as PilePause, Pile};
+pub use frame_engine::Places;
 pub use frame::Event;
 pub use laws::ended_enables_nothing;
 pub use machine::Machine;

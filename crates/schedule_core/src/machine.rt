@@ -1,12 +1,12 @@
 ghost use Rattle.std.specs.Prelude.{◌↔◌, ◌≡◌, [], None, Some, Err, Ok, IsSome, ℕ, IsTrue, IfOk, true, false, OnErr, OnOk};
-ghost use Rattle.running.specs.Events as running;
-ghost use Rattle.running.specs.Replay.{CountsFrames, has_ended};
-ghost use Rattle.crew_promise.specs.outcome.Requirements.{unmet_in};
-ghost use Rattle.crew_promise.specs.store.declared.memory.Memory.{Memory};
+ghost use Rattle.semantics.specs.Events as running;
+ghost use Rattle.semantics.specs.Replay.{CountsFrames, has_ended};
+ghost use Rattle.laws_workers.specs.outcome.Requirements.{unmet_in};
+ghost use Rattle.laws_workers.specs.store.declared.memory.Memory.{Memory};
 ghost use Rattle.schedule_core.specs.Spots.{KeepsSpots};
 ghost use Rattle.schedule_core.specs.Replaying.{GrowsOnly, Happens, IsMachine, IsNumberOfWorkers, KeepsItsSchedule, KeepsItWith, LeavesAsBefore};
 ghost use Rattle.schedule_core.specs.Replaying.{Replays, ReplaysOneMore, StandsAsWell, event_of};
-ghost use Rattle.crew_promise.specs.store.Made.{IsMadeFor};
+ghost use Rattle.laws_workers.specs.store.Made.{IsMadeFor};
 ghost use Rattle.schedule_core.specs.Stages.{IsState, program_of};
 
 use crate::events::{apply_to, begin, copied};

@@ -1,7 +1,7 @@
 ghost use Rattle.std.specs.Prelude.{◌≡◌, length, IfNone, IfSome};
 ghost use Rattle.std.specs.Option.{option_map};
-ghost use Rattle.running.specs.Events as running;
-ghost use Rattle.running.specs.Paths.{Path};
+ghost use Rattle.semantics.specs.Events as running;
+ghost use Rattle.semantics.specs.Paths.{Path};
 ghost use Rattle.schedule_core.specs.Parents.{HasNoParentSlot, HasNoReadyParent, IsParentSlot, IsReadyParent};
 ghost use Rattle.schedule_core.specs.Stages.{IsState, workers_of};
 

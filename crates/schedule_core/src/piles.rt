@@ -1,12 +1,12 @@
 //! Piles: what a worker did outside of the machine on a stack of its own, across calls, detaches and what ends them, done at once.
 ghost use Rattle.std.specs.Prelude.{◌≡◌, ◌↔◌, ◌≤◌, IfNone, IfOk, IfSome, IsSome, IsTrue, None, Ok, OnErr, OnOk, OnSome, false, length, true};
-ghost use Rattle.crew.specs.Follows.{Follows};
-ghost use Rattle.crew.specs.Starts.{ArePlaces};
-ghost use Rattle.engine.specs.Flat.{cell_in};
-ghost use Rattle.page_log.specs.Logs.{filled_log, page_around};
-ghost use Rattle.page_log.specs.Tables.{log_of};
-ghost use Rattle.deep_strand.specs.Along.{IsUnderWay};
-ghost use Rattle.deep_strand.specs.Going.{IsGoing};
+ghost use Rattle.schedule_workers.specs.Follows.{Follows};
+ghost use Rattle.schedule_workers.specs.Starts.{ArePlaces};
+ghost use Rattle.frame_engine.specs.Flat.{cell_in};
+ghost use Rattle.private_stack_log.specs.Logs.{filled_log, page_around};
+ghost use Rattle.private_stack_log.specs.Tables.{log_of};
+ghost use Rattle.private_stack.specs.Along.{IsUnderWay};
+ghost use Rattle.private_stack.specs.Going.{IsGoing};
 ghost use Rattle.schedule_core.specs.Piles.{FitsStack, HasRoomFor, IsBegun, IsPileOf, RunsNothing};
 ghost use Rattle.schedule_core.specs.Replaying.{IsMachine};
 ghost use Rattle.schedule_core.specs.Spots.{KeepsSpots};
@@ -15,13 +15,13 @@ ghost use Rattle.schedule_core.specs.Strands.{TakesSteps};
 
 use crate::machine::Machine;
 use crate::stage::Stage;
-use crew::most_moves;
-use deep_absorbing::{absorb_deep, has_no_child};
-use deep_strand::{Pause, Pile};
-use engine::Places;
+use schedule_workers::most_moves;
+use schedule_publish::{absorb_deep, has_no_child};
+use private_stack::{Pause, Pile};
+use frame_engine::Places;
 use lists::OutOfMemory;
 use outcome::Verified;
-use page_log::page_around;
+use private_stack_log::page_around;
 use std::alloc::Global;
 
 /// A pile without a base, with room for the phi moves of the module.

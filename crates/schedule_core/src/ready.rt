@@ -1,6 +1,6 @@
 //! The ready tasks whose tops stand below the frame that a worker runs, as a deep strand leaves them.
 ghost use Rattle.std.specs.Prelude.{◌≡◌, ◌+◌, ◌<◌, ◌≤◌, [], IfSome, IfNone, reverse, vec_capacity, vec_len};
-ghost use Rattle.running.specs.Events as running;
+ghost use Rattle.semantics.specs.Events as running;
 ghost use Rattle.cactus.specs.ByPath.{IsTree};
 ghost use Rattle.schedule_core.specs.ReadyBelow.{AreReadyBelow, IsNotReady, IsSpotOf, Notes, maker_of};
 ghost use Rattle.schedule_core.specs.Stages.{IsState};

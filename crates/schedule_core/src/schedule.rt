@@ -1,8 +1,8 @@
 ghost use Rattle.std.specs.Prelude.{◌≡◌, ◌≢◌, ℕ, Some, None, Err, IfOk, OnOk};
-ghost use Rattle.crew_promise.specs.outcome.Requirements.{unmet_in};
-ghost use Rattle.crew_promise.specs.store.declared.memory.Memory.{Memory};
+ghost use Rattle.laws_workers.specs.outcome.Requirements.{unmet_in};
+ghost use Rattle.laws_workers.specs.store.declared.memory.Memory.{Memory};
 ghost use Rattle.schedule_core.specs.Replaying.{IsNumberOfWorkers, KeepsItsSchedule, Replays};
-ghost use Rattle.crew_promise.specs.store.Made.{IsMadeFor};
+ghost use Rattle.laws_workers.specs.store.Made.{IsMadeFor};
 
 use crate::events::{apply_all, begin};
 use crate::machine::Machine;

@@ -1,5 +1,5 @@
-use crew::Run;
-use engine::Places;
+use schedule_workers::Run;
+use frame_engine::Places;
 use outcome::{Memory, Verified};
 
 /// A run of a verified module, with what its steps read.

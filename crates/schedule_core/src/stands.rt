@@ -1,8 +1,8 @@
 //! On which lines the workers' next instructions stand.
 
 ghost use Rattle.std.specs.Prelude.{◌≡◌, ◌↔◌, IsTrue, Some};
-ghost use Rattle.running.specs.Events as running;
-ghost use Rattle.crew.specs.Scheduling.{hand_of};
+ghost use Rattle.semantics.specs.Events as running;
+ghost use Rattle.schedule_workers.specs.Scheduling.{hand_of};
 ghost use Rattle.schedule_core.specs.Lines.{StandsAt, line_of_worker};
 ghost use Rattle.schedule_core.specs.Stages.{IsState, program_of};
 

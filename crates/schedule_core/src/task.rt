@@ -2,8 +2,8 @@ ghost use Rattle.std.specs.Prelude.{◌≡◌};
 ghost use Rattle.schedule_core.specs.Lines as lines;
 ghost use Rattle.schedule_core.specs.Viewed.{status_by};
 
-use crew::Activation;
-use engine::Frame;
+use schedule_workers::Activation;
+use frame_engine::Frame;
 use frame::{Path, Wait, block_at};
 use program::{Block, BlockId, FunctionId, Program, RegisterId};
 

@@ -2,8 +2,8 @@ ghost use Rattle.std.specs.Prelude.{◌≡◌, ◌↔◌, ◌<◌, None, Some, I
 ghost use Rattle.std.specs.Option.{option_copied, option_map};
 ghost use Rattle.cactus.specs.Frames.{Lives, HasPath, frame_at, node_of_use};
 ghost use Rattle.cactus.specs.ByPath.{IsTree};
-ghost use Rattle.running.specs.Events as running;
-ghost use Rattle.crew.specs.Tasks.{IsReady};
+ghost use Rattle.semantics.specs.Events as running;
+ghost use Rattle.schedule_workers.specs.Tasks.{IsReady};
 ghost use Rattle.schedule_core.specs.Replaying.{HasLine};
 ghost use Rattle.schedule_core.specs.Stages.{IsState, workers_of};
 ghost use Rattle.schedule_core.specs.Viewed.{Advances, IsFirstReady, IsLesser, IsNamedBelow, IsNoneReady, IsReadyAt};

@@ -1,14 +1,14 @@
 -- What a run comes to is the serial run that the schedule theorem speaks of.
 use Rattle.std.proofs.Common.{◌≡◌, ℕ, ◌≤◌, List, Option, Some, None, Result, Err, ℤ, refl, arith, sym, subst, ◌∙◌}
-use Rattle.running.specs.SerialMeaning.{Gave, Outcome}
+use Rattle.semantics.specs.SerialMeaning.{Gave, Outcome}
 use Rattle.program.specs.declared.function.Program.{Program}
 use Rattle.outcome.specs.verifier.Accepted.{IsProgramOf}
 use Rattle.outcome.specs.verifier.Budgets.{budget_of}
 use Rattle.outcome.specs.store.Cells.{NamedCells}
 use Rattle.outcome.specs.store.Made.{HasGlobalCells}
 use Rattle.outcome.specs.store.Rows.{sizes_of}
-use Rattle.schedule_theorem.specs.Promise.{KeepsItsPromise}
-use Rattle.schedule_theorem.proofs.Promise.{accepted_programs_keep_their_promise}
+use Rattle.laws_schedule.specs.Promise.{KeepsItsPromise}
+use Rattle.laws_schedule.proofs.Promise.{accepted_programs_keep_their_promise}
 use Rattle.outcome.specs.Requirements.{unmet_in}
 use Rattle.outcome.specs.Serially.{memory_of_globals, IsMeant}
 use Rattle.outcome.specs.declared.outcome.Finished.{Finished}

@@ -1,12 +1,12 @@
 -- Memory that was made for a program has values in its globals' cells.
 use Rattle.std.proofs.Common.{◌≡◌, ℕ, ◌<◌, List, Option, Some, None, refl, arith, slice_get}
 use Rattle.std.specs.Prelude.{IsSome}
-use Rattle.running.specs.Frames.{global_cells}
+use Rattle.semantics.specs.Frames.{global_cells}
 use Rattle.program.specs.declared.function.Global.{Global}
 use Rattle.program.specs.declared.function.Program.{Program}
 use Rattle.outcome.specs.store.Cells.{NamedCells, cell_at}
 use Rattle.outcome.specs.store.Made.{HasGlobalCells}
-use Rattle.schedule_theorem.specs.Promise.{HasGlobals}
+use Rattle.laws_schedule.specs.Promise.{HasGlobals}
 use Rattle.outcome.specs.Serially.{memory_of_globals}
 
 pub globals_there : (program : Program) (memory : List NamedCells) → HasGlobalCells program memory → (g i : ℕ) → i < global_cells (slice_get program.globals g) → IsSome (cell_at memory g i)

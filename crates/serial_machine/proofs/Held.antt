@@ -3,19 +3,19 @@ use Rattle.std.proofs.Common.{◌≡◌, ℕ, zero, suc, ◌+◌, ◌<◌, ◌�
 use Rattle.std.specs.Prelude.{IsSome, nat_lt, sum}
 use Rattle.std.proofs.lemmas.Bool.{le-ltb, ltb-false, ltb-true}
 use Rattle.std.proofs.lemmas.List.{drop_at, length-append, length-drop, length-map, length-take-le, take_at}
-use Rattle.running.specs.Cells.{Object, Shared, Local}
-use Rattle.running.specs.Frames.{global_cells}
+use Rattle.semantics.specs.Cells.{Object, Shared, Local}
+use Rattle.semantics.specs.Frames.{global_cells}
 use Rattle.program.specs.declared.function.Global.{Global}
 use Rattle.program.specs.declared.function.Program.{Program}
 use Rattle.outcome.specs.verifier.Accepted.{IsProgramOf}
-use Rattle.engine.specs.Starts.{starts_from}
+use Rattle.frame_engine.specs.Starts.{starts_from}
 use Rattle.outcome.specs.store.Cells.{NamedCells, cell_at}
 use Rattle.outcome.specs.store.Made.{HasGlobalCells}
 use Rattle.outcome.specs.store.Rows.{refilled, row_of, sizes_of}
 use Rattle.outcome.specs.Serially.{global_cell, memory_of_globals, names_of}
-use Rattle.serial_steps.specs.Layouts.{size_in, start_in}
-use Rattle.serial_steps.specs.Starts.{StandsInRow}
-use Rattle.serial_steps.proofs.Rows.{sum_more}
+use Rattle.serial_stack.specs.Layouts.{size_in, start_in}
+use Rattle.serial_stack.specs.Starts.{StandsInRow}
+use Rattle.serial_stack.proofs.Rows.{sum_more}
 use Rattle.serial_machine.specs.Rows.{in_row, row_memory}
 use Rattle.serial_machine.specs.Safe.{HasCellsOf}
 use Rattle.serial_machine.proofs.text.Fits.{below_all, starts_long}

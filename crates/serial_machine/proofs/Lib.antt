@@ -9,6 +9,6 @@ pub mod Rows
 pub mod Held
 pub mod Engine
 -- for the crates above
-pub use Rattle.schedule_theorem.proofs as schedule_theorem
-pub use Rattle.schedule_theorem.proofs.conditions as conditions
-pub use Rattle.schedule_theorem.proofs.phase_laws as phase_laws
+pub use Rattle.laws_schedule.proofs as laws_schedule
+pub use Rattle.laws_schedule.proofs.laws_conditions as laws_conditions
+pub use Rattle.laws_schedule.proofs.laws_phases as laws_phases

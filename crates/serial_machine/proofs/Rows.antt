@@ -3,25 +3,25 @@ use Rattle.std.proofs.Common.{◌≡◌, ℕ, zero, suc, ◌+◌, ◌<◌, List,
 use Rattle.std.specs.Prelude.{IsSome, nat_lt, sum}
 use Rattle.std.proofs.lemmas.Bool.{ltb-true, lt-ltb}
 use Rattle.std.proofs.lemmas.Int.{ints}
-use Rattle.running.specs.Arithmetic.{wrapped}
-use Rattle.running.specs.Paths.{Path, same_path}
+use Rattle.semantics.specs.Arithmetic.{wrapped}
+use Rattle.semantics.specs.Paths.{Path, same_path}
 use Rattle.syntax.specs.declared.operator.Width.TheVariants.{Bits64}
-use Rattle.running.specs.Cells.{Object, Shared, Local, Cell}
-use Rattle.running.specs.Frames.{Role, Child, Body}
-use Rattle.running.specs.SerialMeaning.{Gave, Outcome, IsSerialMeaning, cleared}
-use Rattle.running.specs.State.{override}
+use Rattle.semantics.specs.Cells.{Object, Shared, Local, Cell}
+use Rattle.semantics.specs.Frames.{Role, Child, Body}
+use Rattle.semantics.specs.SerialMeaning.{Gave, Outcome, IsSerialMeaning, cleared}
+use Rattle.semantics.specs.State.{override}
 use Rattle.program.specs.declared.function.Program.{Program}
-use Rattle.engine.specs.declared.activation.Places.{Places}
-use Rattle.engine.specs.Flat.{cell_in}
-use Rattle.engine.specs.declared.flat.Flat.{Flat}
-use Rattle.engine.specs.Shows.{IsIn, Layout, address}
-use Rattle.schedule_theorem.proofs.phase_laws.defined.Written.{plain_keeps}
-use Rattle.serial_steps.specs.Steps.{Placed, Run, Goes, plain, sync, detach, call, reattach, ret, Walk, begins, goes_on, starting}
-use Rattle.serial_steps.proofs.Walks.{steps_mean}
-use Rattle.serial_steps.specs.Layouts.{size_in, start_in, alloca_sizes, end_of, for_body, with_allocas, of_globals, layout_of, frames_of}
-use Rattle.serial_steps.specs.Runs.{HasEnded}
-use Rattle.serial_steps.specs.declared.stack.Stack.{Stack}
-use Rattle.serial_steps.proofs.Rows.{IsPacked, address_is, packed, start_below}
+use Rattle.frame_engine.specs.declared.activation.Places.{Places}
+use Rattle.frame_engine.specs.Flat.{cell_in}
+use Rattle.frame_engine.specs.declared.flat.Flat.{Flat}
+use Rattle.frame_engine.specs.Shows.{IsIn, Layout, address}
+use Rattle.laws_schedule.proofs.laws_phases.defined.Written.{plain_keeps}
+use Rattle.serial_stack.specs.Steps.{Placed, Run, Goes, plain, sync, detach, call, reattach, ret, Walk, begins, goes_on, starting}
+use Rattle.serial_stack.proofs.Walks.{steps_mean}
+use Rattle.serial_stack.specs.Layouts.{size_in, start_in, alloca_sizes, end_of, for_body, with_allocas, of_globals, layout_of, frames_of}
+use Rattle.serial_stack.specs.Runs.{HasEnded}
+use Rattle.serial_stack.specs.declared.stack.Stack.{Stack}
+use Rattle.serial_stack.proofs.Rows.{IsPacked, address_is, packed, start_below}
 use Rattle.serial_machine.specs.Rows.{in_row, row_memory, RowsMean}
 
 abbrev global_cell : ℕ → ℕ → Cell

@@ -3,9 +3,9 @@ pub mod walks
 pub mod Safe
 pub mod Rows
 -- for the crates above
-pub use Rattle.schedule_theorem.specs as schedule_theorem
+pub use Rattle.laws_schedule.specs as laws_schedule
 pub use Rattle.outcome.specs.store as store
 pub use Rattle.outcome.specs.verifier as verifier
 pub use Rattle.outcome.specs as outcome
-pub use Rattle.schedule_theorem.specs.conditions as conditions
-pub use Rattle.schedule_theorem.specs.phase_laws as phase_laws
+pub use Rattle.laws_schedule.specs.laws_conditions as laws_conditions
+pub use Rattle.laws_schedule.specs.laws_phases as laws_phases

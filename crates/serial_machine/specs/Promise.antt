@@ -1,6 +1,6 @@
 -- What the serial run of a program that the verifier took comes to.
 use Rattle.std.specs.Prelude.{◌≡◌, ⊤, ℕ, ◌<◌, ◌≤◌, List, ℤ, Result, Ok, Err}
-use Rattle.running.specs.SerialMeaning.{Outcome, IsSerialMeaning}
+use Rattle.semantics.specs.SerialMeaning.{Outcome, IsSerialMeaning}
 use Rattle.program.specs.declared.function.Program.{Program}
 use Rattle.outcome.specs.verifier.Budgets.{budget_of, IsDepthOf}
 use Rattle.outcome.specs.store.Cells.{NamedCells}

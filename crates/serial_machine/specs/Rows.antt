@@ -1,13 +1,13 @@
 -- Globals in one row of cells, each after the one before it.
 use Rattle.std.specs.Prelude.{◌≡◌, ℕ, ◌+◌, ◌<◌, List, length, sum, Option, Some, None, cond, nat_lt, ℤ, slice_get}
-use Rattle.running.specs.Cells.{Object, Shared, Local, Memory}
-use Rattle.running.specs.SerialMeaning.{Gave, IsSerialMeaning}
+use Rattle.semantics.specs.Cells.{Object, Shared, Local, Memory}
+use Rattle.semantics.specs.SerialMeaning.{Gave, IsSerialMeaning}
 use Rattle.program.specs.declared.function.Program.{Program}
-use Rattle.engine.specs.declared.activation.Places.{Places}
-use Rattle.serial_steps.specs.Steps.{starting}
-use Rattle.serial_steps.specs.Layouts.{size_in, start_in}
-use Rattle.serial_steps.specs.Runs.{HasEnded}
-use Rattle.serial_steps.specs.declared.stack.Stack.{Stack}
+use Rattle.frame_engine.specs.declared.activation.Places.{Places}
+use Rattle.serial_stack.specs.Steps.{starting}
+use Rattle.serial_stack.specs.Layouts.{size_in, start_in}
+use Rattle.serial_stack.specs.Runs.{HasEnded}
+use Rattle.serial_stack.specs.declared.stack.Stack.{Stack}
 
 -- what the row of globals of these sizes holds of an object
 abbrev pub in_row : List ℕ → List ℤ → Object → ℕ → Option ℤ

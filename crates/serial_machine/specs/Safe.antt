@@ -1,20 +1,20 @@
 -- What the machine rests on, of each program that the verifier took: its text fits, and its serial run can do each next step.
 use Rattle.std.specs.Prelude.{◌≡◌, ℕ, ◌≤◌, List, length, map, Some, ℤ, slice_get}
-use Rattle.running.specs.Cells.{Memory}
-use Rattle.running.specs.Frames.{Frame, global_cells, item_at}
+use Rattle.semantics.specs.Cells.{Memory}
+use Rattle.semantics.specs.Frames.{Frame, global_cells, item_at}
 use Rattle.program.specs.declared.function.Function.{Function}
 use Rattle.program.specs.declared.function.Program.{Program}
 use Rattle.outcome.specs.verifier.Accepted.{IsProgramOf}
 use Rattle.outcome.specs.verifier.Budgets.{budget_of}
-use Rattle.engine.specs.Operands.{ItemFits}
-use Rattle.engine.specs.Starts.{alloca_starts}
-use Rattle.engine.specs.declared.activation.Places.{Places}
-use Rattle.schedule_theorem.specs.Promise.{AreTaken, HasGlobals}
-use Rattle.schedule_theorem.specs.kinds.Holding.{HasKindedRegisters}
-use Rattle.schedule_theorem.specs.typing.Kinds.{HasKinds}
-use Rattle.serial_steps.specs.Steps.{starting}
-use Rattle.serial_steps.specs.Layouts.{size_in}
-use Rattle.serial_steps.specs.Shown.{RunsSafely, TextFits}
+use Rattle.frame_engine.specs.Operands.{ItemFits}
+use Rattle.frame_engine.specs.Starts.{alloca_starts}
+use Rattle.frame_engine.specs.declared.activation.Places.{Places}
+use Rattle.laws_schedule.specs.Promise.{AreTaken, HasGlobals}
+use Rattle.laws_schedule.specs.kinds.Holding.{HasKindedRegisters}
+use Rattle.laws_schedule.specs.typing.Kinds.{HasKinds}
+use Rattle.serial_stack.specs.Steps.{starting}
+use Rattle.serial_stack.specs.Layouts.{size_in}
+use Rattle.serial_stack.specs.Shown.{RunsSafely, TextFits}
 
 -- these sizes are as large as the program's globals
 abbrev pub HasCellsOf : Program → List ℕ → Type 0

@@ -1,9 +1,9 @@
 ghost use Rattle.std.specs.Prelude.{◌≡◌, IfOk, map};
 ghost use Rattle.program.specs.declared.function.Function.{Function};
-ghost use Rattle.engine.specs.Starts.{alloca_starts, starts_from};
+ghost use Rattle.frame_engine.specs.Starts.{alloca_starts, starts_from};
 ghost use Rattle.serial_machine.specs.Safe.{HasMoves};
 
-use engine::Places;
+use frame_engine::Places;
 use lists::{OutOfMemory, Seq};
 use program::Program;
 use std::alloc::Global;

@@ -9,7 +9,7 @@ use crate::places::{most_moves, places_of};
 use lists::OutOfMemory;
 use outcome::{Finished, Memory, RunFault, Verified, unmet_requirement};
 use program::Program;
-use serial_steps::Stack;
+use serial_stack::Stack;
 use std::alloc::Global;
 
 /// Why a run within some fuel has no answer.

@@ -1,18 +1,18 @@
 -- A step is a detach exactly where the worker runs a child one below the frame that it ran before.
 use Rattle.std.proofs.Common.{◌≡◌, ◌≢◌, ℕ, ◌≤◌, List, [], ◌∷◌, length, Option, Some, None, Bool, true, false, cond, ◌⊎◌, eq-eqb, inl, inr, refl, sym, ap, ◌∙◌, subst, arith}
 use Rattle.std.proofs.lemmas.Bool.Decides.{eqb_tells}
-use Rattle.running.specs.Paths.{Path}
-use Rattle.running.specs.Frames.{Free, Value, Frame}
+use Rattle.semantics.specs.Paths.{Path}
+use Rattle.semantics.specs.Frames.{Free, Value, Frame}
 use Rattle.linear.specs.declared.form.RegisterId.{RegisterId}
-use Rattle.running.specs.Effect.{Action, Plain, Detach, Reattach, Sync, Call, Return, action_of}
-use Rattle.running.specs.State.{State, Change, apply, override, both, change_of, continued, detached, called, waiting, none_within}
-use Rattle.running.specs.Events as running
-use Rattle.running.specs.Events.{Machine, Step, event, sound_event, unless_trapped, by_hand, by_frame, by_change, next_hand, after_reattach, takes_parent, unless_held, may_be_taken, holder, caller_of, is_child, with_hand, top_status}
-use Rattle.running.proofs.Places.{both_first, both_second, no_own_child}
-use Rattle.running.proofs.Diamond.{same_frame}
-use Rattle.running.proofs.Steps.{Does, plain, detach, reattach, sync, call, ret, end, does}
-use Rattle.running.proofs.Workers.{Manned}
-use Rattle.running.proofs.Machines.{holder_some}
+use Rattle.semantics.specs.Effect.{Action, Plain, Detach, Reattach, Sync, Call, Return, action_of}
+use Rattle.semantics.specs.State.{State, Change, apply, override, both, change_of, continued, detached, called, waiting, none_within}
+use Rattle.semantics.specs.Events as running
+use Rattle.semantics.specs.Events.{Machine, Step, event, sound_event, unless_trapped, by_hand, by_frame, by_change, next_hand, after_reattach, takes_parent, unless_held, may_be_taken, holder, caller_of, is_child, with_hand, top_status}
+use Rattle.semantics.proofs.Places.{both_first, both_second, no_own_child}
+use Rattle.semantics.proofs.Diamond.{same_frame}
+use Rattle.semantics.proofs.Steps.{Does, plain, detach, reattach, sync, call, ret, end, does}
+use Rattle.semantics.proofs.Workers.{Manned}
+use Rattle.semantics.proofs.Machines.{holder_some}
 use Rattle.program.specs.declared.function.Program.{Program}
 use Rattle.shared_run.specs.Calls.{IsDetach}
 

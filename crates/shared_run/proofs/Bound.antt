@@ -4,19 +4,19 @@ use Rattle.std.specs.Prelude.{IsSome, ltb, is_none}
 use Rattle.std.proofs.lemmas.Bool.{ltb-true, and_parts}
 use Rattle.std.proofs.lemmas.Bool.Decides.{eqb_tells}
 use Rattle.std.proofs.lemmas.List.{length-map}
-use Rattle.running.specs.Paths.{Path}
-use Rattle.running.specs.Arithmetic.{Trap}
-use Rattle.running.specs.Frames.{Frame}
-use Rattle.running.specs.State.{Change, apply, change_of}
-use Rattle.running.specs.Effect.{action_of}
-use Rattle.running.specs.Events as running
-use Rattle.running.specs.Events.{Machine, Step, Steal, Status, Running, Ready, Stalled, event, sound_event, unless_trapped, by_hand, by_frame, by_change, if_ready, stolen, status_of, with_hand, start}
-use Rattle.running.specs.Replay.{or_unchanged, replay}
-use Rattle.running.proofs.Machines.{is_none_true}
+use Rattle.semantics.specs.Paths.{Path}
+use Rattle.semantics.specs.Arithmetic.{Trap}
+use Rattle.semantics.specs.Frames.{Frame}
+use Rattle.semantics.specs.State.{Change, apply, change_of}
+use Rattle.semantics.specs.Effect.{action_of}
+use Rattle.semantics.specs.Events as running
+use Rattle.semantics.specs.Events.{Machine, Step, Steal, Status, Running, Ready, Stalled, event, sound_event, unless_trapped, by_hand, by_frame, by_change, if_ready, stolen, status_of, with_hand, start}
+use Rattle.semantics.specs.Replay.{or_unchanged, replay}
+use Rattle.semantics.proofs.Machines.{is_none_true}
 use Rattle.program.specs.declared.function.Program.{Program}
 use Rattle.schedule_core.specs.verifier.Accepted.{IsAccepted}
 use Rattle.schedule_core.specs.verifier.Budgets.{budget_of}
-use Rattle.schedule_core.proofs.schedule_theorem.Bounds.{budget_bounded}
+use Rattle.schedule_core.proofs.laws_schedule.Bounds.{budget_bounded}
 use Rattle.frame.specs.declared.event.Event.{Event}
 use Rattle.schedule_core.specs.declared.stage.Stage.{Stage}
 use Rattle.schedule_core.specs.Replaying.{AreEnabled, event_of, KeepsItsSchedule}

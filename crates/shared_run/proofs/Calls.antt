@@ -3,17 +3,17 @@ use Rattle.std.proofs.Common.{◌≡◌, ◌↔◌, ℕ, ℤ, suc, ◌+◌, ◌<
 use Rattle.std.specs.Prelude.{IsSome, IsTrue, IfSome, IfNone, IsSomeAnd, is_none, is_some}
 use Rattle.std.specs.Option.{option_map}
 use Rattle.std.proofs.lemmas.Bool.{lt-ltb, and_parts}
-use Rattle.running.specs.Paths.{Path as RunningPath}
-use Rattle.running.specs.Frames.{Frame}
-use Rattle.running.specs.Events as running
-use Rattle.running.specs.Events.{Machine, event, status_of, stolen, if_ready}
-use Rattle.running.proofs.Machines.{is_none_true}
-use Rattle.running.proofs.Workers.{Manned}
+use Rattle.semantics.specs.Paths.{Path as RunningPath}
+use Rattle.semantics.specs.Frames.{Frame}
+use Rattle.semantics.specs.Events as running
+use Rattle.semantics.specs.Events.{Machine, event, status_of, stolen, if_ready}
+use Rattle.semantics.proofs.Machines.{is_none_true}
+use Rattle.semantics.proofs.Workers.{Manned}
 use Rattle.program.specs.declared.function.Program.{Program}
 use Rattle.frame.specs.declared.path.Path.{Path}
 use Rattle.cactus.specs.declared.node.Node.{Node}
 use Rattle.cactus.specs.Frames.{HasPath, node_of_use}
-use Rattle.crew.specs.declared.activation.Activation.{Activation}
+use Rattle.schedule_workers.specs.declared.activation.Activation.{Activation}
 use Rattle.schedule_core.specs.Parents.{HasNoReadyParent, IsReadyParent}
 use Rattle.schedule_core.specs.Replaying.{GrowsOnly, LeavesAsBefore}
 use Rattle.schedule_core.specs.Stages.{workers_of}
@@ -30,7 +30,7 @@ use Rattle.shared_run.specs.Calls.{Appends, CanTake, Claims, ClaimsFirst, IsDeta
 use Rattle.shared_run.specs.Story.{IsLegal, Origin, Place, Story, named_by, state_of, story}
 use Rattle.shared_run.proofs.Begun.{IsStepOf, step_of, begins_or_none, parent_ready}
 use Rattle.shared_run.proofs.Stories.{manned_here, untrapped}
-use Rattle.running.proofs.Steps.{some_same}
+use Rattle.semantics.proofs.Steps.{some_same}
 
 -- the use of a slot that has the path names it
 named : (stage : Stage) (ticket : Ticket) (path : Path) → HasPath stage.run.cactus ticket.slot ticket.generation path → named_by stage ticket ≡ Some path

@@ -3,16 +3,16 @@ use Rattle.std.proofs.Common.{◌≡◌, ◌↔◌, ℕ, zero, suc, ◌+◌, ◌
 use Rattle.std.specs.Prelude.{IsSome, IsTrue, IfSome, IfNone, is_none}
 use Rattle.std.specs.Option.{option_map}
 use Rattle.std.proofs.lemmas.List.{length-replicate, map-append}
-use Rattle.running.specs.Paths.{Path as RunningPath}
-use Rattle.running.specs.Events as running
-use Rattle.running.specs.Events.{Machine, event}
-use Rattle.running.specs.Replay.{or_unchanged, replay}
+use Rattle.semantics.specs.Paths.{Path as RunningPath}
+use Rattle.semantics.specs.Events as running
+use Rattle.semantics.specs.Events.{Machine, event}
+use Rattle.semantics.specs.Replay.{or_unchanged, replay}
 use Rattle.program.specs.declared.function.Program.{Program}
-use Rattle.schedule_core.specs.absorbing.Absorbing.{steps_in}
-use Rattle.schedule_core.specs.absorbing.strands.Law.{steps_by}
-use Rattle.schedule_core.specs.strand.declared.outside.Strand.{Strand}
-use Rattle.schedule_core.specs.strand.declared.standing.Pause.{Pause}
-use Rattle.schedule_core.specs.strand.declared.standing.Pause.TheVariants.{Blank, Border, Limit, Full, Need}
+use Rattle.schedule_core.specs.schedule_commit.Absorbing.{steps_in}
+use Rattle.schedule_core.specs.schedule_commit.laws_strands.Law.{steps_by}
+use Rattle.schedule_core.specs.frame_strand.declared.outside.Strand.{Strand}
+use Rattle.schedule_core.specs.frame_strand.declared.standing.Pause.{Pause}
+use Rattle.schedule_core.specs.frame_strand.declared.standing.Pause.TheVariants.{Blank, Border, Limit, Full, Need}
 use Rattle.schedule_core.specs.Parents.{HasNoReadyParent, IsReadyParent}
 use Rattle.schedule_core.specs.Replaying.{AreEnabled, event_of}
 use Rattle.schedule_core.specs.Stages.{program_of, workers_of}

@@ -1,11 +1,11 @@
 -- A strand stays one of its module.
 use Rattle.std.proofs.Common.{◌≡◌, ◌∙◌, ◌≤◌, ℕ, arith, sym, subst}
 use Rattle.std.specs.Prelude.{Result, Ok, Err, IfOk, vec_capacity}
-use Rattle.crew.specs.Starts.{ArePlaces}
+use Rattle.schedule_workers.specs.Starts.{ArePlaces}
 use Rattle.lists.specs.declared.memory.OutOfMemory.{OutOfMemory}
 use Rattle.schedule_core.specs.Strands.{HasRoomFor, IsMadeOf}
-use Rattle.schedule_core.specs.engine.declared.activation.Places.{Places}
-use Rattle.schedule_core.specs.strand.declared.outside.Strand.{Strand}
+use Rattle.schedule_core.specs.frame_engine.declared.activation.Places.{Places}
+use Rattle.schedule_core.specs.frame_strand.declared.outside.Strand.{Strand}
 use Rattle.schedule_core.specs.verifier.Budgets.{IsDepthOf}
 use Rattle.program.specs.declared.function.Program.{Program}
 

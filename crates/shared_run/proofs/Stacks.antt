@@ -2,13 +2,13 @@
 use Rattle.std.proofs.Common.{◌≡◌, ◌≢◌, ℕ, refl, sym, ap, ◌∙◌, subst, length}
 use Rattle.std.proofs.Math.Logic.{∥∥₁_map}
 use Rattle.program.specs.declared.function.Program.{Program}
-use Rattle.crew.specs.Starts.{ArePlaces}
-use Rattle.schedule_core.specs.engine.declared.activation.Places.{Places}
-use Rattle.schedule_core.specs.deep_strand.Along.{IsUnderWay}
-use Rattle.schedule_core.specs.deep_strand.Going.{IsGoing}
-use Rattle.schedule_core.specs.deep_strand.declared.pile.Pile.{Pile}
-use Rattle.schedule_core.specs.deep_strand.declared.going.Pause.{Pause}
-use Rattle.schedule_core.specs.deep_strand.declared.going.Pause.TheVariants as pause
+use Rattle.schedule_workers.specs.Starts.{ArePlaces}
+use Rattle.schedule_core.specs.frame_engine.declared.activation.Places.{Places}
+use Rattle.schedule_core.specs.private_stack.Along.{IsUnderWay}
+use Rattle.schedule_core.specs.private_stack.Going.{IsGoing}
+use Rattle.schedule_core.specs.private_stack.declared.pile.Pile.{Pile}
+use Rattle.schedule_core.specs.private_stack.declared.going.Pause.{Pause}
+use Rattle.schedule_core.specs.private_stack.declared.going.Pause.TheVariants as pause
 use Rattle.schedule_core.specs.Piles.{HasRoomFor, IsPileOf}
 use Rattle.shared_run.specs.declared.stack.Standing.{Standing}
 use Rattle.shared_run.specs.declared.stack.Standing.TheVariants.{Blank, Going, Border, Full, Need, Spoilt}

@@ -2,19 +2,19 @@
 use Rattle.std.proofs.Common.{◌≡◌, ℕ, ℤ, ◌≤◌, List, [], ◌∷◌, ◌++◌, map, reverse, Option, Some, None, true, false, refl, sym, ap, ◌∙◌, subst, arith}
 use Rattle.std.specs.Prelude.{IsSome, is_none}
 use Rattle.std.proofs.lemmas.List.{map-append, reverse-reverse}
-use Rattle.running.specs.Frames.{Frame}
-use Rattle.running.specs.Events as running
-use Rattle.running.specs.Events.{Machine, event}
-use Rattle.running.specs.Replay.{NeverTraps, or_unchanged, replay, has_ended}
-use Rattle.running.specs.SerialMeaning.{Gave}
-use Rattle.running.specs.Cells.{Shared}
-use Rattle.running.proofs.Workers.{Manned}
+use Rattle.semantics.specs.Frames.{Frame}
+use Rattle.semantics.specs.Events as running
+use Rattle.semantics.specs.Events.{Machine, event}
+use Rattle.semantics.specs.Replay.{NeverTraps, or_unchanged, replay, has_ended}
+use Rattle.semantics.specs.SerialMeaning.{Gave}
+use Rattle.semantics.specs.Cells.{Shared}
+use Rattle.semantics.proofs.Workers.{Manned}
 use Rattle.program.specs.declared.function.Program.{Program}
 use Rattle.schedule_core.specs.verifier.Accepted.{IsAccepted}
 use Rattle.schedule_core.specs.store.Made.{IsMadeFor}
 use Rattle.schedule_core.specs.outcome.Requirements.{unmet_in}
 use Rattle.schedule_core.specs.outcome.declared.outcome.Finished.{Finished}
-use Rattle.schedule_core.proofs.crew_promise.Results.{IsOpen, always_open}
+use Rattle.schedule_core.proofs.laws_workers.Results.{IsOpen, always_open}
 use Rattle.schedule_core.proofs.Grounds.{laws}
 use Rattle.schedule_core.proofs.Reached.{reached_manned, replay_more}
 use Rattle.frame.specs.declared.event.Event.{Event}

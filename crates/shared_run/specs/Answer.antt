@@ -1,8 +1,8 @@
 -- What a shared run that has ended answers.
 use Rattle.std.specs.Prelude.{◌≡◌, ℕ, List, map, Some, true}
-use Rattle.running.specs.Cells.{Shared}
-use Rattle.running.specs.Replay.{has_ended}
-use Rattle.running.specs.SerialMeaning.{Gave, Outcome, IsSerialMeaning}
+use Rattle.semantics.specs.Cells.{Shared}
+use Rattle.semantics.specs.Replay.{has_ended}
+use Rattle.semantics.specs.SerialMeaning.{Gave, Outcome, IsSerialMeaning}
 use Rattle.frame.specs.declared.event.Event.{Event}
 use Rattle.schedule_core.specs.store.Cells.{cell_at}
 use Rattle.schedule_core.specs.outcome.declared.outcome.Finished.{Finished}

@@ -2,20 +2,20 @@
 use Rattle.std.specs.Prelude.{◌≡◌, ◌≢◌, ◌↔◌, ℕ, ℤ, ◌+◌, List, [], ◌∷◌, ◌++◌, length, replicate}
 use Rattle.std.specs.Prelude.{Option, Some, None, Bool, true, false, is_none, is_some, IsSome, IfSome}
 use Rattle.std.specs.Option.{option_map}
-use Rattle.running.specs.Paths.{Path as RunningPath}
-use Rattle.running.specs.Frames.{Frame}
-use Rattle.running.specs.Effect.{Detach, action_of}
-use Rattle.running.specs.Events as running
-use Rattle.running.specs.Events.{Machine, event, top_of}
+use Rattle.semantics.specs.Paths.{Path as RunningPath}
+use Rattle.semantics.specs.Frames.{Frame}
+use Rattle.semantics.specs.Effect.{Detach, action_of}
+use Rattle.semantics.specs.Events as running
+use Rattle.semantics.specs.Events.{Machine, event, top_of}
 use Rattle.program.specs.declared.function.Program.{Program}
 use Rattle.frame.specs.declared.path.Path.{Path}
 use Rattle.frame.specs.declared.event.Event.{Event}
 use Rattle.frame.specs.declared.event.Event.TheVariants.{Step, Steal}
 use Rattle.schedule_core.specs.Strands.{Absorbs, FitsStage, IsLoaded}
-use Rattle.schedule_core.specs.absorbing.Absorbing.{steps_in}
-use Rattle.schedule_core.specs.strand.declared.outside.Strand.{Strand}
-use Rattle.schedule_core.specs.strand.declared.standing.Pause.TheVariants.{Blank, Border, Need}
-use Rattle.schedule_core.specs.engine.Flat.{cell_in}
+use Rattle.schedule_core.specs.schedule_commit.Absorbing.{steps_in}
+use Rattle.schedule_core.specs.frame_strand.declared.outside.Strand.{Strand}
+use Rattle.schedule_core.specs.frame_strand.declared.standing.Pause.TheVariants.{Blank, Border, Need}
+use Rattle.schedule_core.specs.frame_engine.Flat.{cell_in}
 use Rattle.schedule_core.specs.Replaying.{event_of, LeavesAsBefore, Replays}
 use Rattle.schedule_core.specs.Viewed.{place_in, status_in, IsFirstReady}
 use Rattle.schedule_core.specs.declared.ready.Spot.{Spot as Ticket}

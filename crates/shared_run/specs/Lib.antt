@@ -7,4 +7,4 @@ pub mod Answer
 pub use Rattle.schedule_core.specs.outcome as outcome
 pub use Rattle.schedule_core.specs.store as store
 pub use Rattle.schedule_core.specs as schedule_core
-pub use Rattle.schedule_core.specs.crew as crew
+pub use Rattle.schedule_core.specs.schedule_workers as schedule_workers

@@ -2,15 +2,15 @@
 use Rattle.std.specs.Prelude.{◌≡◌, ◌≢◌, ⊤, ℕ, ℤ, ◌++◌, replicate, IsSome, None, Bool, true, false, List, reverse}
 use Rattle.program.specs.declared.function.Program.{Program}
 use Rattle.frame.specs.declared.event.Event.TheVariants.{Step}
-use Rattle.schedule_core.specs.engine.declared.activation.Places.{Places}
-use Rattle.schedule_core.specs.engine.Flat.{cell_in}
-use Rattle.schedule_core.specs.page_log.Logs.{filled_log, page_around}
-use Rattle.schedule_core.specs.page_log.Tables.{log_of}
-use Rattle.schedule_core.specs.deep_strand.Along.{IsUnderWay}
-use Rattle.schedule_core.specs.deep_strand.Going.{IsGoing}
-use Rattle.schedule_core.specs.deep_strand.declared.pile.Pile.{Pile}
-use Rattle.schedule_core.specs.deep_strand.declared.going.Pause.{Pause}
-use Rattle.schedule_core.specs.deep_strand.declared.going.Pause.TheVariants as pause
+use Rattle.schedule_core.specs.frame_engine.declared.activation.Places.{Places}
+use Rattle.schedule_core.specs.frame_engine.Flat.{cell_in}
+use Rattle.schedule_core.specs.private_stack_log.Logs.{filled_log, page_around}
+use Rattle.schedule_core.specs.private_stack_log.Tables.{log_of}
+use Rattle.schedule_core.specs.private_stack.Along.{IsUnderWay}
+use Rattle.schedule_core.specs.private_stack.Going.{IsGoing}
+use Rattle.schedule_core.specs.private_stack.declared.pile.Pile.{Pile}
+use Rattle.schedule_core.specs.private_stack.declared.going.Pause.{Pause}
+use Rattle.schedule_core.specs.private_stack.declared.going.Pause.TheVariants as pause
 use Rattle.schedule_core.specs.declared.ready.Spot.{Spot}
 use Rattle.schedule_core.specs.Piles.{FitsStack, HasRoomFor, IsBegun}
 use Rattle.schedule_core.specs.ReadyBelow.{AreReadyBelow}

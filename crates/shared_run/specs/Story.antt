@@ -1,6 +1,6 @@
 -- What a board has done since its start.
 use Rattle.std.specs.Prelude.{◌≡◌, ℕ, ℤ, ◌<◌, List, length, map, Option, Some, None, slice_get}
-use Rattle.running.specs.Events.{Machine}
+use Rattle.semantics.specs.Events.{Machine}
 use Rattle.program.specs.declared.function.Program.{Program}
 use Rattle.schedule_core.specs.verifier.Accepted.{IsAccepted}
 use Rattle.schedule_core.specs.store.Cells.{NamedCells}

@@ -8,7 +8,7 @@ ghost use Rattle.schedule_core.specs.Parents.{HasNoReadyParent, IsReadyParent};
 ghost use Rattle.schedule_core.specs.Replaying.{IsNumberOfWorkers, KeepsItsSchedule};
 ghost use Rattle.schedule_core.specs.Stages.{workers_of};
 ghost use Rattle.schedule_core.specs.Strands.{IsMadeOf};
-ghost use Rattle.schedule_core.specs.strand.declared.standing.Pause.TheVariants as pause;
+ghost use Rattle.schedule_core.specs.frame_strand.declared.standing.Pause.TheVariants as pause;
 ghost use Rattle.shared_run.specs.Answer.{IsSerialAnswer, LeadTo};
 ghost use Rattle.shared_run.specs.Calls.{Absorbing, Begins, Claims, ClaimsFirst, Commits, Fetches, IsOneBelow, Leaves, Stays, Steps, Takes, Tries, depth_in};
 ghost use Rattle.shared_run.specs.Story.{AreSeats, IsLegal, Place, origin, state_of};

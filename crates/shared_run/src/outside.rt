@@ -1,8 +1,8 @@
 //! Strands of a run, outside of its board: they are made for its module, and what changes them keeps them strands of it.
 ghost use Rattle.std.specs.Prelude.{◌≡◌, IfOk, Some};
-ghost use Rattle.crew.specs.Starts.{ArePlaces};
+ghost use Rattle.schedule_workers.specs.Starts.{ArePlaces};
 ghost use Rattle.schedule_core.specs.Strands.{IsMadeOf};
-ghost use Rattle.schedule_core.specs.strand.declared.standing.Pause.TheVariants.{Blank};
+ghost use Rattle.schedule_core.specs.frame_strand.declared.standing.Pause.TheVariants.{Blank};
 
 use crate::bench::Bench;
 use lists::OutOfMemory;

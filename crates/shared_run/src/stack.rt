@@ -1,7 +1,7 @@
 ghost use Rattle.std.specs.Prelude.{◌≡◌, ◌≢◌, ◌↔◌, ◌≤◌, IfOk, IfSome, IfNone, IsTrue, OnOk, Ok, false, length, true};
-ghost use Rattle.crew.specs.Starts.{ArePlaces};
-ghost use Rattle.schedule_core.specs.page_log.Logs.{filled_log};
-ghost use Rattle.schedule_core.specs.page_log.Tables.{log_of};
+ghost use Rattle.schedule_workers.specs.Starts.{ArePlaces};
+ghost use Rattle.schedule_core.specs.private_stack_log.Logs.{filled_log};
+ghost use Rattle.schedule_core.specs.private_stack_log.Tables.{log_of};
 ghost use Rattle.schedule_core.specs.Piles.{IsBegun, IsPileOf, RunsNothing};
 ghost use Rattle.schedule_core.specs.Stages.{program_of};
 ghost use Rattle.shared_run.specs.Stacks.{IsUp, Onward};
@@ -71,7 +71,7 @@ pub struct PrivateStack<'p, L: Bench> {
 
 impl<'p, L: Bench> Model for PrivateStack<'p, L> {
     ghost use Rattle.std.specs.Prelude.{◌≡◌};
-    ghost use Rattle.crew.specs.Starts.{ArePlaces};
+    ghost use Rattle.schedule_workers.specs.Starts.{ArePlaces};
     ghost use Rattle.shared_run.specs.Stacks.{Apart, Holds};
 
     ghost Value = { Apart };

@@ -5,5 +5,5 @@ use std::io::IsTerminal;
 use std::process::ExitCode;
 
 fn main(rt: HostRuntime) -> ExitCode {
-    ExitCode::from(commands::run(&rt, rt.stderr().is_terminal()))
+    ExitCode::from(cli::run(&rt, rt.stderr().is_terminal()))
 }

@@ -15,22 +15,22 @@ use Rattle.syntax.specs.declared.module.Function.{Function as FunctionText}
 use Rattle.syntax.specs.declared.module.Parameter.{Parameter as ParameterText}
 use Rattle.syntax.specs.declared.module.Parameter.TheVariants as parameter
 use Rattle.refusal.specs.declared.refused.Refused.TheVariants.{Fault}
-use Rattle.scopes.specs.declared.layout.Layout.{Layout}
-use Rattle.scopes.specs.declared.scope.Holding.{Holding}
-use Rattle.scopes.specs.declared.scope.Holding.TheVariants as holding
-use Rattle.scopes.specs.declared.scope.Named.{Named}
-use Rattle.scopes.specs.declared.scope.Named.TheVariants as named
-use Rattle.scopes.specs.declared.scope.Origin.{Origin}
-use Rattle.scopes.specs.declared.scope.Origin.TheVariants as origin
-use Rattle.scopes.specs.declared.scope.Register.{Register}
+use Rattle.types_names.specs.declared.layout.Layout.{Layout}
+use Rattle.types_names.specs.declared.scope.Holding.{Holding}
+use Rattle.types_names.specs.declared.scope.Holding.TheVariants as holding
+use Rattle.types_names.specs.declared.scope.Named.{Named}
+use Rattle.types_names.specs.declared.scope.Named.TheVariants as named
+use Rattle.types_names.specs.declared.scope.Origin.{Origin}
+use Rattle.types_names.specs.declared.scope.Origin.TheVariants as origin
+use Rattle.types_names.specs.declared.scope.Register.{Register}
 use Rattle.types.specs.Definitions.{parameter_name, IsParameterName}
-use Rattle.scopes.specs.Layout.{with_register, with_parameter, with_phi, with_alloca, with_call, with_instruction, with_step, with_phis, with_steps, with_block, with_parameters, with_blocks, with_label, with_labels, no_layout, layout_of, target_width}
-use Rattle.scopes.specs.Fault.{unless_of}
-use Rattle.scopes.specs.Form.{as_parameter, parameter_of}
-use Rattle.scopes.specs.Operand.{as_register, register_of}
-use Rattle.scopes.specs.Scope.{Scope, is_parameter}
-use Rattle.scopes.specs.Table.{look_up, with_name}
-use Rattle.scopes.proofs.Inversion.{made_ok, err_not_ok, same_ok}
+use Rattle.types_names.specs.Layout.{with_register, with_parameter, with_phi, with_alloca, with_call, with_instruction, with_step, with_phis, with_steps, with_block, with_parameters, with_blocks, with_label, with_labels, no_layout, layout_of, target_width}
+use Rattle.types_names.specs.Fault.{unless_of}
+use Rattle.types_names.specs.Form.{as_parameter, parameter_of}
+use Rattle.types_names.specs.Operand.{as_register, register_of}
+use Rattle.types_names.specs.Scope.{Scope, is_parameter}
+use Rattle.types_names.specs.Table.{look_up, with_name}
+use Rattle.types_names.proofs.Inversion.{made_ok, err_not_ok, same_ok}
 
 -- each entry fits
 abbrev pub Entries : {A : Type 0} → (List ℕ → A → Type 0) → List (List ℕ × A) → Type 0

@@ -25,16 +25,16 @@ use Rattle.syntax.specs.declared.operator.Width.TheVariants.{Bits64}
 use Rattle.refusal.specs.declared.refused.Refused.{Refused as TypeFault}
 use Rattle.refusal.specs.declared.refused.Refused.TheVariants.{Fault}
 use Rattle.program.specs.Widths.{source_width}
-use Rattle.scopes.specs.declared.form.Place.TheVariants.{Body}
+use Rattle.types_names.specs.declared.form.Place.TheVariants.{Body}
 use Rattle.types.specs.declared.instruction.Spot.{Spot}
-use Rattle.scopes.specs.declared.scope.Holding.{Holding}
-use Rattle.scopes.specs.declared.scope.Holding.TheVariants as holding
-use Rattle.scopes.specs.Address.{Items, address_of, object_of}
+use Rattle.types_names.specs.declared.scope.Holding.{Holding}
+use Rattle.types_names.specs.declared.scope.Holding.TheVariants as holding
+use Rattle.types_names.specs.Address.{Items, address_of, object_of}
 use Rattle.types.specs.Call.{Named, call_of}
-use Rattle.scopes.specs.Fault.{all_of, and_then, both_of, made_of, unless_of}
-use Rattle.scopes.specs.Form.{inequalities_of}
-use Rattle.scopes.specs.Operand.{label_of, operand_of, register_of}
-use Rattle.scopes.specs.Scope.{Scope}
+use Rattle.types_names.specs.Fault.{all_of, and_then, both_of, made_of, unless_of}
+use Rattle.types_names.specs.Form.{inequalities_of}
+use Rattle.types_names.specs.Operand.{label_of, operand_of, register_of}
+use Rattle.types_names.specs.Scope.{Scope}
 
 -- the register that an instruction defines
 abbrev pub defined_of : Scope → ℕ → List ℕ → Result RegisterId TypeFault

@@ -2,14 +2,14 @@
 
 ghost use Rattle.std.specs.Prelude.{◌≡◌};
 ghost use Rattle.types.specs.Block as spec;
-ghost use Rattle.scopes.specs.Fault.{Gives};
+ghost use Rattle.types_names.specs.Fault.{Gives};
 
 use crate::call::World;
 use crate::instruction::{resolve_phis, resolve_steps};
 use crate::terminator::resolve_ending;
 use lists::Seq;
 use program::{Block, Ending, Inequality, Left, Pending, Phi, Step, Zone};
-use scopes::{
+use types_names::{
     Place, Scope, TypeFault, both, joined, resolve_all_pending, resolve_first_zones,
     resolve_inequalities, resolve_left,
 };

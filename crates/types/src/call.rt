@@ -3,12 +3,12 @@
 ghost use Rattle.std.specs.Prelude.{◌≡◌, slice_get};
 ghost use Rattle.std.specs.List.{list_any};
 ghost use Rattle.types.specs.Call as spec;
-ghost use Rattle.scopes.specs.Fault.{Gives};
-ghost use Rattle.scopes.specs.Table.{look_up};
+ghost use Rattle.types_names.specs.Fault.{Gives};
+ghost use Rattle.types_names.specs.Table.{look_up};
 
 use lists::{Name, Seq};
 use program::{Argument, FunctionId, ObjectName, Parameter, Width};
-use scopes::{
+use types_names::{
     Item, Items, NamedGlobals, Scope, TypeFault, both, downward_call, joined, pointer_misuse,
     resolve_object, resolve_operand, type_mismatch, unknown_name, unless, wrong_count,
 };

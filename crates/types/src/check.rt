@@ -1,6 +1,6 @@
 ghost use Rattle.std.specs.Prelude.{◌≡◌, map, IfOk};
 ghost use Rattle.std.specs.List.{list_all};
-ghost use Rattle.scopes.specs.Fault.{Gives};
+ghost use Rattle.types_names.specs.Fault.{Gives};
 ghost use Rattle.types.specs.Apart.{CallsApart};
 ghost use Rattle.types.specs.Definitions.{EachDefinesAnew, KeepsParameters};
 ghost use Rattle.types.specs.Meaning as spec;
@@ -11,7 +11,7 @@ use crate::function::resolve_functions;
 use crate::typed::Typed;
 use lists::Seq;
 use program::{FunctionId, Global as GlobalArray, Program};
-use scopes::{
+use types_names::{
     Item, Items, NamedGlobals, TypeFault, all_mentions, both, items_of, named_globals,
     type_mismatch, unknown_name, unless,
 };

@@ -2,14 +2,14 @@
 
 ghost use Rattle.std.specs.Prelude.{◌≡◌, map, IfOk, Ok};
 ghost use Rattle.types.specs.Call.{parameter_of as parameter_meaning};
-ghost use Rattle.scopes.specs.Fault.{Gives};
+ghost use Rattle.types_names.specs.Fault.{Gives};
 ghost use Rattle.types.specs.Function as spec;
 
 use crate::block::resolve_blocks;
 use crate::call::{World, parameter_of};
 use lists::{Name, Seq};
 use program::{Budget, Function, Inequality, Measure, Parameter, RegisterId, Zone};
-use scopes::{
+use types_names::{
     Layout, Place, Scope, TypeFault, both, joined, resolve_first_zones, resolve_inequalities,
     resolve_measure, resolve_zones,
 };

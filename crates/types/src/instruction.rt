@@ -1,7 +1,7 @@
 //! Instructions and phis.
 
 ghost use Rattle.std.specs.Prelude.{◌≡◌};
-ghost use Rattle.scopes.specs.Fault.{Gives};
+ghost use Rattle.types_names.specs.Fault.{Gives};
 ghost use Rattle.program.specs.Widths.{source_width};
 ghost use Rattle.types.specs.Instruction as spec;
 
@@ -11,7 +11,7 @@ use program::{
     AllocaId, BinaryOperator, Conversion, Instruction, ObjectName, Phi, PhiEntry, Predicate,
     RegisterId, Step, Width, source_width,
 };
-use scopes::{
+use types_names::{
     Holding, Place, Scope, TypeFault, both, joined, pointer_misuse, resolve_address,
     resolve_inequalities, resolve_label, resolve_object, resolve_operand, resolve_register,
     type_mismatch, unless,

@@ -1,12 +1,12 @@
 //! Terminators.
 
 ghost use Rattle.std.specs.Prelude.{◌≡◌};
-ghost use Rattle.scopes.specs.Fault.{Gives};
+ghost use Rattle.types_names.specs.Fault.{Gives};
 ghost use Rattle.types.specs.Terminator as spec;
 
 use lists::{Name, Seq};
 use program::{Case, Ending, Terminator, Width};
-use scopes::{
+use types_names::{
     Place, Scope, TypeFault, both, fits_width, joined, resolve_condition, resolve_inequalities,
     resolve_label, resolve_operand, resolve_region, type_mismatch, unless,
 };

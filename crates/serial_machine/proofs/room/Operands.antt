@@ -1,6 +1,6 @@
 -- Numbers of i32 that an instruction reads are numbers of that type.
 use Rattle.std.proofs.Common.{◌≡◌, ℕ, List, Option, Some, None, true, refl, slice_get}
-use Rattle.running.specs.Frames.{Value, Word, Truth, Pointer, Region, Registers, Frame, Item, Does, Ends, and_then, item_of, item_at, word_of, word_at}
+use Rattle.semantics.specs.Frames.{Value, Word, Truth, Pointer, Region, Registers, Frame, Item, Does, Ends, and_then, item_of, item_at, word_of, word_at}
 use Rattle.program.specs.declared.function.Block.{Block}
 use Rattle.program.specs.declared.function.Function.{Function}
 use Rattle.program.specs.declared.function.Program.{Program}
@@ -13,10 +13,10 @@ use Rattle.program.specs.declared.instruction.Operand.TheVariants as operand
 use Rattle.syntax.specs.declared.operator.Width.{Width}
 use Rattle.syntax.specs.declared.operator.Width.TheVariants.{Bits64, Bits32}
 use Rattle.program.specs.Widths.{source_width}
-use Rattle.engine.specs.Operands.{FitsIn, ItemFits, OperandsFit}
-use Rattle.schedule_theorem.specs.typing.Kinds.{IsNumber, IsKinded}
-use Rattle.schedule_theorem.specs.kinds.Holding.{HoldKinds, holds_kind}
-use Rattle.schedule_theorem.proofs.kinds.Widths.{fits_signed}
+use Rattle.frame_engine.specs.Operands.{FitsIn, ItemFits, OperandsFit}
+use Rattle.laws_schedule.specs.typing.Kinds.{IsNumber, IsKinded}
+use Rattle.laws_schedule.specs.kinds.Holding.{HoldKinds, holds_kind}
+use Rattle.laws_schedule.proofs.kinds.Widths.{fits_signed}
 use Rattle.serial_machine.specs.Safe.{ItemsFit}
 
 -- ---- an operand

@@ -3,12 +3,12 @@ use Rattle.std.proofs.Common.{◌≡◌, ◌≢◌, ℕ, ◌≤◌, List, length
 use Rattle.std.specs.Prelude.{IsSome}
 use Rattle.syntax.specs.declared.operator.Mode.TheVariants.{Writes, Adds}
 use Rattle.linear.specs.declared.form.RegisterId.{RegisterId}
-use Rattle.running.specs.Arithmetic.{Trap}
-use Rattle.running.specs.Cells.{Object, Shared, Local, Cell, Memory}
-use Rattle.running.specs.Frames.{Value, Pointer, Frame, Item, Does, Ends, item_at, cells_of}
-use Rattle.running.specs.Effect.{Action, Plain, Detach, Reattach, Sync, Call, Return, action_of}
-use Rattle.running.specs.State.{State}
-use Rattle.running.specs.Paths.{Path}
+use Rattle.semantics.specs.Arithmetic.{Trap}
+use Rattle.semantics.specs.Cells.{Object, Shared, Local, Cell, Memory}
+use Rattle.semantics.specs.Frames.{Value, Pointer, Frame, Item, Does, Ends, item_at, cells_of}
+use Rattle.semantics.specs.Effect.{Action, Plain, Detach, Reattach, Sync, Call, Return, action_of}
+use Rattle.semantics.specs.State.{State}
+use Rattle.semantics.specs.Paths.{Path}
 use Rattle.program.specs.declared.function.Program.{Program}
 use Rattle.program.specs.declared.function.RegisterKind.{RegisterKind}
 use Rattle.program.specs.declared.function.RegisterKind.TheVariants as kind
@@ -18,34 +18,34 @@ use Rattle.program.specs.declared.instruction.Address.TheVariants as address
 use Rattle.program.specs.declared.instruction.Argument.TheVariants as argument
 use Rattle.program.specs.declared.instruction.Instruction.{Instruction}
 use Rattle.program.specs.declared.instruction.Instruction.TheVariants as instruction
-use Rattle.schedule_theorem.proofs.conditions.rules.Moves.{calls_here}
-use Rattle.schedule_theorem.specs.types.Apart.{InstructionNames}
-use Rattle.engine.specs.Shows.{Layout, KeepsWithin, NameIsWhole, NamesWhole, ItemWhole, TrapFree}
-use Rattle.schedule_theorem.specs.phase_laws.defined.Names.{IsNamed}
-use Rattle.schedule_theorem.specs.phase_laws.defined.Values.{NamesObjects}
-use Rattle.schedule_theorem.specs.phase_laws.facts.Traps.{IsReady}
-use Rattle.schedule_theorem.proofs.phase_laws.defined.Values.{passed_at, passed_object}
-use Rattle.schedule_theorem.specs.kinds.Holding.{HasKindedRegisters, HoldKinds, holds_kind}
-use Rattle.schedule_theorem.specs.kinds.Uses.{HasKindedUses}
-use Rattle.schedule_theorem.proofs.kinds.Uses.{uses_are_kinded}
-use Rattle.schedule_theorem.specs.safe.Objects.{HasCells}
-use Rattle.schedule_theorem.specs.safe.Sizes.{HasSizedUses}
-use Rattle.schedule_theorem.proofs.safe.Cells.{uses_there}
-use Rattle.schedule_theorem.proofs.safe.Objects.{object_cells}
-use Rattle.schedule_theorem.proofs.safe.Ready.{NoTrap, ready}
-use Rattle.schedule_theorem.proofs.safe.Sizes.{uses_are_sized}
-use Rattle.schedule_theorem.specs.typing.Kinds.{HasKinds, IsOfKind}
-use Rattle.schedule_theorem.specs.Promise.{AreTaken, HasGlobals, KeepsItsPromise}
-use Rattle.schedule_theorem.proofs.Accepted.{IsTaken, is_taken}
-use Rattle.schedule_theorem.proofs.Along.{Along, kept_along, kept_at_root}
-use Rattle.schedule_theorem.proofs.Bounds.{budget_bounded}
-use Rattle.schedule_theorem.proofs.Promise.{accepted_programs_keep_their_promise}
-use Rattle.schedule_theorem.proofs.Serially.{Found}
+use Rattle.laws_schedule.proofs.laws_conditions.rules.Moves.{calls_here}
+use Rattle.laws_schedule.specs.types.Apart.{InstructionNames}
+use Rattle.frame_engine.specs.Shows.{Layout, KeepsWithin, NameIsWhole, NamesWhole, ItemWhole, TrapFree}
+use Rattle.laws_schedule.specs.laws_phases.defined.Names.{IsNamed}
+use Rattle.laws_schedule.specs.laws_phases.defined.Values.{NamesObjects}
+use Rattle.laws_schedule.specs.laws_phases.facts.Traps.{IsReady}
+use Rattle.laws_schedule.proofs.laws_phases.defined.Values.{passed_at, passed_object}
+use Rattle.laws_schedule.specs.kinds.Holding.{HasKindedRegisters, HoldKinds, holds_kind}
+use Rattle.laws_schedule.specs.kinds.Uses.{HasKindedUses}
+use Rattle.laws_schedule.proofs.kinds.Uses.{uses_are_kinded}
+use Rattle.laws_schedule.specs.safe.Objects.{HasCells}
+use Rattle.laws_schedule.specs.safe.Sizes.{HasSizedUses}
+use Rattle.laws_schedule.proofs.safe.Cells.{uses_there}
+use Rattle.laws_schedule.proofs.safe.Objects.{object_cells}
+use Rattle.laws_schedule.proofs.safe.Ready.{NoTrap, ready}
+use Rattle.laws_schedule.proofs.safe.Sizes.{uses_are_sized}
+use Rattle.laws_schedule.specs.typing.Kinds.{HasKinds, IsOfKind}
+use Rattle.laws_schedule.specs.Promise.{AreTaken, HasGlobals, KeepsItsPromise}
+use Rattle.laws_schedule.proofs.Accepted.{IsTaken, is_taken}
+use Rattle.laws_schedule.proofs.Along.{Along, kept_along, kept_at_root}
+use Rattle.laws_schedule.proofs.Bounds.{budget_bounded}
+use Rattle.laws_schedule.proofs.Promise.{accepted_programs_keep_their_promise}
+use Rattle.laws_schedule.proofs.Serially.{Found}
 use Rattle.outcome.specs.verifier.Accepted.{IsProgramOf}
 use Rattle.outcome.specs.verifier.Budgets.{budget_of}
-use Rattle.serial_steps.specs.Steps.{Placed, Run, HasNoStep, IsStuck, Walk, starting}
-use Rattle.serial_steps.specs.Layouts.{frames_of, layout_of}
-use Rattle.serial_steps.specs.Shown.{CanGo, CanGoOn, IsOld}
+use Rattle.serial_stack.specs.Steps.{Placed, Run, HasNoStep, IsStuck, Walk, starting}
+use Rattle.serial_stack.specs.Layouts.{frames_of, layout_of}
+use Rattle.serial_stack.specs.Shown.{CanGo, CanGoOn, IsOld}
 use Rattle.serial_machine.specs.Safe.{HasCellsOf, RunsAreSafe}
 use Rattle.serial_machine.specs.walks.Along.{GoesOnTo, IsCounted}
 use Rattle.serial_machine.proofs.room.Operands.{function_there, items_fit}

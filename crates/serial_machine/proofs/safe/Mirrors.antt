@@ -1,22 +1,22 @@
 -- The stack of a serial run as a state of the tree of frames: each step over the stack is a step of the frame on top.
 use Rattle.std.proofs.Common.{◌≡◌, ℕ, suc, ◌<◌, ◌≤◌, List, ◌∷◌, length, Option, Some, None, Bool, true, false, cond, refl, ap, sym, ◌∙◌, subst, arith, ℤ}
 use Rattle.linear.specs.declared.form.RegisterId.{RegisterId}
-use Rattle.running.specs.Paths.{Path, Under, itself, deeper, same_path}
-use Rattle.running.specs.Cells.{Memory}
-use Rattle.running.specs.Frames.{Value, Registers, Free, OnCall}
-use Rattle.running.specs.Effect.{Effect, Action, Plain, Detach, Reattach, Sync, Call, Return, action_of}
-use Rattle.running.specs.SerialMeaning.{written, cleared}
-use Rattle.running.specs.State.{State, Change, apply, override, went, detached, continued, synced, called, waiting, resumed, wait_after, plain_change, detach_change, reattach_change, sync_change, call_change, return_change, start_state, may_go, childless}
-use Rattle.running.proofs.Actions.{reattach_is_child, return_is_body, same_path_itself}
-use Rattle.running.proofs.Places.{no_own_child, same_path_is}
-use Rattle.running.proofs.Steps.{Does, plain, detach, reattach, sync, call, ret}
+use Rattle.semantics.specs.Paths.{Path, Under, itself, deeper, same_path}
+use Rattle.semantics.specs.Cells.{Memory}
+use Rattle.semantics.specs.Frames.{Value, Registers, Free, OnCall}
+use Rattle.semantics.specs.Effect.{Effect, Action, Plain, Detach, Reattach, Sync, Call, Return, action_of}
+use Rattle.semantics.specs.SerialMeaning.{written, cleared}
+use Rattle.semantics.specs.State.{State, Change, apply, override, went, detached, continued, synced, called, waiting, resumed, wait_after, plain_change, detach_change, reattach_change, sync_change, call_change, return_change, start_state, may_go, childless}
+use Rattle.semantics.proofs.Actions.{reattach_is_child, return_is_body, same_path_itself}
+use Rattle.semantics.proofs.Places.{no_own_child, same_path_is}
+use Rattle.semantics.proofs.Steps.{Does, plain, detach, reattach, sync, call, ret}
 use Rattle.program.specs.declared.function.Program.{Program}
-use Rattle.schedule_theorem.specs.phase_laws.defined.Names.{IsNamed}
-use Rattle.schedule_theorem.specs.phase_laws.defined.Values.{NamesObjects}
-use Rattle.schedule_theorem.specs.safe.Objects.{KnowsObjects}
-use Rattle.schedule_theorem.proofs.safe.Objects.{Known, known_kept, first_known}
-use Rattle.serial_steps.specs.Steps as stack
-use Rattle.serial_steps.specs.Steps.{Placed, Run, Goes, Walk, begins, goes_on, starting}
+use Rattle.laws_schedule.specs.laws_phases.defined.Names.{IsNamed}
+use Rattle.laws_schedule.specs.laws_phases.defined.Values.{NamesObjects}
+use Rattle.laws_schedule.specs.safe.Objects.{KnowsObjects}
+use Rattle.laws_schedule.proofs.safe.Objects.{Known, known_kept, first_known}
+use Rattle.serial_stack.specs.Steps as stack
+use Rattle.serial_stack.specs.Steps.{Placed, Run, Goes, Walk, begins, goes_on, starting}
 use Rattle.serial_machine.proofs.safe.Stacks.{at_path, Stacked, stack_of, higher, lower, none_higher, on_top, no_children, IsAwake, may, none_left, put, put_two, gone, handed, AreOwners}
 
 pub under_long : (x y : Path) → Under x y → length x ≤ length y

@@ -1,19 +1,19 @@
 -- The cells that a frame may use are cells of the layout of its stack.
 use Rattle.std.proofs.Common.{◌≡◌, ℕ, zero, suc, ◌≤◌, List, [], ◌∷◌, length, map, Option, Some, None, Bool, true, false, cond, refl, ap, sym, ◌∙◌, subst, arith, slice_get}
-use Rattle.running.specs.Paths.{Path, same_path}
-use Rattle.running.specs.Cells.{Object, Shared, Local, Cell}
-use Rattle.running.specs.Frames.{Role, Child, Body, Frame, alloca_cells, cells_in, cells_of}
-use Rattle.running.proofs.Places.{same_path_is}
+use Rattle.semantics.specs.Paths.{Path, same_path}
+use Rattle.semantics.specs.Cells.{Object, Shared, Local, Cell}
+use Rattle.semantics.specs.Frames.{Role, Child, Body, Frame, alloca_cells, cells_in, cells_of}
+use Rattle.semantics.proofs.Places.{same_path_is}
 use Rattle.program.specs.declared.function.Alloca.{Alloca}
 use Rattle.program.specs.declared.function.Function.{Function}
 use Rattle.program.specs.declared.function.Program.{Program}
 use Rattle.program.specs.declared.identifier.ObjectName.TheVariants as object
-use Rattle.engine.specs.Shows.{Layout, IsIn}
-use Rattle.schedule_theorem.specs.phase_laws.defined.Names.{IsNamed}
-use Rattle.schedule_theorem.specs.phase_laws.defined.Values.{NamesObjects}
-use Rattle.schedule_theorem.specs.safe.Objects.{HasCells, HasCell}
-use Rattle.serial_steps.specs.Steps.{Placed, Run}
-use Rattle.serial_steps.specs.Layouts.{size_in, alloca_sizes, allocas_in, with_allocas, for_body, end_of, layout_of, frames_of}
+use Rattle.frame_engine.specs.Shows.{Layout, IsIn}
+use Rattle.laws_schedule.specs.laws_phases.defined.Names.{IsNamed}
+use Rattle.laws_schedule.specs.laws_phases.defined.Values.{NamesObjects}
+use Rattle.laws_schedule.specs.safe.Objects.{HasCells, HasCell}
+use Rattle.serial_stack.specs.Steps.{Placed, Run}
+use Rattle.serial_stack.specs.Layouts.{size_in, alloca_sizes, allocas_in, with_allocas, for_body, end_of, layout_of, frames_of}
 use Rattle.serial_machine.specs.Safe.{HasCellsOf}
 use Rattle.serial_machine.proofs.safe.Stacks.{at_path, IsOwner, AreOwners}
 use Rattle.serial_machine.proofs.safe.Mirrors.{Mirrors}

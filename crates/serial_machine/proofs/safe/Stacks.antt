@@ -1,12 +1,12 @@
 -- The frames of a stack by their paths: each was made by the one below it.
 use Rattle.std.proofs.Common.{◌≡◌, ℕ, zero, suc, ◌<◌, ◌≤◌, List, [], ◌∷◌, length, Option, Some, None, Bool, true, false, cond, is_none, refl, ap, sym, ◌∙◌, arith}
 use Rattle.std.specs.Prelude.{⊤}
-use Rattle.running.specs.Paths.{Path, same_path}
-use Rattle.running.specs.Frames.{Wait, Free, OnRegion, OnCall, Halted, Role, Child, Body, Frame}
-use Rattle.running.specs.State.{State, all_below, may_go, childless, outside, override}
-use Rattle.running.proofs.Actions.{same_path_itself}
-use Rattle.running.proofs.Places.{same_path_apart}
-use Rattle.serial_steps.specs.Steps.{Placed, Run}
+use Rattle.semantics.specs.Paths.{Path, same_path}
+use Rattle.semantics.specs.Frames.{Wait, Free, OnRegion, OnCall, Halted, Role, Child, Body, Frame}
+use Rattle.semantics.specs.State.{State, all_below, may_go, childless, outside, override}
+use Rattle.semantics.proofs.Actions.{same_path_itself}
+use Rattle.semantics.proofs.Places.{same_path_apart}
+use Rattle.serial_stack.specs.Steps.{Placed, Run}
 
 abbrev pub at_path : List Placed → Path → Option Frame
 at_path [] x = None

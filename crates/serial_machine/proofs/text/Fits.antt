@@ -6,8 +6,8 @@ use Rattle.std.proofs.lemmas.List.{length-map}
 use Rattle.std.proofs.lemmas.List.Elements.{All-contains}
 use Rattle.std.proofs.lemmas.Option.{slice_get_within, slice_get-map}
 use Rattle.linear.specs.declared.form.RegisterId.{RegisterId}
-use Rattle.running.specs.Frames.{Does, Ends, and_then, item_of, item_at, phis_at, block_phis}
-use Rattle.running.specs.Effect.{entry_for}
+use Rattle.semantics.specs.Frames.{Does, Ends, and_then, item_of, item_at, phis_at, block_phis}
+use Rattle.semantics.specs.Effect.{entry_for}
 use Rattle.syntax.specs.declared.operator.Width.{Width}
 use Rattle.syntax.specs.declared.operator.Width.TheVariants.{Bits64}
 use Rattle.program.specs.declared.function.Alloca.{Alloca}
@@ -31,33 +31,33 @@ use Rattle.program.specs.declared.instruction.Phi.{Phi}
 use Rattle.program.specs.declared.instruction.Step.{Step}
 use Rattle.program.specs.declared.instruction.Terminator.{Terminator}
 use Rattle.program.specs.declared.instruction.Terminator.TheVariants as terminator
-use Rattle.schedule_theorem.specs.types.Apart.{InstructionNames}
+use Rattle.laws_schedule.specs.types.Apart.{InstructionNames}
 use Rattle.program.specs.Calls.{parameters_in}
-use Rattle.schedule_theorem.specs.phase_laws.cfg.Rules.{IsFunctionRight}
-use Rattle.schedule_theorem.specs.phase_laws.cfg.declared.structure.Way.{Way}
-use Rattle.schedule_theorem.specs.phase_laws.cfg.declared.structure.Way.TheVariants as way
-use Rattle.schedule_theorem.specs.phase_laws.defined.Leads.{IsBlock, LeadsTo}
-use Rattle.schedule_theorem.proofs.phase_laws.defined.Items.{block_is, is_block, function_there, item_there, edge_behind}
-use Rattle.schedule_theorem.proofs.phase_laws.defined.Lists.{at_within}
-use Rattle.schedule_theorem.specs.kinds.Uses.{HasKindedUses, address_in}
-use Rattle.schedule_theorem.proofs.kinds.Needed.{entry_there}
-use Rattle.schedule_theorem.proofs.kinds.Registers.{entry_kinded}
-use Rattle.schedule_theorem.proofs.kinds.Uses.{uses_are_kinded}
-use Rattle.schedule_theorem.proofs.safe.Bounds.{registers_bound}
-use Rattle.schedule_theorem.proofs.safe.Registers.{first_named}
-use Rattle.schedule_theorem.specs.typing.Kinds.{HasKinds, IsKinded, IsKindedEnd, IsNumber, IsNumberIfAny, IsOfKind, IsResult}
-use Rattle.schedule_theorem.proofs.typing.Lists.{there}
-use Rattle.schedule_theorem.proofs.Accepted.{IsTaken, is_taken}
+use Rattle.laws_schedule.specs.laws_phases.cfg.Rules.{IsFunctionRight}
+use Rattle.laws_schedule.specs.laws_phases.cfg.declared.structure.Way.{Way}
+use Rattle.laws_schedule.specs.laws_phases.cfg.declared.structure.Way.TheVariants as way
+use Rattle.laws_schedule.specs.laws_phases.defined.Leads.{IsBlock, LeadsTo}
+use Rattle.laws_schedule.proofs.laws_phases.defined.Items.{block_is, is_block, function_there, item_there, edge_behind}
+use Rattle.laws_schedule.proofs.laws_phases.defined.Lists.{at_within}
+use Rattle.laws_schedule.specs.kinds.Uses.{HasKindedUses, address_in}
+use Rattle.laws_schedule.proofs.kinds.Needed.{entry_there}
+use Rattle.laws_schedule.proofs.kinds.Registers.{entry_kinded}
+use Rattle.laws_schedule.proofs.kinds.Uses.{uses_are_kinded}
+use Rattle.laws_schedule.proofs.safe.Bounds.{registers_bound}
+use Rattle.laws_schedule.proofs.safe.Registers.{first_named}
+use Rattle.laws_schedule.specs.typing.Kinds.{HasKinds, IsKinded, IsKindedEnd, IsNumber, IsNumberIfAny, IsOfKind, IsResult}
+use Rattle.laws_schedule.proofs.typing.Lists.{there}
+use Rattle.laws_schedule.proofs.Accepted.{IsTaken, is_taken}
 use Rattle.outcome.specs.verifier.Accepted.{IsProgramOf}
-use Rattle.engine.specs.declared.activation.Places.{Places}
-use Rattle.engine.specs.Activation.{allocas_of, or_none}
-use Rattle.engine.specs.Fits.{BlockFits, EdgeFits, EndingFits, HasEnding, HasEntry, HasPhi, HasReturned}
-use Rattle.engine.specs.Names.{Sizes, sizes, HasAddress, HasArgument, HasNames, HasObject, HasOperand, HasResult}
-use Rattle.engine.specs.Starts.{alloca_starts, starts_from}
-use Rattle.serial_steps.specs.Shown.{TextFits}
+use Rattle.frame_engine.specs.declared.activation.Places.{Places}
+use Rattle.frame_engine.specs.Activation.{allocas_of, or_none}
+use Rattle.frame_engine.specs.Fits.{BlockFits, EdgeFits, EndingFits, HasEnding, HasEntry, HasPhi, HasReturned}
+use Rattle.frame_engine.specs.Names.{Sizes, sizes, HasAddress, HasArgument, HasNames, HasObject, HasOperand, HasResult}
+use Rattle.frame_engine.specs.Starts.{alloca_starts, starts_from}
+use Rattle.serial_stack.specs.Shown.{TextFits}
 use Rattle.serial_machine.specs.Safe.{HasMoves, TextsFit}
 use Rattle.serial_machine.proofs.text.Named.{IsThere, alloca_named, object_named}
-use Rattle.engine.proofs.Turns.{item_end}
+use Rattle.frame_engine.proofs.Turns.{item_end}
 
 -- ---- registers
 

@@ -7,7 +7,7 @@ use Rattle.std.proofs.lemmas.List.Elements.{All-contains}
 use Rattle.std.specs.Option.{option_map}
 use Rattle.std.proofs.lemmas.Option.{slice_get_within, slice_get-map}
 use Rattle.linear.specs.declared.form.RegisterId.{RegisterId}
-use Rattle.running.specs.Frames.{Does, item_at, global_cells, alloca_cells, parameter_cells, cells_in, cells_of}
+use Rattle.semantics.specs.Frames.{Does, item_at, global_cells, alloca_cells, parameter_cells, cells_in, cells_of}
 use Rattle.program.specs.declared.function.Alloca.{Alloca}
 use Rattle.program.specs.declared.function.Function.{Function}
 use Rattle.program.specs.declared.function.Global.{Global}
@@ -23,36 +23,36 @@ use Rattle.syntax.specs.declared.instruction.Instruction.TheVariants as text
 use Rattle.syntax.specs.declared.module.Function.{Function as FunctionText}
 use Rattle.syntax.specs.declared.module.Global.{Global as GlobalText}
 use Rattle.syntax.specs.declared.module.Module.{Module}
-use Rattle.schedule_theorem.specs.ir_reader.Kept.{IsGlobalWritten, IsKeptModule}
-use Rattle.schedule_theorem.proofs.ir_reader.Keeping.{answers_kept}
-use Rattle.schedule_theorem.specs.refusal.declared.refused.Refused.{Refused as TypeFault}
-use Rattle.schedule_theorem.specs.refusal.declared.refused.Refused.TheVariants.{Fault}
-use Rattle.schedule_theorem.specs.scopes.declared.scope.Holding.{Holding}
-use Rattle.schedule_theorem.specs.scopes.declared.scope.Holding.TheVariants as holding
-use Rattle.schedule_theorem.specs.scopes.declared.scope.Named.TheVariants as named_as
-use Rattle.schedule_theorem.specs.scopes.declared.scope.Register.{Register}
-use Rattle.schedule_theorem.specs.scopes.declared.address.WholeObject.{WholeObject}
-use Rattle.schedule_theorem.specs.scopes.Address.{object_of}
-use Rattle.schedule_theorem.specs.scopes.Fault.{both_of, made_of, unless_of}
-use Rattle.schedule_theorem.specs.scopes.Item.{items_of}
-use Rattle.schedule_theorem.specs.scopes.Layout.{layout_of}
-use Rattle.schedule_theorem.specs.scopes.Operand.{register_of}
-use Rattle.schedule_theorem.specs.scopes.Scope.{Scope}
-use Rattle.schedule_theorem.proofs.scopes.Inversion.{made_ok, then_ok, both_ok, same_ok, err_not_ok}
-use Rattle.schedule_theorem.specs.types.Apart.{InstructionNames}
-use Rattle.schedule_theorem.specs.types.Call.{Named}
-use Rattle.schedule_theorem.specs.types.Instruction.{defined_of, as_alloca, alloca_id_of, instruction_of}
-use Rattle.schedule_theorem.specs.types.Meaning.{Means, global_of}
-use Rattle.schedule_theorem.proofs.types.Scopes.{register_found}
-use Rattle.schedule_theorem.proofs.phase_laws.defined.Items.{stands, step_there}
-use Rattle.schedule_theorem.proofs.phase_laws.defined.Lists.{at_within}
-use Rattle.schedule_theorem.proofs.typing.Calls.{instruction_at}
-use Rattle.schedule_theorem.proofs.typing.Objects.{cells_are}
-use Rattle.schedule_theorem.proofs.typing.Parts.{function_from, block_from, step_from}
-use Rattle.schedule_theorem.proofs.typing.Positive.{object_positive}
-use Rattle.schedule_theorem.proofs.typing.Registers.{kept_function}
-use Rattle.schedule_theorem.proofs.typing.Scoping.{IsNamedRight, HoldsRight, IsOwnObject, named_found, layout_right}
-use Rattle.schedule_theorem.proofs.typing.Sized.{named_sized}
+use Rattle.laws_schedule.specs.ir_reader.Kept.{IsGlobalWritten, IsKeptModule}
+use Rattle.laws_schedule.proofs.ir_reader.Keeping.{answers_kept}
+use Rattle.laws_schedule.specs.refusal.declared.refused.Refused.{Refused as TypeFault}
+use Rattle.laws_schedule.specs.refusal.declared.refused.Refused.TheVariants.{Fault}
+use Rattle.laws_schedule.specs.types_names.declared.scope.Holding.{Holding}
+use Rattle.laws_schedule.specs.types_names.declared.scope.Holding.TheVariants as holding
+use Rattle.laws_schedule.specs.types_names.declared.scope.Named.TheVariants as named_as
+use Rattle.laws_schedule.specs.types_names.declared.scope.Register.{Register}
+use Rattle.laws_schedule.specs.types_names.declared.address.WholeObject.{WholeObject}
+use Rattle.laws_schedule.specs.types_names.Address.{object_of}
+use Rattle.laws_schedule.specs.types_names.Fault.{both_of, made_of, unless_of}
+use Rattle.laws_schedule.specs.types_names.Item.{items_of}
+use Rattle.laws_schedule.specs.types_names.Layout.{layout_of}
+use Rattle.laws_schedule.specs.types_names.Operand.{register_of}
+use Rattle.laws_schedule.specs.types_names.Scope.{Scope}
+use Rattle.laws_schedule.proofs.types_names.Inversion.{made_ok, then_ok, both_ok, same_ok, err_not_ok}
+use Rattle.laws_schedule.specs.types.Apart.{InstructionNames}
+use Rattle.laws_schedule.specs.types.Call.{Named}
+use Rattle.laws_schedule.specs.types.Instruction.{defined_of, as_alloca, alloca_id_of, instruction_of}
+use Rattle.laws_schedule.specs.types.Meaning.{Means, global_of}
+use Rattle.laws_schedule.proofs.types.Scopes.{register_found}
+use Rattle.laws_schedule.proofs.laws_phases.defined.Items.{stands, step_there}
+use Rattle.laws_schedule.proofs.laws_phases.defined.Lists.{at_within}
+use Rattle.laws_schedule.proofs.typing.Calls.{instruction_at}
+use Rattle.laws_schedule.proofs.typing.Objects.{cells_are}
+use Rattle.laws_schedule.proofs.typing.Parts.{function_from, block_from, step_from}
+use Rattle.laws_schedule.proofs.typing.Positive.{object_positive}
+use Rattle.laws_schedule.proofs.typing.Registers.{kept_function}
+use Rattle.laws_schedule.proofs.typing.Scoping.{IsNamedRight, HoldsRight, IsOwnObject, named_found, layout_right}
+use Rattle.laws_schedule.proofs.typing.Sized.{named_sized}
 use Rattle.outcome.specs.verifier.Accepted.{IsProgramOf}
 
 -- ---- what has cells is there

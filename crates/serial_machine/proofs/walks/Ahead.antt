@@ -1,16 +1,16 @@
 -- The steps of a serial run, forwards: from the rest of the run before a step to the rest after it, which has one instruction less.
 use Rattle.std.proofs.Common.{◌≡◌, ℕ, suc, ◌+◌, ◌<◌, ◌≤◌, max, List, [], ◌∷◌, length, Option, Some, None, is_some, true, refl, ap, sym, ◌∙◌, subst, arith, ℤ}
-use Rattle.running.specs.Paths.{Path}
-use Rattle.running.specs.Cells.{Memory}
-use Rattle.running.specs.Frames.{Wait, Free, OnRegion, OnCall, Halted, Frame}
-use Rattle.running.specs.Effect.{Action, Plain, Detach, Reattach, Sync, Call, Return, action_of}
-use Rattle.running.specs.State.{went, detached, continued, synced, called, waiting, resumed}
-use Rattle.running.specs.SerialMeaning.{Ending, Left, Gave, Outcome, written, cleared}
-use Rattle.running.specs.SerialMeaning.{one_more, both_outcomes, at_last}
+use Rattle.semantics.specs.Paths.{Path}
+use Rattle.semantics.specs.Cells.{Memory}
+use Rattle.semantics.specs.Frames.{Wait, Free, OnRegion, OnCall, Halted, Frame}
+use Rattle.semantics.specs.Effect.{Action, Plain, Detach, Reattach, Sync, Call, Return, action_of}
+use Rattle.semantics.specs.State.{went, detached, continued, synced, called, waiting, resumed}
+use Rattle.semantics.specs.SerialMeaning.{Ending, Left, Gave, Outcome, written, cleared}
+use Rattle.semantics.specs.SerialMeaning.{one_more, both_outcomes, at_last}
 use Rattle.linear.specs.declared.form.RegisterId.{RegisterId}
 use Rattle.program.specs.declared.function.Program.{Program}
-use Rattle.serial_steps.specs.Steps.{Placed, Run, Goes, plain, sync, detach, call, reattach, ret, IsNotFree, IsNotCalling, HasNoStep, Walk, begins, goes_on, starting}
-use Rattle.serial_steps.proofs.Walks.{ComesTo, over, GoesOn, Rests, rests_deep, outcome_is}
+use Rattle.serial_stack.specs.Steps.{Placed, Run, Goes, plain, sync, detach, call, reattach, ret, IsNotFree, IsNotCalling, HasNoStep, Walk, begins, goes_on, starting}
+use Rattle.serial_stack.proofs.Walks.{ComesTo, over, GoesOn, Rests, rests_deep, outcome_is}
 use Rattle.serial_machine.specs.walks.Along.{GoesOnTo, WalksGoOn}
 use Rattle.serial_machine.proofs.walks.Apart.{meaning_means, plain_apart, sync_apart, detach_apart, call_apart, reattach_apart, return_apart}
 

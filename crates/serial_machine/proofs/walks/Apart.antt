@@ -1,16 +1,16 @@
 -- The outcome of a frame, taken apart by the frame's action: what its first instruction leaves, and the outcomes that it is made of.
 use Rattle.std.proofs.Common.{◌≡◌, ℕ, zero, suc, ◌≤◌, max, List, ◌∷◌, Option, Some, None, ap, sym, ◌∙◌, subst, arith, ℤ}
-use Rattle.running.specs.Paths.{Path}
-use Rattle.running.specs.Cells.{Memory}
-use Rattle.running.specs.Frames.{Value, Registers, Frame}
-use Rattle.running.specs.Effect.{Effect, Action, Plain, Detach, Reattach, Sync, Call, Return, action_of}
-use Rattle.running.specs.State.{went, detached, continued, synced, called, waiting, resumed}
-use Rattle.running.specs.SerialMeaning.{Left, Gave, Outcome, written, cleared, by_action, meaning}
-use Rattle.running.specs.SerialMeaning.{one_more, both_outcomes, at_last}
-use Rattle.running.proofs.Outcomes.{counted_is, joined_is, from_effect, from_child, from_call, from_last}
+use Rattle.semantics.specs.Paths.{Path}
+use Rattle.semantics.specs.Cells.{Memory}
+use Rattle.semantics.specs.Frames.{Value, Registers, Frame}
+use Rattle.semantics.specs.Effect.{Effect, Action, Plain, Detach, Reattach, Sync, Call, Return, action_of}
+use Rattle.semantics.specs.State.{went, detached, continued, synced, called, waiting, resumed}
+use Rattle.semantics.specs.SerialMeaning.{Left, Gave, Outcome, written, cleared, by_action, meaning}
+use Rattle.semantics.specs.SerialMeaning.{one_more, both_outcomes, at_last}
+use Rattle.semantics.proofs.Outcomes.{counted_is, joined_is, from_effect, from_child, from_call, from_last}
 use Rattle.linear.specs.declared.form.RegisterId.{RegisterId}
 use Rattle.program.specs.declared.function.Program.{Program}
-use Rattle.serial_steps.proofs.Walks.{ComesTo}
+use Rattle.serial_stack.proofs.Walks.{ComesTo}
 
 -- ---- each outcome has a frame
 

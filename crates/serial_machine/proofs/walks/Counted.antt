@@ -1,17 +1,17 @@
 -- Places, frames made and frames below are no more than the steps.
 use Rattle.std.proofs.Common.{◌≡◌, ℕ, suc, ◌≤◌, List, [], ◌∷◌, length, Option, Some, None, Bool, true, false, cond, ◌&&◌, ap, subst, arith, ℤ, pos, int_lt, int_le, eqb}
-use Rattle.running.specs.Paths.{Path, same_path}
-use Rattle.running.specs.Cells.{Object, Cell, Memory}
-use Rattle.running.specs.Arithmetic.{Answer, Gives, Traps, binary}
-use Rattle.running.specs.Frames.{Value, Registers, Role, Child, Body, Frame, Item, Does, Ends, item_at, word_at, object_at, cell_at, cells_of, truth_of, region_of}
-use Rattle.running.specs.Effect.{Effect, Action, Plain, Detach, Reattach, Sync, Call, Return, given, answers, points, loads, adds_to, enters, jumps, case_for, if_own, syncs, calls, returns, returns_value, reattaches, registers_along, argument_values, instruction_action, terminator_action, item_action, action_of}
+use Rattle.semantics.specs.Paths.{Path, same_path}
+use Rattle.semantics.specs.Cells.{Object, Cell, Memory}
+use Rattle.semantics.specs.Arithmetic.{Answer, Gives, Traps, binary}
+use Rattle.semantics.specs.Frames.{Value, Registers, Role, Child, Body, Frame, Item, Does, Ends, item_at, word_at, object_at, cell_at, cells_of, truth_of, region_of}
+use Rattle.semantics.specs.Effect.{Effect, Action, Plain, Detach, Reattach, Sync, Call, Return, given, answers, points, loads, adds_to, enters, jumps, case_for, if_own, syncs, calls, returns, returns_value, reattaches, registers_along, argument_values, instruction_action, terminator_action, item_action, action_of}
 use Rattle.linear.specs.declared.form.RegisterId.{RegisterId}
 use Rattle.program.specs.declared.function.Program.{Program}
 use Rattle.program.specs.declared.instruction.Instruction.{Instruction}
 use Rattle.program.specs.declared.instruction.Instruction.TheVariants as instruction
 use Rattle.program.specs.declared.instruction.Terminator.{Terminator}
 use Rattle.program.specs.declared.instruction.Terminator.TheVariants as terminator
-use Rattle.serial_steps.specs.Steps.{Placed, Run, Goes, plain, sync, detach, call, reattach, ret, Walk, begins, goes_on, starting}
+use Rattle.serial_stack.specs.Steps.{Placed, Run, Goes, plain, sync, detach, call, reattach, ret, Walk, begins, goes_on, starting}
 use Rattle.serial_machine.specs.walks.Along.{IsWithin, AreWithin, IsCounted, WalksCount}
 
 -- ---- an instruction goes one place on at most

@@ -1,17 +1,17 @@
 -- What a serial run keeps holds of the frame on top of each stack: and of each frame below, once those above it are done.
 use Rattle.std.proofs.Common.{◌≡◌, ℕ, true, List, [], ◌∷◌, Option, refl, subst}
 use Rattle.std.specs.Prelude.{⊤}
-use Rattle.running.specs.Paths.{Path}
-use Rattle.running.specs.Cells.{Memory}
-use Rattle.running.specs.Frames.{Value, Wait, Free, OnRegion, OnCall, Halted, Frame}
-use Rattle.running.specs.Effect.{Detach, Call, action_of}
-use Rattle.running.specs.State.{went, detached, continued, synced, called, waiting, resumed}
-use Rattle.running.specs.SerialMeaning.{Ending, Left, Gave, Outcome, written, cleared}
-use Rattle.schedule_theorem.specs.conditions.theorem.SerialConditions.{Says, Finds, Nothing, KeptSerially}
-use Rattle.running.specs.SerialMeaning.{one_more, both_outcomes, at_last}
+use Rattle.semantics.specs.Paths.{Path}
+use Rattle.semantics.specs.Cells.{Memory}
+use Rattle.semantics.specs.Frames.{Value, Wait, Free, OnRegion, OnCall, Halted, Frame}
+use Rattle.semantics.specs.Effect.{Detach, Call, action_of}
+use Rattle.semantics.specs.State.{went, detached, continued, synced, called, waiting, resumed}
+use Rattle.semantics.specs.SerialMeaning.{Ending, Left, Gave, Outcome, written, cleared}
+use Rattle.laws_schedule.specs.laws_conditions.theorem.SerialConditions.{Says, Finds, Nothing, KeptSerially}
+use Rattle.semantics.specs.SerialMeaning.{one_more, both_outcomes, at_last}
 use Rattle.linear.specs.declared.form.RegisterId.{RegisterId}
 use Rattle.program.specs.declared.function.Program.{Program}
-use Rattle.serial_steps.specs.Steps.{Placed, Run, Goes, plain, sync, detach, call, reattach, ret, Walk, begins, goes_on, starting}
+use Rattle.serial_stack.specs.Steps.{Placed, Run, Goes, plain, sync, detach, call, reattach, ret, Walk, begins, goes_on, starting}
 use Rattle.serial_machine.specs.walks.Along.{WalksKeepTests, KeepsAlong}
 
 -- so it is whatever is kept

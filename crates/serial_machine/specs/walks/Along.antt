@@ -1,13 +1,13 @@
 -- The laws: what holds of each run that steps over a stack of frames lead to, from the start of a serial run on.
 use Rattle.std.specs.Prelude.{◌≡◌, ⊤, ℕ, suc, ◌<◌, ◌≤◌, Bool, true, List, [], ◌∷◌, length, Some, ℤ}
-use Rattle.running.specs.Paths.{Path}
-use Rattle.running.specs.Cells.{Memory, globals_of}
-use Rattle.running.specs.Frames.{Frame}
-use Rattle.schedule_theorem.specs.conditions.theorem.SerialConditions.{Says, Finds, Nothing, KeptSerially}
-use Rattle.running.specs.SerialMeaning.{Gave, Outcome, IsSerialMeaning}
-use Rattle.running.specs.State.{root_frame}
+use Rattle.semantics.specs.Paths.{Path}
+use Rattle.semantics.specs.Cells.{Memory, globals_of}
+use Rattle.semantics.specs.Frames.{Frame}
+use Rattle.laws_schedule.specs.laws_conditions.theorem.SerialConditions.{Says, Finds, Nothing, KeptSerially}
+use Rattle.semantics.specs.SerialMeaning.{Gave, Outcome, IsSerialMeaning}
+use Rattle.semantics.specs.State.{root_frame}
 use Rattle.program.specs.declared.function.Program.{Program}
-use Rattle.serial_steps.specs.Steps.{Placed, Run, IsStuck, Walk, starting}
+use Rattle.serial_stack.specs.Steps.{Placed, Run, IsStuck, Walk, starting}
 
 -- after n steps of a serial run whose outcome is o: one more instruction is left at least, and there are no more frames than o has
 pub record GoesOnTo (prog : Program) (o : Outcome) (n : ℕ) (s : Run) : Type 0 where

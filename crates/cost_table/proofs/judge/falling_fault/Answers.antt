@@ -1,6 +1,6 @@
 use Rattle.std.proofs.Common.{◌∙◌, List, ap, arith}
 use Rattle.ranges.specs.cfg.declared.structure.Move.{Move}
-use Rattle.ranges.specs.obligations.Inequalities.{argument_moves}
+use Rattle.ranges.specs.ranges_owed.Inequalities.{argument_moves}
 use Rattle.ranges.specs.Sums.{shows}
 use Rattle.cost_table.specs.Rules.{left_behind, less_form, put_in}
 use Rattle.cost_table.proofs.Judging.{pair_named}

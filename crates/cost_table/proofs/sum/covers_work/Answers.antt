@@ -2,10 +2,10 @@ use Rattle.std.proofs.Common.{◌≡◌, ◌∙◌, ℕ, ◌<◌, ◌^◌, ℤ, 
 use Rattle.std.specs.Prelude.{unsigned_abs}
 use Rattle.std.specs.Int.{w128}
 use Rattle.std.proofs.lemmas.Int.{ints, to_z-of_z}
-use Rattle.ranges.specs.obligations.declared.sum.Part.{Part}
-use Rattle.ranges.specs.obligations.declared.sum.Sum.{Sum}
+use Rattle.ranges.specs.ranges_owed.declared.sum.Part.{Part}
+use Rattle.ranges.specs.ranges_owed.declared.sum.Sum.{Sum}
 use Rattle.ranges.specs.Sums.{shows}
-use Rattle.ranges.specs.obligations.Inequalities.{parts_of}
+use Rattle.ranges.specs.ranges_owed.Inequalities.{parts_of}
 use Rattle.cost_table.specs.Rules.{left_behind}
 use Rattle.cost_table.specs.Tables.{as_u128}
 use Rattle.cost_table.proofs.Judging.{if_ok_to}

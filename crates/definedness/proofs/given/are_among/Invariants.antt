@@ -1,6 +1,6 @@
 use Rattle.std.proofs.Common.{◌≡◌, true, take}
 use Rattle.std.specs.List.{list_all}
-use Rattle.alloca_labels.specs.Sets.{has}
+use Rattle.definedness_allocas.specs.Sets.{has}
 use Rattle.definedness.proofs.given.are_among.Given as goal
 
 abbrev pub invariant-loop-place : goal.invariant-loop-place

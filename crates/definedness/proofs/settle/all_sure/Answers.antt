@@ -1,6 +1,6 @@
 use Rattle.std.proofs.Common.{◌≡◌, [], ◌∙◌, arith}
 use Rattle.std.proofs.lemmas.List.{length-replicate, get_or-replicate, replicate_more}
-use Rattle.alloca_labels.specs.declared.sets.Label.TheVariants.{Sure, Due}
+use Rattle.definedness_allocas.specs.declared.sets.Label.TheVariants.{Sure, Due}
 use Rattle.definedness.proofs.settle.all_sure.Goals as goal
 
 pub loop-block-preserved : goal.loop-block-preserved

@@ -1,5 +1,5 @@
 use Rattle.std.proofs.Common.{◌≡◌, replicate}
-use Rattle.alloca_labels.specs.declared.sets.Label.TheVariants.{Sure}
+use Rattle.definedness_allocas.specs.declared.sets.Label.TheVariants.{Sure}
 use Rattle.definedness.proofs.settle.all_sure.Given as goal
 
 abbrev pub invariant-loop-block : goal.invariant-loop-block

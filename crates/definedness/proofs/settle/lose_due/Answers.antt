@@ -1,5 +1,5 @@
 use Rattle.std.proofs.Common.{◌<◌, length, inl, inr, refl, sym, ◌∙◌}
-use Rattle.alloca_labels.specs.Sets.{due_in, label_at}
+use Rattle.definedness_allocas.specs.Sets.{due_in, label_at}
 use Rattle.definedness.specs.Settling.{due_and_given}
 use Rattle.definedness.proofs.Due.{due_within, kept_same, kept_fewer}
 use Rattle.definedness.proofs.OnOk.{on_ok_three}

@@ -1,7 +1,7 @@
 use Rattle.std.proofs.Common.{◌≡◌, true, List, Option, subst, arith}
 use Rattle.linear.specs.declared.form.RegisterId.{RegisterId}
-use Rattle.alloca_labels.specs.declared.sets.Label.TheVariants.{Due}
-use Rattle.alloca_labels.specs.Sets.{label_in, label_of}
+use Rattle.definedness_allocas.specs.declared.sets.Label.TheVariants.{Due}
+use Rattle.definedness_allocas.specs.Sets.{label_in, label_of}
 use Rattle.definedness.proofs.Greatest.{fit_start, settling_start, settling_next, settling_done}
 use Rattle.definedness.proofs.settle.settle.Goals as goal
 

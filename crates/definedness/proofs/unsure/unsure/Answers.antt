@@ -1,5 +1,5 @@
 use Rattle.std.proofs.Common.{None}
-use Rattle.alloca_labels.specs.Sets.{label_of}
+use Rattle.definedness_allocas.specs.Sets.{label_of}
 use Rattle.definedness.proofs.NeverSure.{unsure_more}
 use Rattle.definedness.proofs.unsure.unsure.Goals as goal
 

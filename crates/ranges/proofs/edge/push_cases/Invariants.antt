@@ -1,6 +1,6 @@
 use Rattle.std.proofs.Common.{◌≡◌, ◌++◌, map, take}
 use Rattle.program.specs.declared.instruction.Case.{Case}
-use Rattle.obligations.specs.cfg.declared.structure.Way.TheVariants.{Branch}
+use Rattle.ranges_owed.specs.cfg.declared.structure.Way.TheVariants.{Branch}
 use Rattle.ranges.specs.Edges.{edge_to, case_sums}
 use Rattle.ranges.proofs.edge.push_cases.Given as goal
 

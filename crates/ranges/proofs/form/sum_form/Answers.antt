@@ -1,6 +1,6 @@
 use Rattle.std.proofs.Common.{◌≡◌, List, [], ◌∷◌, None, refl, sym, ap, ◌∙◌, drop}
 use Rattle.std.proofs.lemmas.List.{drop_all}
-use Rattle.obligations.specs.declared.sum.Part.{Part}
+use Rattle.ranges_owed.specs.declared.sum.Part.{Part}
 use Rattle.ranges.specs.Sums.{with_parts, start_of, sum_form}
 use Rattle.ranges.proofs.form.sum_form.Goals as goal
 

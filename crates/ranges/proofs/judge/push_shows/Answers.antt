@@ -3,7 +3,7 @@ use Rattle.std.proofs.lemmas.List.{append-nil}
 use Rattle.refusal.specs.declared.broken.Broken.{Broken}
 use Rattle.refusal.specs.Earliest.{IsEarliest}
 use Rattle.ranges.specs.Sums.{shows}
-use Rattle.obligations.specs.Inequalities.{difference_of}
+use Rattle.ranges_owed.specs.Inequalities.{difference_of}
 use Rattle.ranges.specs.Places.{with_shows}
 use Rattle.ranges.specs.Rules.{IsUnshown}
 use Rattle.refusal.proofs.Places.{below_nothing, below_next, below_all}

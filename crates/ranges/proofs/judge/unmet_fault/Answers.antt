@@ -1,7 +1,7 @@
 use Rattle.std.proofs.Common.{◌≡◌, false}
 use Rattle.refusal.specs.declared.broken.Broken.{Broken}
 use Rattle.refusal.proofs.Elements.{earliest_next, earliest_all}
-use Rattle.obligations.specs.declared.sum.Obligation.{Obligation}
+use Rattle.ranges_owed.specs.declared.sum.Obligation.{Obligation}
 use Rattle.ranges.specs.Sums.{is_met}
 use Rattle.ranges.proofs.judge.unmet_fault.Goals as goal
 

@@ -1,6 +1,6 @@
 use Rattle.std.proofs.Common.{◌≡◌, ◌∙◌, ap}
 use Rattle.refusal.proofs.Elements.{earliest_both}
-use Rattle.obligations.specs.Owed.{owed}
+use Rattle.ranges_owed.specs.Owed.{owed}
 use Rattle.ranges.specs.Places.{with_shows}
 use Rattle.ranges.specs.Rules.{AreUnmet, AreUnshown}
 use Rattle.ranges.proofs.walk.walk_step.Goals as goal

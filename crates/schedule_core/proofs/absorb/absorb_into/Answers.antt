@@ -1,9 +1,9 @@
 use Rattle.std.proofs.Common.{◌≡◌, length, subst, sym, ◌∙◌}
 use Rattle.std.specs.Prelude.{OnErr, Ok, true}
 use Rattle.program.specs.declared.function.Program.{Program}
-use Rattle.absorbing.specs.Absorbing.{DoesStrand, KeepsHand, LeavesStallsBy, StandsAlone, steps_in}
-use Rattle.crew.specs.Going.{TextFits}
-use Rattle.crew.specs.Left.{LeavesAsShown}
+use Rattle.schedule_commit.specs.Absorbing.{DoesStrand, KeepsHand, LeavesStallsBy, StandsAlone, steps_in}
+use Rattle.schedule_workers.specs.Going.{TextFits}
+use Rattle.schedule_workers.specs.Left.{LeavesAsShown}
 use Rattle.schedule_core.specs.Replaying.{LeavesAsBefore}
 use Rattle.schedule_core.specs.Strands.{Absorbs}
 use Rattle.schedule_core.proofs.Commits.{absorbs, left_absorbing, machine_absorbing, same_places, stands_alone}

@@ -1,11 +1,11 @@
 use Rattle.std.proofs.Common.{length, subst, sym, ap}
 use Rattle.std.specs.Prelude.{Ok, IfOk, OnErr, OnOk}
-use Rattle.running.specs.Events as running
-use Rattle.running.specs.Events.{Machine}
+use Rattle.semantics.specs.Events as running
+use Rattle.semantics.specs.Events.{Machine}
 use Rattle.program.specs.declared.function.Program.{Program}
-use Rattle.crew.specs.Events.{DoesEvent, Grows, LeavesStalls}
-use Rattle.crew.specs.Going.{StandsSafely, TextFits}
-use Rattle.crew.specs.Left.{LeavesAsShown}
+use Rattle.schedule_workers.specs.Events.{DoesEvent, Grows, LeavesStalls}
+use Rattle.schedule_workers.specs.Going.{StandsSafely, TextFits}
+use Rattle.schedule_workers.specs.Left.{LeavesAsShown}
 use Rattle.frame.specs.declared.event.Event.{Event}
 use Rattle.frame.specs.declared.event.Event.TheVariants.{Step, Steal}
 use Rattle.schedule_core.specs.Replaying.{GrowsOnly, Happens, ReplaysOneMore, event_of}

@@ -1,6 +1,6 @@
 use Rattle.std.proofs.Common.{subst}
 use Rattle.program.specs.declared.function.Program.{Program}
-use Rattle.crew.specs.Starts.{ArePlaces}
+use Rattle.schedule_workers.specs.Starts.{ArePlaces}
 use Rattle.schedule_core.proofs.Doubling.{doubled, machine_doubled}
 use Rattle.schedule_core.proofs.events.copied.Goals as goal
 

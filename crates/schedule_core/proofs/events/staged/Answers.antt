@@ -2,8 +2,8 @@ use Rattle.std.proofs.Common.{◌≡◌, ◌<◌, ◌≤◌, List, length, slice
 use Rattle.std.specs.Prelude.{sum}
 use Rattle.program.specs.declared.function.Function.{Function}
 use Rattle.program.specs.declared.function.Program.{Program}
-use Rattle.crew_promise.specs.store.Rows.{row_of, sizes_of}
-use Rattle.crew.specs.Starts.{ArePlaces, Begins, HasMoves}
+use Rattle.laws_workers.specs.store.Rows.{row_of, sizes_of}
+use Rattle.schedule_workers.specs.Starts.{ArePlaces, Begins, HasMoves}
 use Rattle.schedule_core.specs.declared.stage.Stage.{Stage}
 use Rattle.schedule_core.proofs.Grounds.{laws}
 use Rattle.schedule_core.proofs.Begun.{begun_machine, begun_replays, row_long}

@@ -1,10 +1,10 @@
 use Rattle.std.proofs.Common.{◌≡◌, length, ap, subst, sym, Vec, Global, ℤ}
 use Rattle.std.specs.Prelude.{Ok, true}
 use Rattle.program.specs.declared.function.Program.{Program}
-use Rattle.engine.specs.declared.activation.Places.{Places}
-use Rattle.crew.specs.Going.{TextFits}
-use Rattle.deep_strand.specs.Along.{IsUnderWay}
-use Rattle.deep_absorbing.specs.Absorbing.{DoesDeep, LeavesStallsDeep, StandsDeep}
+use Rattle.frame_engine.specs.declared.activation.Places.{Places}
+use Rattle.schedule_workers.specs.Going.{TextFits}
+use Rattle.private_stack.specs.Along.{IsUnderWay}
+use Rattle.schedule_publish.specs.Absorbing.{DoesDeep, LeavesStallsDeep, StandsDeep}
 use Rattle.schedule_core.specs.Stages.{program_of}
 use Rattle.schedule_core.specs.Strands.{TakesSteps}
 use Rattle.schedule_core.proofs.Commits.{same_places}

@@ -1,5 +1,5 @@
 use Rattle.std.proofs.Common.{◌≡◌, ◌++◌, drop}
-use Rattle.engine.specs.Starts.{starts_from}
+use Rattle.frame_engine.specs.Starts.{starts_from}
 use Rattle.serial_machine.proofs.places.starts.Given as goal
 
 abbrev pub invariant-loop-size : goal.invariant-loop-size

@@ -3,14 +3,14 @@ use Rattle.std.specs.Prelude.{IfNone, IfSome}
 use Rattle.std.specs.Int.{w64}
 use mir.Val.{to_z, of_z}
 use Rattle.std.proofs.lemmas.Int.{to_z-of_z}
-use Rattle.engine.specs.Starts.{starts_from}
+use Rattle.frame_engine.specs.Starts.{starts_from}
 use Rattle.outcome.specs.store.Rows.{refilled, row_of, sizes_of}
 use Rattle.outcome.specs.declared.outcome.Finished.{Finished}
-use Rattle.serial_steps.specs.Runs.{GoesSafely, RunsBeyond, RunsTo}
-use Rattle.serial_steps.specs.Shown.{TextFits}
-use Rattle.serial_steps.specs.Starts.{Begins}
-use Rattle.serial_steps.specs.declared.run.Ended.{Ended}
-use Rattle.serial_steps.proofs.Calling.{vec_small}
+use Rattle.serial_stack.specs.Runs.{GoesSafely, RunsBeyond, RunsTo}
+use Rattle.serial_stack.specs.Shown.{TextFits}
+use Rattle.serial_stack.specs.Starts.{Begins}
+use Rattle.serial_stack.specs.declared.run.Ended.{Ended}
+use Rattle.serial_stack.proofs.Calling.{vec_small}
 use Rattle.serial_machine.specs.Promise.{EndsWithinBudget}
 use Rattle.serial_machine.proofs.Engine.{ends, fits, goes, room, takes_more}
 use Rattle.serial_machine.proofs.run.run_over_row.Goals as goal

@@ -1,8 +1,8 @@
 use Rattle.std.proofs.Common.{◌≡◌, sym, subst}
 use Rattle.std.specs.Prelude.{IfOk}
 use Rattle.program.specs.declared.function.Program.{Program}
-use Rattle.crew.specs.Starts.{HasMoves}
-use Rattle.schedule_core.specs.engine.Activation.{ProgramFits}
+use Rattle.schedule_workers.specs.Starts.{HasMoves}
+use Rattle.schedule_core.specs.frame_engine.Activation.{ProgramFits}
 use Rattle.schedule_core.proofs.Grounds.{laws}
 use Rattle.shared_run.proofs.Made.{made_new}
 use Rattle.shared_run.proofs.outside.blank_strand.Goals as goal

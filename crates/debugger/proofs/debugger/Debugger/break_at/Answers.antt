@@ -1,7 +1,7 @@
 use Rattle.std.proofs.Common.{◌≡◌, refl, sym, ◌∙◌, take}
 use Rattle.debugger.specs.Sessions.{IsAt}
 use Rattle.schedule_core.proofs.Unchanged.{as_it_was}
-use Rattle.crew.proofs.Growing.{on_err}
+use Rattle.schedule_workers.proofs.Growing.{on_err}
 use Rattle.debugger.proofs.debugger.Debugger.break_at.Goals as goal
 
 pub returns-clause-session : goal.returns-clause-session

@@ -1,6 +1,6 @@
 use Rattle.std.proofs.Common.{◌≡◌, refl, sym, ◌∙◌}
 use Rattle.schedule_core.proofs.Unchanged.{as_it_was}
-use Rattle.crew.proofs.Growing.{on_err}
+use Rattle.schedule_workers.proofs.Growing.{on_err}
 use Rattle.debugger.proofs.debugger.Debugger.to.Goals as goal
 
 pub returns-clause-session : goal.returns-clause-session

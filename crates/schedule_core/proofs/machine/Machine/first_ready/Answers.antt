@@ -3,7 +3,7 @@ use Rattle.std.specs.Option.{option_copied}
 use Rattle.slab.specs.Slab.{entries_from}
 use Rattle.slab.proofs.SlabLemmas.{Contains-cons_cases}
 use Rattle.cactus.specs.declared.node.Node.{Node}
-use Rattle.crew.specs.declared.activation.Activation.{Activation}
+use Rattle.schedule_workers.specs.declared.activation.Activation.{Activation}
 use Rattle.schedule_core.proofs.Firsts.{Covered, covered_next, found_next, least_found, listed_node, none_found}
 use Rattle.schedule_core.proofs.machine.Machine.first_ready.Goals as goal
 

@@ -3,7 +3,7 @@ use Rattle.std.specs.Option.{option_copied}
 use Rattle.cactus.specs.declared.node.Node.{Node}
 use Rattle.cactus.specs.Frames.{node_at}
 use Rattle.cactus.specs.ByPath.{IsTree}
-use Rattle.crew.specs.declared.activation.Activation.{Activation}
+use Rattle.schedule_workers.specs.declared.activation.Activation.{Activation}
 use Rattle.schedule_core.proofs.Firsts.{Covered, Found}
 use Rattle.schedule_core.proofs.machine.Machine.first_ready.Given as goal
 

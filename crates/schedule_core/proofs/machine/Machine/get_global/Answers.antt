@@ -3,8 +3,8 @@ use mir.Val.{of_z, to_z}
 use Rattle.std.specs.Int.{w64}
 use Rattle.std.specs.Prelude.{FitsSigned}
 use Rattle.std.proofs.lemmas.Int.{to_z-of_z}
-use Rattle.crew.specs.Layouts.{number_in}
-use Rattle.engine.specs.Flat.{cell_in}
+use Rattle.schedule_workers.specs.Layouts.{number_in}
+use Rattle.frame_engine.specs.Flat.{cell_in}
 use Rattle.schedule_core.proofs.Held.{named_nowhere, named_past, named_there}
 use Rattle.schedule_core.proofs.machine.Machine.get_global.Goals as goal
 

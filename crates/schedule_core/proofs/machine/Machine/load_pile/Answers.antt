@@ -2,10 +2,10 @@ use Rattle.std.proofs.Common.{◌≡◌, Some, List, ℕ, true, sym, ap, ◌∙�
 use Rattle.std.specs.Option.{option_copied}
 use Rattle.std.proofs.Math.Logic.{∥∥₁_map}
 use Rattle.cactus.specs.Frames.{node_at}
-use Rattle.crew.specs.Scheduling.{hand_of}
-use Rattle.page_log.specs.Logs.{Log}
-use Rattle.deep_strand.specs.Along.{MayBegin}
-use Rattle.deep_absorbing.specs.Fitting.{HasNoChild}
+use Rattle.schedule_workers.specs.Scheduling.{hand_of}
+use Rattle.private_stack_log.specs.Logs.{Log}
+use Rattle.private_stack.specs.Along.{MayBegin}
+use Rattle.schedule_publish.specs.Fitting.{HasNoChild}
 use Rattle.schedule_core.specs.Stages.{program_of}
 use Rattle.schedule_core.proofs.Bases.{may_load}
 use Rattle.schedule_core.proofs.Loads.{frame_fits}

@@ -3,10 +3,10 @@ use Rattle.std.specs.Prelude.{vec_capacity}
 use Rattle.std.specs.Option.{option_copied}
 use Rattle.program.specs.declared.function.Program.{Program}
 use Rattle.cactus.specs.Frames.{node_at}
-use Rattle.engine.specs.Activation.{FrameFits}
-use Rattle.engine.specs.declared.activation.Places.{Places}
-use Rattle.absorbing.specs.strand.Along.{MayBegin}
-use Rattle.crew.specs.Scheduling.{hand_of}
+use Rattle.frame_engine.specs.Activation.{FrameFits}
+use Rattle.frame_engine.specs.declared.activation.Places.{Places}
+use Rattle.schedule_commit.specs.frame_strand.Along.{MayBegin}
+use Rattle.schedule_workers.specs.Scheduling.{hand_of}
 use Rattle.schedule_core.specs.Stages.{program_of}
 use Rattle.schedule_core.proofs.Commits.{same_places}
 use Rattle.schedule_core.proofs.Loads.{frame_fits, going_not_blank, is_loaded, may_begin, path_fits}

@@ -1,6 +1,6 @@
 use Rattle.std.proofs.Common.{refl, sym, ap, ◌∙◌}
 use Rattle.std.specs.Option.{option_copied}
-use Rattle.crew.proofs.Lengths.{not_there}
+use Rattle.schedule_workers.proofs.Lengths.{not_there}
 use Rattle.schedule_core.proofs.Shown.{low_lives}
 use Rattle.schedule_core.proofs.machine.Machine.lowest_path.Goals as goal
 

@@ -1,6 +1,6 @@
 use Rattle.std.proofs.Common.{◌≡◌, ◌∙◌, ◌-◌, ◌+◌, suc, ℕ, reverse, List, Option, sym, ap, subst, arith}
 use Rattle.std.proofs.lemmas.List.{reverse-reverse}
-use Rattle.crew.specs.Scheduling.{hand_of}
+use Rattle.schedule_workers.specs.Scheduling.{hand_of}
 use Rattle.schedule_core.specs.declared.ready.Spot.{Spot}
 use Rattle.schedule_core.specs.ReadyBelow.{AreReadyBelow, Notes}
 use Rattle.schedule_core.proofs.ReadyBelow.{Walks, ready_below, walk_one, walked}

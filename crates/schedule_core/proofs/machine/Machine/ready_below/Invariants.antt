@@ -1,7 +1,7 @@
 use Rattle.std.proofs.Common.{◌-◌, ◌≤◌}
 use Rattle.std.specs.Prelude.{vec_capacity, vec_len}
 use Rattle.cactus.specs.ByPath.{IsTree}
-use Rattle.crew.specs.Scheduling.{hand_of}
+use Rattle.schedule_workers.specs.Scheduling.{hand_of}
 use Rattle.schedule_core.proofs.ReadyBelow.{Walks}
 use Rattle.schedule_core.proofs.machine.Machine.ready_below.Given as goal
 

@@ -1,5 +1,5 @@
 use Rattle.std.proofs.Common.{◌≢◌, ◌<◌, ℕ, Some}
-use Rattle.running.specs.Events.{Machine}
+use Rattle.semantics.specs.Events.{Machine}
 use Rattle.schedule_core.specs.Lines.{line_of_worker}
 use Rattle.schedule_core.specs.Stages.{IsState, program_of}
 use Rattle.schedule_core.proofs.machine.Machine.stands_at.Given as goal

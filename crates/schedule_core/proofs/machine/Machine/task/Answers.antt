@@ -1,5 +1,5 @@
 use Rattle.std.proofs.Common.{ℕ, Option, subst}
-use Rattle.crew.specs.Tasks.{FindsTop}
+use Rattle.schedule_workers.specs.Tasks.{FindsTop}
 use Rattle.schedule_core.proofs.Found.{lives_by, never_none, shown_if, top_lives}
 use Rattle.schedule_core.proofs.LinesShown.{line_if}
 use Rattle.schedule_core.proofs.Shown.{has_spot, no_top}

@@ -1,5 +1,5 @@
 use Rattle.std.proofs.Common.{◌≡◌, Some, None, sym, ◌∙◌}
-use Rattle.crew.specs.Scheduling.{hand_of}
+use Rattle.schedule_workers.specs.Scheduling.{hand_of}
 use Rattle.schedule_core.proofs.Found.{low_found, run_if, run_never_none}
 use Rattle.schedule_core.proofs.Views.{no_hand}
 use Rattle.schedule_core.proofs.LinesShown.{run_line_if}

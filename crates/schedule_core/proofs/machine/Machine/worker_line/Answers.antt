@@ -2,7 +2,7 @@ use Rattle.std.proofs.Common.{◌≡◌, Some, sym, ap, ◌∙◌}
 use Rattle.std.specs.Option.{option_copied}
 use Rattle.program.specs.declared.function.Program.{Program}
 use Rattle.cactus.specs.Frames.{node_at}
-use Rattle.crew.specs.Scheduling.{hand_of}
+use Rattle.schedule_workers.specs.Scheduling.{hand_of}
 use Rattle.schedule_core.specs.Lines.{next_line}
 use Rattle.schedule_core.proofs.Views.{held_line}
 use Rattle.schedule_core.proofs.machine.Machine.worker_line.Goals as goal

@@ -1,9 +1,9 @@
 use Rattle.std.proofs.Common.{◌≡◌, ◌+◌, false, refl, sym, ap, ◌∙◌, ◌++◌, replicate, subst, length, length-append, arith}
 use Rattle.std.proofs.lemmas.List.{length-replicate}
 use Rattle.std.specs.Prelude.{IsTrue, Ok}
-use Rattle.crew.proofs.Growing.{on_err}
+use Rattle.schedule_workers.proofs.Growing.{on_err}
 use Rattle.program.specs.declared.function.Program.{Program}
-use Rattle.schedule_core.specs.absorbing.Absorbing.{steps_in}
+use Rattle.schedule_core.specs.schedule_commit.Absorbing.{steps_in}
 use Rattle.frame.specs.declared.event.Event.TheVariants.{Step}
 use Rattle.schedule_core.specs.Strands.{FitsStage, IsMadeOf}
 use Rattle.shared_run.specs.Story.{place, story}

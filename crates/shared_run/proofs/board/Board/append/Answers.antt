@@ -1,6 +1,6 @@
 use Rattle.std.proofs.Common.{Bool, refl, ap, ◌∙◌, ◌∷◌, ◌++◌, [], subst, length, length-append, arith}
 use Rattle.std.specs.Prelude.{Ok}
-use Rattle.crew.proofs.Growing.{on_err}
+use Rattle.schedule_workers.proofs.Growing.{on_err}
 use Rattle.schedule_core.specs.Replaying.{Happens, event_of}
 use Rattle.schedule_core.specs.Stages.{program_of}
 use Rattle.shared_run.specs.Story.{place, reached, story}

@@ -2,7 +2,7 @@ use Rattle.std.proofs.Common.{rules, ◌≡◌, ◌∷◌, ◌++◌, [], Some, s
 use Rattle.std.specs.Int.{w64}
 use Rattle.std.specs.Prelude.{FitsSigned}
 use Rattle.std.proofs.lemmas.Int.{to_z-of_z}
-use Rattle.schedule_core.specs.engine.Flat.{cell_in}
+use Rattle.schedule_core.specs.frame_engine.Flat.{cell_in}
 use Rattle.schedule_core.specs.declared.stage.Stage.{Stage}
 use Rattle.shared_run.proofs.board.Board.fetch_cell.Goals as goal
 

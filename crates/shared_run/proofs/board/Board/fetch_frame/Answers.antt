@@ -1,6 +1,6 @@
 use Rattle.std.proofs.Common.{◌≡◌, ℕ, None, false, ap, ◌∙◌, sym, subst}
 use Rattle.program.specs.declared.function.Program.{Program}
-use Rattle.running.specs.Events.{Machine}
+use Rattle.semantics.specs.Events.{Machine}
 use Rattle.schedule_core.specs.declared.stage.Stage.{Stage}
 use Rattle.schedule_core.specs.Stages.{IsState, program_of}
 use Rattle.schedule_core.specs.Strands.{IsMadeOf}

@@ -1,6 +1,0 @@
-use Rattle.std.proofs.Common.{take}
-use Rattle.absorbing.specs.Putting.{IsPutInto}
-use Rattle.absorbing.proofs.cells.put_writes.Given as goal
-
-abbrev pub invariant-loop-written : goal.invariant-loop-written
-invariant-loop-written l = IsPutInto (take l.written-index l.writes) l.initial.row l.row

@@ -1,0 +1,60 @@
+//! Cases of all below the program. `machine_cases WORD..` answers those that each word names: `shown`, `steps`, `schedules` and `threads` are groups of
+//! cases, any other word is a file of cases, whose folder is its kind. The libraries of cases tell of them. It prints a line of each case, and fails
+//! where one is not answered as it is to be. What is expected is worked by hand. The last line names the call at a board that was refused memory, and
+//! made once more.
+#![tactic(auto)]
+
+use cases_boards::boards::Notes;
+use cases::{Lines, Report};
+use std::hash::RandomState;
+use std::io::Write;
+use std::process::ExitCode;
+use std::rt::{Env, Files};
+use std::sync::Wait;
+use std::thread::Threads;
+use std::time::Clock;
+use std::{env, io};
+
+/// Answers the cases that a word names.
+fn answer_word<R: AllocGlobal + Files + Threads + Wait + Clock + Sync>(
+    rt: &R,
+    state: RandomState,
+    word: &str,
+    notes: &mut Notes,
+    report: &mut Lines,
+) -> io::Result<()> {
+    report.file(word)?;
+    let (kind, _) = word.split_once("/").unwrap_or((word, ""));
+    match kind {
+        "shown" => cases_shown::answer(rt.alloc(), report),
+        "steps" => cases_steps::steps::answer(rt, state, report),
+        "schedules" => cases_steps::schedules::answer(rt.alloc(), report),
+        "boards" => cases_boards::boards::answer(rt, state, word, notes, report),
+        "threads" => cases_threads::answer(rt, state, report),
+        _ => cases_text::answer(rt, state, kind, word, report),
+    }
+}
+
+/// Answers the cases that the program's words name.
+fn answer<R: AllocGlobal + Env + Files + Threads + Wait + Clock + Sync>(
+    rt: &R,
+    state: RandomState,
+    notes: &mut Notes,
+    report: &mut Lines,
+) -> io::Result<ExitCode> {
+    for word in env::args(rt)?.skip(1) {
+        answer_word(rt, state, word.as_str(), notes, report)?;
+    }
+    report.finish()
+}
+
+fn main(rt: HostRuntime) -> io::Result<ExitCode> {
+    let alloc = rt.alloc();
+    let state = RandomState::new(&rt)?;
+    let mut notes = Notes::new(alloc);
+    let mut report = Report::new(alloc, Vec::new(alloc));
+    let status = answer(&rt, state, &mut notes, &mut report);
+    io::writer(&rt).write_all(report.output().as_slice())?;
+    println!(rt; "refused and made once more: {}", notes.refused)?;
+    status
+}

@@ -1,0 +1,27 @@
+//! What the program answers to a request over the bytes of files: all of it but a run on threads.
+//!
+//! [`answer`] prints the answer and gives the status. What a crate with threads answers by itself is made of the parts that stand
+//! beside it: a [`Job`], the memory that it begins with, and how a run is printed. What runs are made of is passed on for the crates
+//! above.
+#![tactic(auto)]
+
+mod dialogue;
+mod draw;
+mod job;
+mod requests;
+mod runs;
+mod tell;
+
+pub use cli_words::{
+    CellWord, Request, Setting, Telling, Verb, WordsFault, bytes_of, text_of, words,
+};
+pub use debugger::{
+    Debugger, Event, Finished, Machine, Memory, RunFault, Status as Standing, TaskView, Verified,
+    read_schedule, replay, verify, verify_within,
+};
+pub use job::Job;
+pub use cli_modules::{
+    Beside, Status, fail, print_unreadable, print_unverified, read_file, read_text, write_file,
+};
+pub use requests::{answer, effort_of};
+pub use runs::{prepared, print_run, print_unprepared};

@@ -1,0 +1,272 @@
+//! Runs, replays and debugging of a module that the verifier took.
+
+ghost use Rattle.program.specs.declared.function.Program.{Program};
+ghost use Rattle.std.specs.Prelude.{IfOk};
+ghost use Rattle.serial_machine.specs.store.Made.{HasGlobalCells, IsMadeFor};
+
+use crate::dialogue::converse;
+use crate::job::{Job, print_schedule_fault};
+use cli_words::{CellWord, Setting};
+use debugger::{
+    Debugger, Event, Finished, Machine, Memory, RunFault, Verified, read_schedule, replay,
+};
+use cli_modules::{Beside, Status, print_unreadable, stop_for_memory};
+use serial_machine::serial_run;
+use std::io;
+use std::io::{Read, Write};
+
+/// Runs the module serially.
+pub fn run_serial<W: Write>(
+    job: &Job<'_>,
+    output: &mut W,
+    beside: &mut Beside,
+) -> io::Result<Status> {
+    let memory = match prepared(job) {
+        Ok(memory) => memory,
+        Err(status) => return print_unprepared(status, output),
+    };
+    let args = job.request.args.as_slice();
+    let run = serial_run(job.alloc, job.verified, args, memory);
+    print_run(job, &run, output, beside)
+}
+
+/// Runs the module by the schedule.
+pub fn run_schedule<W: Write>(
+    job: &Job<'_>,
+    output: &mut W,
+    beside: &mut Beside,
+) -> io::Result<Status> {
+    let Some(text) = job.schedule else {
+        return print_no_schedule(job, output);
+    };
+    match read_schedule(job.alloc, text) {
+        Ok(events) => run_events(job, events.as_slice(), output, beside),
+        Err(fault) => print_schedule_fault(job, &fault, output, beside),
+    }
+}
+
+/// Says that the schedule's file could not be read.
+fn print_no_schedule<W: Write>(job: &Job<'_>, output: &mut W) -> io::Result<Status> {
+    match &job.request.schedule {
+        Some(file) => print_unreadable(job.alloc, file.as_str(), output),
+        None => Ok(Status::Unreadable),
+    }
+}
+
+/// Goes through the schedule by the commands of the input.
+pub fn debug<R: Read, W: Write>(
+    job: &Job<'_>,
+    input: &mut R,
+    output: &mut W,
+    beside: &mut Beside,
+) -> io::Result<Status> {
+    let Some(text) = job.schedule else {
+        return print_no_schedule(job, output);
+    };
+    match read_schedule(job.alloc, text) {
+        Ok(events) => debug_events(job, events, input, output, beside),
+        Err(fault) => print_schedule_fault(job, &fault, output, beside),
+    }
+}
+
+fn debug_events<R: Read, W: Write>(
+    job: &Job<'_>,
+    events: Vec<Event>,
+    input: &mut R,
+    output: &mut W,
+    beside: &mut Beside,
+) -> io::Result<Status> {
+    let memory = match prepared(job) {
+        Ok(memory) => memory,
+        Err(status) => return print_unprepared(status, output),
+    };
+    let Job {
+        alloc,
+        request,
+        verified,
+        ..
+    } = *job;
+    let args = request.args.as_slice();
+    match Debugger::new(alloc, verified, args, memory, request.workers, events) {
+        Ok(mut debugger) => converse(alloc, &mut debugger, input, output),
+        Err(fault) => job.print_run_fault(&fault, output, beside),
+    }
+}
+
+/// The memory to begin with; else the status: an option names no cell, or memory was refused.
+pub fn prepared(job: &Job<'_>) -> Result<Memory, Status>
+    ensures cells { IfOk result (λ memory. HasGlobalCells job.now.verified.now memory) }
+    ensures made { IfOk result (λ memory. IsMadeFor job.now.verified.now memory) }
+{
+    let Ok(mut memory) = Memory::zeroed(job.alloc, job.verified) else {
+        return Err(Status::Stopped);
+    };
+    let request = job.request;
+    let has_shown = has_cells(&memory, request.show.as_slice());
+    if set_cells(&mut memory, request.set.as_slice()) && has_shown {
+        Ok(memory)
+    } else {
+        Err(Status::Words)
+    }
+}
+
+/// Says that memory was refused where that is why a run does not begin, and answers the status.
+pub fn print_unprepared<W: Write>(status: Status, output: &mut W) -> io::Result<Status> {
+    match status {
+        Status::Stopped => stop_for_memory(output),
+        _ => Ok(status),
+    }
+}
+
+/// Runs the module by these events.
+fn run_events<W: Write>(
+    job: &Job<'_>,
+    events: &[Event],
+    output: &mut W,
+    beside: &mut Beside,
+) -> io::Result<Status> {
+    let memory = match prepared(job) {
+        Ok(memory) => memory,
+        Err(status) => return print_unprepared(status, output),
+    };
+    run_replay(job, memory, events, output, beside)
+}
+
+/// The answer of a run by these events.
+pub fn run_replay<W: Write>(
+    job: &Job<'_>,
+    memory: Memory,
+    events: &[Event],
+    output: &mut W,
+    beside: &mut Beside,
+) -> io::Result<Status>
+    requires { IsMadeFor job.now.verified.now memory }
+{
+    let args = job.request.args.as_slice();
+    let workers = job.request.workers;
+    match replay(job.alloc, job.verified, args, memory, workers, events) {
+        Ok(machine) => print_replayed(job, machine, output),
+        Err(fault) => job.print_run_fault(&fault, output, beside),
+    }
+}
+
+/// The answer of a run, or why it did not start or go on.
+pub fn print_run<W: Write>(
+    job: &Job<'_>,
+    finished: &Result<Finished, RunFault>,
+    output: &mut W,
+    beside: &mut Beside,
+) -> io::Result<Status> {
+    match finished {
+        Ok(finished) => print_finished(finished, job.request.show.as_slice(), output),
+        Err(fault) => job.print_run_fault(fault, output, beside),
+    }
+}
+
+fn print_replayed<W: Write>(
+    job: &Job<'_>,
+    machine: Machine<'_>,
+    output: &mut W,
+) -> io::Result<Status> {
+    let cells = job.request.show.as_slice();
+    match machine.result() {
+        Some(result) => print_finished(&finished(machine, result), cells, output),
+        None => print_unfinished(&machine, cells, output),
+    }
+}
+
+fn print_unfinished<W: Write>(
+    machine: &Machine<'_>,
+    cells: &[CellWord],
+    output: &mut W,
+) -> io::Result<Status> {
+    let instructions = machine.instructions();
+    let frames = machine.live_frames();
+    writeln!(
+        output,
+        "not ended\ninstructions {instructions}\nframes {frames}"
+    )?;
+    for cell in cells {
+        let value = machine.get_global(cell.name.as_str(), cell.index);
+        print_cell(cell, value, output)?;
+    }
+    Ok(Status::Done)
+}
+
+/// Sets a cell; false where it is not there.
+fn set_cell(memory: &mut Memory, setting: &Setting) -> bool
+    ensures cells { (program : Program) → HasGlobalCells program memory.old → HasGlobalCells program memory.new }
+    ensures made { (program : Program) → IsMadeFor program memory.old → IsMadeFor program memory.new }
+{
+    memory.set_global(
+        setting.cell.name.as_str(),
+        setting.cell.index,
+        setting.value,
+    )
+}
+
+/// Sets cells in order; false where one is not there.
+fn set_cells(memory: &mut Memory, settings: &[Setting]) -> bool
+    ensures cells { (program : Program) → HasGlobalCells program memory.old → HasGlobalCells program memory.new }
+    ensures made { (program : Program) → IsMadeFor program memory.old → IsMadeFor program memory.new }
+{
+    for setting in settings {
+        if !set_cell(memory, setting) {
+            return false;
+        }
+    }
+    true
+}
+
+fn has_cells(memory: &Memory, cells: &[CellWord]) -> bool {
+    for cell in cells {
+        if memory.get_global(cell.name.as_str(), cell.index).is_none() {
+            return false;
+        }
+    }
+    true
+}
+
+/// What a run with this result came to.
+fn finished(machine: Machine<'_>, returned: i64) -> Finished {
+    let instructions = machine.instructions();
+    let peak = machine.peak();
+    Finished {
+        result: returned,
+        memory: machine.into_memory(),
+        instructions,
+        peak,
+    }
+}
+
+fn print_finished<W: Write>(
+    finished: &Finished,
+    cells: &[CellWord],
+    output: &mut W,
+) -> io::Result<Status> {
+    let result = finished.result;
+    let instructions = finished.instructions;
+    let peak = finished.peak;
+    writeln!(
+        output,
+        "result {result}\ninstructions {instructions}\npeak {peak}"
+    )?;
+    print_cells(&finished.memory, cells, output)?;
+    Ok(Status::Done)
+}
+
+fn print_cells<W: Write>(memory: &Memory, cells: &[CellWord], output: &mut W) -> io::Result<()> {
+    for cell in cells {
+        let value = memory.get_global(cell.name.as_str(), cell.index);
+        print_cell(cell, value, output)?;
+    }
+    Ok(())
+}
+
+/// Prints what a cell holds, where it is there.
+fn print_cell<W: Write>(cell: &CellWord, value: Option<i64>, output: &mut W) -> io::Result<()> {
+    if let Some(value) = value {
+        writeln!(output, "@{}:{} {value}", cell.name, cell.index)?;
+    }
+    Ok(())
+}

@@ -1,0 +1,74 @@
+//! What is said where a module is not taken, and of streams and memory.
+
+use crate::beside::Beside;
+use crate::faults::note_effort;
+use crate::status::Status;
+use cli_words::bytes_of;
+use std::alloc::Global;
+use std::io;
+use std::io::{ErrorKind, Write};
+use verifier::{Refused, Unverified};
+
+/// Says that memory was refused.
+pub fn stop_for_memory<W: Write>(output: &mut W) -> io::Result<Status> {
+    writeln!(output, "stopped 803")?;
+    Ok(Status::Stopped)
+}
+
+/// Says that memory was refused, or, where there is memory to say it, which stream failed.
+pub fn fail<W: Write>(
+    alloc: Global,
+    error: &io::Error,
+    output: &mut W,
+    beside: &mut Beside,
+) -> Status {
+    match error.kind() {
+        ErrorKind::OutOfMemory => return stop_for_memory(output).unwrap_or(Status::Stream),
+        // Whoever read the output wants no more of it.
+        ErrorKind::BrokenPipe => return Status::Stream,
+        _ => {}
+    }
+    if let Ok(line) = format!(in alloc; "standard input or output: {error}") {
+        let _ = beside.note(line.as_str());
+    }
+    Status::Stream
+}
+
+/// Says that a file could not be read, by the very bytes of its word.
+pub fn print_unreadable<W: Write>(alloc: Global, word: &str, output: &mut W) -> io::Result<Status> {
+    let path = bytes_of(alloc, word)?;
+    output.write_all(b"unreadable ")?;
+    output.write_all(path.as_slice())?;
+    output.write_all(b"\n")?;
+    Ok(Status::Unreadable)
+}
+
+/// Says why a module is refused, or that memory was.
+pub fn print_refused<W: Write>(refused: &Refused, output: &mut W) -> io::Result<Status> {
+    match refused {
+        Refused::Fault { number, line } => {
+            writeln!(output, "refused {number} line {line}")?;
+            Ok(Status::Refused)
+        }
+        Refused::Memory => stop_for_memory(output),
+    }
+}
+
+/// Says that the effort that was granted is spent before a verdict.
+pub fn print_undecided<W: Write>(output: &mut W, beside: &mut Beside) -> io::Result<Status> {
+    writeln!(output, "undecided")?;
+    beside.note("the effort is spent before a verdict; --effort=N grants more")?;
+    Ok(Status::Stopped)
+}
+
+/// Says why a module is not verified: why it is refused, that memory was, or that the effort that was granted is spent.
+pub fn print_unverified<W: Write>(
+    unverified: &Unverified,
+    output: &mut W,
+    beside: &mut Beside,
+) -> io::Result<Status> {
+    match unverified {
+        Unverified::Refused(refused) => print_refused(refused, output),
+        Unverified::OutOfEffort => print_undecided(output, beside),
+    }
+}

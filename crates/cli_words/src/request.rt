@@ -1,0 +1,214 @@
+ghost use Rattle.std.specs.Prelude.{◌≡◌};
+ghost use Rattle.cli_words.specs.Asked.{word_of};
+
+use std::alloc::{AllocError, AllocFailed, Global};
+
+/// What the program is asked to do.
+#[derive(Clone, Copy, PartialEq, Eq)]
+pub enum Verb {
+    /// Verify the module, and tell its budget and depth.
+    Verify,
+    /// Say why the module is refused, or print a rule.
+    Explain,
+    /// Run the serial elision.
+    Serial,
+    /// Run on workers.
+    Run,
+    /// Run by a schedule.
+    Replay,
+    /// Go forwards and backwards through a schedule.
+    Debug,
+    /// Print the module's canonical text.
+    Print,
+    /// Tell what the verifier knows of each block.
+    Show,
+    /// Put in the annotations that follow from others.
+    Annotate,
+    /// Print a script that completes the words of a shell.
+    Completions,
+    /// Print the manual page.
+    Man,
+}
+
+impl Verb {
+    /// The word that names it.
+    pub fn word(self) -> &'static str
+        ensures { result.now ≡ word_of self }
+    {
+        match self {
+            Verb::Verify => "verify",
+            Verb::Explain => "explain",
+            Verb::Serial => "serial",
+            Verb::Run => "run",
+            Verb::Replay => "replay",
+            Verb::Debug => "debug",
+            Verb::Print => "print",
+            Verb::Show => "show",
+            Verb::Annotate => "annotate",
+            Verb::Completions => "completions",
+            Verb::Man => "man",
+        }
+    }
+}
+
+/// A shell whose words are completed.
+#[derive(Clone, Copy)]
+pub enum Shell {
+    Bash,
+    Zsh,
+    Fish,
+}
+
+/// A cell of a global, as `@a:5` names it.
+#[derive(Drop)]
+pub struct CellWord {
+    /// The global's name without `@`.
+    pub name: String,
+    pub index: u64,
+}
+
+/// `@a:5=9`: a cell's number before the run.
+#[derive(Drop)]
+pub struct Setting {
+    pub cell: CellWord,
+    pub value: i64,
+}
+
+/// The words of a command line, read.
+pub struct Request {
+    pub verb: Verb,
+    /// The file of the module.
+    pub file: String,
+    /// The file of the schedule, for the verbs that take one.
+    pub schedule: Option<String>,
+    /// How many workers run; 1 where the verb takes none.
+    pub workers: usize,
+    /// The arguments of `@main`, in order.
+    pub args: Vec<i64>,
+    /// Cells to set before the run; of two for one cell the last one stays.
+    pub set: Vec<Setting>,
+    /// Cells to print after the run.
+    pub show: Vec<CellWord>,
+    /// The name, without `@`, of the function whose costs to print, for the verb that takes one.
+    pub table: Option<String>,
+    /// How many steps of search a verdict may take, where a number is named; of the verbs that ask for one.
+    pub effort: Option<u64>,
+    /// The number of the rule to print in place of a module, for the verb that takes one.
+    pub rule: Option<u16>,
+    /// The shell whose words to complete, for the verb that takes one.
+    pub shell: Option<Shell>,
+    /// How the verb tells of the run, and where to.
+    pub telling: Telling,
+}
+
+/// Written out, so that no crate above proves it anew.
+impl Drop for Request {
+    fn drop(self) {
+        let Request {
+            verb: _,
+            file: _,
+            schedule: _,
+            workers: _,
+            args: _,
+            set: _,
+            show: _,
+            table: _,
+            effort: _,
+            rule: _,
+            shell: _,
+            telling: _,
+        } = self;
+    }
+}
+
+impl Request {
+    /// A request for a module, without options.
+    pub(crate) fn of_file(alloc: Global, verb: Verb, file: String) -> Request
+        ensures { result.verb ≡ verb }
+    {
+        Request {
+            verb,
+            file,
+            schedule: None,
+            workers: 1,
+            args: Vec::new(alloc),
+            set: Vec::new(alloc),
+            show: Vec::new(alloc),
+            table: None,
+            effort: None,
+            rule: None,
+            shell: None,
+            telling: Telling::nothing(),
+        }
+    }
+}
+
+/// What is told of a run beside its answer.
+#[derive(Drop)]
+pub struct Telling {
+    /// A line for each event of a replay.
+    pub trace: bool,
+    /// Draws the events of a run by this seed; without one its workers have threads.
+    pub seed: Option<u64>,
+    /// The file to write: the picture of a replay, or the schedule of a run that is drawn.
+    pub file: Option<String>,
+}
+
+impl Telling {
+    pub fn nothing() -> Telling {
+        Telling {
+            trace: false,
+            seed: None,
+            file: None,
+        }
+    }
+}
+
+/// Why words are no request: a text for the user, or that memory was refused.
+#[derive(Drop)]
+pub struct WordsFault {
+    /// Empty where memory was refused.
+    pub text: Option<String>,
+    pub memory: bool,
+    /// Whether the text is what was asked for, and no fault.
+    pub is_asked: bool,
+}
+
+impl WordsFault {
+    pub fn told(text: String) -> WordsFault {
+        WordsFault {
+            text: Some(text),
+            memory: false,
+            is_asked: false,
+        }
+    }
+
+    /// What the words ask for instead of a request.
+    pub fn asked(text: String) -> WordsFault {
+        WordsFault {
+            text: Some(text),
+            memory: false,
+            is_asked: true,
+        }
+    }
+
+    pub fn out_of_memory() -> WordsFault {
+        WordsFault {
+            text: None,
+            memory: true,
+            is_asked: false,
+        }
+    }
+}
+
+impl From<AllocError> for WordsFault {
+    fn from(_error: AllocError) -> WordsFault {
+        WordsFault::out_of_memory()
+    }
+}
+
+impl<T: Drop> From<AllocFailed<T>> for WordsFault {
+    fn from(_error: AllocFailed<T>) -> WordsFault {
+        WordsFault::out_of_memory()
+    }
+}

@@ -1,5 +1,0 @@
-use Rattle.conditions.proofs.sample.PairCosts.{pair_within_tables}
-use Rattle.conditions.proofs.pair_within_tables.Goals as goal
-
-pub returns : goal.returns
-returns c = pair_within_tables

@@ -1,0 +1,90 @@
+-- A strand leads the run on, or to its end.
+use Rattle.std.proofs.Common.{◌≡◌, ℕ, suc, ◌+◌, ◌<◌, ◌≤◌, max, List, length, sym, subst, ℤ, Some, None}
+use Rattle.std.proofs.Math.Logic.{∥∥₁_elim, ∥∥₁_map}
+use Rattle.std.proofs.Props.{props}
+use Rattle.program.specs.declared.function.Program.{Program}
+use Rattle.outcome.specs.store.Cells.{NamedCells}
+use Rattle.outcome.specs.store.Rows.{refilled}
+use Rattle.outcome.specs.verifier.Budgets.{budget_of}
+use Rattle.frame_engine.specs.Activation.{FrameFits}
+use Rattle.frame_engine.specs.declared.activation.Places.{Places}
+use Rattle.serial_stack.specs.Runs.{HasWalked, RunsTo}
+use Rattle.serial_stack.specs.Shown.{Advances, HasNumbers, Returns, RunsSafely, StandsSafely, StaysSafely, TextFits}
+use Rattle.serial_stack.specs.Steps.{Run}
+use Rattle.serial_stack.specs.declared.run.Ended.{Ended}
+use Rattle.serial_stack.specs.declared.stack.Stack.{Stack}
+use Rattle.serial_stack.proofs.Turning.{fits_prop, goes_on_here, may_go_on, numbers_here, no_less, numbers_prop, stands_here, stays_here, turned, walked_on, within_here}
+use Rattle.serial_machine.specs.Promise.{EndsWithinBudget, TakesMore}
+use Rattle.serial_machine.proofs.Engine.{ends, takes_more}
+use Rattle.deque_pool_alone.specs.UnderWay.{IsOnWay}
+
+module _ (program : Program) (arguments : List ℤ) (memory : List NamedCells) (places : Places) (k : Stack) (n peak : ℕ) (w : IsOnWay program arguments memory places k n peak) where
+  -- ---- where it stands
+
+  pub fits : FrameFits program k.top.value
+  fits = ∥∥₁_elim w.safe (fits_prop _ _) (λ m. m.walked.shown.top.fits)
+
+  pub stays : StaysSafely program places k
+  stays = ∥∥₁_map w.safe (stays_here program places (budget_of program) n k)
+
+  pub stands : StandsSafely program places k
+  stands = ∥∥₁_map w.safe (stands_here program places (budget_of program) n k)
+
+  pub numbers : HasNumbers k.top.value
+  numbers = ∥∥₁_elim w.safe (numbers_prop _) (numbers_here program places (budget_of program) n k)
+
+  pub within : n < budget_of program
+  within = ∥∥₁_elim w.safe (hlevel props) (within_here program places (budget_of program) n k)
+
+  -- ---- plain steps
+
+  pub done_before : (j : Stack) (m : ℕ) → Advances program places k j n m → n ≤ m
+  done_before j m on = ∥∥₁_elim w.safe (hlevel props) (no_less program places (budget_of program) n k m j on)
+
+  pub went_on : (j : Stack) (m : ℕ) → length j.moves.items ≡ length k.moves.items → Advances program places k j n m → IsOnWay program arguments memory places j m peak
+  went_on j m moves on = record {
+    may = w.may;
+    globals = w.globals;
+    allocas = w.allocas;
+    small = w.small;
+    few = w.few;
+    text = subst (λ (x : ℕ). TextFits program places x) (sym moves) w.text;
+    safe = ∥∥₁_map w.safe (goes_on_here program places (budget_of program) n k m j on);
+    first = w.first;
+    begun = w.begun;
+    walked = λ globals start safe h. walked_on globals program places (budget_of program) n m peak start k j safe (w.walked globals start safe h) on;
+  }
+
+  -- ---- over a border
+
+  pub passed : (j : Stack) (m high : ℕ) → length j.moves.items ≡ length k.moves.items → m ≡ n + 1 → high ≡ max peak (suc (length j.below.items)) → Returns program places k j None →
+      IsOnWay program arguments memory places j m high
+  passed j m high moves one top returns =
+      let on : (globals : List ℕ) (start : Run) (p : ℕ) → RunsSafely globals program (budget_of program) start → HasWalked globals program places start n p k → HasWalked globals program places start m (max p (suc (length j.below.items))) j =
+      λ globals start p safe h. turned globals program places (budget_of program) n m p start k j None safe h one returns in
+      record {
+        may = w.may;
+        globals = w.globals;
+        allocas = w.allocas;
+        small = w.small;
+        few = w.few;
+        text = subst (λ (x : ℕ). TextFits program places x) (sym moves) w.text;
+        safe = ∥∥₁_map w.safe (may_go_on program places (budget_of program) n m (suc (length j.below.items)) k j on);
+        first = w.first;
+        begun = w.begun;
+        walked = λ globals start safe h. subst (λ (x : ℕ). HasWalked globals program places start m x j) (sym top) (on globals start peak safe (w.walked globals start safe h));
+      }
+
+  pub over : (j : Stack) (m : ℕ) (z : ℤ) → m ≡ n + 1 → Returns program places k j (Some z) →
+      EndsWithinBudget program arguments memory (record { result = z; memory = refilled memory j.cells.cells.items; instructions = m; peak = peak })
+  over j m z one returns =
+      let e : Ended = record { result = z; instructions = m; peak = peak } in
+      let runs : RunsTo program places (budget_of program) w.first j e =
+      λ globals start safe h. turned globals program places (budget_of program) n m peak start k j (Some z) safe (w.walked globals start safe h) one returns in
+      ends program w.may.accepted arguments memory w.may.taken w.may.cells places w.globals w.allocas w.first w.begun w.small j e runs
+
+  -- ---- what is left
+
+  pub takes : TakesMore program arguments memory n
+  takes = takes_more program w.may.accepted arguments memory w.may.taken w.may.cells places w.globals w.allocas w.first w.begun n (λ globals start safe h.
+      let a = w.walked globals start safe h in record { peak = peak; run = a.run; walk = a.walk })

@@ -1,0 +1,5 @@
+use Rattle.deque_pool_tickets.proofs.Steps.{pops}
+use Rattle.deque_pool_tickets.proofs.hands.Hands.take_newest.Goals as goal
+
+pub pop_as-requires-clause-lifo : goal.pop_as-requires-clause-lifo
+pop_as-requires-clause-lifo c = λ _. pops _ _ c.self.invariant.0

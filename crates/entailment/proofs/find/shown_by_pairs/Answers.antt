@@ -1,5 +1,0 @@
-use Rattle.entailment.proofs.Tested.{shown_passes}
-use Rattle.entailment.proofs.find.shown_by_pairs.Goals as goal
-
-pub returns : goal.returns
-returns c = λ h. shown_passes c.args.search.now.facts.now c.args.search.now.form.now (c.made_up_by_pairs.ensures h)

@@ -1,8 +1,0 @@
-use Rattle.std.proofs.Common.{◌++◌, take}
-use Rattle.std.specs.List.{All}
-use Rattle.entailment.specs.Search.{factors}
-use Rattle.entailment.specs.Index.{IsMadeUpByB}
-use Rattle.entailment.proofs.lookup.made_up.Given as goal
-
-abbrev pub invariant-loop-index : goal.invariant-loop-index
-invariant-loop-index l = All (λ a. IsMadeUpByB l.search.facts.now l.search.form.now (l.search.layers.settled.now ++ l.search.layers.recent.now) a → ⊥) (take l.index (factors l.search.form.now.terms))

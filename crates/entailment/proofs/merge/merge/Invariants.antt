@@ -1,6 +1,0 @@
-use Rattle.std.proofs.Common.{take}
-use Rattle.entailment.specs.Index.{IsMerging}
-use Rattle.entailment.proofs.merge.merge.Given as goal
-
-abbrev pub invariant-loop-entry : goal.invariant-loop-entry
-invariant-loop-entry l = IsMerging l.facts l.entries (take l.entry-index l.fresh) l.rest l.all.items

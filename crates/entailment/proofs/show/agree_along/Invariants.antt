@@ -1,7 +1,0 @@
-use Rattle.std.proofs.Common.{take}
-use Rattle.std.specs.List.{All}
-use Rattle.entailment.specs.Search.{Agrees}
-use Rattle.entailment.proofs.show.agree_along.Given as goal
-
-abbrev pub invariant-loop-term : goal.invariant-loop-term
-invariant-loop-term l = All (λ t. Agrees l.e l.a l.f l.b l.g t.register.0) (take l.term-index l.named)

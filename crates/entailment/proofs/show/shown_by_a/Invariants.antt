@@ -1,7 +1,0 @@
-use Rattle.std.proofs.Common.{take}
-use Rattle.std.specs.List.{All}
-use Rattle.entailment.specs.Search.{IsFoundByB, newest, side_at}
-use Rattle.entailment.proofs.show.shown_by_a.Given as goal
-
-abbrev pub invariant-loop-second : goal.invariant-loop-second
-invariant-loop-second l = All (λ g. IsFoundByB l.form l.a (side_at l.facts l.first) g → ⊥) (take l.second (newest l.facts))

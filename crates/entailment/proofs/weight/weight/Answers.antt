@@ -1,7 +1,0 @@
-use Rattle.std.proofs.Common.{arith}
-use Rattle.entailment.specs.Index.{weight}
-use Rattle.entailment.proofs.weight.weight.Goals as goal
-
-pub returns-clause-value : goal.returns-clause-value
-unfolding weight
-returns-clause-value c = omega (arith, c.spread_square-first.ensures.value, c.spread_square-second.ensures.value)

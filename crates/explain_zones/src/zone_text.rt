@@ -1,0 +1,203 @@
+//! How zones are spelled where they are judged, and why one covers another not.
+
+use explain_facts::{Known, Scene, push_form};
+use explain_findings::line_at;
+use footprints::{PlacedZone, mode_covers, same_object};
+use linear::{Form, side_of};
+use lists::{OutOfMemory, Seq};
+use program::{Mode, Zone};
+use ranges::{Move, Sum, Unanswered, push_parts, sum_form};
+use std::alloc::Global;
+
+pub fn mode_word(mode: Mode) -> &'static str {
+    match mode {
+        Mode::Reads => "reads",
+        Mode::Writes => "writes",
+        Mode::Adds => "adds",
+    }
+}
+
+/// A zone in its own function.
+pub fn as_written(zone: &Zone) -> PlacedZone<'_> {
+    PlacedZone {
+        object: zone.object,
+        moves: &[],
+        zone,
+    }
+}
+
+/// A form with what phis or arguments put in for its registers.
+fn placed_form(alloc: Global, moves: &[Move], form: &Form) -> Result<Option<Form>, OutOfMemory> {
+    let side = side_of(form);
+    let mut parts = Vec::new(alloc);
+    push_parts(&mut parts, moves, 1, side.terms)?;
+    let sum = Sum {
+        constant: side.constant,
+        parts: Seq::from_vec(parts),
+    };
+    sum_form(alloc, &sum)
+}
+
+fn push_placed_form(
+    alloc: Global,
+    scene: &Scene<'_>,
+    moves: &[Move],
+    form: &Form,
+    out: &mut String,
+) -> Result<(), OutOfMemory> {
+    out.push_str(" ")?;
+    match placed_form(alloc, moves, form)? {
+        Some(form) => push_form(alloc, scene, &form, out),
+        None => Ok(out.push_str("?")?),
+    }
+}
+
+/// `writes @a 0 %i+1`, with what phis or arguments put in.
+pub fn push_zone(
+    alloc: Global,
+    scene: &Scene<'_>,
+    y: &PlacedZone<'_>,
+    out: &mut String,
+) -> Result<(), OutOfMemory> {
+    let (sigil, name) = scene.object(y.object);
+    let mode = mode_word(y.zone.mode);
+    write!(out, "{mode} {sigil}{name}")?;
+    push_placed_form(alloc, scene, y.moves, &y.zone.low, out)?;
+    push_placed_form(alloc, scene, y.moves, &y.zone.high, out)
+}
+
+/// high - low, each with what stands for its registers put in.
+pub fn between(
+    alloc: Global,
+    for_high: &[Move],
+    high: &Form,
+    for_low: &[Move],
+    low: &Form,
+) -> Result<Sum, OutOfMemory> {
+    let high = side_of(high);
+    let low = side_of(low);
+    let mut parts = Vec::new(alloc);
+    push_parts(&mut parts, for_high, 1, high.terms)?;
+    push_parts(&mut parts, for_low, -1, low.terms)?;
+    Ok(Sum {
+        constant: high.constant.saturating_sub(low.constant),
+        parts: Seq::from_vec(parts),
+    })
+}
+
+/// The annotation's line as the text has it.
+fn push_candidate(text: &str, line: u32, out: &mut String) -> Result<(), OutOfMemory> {
+    let words = line_at(text, line).unwrap_or("").trim();
+    Ok(writeln!(out, "    line {line}, {words}")?)
+}
+
+/// A line on how far what is known is from showing a sum.
+fn push_gap_line(
+    alloc: Global,
+    known: Known<'_>,
+    what: &str,
+    sum: &Sum,
+    out: &mut String,
+) -> Result<(), Unanswered> {
+    out.push_str(what)?;
+    known.push_gap(alloc, sum, out)?;
+    Ok(out.push_str("\n")?)
+}
+
+/// An end of a zone, where it is not shown to reach as far.
+fn push_end(
+    alloc: Global,
+    known: Known<'_>,
+    what: &str,
+    sum: &Sum,
+    out: &mut String,
+) -> Result<(), Unanswered> {
+    if known.shows(alloc, sum)? {
+        Ok(())
+    } else {
+        push_gap_line(alloc, known, what, sum, out)
+    }
+}
+
+fn push_low_end(
+    alloc: Global,
+    known: Known<'_>,
+    z: &PlacedZone<'_>,
+    y: &PlacedZone<'_>,
+    out: &mut String,
+) -> Result<(), Unanswered> {
+    let low = between(alloc, y.moves, &y.zone.low, z.moves, &z.zone.low)?;
+    push_end(alloc, known, "      its low end: ", &low, out)
+}
+
+fn push_high_end(
+    alloc: Global,
+    known: Known<'_>,
+    z: &PlacedZone<'_>,
+    y: &PlacedZone<'_>,
+    out: &mut String,
+) -> Result<(), Unanswered> {
+    let high = between(alloc, z.moves, &z.zone.high, y.moves, &y.zone.high)?;
+    push_end(alloc, known, "      its high end: ", &high, out)
+}
+
+/// A mode that a zone's own does not let.
+fn push_mode(own: Mode, wanted: Mode, out: &mut String) -> Result<(), OutOfMemory> {
+    if !mode_covers(own, wanted) {
+        let mode = mode_word(wanted);
+        writeln!(out, "      its mode does not let {mode}")?;
+    }
+    Ok(())
+}
+
+/// Why `z`, which stands on a line of the text, does not cover `y`. Says nothing of another object.
+pub fn push_why_not(
+    alloc: Global,
+    text: &str,
+    known: Known<'_>,
+    z: &PlacedZone<'_>,
+    y: &PlacedZone<'_>,
+    out: &mut String,
+) -> Result<bool, Unanswered> {
+    if !same_object(z.object, y.object) {
+        return Ok(false);
+    }
+    push_candidate(text, z.zone.line, out)?;
+    push_mode(z.zone.mode, y.zone.mode, out)?;
+    push_low_end(alloc, known, z, y, out)?;
+    push_high_end(alloc, known, z, y, out)?;
+    Ok(true)
+}
+
+/// What would have to be shown for one zone to begin behind another.
+fn push_behind(
+    alloc: Global,
+    known: Known<'_>,
+    what: &str,
+    later: &PlacedZone<'_>,
+    earlier: &PlacedZone<'_>,
+    out: &mut String,
+) -> Result<(), Unanswered> {
+    let room = between(
+        alloc,
+        later.moves,
+        &later.zone.low,
+        earlier.moves,
+        &earlier.zone.high,
+    )?;
+    push_gap_line(alloc, known, what, &room, out)
+}
+
+/// What would have to be shown for two zones to be apart.
+pub fn push_why_beside(
+    alloc: Global,
+    text: &str,
+    known: Known<'_>,
+    z: &PlacedZone<'_>,
+    y: &PlacedZone<'_>,
+    out: &mut String,
+) -> Result<(), Unanswered> {
+    push_candidate(text, z.zone.line, out)?;
+    push_behind(alloc, known, "      to end before it: ", z, y, out)?;
+    push_behind(alloc, known, "      to begin after it: ", y, z, out)
+}

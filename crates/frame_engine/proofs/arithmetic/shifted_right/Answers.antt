@@ -1,0 +1,14 @@
+use mir.Val.{bits as bits_of}
+use Rattle.semantics.specs.Arithmetic.{word}
+use Rattle.std.proofs.Common.{◌∙◌, ◌<◌, ◌^◌, ◌/◌, arith}
+use Rattle.std.proofs.Math.Nat.{div-le_self}
+use Rattle.frame_engine.proofs.Bits.{read_again, written, bits_are, gives_amount}
+use Rattle.frame_engine.proofs.Division.{amount_given}
+use Rattle.frame_engine.proofs.arithmetic.shifted_right.Goals as goal
+
+pub returns : goal.returns
+returns c =
+    let m = read_again c.args.width c.args.left c.unsigned.result c.ranges.left c.unsigned.ensures.value c.requires.left in
+    let n = read_again c.args.width c.args.right c.unsigned-2.result c.ranges.right c.unsigned-2.ensures.value c.requires.right in
+    let small : c.unsigned.result / 2 ^ c.unsigned-2.result < 2 ^ bits_of (word c.args.width) = omega (arith, div-le_self c.unsigned.result (2 ^ c.unsigned-2.result), c.unsigned.ensures.in_range) in
+    gives_amount _ _ _ (amount_given _ _ c.requires.given) (written c.signed.result c.signed.type_inv ∙ bits_are (λ a b. a / 2 ^ b) c.args.width c.args.left c.args.right c.signed.result c.unsigned.result c.unsigned-2.result m n (c.signed.ensures.value small))

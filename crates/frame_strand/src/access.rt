@@ -1,0 +1,35 @@
+ghost use Rattle.frame_strand.specs.Buffers.{BuffersDo, BuffersRefuse, any_address, may_hold};
+
+use crate::cells::{Change, Stop, StrandCells};
+use frame_engine::Cells;
+
+impl Cells for StrandCells {
+    type Stop = Stop;
+
+    ghost reaches = { any_address };
+
+    ghost holds = { may_hold };
+
+    ghost does = { BuffersDo };
+
+    ghost refuses = { BuffersRefuse };
+
+    fn load(&mut self, at: i64) -> Result<i64, Stop> {
+        match self.change(&at) {
+            Some((_, Change::Stored(number))) => Ok(number),
+            Some((_, Change::Delta(_))) => Err(self.unread(&at)),
+            None => match self.value(&at) {
+                Some(number) => Ok(number),
+                None => Err(self.unread(&at)),
+            },
+        }
+    }
+
+    fn store(&mut self, at: i64, number: i64) -> Result<(), Stop> {
+        self.store_at(&at, &number)
+    }
+
+    fn add(&mut self, at: i64, number: i64) -> Result<(), Stop> {
+        self.add_at(&at, &number)
+    }
+}

@@ -1,0 +1,36 @@
+//! Strands: what a frame does outside of the machine, as lists of effects that the machine takes over at once. There is no code to run here.
+//!
+//! - `Footprint`: the cells that a strand read and wrote, and the deltas that it adds.
+//! - `Strands`: what a strand is, and where it pauses.
+//! - `Law`: a strand that fits a machine is steps of the worker that runs its frame.
+#![tactic(auto)]
+
+ghost use Rattle.laws_strands.specs.Law.{ReachedNeverTraps, ReadsAreThere, StrandsAreSteps, StrandsAreStepsWhereDefined, StrandsGoOverBorders};
+
+/// Where the frame and the reads of a strand are those of a machine that never traps, the strand is as many steps of the worker that runs
+/// the frame: each is enabled, and after them the machine is what it was but for the strand's frame, writes, deltas and count.
+pub fn strands_are_steps()
+    ensures { StrandsAreSteps }
+{}
+
+/// The same of any machine that has not trapped, where the loaded frame may go on and each cell that the strand wrote holds a value:
+/// no such step traps.
+pub fn strands_are_steps_where_defined()
+    ensures { StrandsAreStepsWhereDefined }
+{}
+
+/// The strand's steps and one more of the worker, as at a border: it is enabled and does not trap.
+pub fn strands_go_over_borders()
+    ensures { StrandsGoOverBorders }
+{}
+
+/// Where no schedule from a machine traps, none does from a machine that a schedule leads it to.
+pub fn reached_never_traps()
+    ensures { ReachedNeverTraps }
+{}
+
+/// Where a worker of a machine that never traps runs the loaded frame, and each cell that the strand read holds what was read or nothing,
+/// it holds what was read: the strand fits.
+pub fn reads_are_there()
+    ensures { ReadsAreThere }
+{}

@@ -1,0 +1,30 @@
+use Rattle.std.proofs.Common.{◌∙◌, sym, rules, FitsSigned}
+use Rattle.std.specs.Int.{w128}
+use Rattle.std.proofs.lemmas.Bool.{false≢true}
+use Rattle.std.proofs.lemmas.Int.{to_z-of_z}
+use Rattle.linear_shown.proofs.Coefficients.{agree_sums, sums_agree}
+use Rattle.linear_shown.proofs.lookup.is_sum_at.Goals as goal
+
+pub returns-then-not-is_at_most : goal.returns-then-not-is_at_most
+returns-then-not-is_at_most c =
+    let fits_f : FitsSigned w128 c.side_of_place-f.result.constant = search rules in
+    let fits_g : FitsSigned w128 c.side_of_place-g.result.constant = search rules in
+    let fits_e : FitsSigned w128 c.side_of-e.result.constant = search rules in (
+      λ h. absurd (false≢true h),
+      λ s. absurd (false≢true (sym c.if-not-is_at_most.true ∙ c.is_at_most.ensures.1 (simp to_z-of_z (rw (c.side_of_place-f.ensures.constant, c.side_of_place-g.ensures.constant, c.side_of-e.ensures.constant) s.constant)))),
+    )
+
+pub returns : goal.returns
+returns c =
+    let fits_f : FitsSigned w128 c.side_of_place-f.result.constant = search rules in
+    let fits_g : FitsSigned w128 c.side_of_place-g.result.constant = search rules in
+    let fits_e : FitsSigned w128 c.side_of-e.result.constant = search rules in
+    let e = c.side_of-e.ensures in
+    let f = c.side_of_place-f.ensures in
+    let g = c.side_of_place-g.ensures in (
+      λ h. record {
+        terms = rw (e.terms, f.terms, g.terms) at (agree_sums _ _ _ c.args.a c.args.b e.rising f.rising g.rising (c.agree.ensures.0 h));
+        constant = let le = simp to_z-of_z at (c.is_at_most.ensures.0 c.if-not-is_at_most.false) in rw (e.constant, f.constant, g.constant) at le;
+      },
+      λ s. c.agree.ensures.1 (sums_agree _ _ _ c.args.a c.args.b e.rising f.rising g.rising (rw (e.terms, f.terms, g.terms) s.terms)),
+    )

@@ -1,0 +1,31 @@
+use Rattle.std.proofs.Common.{◌∙◌, ◌≤◌, ◌-◌, pos, get_or, length, sym, arith}
+use Rattle.std.proofs.lemmas.Bool.{false≢true}
+use Rattle.linear_shown.specs.declared.index.Entry.{Entry}
+use Rattle.linear_shown.specs.Index.{Meet}
+use Rattle.linear_shown.proofs.Passing.{passed_both, they_meet}
+use Rattle.linear_shown.proofs.meeting.skipped_alike.Goals as goal
+
+abbrev none : Entry
+none = record { key = 0; constant = pos 0; place = 0 }
+
+pub loop-first-preserved : goal.loop-first-preserved
+loop-first-preserved c =
+    let xs = c.args.pass.now.firsts.now in
+    let ys = c.args.pass.now.seconds.now in
+    let total = c.args.pass.now.sought.total in
+    let a = c.args.pass.now.a in
+    let first = c.loop-first.first in
+    let count = c.loop-first.count in
+    let old = c.loop-first.invariant in
+    let within : count ≤ length ys = omega (arith, old.2, c.requires.upto) in
+    let met : Meet xs ys 1 1 total first (count - 1) = they_meet xs ys 1 1 total first (count - 1) none none (get_or xs first none).key (get_or ys (count - 1) none).key
+    (omega (arith, c.loop-first-test.true)) (omega (arith, c.if-count-gt1.true, within)) (omega arith) (omega arith) c.if-one-other.false in (
+      omega (arith, old.0),
+      omega (arith, c.loop-first-test.true),
+      omega (arith, old.2),
+      λ i k le li lk m s.
+          let was = old.3 i k le li lk m s in
+          passed_both xs ys 1 1 total a a c.args.pass.now.most first count i k none c.requires.firsts.sorted c.requires.seconds.sorted (omega arith) (omega arith) c.if-count-gt1.true within c.loop-first-test.true
+          met (λ h. false≢true (sym c.if-is_enough.false ∙ c.is_enough.ensures.1 h)) (c.is_single.ensures.first none c.if-not-is_single.false) (c.is_single.ensures.second none c.if-not-is_single.false)
+          was.0 li was.1 m s,
+    )

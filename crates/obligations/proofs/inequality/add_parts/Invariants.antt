@@ -1,6 +1,0 @@
-use Rattle.std.proofs.Common.{◌≡◌, ◌++◌, take}
-use Rattle.obligations.specs.Inequalities.{parts_of}
-use Rattle.obligations.proofs.inequality.add_parts.Given as goal
-
-abbrev pub invariant-loop-term : goal.invariant-loop-term
-invariant-loop-term l = l.parts.items ≡ l.initial.parts.items ++ parts_of l.moves l.sign (take l.term-index l.terms)

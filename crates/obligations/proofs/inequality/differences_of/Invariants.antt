@@ -1,6 +1,0 @@
-use Rattle.std.proofs.Common.{◌≡◌, take}
-use Rattle.obligations.specs.Inequalities.{differences_of}
-use Rattle.obligations.proofs.inequality.differences_of.Given as goal
-
-abbrev pub invariant-loop-inequality : goal.invariant-loop-inequality
-invariant-loop-inequality l = l.sums.items ≡ differences_of l.moves (take l.inequality-index l.inequalities)

@@ -1,5 +1,0 @@
-use Rattle.phase_laws.proofs.costs.Ends.{ends_from_any_place}
-use Rattle.phase_laws.proofs.ends_from_any_place.Goals as goal
-
-pub returns : goal.returns
-returns c = ends_from_any_place

@@ -1,5 +1,0 @@
-use Rattle.phase_laws.proofs.costs.Ends.{run_ends_within_budget}
-use Rattle.phase_laws.proofs.run_ends_within_budget.Goals as goal
-
-pub returns : goal.returns
-returns c = run_ends_within_budget

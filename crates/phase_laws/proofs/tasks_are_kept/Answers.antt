@@ -1,5 +1,0 @@
-use Rattle.phase_laws.proofs.defined.Placed.{tasks_kept_alone}
-use Rattle.phase_laws.proofs.tasks_are_kept.Goals as goal
-
-pub returns : goal.returns
-returns c = tasks_kept_alone

@@ -1,0 +1,24 @@
+use Rattle.std.proofs.Common.{ap, sym, subst}
+use Rattle.std.proofs.Math.Logic.{∥∥₁_elim}
+use Rattle.frame_engine.specs.Names.{HasResult}
+use Rattle.serial_stack.proofs.Returning.{result_prop, return_names}
+use Rattle.private_stack.specs.declared.pile.Pile.{Pile}
+use Rattle.private_stack.proofs.Ending.{caller_takes, return_shown}
+use Rattle.private_stack.proofs.pile.Pile.return_with.Goals as goal
+
+pub returned-result-requires : goal.returned-result-requires
+returned-result-requires c = return_names c.args.program.now c.args.places.now _ c.args.self.now.top c.args.value c.requires.text c.requires.stands c.requires.item
+
+pub resume-requires : goal.resume-requires
+resume-requires c =
+    subst (HasResult _) (sym c.taker-register.ensures)
+    (∥∥₁_elim c.requires.safe (result_prop _ _) (λ w. caller_takes w.layout c.args.program.now c.args.places.now w.strand c.args.self.now w.is w.shown w.can c.args.value c.requires.item c.pop.new.self.items c.in-Some.caller c.in-Some.ensures.items))
+
+pub returns-clause-goes : goal.returns-clause-goes
+returns-clause-goes c = λ l d is h can.
+    let x = c.args.self.now in
+    let only = c.in_ok-go_back_to-in-Some.ensures.only in
+    return_shown l c.args.program.now c.args.places.now d x is h can c.args.value c.requires.item c.pop.new.self.items c.in-Some.caller c.in-Some.ensures.items
+    c.resume.new.self c.returned-result.result c.taker-register.result c.taker-register.ensures c.resume.ensures.only c.resume.ensures.registers c.resume.ensures.shown
+    (λ v e. c.returned-result.ensures c.args.program.now l c.args.places.now d.top.path d.top.frame v h.top.shown e) c.go_back_to.new.self
+    (ap (λ (y : Pile). y.base) only) (ap (λ (y : Pile). y.top) only) (ap (λ (y : Pile). y.below.items) only) (ap (λ (y : Pile). y.done) only) (ap (λ (y : Pile). y.deepest) only) (ap (λ (y : Pile). y.cells) only)

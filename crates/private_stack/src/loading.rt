@@ -1,0 +1,104 @@
+ghost use Rattle.std.specs.Prelude.{◌≡◌, [], IfOk, OnOk, length, max};
+ghost use Rattle.program.specs.declared.function.Program.{Program};
+ghost use Rattle.frame_engine.specs.declared.activation.Places.{Places};
+ghost use Rattle.frame_engine.specs.Activation.{FrameFits};
+ghost use Rattle.frame_strand.specs.Standing.{IsCopy};
+ghost use Rattle.private_stack_log.specs.Logs.{empty_log, pages_of};
+ghost use Rattle.private_stack_log.specs.Tables.{log_of};
+ghost use Rattle.private_stack.specs.Along.{IsUnderWay, MayBegin};
+
+use crate::pile::{Base, Pile, blank};
+use frame_engine::{Frame, Place};
+use lists::OutOfMemory;
+use private_stack_log::PageLog;
+use std::alloc::Global;
+
+/// Room for so many phi moves.
+fn spare_words(alloc: Global, count: usize) -> Result<Vec<i64>, OutOfMemory>
+    ensures { IfOk result (λ words. length words.items ≡ count) }
+{
+    let mut words = Vec::with_capacity(alloc, count)?;
+    words.resize(count, 0)?;
+    Ok(words)
+}
+
+/// Makes the frame a copy of the other.
+fn copy_frame(target: &mut Frame, source: &Frame) -> Result<(), OutOfMemory>
+    ensures { OnOk result (IsCopy source.now target.new) }
+{
+    target.registers.clear();
+    target
+        .registers
+        .extend_from_slice(source.registers.as_slice())?;
+    target.function = source.function;
+    target.place = Place {
+        block: source.place.block,
+        index: source.place.index,
+    };
+    target.home = source.home;
+    target.made = source.made;
+    target.waits = source.waits;
+    target.role = source.role;
+    target.depth = source.depth;
+    Ok(())
+}
+
+impl Pile {
+    /// A pile without a base, with room for so many phi moves.
+    pub fn new(alloc: Global, moves: usize) -> Result<Pile, OutOfMemory>
+        ensures { IfOk result (λ x. length x.moves.items ≡ moves) }
+    {
+        let cells = PageLog::new(alloc)?;
+        let moves = spare_words(alloc, moves)?;
+        Ok(Pile {
+            alloc,
+            base: Base {
+                path: Vec::new(alloc),
+                frame: blank(alloc),
+                childless: false,
+            },
+            top: blank(alloc),
+            below: Vec::new(alloc),
+            spare: Vec::new(alloc),
+            done: 0,
+            deepest: 0,
+            cells,
+            moves,
+        })
+    }
+
+    /// Begins with a copy of the board's frame, whose path has the root's number first. `childless` says that no child lives that a sync of the frame waits for;
+    /// `cells` is how many cells the board has.
+    ///
+    /// # Errors
+    ///
+    /// Memory was refused: the pile shows nothing any more.
+    pub fn load(
+        &mut self,
+        frame: &Frame,
+        path: &[u64],
+        childless: bool,
+        cells: usize,
+    ) -> Result<(), OutOfMemory>
+        ensures path { OnOk result (self.new.base.path.items ≡ path.now) }
+        ensures loaded { OnOk result (IsCopy frame.now self.new.base.frame) }
+        ensures childless { OnOk result (self.new.base.childless ≡ childless) }
+        ensures moves { OnOk result (self.new.moves ≡ self.old.moves) }
+        ensures done { OnOk result (self.new.done ≡ 0) }
+        ensures cells { OnOk result (log_of self.new.cells ≡ empty_log (max (log_of self.old.cells).pages (pages_of cells))) }
+        ensures way { OnOk result ((prog : Program) (places : Places) → FrameFits prog frame.now → MayBegin prog places path.now frame.now childless →
+            IsUnderWay prog places self.new) }
+    {
+        self.base.path.clear();
+        self.base.path.extend_from_slice(path)?;
+        copy_frame(&mut self.base.frame, frame)?;
+        copy_frame(&mut self.top, frame)?;
+        self.spare.append(&mut self.below)?;
+        self.base.childless = childless;
+        self.done = 0;
+        self.deepest = 0;
+        self.cells.clear();
+        self.cells.widen(cells)?;
+        Ok(())
+    }
+}

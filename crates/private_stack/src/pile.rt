@@ -1,0 +1,82 @@
+ghost use Rattle.std.specs.Prelude.{◌≡◌, ◌++◌, ◌∷◌, [], OnOk};
+
+use frame_engine::{Frame, Place};
+use frame::{Role, Wait};
+use lists::OutOfMemory;
+use private_stack_log::PageLog;
+use program::{BlockId, FunctionId};
+use std::alloc::Global;
+use std::mem;
+
+/// The board's frame as it was loaded, and its path, the root's number first.
+#[derive(Drop)]
+pub struct Base {
+    pub path: Vec<u64>,
+    pub frame: Frame,
+    /// Whether it had no child then that a sync of it waits for.
+    pub childless: bool,
+}
+
+/// What a worker has done since it loaded the base: the frame that goes on, the frames below it, each of which made the one above it, and the
+/// cells that were read and written. Frames that are over are used again.
+#[derive(Drop)]
+pub struct Pile {
+    pub alloc: Global,
+    pub base: Base,
+    pub top: Frame,
+    pub below: Vec<Frame>,
+    pub spare: Vec<Frame>,
+    /// Instructions.
+    pub done: u64,
+    /// The most frames from the root to one that was made here.
+    pub deepest: usize,
+    pub cells: PageLog,
+    /// Room for the phi moves of an edge.
+    pub moves: Vec<i64>,
+}
+
+/// A frame to be made something of.
+pub(crate) fn blank(alloc: Global) -> Frame {
+    Frame {
+        function: FunctionId(0),
+        place: Place {
+            block: BlockId(0),
+            index: 0,
+        },
+        registers: Vec::new(alloc),
+        home: 0,
+        made: 0,
+        waits: Wait::Nothing,
+        role: Role::Body,
+        depth: 0,
+    }
+}
+
+/// A frame that is over, or a new one.
+pub(crate) fn fresh(spare: &mut Vec<Frame>, alloc: Global) -> Frame {
+    match spare.pop() {
+        Some(frame) => frame,
+        None => blank(alloc),
+    }
+}
+
+impl Pile {
+    /// The frame goes on, on top of the one that made it.
+    pub(crate) fn push(&mut self, frame: Frame) -> Result<(), OutOfMemory>
+        ensures below { OnOk result (self.new.below.items ≡ self.old.below.items ++ self.old.top ∷ []) }
+        ensures only { OnOk result (self.new ≡ record self.old { top = frame; below = self.new.below }) }
+    {
+        let maker = mem::replace(&mut self.top, frame);
+        self.below.push(maker)?;
+        Ok(())
+    }
+
+    /// The frame, which stood below the one on top, goes on.
+    pub(crate) fn go_back_to(&mut self, frame: Frame) -> Result<(), OutOfMemory>
+        ensures only { OnOk result (self.new ≡ record self.old { top = frame; spare = self.new.spare }) }
+    {
+        let over = mem::replace(&mut self.top, frame);
+        self.spare.push(over)?;
+        Ok(())
+    }
+}

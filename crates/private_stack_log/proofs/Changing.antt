@@ -1,0 +1,77 @@
+-- What loads, stores and adds make of a page.
+use Rattle.std.proofs.Common.{◌≡◌, ◌≢◌, ◌<◌, ◌⊎◌, ℕ, ℤ, sym, ap, ◌∙◌, Bool, true, false, length, set, Option, Some, inl, inr}
+use Rattle.semantics.specs.Arithmetic.{cell_sum}
+use Rattle.frame_strand.specs.Buffers.{raised_change}
+use Rattle.frame_strand.specs.declared.cells.Change.{Change}
+use Rattle.frame_strand.specs.declared.cells.Change.TheVariants.{Stored, Delta}
+use Rattle.private_stack_log.specs.Bits.{is_set}
+use Rattle.private_stack_log.specs.Known.{at_place, read_after, settled_change}
+use Rattle.private_stack_log.specs.Pages.{Kept, changed_page, loaded_page}
+use Rattle.private_stack_log.specs.Paging.{change_by, kept_of, near_by, number_at, number_if, reads_by, writes_by}
+use Rattle.private_stack_log.specs.declared.page.Page.{Page}
+use Rattle.private_stack_log.proofs.Keeping.{below_is, deltas_more, reads_more, renumbered, same_place, stores_more}
+
+module _ (x : Page) (k : ℕ) where
+  abbrev near : Option ℤ
+  near = near_by x.filled x.values k
+
+  abbrev read : Option ℤ
+  read = reads_by x.read x.values k
+
+  abbrev number : ℤ
+  number = number_at x.changes k
+
+  abbrev with_reads : (ℕ → Option ℤ) → (ℕ → Option Change) → Kept
+  with_reads reads writes = record { number = x.number; near = near_by x.filled x.values; reads = reads; writes = writes }
+
+  pub loaded_stored : is_set x.stored k ≡ true → kept_of x ≡ loaded_page (kept_of x) k
+  loaded_stored stored = λ i. with_reads
+      (same_place k (read_after (writes_by x.stored x.delta x.changes k) near read) (reads_by x.read x.values) (ap (λ t. read_after (change_by t (is_set x.delta k) number) near read) stored) i)
+      (same_place k (settled_change (writes_by x.stored x.delta x.changes k) near) (writes_by x.stored x.delta x.changes)
+      (ap (λ t. settled_change (change_by t (is_set x.delta k) number) near) stored ∙ sym (ap (λ t. change_by t (is_set x.delta k) number) stored)) i)
+
+  module _ (fresh : is_set x.stored k ≡ false) (here : k < x.filled) (bits : ℕ) (on : is_set bits k ≡ true) (others : (j : ℕ) → j ≢ k → is_set bits j ≡ is_set x.read j) where
+    there : near ≡ Some (number_at x.values k)
+    there = ap (λ (t : Bool). number_if t (number_at x.values k)) (below_is k x.filled here)
+
+    pub loaded_unwritten : is_set x.delta k ≡ false → with_reads (reads_by bits x.values) (writes_by x.stored x.delta x.changes) ≡ loaded_page (kept_of x) k
+    loaded_unwritten plain = λ i. with_reads
+        ((reads_more k x.read bits on others x.values ∙ ap (λ o. at_place k o (reads_by x.read x.values)) (sym (λ j. read_after (change_by (fresh j) (plain j) number) (there j) read))) i)
+        (same_place k (settled_change (writes_by x.stored x.delta x.changes k) near) (writes_by x.stored x.delta x.changes)
+        ((λ j. settled_change (change_by (fresh j) (plain j) number) near) ∙ sym (λ j. change_by (fresh j) (plain j) number)) i)
+
+    pub loaded_delta : is_set x.delta k ≡ true → k < length x.changes → (all : ℕ) → is_set all k ≡ true → ((j : ℕ) → j ≢ k → is_set all j ≡ is_set x.stored j) →
+        (z : ℤ) → z ≡ cell_sum (number_at x.values k) number →
+        with_reads (reads_by bits x.values) (writes_by all x.delta (set x.changes k z)) ≡ loaded_page (kept_of x) k
+    loaded_delta delta lt all set_now rest z is = λ i. with_reads
+        ((reads_more k x.read bits on others x.values ∙ ap (λ o. at_place k o (reads_by x.read x.values)) (sym (λ j. read_after (change_by (fresh j) (delta j) number) (there j) read))) i)
+        ((stores_more k x.stored all set_now rest x.delta x.changes z lt ∙
+        ap (λ o. at_place k o (writes_by x.stored x.delta x.changes))
+        (ap (λ n. Some (Stored n)) is ∙ sym (λ j. settled_change (change_by (fresh j) (delta j) number) (there j)))) i)
+
+  pub stored_here : (all : ℕ) → is_set all k ≡ true → ((j : ℕ) → j ≢ k → is_set all j ≡ is_set x.stored j) → k < length x.changes → (y z : ℤ) → y ≡ z →
+      with_reads (reads_by x.read x.values) (writes_by all x.delta (set x.changes k y)) ≡ changed_page (kept_of x) k (Stored z)
+  stored_here all set_now rest lt y z e = λ i. with_reads (reads_by x.read x.values)
+      ((stores_more k x.stored all set_now rest x.delta x.changes y lt ∙ ap (λ n. at_place k (Some (Stored n)) (writes_by x.stored x.delta x.changes)) e) i)
+
+  pub added_change : (is_set x.stored k ≡ true) ⊎ ((is_set x.stored k ≡ false) × (is_set x.delta k ≡ true)) → k < length x.changes → (n z : ℤ) → z ≡ cell_sum number n →
+      with_reads (reads_by x.read x.values) (writes_by x.stored x.delta (set x.changes k z)) ≡ changed_page (kept_of x) k (raised_change n (writes_by x.stored x.delta x.changes k) read)
+  added_change kept lt n z e = λ i. with_reads (reads_by x.read x.values)
+      ((renumbered x.stored x.delta x.changes k z lt ∙ ap (λ o. at_place k o (writes_by x.stored x.delta x.changes)) (ap (change_by (is_set x.stored k) (is_set x.delta k)) e ∙ as_raised kept)) i)
+    where
+      as_raised : (is_set x.stored k ≡ true) ⊎ ((is_set x.stored k ≡ false) × (is_set x.delta k ≡ true)) →
+          change_by (is_set x.stored k) (is_set x.delta k) (cell_sum number n) ≡ Some (raised_change n (writes_by x.stored x.delta x.changes k) read)
+      as_raised (inl s) = ap (λ t. change_by t (is_set x.delta k) (cell_sum number n)) s ∙ sym (ap (λ t. Some (raised_change n (change_by t (is_set x.delta k) number) read)) s)
+      as_raised (inr d) = (λ j. change_by (d.0 j) (d.1 j) (cell_sum number n)) ∙ sym (λ j. Some (raised_change n (change_by (d.0 j) (d.1 j) number) read))
+
+  -- neither stored nor added to yet
+  module _ (fresh : is_set x.stored k ≡ false) (plain : is_set x.delta k ≡ false) where
+    pub raised_read : is_set x.read k ≡ true → (n : ℤ) → Stored (cell_sum (number_at x.values k) n) ≡ raised_change n (writes_by x.stored x.delta x.changes k) read
+    raised_read on n = sym (λ j. raised_change n (change_by (fresh j) (plain j) number) (number_if (on j) (number_at x.values k)))
+
+    pub added_delta : is_set x.read k ≡ false → (all : ℕ) → is_set all k ≡ true → ((j : ℕ) → j ≢ k → is_set all j ≡ is_set x.delta j) → k < length x.changes → (n z : ℤ) → z ≡ n →
+        with_reads (reads_by x.read x.values) (writes_by x.stored all (set x.changes k z)) ≡ changed_page (kept_of x) k (raised_change n (writes_by x.stored x.delta x.changes k) read)
+    added_delta unread all set_now rest lt n z e = λ i. with_reads (reads_by x.read x.values)
+        ((deltas_more k x.delta all set_now rest x.stored x.changes z fresh lt ∙
+        ap (λ u. at_place k (Some u) (writes_by x.stored x.delta x.changes))
+        (ap (λ m. Delta m) e ∙ sym (λ j. raised_change n (change_by (fresh j) (plain j) number) (number_if (unread j) (number_at x.values k))))) i)

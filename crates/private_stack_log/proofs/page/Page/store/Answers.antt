@@ -1,0 +1,14 @@
+use Rattle.std.proofs.Common.{arith, rules, w64}
+use Rattle.std.specs.Prelude.{FitsSigned}
+use Rattle.std.proofs.lemmas.Int.{to_z-of_z}
+use Rattle.private_stack_log.proofs.Changing.{stored_here}
+use Rattle.private_stack_log.proofs.page.Page.store.Goals as goal
+
+pub returns : goal.returns
+returns c =
+    let x = c.args.self.now in
+    let fit : FitsSigned w64 c.args.number.now = search rules in
+    let long = x.rows.1 in
+    let within = c.requires in
+    stored_here x c.args.place c.with_bit-self.result c.with_bit-self.ensures.set c.with_bit-self.ensures.others (omega (arith, long, within)) _ c.args.number.now
+    (to_z-of_z w64 c.args.number.now fit)

@@ -1,0 +1,49 @@
+-- What a run comes to that takes over a pile.
+use Rattle.std.specs.Prelude.{ℕ, length}
+use Rattle.semantics.specs.Events.{Machine}
+use Rattle.program.specs.declared.function.Program.{Program}
+use Rattle.laws_strands.specs.Law.{Happen, steps_by}
+use Rattle.laws_stacks.specs.Deep.{DeepStrand, IsDeep}
+use Rattle.laws_stacks.specs.Law.{IsOrderly, absorbed}
+use Rattle.frame_engine.specs.declared.activation.Places.{Places}
+use Rattle.schedule_workers.specs.declared.run.Run.{Run}
+use Rattle.schedule_workers.specs.Going.{RunsSafely}
+use Rattle.schedule_workers.specs.Layouts.{layout_of, living}
+use Rattle.schedule_workers.specs.Shown.{IsShown}
+use Rattle.schedule_workers.specs.Stalls.{Blocks, StallsAgree, last_blocks}
+use Rattle.private_stack.specs.Along.{LoadsGoDeep}
+use Rattle.private_stack.specs.Shown.{ShowsPile}
+use Rattle.private_stack.specs.declared.pile.Pile.{Pile}
+
+-- a worker's frame of the machine may be loaded as the base of a pile
+abbrev pub GoesDeepIn : Program → Places → Machine → Type 0
+GoesDeepIn prog places m = LoadsGoDeep prog places (living prog m.core) m
+
+-- some machine is shown, from which each schedule is safe, and whose workers' frames may go deep
+pub record StandsDeep (prog : Program) (places : Places) (k : Run) : Type 0 where
+  pub machine : Machine
+  pub shown : IsShown prog places machine k
+  pub safe : RunsSafely prog (length k.hands.items) machine
+  pub orderly : IsOrderly machine
+  pub deep : GoesDeepIn prog places machine
+
+-- the pile is a deep strand, whose instructions happen as steps of the worker, and the machine that absorbed it is shown
+pub record Absorbs (prog : Program) (places : Places) (old new : Run) (worker : ℕ) (x : Pile) (m : Machine) : Type 0 where
+  pub strand : DeepStrand
+  pub is : IsDeep prog strand
+  pub pile : ShowsPile (layout_of prog places old.cactus m.core) prog places strand x
+  pub steps : Happen prog (length old.hands.items) (steps_by worker x.done) m (absorbed m worker strand)
+  pub shown : IsShown prog places (absorbed m worker strand) new
+
+-- whatever machine is shown
+abbrev pub DoesDeep : Program → Places → Run → Run → ℕ → Pile → Type 0
+DoesDeep prog places old new worker x =
+    (m : Machine) → IsShown prog places m old → RunsSafely prog (length old.hands.items) m → IsOrderly m → GoesDeepIn prog places m →
+    Absorbs prog places old new worker x m
+
+-- whatever machine is shown, frames that are stalled are so at their last instructions, after the pile's steps
+abbrev pub LeavesStallsDeep : Program → Places → Run → Run → ℕ → Pile → Type 0
+LeavesStallsDeep prog places old new worker x =
+    (m : Machine) → IsShown prog places m old → RunsSafely prog (length old.hands.items) m → IsOrderly m → GoesDeepIn prog places m →
+    (last : Blocks) → StallsAgree last old.cactus →
+    StallsAgree (last_blocks prog (length old.hands.items) (steps_by worker x.done) m last) new.cactus

@@ -1,5 +1,0 @@
-use Rattle.schedule_theorem.proofs.kinds.Kept.{kinds_are_kept}
-use Rattle.schedule_theorem.proofs.kinds_are_kept.Goals as goal
-
-pub returns : goal.returns
-returns c = kinds_are_kept

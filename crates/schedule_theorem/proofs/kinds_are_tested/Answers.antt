@@ -1,5 +1,0 @@
-use Rattle.schedule_theorem.proofs.kinds.Tested.{kinds_are_tested}
-use Rattle.schedule_theorem.proofs.kinds_are_tested.Goals as goal
-
-pub returns : goal.returns
-returns c = kinds_are_tested

@@ -1,5 +1,0 @@
-use Rattle.schedule_theorem.proofs.kinds.Given.{widths_are_given_by_tests}
-use Rattle.schedule_theorem.proofs.widths_are_given_by_tests.Goals as goal
-
-pub returns : goal.returns
-returns c = widths_are_given_by_tests

@@ -1,0 +1,80 @@
+//! A run again, in lists of its own.
+
+ghost use Rattle.std.specs.Prelude.{IfOk};
+ghost use Rattle.schedule_workers.specs.Copying.{IsCopy, IsFrameCopy};
+
+use crate::activation::Activation;
+use crate::run::Run;
+use cactus::FrameData;
+use frame_engine::{Flat, Frame, Place};
+use lists::OutOfMemory;
+use std::alloc::{AllocError, Global};
+
+/// The frame again.
+fn copy_of(frame: &Frame) -> Result<Frame, AllocError>
+    ensures { IfOk result (IsFrameCopy frame.now) }
+{
+    let alloc = *frame.registers.allocator();
+    Ok(Frame {
+        function: frame.function,
+        place: Place {
+            block: frame.place.block,
+            index: frame.place.index,
+        },
+        registers: Vec::from_slice(alloc, frame.registers.as_slice())?,
+        home: frame.home,
+        made: frame.made,
+        waits: frame.waits,
+        role: frame.role,
+        depth: frame.depth,
+    })
+}
+
+impl Clone for Activation {
+    ghost use Rattle.schedule_workers.specs.Copying.{IsActivationCopy};
+
+    ghost is_clone = { IsActivationCopy };
+
+    fn clone(&self) -> Result<Activation, AllocError> {
+        Ok(Activation {
+            frame: copy_of(&self.frame)?,
+            counts: Vec::from_slice(self.allocator(), self.counts.as_slice())?,
+            callee: self.callee,
+            runner: self.runner,
+            stalled_in: self.stalled_in,
+        })
+    }
+}
+
+impl FrameData for Activation {
+    fn allocator(&self) -> Global {
+        *self.counts.allocator()
+    }
+}
+
+impl Run {
+    /// The same run again.
+    ///
+    /// # Errors
+    ///
+    /// Memory was refused.
+    pub fn copy(&self) -> Result<Run, OutOfMemory>
+        ensures { IfOk result (IsCopy self.now) }
+    {
+        let alloc = self.alloc;
+        Ok(Run {
+            alloc,
+            cactus: self.cactus.clone()?,
+            cells: Flat {
+                cells: Vec::from_slice(alloc, self.cells.cells.as_slice())?,
+            },
+            blocks: Vec::from_slice(alloc, self.blocks.as_slice())?,
+            end: self.end,
+            hands: Vec::from_slice(alloc, self.hands.as_slice())?,
+            instructions: self.instructions,
+            peak: self.peak,
+            result: self.result,
+            moves: Vec::from_slice(alloc, self.moves.as_slice())?,
+        })
+    }
+}

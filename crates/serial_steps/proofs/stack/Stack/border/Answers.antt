@@ -1,5 +1,0 @@
-use Rattle.serial_steps.proofs.Turning.{has_ending}
-use Rattle.serial_steps.proofs.stack.Stack.border.Goals as goal
-
-pub item-requires-clause-ends : goal.item-requires-clause-ends
-item-requires-clause-ends c = λ b e none. has_ending c.args.program.now c.args.places.now _ _ _ b c.requires.text e none

@@ -1,5 +1,0 @@
-use Rattle.ticket_lists.proofs.Steps.{takes}
-use Rattle.ticket_lists.proofs.hands.Thief.take_oldest.Goals as goal
-
-pub steal_as-requires-clause-takes : goal.steal_as-requires-clause-takes
-steal_as-requires-clause-takes c = takes _ _ c.self.invariant.0

@@ -1,7 +1,0 @@
-ghost use Rattle.ticket_lists.specs.TicketList.{EachAsOften};
-
-/// In any order of steps that leads to a list, the tickets that were taken and the list together are those that were
-/// offered, each as often.
-pub fn each_as_often()
-    ensures { EachAsOften }
-{}

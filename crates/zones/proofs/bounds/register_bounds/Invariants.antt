@@ -1,6 +1,0 @@
-use Rattle.std.specs.Prelude.{All}
-use Rattle.zones.specs.Ends.{AreBounds}
-use Rattle.zones.proofs.bounds.register_bounds.Given as goal
-
-abbrev pub invariant-loop-index : goal.invariant-loop-index
-invariant-loop-index l = All (AreBounds l.facts) l.bounds.items

@@ -1,6 +1,0 @@
-use Rattle.std.proofs.Common.{rules}
-use Rattle.zones.proofs.Orders.{shown_of_sum}
-use Rattle.zones.proofs.order.number_between.Goals as goal
-
-pub returns-clause-made : goal.returns-clause-made
-returns-clause-made c = search (rules, shown_of_sum)
