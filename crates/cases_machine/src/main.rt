@@ -4,8 +4,8 @@
 //! made once more.
 #![tactic(auto)]
 
-use cases_boards::boards::Notes;
 use cases::{Lines, Report};
+use cases_boards::boards::Notes;
 use std::hash::RandomState;
 use std::io::Write;
 use std::process::ExitCode;

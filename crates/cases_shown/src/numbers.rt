@@ -1,7 +1,7 @@
 //! Forms as plain numbers.
 
-use linear_shown::find_shown;
 use linear::{Fact, Form, FormFault, RegisterId};
+use linear_shown::find_shown;
 use std::alloc::Global;
 
 pub const I: RegisterId = RegisterId(0);

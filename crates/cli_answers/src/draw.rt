@@ -4,8 +4,8 @@ ghost use Rattle.serial_machine.specs.store.Made.{IsMadeFor};
 
 use crate::job::{Job, print_schedule_fault};
 use crate::runs::{prepared, run_replay};
-use debugger::{Memory, read_schedule};
 use cli_modules::{Beside, Status, stop_for_memory};
+use debugger::{Memory, read_schedule};
 use std::io;
 use std::io::Write;
 use view_traces::random_schedule;

@@ -1,8 +1,8 @@
 //! A module that the verifier took, and what is asked of it.
 
+use cli_modules::{Beside, Status, stop_for_memory};
 use cli_words::Request;
 use debugger::{RunFault, ScheduleFault, Verified};
-use cli_modules::{Beside, Status, stop_for_memory};
 use std::alloc::{AllocError, Global};
 use std::io;
 use std::io::Write;

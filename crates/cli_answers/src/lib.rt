@@ -12,6 +12,9 @@ mod requests;
 mod runs;
 mod tell;
 
+pub use cli_modules::{
+    Beside, Status, fail, print_unreadable, print_unverified, read_file, read_text, write_file,
+};
 pub use cli_words::{
     CellWord, Request, Setting, Telling, Verb, WordsFault, bytes_of, text_of, words,
 };
@@ -20,8 +23,5 @@ pub use debugger::{
     read_schedule, replay, verify, verify_within,
 };
 pub use job::Job;
-pub use cli_modules::{
-    Beside, Status, fail, print_unreadable, print_unverified, read_file, read_text, write_file,
-};
 pub use requests::{answer, effort_of};
 pub use runs::{prepared, print_run, print_unprepared};

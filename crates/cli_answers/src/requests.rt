@@ -4,12 +4,12 @@ use crate::draw::run_drawn;
 use crate::job::Job;
 use crate::runs::{debug, run_serial};
 use crate::tell::tell_replay;
-use cli_words::{Request, Verb, completions, manual};
-use debugger::{Effort, verify_within};
 use cli_modules::{
     Beside, Status, answer_text, note_unverified, print_known, print_rule, print_unreadable,
     print_unverified, print_verified,
 };
+use cli_words::{Request, Verb, completions, manual};
+use debugger::{Effort, verify_within};
 use std::alloc::Global;
 use std::hash::RandomState;
 use std::io;

@@ -6,11 +6,11 @@ ghost use Rattle.serial_machine.specs.store.Made.{HasGlobalCells, IsMadeFor};
 
 use crate::dialogue::converse;
 use crate::job::{Job, print_schedule_fault};
+use cli_modules::{Beside, Status, print_unreadable, stop_for_memory};
 use cli_words::{CellWord, Setting};
 use debugger::{
     Debugger, Event, Finished, Machine, Memory, RunFault, Verified, read_schedule, replay,
 };
-use cli_modules::{Beside, Status, print_unreadable, stop_for_memory};
 use serial_machine::serial_run;
 use std::io;
 use std::io::{Read, Write};

@@ -2,8 +2,8 @@
 
 use crate::job::Job;
 use crate::runs::{prepared, run_schedule};
-use debugger::{Event, RunFault, ScheduleFault, read_schedule};
 use cli_modules::{Beside, Status, stop_for_memory};
+use debugger::{Event, RunFault, ScheduleFault, read_schedule};
 use std::io;
 use std::io::Write;
 use view_traces::{Moment, picture, watch, write_trace};

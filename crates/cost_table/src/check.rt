@@ -13,8 +13,8 @@ use crate::judge::{
 };
 use crate::table::{Table, make_table};
 use crate::work::work_of;
-use linear_shown::{Effort, FactCursor};
 use linear::Fact;
+use linear_shown::{Effort, FactCursor};
 use lists::OutOfMemory;
 use program::{Block, Function, Program, Step};
 use ranges::{

@@ -3,8 +3,8 @@ ghost use Rattle.ranges.specs.Sums.{shows};
 ghost use Rattle.cost_table.specs.Rules.{left_behind, less_form, put_in, number_less};
 ghost use Rattle.cost_table.specs.Tables.{as_u128};
 
-use linear_shown::Known;
 use linear::{Fact, Form, side_of};
+use linear_shown::Known;
 use lists::{OutOfMemory, Seq};
 use ranges::{Move, Sum, Unanswered, push_parts, shows, shows_at};
 use std::alloc::Global;

@@ -7,8 +7,8 @@ ghost use Rattle.region_match.specs.Tasks.{AreTasks};
 ghost use Rattle.definedness.specs.Sure.{IsFork, IsReattach, IsEndOf};
 ghost use Rattle.definedness.specs.ForkOf.{IsForkOf};
 
-use definedness_allocas::Fork;
 use cfg::BlockEdges;
+use definedness_allocas::Fork;
 use program::{Block, RegisterId, Terminator};
 use region_match::{Task, ending_of};
 use std::alloc::{AllocError, Global};

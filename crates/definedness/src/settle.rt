@@ -8,8 +8,8 @@ ghost use Rattle.definedness_allocas.specs.Sets.{due_in, label_in, label_of, cou
 ghost use Rattle.definedness.specs.Settling.{IsBelow, IsTableLabelling, IsSettledAt, IsAllSure, KeepsBoth, Lowers, NotesEnd, IsGreatest};
 
 use crate::given::{copy_given, is_given};
-use definedness_allocas::{Fork, Label, Sets, is_stored, label_along};
 use cfg::{BlockEdges, Edge, no_marks};
+use definedness_allocas::{Fork, Label, Sets, is_stored, label_along};
 use lists::Seq;
 use program::RegisterId;
 use std::alloc::{AllocError, Global};

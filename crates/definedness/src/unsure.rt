@@ -9,8 +9,8 @@ ghost use Rattle.definedness.specs.Settling.{AreNeverSure};
 
 use crate::settle::settle;
 use crate::table::{Given, Row, giving};
-use definedness_allocas::{Fork, Sets};
 use cfg::{BlockEdges, no_marks};
+use definedness_allocas::{Fork, Sets};
 use lists::Seq;
 use program::Block;
 use std::alloc::{AllocError, Global};

@@ -7,8 +7,8 @@ ghost use Rattle.shared_run.specs.Story.{origin};
 ghost use Rattle.deque_pool_alone.specs.UnderWay.{IsRefusal};
 
 use crate::gate::{Gate, Go};
-use lists::OutOfMemory;
 use deque_pool_alone::LoneRun;
+use lists::OutOfMemory;
 use shared_run::{Finished, Memory, RunFault, Verified};
 use std::alloc::Global;
 use std::sync::Wait;

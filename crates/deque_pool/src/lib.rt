@@ -15,9 +15,9 @@ mod turns;
 mod work;
 mod workers;
 
+pub use deque_pool_tickets::{Hands, Taken, Thief, each_as_often};
 pub use figures::Figures;
 pub use gate::{Gate, Go, OpenGate};
 pub use recorded::Recorded;
 pub use shared_run::{Entry, History};
 pub use threads::{run, run_recorded};
-pub use deque_pool_tickets::{Hands, Taken, Thief, each_as_often};

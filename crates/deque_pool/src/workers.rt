@@ -5,11 +5,11 @@ ghost use Rattle.shared_run.specs.schedule_workers.Starts.{ArePlaces};
 use crate::figures::Figures;
 use crate::outlook::Left;
 use crate::pace::Pace;
+use deque_pool_tickets::{Hands, Taken, Thief};
 use lists::OutOfMemory;
 use shared_run::{Bench, Places, PrivateStack, Seat, Ticket, Verified};
 use std::alloc::Global;
 use std::sync::Mutex;
-use deque_pool_tickets::{Hands, Taken, Thief};
 
 /// A worker: its seat, its stack, its list of tickets, and its ends of the others' lists, from the next worker on; what it has done, and why it left.
 #[derive(Drop)]

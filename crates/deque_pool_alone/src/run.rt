@@ -10,12 +10,12 @@ ghost use Rattle.deque_pool_alone.specs.UnderWay.{GetsOn, IsRefusal, IsRunOf, Is
 use crate::counted::CountedCells;
 use crate::steps::{advance, border, is_at_border};
 use frame_engine::{Flat, Places};
+use frame_strand::{MOST, StrandCells};
 use lists::OutOfMemory;
 use outcome::{Finished, Memory, RunFault, Verified, unmet_requirement};
 use program::Program;
 use serial_stack::Stack;
 use std::alloc::Global;
-use frame_strand::{MOST, StrandCells};
 
 /// A run of one worker alone, between two strands.
 pub struct LoneRun<'v> {

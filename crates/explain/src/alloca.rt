@@ -1,10 +1,10 @@
 //! What is to be stored before the cells of an alloca are read.
 
 use explain_findings::{Source, with_line_before};
+use explain_scenes::{Matched, Scene, match_text};
 use footprints::address_cell;
 use program::{Address, Alloca, AllocaId, Argument, Block, Instruction, ObjectName, Step};
 use ranges::Unanswered;
-use explain_scenes::{Matched, Scene, match_text};
 use std::alloc::{AllocError, Global};
 use verifier::{Effort, Refused, Unverified, verify_within};
 

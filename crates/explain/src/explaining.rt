@@ -6,16 +6,16 @@ use crate::alloca::alloca_notes;
 use crate::report::Explanation;
 use explain_costs::cost_findings;
 use explain_findings::{Finding, Source, push_finding};
-use lists::{OutOfMemory, Seq};
 use explain_names::name_finding;
 use explain_numbers::number_findings;
-use ranges::Unanswered;
 use explain_scenes::{Matched, match_text};
+use explain_words::word_findings;
+use explain_zones::zone_findings;
+use lists::{OutOfMemory, Seq};
+use ranges::Unanswered;
 use std::alloc::{AllocError, Global};
 use std::hash::RandomState;
 use verifier::{Effort, Refused, Unverified, verify_within};
-use explain_words::word_findings;
-use explain_zones::zone_findings;
 
 /// The faults of a phase over the program: that of numbers, of zones or of costs.
 fn matched_findings(

@@ -10,8 +10,8 @@ mod explaining;
 mod printing;
 mod report;
 
-pub use explaining::explain;
 pub use explain_findings::Finding;
+pub use explaining::explain;
 pub use printing::told;
 pub use report::Explanation;
 pub use rules::rule_text;

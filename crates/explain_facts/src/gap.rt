@@ -2,8 +2,8 @@
 
 ghost use Rattle.std.specs.Prelude.{◌≡◌, ◌++◌, IfOk};
 
-use linear_shown::{FactCursor, Known, push_copies, shown};
 use linear::{Fact, Form, FormFault};
+use linear_shown::{FactCursor, Known, push_copies, shown};
 use lists::OutOfMemory;
 use ranges::{EdgeFacts, Effort, Unanswered};
 use std::alloc::Global;

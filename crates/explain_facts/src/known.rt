@@ -1,11 +1,11 @@
 //! Notes on what is known at a place, and on what it does not show.
 
 use crate::gap::{facts_used, first_facts, is_shown, raised, shortfall, step_between};
+use explain_scenes::{Scene, push_inequality};
 use linear::{Fact, Form};
 use lists::OutOfMemory;
 use program::{Block, Function, Inequality, RegisterId};
 use ranges::{BlockFacts, Effort, Sum, Unanswered, sum_form};
-use explain_scenes::{Scene, push_inequality};
 use std::alloc::{AllocError, Global};
 
 /// The facts at a place with their lines: `line` is that of the facts after those of `lines`. The first `stated` of them are known to a

@@ -1,7 +1,7 @@
 //! What a program owes of its numbers and what is known there does not show.
 
-use linear_shown::{FactBranches, FactCursor, Known};
 use explain_facts::{Matched, spend};
+use linear_shown::{FactBranches, FactCursor, Known};
 use lists::Seq;
 use program::{Block, Ending, Function, Inequality, Program, Step};
 use ranges::{

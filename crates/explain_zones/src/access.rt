@@ -1,7 +1,6 @@
 //! Faults of zones, each with the zone and what stands beside it.
 
 use crate::zone_text::{as_written, push_why_beside, push_why_not, push_zone};
-use linear_shown::{FactBranches, FactCursor, Known as KnownFacts};
 use explain_facts::{Known, Matched, Scene, fact_lines, spend};
 use explain_findings::{Finding, Source, push_finding};
 use footprints::{
@@ -9,6 +8,7 @@ use footprints::{
     is_clear, is_empty, passes_on, pointers_of, step_use,
 };
 use linear::RegisterId;
+use linear_shown::{FactBranches, FactCursor, Known as KnownFacts};
 use program::{
     Address, Argument, Block, BlockId, Ending, Function, Instruction, Mode, ObjectName, Operand,
     Pending, Step, Terminator, Zone,

@@ -15,8 +15,9 @@ ghost use Rattle.footprints.specs.Rules.{IsBlockBrokenBy, IsBlockBroken, IsFunct
 use crate::access::{Pointer, pointers_of};
 use crate::judge::{edges_fault, step_fault, use_fault};
 use crate::touch::{child_foot, end_use};
-use linear_shown::{Effort, FactCursor, Known};
+use footprints_zones::{Place, index_for};
 use linear::Fact;
+use linear_shown::{Effort, FactCursor, Known};
 use program::{Block, BlockId, Ending, Function, Instruction, Program, Step, Zone};
 use ranges::{
     BlockFacts, EdgeFacts, Facts, FunctionFacts, Graph, Regions, Task, Unanswered, Unverified,
@@ -24,7 +25,6 @@ use ranges::{
 };
 use refusal::{Broken, lower};
 use std::alloc::Global;
-use footprints_zones::{Place, index_for};
 
 /// The task of a block.
 fn task_at(tasks: &[Task], index: usize) -> Task

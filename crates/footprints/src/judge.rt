@@ -10,13 +10,13 @@ ghost use Rattle.footprints.specs.Rules.{IsUseBroken, IsEdgeBroken};
 use crate::access::Pointer;
 use crate::pass::passes_on;
 use crate::touch::{end_use, step_use};
-use linear_shown::{Effort, FactBranches};
+use footprints_zones::{Place, Use};
 use linear::Fact;
+use linear_shown::{Effort, FactBranches};
 use program::{Block, Ending, Function, Step};
 use ranges::{EdgeFacts, Unanswered};
 use refusal::{Broken, lower};
 use std::alloc::Global;
-use footprints_zones::{Place, Use};
 
 /// The rule of this number at this line, unless it holds.
 fn fault_unless(holds: bool, line: u32, number: u16) -> Option<Broken>

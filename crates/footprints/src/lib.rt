@@ -20,9 +20,9 @@ mod touch;
 
 pub use access::{Cell, Pointer, address_cell, cells_zone, pointers_of};
 pub use check::check_zones;
-pub use pass::passes_on;
-pub use touch::{end_use, step_use};
 pub use footprints_zones::{
     Place, PlacedZone, Use, conflict, covers, is_allowed, is_apart, is_clear, is_covered, is_empty,
     mode_covers, modes_agree, same_object,
 };
+pub use pass::passes_on;
+pub use touch::{end_use, step_use};

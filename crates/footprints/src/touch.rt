@@ -12,12 +12,12 @@ ghost use Rattle.footprints.specs.Footprints.{end_use};
 
 use crate::access::{Cell, Pointer, cell_of, cells_zone, first_cell};
 use footprints_feet::foot_use;
+use footprints_zones::{MeasuredPlace, Place, PlacedZone, Use, as_written, is_allowed, is_clear};
 use program::{
     Address, Argument, Block, Function, FunctionId, Instruction, Mode, ObjectName, Terminator, Zone,
 };
 use ranges::{Move, Unanswered, argument_moves};
 use std::alloc::Global;
-use footprints_zones::{MeasuredPlace, Place, PlacedZone, Use, as_written, is_allowed, is_clear};
 
 /// Of what touches nothing.
 fn no_use() -> Use

@@ -5,10 +5,10 @@ ghost use Rattle.footprints_zones.specs.Zones.{as_written};
 ghost use Rattle.footprints_zones.specs.Places.{place_of, is_allowed, is_clear};
 ghost use Rattle.footprints_feet.specs.Feet.{foot_use};
 
+use footprints_zones::{MeasuredPlace, Place, Use, as_written};
 use program::Zone;
 use ranges::Unanswered;
 use std::alloc::Global;
-use footprints_zones::{MeasuredPlace, Place, Use, as_written};
 
 /// Whether each zone needs no cover, or has one.
 fn are_allowed(alloc: Global, place: &MeasuredPlace<'_>, zones: &[Zone]) -> Result<bool, Unanswered>

@@ -9,8 +9,8 @@ ghost use Rattle.ranges.specs.Sums.{with_operand, with_parts, start_of, sum_form
 ghost use Rattle.footprints_zones.specs.Zones.{between, shows_order};
 ghost use Rattle.footprints_zones.specs.Levels.{IsSameTerm, IsLevel};
 
-use linear_shown::{Known, OutOfEffort};
 use linear::{Form, RegisterId, Side, Term, side_of};
+use linear_shown::{Known, OutOfEffort};
 use lists::{OutOfMemory, Seq};
 use program::Operand;
 use ranges::{Move, Sum, Unanswered, push_parts, shows_at};

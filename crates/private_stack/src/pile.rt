@@ -1,7 +1,7 @@
 ghost use Rattle.std.specs.Prelude.{◌≡◌, ◌++◌, ◌∷◌, [], OnOk};
 
-use frame_engine::{Frame, Place};
 use frame::{Role, Wait};
+use frame_engine::{Frame, Place};
 use lists::OutOfMemory;
 use private_stack_log::PageLog;
 use program::{BlockId, FunctionId};

@@ -8,10 +8,10 @@ ghost use Rattle.private_stack_log.specs.Logs.{empty_log, filled_log, has_place,
 ghost use Rattle.private_stack_log.specs.Tables.{IsTable, entry_of, log_of};
 
 use crate::page::{CELLS, Page};
+use frame_strand::{Change, Stop};
 use lists::OutOfMemory;
 use std::alloc::Global;
 use std::marker::Model;
-use frame_strand::{Change, Stop};
 
 /// The most pages in use.
 pub const PAGES: usize = 512;

@@ -11,10 +11,10 @@ use crate::know::push_facts;
 use crate::table::EdgeFacts;
 use linear_shown::{Effort, FactList};
 use lists::{OutOfMemory, Seq};
-use ranges_owed::{Sum, Way, make_moves};
 use program::{
     Block, BlockId, Case, Instruction, Operand, Predicate, RegisterId, Step, Terminator,
 };
+use ranges_owed::{Sum, Way, make_moves};
 use std::alloc::Global;
 
 /// What an `icmp` compares.

@@ -5,8 +5,8 @@ ghost use Rattle.ranges.specs.Sums.{with_operand, start_of, sum_form};
 
 use linear::{Form, FormFault};
 use lists::OutOfMemory;
-use ranges_owed::{Part, Sum};
 use program::Operand;
+use ranges_owed::{Part, Sum};
 use std::alloc::Global;
 
 /// Whether a factor is within the bounds of a coefficient.

@@ -10,10 +10,10 @@ ghost use Rattle.refusal.specs.declared.broken.Broken.{Broken};
 use crate::know::{is_met_at, push_fact, shows_at};
 use crate::table::EdgeFacts;
 use crate::unverified::Unanswered;
-use linear_shown::{Effort, FactBranches, FactList, Known};
 use linear::Fact;
-use ranges_owed::{Obligation, difference_of, inequalities_owed};
+use linear_shown::{Effort, FactBranches, FactList, Known};
 use program::{Block, BlockId, Inequality};
+use ranges_owed::{Obligation, difference_of, inequalities_owed};
 use refusal::{Broken, lower};
 use std::alloc::Global;
 

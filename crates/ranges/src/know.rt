@@ -3,8 +3,8 @@ ghost use Rattle.ranges.specs.Sums.{facts_of, shows, is_met};
 
 use crate::form::sum_form;
 use crate::unverified::Unanswered;
-use linear_shown::{FactList, Known, find_shown};
 use linear::Fact;
+use linear_shown::{FactList, Known, find_shown};
 use lists::OutOfMemory;
 use ranges_owed::{Obligation, Sum};
 use std::alloc::Global;

@@ -9,10 +9,10 @@ ghost use Rattle.ranges.specs.Learned.{remainder_by, masked_by, binary_sums, is_
 use crate::edge::opposite_number;
 use crate::know::shows_at;
 use crate::unverified::Unanswered;
-use linear_shown::Known;
 use linear::RegisterId;
-use ranges_owed::{Sum, call_moves, differences_of, opposite, scale_of};
+use linear_shown::Known;
 use program::{Argument, BinaryOperator, Conversion, Function, FunctionId, Instruction, Operand};
+use ranges_owed::{Sum, call_moves, differences_of, opposite, scale_of};
 use std::alloc::Global;
 
 /// d = factor * x

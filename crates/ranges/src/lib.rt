@@ -26,14 +26,14 @@ mod walk;
 
 pub use check::check_ranges;
 pub use edge::{Comparison, EdgeSums, edges_out};
-pub use linear_shown::{Effort, OutOfEffort};
 pub use form::sum_form;
 pub use know::{is_met, is_met_at, shows, shows_at};
+pub use linear_shown::{Effort, OutOfEffort};
+pub use past::stands_before;
 pub use ranges_owed::{
     Move, Obligation, Part, Sum, Way, argument_moves, call_moves, difference_of, inequalities_owed,
     owed, owed_at_end, push_parts, result_moves,
 };
-pub use past::stands_before;
 pub use region_match::{Graph, Regions, Task};
 pub use table::{BlockFacts, EdgeFacts, Facts, FunctionFacts};
 pub use unverified::{Unanswered, Unverified};

@@ -2,8 +2,8 @@ ghost use Rattle.std.specs.Prelude.{◌≡◌, take, slice_index_or};
 
 use linear::Fact;
 use lists::Seq;
-use ranges_owed::{Move, Way};
 use program::BlockId;
+use ranges_owed::{Move, Way};
 
 /// An edge with what its target's phis take, and what its being taken says: known on it beside what is known at the end of its block.
 #[derive(Drop)]

@@ -17,11 +17,11 @@ use crate::learn::learned;
 use crate::past::stands_before_step;
 use crate::table::{BlockFacts, EdgeFacts};
 use crate::unverified::Unanswered;
-use linear_shown::{Effort, FactList};
 use linear::Fact;
+use linear_shown::{Effort, FactList};
 use lists::{OutOfMemory, Seq};
-use ranges_owed::{differences_of, owed, owed_at_end};
 use program::{Block, Ending, Function, Inequality, Instruction, Program, Step};
+use ranges_owed::{differences_of, owed, owed_at_end};
 use refusal::{Broken, lower};
 use std::alloc::Global;
 

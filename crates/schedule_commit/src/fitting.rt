@@ -4,11 +4,11 @@ ghost use Rattle.frame_strand.specs.Standing.{IsCopy};
 ghost use Rattle.schedule_commit.specs.Fitting.{FitsRun, HoldReads};
 
 use crate::cells::cell;
-use schedule_workers::Run;
-use frame_engine::{Frame, Place};
 use frame::{Role, Wait};
-use program::FunctionId;
+use frame_engine::{Frame, Place};
 use frame_strand::{Read, Strand};
+use program::FunctionId;
+use schedule_workers::Run;
 
 fn same_function(one: FunctionId, other: FunctionId) -> bool
     ensures { IsTrue result ↔ (one ≡ other) }

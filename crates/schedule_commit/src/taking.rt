@@ -19,12 +19,12 @@ ghost use Rattle.schedule_commit.specs.TakingBack.{WasPut};
 use crate::cells::put_writes;
 use crate::fitting::fitting_slot;
 use crate::taking_back::{numbers_before, take_back};
-use schedule_workers::Run;
-use frame_engine::{Frame, Place, Places};
 use frame::Wait;
+use frame_engine::{Frame, Place, Places};
+use frame_strand::{Pause, Strand};
 use lists::OutOfMemory;
 use program::Program;
-use frame_strand::{Pause, Strand};
+use schedule_workers::Run;
 
 /// Puts a place and registers into a frame, which waits for this from here on.
 pub(crate) fn write_frame(target: &mut Frame, source: &Frame, waits: Wait)

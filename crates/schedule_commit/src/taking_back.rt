@@ -8,9 +8,9 @@ ghost use Rattle.schedule_commit.specs.TakingBack.{AreNumbersOf, IsRestored, Was
 
 use crate::cells::{number_in, set};
 use crate::taking::write_frame;
-use schedule_workers::Run;
-use lists::OutOfMemory;
 use frame_strand::{Strand, Written};
+use lists::OutOfMemory;
+use schedule_workers::Run;
 
 /// What the cell holds that was written.
 fn number_of(row: &[i64], written: &Written) -> i64

@@ -16,10 +16,10 @@ ghost use Rattle.schedule_core.specs.Strands.{Absorbs, FitsStage, IsLoaded, IsMa
 
 use crate::machine::Machine;
 use crate::stage::Stage;
-use schedule_commit::{Pause, Strand, absorb, cell};
 use frame_engine::Places;
 use lists::OutOfMemory;
 use outcome::Verified;
+use schedule_commit::{Pause, Strand, absorb, cell};
 use std::alloc::Global;
 
 /// Where the objects of a module begin: what its strands are made with.

@@ -9,11 +9,11 @@ ghost use Rattle.laws_workers.specs.store.Made.{IsMadeFor};
 ghost use Rattle.schedule_core.specs.Stages.{IsState, program_of};
 
 use crate::stage::Stage;
-use schedule_workers::{Run, most_moves};
-use frame_engine::Places;
 use frame::Event;
+use frame_engine::Places;
 use lists::OutOfMemory;
 use outcome::{Memory, RunFault, Verified, unmet_requirement};
+use schedule_workers::{Run, most_moves};
 use std::alloc::Global;
 
 /// The stage before the first event, of arguments that `main` takes.

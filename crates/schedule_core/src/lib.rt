@@ -18,15 +18,15 @@ mod task;
 mod view;
 
 pub use absorb::{places_of, steps_of};
-pub use schedule_commit::{Pause, Strand};
-pub use private_stack::{Pause as PilePause, Pile};
-pub use frame_engine::Places;
 pub use frame::Event;
+pub use frame_engine::Places;
 pub use laws::ended_enables_nothing;
 pub use machine::Machine;
 pub use outcome::{Finished, Memory, RunFault, Verified, unmet_requirement};
 pub use piles::{advance_pile, blank_pile, fill_pile};
+pub use private_stack::{Pause as PilePause, Pile};
 pub use ready::Spot;
 pub use schedule::replay;
+pub use schedule_commit::{Pause, Strand};
 pub use stage::Stage;
 pub use task::{Status, TaskView};

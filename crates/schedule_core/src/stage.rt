@@ -1,6 +1,6 @@
-use schedule_workers::Run;
 use frame_engine::Places;
 use outcome::{Memory, Verified};
+use schedule_workers::Run;
 
 /// A run of a verified module, with what its steps read.
 #[derive(Drop)]

@@ -2,10 +2,10 @@ ghost use Rattle.std.specs.Prelude.{◌≡◌};
 ghost use Rattle.schedule_core.specs.Lines as lines;
 ghost use Rattle.schedule_core.specs.Viewed.{status_by};
 
-use schedule_workers::Activation;
-use frame_engine::Frame;
 use frame::{Path, Wait, block_at};
+use frame_engine::Frame;
 use program::{Block, BlockId, FunctionId, Program, RegisterId};
+use schedule_workers::Activation;
 
 /// How a task stands.
 #[derive(Clone, Copy, PartialEq, Eq)]

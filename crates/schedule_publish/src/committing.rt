@@ -13,10 +13,10 @@ ghost use Rattle.schedule_publish.specs.Linking.{frames_of};
 
 use crate::linking::{above, count_above, frame_of};
 use cactus::Cactus;
-use schedule_workers::{Activation, Run};
-use private_stack::Pile;
-use frame_engine::{Frame, Place};
 use frame::Wait;
+use frame_engine::{Frame, Place};
+use private_stack::Pile;
+use schedule_workers::{Activation, Run};
 
 /// Puts place, registers, number of children and wait of a frame into another.
 fn write_frame(target: &mut Frame, source: &Frame)

@@ -1,9 +1,9 @@
 ghost use Rattle.std.specs.Prelude.{◌≡◌, ◌↔◌, ℕ, IfNone, IfSome, IsTrue, true};
 ghost use Rattle.schedule_publish.specs.Fitting.{FitsDeep, HasNoChild};
 
+use private_stack::Pile;
 use schedule_commit::{is_same, same_numbers};
 use schedule_workers::{Activation, Run};
-use private_stack::Pile;
 
 /// Whether no child of the frame lives.
 pub fn has_no_child(activation: &Activation) -> bool

@@ -7,11 +7,11 @@ ghost use Rattle.frame_strand.specs.Standing.{IsCopy};
 ghost use Rattle.schedule_publish.specs.Linking.{AreLinks, IsFrameOf, RegionsFit, counted_of, frames_of, homeless};
 
 use cactus::Link;
-use schedule_workers::Activation;
-use private_stack::Pile;
-use frame_engine::{Frame, Place};
 use frame::{Path, Role};
+use frame_engine::{Frame, Place};
 use lists::{OutOfMemory, Seq};
+use private_stack::Pile;
+use schedule_workers::Activation;
 use std::alloc::Global;
 
 /// The pile's frame of this number, counted from the base.

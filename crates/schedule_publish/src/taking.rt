@@ -8,11 +8,11 @@ ghost use Rattle.schedule_publish.specs.Fitting.{FitsDeep};
 use crate::committing::commit;
 use crate::fitting::fitting_deep;
 use crate::linking::links_of;
-use schedule_workers::Run;
-use private_stack::Pile;
 use frame_engine::Places;
 use lists::OutOfMemory;
+use private_stack::Pile;
 use program::Program;
+use schedule_workers::Run;
 
 /// Makes the pile's frames, all or none, and then puts in what it did.
 fn go_deep(

@@ -2,8 +2,8 @@ ghost use Rattle.std.specs.Prelude.{◌≡◌, ◌↔◌, ℕ, IfOk, IsTrue, Som
 ghost use Rattle.schedule_workers.specs.Scheduling.{counted_in};
 ghost use Rattle.schedule_workers.specs.Tasks.{IsReady};
 
-use frame_engine::Frame;
 use frame::Wait;
+use frame_engine::Frame;
 use lists::OutOfMemory;
 use program::BlockId;
 use std::alloc::Global;

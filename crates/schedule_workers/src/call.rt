@@ -24,8 +24,8 @@ ghost use Rattle.schedule_workers.specs.Going.{DoesStep, StandsSafely, TextFits}
 use crate::activation::Activation;
 use crate::room::{frame_cells, function_at};
 use crate::run::Run;
-use frame_engine::{Frame, Place, Places};
 use frame::{Role, Wait};
+use frame_engine::{Frame, Place, Places};
 use lists::OutOfMemory;
 use program::{Argument, BlockId, FunctionId, Program, RegisterId};
 use std::alloc::Global;

@@ -13,8 +13,8 @@ ghost use Rattle.schedule_workers.specs.Shown.{item_here};
 ghost use Rattle.schedule_workers.specs.Going.{DoesStep, StandsSafely};
 
 use crate::run::Run;
-use frame_engine::Places;
 use frame::Wait;
+use frame_engine::Places;
 use program::{ObjectName, Program};
 
 impl Run {

@@ -20,8 +20,8 @@ ghost use Rattle.schedule_workers.specs.Going.{DoesStep, StandsSafely, TextFits}
 
 use crate::activation::Activation;
 use crate::run::Run;
-use frame_engine::{Frame, Place, Places};
 use frame::{Role, Wait};
+use frame_engine::{Frame, Place, Places};
 use lists::OutOfMemory;
 use program::{BlockId, Program, RegisterId};
 use std::alloc::Global;

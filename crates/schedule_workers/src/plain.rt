@@ -14,8 +14,8 @@ ghost use Rattle.schedule_workers.specs.Going.{DoesStep, KeepsShown, StandsSafel
 ghost use Rattle.schedule_workers.specs.Stalls.{KeepsStalls};
 
 use crate::run::Run;
-use frame_engine::Places;
 use frame::Wait;
+use frame_engine::Places;
 use program::Program;
 
 impl Run {

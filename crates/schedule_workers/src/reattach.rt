@@ -15,8 +15,8 @@ ghost use Rattle.schedule_workers.specs.Going.{DoesStep, StandsSafely};
 
 use crate::activation::Activation;
 use crate::run::Run;
-use frame_engine::Places;
 use frame::Wait;
+use frame_engine::Places;
 use program::{Program, RegisterId};
 use sync_join::{Outcome, Parent};
 

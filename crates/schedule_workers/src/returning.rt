@@ -21,8 +21,8 @@ ghost use Rattle.schedule_workers.specs.Shown.{item_here};
 
 use crate::activation::Activation;
 use crate::run::Run;
-use frame_engine::Places;
 use frame::Wait;
+use frame_engine::Places;
 use program::{Operand, Program, RegisterId};
 
 /// The register that takes what a call returns, of a frame that waits for one.

@@ -7,8 +7,8 @@ ghost use Rattle.frame_engine.specs.Activation.{FrameFits};
 
 use crate::stack::Stack;
 use crate::text::frame_cells;
-use frame_engine::Places;
 use frame::Wait;
+use frame_engine::Places;
 use lists::OutOfMemory;
 use program::{Argument, BlockId, Function, FunctionId, ObjectName, Operand, Program, RegisterId};
 

@@ -1,7 +1,7 @@
 ghost use Rattle.std.specs.Prelude.{◌≡◌, ◌++◌, ◌∷◌, [], OnOk};
 
-use frame_engine::{Flat, Frame, Place};
 use frame::{Role, Wait};
+use frame_engine::{Flat, Frame, Place};
 use lists::OutOfMemory;
 use program::{BlockId, FunctionId};
 use std::alloc::Global;

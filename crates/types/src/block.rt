@@ -9,12 +9,12 @@ use crate::instruction::{resolve_phis, resolve_steps};
 use crate::terminator::resolve_ending;
 use lists::Seq;
 use program::{Block, Ending, Inequality, Left, Pending, Phi, Step, Zone};
+use std::alloc::Global;
+use syntax::ResultType;
 use types_names::{
     Place, Scope, TypeFault, both, joined, resolve_all_pending, resolve_first_zones,
     resolve_inequalities, resolve_left,
 };
-use std::alloc::Global;
-use syntax::ResultType;
 
 /// The annotations at a block's head.
 #[derive(Drop)]

@@ -8,12 +8,12 @@ ghost use Rattle.types_names.specs.Table.{look_up};
 
 use lists::{Name, Seq};
 use program::{Argument, FunctionId, ObjectName, Parameter, Width};
+use std::alloc::Global;
+use syntax::{Function, ResultType};
 use types_names::{
     Item, Items, NamedGlobals, Scope, TypeFault, both, downward_call, joined, pointer_misuse,
     resolve_object, resolve_operand, type_mismatch, unknown_name, unless, wrong_count,
 };
-use std::alloc::Global;
-use syntax::{Function, ResultType};
 
 /// What a function's uses of names behind `@` are judged against.
 #[derive(Clone, Copy)]

@@ -11,13 +11,13 @@ use crate::function::resolve_functions;
 use crate::typed::Typed;
 use lists::Seq;
 use program::{FunctionId, Global as GlobalArray, Program};
+use std::alloc::{AllocError, Global};
+use std::hash::RandomState;
+use syntax::{Function, Module, Parameter, ResultType};
 use types_names::{
     Item, Items, NamedGlobals, TypeFault, all_mentions, both, items_of, named_globals,
     type_mismatch, unknown_name, unless,
 };
-use std::alloc::{AllocError, Global};
-use std::hash::RandomState;
-use syntax::{Function, Module, Parameter, ResultType};
 
 fn is_number(parameter: &Parameter) -> bool
     ensures { result ≡ spec.is_number parameter.now }

@@ -9,13 +9,13 @@ use crate::block::resolve_blocks;
 use crate::call::{World, parameter_of};
 use lists::{Name, Seq};
 use program::{Budget, Function, Inequality, Measure, Parameter, RegisterId, Zone};
+use std::alloc::{AllocError, Global};
+use std::hash::RandomState;
+use syntax::{FunctionNotes, ResultType};
 use types_names::{
     Layout, Place, Scope, TypeFault, both, joined, resolve_first_zones, resolve_inequalities,
     resolve_measure, resolve_zones,
 };
-use std::alloc::{AllocError, Global};
-use std::hash::RandomState;
-use syntax::{FunctionNotes, ResultType};
 
 /// The annotations at a function's head but its budget.
 #[derive(Drop)]

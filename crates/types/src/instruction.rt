@@ -11,12 +11,12 @@ use program::{
     AllocaId, BinaryOperator, Conversion, Instruction, ObjectName, Phi, PhiEntry, Predicate,
     RegisterId, Step, Width, source_width,
 };
+use std::alloc::Global;
 use types_names::{
     Holding, Place, Scope, TypeFault, both, joined, pointer_misuse, resolve_address,
     resolve_inequalities, resolve_label, resolve_object, resolve_operand, resolve_register,
     type_mismatch, unless,
 };
-use std::alloc::Global;
 
 /// Where an instruction stands: its function and its block, by their places in the text, and its line.
 #[derive(Clone, Copy)]

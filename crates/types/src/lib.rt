@@ -22,5 +22,5 @@ mod terminator;
 mod typed;
 
 pub use check::check_types;
-pub use types_names::TypeFault;
 pub use typed::Typed;
+pub use types_names::TypeFault;

@@ -6,12 +6,12 @@ ghost use Rattle.types.specs.Terminator as spec;
 
 use lists::{Name, Seq};
 use program::{Case, Ending, Terminator, Width};
+use std::alloc::Global;
+use syntax::ResultType;
 use types_names::{
     Place, Scope, TypeFault, both, fits_width, joined, resolve_condition, resolve_inequalities,
     resolve_label, resolve_operand, resolve_region, type_mismatch, unless,
 };
-use std::alloc::Global;
-use syntax::ResultType;
 
 fn resolve_branch(
     scope: &Scope,

@@ -10,6 +10,6 @@ mod script;
 mod watching;
 
 pub use dice::Dice;
-pub use view_moments::{Hindrance, Moment, Outcome, Place, TaskName, picture, write_trace};
 pub use random::random_schedule;
+pub use view_moments::{Hindrance, Moment, Outcome, Place, TaskName, picture, write_trace};
 pub use watching::watch;

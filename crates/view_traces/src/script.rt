@@ -1,8 +1,8 @@
 //! The text of a schedule, event for event.
 
 use frame::Path;
-use view_moments::TaskName;
 use std::alloc::{AllocError, Global};
+use view_moments::TaskName;
 
 /// A schedule's text, of which the steps of one worker in a row are written as one line.
 #[derive(Drop)]

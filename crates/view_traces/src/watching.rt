@@ -4,9 +4,9 @@ ghost use Rattle.schedule_core.specs.store.Made.{IsMadeFor};
 
 use frame::Path;
 use lists::OutOfMemory;
-use view_moments::{Hindrance, Moment, Outcome, Place};
 use schedule_core::{Event, Machine, Memory, RunFault, Status, TaskView, Verified};
 use std::alloc::Global;
+use view_moments::{Hindrance, Moment, Outcome, Place};
 
 /// Where a task stands.
 fn place_of(alloc: Global, view: Option<TaskView<'_>>) -> Result<Option<Place>, OutOfMemory> {
