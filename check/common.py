@@ -5,7 +5,9 @@ import pathlib
 import subprocess
 import sys
 
-TOP = pathlib.Path(__file__).resolve().parent.parent
+sys.path.insert(0, str(pathlib.Path(__file__).resolve().parent.parent / "tools"))
+from crates import TOP, kit
+
 DATA = TOP / "crates/cases_machine/data"
 EXAMPLES = DATA / "examples"
 KERNELS = EXAMPLES / "kernels"
