@@ -1,71 +1,119 @@
--- Frames of a deep strand that own no cells leave the objects that live, and what they may point to is not their own.
-use Rattle.std.proofs.Common.{◌≡◌, ◌∙◌, ℕ, ◌<◌, List, [], ◌∷◌, Some, Bool, true, false, cond, refl, sym, ap, subst, arith, slice_get}
-use Rattle.semantics.specs.Paths.{Path, same_path}
+-- The objects that live with a deep strand's frames are those of the machine and the allocas of the frames above the base.
+use Rattle.std.proofs.Common.{◌≡◌, ◌∙◌, ℕ, zero, suc, ◌<◌, ◌≤◌, List, [], ◌∷◌, map, Option, Some, None, Bool, true, false, cond, refl, sym, ap, arith, slice_get, ℤ}
+use Rattle.semantics.specs.Paths.{Path, Under, itself, deeper, same_path}
 use Rattle.semantics.specs.Cells.{Object, Shared, Local, owns}
-use Rattle.semantics.specs.Frames.{Role, Child, Body, cells_of}
+use Rattle.semantics.specs.Frames as frames
+use Rattle.semantics.specs.Frames.{Frame, Role, Child, Body, cells_of}
 use Rattle.semantics.specs.Events.{Machine}
 use Rattle.semantics.proofs.Places.{same_path_is}
 use Rattle.program.specs.declared.identifier.ObjectName.TheVariants as object
+use Rattle.program.specs.declared.function.Alloca.{Alloca}
+use Rattle.program.specs.declared.function.Function.{Function}
 use Rattle.program.specs.declared.function.Program.{Program}
-use Rattle.frame_engine.specs.Activation.{allocas_of}
-use Rattle.frame_engine.specs.Starts.{starts_from}
-use Rattle.frame_engine.specs.declared.activation.Places.{Places}
+use Rattle.frame_engine.specs.Shows.{Layout}
 use Rattle.schedule_workers.specs.Layouts.{alloca_cells, living, own_cells}
-use Rattle.schedule_workers.specs.Starts.{ArePlaces}
-use Rattle.schedule_workers.proofs.Rows.{size_in, size_is, sizes_of, starts_are}
-use Rattle.private_stack.specs.Shown.{HasNoAllocas, OwnNothing}
+use Rattle.serial_stack.specs.Layouts.{alloca_sizes, allocas_in, for_body, size_in, with_allocas}
+use Rattle.laws_workers_strands.specs.Promise.{laid_out}
+use Rattle.private_stack.specs.Layouts.{IsToCome, OwnsNone, end_above, layout_above}
 use Rattle.laws_stacks.specs.Deep.{DeepStrand, IsDeep, Placed}
 use Rattle.laws_stacks.specs.Law.{IsOrderly, Runs, absorbed, with_frames}
 use Rattle.laws_stacks.proofs.Based.{IsBased, based}
-use Rattle.laws_stacks.proofs.Rising.{Rises, new_is_none, rises}
+use Rattle.laws_stacks.proofs.Rising.{IsNew, new_below, new_child, Rises, new_is_none, rises, top_is_new}
 
-module _ (prog : Program) (places : Places) (are : ArePlaces prog places) where
-  no_sizes : (sizes : List ℕ) → starts_from 0 sizes ≡ [] → sizes ≡ []
-  no_sizes [] e = refl
-  no_sizes (cells ∷ more) e = absurd (cc)
+-- ---- cells by the text
 
-  no_cells : (function a : ℕ) → allocas_of places function ≡ [] → cells_of prog function (object.Alloca (record { 0 = a })) ≡ 0
-  no_cells function a none =
-      size_is prog (slice_get prog.functions function) a ∙
-      ap (λ sizes. size_in sizes a) (no_sizes (sizes_of (slice_get prog.functions function)) (sym (starts_are prog places function are.allocas) ∙ none))
+alloca_size : (xs : List Alloca) (a : ℕ) → frames.alloca_cells (slice_get xs a) ≡ size_in (map (λ (x : Alloca). x.cells) xs) a
+alloca_size [] a = refl
+alloca_size (x ∷ xs) zero = refl
+alloca_size (x ∷ xs) (suc a) = alloca_size xs a
 
-  owns_none : (role : Role) (function a : ℕ) → HasNoAllocas places role function → own_cells role (cells_of prog function (object.Alloca (record { 0 = a }))) ≡ 0
-  owns_none Body function a none = no_cells function a none
-  owns_none (Child region continuation) function a none = refl
+size_is : (prog : Program) (o : Option Function) (a : ℕ) → frames.cells_in prog o (object.Alloca (record { 0 = a })) ≡ size_in (allocas_in o) a
+size_is prog None a = refl
+size_is prog (Some f) a = alloca_size f.allocas a
 
-  module _ (m : Machine) (w : ℕ) (d : DeepStrand) (is : IsDeep prog d) (runs : Runs m w d) (orderly : IsOrderly m) where
-    cells_same : (owner : Path) (a : ℕ) (t : Placed) (below : List Placed) → Rises d.base t below → IsBased d.base t below → OwnNothing places t below →
-        alloca_cells prog (with_frames (t ∷ below) m.core.frames owner) a ≡ alloca_cells prog (m.core.frames owner) a
-    cells_same owner a t [] rise task nothing = from (same_path t.path owner) refl
-      where
-        from : (here : Bool) → same_path t.path owner ≡ here → alloca_cells prog (cond here (Some t.frame) (m.core.frames owner)) a ≡ alloca_cells prog (m.core.frames owner) a
-        from false off = refl
-        from true same =
-            let there = ap m.core.frames (sym (same_path_is t.path owner same) ∙ task.path) ∙ runs.frame in
-            (λ i. own_cells (task.role i) (cells_of prog (task.function i) (object.Alloca (record { 0 = a })))) ∙ sym (ap (λ o. alloca_cells prog o a) there)
-    cells_same owner a t (g ∷ rest) (k, up, next, new, more) task (none, nothing) = from (same_path t.path owner) refl (cells_same owner a g rest more task nothing)
-      where
-        from : (here : Bool) → same_path t.path owner ≡ here → alloca_cells prog (with_frames (g ∷ rest) m.core.frames owner) a ≡ alloca_cells prog (m.core.frames owner) a →
-            alloca_cells prog (cond here (Some t.frame) (with_frames (g ∷ rest) m.core.frames owner)) a ≡ alloca_cells prog (m.core.frames owner) a
-        from false off rest_same = rest_same
-        from true same rest_same =
-            let gone = ap m.core.frames (sym (same_path_is t.path owner same)) ∙ new_is_none m.core orderly.tree d.base runs.frame t.path new in
-            owns_none t.frame.role t.frame.function a none ∙ sym (ap (λ o. alloca_cells prog o a) gone)
+-- ---- cells of a strand's frames
 
-    pub same_living : OwnNothing places d.top d.below → (o : Object) → living prog (absorbed m w d).core o ≡ living prog m.core o
-    same_living nothing (Shared g) = refl
-    same_living nothing (Local owner a) = cells_same owner a d.top d.below (rises prog d is) (based prog d is) nothing
+module _ (prog : Program) (begins : Object → ℤ) (m : Machine) (w : ℕ) (d : DeepStrand) (is : IsDeep prog d) (runs : Runs m w d) (orderly : IsOrderly m) (start : ℕ) where
+  abbrev l : Layout
+  l = laid_out begins prog m.core
 
-    -- no object of the top frame lived, where it is not the base
-    pub foreign : (g : Placed) (rest : List Placed) → d.below ≡ g ∷ rest → (o : Object) (i : ℕ) → i < living prog m.core o → owns d.top.path o ≡ false
-    foreign g rest below o i low = from o low (owns d.top.path o) refl
-      where
-        lived : (owner : Path) (a : ℕ) → same_path d.top.path owner ≡ true → living prog m.core (Local owner a) ≡ 0
-        lived owner a same =
-            let (k, up, next, new, more) = subst (λ x. Rises d.base d.top x) below (rises prog d is) in
-            ap (λ o. alloca_cells prog o a) (ap m.core.frames (sym (same_path_is d.top.path owner same)) ∙ new_is_none m.core orderly.tree d.base runs.frame d.top.path new)
+  abbrev cells_at : List Placed → Path → ℕ → ℕ
+  cells_at gs owner a = alloca_cells prog (with_frames gs m.core.frames owner) a
 
-        from : (o : Object) → i < living prog m.core o → (b : Bool) → owns d.top.path o ≡ b → owns d.top.path o ≡ false
-        from o low2 false is_not = is_not
-        from (Shared g2) low2 true own = refl
-        from (Local owner a) low2 true own = absurd (let none = lived owner a own in omega (arith, none, low2))
+  -- the base has the cells that it had
+  base_cells : (owner : Path) (a : ℕ) (t : Placed) → IsBased d.base t [] → alloca_cells prog (m.core.frames owner) a ≡ cells_at (t ∷ []) owner a
+  base_cells owner a t task = from (same_path t.path owner) refl
+    where
+      from : (here : Bool) → same_path t.path owner ≡ here → alloca_cells prog (m.core.frames owner) a ≡ alloca_cells prog (cond here (Some t.frame) (m.core.frames owner)) a
+      from false off = refl
+      from true same =
+          let there = ap m.core.frames (sym (same_path_is t.path owner same) ∙ task.path) ∙ runs.frame in
+          ap (λ o. alloca_cells prog o a) there ∙ sym (λ i. own_cells (task.role i) (cells_of prog (task.function i) (object.Alloca (record { 0 = a }))))
+
+  -- one frame more
+  module _ (owner : Path) (a : ℕ) (t g : Placed) (rest : List Placed) (rise : Rises d.base t (g ∷ rest)) where
+    abbrev lower : Layout
+    lower = layout_above l prog start g rest
+
+    abbrev text_cells : ℕ
+    text_cells = cells_of prog t.frame.function (object.Alloca (record { 0 = a }))
+
+    abbrev laid : Role → Layout
+    laid r = for_body r (with_allocas t.path (alloca_sizes prog t.frame.function) (end_above prog start g rest) lower) lower
+
+    alloca_here : (here : Bool) → alloca_cells prog (cond here (Some t.frame) (with_frames (g ∷ rest) m.core.frames owner)) a ≡ cond here (own_cells t.frame.role text_cells) (cells_at (g ∷ rest) owner a)
+    alloca_here true = refl
+    alloca_here false = refl
+
+    by_body : (here : Bool) → lower.cells (Local owner a) ≡ cells_at (g ∷ rest) owner a →
+        cond here (size_in (alloca_sizes prog t.frame.function) a) (lower.cells (Local owner a)) ≡ cond here text_cells (cells_at (g ∷ rest) owner a)
+    by_body true ih = sym (size_is prog (slice_get prog.functions t.frame.function) a)
+    by_body false ih = ih
+
+    by_child : (here : Bool) → same_path t.path owner ≡ here → lower.cells (Local owner a) ≡ cells_at (g ∷ rest) owner a → lower.cells (Local owner a) ≡ cond here 0 (cells_at (g ∷ rest) owner a)
+    by_child false off ih = ih
+    by_child true same ih =
+        let gone = ap (λ x. with_frames (g ∷ rest) m.core.frames x) (sym (same_path_is t.path owner same)) ∙ top_is_new m.core orderly.tree d.base runs.frame t g rest rise in
+        ih ∙ ap (λ o. alloca_cells prog o a) gone
+
+    by_role : (r : Role) → lower.cells (Local owner a) ≡ cells_at (g ∷ rest) owner a → (laid r).cells (Local owner a) ≡ cond (same_path t.path owner) (own_cells r text_cells) (cells_at (g ∷ rest) owner a)
+    by_role Body ih = by_body (same_path t.path owner) ih
+    by_role (Child region continuation) ih = by_child (same_path t.path owner) refl ih
+
+    more_cells : lower.cells (Local owner a) ≡ cells_at (g ∷ rest) owner a → (laid t.frame.role).cells (Local owner a) ≡ cells_at (t ∷ g ∷ rest) owner a
+    more_cells ih = by_role t.frame.role ih ∙ sym (alloca_here (same_path t.path owner))
+
+  local_cells : (owner : Path) (a : ℕ) (t : Placed) (below : List Placed) → Rises d.base t below → IsBased d.base t below → (layout_above l prog start t below).cells (Local owner a) ≡ cells_at (t ∷ below) owner a
+  local_cells owner a t [] rise task = base_cells owner a t task
+  local_cells owner a t (g ∷ rest) rise task = more_cells owner a t g rest rise (local_cells owner a g rest rise.4 task)
+
+  shared_cells : (n : ℕ) (t : Placed) (below : List Placed) → (layout_above l prog start t below).cells (Shared n) ≡ l.cells (Shared n)
+  shared_cells n t [] = refl
+  shared_cells n t (g ∷ rest) = by t.frame.role (shared_cells n g rest)
+    where
+      by : (r : Role) → (layout_above l prog start g rest).cells (Shared n) ≡ l.cells (Shared n) →
+          (for_body r (with_allocas t.path (alloca_sizes prog t.frame.function) (end_above prog start g rest) (layout_above l prog start g rest)) (layout_above l prog start g rest)).cells (Shared n) ≡ l.cells (Shared n)
+      by Body ih = ih
+      by (Child region continuation) ih = ih
+
+  pub cells_above : (o : Object) → living prog (absorbed m w d).core o ≡ (layout_above l prog start d.top d.below).cells o
+  cells_above (Shared n) = sym (shared_cells n d.top d.below)
+  cells_above (Local owner a) = sym (local_cells owner a d.top d.below (rises prog d is) (based prog d is))
+
+  -- ---- frames to come
+
+  to_new : (p : Path) (n k : ℕ) → n ≤ k → (x : Path) → Under (k ∷ p) x → IsNew p n x
+  to_new p n k le _ itself = new_child k le
+  to_new p n k le _ (deeper j {y = y} u) = new_below j y (to_new p n k le y u)
+
+  owned_none : (x : Path) → m.core.frames x ≡ None → OwnsNone l x
+  owned_none x gone c within = from c.object within (owns x c.object) refl
+    where
+      from : (o : Object) → c.index < living prog m.core o → (b : Bool) → owns x o ≡ b → owns x o ≡ false
+      from o low false is_not = is_not
+      from (Shared g) low true own = refl
+      from (Local owner a) low true own =
+          absurd (let none : living prog m.core (Local owner a) ≡ 0 = ap (λ o. alloca_cells prog o a) (ap m.core.frames (sym (same_path_is x owner own)) ∙ gone) in omega (arith, none, low))
+
+  pub fresh : (x : Path) → IsToCome d.base x → OwnsNone l x
+  fresh x come = owned_none x (new_is_none m.core orderly.tree d.base runs.frame x (to_new d.base.path d.base.frame.made come.child come.later x come.under))

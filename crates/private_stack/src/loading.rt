@@ -7,6 +7,7 @@ ghost use Rattle.private_stack_log.specs.Logs.{empty_log, pages_of};
 ghost use Rattle.private_stack_log.specs.Tables.{log_of};
 ghost use Rattle.private_stack.specs.Along.{IsUnderWay, MayBegin};
 
+use crate::cells::PileCells;
 use crate::pile::{Base, Pile, blank};
 use frame_engine::{Frame, Place};
 use lists::OutOfMemory;
@@ -44,12 +45,15 @@ fn copy_frame(target: &mut Frame, source: &Frame) -> Result<(), OutOfMemory>
 }
 
 impl Pile {
-    /// A pile without a base, with room for so many phi moves.
-    pub fn new(alloc: Global, moves: usize) -> Result<Pile, OutOfMemory>
-        ensures { IfOk result (λ x. length x.moves.items ≡ moves) }
+    /// A pile without a base, with room for so many phi moves and for so many cells of its own frames.
+    pub fn new(alloc: Global, moves: usize, own: usize) -> Result<Pile, OutOfMemory>
+        ensures moves { IfOk result (λ x. length x.moves.items ≡ moves) }
+        ensures own { IfOk result (λ x. length x.cells.own.items ≡ own) }
     {
-        let cells = PageLog::new(alloc)?;
+        let log = PageLog::new(alloc)?;
+        let own = spare_words(alloc, own)?;
         let moves = spare_words(alloc, moves)?;
+        let cells = PileCells { start: 0, own, log };
         Ok(Pile {
             alloc,
             base: Base {
@@ -63,12 +67,13 @@ impl Pile {
             done: 0,
             deepest: 0,
             cells,
+            end: 0,
             moves,
         })
     }
 
-    /// Begins with a copy of the board's frame, whose path has the root's number first. `childless` says that no child lives that a sync of the frame waits for;
-    /// `cells` is how many cells the board has.
+    /// Begins with a copy of the board's frame, whose path has the root's number first. `childless` says that no child lives that a sync of the frame waits for; the
+    /// allocas of its own frames lie from `start` on; `cells` is how many cells the board has.
     ///
     /// # Errors
     ///
@@ -78,6 +83,7 @@ impl Pile {
         frame: &Frame,
         path: &[u64],
         childless: bool,
+        start: u64,
         cells: usize,
     ) -> Result<(), OutOfMemory>
         ensures path { OnOk result (self.new.base.path.items ≡ path.now) }
@@ -85,8 +91,10 @@ impl Pile {
         ensures childless { OnOk result (self.new.base.childless ≡ childless) }
         ensures moves { OnOk result (self.new.moves ≡ self.old.moves) }
         ensures done { OnOk result (self.new.done ≡ 0) }
-        ensures cells { OnOk result (log_of self.new.cells ≡ empty_log (max (log_of self.old.cells).pages (pages_of cells))) }
-        ensures way { OnOk result ((prog : Program) (places : Places) → FrameFits prog frame.now → MayBegin prog places path.now frame.now childless →
+        ensures cells { OnOk result (self.new.cells ≡ record { start = start; own = self.old.cells.own; log = self.new.cells.log }) }
+        ensures log { OnOk result (log_of self.new.cells.log ≡ empty_log (max (log_of self.old.cells.log).pages (pages_of cells))) }
+        ensures way { OnOk result ((prog : Program) (places : Places) → FrameFits prog frame.now →
+            MayBegin prog places path.now frame.now childless (record { start = start; count = length self.old.cells.own.items }) →
             IsUnderWay prog places self.new) }
     {
         self.base.path.clear();
@@ -97,8 +105,10 @@ impl Pile {
         self.base.childless = childless;
         self.done = 0;
         self.deepest = 0;
-        self.cells.clear();
-        self.cells.widen(cells)?;
+        self.cells.start = start;
+        self.end = start;
+        self.cells.log.clear();
+        self.cells.log.widen(cells)?;
         Ok(())
     }
 }

@@ -87,8 +87,8 @@ module _ (prog : Program) (places : Places) (moves : ℕ) (text : TextFits prog 
         by (role.Child region continuation) is = refl
 
     -- and it needs no block
-    pub needs_none : (blocks : List Block) (s : ℕ) → HasBlock prog blocks s b
-    needs_none blocks s body some =
+    pub needs_none : (blocks : List Block) (lent : Block) (s : ℕ) → HasBlock prog blocks lent s b
+    needs_none blocks lent s body some =
         let empty : cells_in (slice_get prog.functions h.function.0) ≡ 0 = no_cells prog places moves text h.function.0 (bare role.Body (sym copy.role ∙ body) refl) in
         let same : cells_in (slice_get prog.functions b.function.0) ≡ 0 = ap (λ (y : FunctionId). cells_in (slice_get prog.functions y.0)) copy.function ∙ empty in
         absurd (omega (arith, some, same))

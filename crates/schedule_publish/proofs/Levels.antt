@@ -149,7 +149,7 @@ module _ (prog : Program) (places : Places) (moves : ℕ) (text : TextFits prog 
         counts = λ r.
             let own : counted_in n.frame r ≡ counted_in a r = ap (λ (y : Vec RegionCount Global). living_in y.items r) counted in
             own ∙ (seat.counts r ∙ (sym (count r) ∙ ap (λ (q : Path). count_of next.core q r) (sym place)));
-        block = subst (λ (y : Frame). HasBlock prog k.blocks.items s y) (sym same) seat.block;
+        block = subst (λ (y : Frame). HasBlock prog k.blocks.items k.lent s y) (sym same) seat.block;
       };
       told =
           let at_path : named new (reverse t.path) ≡ Some n = named_is new tree s n (reverse t.path) here (numbers ∙ seat.place) in

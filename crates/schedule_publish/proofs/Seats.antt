@@ -83,7 +83,7 @@ module _ (prog : Program) (places : Places) (k : Run) (m : Machine) (shown : IsS
     pub unheld : (v : ℕ) → worker ≢ v → hand_of k.hands.items v ≢ Some s
     pub cells : (i : ℕ) → alloca_cells prog (Some t.frame) i ≡ alloca_cells prog (m.core.frames t.path) i
     pub at : (i : ℕ) → own_at a.frame.role (a.frame.home +ℤ number_in (allocas_of places a.frame.function.0) i) ≡ alloca_at places (named k.cactus (reverse t.path)) i
-    pub block : HasBlock prog k.blocks.items s a.frame
+    pub block : HasBlock prog k.blocks.items k.lent s a.frame
 
   -- ---- a frame above the base
 
@@ -108,7 +108,7 @@ module _ (prog : Program) (places : Places) (k : Run) (m : Machine) (shown : IsS
           unheld = λ v differ e. not_there k.cactus s free (shown.agrees.held v s e);
           cells = λ i. own_none prog places moves text g.frame next.nothing i ∙ sym (ap (λ o. alloca_cells prog o i) next.fresh);
           at = λ i. nowhere prog places moves text g.frame next.nothing l g.path h a.frame on.shows.shown is.copy i ∙ sym (ap (λ o. alloca_at places o i) nobody);
-          block = needs_none prog places moves text g.frame next.nothing l g.path h a.frame on.shows.shown is.copy k.blocks.items s;
+          block = needs_none prog places moves text g.frame next.nothing l g.path h a.frame on.shows.shown is.copy k.blocks.items k.lent s;
         }
 
   -- ---- the base
@@ -206,7 +206,7 @@ module _ (prog : Program) (places : Places) (k : Run) (m : Machine) (shown : IsS
           unheld = λ v differ e. differ (own_hand prog places m k shown slot node fits.stands worker fits.hand within v e);
           cells = λ i. (λ j. own_cells (like.role j) (frames.cells_of prog (like.function j) (object.Alloca (record { 0 = i })))) ∙ sym (ap (λ o. alloca_cells prog o i) stood);
           at = λ i. ap (λ (y : Frame). own_at y.role (y.home +ℤ number_in (allocas_of places y.function.0) i)) is.went ∙ sym (ap (λ o. alloca_at places o i) named_low);
-          block = subst (λ (y : Frame). HasBlock prog k.blocks.items slot y) (sym is.went) (λ body some.
+          block = subst (λ (y : Frame). HasBlock prog k.blocks.items k.lent slot y) (sym is.went) (λ body some.
               let own = shown.agrees.blocks.owned slot node fits.stands body some in
               (own.0, own.1, record { home = own.2.home; room = own.2.room }));
         }

@@ -1,6 +1,6 @@
 -- A run whose frames change in some slots, while blocks stay: what is shown, and that the parts agree.
 use Rattle.std.proofs.Common.{Vec, Global, ◌≡◌, ℕ, ◌≤◌, ◌+◌, reverse, Option, Some, None, refl, sym, ap, ◌∙◌, subst, arith}
-use Rattle.std.specs.Prelude.{◌↔◌, slice_get}
+use Rattle.std.specs.Prelude.{◌↔◌}
 use Rattle.semantics.specs.Paths.{Path}
 use Rattle.semantics.specs.Cells.{Object, Shared, Local}
 use Rattle.semantics.specs.Frames.{Frame as Shown}
@@ -47,7 +47,7 @@ module _ (prog : Program) (places : Places) (m next : Machine) (k : Run) (frames
     pub runner : (v : ℕ) → (n.frame.runner ≡ Some v) ↔ (hand_of hands.items v ≡ Some s)
     pub fits : NodeFits prog frames n
     pub counts : (r : ℕ) → counted_in n.frame r ≡ count_of next.core (place_of n) r
-    pub block : HasBlock prog k.blocks.items s n.frame.frame
+    pub block : HasBlock prog k.blocks.items k.lent s n.frame.frame
 
   -- a node that stood there
   pub record Kept (s : ℕ) (n : Node Activation) : Type 0 where
@@ -126,7 +126,7 @@ module _ (prog : Program) (places : Places) (m next : Machine) (k : Run) (frames
               nodes = λ s n here. (c.holds s n here).fits;
               counts = λ s r n here. (c.holds s n here).counts r;
               made = c.made;
-              blocks = record { owned = λ s n here. (c.holds s n here).block; below = b.below; after = b.after; beside = b.beside; globals = b.globals };
+              blocks = record { owned = λ s n here. (c.holds s n here).block; below = b.below; after = b.after; beside = b.beside; globals = b.globals; lent_after = b.lent_after; lent_below = b.lent_below; lent_beside = b.lent_beside };
             }
 
         pub changed_by_shown : IsShown prog places next changed_by

@@ -1,4 +1,4 @@
-use Rattle.std.proofs.Common.{rules, true, ◌≡◌, ◌+◌, ◌<◌, ℕ, List, [], length, max, Option, Some, None, refl, sym, ap, ◌∙◌, subst, arith}
+use Rattle.std.proofs.Common.{rules, true, ◌≡◌, ◌+◌, ◌<◌, ℕ, List, [], max, Option, Some, None, sym, ap, ◌∙◌, subst, arith}
 use Rattle.std.specs.Prelude.{map, sum}
 use Rattle.std.specs.Vec.{with_item}
 use Rattle.std.specs.Option.{option_copied, option_copied_mut}

@@ -28,6 +28,7 @@ returns-clause-begins c =
       cactus = frames;
       cells = c.grow.new.self;
       blocks = c.in_ok-first_blocks.field-0;
+      lent = record { start = c.in-Some-checked_add.end; cells = 0 };
       end = c.in-Some-checked_add.end;
       hands = c.in_ok-first_hands.field-0;
       instructions = 0;
@@ -45,6 +46,7 @@ returns-clause-begins c =
       root = subst (λ n. IsRoot prog.main arguments n (length numbers.items) a) c.len.ensures (subst (λ n. IsRoot prog.main arguments c.len.result n a) home c.in_ok-root.ensures);
       cells = c.in_ok-grow.ensures.grown ∙ ap (λ n. numbers.items ++ replicate n (pos 0)) many;
       blocks = subst (λ n. HasBlock blocks slot (record { start = n; cells = main_cells f })) home (subst (λ n. HasBlock blocks slot (record { start = c.len-start.result; cells = n })) many c.in_ok-first_blocks.ensures);
+      lent = refl;
       end = end;
       hands = c.in_ok-first_hands.ensures;
       instructions = refl;
