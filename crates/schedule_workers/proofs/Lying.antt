@@ -88,6 +88,10 @@ module _ (prog : Program) (places : Places) (moves : ℕ) (text : TextFits prog 
     pub is : address l c ≡ pos place
     pub from : block.start ≤ place
     pub below : place < block.start + block.cells
+    -- in the allocas of the frame, which is a function's
+    pub body : node.frame.frame.role ≡ role.Body
+    pub home : node.frame.frame.home ≡ pos block.start
+    pub own : place < block.start + cells_in (slice_get prog.functions node.frame.frame.function.0)
 
   pub record InGlobals (c : Cell) : Type 0 where
     pub place : ℕ
@@ -138,6 +142,9 @@ module _ (prog : Program) (places : Places) (moves : ℕ) (text : TextFits prog 
               ∙ alloca_address prog places moves text node.frame.frame.function.0 own.0.start a i inside low;
           from = omega arith;
           below = omega (arith, off, room);
+          body = kind;
+          home = fits.home;
+          own = omega (arith, off);
         }
 
     local_lies : (o : Option frames.Frame) (x : Option (Node Activation)) → ShowsAt l places owner o x → named k.cactus (reverse owner) ≡ x → i < alloca_cells prog o a → InBlock (record { object = Local owner a; index = i })
