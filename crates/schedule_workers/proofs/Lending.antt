@@ -1,10 +1,8 @@
 -- Cells that are lent to workers: lending shows what was shown, and no living cell lies in a part that is free.
-use Rattle.std.proofs.Common.{◌≡◌, ◌≢◌, ℕ, ◌+◌, ◌<◌, ◌≤◌, List, [], ◌∷◌, ◌++◌, replicate, Some, inl, inr, ◌⊎◌, refl, sym, ap, ◌∙◌, subst, arith, ℤ, pos}
-use Rattle.std.specs.Prelude.{map, sum, slice_get}
+use Rattle.std.proofs.Common.{◌≡◌, ◌≢◌, ℕ, ◌+◌, ◌<◌, ◌++◌, replicate, Some, inl, inr, refl, sym, ap, ◌∙◌, arith, pos}
 use Rattle.std.proofs.lemmas.List.{append-nil}
 use Rattle.semantics.specs.Cells.{Cell}
 use Rattle.semantics.specs.Events.{Machine}
-use Rattle.program.specs.declared.function.Global.{Global as Shared}
 use Rattle.program.specs.declared.function.Program.{Program}
 use Rattle.cactus.specs.declared.node.Node.{Node}
 use Rattle.cactus.specs.Frames.{node_at}
@@ -16,11 +14,14 @@ use Rattle.schedule_workers.specs.declared.run.Block.{Block}
 use Rattle.schedule_workers.specs.declared.run.Run.{Run}
 use Rattle.schedule_workers.specs.Going.{TextFits}
 use Rattle.schedule_workers.specs.Layouts.{layout_of}
+use Rattle.schedule_workers.specs.Left.{LeavesAsShown}
 use Rattle.schedule_workers.specs.Rooms.{IsRoomier}
-use Rattle.schedule_workers.specs.Lent.{IsFree, IsVacant, LendsOn, own_block, place_at}
-use Rattle.schedule_workers.specs.Shown.{AreBeside, HasBlock, IsShown, cells_in}
+use Rattle.schedule_workers.specs.Lent.{IsFree, IsVacant, place_at}
+use Rattle.schedule_workers.specs.Shown.{HasBlock, IsShown}
 use Rattle.schedule_workers.proofs.Lying.{InBlock, InGlobals, lies}
 use Rattle.schedule_workers.proofs.Roomy.{room_shown, vec_small}
+use Rattle.schedule_workers.proofs.Stepping.{roomier_leaves, same_room}
+use Rattle.schedule_workers.proofs.Uses.{same_uses}
 
 -- ---- lending
 
@@ -65,12 +66,24 @@ module _ (prog : Program) (places : Places) (m : Machine) (k : Run) (cells : ℕ
         };
       }
 
--- after the row has grown
-pub lends_on : (old : Run) (row : Flat) (n cells : ℕ) → row.cells.items ≡ old.cells.cells.items ++ replicate n (pos 0) → LendsOn old (lending (record old { cells = row }) cells)
-lends_on old row n cells grown prog places m none shown = lent_shown prog places m (record old { cells = row }) cells none (room_shown prog places old (record old { cells = row }) more m shown)
-  where
-    more : IsRoomier old (record old { cells = row })
-    more = record { only = refl; cells = (n, grown); blocks = (0, sym (append-nil old.blocks.items)) }
+-- with a row that has grown, or not
+more_cells : (old : Run) (row : Flat) (n : ℕ) → row.cells.items ≡ old.cells.cells.items ++ replicate n (pos 0) → IsRoomier old (record old { cells = row })
+more_cells old row n grown = record { only = refl; cells = (n, grown); blocks = (0, sym (append-nil old.blocks.items)) }
+
+module _ (prog : Program) (places : Places) (old : Run) where
+  pub lends_nothing : LeavesAsShown prog places old old
+  lends_nothing = roomier_leaves prog places old old (same_room old)
+
+  pub lends_no_more : (row : Flat) → row.cells.items ≡ old.cells.cells.items → LeavesAsShown prog places old (record old { cells = row })
+  lends_no_more row same = roomier_leaves prog places old (record old { cells = row }) (more_cells old row 0 (same ∙ sym (append-nil old.cells.cells.items)))
+
+  pub lends : (row : Flat) (n cells : ℕ) → row.cells.items ≡ old.cells.cells.items ++ replicate n (pos 0) → old.lent.cells ≡ 0 → LeavesAsShown prog places old (lending (record old { cells = row }) cells)
+  lends row n cells grown none = record {
+    shown = λ m shown safe. lent_shown prog places m (record old { cells = row }) cells none (room_shown prog places old (record old { cells = row }) (more_cells old row n grown) m shown);
+    hands = refl;
+    uses = same_uses old.cactus;
+    stalls = λ last agree. agree;
+  }
 
 -- ---- a part that is free
 

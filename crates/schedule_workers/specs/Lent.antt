@@ -1,16 +1,14 @@
 -- Cells that are lent to workers, and which part of them no living frame has.
 use Rattle.std.specs.Prelude.{◌≡◌, ℕ, ◌+◌, ◌<◌, ◌≤◌, length, Some, slice_get, ℤ, pos, negsuc}
-use Rattle.semantics.specs.Events.{Machine}
 use Rattle.program.specs.declared.function.Program.{Program}
 use Rattle.frame.specs.declared.frame.Role.TheVariants.{Body}
 use Rattle.cactus.specs.declared.node.Node.{Node}
 use Rattle.cactus.specs.Frames.{node_at}
 use Rattle.frame_engine.specs.declared.activation.Frame.{Frame}
-use Rattle.frame_engine.specs.declared.activation.Places.{Places}
 use Rattle.schedule_workers.specs.declared.activation.Activation.{Activation}
 use Rattle.schedule_workers.specs.declared.run.Block.{Block}
 use Rattle.schedule_workers.specs.declared.run.Run.{Run}
-use Rattle.schedule_workers.specs.Shown.{AreBeside, IsShown, LiesWithin, cells_in}
+use Rattle.schedule_workers.specs.Shown.{AreBeside, LiesWithin, cells_in}
 
 -- the place in the row
 abbrev pub place_at : ℤ → ℕ
@@ -38,7 +36,3 @@ pub record IsVacant (prog : Program) (k : Run) (part : Block) : Type 0 where
 pub record IsFree (prog : Program) (k : Run) (part : Block) : Type 0 where
   pub row : part.start + part.cells ≤ length k.cells.cells.items
   pub vacant : 0 < part.cells → IsVacant prog k part
-
--- the run after some cells were lent shows what it showed
-abbrev pub LendsOn : Run → Run → Type 0
-LendsOn old new = (prog : Program) (places : Places) (m : Machine) → old.lent.cells ≡ 0 → IsShown prog places m old → IsShown prog places m new

@@ -1,7 +1,10 @@
 //! Cells that are lent to workers, for the allocas of frames that they make apart from the run.
 
-ghost use Rattle.std.specs.Prelude.{◌≡◌, ◌↔◌, ◌+◌, ◌≤◌, IfNone, IfSome, IsTrue, OnOk, slice_get};
-ghost use Rattle.schedule_workers.specs.Lent.{AllAreClearOf, IsClearOf, IsFree, IsVacant, LendsOn, place_at};
+ghost use Rattle.std.specs.Prelude.{◌≡◌, ◌↔◌, ◌+◌, ◌≤◌, IfNone, IfSome, IsTrue, slice_get};
+ghost use Rattle.schedule_workers.specs.Lent.{AllAreClearOf, IsClearOf, IsFree, IsVacant, place_at};
+ghost use Rattle.program.specs.declared.function.Program.{Program as Text};
+ghost use Rattle.frame_engine.specs.declared.activation.Places.{Places};
+ghost use Rattle.schedule_workers.specs.Left.{LeavesAsShown};
 ghost use Rattle.schedule_workers.specs.Shown.{LiesWithin, cells_in};
 
 use crate::room::frame_cells;
@@ -149,15 +152,18 @@ impl Run {
         }
     }
 
-    /// Lends so many cells to the workers of a run that lends none yet.
+    /// Lends so many cells to the workers, where none are lent yet. Nothing changes that is seen of the run.
     ///
     /// # Errors
     ///
-    /// Memory was refused: the run is as it was.
+    /// Memory was refused.
     pub fn lend(&mut self, cells: usize) -> Result<(), OutOfMemory>
         ensures only { self.new ≡ record self.old { cells = self.new.cells; lent = self.new.lent; end = self.new.end } }
-        ensures lends { OnOk result (LendsOn self.old self.new) }
+        ensures left { (prog : Text) (places : Places) → LeavesAsShown prog places self.old self.new }
     {
+        if self.lent.cells != 0 {
+            return Ok(());
+        }
         let Some(end) = self.end.checked_add(cells) else {
             return Err(OutOfMemory);
         };

@@ -113,7 +113,6 @@ impl Run {
         ensures begins { IfOk result (Begins program.now arguments.now numbers.items) }
         ensures workers { IfOk result (λ k. length k.hands.items ≡ workers) }
         ensures moves { IfOk result (λ k. length k.moves.items ≡ moves) }
-        ensures lends_none { IfOk result (λ k. k.lent.cells ≡ 0) }
         ensures given { IfOk result (λ k. AreGiven k.cactus) }
         ensures stalls { IfOk result (λ k. StallsAgree no_blocks k.cactus) }
     {

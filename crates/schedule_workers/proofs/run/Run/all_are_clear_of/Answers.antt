@@ -1,9 +1,8 @@
-use Rattle.std.proofs.Common.{arith, ◌≡◌, ℕ, List, [], ◌∷◌, Some, Contains, refl, sym, ap, subst, ◌∙◌, inl, inr, ◌⊎◌}
+use Rattle.std.proofs.Common.{arith, ◌≡◌, ℕ, List, [], ◌∷◌, Contains, refl, sym, ap, subst, ◌∙◌, inl, inr}
 use Rattle.std.specs.Prelude.{true, false}
 use Rattle.slab.specs.Slab.{entries_from}
 use Rattle.slab.proofs.SlabLemmas.{Contains-entries, Contains-cons, Contains-cons_cases}
 use Rattle.cactus.specs.declared.node.Node.{Node}
-use Rattle.cactus.specs.Frames.{Frames, node_at}
 use Rattle.schedule_workers.specs.declared.activation.Activation.{Activation}
 use Rattle.schedule_workers.specs.Lent.{IsClearOf}
 use Rattle.schedule_workers.proofs.run.Run.all_are_clear_of.Goals as goal
