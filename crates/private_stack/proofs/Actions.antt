@@ -20,6 +20,7 @@ use Rattle.serial_stack.proofs.Places.{call_here, detach_here, reattach_here, re
 use Rattle.frame_strand.specs.Alone as alone
 use Rattle.laws_stacks.specs.Footprint.{memory_of}
 use Rattle.laws_stacks.specs.Deep.{DeepStrand, next_action}
+use Rattle.private_stack.specs.Layouts.{Segment, layout_above}
 use Rattle.private_stack.specs.Shown.{CanGo, ShowsPile}
 use Rattle.private_stack.specs.declared.pile.Pile.{Pile}
 
@@ -40,11 +41,11 @@ unstuck f (Call d g vs) free h = h
 unstuck f (Reattach r) free h = h
 unstuck f (Return v) free h = h
 
-pub placed : (l : Layout) (prog : Program) (places : Places) (d : DeepStrand) (x : Pile) (i : Item) → ShowsPile l prog places d x → item_here prog x.top ≡ Some i → item_at prog d.top.frame.function d.top.frame.block d.top.frame.index ≡ Some i
-placed l prog places d x i h e = let t = h.top.shown in (λ j. item_at prog (t.function j) (t.block j) (t.index j)) ∙ e
+pub placed : (l : Layout) (prog : Program) (places : Places) (s : Segment) (d : DeepStrand) (x : Pile) (i : Item) → ShowsPile l prog places s d x → item_here prog x.top ≡ Some i → item_at prog d.top.frame.function d.top.frame.block d.top.frame.index ≡ Some i
+placed l prog places s d x i h e = let t = h.top.shown in (λ j. item_at prog (t.function j) (t.block j) (t.index j)) ∙ e
 
-module _ (prog : Program) (l : Layout) (d : DeepStrand) (can : CanGo prog l d) where
-  pub safe : Safe prog l d.top.path d.top.frame (memory_of d.footprint)
+module _ (prog : Program) (l : Layout) (s : Segment) (d : DeepStrand) (can : CanGo prog l s d) where
+  pub safe : Safe prog (layout_above l prog s.start d.top d.below) d.top.path d.top.frame (memory_of d.footprint)
   safe = can.stays 0 d.top.frame alone.here (memory_of d.footprint) (λ c within. refl)
 
   abbrev run : Run

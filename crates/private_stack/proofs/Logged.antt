@@ -9,7 +9,7 @@ use Rattle.semantics.specs.Effect.{stores}
 use Rattle.semantics.specs.Frames.{Frame}
 use Rattle.semantics.proofs.Actions.{same_cell_itself}
 use Rattle.semantics.proofs.SameCells.{same_cell_tells}
-use Rattle.laws_stacks.specs.Footprint.{Footprint, Write, added_to, held, known, put, raised, settled, stored, untouched, with_read, with_writes}
+use Rattle.laws_stacks.specs.Footprint.{Footprint, Write, added_to, held, known, raised, settled, stored, untouched, with_read, with_writes}
 use Rattle.frame_engine.specs.Shows.{Layout, IsIn, address}
 use Rattle.frame_strand.specs.Buffers.{raised_change}
 use Rattle.frame_strand.specs.Showing.{AreApart}
@@ -19,7 +19,7 @@ use Rattle.private_stack_log.specs.Doing.{IsChanged}
 use Rattle.private_stack_log.specs.Known.{at_address, first_of, read_after, settled_change, value_of}
 use Rattle.private_stack_log.specs.Logs.{Log, empty_log, filled_log, loaded_log, place_of, same_page, value_at}
 use Rattle.private_stack_log.proofs.Addresses.{address_tells}
-use Rattle.private_stack.specs.Kept.{ShowsKept, write_of}
+use Rattle.private_stack.specs.Kept.{ShowsLog, write_of}
 
 at_here : {X : Type 0} (a : ℤ) (n : X) (g : ℤ → X) → at_address a n g a ≡ n
 at_here a n g = elim (address_tells a a) [
@@ -35,24 +35,20 @@ at_off a n g x off = elim (address_tells x a) [
 
 -- ---- nothing, and more at hand
 
-pub empty_kept : (l : Layout) (n : ℕ) → ShowsKept l untouched (empty_log n)
-empty_kept l n = record {
+pub empty_log_shown : (l : Layout) (n : ℕ) → ShowsLog l untouched (empty_log n)
+empty_log_shown l n = record {
   reads = λ c here. refl;
   writes = λ c here. refl;
-  unread = λ c out. refl;
-  unheld = λ c out. refl;
   read_there = λ a v e. absurd cc;
   written_there = λ a u e. absurd cc;
   near = λ a v e. absurd cc;
   deltas = λ a z e. absurd cc;
 }
 
-pub filled_kept : (l : Layout) (f : Footprint) (b : Log) (a : ℤ) (values : List ℤ) → ShowsKept l f b → ShowsKept l f (filled_log b a values)
-filled_kept l f b a values s = record {
+pub filled_log_shown : (l : Layout) (f : Footprint) (b : Log) (a : ℤ) (values : List ℤ) → ShowsLog l f b → ShowsLog l f (filled_log b a values)
+filled_log_shown l f b a values s = record {
   reads = s.reads;
   writes = s.writes;
-  unread = s.unread;
-  unheld = s.unheld;
   read_there = s.read_there;
   written_there = s.written_there;
   near = λ x v e. at x v (same_page a x) (s.near x v e);
@@ -62,6 +58,17 @@ filled_kept l f b a values s = record {
     at : (x v : ℤ) (t : Bool) → b.near x ≡ Some v → cond t (first_of (b.near x) (slice_get values (place_of x))) (b.near x) ≡ Some v
     at x v true e = ap (λ o. first_of o (slice_get values (place_of x))) e
     at x v false e = e
+
+-- a footprint that has the same of the machine's cells
+pub off_logged : (l : Layout) (f g : Footprint) (b : Log) → ((c : Cell) → IsIn l c → (g.reads c ≡ f.reads c) × (g.writes c ≡ f.writes c)) → ShowsLog l f b → ShowsLog l g b
+off_logged l f g b same s = record {
+  reads = λ c here. (same c here).0 ∙ s.reads c here;
+  writes = λ c here. (same c here).1 ∙ s.writes c here;
+  read_there = s.read_there;
+  written_there = s.written_there;
+  near = s.near;
+  deltas = s.deltas;
+}
 
 -- ---- a cell is written
 
@@ -77,22 +84,17 @@ raised_is z None (Some y) = refl
 raised_is z (Some (Stored y)) r = refl
 raised_is z (Some (Delta y)) r = refl
 
-module _ (l : Layout) (apart : AreApart l) (f : Footprint) (b after : Log) (s : ShowsKept l f b) (c : Cell) (here : IsIn l c) where
+module _ (l : Layout) (apart : AreApart l) (f : Footprint) (b after : Log) (s : ShowsLog l f b) (c : Cell) (here : IsIn l c) where
   -- what is kept of this cell becomes a change, and of no other
-  put_kept : (g : Footprint) (u : Change) → IsChanged b (address l c) u after → ((w : ℤ) → u ≡ Delta w → b.reads (address l c) ≡ None) →
-      g.reads ≡ f.reads → g.writes c ≡ Some (write_of u) → ((d : Cell) → same_cell c d ≡ false → g.writes d ≡ f.writes d) → ShowsKept l g after
-  put_kept g u done unread same mine others = subst (ShowsKept l g) (sym done.is) (record {
+  put_logged : (g : Footprint) (u : Change) → IsChanged b (address l c) u after → ((w : ℤ) → u ≡ Delta w → b.reads (address l c) ≡ None) →
+      g.reads ≡ f.reads → g.writes c ≡ Some (write_of u) → ((d : Cell) → same_cell c d ≡ false → g.writes d ≡ f.writes d) → ShowsLog l g after
+  put_logged g u done unread same mine others = subst (ShowsLog l g) (sym done.is) (record {
     reads = λ d in_l. ap (λ (r : Cell → Option ℤ). r d) same ∙ s.reads d in_l;
     writes = λ d in_l. elim (same_cell_tells c d) [
       | inl q ↦
           subst (λ (x : Cell). g.writes x ≡ option_map write_of (at_address (address l c) (Some u) b.writes (address l x))) q.1
           (mine ∙ sym (ap (option_map write_of) (itself (address_tells (address l c) (address l c)))))
       | inr q ↦ others d q ∙ s.writes d in_l ∙ sym (ap (option_map write_of) (elsewhere d in_l q (address_tells (address l d) (address l c))))
-    ];
-    unread = λ d out. ap (λ (r : Cell → Option ℤ). r d) same ∙ s.unread d out;
-    unheld = λ d out. elim (same_cell_tells c d) [
-      | inl q ↦ absurd (out (subst (IsIn l) q.1 here))
-      | inr q ↦ ap (λ (w : Option Write). put w None) (others d q) ∙ s.unheld d out
     ];
     read_there = s.read_there;
     written_there = λ a w e. elim (address_tells a (address l c)) [
@@ -114,28 +116,26 @@ module _ (l : Layout) (apart : AreApart l) (f : Footprint) (b after : Log) (s : 
       elsewhere d in_l off (inl q) = absurd (let same : same_cell c d ≡ true = ap (same_cell c) (apart d c in_l here q.1) ∙ same_cell_itself c in cc)
       elsewhere d in_l off (inr q) = ap (λ (t : Bool). cond t (Some u) (b.writes (address l d))) q.0
 
-  pub stores_kept : (h : Frame) (z : ℤ) → IsChanged b (address l c) (Stored z) after → ShowsKept l (with_writes f (stores h c z).writes (stores h c z).adds) after
-  stores_kept h z done =
-      put_kept (with_writes f (stores h c z).writes (stores h c z).adds) (Stored z) done (λ w e. absurd cc) refl
+  pub stores_logged : (h : Frame) (z : ℤ) → IsChanged b (address l c) (Stored z) after → ShowsLog l (with_writes f (stores h c z).writes (stores h c z).adds) after
+  stores_logged h z done =
+      put_logged (with_writes f (stores h c z).writes (stores h c z).adds) (Stored z) done (λ w e. absurd cc) refl
       (ap (λ (t : Bool). stored (cond {A = Option (Option ℤ)} t (Some (Some z)) None) (f.writes c)) (same_cell_itself c))
       (λ d off. ap (λ (t : Bool). stored (cond {A = Option (Option ℤ)} t (Some (Some z)) None) (f.writes d)) off)
 
-  pub adds_kept : (writes : Cell → Option (Option ℤ)) (adds : Cell → Option ℤ) (z : ℤ) → ((x : Cell) → writes x ≡ None) → ((x : Cell) → adds x ≡ cond (same_cell c x) (Some z) None) →
-      IsChanged b (address l c) (raised_change z (b.writes (address l c)) (b.reads (address l c))) after → ShowsKept l (with_writes f writes adds) after
-  adds_kept writes adds z none is done =
-      put_kept (with_writes f writes adds) (raised_change z (b.writes (address l c)) (b.reads (address l c))) done
+  pub adds_logged : (writes : Cell → Option (Option ℤ)) (adds : Cell → Option ℤ) (z : ℤ) → ((x : Cell) → writes x ≡ None) → ((x : Cell) → adds x ≡ cond (same_cell c x) (Some z) None) →
+      IsChanged b (address l c) (raised_change z (b.writes (address l c)) (b.reads (address l c))) after → ShowsLog l (with_writes f writes adds) after
+  adds_logged writes adds z none is done =
+      put_logged (with_writes f writes adds) (raised_change z (b.writes (address l c)) (b.reads (address l c))) done
       (raised_unread z (b.writes (address l c)) (b.reads (address l c)) (s.deltas (address l c))) refl
       ((λ i. added_to (is c i) (stored (none c i) (f.writes c)) (f.reads c)) ∙ ap (λ (t : Bool). added_to (cond {A = Option ℤ} t (Some z) None) (f.writes c) (f.reads c)) (same_cell_itself c) ∙
       ap Some ((λ i. raised z (s.writes c here i) (s.reads c here i)) ∙ raised_is z (b.writes (address l c)) (b.reads (address l c))))
       (λ d off. (λ i. added_to (is d i) (stored (none d i) (f.writes d)) (f.reads d)) ∙ ap (λ (t : Bool). added_to (cond {A = Option ℤ} t (Some z) None) (f.writes d) (f.reads d)) off)
 
 -- what an effect without writes and adds keeps
-pub same_kept : (l : Layout) (f : Footprint) (b : Log) (writes : Cell → Option (Option ℤ)) (adds : Cell → Option ℤ) → ShowsKept l f b → ((x : Cell) → writes x ≡ None) → ((x : Cell) → adds x ≡ None) → ShowsKept l (with_writes f writes adds) b
-same_kept l f b writes adds s none no_add = record {
+pub same_logged : (l : Layout) (f : Footprint) (b : Log) (writes : Cell → Option (Option ℤ)) (adds : Cell → Option ℤ) → ShowsLog l f b → ((x : Cell) → writes x ≡ None) → ((x : Cell) → adds x ≡ None) → ShowsLog l (with_writes f writes adds) b
+same_logged l f b writes adds s none no_add = record {
   reads = s.reads;
   writes = λ c here. kept c ∙ s.writes c here;
-  unread = s.unread;
-  unheld = λ c out. ap (λ (w : Option Write). put w None) (kept c) ∙ s.unheld c out;
   read_there = s.read_there;
   written_there = s.written_there;
   near = s.near;
@@ -190,7 +190,7 @@ held_then None v = refl
 held_then (Some (Stored z)) v = refl
 held_then (Some (Delta z)) v = refl
 
-module _ (l : Layout) (apart : AreApart l) (f : Footprint) (b : Log) (s : ShowsKept l f b) (c : Cell) (here : IsIn l c) where
+module _ (l : Layout) (apart : AreApart l) (f : Footprint) (b : Log) (s : ShowsLog l f b) (c : Cell) (here : IsIn l c) where
   abbrev a : ℤ
   a = address l c
 
@@ -252,8 +252,8 @@ module _ (l : Layout) (apart : AreApart l) (f : Footprint) (b : Log) (s : ShowsK
     off_here : (d : Cell) → IsIn l d → same_cell c d ≡ false → address l d ≢ a
     off_here d in_l off e = let same : same_cell c d ≡ true = ap (same_cell c) (apart d c in_l here e) ∙ same_cell_itself c in cc
 
-    pub loaded_kept : ShowsKept l (with_read f c value) (loaded_log b a)
-    loaded_kept = record {
+    pub loaded_logged : ShowsLog l (with_read f c value) (loaded_log b a)
+    loaded_logged = record {
       reads = λ d in_l. elim (same_cell_tells c d) [
         | inl q ↦ ap (λ (t : Bool). cond t (Some value) (f.reads d)) q.0 ∙ sym (ap reads_now (ap (address l) (sym q.1)) ∙ at_here a (read_after (b.writes a) (b.near a) (b.reads a)) b.reads ∙ read_here)
         | inr q ↦ ap (λ (t : Bool). cond t (Some value) (f.reads d)) q ∙ s.reads d in_l ∙ sym (at_off a (read_after (b.writes a) (b.near a) (b.reads a)) b.reads (address l d) (off_here d in_l q))
@@ -266,14 +266,6 @@ module _ (l : Layout) (apart : AreApart l) (f : Footprint) (b : Log) (s : ShowsK
         | inr q ↦
             ap (λ (t : Bool). cond t (settled value (f.writes d)) (f.writes d)) q ∙ s.writes d in_l ∙
             sym (ap (option_map write_of) (at_off a (settled_change (b.writes a) (b.near a)) b.writes (address l d) (off_here d in_l q)))
-      ];
-      unread = λ d out. elim (same_cell_tells c d) [
-        | inl q ↦ absurd (out (subst (IsIn l) q.1 here))
-        | inr q ↦ ap (λ (t : Bool). cond t (Some value) (f.reads d)) q ∙ s.unread d out
-      ];
-      unheld = λ d out. elim (same_cell_tells c d) [
-        | inl q ↦ absurd (out (subst (IsIn l) q.1 here))
-        | inr q ↦ ap (λ (t : Bool). put (cond t (settled value (f.writes d)) (f.writes d)) None) q ∙ s.unheld d out
       ];
       read_there = λ x w e. elim (address_tells x a) [
         | inl q ↦ (c, here, q.1)

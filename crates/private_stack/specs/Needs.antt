@@ -12,14 +12,16 @@ use Rattle.frame_engine.specs.declared.turning.Pause.TheVariants as engine_pause
 use Rattle.frame_engine.specs.Shows.{IsIn, Layout, address}
 use Rattle.frame_strand.specs.declared.cells.Stop.{Stop}
 use Rattle.frame_strand.specs.declared.cells.Stop.TheVariants as stop
-use Rattle.private_stack_log.specs.Logs.{Log, has_place, value_at}
+use Rattle.private_stack_log.specs.Logs.{has_place, value_at}
 use Rattle.private_stack_log.specs.Tables.{log_of}
 use Rattle.laws_stacks.specs.Deep.{DeepStrand, IsDeep}
 use Rattle.private_stack.specs.Shown.{CanGo, Deeper, ShowsPile}
+use Rattle.private_stack.specs.Layouts.{Segment}
+use Rattle.private_stack.specs.declared.cells.PileCells.{PileCells}
 use Rattle.private_stack.specs.declared.pile.Pile.{Pile}
 
--- the strand loads next the cell at the address, one of a living object, which is not at hand, and there is a place for its page
-pub record NeedsCell (prog : Program) (l : Layout) (d : DeepStrand) (b : Log) (at : ℤ) : Type 0 where
+-- the strand loads next the cell at the address, one of an object of the machine, which is not at hand, and there is a place for its page
+pub record NeedsCell (prog : Program) (l : Layout) (d : DeepStrand) (b : PileCells) (at : ℤ) : Type 0 where
   pub cell : Cell
   pub living : IsIn l cell
   pub is : at ≡ address l cell
@@ -27,10 +29,10 @@ pub record NeedsCell (prog : Program) (l : Layout) (d : DeepStrand) (b : Log) (a
   pub place : Address
   pub item : item_at prog d.top.frame.function d.top.frame.block d.top.frame.index ≡ Some (Does (instruction.Load register place))
   pub names : cell_at d.top.frame place ≡ Some cell
-  pub new : value_at b at ≡ None
-  pub room : has_place b at ≡ true
+  pub new : value_at (log_of b.log) at ≡ None
+  pub room : has_place (log_of b.log) at ≡ true
 
-abbrev pub PausesAt : Program → Layout → DeepStrand → Log → engine.Pause Stop → Type 0
+abbrev pub PausesAt : Program → Layout → DeepStrand → PileCells → engine.Pause Stop → Type 0
 PausesAt prog l d b engine_pause.Border = ⊤
 PausesAt prog l d b engine_pause.Limit = ⊤
 PausesAt prog l d b (engine_pause.Stopped stop.Full) = ⊤
@@ -39,5 +41,5 @@ PausesAt prog l d b (engine_pause.Stopped (stop.Need at)) = NeedsCell prog l d b
 -- the strand goes on to this pause
 abbrev pub GoesTo : Program → Places → Pile → Pile → engine.Pause Stop → Type 0
 GoesTo prog places old new r =
-    (l : Layout) (d : DeepStrand) → IsDeep prog d → ShowsPile l prog places d old → CanGo prog l d →
-    (e : Deeper l prog places d new) × PausesAt prog l e.strand (log_of new.cells) r
+    (l : Layout) (s : Segment) (d : DeepStrand) → IsDeep prog d → ShowsPile l prog places s d old → CanGo prog l s d →
+    (e : Deeper l prog places s d new) × PausesAt prog l e.strand new.cells r

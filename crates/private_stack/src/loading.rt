@@ -6,7 +6,9 @@ ghost use Rattle.frame_strand.specs.Standing.{IsCopy};
 ghost use Rattle.private_stack_log.specs.Logs.{empty_log, pages_of};
 ghost use Rattle.private_stack_log.specs.Tables.{log_of};
 ghost use Rattle.private_stack.specs.Along.{IsUnderWay, MayBegin};
+ghost use Rattle.private_stack.specs.OwnCells.{segment_of};
 
+use crate::cells::PileCells;
 use crate::pile::{Base, Pile, blank};
 use frame_engine::{Frame, Place};
 use lists::OutOfMemory;
@@ -48,7 +50,11 @@ impl Pile {
     pub fn new(alloc: Global, moves: usize) -> Result<Pile, OutOfMemory>
         ensures { IfOk result (λ x. length x.moves.items ≡ moves) }
     {
-        let cells = PageLog::new(alloc)?;
+        let cells = PileCells {
+            start: 0,
+            own: Vec::new(alloc),
+            log: PageLog::new(alloc)?,
+        };
         let moves = spare_words(alloc, moves)?;
         Ok(Pile {
             alloc,
@@ -63,12 +69,13 @@ impl Pile {
             done: 0,
             deepest: 0,
             cells,
+            end: 0,
             moves,
         })
     }
 
-    /// Begins with a copy of the board's frame, whose path has the root's number first. `childless` says that no child lives that a sync of the frame waits for;
-    /// `cells` is how many cells the board has.
+    /// Begins with a copy of the board's frame, whose path has the root's number first. `childless` says that no child lives that a sync of the
+    /// frame waits for. The allocas of its own frames get `room` addresses from `start` on. `cells` is how many cells the board has.
     ///
     /// # Errors
     ///
@@ -78,6 +85,8 @@ impl Pile {
         frame: &Frame,
         path: &[u64],
         childless: bool,
+        start: u64,
+        room: usize,
         cells: usize,
     ) -> Result<(), OutOfMemory>
         ensures path { OnOk result (self.new.base.path.items ≡ path.now) }
@@ -85,8 +94,10 @@ impl Pile {
         ensures childless { OnOk result (self.new.base.childless ≡ childless) }
         ensures moves { OnOk result (self.new.moves ≡ self.old.moves) }
         ensures done { OnOk result (self.new.done ≡ 0) }
-        ensures cells { OnOk result (log_of self.new.cells ≡ empty_log (max (log_of self.old.cells).pages (pages_of cells))) }
-        ensures way { OnOk result ((prog : Program) (places : Places) → FrameFits prog frame.now → MayBegin prog places path.now frame.now childless →
+        ensures segment { OnOk result (segment_of self.new.cells ≡ record { start = start; count = room }) }
+        ensures log { OnOk result (log_of self.new.cells.log ≡ empty_log (max (log_of self.old.cells.log).pages (pages_of cells))) }
+        ensures way { OnOk result ((prog : Program) (places : Places) → FrameFits prog frame.now →
+            MayBegin prog places path.now frame.now childless (record { start = start; count = room }) →
             IsUnderWay prog places self.new) }
     {
         self.base.path.clear();
@@ -97,8 +108,11 @@ impl Pile {
         self.base.childless = childless;
         self.done = 0;
         self.deepest = 0;
-        self.cells.clear();
-        self.cells.widen(cells)?;
+        self.end = start;
+        self.cells.start = start;
+        self.cells.own.resize(room, 0)?;
+        self.cells.log.clear();
+        self.cells.log.widen(cells)?;
         Ok(())
     }
 }

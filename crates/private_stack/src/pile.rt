@@ -1,9 +1,9 @@
 ghost use Rattle.std.specs.Prelude.{◌≡◌, ◌++◌, ◌∷◌, [], OnOk};
 
+use crate::cells::PileCells;
 use frame::{Role, Wait};
 use frame_engine::{Frame, Place};
 use lists::OutOfMemory;
-use private_stack_log::PageLog;
 use program::{BlockId, FunctionId};
 use std::alloc::Global;
 use std::mem;
@@ -30,7 +30,9 @@ pub struct Pile {
     pub done: u64,
     /// The most frames from the root to one that was made here.
     pub deepest: usize,
-    pub cells: PageLog,
+    pub cells: PileCells,
+    /// Where the next frame's allocas begin, in the segment of the cells.
+    pub end: u64,
     /// Room for the phi moves of an edge.
     pub moves: Vec<i64>,
 }

@@ -1,12 +1,13 @@
 -- A run of which it is known that it shows a machine, though not how, shows it.
-use Rattle.std.proofs.Common.{◌≡◌, ℕ, ◌+◌, ◌≤◌, List, [], ◌∷◌, ◌++◌, arith, length, reverse, Option, Some, None, Bool, true, false, inl, inr, refl, sym, ap, ◌∙◌, subst, slice_get, ℤ}
-use Rattle.std.specs.Prelude.{nat_le, slice_index_or}
+use Rattle.std.proofs.Common.{◌≡◌, ℕ, ◌+◌, ◌≤◌, List, [], ◌∷◌, ◌++◌, arith, length, reverse, Option, Some, None, Bool, true, false, inl, inr, refl, sym, ap, ◌∙◌, subst, slice_get, ℤ, pos, negsuc, ◌⊎◌}
+use Rattle.std.specs.Prelude.{nat_le, slice_index_or, ◌&&◌}
+use Rattle.std.specs.Ordering.{int_eq}
 use Rattle.std.proofs.Math.Logic.{∥∥₁_elim, ∥∥₁_map}
 use Rattle.std.proofs.Props.{props}
 use Rattle.std.proofs.Math.Nat.{ℕ_set}
 use Rattle.std.proofs.Math.IntN.{ℤ_set}
 use mathlib.Core.Sum.{⊎_set}
-use Rattle.std.proofs.lemmas.Bool.Decides.{nat_tests}
+use Rattle.std.proofs.lemmas.Bool.Decides.{Decides-int_eq, nat_tests}
 use Rattle.semantics.specs.Paths.{Path}
 use Rattle.semantics.specs.Frames as frames
 use Rattle.semantics.specs.Frames.{Value, Word, Truth, Pointer, Region}
@@ -28,7 +29,7 @@ use Rattle.schedule_workers.specs.declared.run.Run.{Run}
 use Rattle.schedule_workers.specs.Layouts.{layout_of}
 use Rattle.schedule_workers.proofs.Onward.{fits_prop}
 use Rattle.schedule_workers.proofs.Returned.{has_result_prop}
-use Rattle.schedule_workers.specs.Shown.{Agrees, AreBeside, BlocksStand, CalleeStands, HasTaker, IsBlockOf, IsShown, NodeFits, ShowsAt, ShowsMachine, ShowsNode}
+use Rattle.schedule_workers.specs.Shown.{Agrees, AreBeside, BlocksStand, CalleeStands, HasTaker, IsBlockOf, IsShown, LiesWithin, NodeFits, ShowsAt, ShowsMachine, ShowsNode, cells_in}
 
 absurd_again : {A : Type 0} → ∥ ⊥ ∥₁ → A
 absurd_again t = absurd (∥∥₁_elim t (Prim.hlevel (props, ⊎_set, ℕ_set, ℤ_set)) (λ h. h))
@@ -122,13 +123,66 @@ nodes_again prog nodes node t = record {
   counts = ∥∥₁_elim t (Prim.hlevel (props, ⊎_set, ℕ_set, ℤ_set)) (λ h. h.counts);
 }
 
-abbrev HasBlock : Program → Option Block → Frame → Type 0
-HasBlock prog o f = (b : Block) × (o ≡ Some b) × IsBlockOf prog f b
+abbrev HasBlock : Program → Option Block → Block → Frame → Type 0
+HasBlock prog o lent f = (b : Block) × ((o ≡ Some b) ⊎ LiesWithin lent b) × IsBlockOf prog f b
 
-block_again : (prog : Program) (o : Option Block) (f : Frame) → ∥ HasBlock prog o f ∥₁ → HasBlock prog o f
-block_again prog None f t = absurd_again (∥∥₁_map t (λ h. let e : None ≡ Some h.0 = h.1 in cc))
-block_again prog (Some b) f t =
-    (b, refl, ∥∥₁_elim t (Prim.hlevel (props, ⊎_set, ℕ_set, ℤ_set)) (λ h. let same : h.0 ≡ b = (let e : Some b ≡ Some h.0 = h.1 in cc) in subst (λ (x : Block). IsBlockOf prog f x) same h.2))
+number_of : ℤ → ℕ
+number_of (pos n) = n
+number_of (negsuc n) = 0
+
+-- the slot's block, if that serves the frame, and else the cells from its home on
+module _ (prog : Program) (lent : Block) (f : Frame) where
+  abbrev cells : ℕ
+  cells = cells_in (slice_get prog.functions f.function.0)
+
+  serves : Option Block → Bool
+  serves None = false
+  serves (Some b) = int_eq f.home (pos b.start) && nat_le cells b.cells
+
+  abbrev piece : Block
+  piece = record { start = number_of f.home; cells = cells }
+
+  both : (x y : Bool) → x && y ≡ true → (x ≡ true) × (y ≡ true)
+  both true y e = (refl, e)
+  both false y e = absurd cc
+
+  low : (x y : ℕ) → nat_le x y ≡ true → x ≤ y
+  low x y is = grind (arith, nat_tests)
+
+  high : (x y : ℕ) → x ≤ y → nat_le x y ≡ true
+  high x y le = grind (arith, nat_tests)
+
+  serves_it : (b : Block) → IsBlockOf prog f b → serves (Some b) ≡ true
+  serves_it b is =
+      let home : int_eq f.home (pos b.start) ≡ true = (Decides-int_eq f.home (pos b.start)).1 is.home in
+      let room : nat_le cells b.cells ≡ true = high cells b.cells is.room in
+      (λ i. home i && nat_le cells b.cells) ∙ room
+
+  in_piece : (o : Option Block) → serves o ≡ false → HasBlock prog o lent f → LiesWithin lent piece × IsBlockOf prog f piece
+  in_piece o none (b, inl e, is) = absurd (let bad : true ≡ false = sym (serves_it b is) ∙ ap serves (sym e) ∙ none in cc)
+  in_piece o none (b, inr w, is) =
+      let at : number_of f.home ≡ b.start = ap number_of is.home in
+      let room = is.room in
+      let from = w.0 in
+      let to = w.1 in (
+        (omega (arith, at, from), omega (arith, at, to, room)),
+        record { home = is.home ∙ sym (ap pos at); room = omega arith },
+      )
+
+  block_again : (o : Option Block) → ∥ HasBlock prog o lent f ∥₁ → HasBlock prog o lent f
+  block_again o t = by (serves o) refl
+    where
+      served : (x : Option Block) → serves x ≡ true → HasBlock prog x lent f
+      served None e = absurd cc
+      served (Some b) e =
+          let (home, room) = both (int_eq f.home (pos b.start)) (nat_le cells b.cells) e in
+          (b, inl refl, record { home = (Decides-int_eq f.home (pos b.start)).0 home; room = low cells b.cells room })
+
+      by : (c : Bool) → serves o ≡ c → HasBlock prog o lent f
+      by true e = served o e
+      by false e =
+          let holds = ∥∥₁_elim t (Prim.hlevel (props, ⊎_set, ℕ_set, ℤ_set)) (λ h. in_piece o e h) in
+          (piece, inr holds.0, holds.1)
 
 beside_again : (a b : Block) → ∥ AreBeside a b ∥₁ → AreBeside a b
 beside_again a b t = by (nat_le (a.start + a.cells) b.start) refl
@@ -148,11 +202,14 @@ beside_again a b t = by (nat_le (a.start + a.cells) b.start) refl
 
 blocks_again : (prog : Program) (k : Run) → ∥ BlocksStand prog k ∥₁ → BlocksStand prog k
 blocks_again prog k t = record {
-  owned = λ slot node stands body cells. block_again prog (slice_get k.blocks.items slot) node.frame.frame (∥∥₁_map t (λ h. h.owned slot node stands body cells));
+  owned = λ slot node stands body cells. block_again prog k.lent node.frame.frame (slice_get k.blocks.items slot) (∥∥₁_map t (λ h. h.owned slot node stands body cells));
   below = ∥∥₁_elim t (Prim.hlevel (props, ⊎_set, ℕ_set, ℤ_set)) (λ h. h.below);
   globals = ∥∥₁_elim t (Prim.hlevel (props, ⊎_set, ℕ_set, ℤ_set)) (λ h. h.globals);
   after = ∥∥₁_elim t (Prim.hlevel (props, ⊎_set, ℕ_set, ℤ_set)) (λ h. h.after);
   beside = λ slot other a b one two apart. beside_again a b (∥∥₁_map t (λ h. h.beside slot other a b one two apart));
+  lent_after = ∥∥₁_elim t (Prim.hlevel (props, ⊎_set, ℕ_set, ℤ_set)) (λ h. h.lent_after);
+  lent_below = ∥∥₁_elim t (Prim.hlevel (props, ⊎_set, ℕ_set, ℤ_set)) (λ h. h.lent_below);
+  lent_beside = λ slot b there. beside_again b k.lent (∥∥₁_map t (λ h. h.lent_beside slot b there));
 }
 
 -- ---- the run

@@ -1,11 +1,9 @@
 -- A frame that is called: the slots with it, and with its caller, which waits.
-use Rattle.std.proofs.Common.{◌≡◌, ◌≢◌, ℕ, ◌+◌, List, [], ◌∷◌, ◌++◌, reverse, Option, Some, None, ◌⊎◌, inl, inr, refl, sym, ap, ◌∙◌, subst}
+use Rattle.std.proofs.Common.{◌≡◌, ◌≢◌, ℕ, ◌+◌, List, [], ◌∷◌, ◌++◌, reverse, Some, None, inl, inr, refl, sym, ap, ◌∙◌, subst}
 use Rattle.std.proofs.lemmas.Bool.Decides.{eqb_tells}
 use Rattle.std.proofs.lemmas.List.{reverse-append, reverse-reverse}
 use Rattle.semantics.specs.Paths.{Path}
 use Rattle.semantics.proofs.Places.{same_path_tells}
-use Rattle.linear.specs.declared.form.RegisterId.{RegisterId}
-use Rattle.frame.specs.declared.path.Path.{Path as Name}
 use Rattle.cactus.specs.declared.node.Node.{Node}
 use Rattle.cactus.specs.Frames.{Frames, node_at, AddsChild}
 use Rattle.cactus.specs.ByPath.{named, child_node, IsTree, Binds, GrowsMap}

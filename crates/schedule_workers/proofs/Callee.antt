@@ -1,15 +1,15 @@
 -- What is shown after a call.
-use Rattle.std.proofs.Common.{◌≡◌, ◌≢◌, ℕ, suc, ◌+◌, ◌<◌, ◌≤◌, List, [], ◌∷◌, ◌++◌, get_or, length, max, reverse, Option, Some, None, Bool, true, false, cond, eqb, ◌⊎◌, inl, inr, refl, sym, ap, ◌∙◌, subst, arith, ℤ, pos, ◌+ℤ◌, Vec, Global}
-use Rattle.std.specs.Prelude.{◌↔◌, IsSome, IsTrue, map, sum, slice_get, option_and_then}
+use Rattle.std.proofs.Common.{◌≡◌, ◌≢◌, ℕ, ◌+◌, ◌<◌, ◌≤◌, List, [], ◌∷◌, ◌++◌, length, max, reverse, Option, Some, None, true, false, cond, eqb, inl, inr, refl, sym, ap, ◌∙◌, subst, arith, ℤ, pos, ◌+ℤ◌, Vec, Global}
+use Rattle.std.specs.Prelude.{◌↔◌, IsTrue, map, sum, slice_get, option_and_then}
 use Rattle.std.specs.Option.{option_map}
-use Rattle.std.specs.Vec.{with_item, vec_len}
+use Rattle.std.specs.Vec.{with_item}
 use Rattle.std.proofs.lemmas.Bool.Decides.{eqb_tells}
 use Rattle.std.proofs.lemmas.Int.{ints}
 use Rattle.std.proofs.lemmas.List.{get_or-set_same, get_or-set_other}
 use Rattle.std.proofs.lemmas.Option.{same_Some, get_or_from_slice_get}
 use Rattle.linear.specs.declared.form.RegisterId.{RegisterId}
 use Rattle.semantics.specs.Arithmetic.{wrapped}
-use Rattle.semantics.specs.Paths.{Path, Under}
+use Rattle.semantics.specs.Paths.{Path}
 use Rattle.semantics.specs.Cells.{Cell, Object, Shared, Local}
 use Rattle.semantics.specs.Frames as frames
 use Rattle.semantics.specs.Frames.{Value, Pointer, Does, OnCall, first_cell}
@@ -30,7 +30,6 @@ use Rattle.program.specs.declared.identifier.FunctionId.{FunctionId}
 use Rattle.program.specs.declared.identifier.ObjectName.TheVariants as object
 use Rattle.program.specs.declared.instruction.Argument.{Argument}
 use Rattle.program.specs.declared.instruction.Instruction.TheVariants as instruction
-use Rattle.frame.specs.declared.frame.Role.TheVariants as role
 use Rattle.frame.specs.declared.frame.Wait.{Wait}
 use Rattle.frame.specs.declared.frame.Wait.TheVariants as wait
 use Rattle.frame.specs.Reading.{wait_of}
@@ -54,14 +53,13 @@ use Rattle.schedule_workers.specs.Rooms.{IsRoom}
 use Rattle.schedule_workers.specs.Scheduling.{hand_of, counted_in}
 use Rattle.schedule_workers.specs.Layouts.{alloca_at, alloca_cells, layout_of, number_in, object_at, own_at}
 use Rattle.schedule_workers.specs.Going.{PointsUp, RunsSafely, TextFits}
-use Rattle.schedule_workers.specs.Shown.{Agrees, AreBeside, BlocksStand, CalleeStands, HasBlock, HasTaker, IsBlockOf, IsShown, NodeFits, ShowsAt, ShowsMachine, ShowsNode, cells_in, item_here, place_of, hands_of}
+use Rattle.schedule_workers.specs.Shown.{Agrees, AreBeside, BlocksStand, CalleeStands, HasBlock, HasTaker, IsBlockOf, IsPlaced, IsShown, NodeFits, ShowsAt, ShowsMachine, cells_in, item_here, place_of, hands_of}
 use Rattle.schedule_workers.proofs.Begun.{back_down, NamedNow, StoodNow, the_caller, the_callee, another, as_caller, as_callee, as_before}
 use Rattle.schedule_workers.proofs.Begun as now
 use Rattle.schedule_workers.proofs.Calling as step
-use Rattle.schedule_workers.proofs.Lying.{InBlock, InGlobals, alloca_address, alloca_offset, lies, offset_below, same_offset}
-use Rattle.schedule_workers.proofs.Onward.{seen}
+use Rattle.schedule_workers.proofs.Lying.{alloca_address, alloca_offset, lies, offset_below, same_offset}
 use Rattle.schedule_workers.proofs.Pointing.{IsAlike, IsApart, address_apart, apart_above, living_shown, whose}
-use Rattle.schedule_workers.proofs.Roomy.{is_cell_at, new_after, new_beside, vec_small}
+use Rattle.schedule_workers.proofs.Roomy.{is_cell_at, lent_side, new_after, new_beside, placed_beside, vec_small}
 use Rattle.schedule_workers.proofs.Views.{hand_seen, named_at_place, node_tells}
 
 eqb_same : (x : ℕ) → eqb x x ≡ true
@@ -318,7 +316,7 @@ module _ (prog : Program) (places : Places) (moves : ℕ) (text : TextFits prog 
           let at : t.place ≡ block.start + x = same_pos _ _ (sym t.is ∙ e) in
           let from = t.from in
           let below = t.below in
-          elim (new_beside prog k shown.agrees.blocks child (cells_in (Some f)) block room t.slot t.block t.has (not_child t.slot t.node t.stands)) [
+          elim (placed_beside prog k shown.agrees.blocks child (cells_in (Some f)) block room t.slot t.block t.placed (not_child t.slot t.node t.stands)) [
             | inl s ↦ omega (arith, at, from, low, s)
             | inr s ↦ omega (arith, at, below, s)
           ]
@@ -507,24 +505,32 @@ module _ (prog : Program) (places : Places) (moves : ℕ) (text : TextFits prog 
         ]
     beside_by s t x y (as_it_was u at) (as_it_was v here) off = shown.agrees.blocks.beside s t x y at here off
 
-    abbrev Owned : ℕ → Node Activation → Type 0
-    Owned s x = (y : Block) × (slice_get blocks s ≡ Some y) × IsBlockOf prog x.frame.frame y
+    lent_by : (s : ℕ) (x : Block) → BlockNow s x → AreBeside x k.lent
+    lent_by s x (the_new e i) = subst (λ z. AreBeside z k.lent) (sym i) (lent_side prog k shown.agrees.blocks child (cells_in (Some f)) block room)
+    lent_by s x (as_it_was off at) = shown.agrees.blocks.lent_beside s x at
 
-    owned_by : (s : ℕ) (x : Node Activation) → Stood s x → HasBlock prog blocks s x.frame.frame
+    abbrev Owned : ℕ → Node Activation → Type 0
+    Owned s x = (y : Block) × IsPlaced blocks k.lent s y × IsBlockOf prog x.frame.frame y
+
+    placed_off : (s : ℕ) (y : Block) → s ≢ child → IsPlaced k.blocks.items k.lent s y → IsPlaced blocks k.lent s y
+    placed_off s y off (inl e) = inl (block_off s off ∙ e)
+    placed_off s y off (inr w) = inr w
+
+    owned_by : (s : ℕ) (x : Node Activation) → Stood s x → HasBlock prog blocks k.lent s x.frame.frame
     owned_by s x (as_caller e i) body some =
         let own = shown.agrees.blocks.owned slot node stands (ap (λ (y : Node Activation). y.frame.frame.role) i ∙ body)
         (subst (λ (y : Node Activation). 0 < cells_in (slice_get prog.functions y.frame.frame.function.0)) (sym i) some) in
-        subst (λ y. Owned s y) i (own.0, subst (λ y. slice_get blocks y ≡ Some own.0) e (block_off slot away ∙ own.1), record { home = own.2.home; room = own.2.room })
+        subst (λ y. Owned s y) i (own.0, subst (λ y. IsPlaced blocks k.lent y own.0) e (placed_off slot own.0 away own.1), record { home = own.2.home; room = own.2.room })
     owned_by s x (as_callee e i) body some =
         subst (λ y. Owned s y) i (
           block,
-          subst (λ y. slice_get blocks y ≡ Some block) e block_here,
+          inl (subst (λ y. slice_get blocks y ≡ Some block) e block_here),
           record {
             home = begins.home;
             room = subst (λ (y : ℕ). cells_in (slice_get prog.functions y) ≤ block.cells) (sym (ap (λ (y : FunctionId). y.0) begins.function)) (subst (λ y. y ≤ block.cells) (sym cells_is) room.room);
           },
         )
-    owned_by s x (as_before u v here) body some = let own = shown.agrees.blocks.owned s x here body some in (own.0, block_off s v ∙ own.1, own.2)
+    owned_by s x (as_before u v here) body some = let own = shown.agrees.blocks.owned s x here body some in (own.0, placed_off s own.0 v own.1, own.2)
 
     -- ---- all of it
 
@@ -554,6 +560,9 @@ module _ (prog : Program) (places : Places) (moves : ℕ) (text : TextFits prog 
         globals = (let low = shown.agrees.blocks.globals in omega (arith, low));
         after = λ s x at. over_by s x (block_now s x at);
         beside = λ s t x y at here off. beside_by s t x y (block_now s x at) (block_now t y here) off;
+        lent_after = shown.agrees.blocks.lent_after;
+        lent_below = (let low = shown.agrees.blocks.lent_below in omega (arith, low));
+        lent_beside = λ s x at. lent_by s x (block_now s x at);
       }
 
       agrees : Agrees prog next (new depth room_for_moves)

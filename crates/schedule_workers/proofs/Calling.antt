@@ -1,23 +1,20 @@
 -- A call of the frame in a slot: the callee begins in a slot of its own, with a block for its allocas.
-use Rattle.std.proofs.Common.{◌≡◌, ◌≢◌, ℕ, zero, suc, ◌+◌, ◌<◌, ◌≤◌, List, [], ◌∷◌, ◌++◌, get_or, length, max, reverse, Option, Some, None, Bool, true, false, cond, ◌⊎◌, inl, inr, refl, sym, ap, ◌∙◌, subst, arith, ℤ, pos, ◌+ℤ◌}
-use Rattle.std.specs.Prelude.{IsSome, IsTrue, map, sum, slice_get}
-use Rattle.std.proofs.lemmas.Int.{ints}
-use Rattle.std.proofs.lemmas.Option.{same_Some, get_or_from_slice_get}
+use Rattle.std.proofs.Common.{◌≡◌, ◌≢◌, ℕ, zero, suc, ◌+◌, List, [], ◌∷◌, length, max, Option, Some, None, true, refl, sym, ap, ◌∙◌, subst, arith, ℤ}
+use Rattle.std.specs.Prelude.{slice_get}
+use Rattle.std.proofs.lemmas.Option.{same_Some}
 use Rattle.linear.specs.declared.form.RegisterId.{RegisterId}
-use Rattle.semantics.specs.Arithmetic.{wrapped}
-use Rattle.semantics.specs.Paths.{Path, Under}
+use Rattle.semantics.specs.Paths.{Path}
 use Rattle.semantics.specs.Cells.{Cell, Object, Shared, Local}
 use Rattle.semantics.specs.Frames.{Frame as Shown, Value, Word, Pointer, Does, Body, first_cell, item_at, and_then, cell_of}
 use Rattle.semantics.specs.Frames as frames
 use Rattle.semantics.specs.Effect.{Call, action_of, argument_value, argument_values, calls, item_action}
-use Rattle.semantics.specs.State.{Change, both, override, called, waiting, call_change, may_go, apply}
+use Rattle.semantics.specs.State.{Change, override, called, waiting, call_change, may_go, apply}
 use Rattle.semantics.specs.Counts.{count_of, counts_after}
 use Rattle.semantics.specs.Events as running
 use Rattle.semantics.specs.Events.{Machine, Step, event}
 use Rattle.semantics.proofs.Steps.{Does as Steps, change_is, call}
-use Rattle.semantics.proofs.Places.{same_path_tells, no_own_child, both_first, both_second, both_off}
+use Rattle.semantics.proofs.Places.{no_own_child, both_first, both_second, both_off}
 use Rattle.semantics.proofs.ChildCounts.{step_counts}
-use Rattle.syntax.specs.declared.operator.Width.TheVariants.{Bits64}
 use Rattle.program.specs.declared.identifier.FunctionId.{FunctionId}
 use Rattle.program.specs.declared.identifier.ObjectName.{ObjectName}
 use Rattle.program.specs.declared.identifier.ObjectName.TheVariants as name
@@ -28,14 +25,13 @@ use Rattle.program.specs.declared.instruction.Instruction.TheVariants as instruc
 use Rattle.cactus.specs.declared.node.Node.{Node}
 use Rattle.cactus.specs.Frames.{node_at}
 use Rattle.frame_engine.specs.declared.activation.Places.{Places}
-use Rattle.frame_engine.specs.Activation.{ShowsFrame, allocas_of}
-use Rattle.frame_engine.specs.Shows.{Layout, TrapFree}
+use Rattle.frame_engine.specs.Activation.{ShowsFrame}
+use Rattle.frame_engine.specs.Shows.{TrapFree}
 use Rattle.frame_engine.proofs.Shown.{held_cell, then_some}
 use Rattle.schedule_workers.specs.declared.activation.Activation.{Activation}
 use Rattle.schedule_workers.specs.declared.run.Run.{Run}
 use Rattle.schedule_workers.specs.Scheduling.{hand_of}
 use Rattle.schedule_workers.specs.Layouts.{layout_of, object_at}
-use Rattle.schedule_workers.specs.Layouts as layouts
 use Rattle.schedule_workers.specs.Going.{CanStep, IsAbove, PointsUp, RunsSafely}
 use Rattle.schedule_workers.specs.Shown.{IsShown, item_here, place_of}
 use Rattle.schedule_workers.proofs.Onward.{seen, standing}

@@ -157,7 +157,7 @@ module _ (prog : Program) (places : Places) (m next : Machine) (k : Run) (node :
           nodes = λ s n here. (c.holds s n here).fits;
           counts = λ s r n here. (c.holds s n here).counts r;
           made = (let x = c.made in let y = shown.agrees.made in omega (arith, x, y));
-          blocks = record { owned = λ s n here. (c.holds s n here).block; below = b.below; after = b.after; beside = b.beside; globals = b.globals };
+          blocks = record { owned = λ s n here. (c.holds s n here).block; below = b.below; after = b.after; beside = b.beside; globals = b.globals; lent_after = b.lent_after; lent_below = b.lent_below; lent_beside = b.lent_beside };
         }
 
     pub over_shown : IsShown prog places next over

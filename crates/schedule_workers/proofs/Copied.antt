@@ -1,5 +1,5 @@
 -- A copy of a run shows what the run shows, and keeps what it keeps.
-use Rattle.std.proofs.Common.{◌≡◌, ℕ, zero, suc, ◌<◌, List, [], ◌∷◌, ◌++◌, length, reverse, Option, Some, None, Bool, true, false, cond, inl, refl, sym, ap, ◌∙◌, subst, get_or, slice_get, arith, ℤ, ◌+ℤ◌}
+use Rattle.std.proofs.Common.{◌≡◌, ℕ, zero, suc, ◌<◌, List, [], ◌∷◌, ◌++◌, length, reverse, Option, Some, None, Bool, true, false, cond, inl, refl, sym, ap, ◌∙◌, subst, get_or, slice_get, arith, ℤ, ◌+ℤ◌, inr}
 use Rattle.std.specs.Prelude.{IsSome, option_and_then}
 use Rattle.std.specs.Option.{option_map, option_map_or}
 use Rattle.std.specs.List.{AllZip}
@@ -33,7 +33,7 @@ use Rattle.schedule_workers.specs.Copying.{IsFrameCopy, IsActivationCopy, HoldsS
 use Rattle.schedule_workers.specs.Follows.{AreGiven, Follows}
 use Rattle.schedule_workers.specs.Layouts.{alloca_at, layout_of, living, number_in, object_at, own_at}
 use Rattle.schedule_workers.specs.Scheduling.{counted_in, hand_of}
-use Rattle.schedule_workers.specs.Shown.{Agrees, BlocksStand, CalleeStands, HasTaker, IsBlockOf, IsShown, NodeFits, ShowsAt, ShowsMachine, cells_in, hands_of, place_of}
+use Rattle.schedule_workers.specs.Shown.{Agrees, BlocksStand, CalleeStands, HasTaker, IsBlockOf, IsPlaced, IsShown, NodeFits, ShowsAt, ShowsMachine, cells_in, hands_of, place_of}
 use Rattle.schedule_workers.specs.Stalls.{IsStalledIn, KeepsStalls}
 
 -- ---- a frame
@@ -278,6 +278,10 @@ module _ (k copy : Run) (same : HoldsSame k copy) (prog : Program) (places : Pla
   block_stays : (slot : ℕ) (b : Block) → slice_get copy.blocks.items slot ≡ Some b → slice_get k.blocks.items slot ≡ Some b
   block_stays slot b has = ap (λ (xs : List Block). slice_get xs slot) (sym same.blocks) ∙ has
 
+  placed_too : (slot : ℕ) (b : Block) → IsPlaced k.blocks.items k.lent slot b → IsPlaced copy.blocks.items k.lent slot b
+  placed_too slot b (inl e) = inl (ap (λ (xs : List Block). slice_get xs slot) same.blocks ∙ e)
+  placed_too slot b (inr w) = inr w
+
   blocks_stand : BlocksStand prog mid
   blocks_stand =
       let b = shown.agrees.blocks in
@@ -285,11 +289,14 @@ module _ (k copy : Run) (same : HoldsSame k copy) (prog : Program) (places : Pla
         owned = λ slot other at body some.
             let (node, stands, c) = was slot other at in
             let own = b.owned slot node stands (sym (ap (λ (f : Frame). f.role) c.frame.frame.only) ∙ body) (subst (λ (f : Frame). 0 < cells_in (slice_get prog.functions f.function.0)) c.frame.frame.only some) in
-            (own.0, ap (λ (xs : List Block). slice_get xs slot) same.blocks ∙ own.1, subst (λ (f : Frame). IsBlockOf prog f own.0) (sym c.frame.frame.only) (record { home = own.2.home; room = own.2.room }));
+            (own.0, placed_too slot own.0 own.1, subst (λ (f : Frame). IsBlockOf prog f own.0) (sym c.frame.frame.only) (record { home = own.2.home; room = own.2.room }));
         below = λ slot x at. b.below slot x (block_stays slot x at);
         globals = b.globals;
         after = λ slot x at. b.after slot x (block_stays slot x at);
         beside = λ slot other x y at here off. b.beside slot other x y (block_stays slot x at) (block_stays other y here) off;
+        lent_after = b.lent_after;
+        lent_below = b.lent_below;
+        lent_beside = λ slot x at. b.lent_beside slot x (block_stays slot x at);
       }
 
   all_agrees : Agrees prog m mid

@@ -14,6 +14,7 @@ pub mod Rows
 pub mod Pointing
 pub mod Roomy
 pub mod Lying
+pub mod Lending
 pub mod Begun
 pub mod Calling
 pub mod Callee

@@ -1,5 +1,5 @@
--- Where the cells of a machine that is shown lie: those of globals first, each other one in the block of its owner's slot.
-use Rattle.std.proofs.Common.{◌≡◌, ◌≢◌, ℕ, ◌+◌, ◌<◌, ◌≤◌, List, length, Option, Some, None, reverse, ◌⊎◌, inl, inr, refl, sym, ap, ◌∙◌, subst, arith, ℤ, pos, ◌+ℤ◌}
+-- Where the cells of a machine that is shown lie: those of globals first, each other one in the block of its owner.
+use Rattle.std.proofs.Common.{◌≡◌, ℕ, ◌+◌, ◌<◌, ◌≤◌, List, Option, Some, None, reverse, ◌⊎◌, inl, inr, refl, sym, ap, ◌∙◌, subst, arith, pos, ◌+ℤ◌}
 use Rattle.std.specs.Prelude.{map, sum, slice_get}
 use Rattle.semantics.specs.Arithmetic.{wrapped}
 use Rattle.semantics.specs.Paths.{Path}
@@ -8,8 +8,6 @@ use Rattle.semantics.specs.Frames as frames
 use Rattle.semantics.specs.Frames.{Role, Child, Body}
 use Rattle.semantics.specs.Events.{Machine}
 use Rattle.syntax.specs.declared.operator.Width.TheVariants.{Bits64}
-use Rattle.program.specs.declared.function.Alloca.{Alloca}
-use Rattle.program.specs.declared.function.Function.{Function}
 use Rattle.program.specs.declared.function.Global.{Global as SharedCells}
 use Rattle.program.specs.declared.function.Program.{Program}
 use Rattle.program.specs.declared.identifier.ObjectName.TheVariants as object
@@ -28,7 +26,7 @@ use Rattle.schedule_workers.specs.declared.run.Block.{Block}
 use Rattle.schedule_workers.specs.declared.run.Run.{Run}
 use Rattle.schedule_workers.specs.Layouts.{alloca_at, alloca_cells, layout_of, number_in, own_at, own_cells}
 use Rattle.schedule_workers.specs.Going.{TextFits}
-use Rattle.schedule_workers.specs.Shown.{IsBlockOf, IsShown, ShowsAt, cells_in}
+use Rattle.schedule_workers.specs.Shown.{IsBlockOf, IsPlaced, IsShown, ShowsAt, cells_in}
 use Rattle.schedule_workers.proofs.Rows.{cells_are, first_row_address, global_size, row_address, same_place, size_in, size_is, sizes_of, start_below, start_in, starts_are}
 
 -- ---- the allocas of one frame
@@ -85,16 +83,24 @@ module _ (prog : Program) (places : Places) (moves : ℕ) (text : TextFits prog 
     pub node : Node Activation
     pub stands : node_at k.cactus slot ≡ Some node
     pub block : Block
-    pub has : slice_get k.blocks.items slot ≡ Some block
+    pub placed : IsPlaced k.blocks.items k.lent slot block
     pub place : ℕ
     pub is : address l c ≡ pos place
     pub from : block.start ≤ place
     pub below : place < block.start + block.cells
+    -- in the allocas of the frame, which is a function's
+    pub body : node.frame.frame.role ≡ role.Body
+    pub home : node.frame.frame.home ≡ pos block.start
+    pub own : place < block.start + cells_in (slice_get prog.functions node.frame.frame.function.0)
 
   pub record InGlobals (c : Cell) : Type 0 where
     pub place : ℕ
     pub is : address l c ≡ pos place
     pub below : place < globals
+
+  placed_below : (slot : ℕ) (b : Block) → IsPlaced k.blocks.items k.lent slot b → b.start + b.cells ≤ k.end
+  placed_below slot b (inl e) = shown.agrees.blocks.below slot b e
+  placed_below slot b (inr w) = let low = shown.agrees.blocks.lent_below in let within = w.1 in omega (arith, low, within)
 
   global_lies : (g i : ℕ) → i < l.cells (Shared g) → InGlobals (record { object = Shared g; index = i })
   global_lies g i h =
@@ -118,7 +124,7 @@ module _ (prog : Program) (places : Places) (moves : ℕ) (text : TextFits prog 
         let some = offset_below prog places moves text node.frame.frame.function.0 0 a i inside in
         let own = shown.agrees.blocks.owned at.slot node at.stands kind (omega (arith, some)) in
         let fits : IsBlockOf prog node.frame.frame own.0 = own.2 in
-        let end = shown.agrees.blocks.below at.slot own.0 own.1 in
+        let end = placed_below at.slot own.0 own.1 in
         let room = fits.room in
         let low : own.0.start + cells_in (slice_get prog.functions node.frame.frame.function.0) < 9223372036854775808 = omega (arith, room, end, small) in
         let off = offset_below prog places moves text node.frame.frame.function.0 own.0.start a i inside in
@@ -128,7 +134,7 @@ module _ (prog : Program) (places : Places) (moves : ℕ) (text : TextFits prog 
           node = node;
           stands = at.stands;
           block = own.0;
-          has = own.1;
+          placed = own.1;
           place = own.0.start + x;
           is =
               ap (λ o. wrapped Bits64 (alloca_at places o a +ℤ pos i)) name
@@ -136,6 +142,9 @@ module _ (prog : Program) (places : Places) (moves : ℕ) (text : TextFits prog 
               ∙ alloca_address prog places moves text node.frame.frame.function.0 own.0.start a i inside low;
           from = omega arith;
           below = omega (arith, off, room);
+          body = kind;
+          home = fits.home;
+          own = omega (arith, off);
         }
 
     local_lies : (o : Option frames.Frame) (x : Option (Node Activation)) → ShowsAt l places owner o x → named k.cactus (reverse owner) ≡ x → i < alloca_cells prog o a → InBlock (record { object = Local owner a; index = i })

@@ -1,5 +1,5 @@
 -- What no living frame points to may lie anywhere.
-use Rattle.std.proofs.Common.{◌≡◌, ◌≢◌, ℕ, ◌<◌, ◌∷◌, List, Option, Some, None, inl, inr, ◌⊎◌, refl, sym, ap, ◌∙◌, subst, ℤ, ◌+ℤ◌, pos}
+use Rattle.std.proofs.Common.{◌≡◌, ◌≢◌, ℕ, Some, None, inl, inr, ◌⊎◌, refl, sym, ap, ◌∙◌, subst, ℤ, ◌+ℤ◌, pos}
 use Rattle.std.specs.Prelude.{⊤}
 use Rattle.semantics.specs.Arithmetic.{wrapped}
 use Rattle.semantics.specs.Paths.{Path, Under, itself, deeper}

@@ -508,7 +508,7 @@ module _ (prog : Program) (places : Places) (k : Run) (slot : ℕ) (node : Node 
                     counts = λ y is. as_many ∙ before.counts y (sym (ap (λ (x : Frame). slice_get prog.functions x.function.0) frame_is) ∙ is);
                   };
                   counts = counts_here;
-                  block = subst (λ (x : Frame). HasBlock prog k.blocks.items up x) (sym frame_is) (shown.agrees.blocks.owned up above below.stands);
+                  block = subst (λ (x : Frame). HasBlock prog k.blocks.items k.lent up x) (sym frame_is) (shown.agrees.blocks.owned up above below.stands);
                 }
 
             holds_other : (x : ℕ) (y : Node Activation) → x ≢ up → node_at mid x ≡ Some y → HoldsAt x y

@@ -1,20 +1,20 @@
 -- Room for a frame's allocas: a run with more cells shows what it showed, and a new block lies beside all others.
-use Rattle.std.proofs.Common.{◌≡◌, ◌≢◌, ℕ, zero, suc, ◌+◌, ◌<◌, ◌≤◌, List, [], ◌∷◌, ◌++◌, length, replicate, Option, Some, None, Bool, true, false, inl, inr, ◌⊎◌, refl, sym, ap, ◌∙◌, subst, arith, ℤ, pos, negsuc, ◌+ℤ◌, Vec, Global}
+use Rattle.std.proofs.Common.{◌≡◌, ◌≢◌, ℕ, zero, suc, ◌+◌, ◌<◌, ◌≤◌, List, [], ◌∷◌, ◌++◌, length, replicate, Some, true, inl, inr, ◌⊎◌, sym, ap, ◌∙◌, subst, arith, ℤ, pos, negsuc, Vec, Global}
 use Rattle.std.specs.Prelude.{IsTrue, nat_lt, map, sum, slice_get}
 use Rattle.std.proofs.lemmas.Bool.Decides.{nat_tests}
 use Rattle.std.proofs.lemmas.List.{length-append}
-use Rattle.std.proofs.lemmas.Option.{same_Some, slice_get_within}
+use Rattle.std.proofs.lemmas.Option.{same_Some}
 use Rattle.semantics.specs.Events.{Machine}
 use Rattle.program.specs.declared.function.Global.{Global as Shared}
 use Rattle.program.specs.declared.function.Program.{Program}
 use Rattle.frame_engine.specs.declared.activation.Places.{Places}
 use Rattle.frame_engine.specs.Flat.{cell_in, is_cell}
-use Rattle.frame_engine.specs.Shows.{Layout, ShowsCells, address}
+use Rattle.frame_engine.specs.Shows.{ShowsCells, address}
 use Rattle.schedule_workers.specs.declared.run.Block.{Block}
 use Rattle.schedule_workers.specs.declared.run.Run.{Run}
 use Rattle.schedule_workers.specs.Layouts.{layout_of}
 use Rattle.schedule_workers.specs.Rooms.{IsRoom, IsRoomier, empty_at}
-use Rattle.schedule_workers.specs.Shown.{AreBeside, BlocksStand, IsShown}
+use Rattle.schedule_workers.specs.Shown.{AreBeside, BlocksStand, IsPlaced, IsShown}
 
 -- ---- more items at the end of a list
 
@@ -81,6 +81,16 @@ module _ (prog : Program) (old new : Run) (more : IsRoomier old new) (stand : Bl
     | inr e ↦ let low = below_end t b is_b in let at = ap (λ (x : Block). x.start) e in inr (omega (arith, low, at))
   ]
 
+  placed_more : (s : ℕ) (b : Block) → IsPlaced old.blocks.items old.lent s b → IsPlaced new.blocks.items old.lent s b
+  placed_more s b (inl e) = inl (subst (λ (xs : List Block). slice_get xs s ≡ Some b) (sym more.blocks.1) (get_more old.blocks.items (replicate more.blocks.0 (empty_at old.end)) s b e))
+  placed_more s b (inr w) = inr w
+
+  beside_lent : (s : ℕ) (b : Block) → slice_get new.blocks.items s ≡ Some b → AreBeside b old.lent
+  beside_lent s b is = elim (was s b is) [
+    | inl e ↦ stand.lent_beside s b e
+    | inr e ↦ let at = ap (λ (x : Block). x.start) e in let low = stand.lent_below in inr (omega (arith, at, low))
+  ]
+
 module _ (prog : Program) (places : Places) (old new : Run) (more : IsRoomier old new) (m : Machine) (shown : IsShown prog places m old) where
   abbrev pub roomy : Run
   roomy = record old { cells = new.cells; blocks = new.blocks }
@@ -114,11 +124,14 @@ module _ (prog : Program) (places : Places) (old new : Run) (more : IsRoomier ol
           blocks = record {
             owned = λ s n is body some.
                 let own = b.owned s n is body some in
-                (own.0, subst (λ (xs : List Block). slice_get xs s ≡ Some own.0) (sym more.blocks.1) (get_more old.blocks.items (replicate more.blocks.0 (empty_at old.end)) s own.0 own.1), own.2);
+                (own.0, placed_more prog old new more b s own.0 own.1, own.2);
             below = below_end prog old new more b;
             globals = b.globals;
             after = after_globals prog old new more b;
             beside = beside_all prog old new more b;
+            lent_after = b.lent_after;
+            lent_below = b.lent_below;
+            lent_beside = beside_lent prog old new more b;
           };
         };
       }
@@ -136,6 +149,17 @@ module _ (prog : Program) (k : Run) (stand : BlocksStand prog k) (slot cells : �
   new_beside s x is away = elim room.is [
     | inl e ↦ stand.beside slot s b x e is (λ h. away (sym h))
     | inr e ↦ let low = stand.below s x is in inr (omega (arith, low, e))
+  ]
+
+  -- nor in what is lent
+  pub lent_side : AreBeside b k.lent
+  lent_side = elim room.is [ inl e ↦ stand.lent_beside slot b e | inr e ↦ let low = stand.lent_below in inr (omega (arith, low, e)) ]
+
+  pub placed_beside : (s : ℕ) (x : Block) → IsPlaced k.blocks.items k.lent s x → s ≢ slot → AreBeside b x
+  placed_beside s x (inl e) away = new_beside s x e away
+  placed_beside s x (inr w) away = elim lent_side [
+    | inl h ↦ let from = w.0 in inl (omega (arith, h, from))
+    | inr h ↦ let to = w.1 in inr (omega (arith, h, to))
   ]
 
 pub vec_small : (v : Vec ℤ Global) → length v.items < 9223372036854775808

@@ -1,5 +1,5 @@
 -- Where the cells of objects lie that stand one after the other.
-use Rattle.std.proofs.Common.{◌≡◌, ℕ, zero, suc, ◌+◌, ◌<◌, ◌%◌, List, [], ◌∷◌, get_or, length, refl, ap, sym, ◌∙◌, subst, arith, lit<, ℤ, pos, ◌+ℤ◌, Option, Some, None}
+use Rattle.std.proofs.Common.{◌≡◌, ℕ, zero, suc, ◌+◌, ◌<◌, ◌%◌, List, [], ◌∷◌, get_or, refl, ap, sym, ◌∙◌, arith, ℤ, pos, ◌+ℤ◌, Option, Some, None}
 use Rattle.std.specs.Prelude.{fold, map, sum, slice_get}
 use Rattle.std.specs.Int.{w64, int_wrap}
 use Rattle.std.specs.Option.{option_map}

@@ -39,7 +39,7 @@ use Rattle.schedule_workers.specs.Layouts.{alloca_at, layout_of, number_in}
 use Rattle.schedule_workers.specs.Rooms.{empty_at}
 use Rattle.schedule_workers.specs.Roots.{HasBlock, IsRoot, first_frame}
 use Rattle.schedule_workers.specs.Scheduling.{counted_in, hand_of}
-use Rattle.schedule_workers.specs.Shown.{AreBeside, BlocksStand, IsBlockOf, IsShown, NodeFits, ShowsAt, hands_of, place_of}
+use Rattle.schedule_workers.specs.Shown.{AreBeside, BlocksStand, IsBlockOf, IsPlaced, IsShown, NodeFits, ShowsAt, hands_of, place_of}
 use Rattle.schedule_workers.specs.Starts.{ArePlaces, IsRowOf, sizes_in}
 use Rattle.schedule_workers.proofs.Roomy.{get_more, is_cell_at, vec_small}
 use Rattle.schedule_workers.proofs.Rows.{cells_are, first_row_address, global_size, row_address, same_place, size_in, size_is, sizes_of, small_number, start_below, start_in, starts_are, sum_more, wrapped_small}
@@ -103,6 +103,7 @@ pub record IsFirst (prog : Program) (arguments row : List ℤ) (f : Function) (w
   pub root : IsRoot prog.main arguments (length f.registers) (length row) a
   pub cells : k.cells.cells.items ≡ row ++ replicate (main_cells f) (pos 0)
   pub blocks : HasBlock k.blocks.items slot (record { start = length row; cells = main_cells f })
+  pub lent : k.lent ≡ empty_at k.end
   pub end : k.end ≡ length row + main_cells f
   pub hands : k.hands.items ≡ slice_set (replicate workers None) 0 (Some slot)
   pub instructions : k.instructions ≡ 0
@@ -361,17 +362,23 @@ module _ (prog : Program) (arguments row : List ℤ) (f : Function) (workers slo
       blocks_begin : BlocksStand prog k
       blocks_begin = record {
         owned = λ s n here body some.
-            subst (λ x. (b : Block) × (slice_get k.blocks.items x ≡ Some b) × IsBlockOf prog n.frame.frame b) (stood s n here).0 (
+            subst (λ x. (b : Block) × IsPlaced k.blocks.items k.lent x b × IsBlockOf prog n.frame.frame b) (stood s n here).0 (
               record { start = home; cells = main_cells f },
-              first.blocks.own,
+              inl first.blocks.own,
               subst (λ (x : Node Activation). IsBlockOf prog x.frame.frame (record { start = home; cells = main_cells f })) (stood s n here).1 root_block,
             );
         below = below_end;
         globals = (let end = first.end in let long = stands.long in omega (arith, end, long));
         after = λ s b here. let begins = start_of s b here in let long = stands.long in omega (arith, begins, long);
         beside = beside_all;
+        lent_after = (let end = first.end in let long = stands.long in let at = lent_at in omega (arith, end, long, at));
+        lent_below = (let at = lent_at in let none = ap (λ (x : Block). x.cells) first.lent in omega (arith, at, none));
+        lent_beside = λ s b here. (let low = below_end s b here in let at = lent_at in inl (omega (arith, low, at)));
       }
         where
+          lent_at : k.lent.start ≡ k.end
+          lent_at = ap (λ (x : Block). x.start) first.lent
+
           root_block : IsBlockOf prog a.frame (record { start = home; cells = main_cells f })
           root_block = subst (λ (x : Frame). IsBlockOf prog x (record { start = home; cells = main_cells f })) (sym frame_is) (record {
             home = refl;

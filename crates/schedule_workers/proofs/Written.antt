@@ -166,13 +166,16 @@ module _ (prog : Program) (places : Places) (m next : Machine) (k : Run) (slot :
       blocks_stand =
           let b = shown.agrees.blocks in
           record {
-            owned = of_each (λ s n. HasBlock prog k.blocks.items s n.frame.frame) (λ s n away here. b.owned s n here) (λ body some.
+            owned = of_each (λ s n. HasBlock prog k.blocks.items k.lent s n.frame.frame) (λ s n away here. b.owned s n here) (λ body some.
                 let own = b.owned slot node stands (sym role ∙ body) (subst (λ x. 0 < cells_in (slice_get prog.functions x)) function some) in
                 (own.0, own.1, record { home = home ∙ own.2.home; room = subst (λ x. cells_in (slice_get prog.functions x) ≤ own.0.cells) (sym function) own.2.room }));
             below = b.below;
             globals = b.globals;
             after = b.after;
             beside = b.beside;
+            lent_after = b.lent_after;
+            lent_below = b.lent_below;
+            lent_beside = b.lent_beside;
           }
 
       agree_after : Agrees prog next (gone_on cells done moves hands)

@@ -15,3 +15,4 @@ pub mod Events
 pub mod Starts
 pub mod Roots
 pub mod Copying
+pub mod Lent

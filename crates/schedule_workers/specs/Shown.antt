@@ -95,23 +95,35 @@ pub record IsBlockOf (prog : Program) (f : Frame) (b : Block) : Type 0 where
   pub home : f.home ≡ pos b.start
   pub room : cells_in (slice_get prog.functions f.function.0) ≤ b.cells
 
--- a function's frame that has cells has its slot's block
-abbrev pub HasBlock : Program → List Block → ℕ → Frame → Type 0
-HasBlock prog blocks slot f =
-    f.role ≡ Body → 0 < cells_in (slice_get prog.functions f.function.0) → (b : Block) × (slice_get blocks slot ≡ Some b) × IsBlockOf prog f b
+-- the block lies within another
+abbrev pub LiesWithin : Block → Block → Type 0
+LiesWithin outer b = (outer.start ≤ b.start) × (b.start + b.cells ≤ outer.start + outer.cells)
+
+-- the slot's block, or a part of the cells that are lent to workers
+abbrev pub IsPlaced : List Block → Block → ℕ → Block → Type 0
+IsPlaced blocks lent slot b = (slice_get blocks slot ≡ Some b) ⊎ LiesWithin lent b
+
+-- a function's frame that has cells has its slot's block, or a part of what is lent
+abbrev pub HasBlock : Program → List Block → Block → ℕ → Frame → Type 0
+HasBlock prog blocks lent slot f =
+    f.role ≡ Body → 0 < cells_in (slice_get prog.functions f.function.0) → (b : Block) × IsPlaced blocks lent slot b × IsBlockOf prog f b
 
 abbrev pub AreBeside : Block → Block → Type 0
 AreBeside a b = (a.start + a.cells ≤ b.start) ⊎ (b.start + b.cells ≤ a.start)
 
 -- blocks lie after the globals, one beside the other, and the frames that have cells have theirs
 pub record BlocksStand (prog : Program) (k : Run) : Type 0 where
-  pub owned : (slot : ℕ) (node : Node Activation) → node_at k.cactus slot ≡ Some node → HasBlock prog k.blocks.items slot node.frame.frame
+  pub owned : (slot : ℕ) (node : Node Activation) → node_at k.cactus slot ≡ Some node → HasBlock prog k.blocks.items k.lent slot node.frame.frame
   pub below : (slot : ℕ) (b : Block) → slice_get k.blocks.items slot ≡ Some b → b.start + b.cells ≤ k.end
   pub globals : sum (map (λ (g : Global). g.cells) prog.globals) ≤ k.end
   pub after : (slot : ℕ) (b : Block) → slice_get k.blocks.items slot ≡ Some b →
       sum (map (λ (g : Global). g.cells) prog.globals) ≤ b.start
   pub beside : (slot other : ℕ) (a b : Block) → slice_get k.blocks.items slot ≡ Some a → slice_get k.blocks.items other ≡ Some b →
       slot ≢ other → AreBeside a b
+  -- what is lent lies after the globals, beside all blocks
+  pub lent_after : sum (map (λ (g : Global). g.cells) prog.globals) ≤ k.lent.start
+  pub lent_below : k.lent.start + k.lent.cells ≤ k.end
+  pub lent_beside : (slot : ℕ) (b : Block) → slice_get k.blocks.items slot ≡ Some b → AreBeside b k.lent
 
 pub record Agrees (prog : Program) (m : Machine) (k : Run) : Type 0 where
   pub tree : IsTree k.cactus

@@ -69,6 +69,7 @@ impl Run {
                 cells: Vec::from_slice(alloc, self.cells.cells.as_slice())?,
             },
             blocks: Vec::from_slice(alloc, self.blocks.as_slice())?,
+            lent: self.lent,
             end: self.end,
             hands: Vec::from_slice(alloc, self.hands.as_slice())?,
             instructions: self.instructions,

@@ -1,4 +1,4 @@
-ghost use Rattle.std.specs.Prelude.{◌≡◌, ◌+◌, ◌++◌, ◌<◌, ℕ, IfOk, IfSome, OnOk, length, map, max, replicate, slice_get, Some, sum, vec_len};
+ghost use Rattle.std.specs.Prelude.{◌≡◌, ◌+◌, ◌++◌, ◌<◌, ◌≤◌, ℕ, IfNone, IfOk, IfSome, OnOk, length, map, max, replicate, slice_get, Some, sum, vec_len};
 ghost use Rattle.std.specs.Vec.{with_item};
 ghost use Rattle.program.specs.declared.function.Alloca.{Alloca};
 ghost use Rattle.schedule_workers.specs.Rooms.{IsRoom, IsRoomier, empty_at};
@@ -17,7 +17,8 @@ pub(crate) fn function_at(program: &Program, function: FunctionId) -> &Function
 
 /// The cells of a function's allocas; none where 64 bits don't count them.
 pub(crate) fn frame_cells(allocas: &[Alloca]) -> Option<usize>
-    ensures { IfSome result (λ n. n ≡ sum (map (λ (a : Alloca). a.cells) allocas.now)) }
+    ensures some { IfSome result (λ n. n ≡ sum (map (λ (a : Alloca). a.cells) allocas.now)) }
+    ensures none { IfNone result (18446744073709551616 ≤ sum (map (λ (a : Alloca). a.cells) allocas.now)) }
 {
     let mut cells: usize = 0;
     for alloca in allocas {

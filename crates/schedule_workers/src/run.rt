@@ -18,7 +18,9 @@ pub struct Run {
     pub cells: Flat,
     /// By slot; of slots whose frames need none yet there may be none.
     pub blocks: Vec<Block>,
-    /// Cells from here on belong to no block.
+    /// Cells that are lent to workers for frames that they make apart from the run.
+    pub lent: Block,
+    /// Cells from here on belong to no block and are not lent.
     pub end: usize,
     /// By worker: the slot of the top frame of the task that it runs.
     pub hands: Vec<Option<usize>>,
@@ -40,6 +42,7 @@ impl Drop for Run {
             cactus: _,
             cells: _,
             blocks: _,
+            lent: _,
             end: _,
             hands: _,
             instructions: _,

@@ -134,6 +134,10 @@ impl Run {
             cactus,
             cells: row,
             blocks: first_blocks(alloc, slot, Block { start, cells })?,
+            lent: Block {
+                start: end,
+                cells: 0,
+            },
             end,
             hands: first_hands(alloc, workers, slot)?,
             instructions: 0,

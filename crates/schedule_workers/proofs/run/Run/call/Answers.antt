@@ -1,4 +1,4 @@
-use Rattle.std.proofs.Common.{rules, true, ◌≡◌, ◌+◌, ◌<◌, ℕ, List, [], length, max, Option, Some, None, refl, sym, ap, ◌∙◌, subst, arith}
+use Rattle.std.proofs.Common.{rules, true, ◌≡◌, ◌+◌, ◌<◌, ℕ, List, [], max, Option, Some, None, sym, ap, ◌∙◌, subst, arith}
 use Rattle.std.specs.Prelude.{map, sum}
 use Rattle.std.specs.Vec.{with_item}
 use Rattle.std.specs.Option.{option_copied, option_copied_mut}
@@ -176,7 +176,7 @@ returns-clause-steps c =
     let block = c.in_ok-block.block in
     let kept : n.frame ≡ c.in-Some-frame_mut.caller.now = caller_kept r.cactus mid c.args.slot n.frame.frame.made child b c.in_ok-push_call_in.ensures.ok n here c.in-Some-frame_mut.caller.now (sym c.frame_mut.ensures.value ∙ ap option_copied_mut c.in-Some-frame_mut.is) in
     let went : Goes n.frame d child = subst (λ (y : Activation). Goes y d child) (sym kept) (λ x p q h s. subst (λ (y : Activation). ShowsFrame x p q (waiting h d) y.frame) c.wait_for.ensures.is (c.wait_for.ensures.shown x p q h s)) in
-    let cells = c.in-Some.ensures ∙ ap (λ (xs : List Alloca). sum (map (λ (x : Alloca). x.cells) xs)) c.as_slice.ensures in
+    let cells = c.in-Some.ensures.some ∙ ap (λ (xs : List Alloca). sum (map (λ (x : Alloca). x.cells) xs)) c.as_slice.ensures in
     let room = subst (λ y. IsRoom r child y block) cells c.in_ok-block.ensures.room in
     let begins = subst (λ y. IsCallee c.args.places.now n.frame.frame c.args.worker c.args.callee y c.args.arguments.now block.start b) c.len.ensures c.in_ok-begun.ensures in
     let waits = c.wait_for.ensures.is ∙ ap (waiting_on d child) (sym kept) in

@@ -1,6 +1,5 @@
-use Rattle.std.proofs.Common.{rules, ◌≡◌, ◌+◌, ℕ, max, ap}
+use Rattle.std.proofs.Common.{rules, ◌≡◌, ◌+◌, max}
 use Rattle.std.specs.Vec.{with_item}
-use Rattle.schedule_workers.specs.declared.run.Run.{Run}
 use Rattle.schedule_workers.proofs.run.Run.give.Goals as goal
 
 pub returns : goal.returns

@@ -19,7 +19,7 @@ returns-clause-begins c =
     let slot = c.in_ok-slot.slot in
     let a = c.in_ok-root.root in
     let blocks = c.in_ok-first_blocks.field-0.items in
-    let many : c.in-Some.cells ≡ main_cells f = c.in-Some.ensures ∙ ap (λ (xs : List Alloca). sum (map (λ (x : Alloca). x.cells) xs)) c.as_slice.ensures in
+    let many : c.in-Some.cells ≡ main_cells f = c.in-Some.ensures.some ∙ ap (λ (xs : List Alloca). sum (map (λ (x : Alloca). x.cells) xs)) c.as_slice.ensures in
     let home : c.len-start.result ≡ length numbers.items = c.len-start.ensures ∙ numbers.ok.0 in
     let sum_is = c.in-Some-checked_add.ensures.1 in
     let end : c.in-Some-checked_add.end ≡ length numbers.items + main_cells f = omega (arith, sum_is, home, many) in
@@ -28,6 +28,7 @@ returns-clause-begins c =
       cactus = frames;
       cells = c.grow.new.self;
       blocks = c.in_ok-first_blocks.field-0;
+      lent = record { start = c.in-Some-checked_add.end; cells = 0 };
       end = c.in-Some-checked_add.end;
       hands = c.in_ok-first_hands.field-0;
       instructions = 0;
@@ -45,6 +46,7 @@ returns-clause-begins c =
       root = subst (λ n. IsRoot prog.main arguments n (length numbers.items) a) c.len.ensures (subst (λ n. IsRoot prog.main arguments c.len.result n a) home c.in_ok-root.ensures);
       cells = c.in_ok-grow.ensures.grown ∙ ap (λ n. numbers.items ++ replicate n (pos 0)) many;
       blocks = subst (λ n. HasBlock blocks slot (record { start = n; cells = main_cells f })) home (subst (λ n. HasBlock blocks slot (record { start = c.len-start.result; cells = n })) many c.in_ok-first_blocks.ensures);
+      lent = refl;
       end = end;
       hands = c.in_ok-first_hands.ensures;
       instructions = refl;

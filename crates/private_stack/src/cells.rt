@@ -1,0 +1,129 @@
+ghost use Rattle.std.specs.Prelude.{◌≡◌, ◌≢◌, ◌<◌, ◌≤◌, ◌+◌, ◌↔◌, ℤ, pos, IfNone, IfSome, IsTrue, None, Some, length, slice_get};
+ghost use Rattle.frame_engine.specs.Flat.{is_cell};
+ghost use Rattle.private_stack_log.specs.Committing.{Agrees};
+ghost use Rattle.private_stack_log.specs.Tables.{log_of};
+ghost use Rattle.private_stack.specs.OwnCells.{CellsDo, CellsRefuse, any_cell, may_be, own_cell};
+ghost use Rattle.private_stack.specs.Putting.{ArePutInto, IsCopiedTo};
+
+use frame_engine::{Cells, sum};
+use frame_strand::Stop;
+use private_stack_log::PageLog;
+
+/// The cells of a pile: those of its own frames' allocas, which are a segment of addresses, and what it read and wrote of others.
+#[derive(Drop)]
+pub struct PileCells {
+    /// The segment's first address.
+    pub start: u64,
+    /// What the segment's cells hold.
+    pub own: Vec<i64>,
+    pub log: PageLog,
+}
+
+fn number_at(own: &[i64], place: usize) -> i64
+    requires { place < length own.now }
+    ensures { slice_get own.now place ≡ Some result }
+{
+    own[place]
+}
+
+impl PileCells {
+    /// The place in the segment of the cell at the address.
+    pub(crate) fn place(&self, at: &i64) -> Option<usize>
+        ensures within { IfSome result (λ place. place < length self.now.own.items) }
+        ensures is { IfSome result (λ place. at.now ≡ pos (self.now.start + place)) }
+        ensures absent { IfNone result (own_cell self.now at.now ≡ None) }
+    {
+        if *at < 0 {
+            return None;
+        }
+        match at.cast_unsigned().checked_sub(self.start) {
+            Some(place) if (place as usize) < self.own.len() => Some(place as usize),
+            Some(_) | None => None,
+        }
+    }
+}
+
+impl PileCells {
+    /// The address behind the segment.
+    pub(crate) fn limit(&self) -> u64
+        ensures { result ≤ self.now.start + length self.now.own.items }
+    {
+        self.start.saturating_add(self.own.len() as u64)
+    }
+}
+
+/// Copies so many numbers to a place in the row.
+fn copy_to(row: &mut [i64], place: usize, numbers: &[i64], count: usize)
+    requires numbers { count ≤ length numbers.now }
+    requires row { place + count ≤ length row.old }
+    ensures { IsCopiedTo numbers.now count place row.old row.new }
+{
+    for number in 0..count {
+        row[place + number] = number_at(numbers, number);
+    }
+}
+
+impl PileCells {
+    /// Whether the row of the board's cells holds what was read of it.
+    pub fn reads_agree(&self, row: &[i64]) -> bool
+        ensures { IsTrue result ↔ Agrees (log_of self.now.log) row.now }
+    {
+        self.log.reads_agree(row)
+    }
+
+    /// Puts the cells of its own frames, which end here, and what it wrote of others into the row of the board's cells.
+    pub fn write_into(&self, end: u64, row: &mut [i64])
+        requires begins { self.now.start ≤ end }
+        requires own { end ≤ self.now.start + length self.now.own.items }
+        requires row { end ≤ length row.old }
+        requires written { (a : ℤ) → (log_of self.now.log).writes a ≢ None → IsTrue (is_cell row.old a) }
+        ensures { ArePutInto self.now end row.old row.new }
+    {
+        self.log.write_into(row);
+        copy_to(
+            row,
+            self.start as usize,
+            self.own.as_slice(),
+            (end - self.start) as usize,
+        );
+    }
+}
+
+impl Cells for PileCells {
+    type Stop = Stop;
+
+    ghost reaches = { any_cell };
+
+    ghost holds = { may_be };
+
+    ghost does = { CellsDo };
+
+    ghost refuses = { CellsRefuse };
+
+    fn load(&mut self, at: i64) -> Result<i64, Stop> {
+        match self.place(&at) {
+            Some(place) => Ok(number_at(self.own.as_slice(), place)),
+            None => self.log.load(at),
+        }
+    }
+
+    fn store(&mut self, at: i64, number: i64) -> Result<(), Stop> {
+        match self.place(&at) {
+            Some(place) => {
+                self.own[place] = number;
+                Ok(())
+            }
+            None => self.log.store(at, number),
+        }
+    }
+
+    fn add(&mut self, at: i64, number: i64) -> Result<(), Stop> {
+        match self.place(&at) {
+            Some(place) => {
+                self.own[place] = sum(number_at(self.own.as_slice(), place), number);
+                Ok(())
+            }
+            None => self.log.add(at, number),
+        }
+    }
+}

@@ -1,0 +1,179 @@
+//! Cells that are lent to workers, for the allocas of frames that they make apart from the run.
+
+ghost use Rattle.std.specs.Prelude.{◌≡◌, ◌↔◌, ◌+◌, ◌≤◌, IfNone, IfSome, IsTrue, slice_get};
+ghost use Rattle.schedule_workers.specs.Lent.{AllAreClearOf, IsClearOf, IsFree, IsVacant, place_at};
+ghost use Rattle.program.specs.declared.function.Program.{Program as Text};
+ghost use Rattle.frame_engine.specs.declared.activation.Places.{Places};
+ghost use Rattle.schedule_workers.specs.Left.{LeavesAsShown};
+ghost use Rattle.schedule_workers.specs.Shown.{LiesWithin, cells_in};
+
+use crate::room::frame_cells;
+use crate::run::{Block, Run};
+use frame::Role;
+use frame_engine::Frame;
+use lists::OutOfMemory;
+use program::{FunctionId, Program};
+
+/// Whether so many cells from the start on end at the limit or before it.
+fn ends_by(start: usize, cells: usize, limit: usize) -> bool
+    ensures { IsTrue result ↔ (start + cells ≤ limit) }
+{
+    match start.checked_add(cells) {
+        Some(end) => end <= limit,
+        None => false,
+    }
+}
+
+/// Whether the block lies within the other.
+fn lies_within(outer: Block, block: Block) -> bool
+    ensures { IsTrue result ↔ LiesWithin outer block }
+{
+    match block.start.checked_sub(outer.start) {
+        Some(offset) => ends_by(offset, block.cells, outer.cells),
+        None => false,
+    }
+}
+
+/// The place of a frame's home in the row.
+fn home_place(home: i64) -> usize
+    ensures { result ≡ place_at home }
+{
+    if home < 0 {
+        0
+    } else {
+        home.cast_unsigned() as usize
+    }
+}
+
+/// The cells of the function's allocas; none where 64 bits don't count them.
+fn own_cells(program: &Program, function: FunctionId) -> Option<usize>
+    ensures some { IfSome result (λ n. n ≡ cells_in (slice_get program.now.functions function.0)) }
+    ensures none { IfNone result (18446744073709551616 ≤ cells_in (slice_get program.now.functions function.0)) }
+{
+    match program.functions.as_slice().get(function.0) {
+        Some(function) => frame_cells(function.allocas.as_slice()),
+        None => Some(0),
+    }
+}
+
+/// Where the allocas of a function's frame end; none where 64 bits don't tell.
+fn own_end(program: &Program, frame: &Frame) -> Option<usize>
+    ensures some { IfSome result (λ end. end ≡ place_at frame.now.home + cells_in (slice_get program.now.functions frame.now.function.0)) }
+    ensures none { IfNone result (18446744073709551616 ≤ place_at frame.now.home + cells_in (slice_get program.now.functions frame.now.function.0)) }
+{
+    let cells = own_cells(program, frame.function)?;
+    home_place(frame.home).checked_add(cells)
+}
+
+/// Whether the frame's own allocas are beside the part.
+fn is_clear_of(program: &Program, part: Block, frame: &Frame) -> bool
+    ensures { IsTrue result ↔ IsClearOf program.now part frame.now }
+{
+    if frame.role != Role::Body || ends_by(part.start, part.cells, home_place(frame.home)) {
+        return true;
+    }
+    match own_end(program, frame) {
+        Some(end) => end <= part.start,
+        None => false,
+    }
+}
+
+impl Run {
+    /// Whether no living frame has its allocas in the part.
+    fn all_are_clear_of(&self, program: &Program, part: Block) -> bool
+        ensures { IsTrue result ↔ AllAreClearOf program.now self.now part }
+    {
+        for (_slot, node) in self.cactus.iter() {
+            if !is_clear_of(program, part, &node.frame.frame) {
+                return false;
+            }
+        }
+        true
+    }
+
+    /// Whether the part, which has cells, is one of what is lent, and no living frame's.
+    fn is_vacant(&self, program: &Program, part: Block) -> bool
+        ensures { IsTrue result ↔ IsVacant program.now self.now part }
+    {
+        lies_within(self.lent, part)
+            && self.end <= self.cells.cells.len()
+            && self.all_are_clear_of(program, part)
+    }
+
+    /// Whether a worker may have the part for frames that it makes apart from the run.
+    pub fn is_free(&self, program: &Program, part: Block) -> bool
+        ensures { IsTrue result ↔ IsFree program.now self.now part }
+    {
+        ends_by(part.start, part.cells, self.cells.cells.len())
+            && (part.cells == 0 || self.is_vacant(program, part))
+    }
+
+    /// As many cells for each worker, one worker's after the other's.
+    fn piece_of(&self, worker: u8) -> Block {
+        let cells = self.lent.cells.checked_div(self.hands.len()).unwrap_or(0);
+        let before = cells.saturating_mul(worker as usize);
+        Block {
+            start: self.lent.start.saturating_add(before),
+            cells,
+        }
+    }
+
+    /// Behind the allocas of the frames that have theirs in the piece.
+    fn end_within(&self, program: &Program, piece: Block) -> usize {
+        let limit = piece.start.saturating_add(piece.cells);
+        let mut end = piece.start;
+        for (_slot, node) in self.cactus.iter() {
+            let frame = &node.frame.frame;
+            if frame.role == Role::Body && home_place(frame.home) < limit {
+                end = end.max(own_end(program, frame).unwrap_or(limit));
+            }
+        }
+        end
+    }
+
+    /// What is free of the worker's piece of the cells that are lent: it may have none.
+    pub fn free_part(&self, program: &Program, worker: u8) -> Block
+        ensures { IsFree program.now self.now result }
+    {
+        let piece = self.piece_of(worker);
+        let start = self.end_within(program, piece);
+        let limit = piece.start.saturating_add(piece.cells);
+        let part = Block {
+            start,
+            cells: limit.saturating_sub(start),
+        };
+        if self.is_free(program, part) {
+            part
+        } else {
+            Block {
+                start: self.cells.cells.len(),
+                cells: 0,
+            }
+        }
+    }
+
+    /// Lends so many cells to the workers, where none are lent yet. Nothing changes that is seen of the run.
+    ///
+    /// # Errors
+    ///
+    /// Memory was refused.
+    pub fn lend(&mut self, cells: usize) -> Result<(), OutOfMemory>
+        ensures only { self.new ≡ record self.old { cells = self.new.cells; lent = self.new.lent; end = self.new.end } }
+        ensures left { (prog : Text) (places : Places) → LeavesAsShown prog places self.old self.new }
+    {
+        if self.lent.cells != 0 {
+            return Ok(());
+        }
+        let Some(end) = self.end.checked_add(cells) else {
+            return Err(OutOfMemory);
+        };
+        let missing = end.saturating_sub(self.cells.cells.len());
+        self.cells.grow(missing)?;
+        self.lent = Block {
+            start: self.end,
+            cells,
+        };
+        self.end = end;
+        Ok(())
+    }
+}
