@@ -3,5 +3,4 @@ pub mod Numbers
 pub mod Facts
 pub mod Alone
 pub mod Law
-pub mod Living
 pub mod Loading

@@ -1,20 +1,22 @@
 -- A frame that a worker loads may be the base of a stack of its own.
-use Rattle.std.proofs.Common.{◌≡◌, ◌∙◌, ℕ, ◌+◌, ◌<◌, ◌≤◌, List, [], ◌∷◌, length, Option, Some, Bool, true, false, refl, sym, ap, subst, arith, slice_get, ℤ}
+use Rattle.std.proofs.Common.{◌≡◌, ◌∙◌, ℕ, ◌+◌, ◌<◌, ◌≤◌, List, [], ◌∷◌, length, Option, Some, None, Bool, true, false, refl, sym, ap, subst, arith, slice_get, ℤ}
 use Rattle.std.specs.List.{All}
 use Rattle.std.proofs.lemmas.List.Elements.{All-cons, All-nil}
 use Rattle.semantics.specs.Paths.{Path}
 use Rattle.semantics.specs.Cells.{Cell, Object, Shared, Local}
-use Rattle.semantics.specs.Frames.{Frame, Pointer, Value}
+use Rattle.semantics.specs.Frames.{Body, Child, Frame, Pointer, Role, Value, cells_of}
 use Rattle.semantics.specs.Effect.{Call}
 use Rattle.semantics.specs.State.{none_within}
 use Rattle.semantics.specs.Events.{Machine}
 use Rattle.linear.specs.declared.form.RegisterId.{RegisterId}
 use Rattle.program.specs.declared.function.Program.{Program}
+use Rattle.program.specs.declared.identifier.ObjectName.TheVariants as object
 use Rattle.frame_engine.specs.Shows.{Layout}
 use Rattle.frame_engine.specs.declared.activation.Places.{Places}
+use Rattle.serial_stack.specs.Layouts.{for_body}
 use Rattle.serial_stack.specs.Shown.{IsOld}
 use Rattle.schedule_workers.specs.Going.{IsAbove}
-use Rattle.schedule_workers.specs.Layouts.{living}
+use Rattle.schedule_workers.specs.Layouts.{alloca_cells, living, own_cells}
 use Rattle.schedule_workers.proofs.Calling.{values_up}
 use Rattle.laws_workers.proofs.laws_conditions.rules.Moves.{calls_here}
 use Rattle.laws_workers.proofs.laws_schedule.Promise.{accepted_programs_keep_their_promise}
@@ -24,13 +26,14 @@ use Rattle.private_stack.specs.Along.{IsLent, LoadsGoDeep}
 use Rattle.private_stack.specs.Layouts.{Segment, layout_above}
 use Rattle.private_stack.specs.Shown.{CanGo}
 use Rattle.private_stack.proofs.Coming.{under_long}
+use Rattle.private_stack.proofs.Living as text
+use Rattle.private_stack.proofs.Living.{fresh, local_above, shared_above}
 use Rattle.laws_stacks.specs.Deep.{DeepStrand, IsDeep, Placed, at, next_action}
 use Rattle.laws_stacks.specs.Footprint.{memory_of}
 use Rattle.laws_stacks.specs.Law.{IsOrderly, Runs, absorbed}
 use Rattle.laws_stacks.proofs.Reached.{reached_are_orderly}
 use Rattle.laws_workers_strands.specs.Promise.{IsSafeDeep, LoadedFramesGoDeep, StaysSafeDeep, laid_out}
 use Rattle.laws_workers_strands.proofs.Law.{frames_go_deep}
-use Rattle.laws_workers_strands.proofs.Living.{cells_above, fresh}
 
 above_old : (p : Path) (o : Object) → IsAbove p o → IsOld (length p) o
 above_old p (Shared g) above = tt
@@ -39,6 +42,14 @@ above_old p (Local owner a) above = under_long owner p above
 all_of : (P : ℕ → Type 0) → ((n : ℕ) → P n) → (l : List ℕ) → All P l
 all_of P each [] = All-nil P
 all_of P each (n ∷ l) = All-cons P n l (each n) (all_of P each l)
+
+own_is : (r : Role) (n : ℕ) → own_cells r n ≡ for_body r n 0
+own_is Body n = refl
+own_is (Child region continuation) n = refl
+
+alloca_is : (prog : Program) (o : Option Frame) (a : ℕ) → alloca_cells prog o a ≡ text.alloca_cells prog o a
+alloca_is prog None a = refl
+alloca_is prog (Some f) a = own_is f.role (cells_of prog f.function (object.Alloca (record { 0 = a })))
 
 module _ (prog : Program) (m : Machine) (orderly : IsOrderly m) (deep : StaysSafeDeep prog m) (small : m.core.done + 65538 < 18446744073709551616) where
   module _ (begins : Object → ℤ) (s : Segment) (lent : IsLent (laid_out begins prog m.core) s) (w : ℕ) (p : Path) (g : Frame) (hand : m.hands w ≡ Some p) (there : m.core.frames p ≡ Some g)
@@ -54,11 +65,21 @@ module _ (prog : Program) (m : Machine) (orderly : IsOrderly m) (deep : StaysSaf
       safe : IsSafeDeep prog m w d
       safe = deep w d is runs
 
+      abbrev l : Layout
+      l = laid_out begins prog m.core
+
       abbrev above : Layout
-      above = layout_above (laid_out begins prog m.core) prog s.start d.top d.below
+      above = layout_above l prog s.start d.top d.below
+
+      local : (owner : Path) (a : ℕ) → l.cells (Local owner a) ≡ text.alloca_cells prog (m.core.frames owner) a
+      local owner a = alloca_is prog (m.core.frames owner) a
+
+      cells_above : (o : Object) → living prog (absorbed m w d).core o ≡ above.cells o
+      cells_above (Shared n) = sym (shared_above prog l m local w d is runs orderly s.start n)
+      cells_above (Local owner a) = alloca_is prog ((absorbed m w d).core.frames owner) a ∙ sym (local_above prog l m local w d is runs orderly s.start owner a)
 
       same : laid_out above.at prog (absorbed m w d).core ≡ above
-      same = λ i. record { at = above.at; cells = λ o. cells_above prog begins m w d is runs orderly s.start o i }
+      same = λ i. record { at = above.at; cells = λ o. cells_above o i }
 
       passed : (register : Option RegisterId) (callee : ℕ) (values : List Value) → next_action prog d ≡ Call register callee values → (n : ℕ) (c : Cell) → slice_get values n ≡ Some (Pointer c) →
           IsOld (length d.top.path) c.object
@@ -75,7 +96,7 @@ module _ (prog : Program) (m : Machine) (orderly : IsOrderly m) (deep : StaysSaf
             apart = lent.apart;
             outside = lent.outside;
             small = lent.small;
-            fresh = λ x come. fresh prog begins m w d is runs orderly s.start x come;
+            fresh = λ x come. fresh prog l m local w d is runs orderly s.start x come;
             stays = subst (λ (l : Layout). StaysSafeAlone prog l d.top.path d.top.frame) same (safe.alone above.at);
             whole = safe.whole;
             old = λ register callee values act n c here. passed register callee values act n c here;

@@ -28,15 +28,9 @@ blank_kept l x pages blank = record {
   gone = λ c out. refl;
 }
 
-module _ (prog : Program) (places : Places) (f : Frame) (path : List ℕ) (childless : Bool) (start : ℕ) (own : Vec ℤ Global) (x : Pile) (same_path : x.base.path.items ≡ path) (base : IsCopy f x.base.frame) (is_childless : x.base.childless ≡ childless) (top : IsCopy f x.top) (below : x.below.items ≡ []) (done : x.done ≡ 0) (deepest : x.deepest ≡ 0)
-    (cells : x.cells ≡ record { start = start; own = own; log = x.cells.log }) (pages : ℕ) (log : log_of x.cells.log ≡ empty_log pages) (end : x.end ≡ start)
+module _ (prog : Program) (places : Places) (f : Frame) (path : List ℕ) (childless : Bool) (s : Segment) (x : Pile) (same_path : x.base.path.items ≡ path) (base : IsCopy f x.base.frame) (is_childless : x.base.childless ≡ childless) (top : IsCopy f x.top) (below : x.below.items ≡ []) (done : x.done ≡ 0) (deepest : x.deepest ≡ 0)
+    (same : segment_of x.cells ≡ s) (pages : ℕ) (log : log_of x.cells.log ≡ empty_log pages) (end : x.end ≡ s.start)
   where
-    abbrev s : Segment
-    s = record { start = start; count = length own.items }
-
-    same : segment_of x.cells ≡ s
-    same = ap segment_of cells
-
     pub begun : FrameFits prog f → MayBegin prog places path f childless s → IsUnderWay prog places x
     begun fits begins =
         let again : IsCopy x.base.frame x.top = copied_again (copy_back f x.base.frame base) top in

@@ -15,7 +15,7 @@ use Rattle.program.specs.declared.function.Program.{Program}
 use Rattle.frame_engine.specs.Shows.{IsIn, Layout, address}
 use Rattle.serial_stack.specs.Layouts.{alloca_sizes, for_body, size_in, start_in, with_allocas}
 use Rattle.serial_stack.proofs.Owners.{IsApart, address_apart, in_apart}
-use Rattle.serial_stack.proofs.Rows.{IsOlder, IsOwn, either_one, start_below}
+use Rattle.serial_stack.proofs.Rows.{IsOlder, IsOwn, cell_is, either_one, same_place, same_pos, start_below}
 use Rattle.frame_strand.specs.Showing.{AreApart}
 use Rattle.laws_stacks.specs.Deep.{Placed}
 use Rattle.laws_stacks.proofs.Rising.{Rises}
@@ -53,22 +53,6 @@ pub record LiesOver (l k : Layout) (start end : ℕ) : Type 0 where
   pub same : (c : Cell) → IsIn l c → address k c ≡ address l c
   pub own : (c : Cell) → (IsIn l c → ⊥) → IsIn k c → IsAt (address k c) start end
   pub apart : AreApart k
-
-same_pos : (a b : ℕ) → pos a ≡ pos b → a ≡ b
-same_pos a b e = cc
-
-cell_is : (c d : Cell) → c.object ≡ d.object → c.index ≡ d.index → c ≡ d
-cell_is c d o i = λ k. record { object = o k; index = i k }
-
-same_alloca : (cells : List ℕ) (a b i j : ℕ) → i < size_in cells a → j < size_in cells b → start_in cells a + i ≡ start_in cells b + j → (a ≡ b) × (i ≡ j)
-same_alloca [] a b i j h k e = absurd (omega (arith, h))
-same_alloca (c ∷ cs) zero zero i j h k e = (refl, omega (arith, e))
-same_alloca (c ∷ cs) zero (suc b) i j h k e = absurd (omega (arith, h, e))
-same_alloca (c ∷ cs) (suc a) zero i j h k e = absurd (omega (arith, k, e))
-same_alloca (c ∷ cs) (suc a) (suc b) i j h k e =
-    let less : start_in cs a + i ≡ start_in cs b + j = omega (arith, e) in
-    let r = same_alloca cs a b i j h k less in
-    (ap suc r.0, r.1)
 
 pub in_or_not : (l : Layout) (c : Cell) → IsIn l c ⊎ (IsIn l c → ⊥)
 in_or_not l c = elim (leb_tells (suc c.index) (l.cells c.object)) [
@@ -126,7 +110,7 @@ module _ (l k : Layout) (s : Segment) (home : ℕ) (p : Path) (sizes : List ℕ)
     apart_cells c d (inl t) (inl u) e =
         let places : home + (start_in sizes t.alloca + c.index) ≡ home + (start_in sizes u.alloca + d.index) = same_pos _ _ (sym (own_address c t) ∙ e ∙ own_address d u) in
         let less : start_in sizes t.alloca + c.index ≡ start_in sizes u.alloca + d.index = omega (arith, places) in
-        let same = same_alloca sizes t.alloca u.alloca c.index d.index t.within u.within less in
+        let same = same_place sizes t.alloca u.alloca c.index d.index t.within u.within less in
         cell_is c d (t.object ∙ ap (λ (n : ℕ). Local p n) same.0 ∙ sym u.object) same.1
     apart_cells c d (inl t) (inr u) e = let x = own_at c t in absurd (not_own d u.within x.place x.after x.before (sym (same_k d u.within) ∙ sym e ∙ x.is))
     apart_cells c d (inr t) (inl u) e = let x = own_at d u in absurd (not_own c t.within x.place x.after x.before (sym (same_k c t.within) ∙ e ∙ x.is))

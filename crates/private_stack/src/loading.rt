@@ -6,6 +6,7 @@ ghost use Rattle.frame_strand.specs.Standing.{IsCopy};
 ghost use Rattle.private_stack_log.specs.Logs.{empty_log, pages_of};
 ghost use Rattle.private_stack_log.specs.Tables.{log_of};
 ghost use Rattle.private_stack.specs.Along.{IsUnderWay, MayBegin};
+ghost use Rattle.private_stack.specs.OwnCells.{segment_of};
 
 use crate::cells::PileCells;
 use crate::pile::{Base, Pile, blank};
@@ -45,15 +46,16 @@ fn copy_frame(target: &mut Frame, source: &Frame) -> Result<(), OutOfMemory>
 }
 
 impl Pile {
-    /// A pile without a base, with room for so many phi moves and for so many cells of its own frames.
-    pub fn new(alloc: Global, moves: usize, own: usize) -> Result<Pile, OutOfMemory>
-        ensures moves { IfOk result (λ x. length x.moves.items ≡ moves) }
-        ensures own { IfOk result (λ x. length x.cells.own.items ≡ own) }
+    /// A pile without a base, with room for so many phi moves.
+    pub fn new(alloc: Global, moves: usize) -> Result<Pile, OutOfMemory>
+        ensures { IfOk result (λ x. length x.moves.items ≡ moves) }
     {
-        let log = PageLog::new(alloc)?;
-        let own = spare_words(alloc, own)?;
+        let cells = PileCells {
+            start: 0,
+            own: Vec::new(alloc),
+            log: PageLog::new(alloc)?,
+        };
         let moves = spare_words(alloc, moves)?;
-        let cells = PileCells { start: 0, own, log };
         Ok(Pile {
             alloc,
             base: Base {
@@ -72,8 +74,8 @@ impl Pile {
         })
     }
 
-    /// Begins with a copy of the board's frame, whose path has the root's number first. `childless` says that no child lives that a sync of the frame waits for; the
-    /// allocas of its own frames lie from `start` on; `cells` is how many cells the board has.
+    /// Begins with a copy of the board's frame, whose path has the root's number first. `childless` says that no child lives that a sync of the
+    /// frame waits for. The allocas of its own frames get `room` addresses from `start` on. `cells` is how many cells the board has.
     ///
     /// # Errors
     ///
@@ -84,6 +86,7 @@ impl Pile {
         path: &[u64],
         childless: bool,
         start: u64,
+        room: usize,
         cells: usize,
     ) -> Result<(), OutOfMemory>
         ensures path { OnOk result (self.new.base.path.items ≡ path.now) }
@@ -91,10 +94,10 @@ impl Pile {
         ensures childless { OnOk result (self.new.base.childless ≡ childless) }
         ensures moves { OnOk result (self.new.moves ≡ self.old.moves) }
         ensures done { OnOk result (self.new.done ≡ 0) }
-        ensures cells { OnOk result (self.new.cells ≡ record { start = start; own = self.old.cells.own; log = self.new.cells.log }) }
+        ensures segment { OnOk result (segment_of self.new.cells ≡ record { start = start; count = room }) }
         ensures log { OnOk result (log_of self.new.cells.log ≡ empty_log (max (log_of self.old.cells.log).pages (pages_of cells))) }
         ensures way { OnOk result ((prog : Program) (places : Places) → FrameFits prog frame.now →
-            MayBegin prog places path.now frame.now childless (record { start = start; count = length self.old.cells.own.items }) →
+            MayBegin prog places path.now frame.now childless (record { start = start; count = room }) →
             IsUnderWay prog places self.new) }
     {
         self.base.path.clear();
@@ -105,8 +108,9 @@ impl Pile {
         self.base.childless = childless;
         self.done = 0;
         self.deepest = 0;
-        self.cells.start = start;
         self.end = start;
+        self.cells.start = start;
+        self.cells.own.resize(room, 0)?;
         self.cells.log.clear();
         self.cells.log.widen(cells)?;
         Ok(())

@@ -1,5 +1,5 @@
 -- A pile that fits a run is a deep strand of the machine that is shown.
-use Rattle.std.proofs.Common.{◌≡◌, ◌∙◌, ℕ, List, [], ◌∷◌, length, reverse, Option, Some, None, Bool, true, false, refl, sym, ap, subst}
+use Rattle.std.proofs.Common.{◌≡◌, ◌≤◌, ◌∙◌, arith, ℕ, List, [], ◌∷◌, length, reverse, Option, Some, None, Bool, true, false, refl, sym, ap, subst}
 use Rattle.std.proofs.lemmas.Option.{same_Some}
 use Rattle.std.proofs.lemmas.List.Elements.{All-cons, All-nil}
 use Rattle.std.specs.List.{All}
@@ -9,6 +9,7 @@ use Rattle.semantics.specs.Frames.{OnCall}
 use Rattle.semantics.specs.Counts.{count_in}
 use Rattle.semantics.specs.State.{State, may_go, none_within}
 use Rattle.semantics.specs.Events.{Machine}
+use Rattle.semantics.specs.Replay.{NeverTraps}
 use Rattle.semantics.proofs.ChildCounts.{counted_none}
 use Rattle.program.specs.declared.function.Program.{Program}
 use Rattle.cactus.specs.declared.node.Node.{Node}
@@ -20,30 +21,37 @@ use Rattle.private_stack_log.specs.Tables.{log_of}
 use Rattle.frame_strand.proofs.Beginning.{copy_back, copy_shows}
 use Rattle.schedule_workers.specs.declared.activation.Activation.{Activation}
 use Rattle.schedule_workers.specs.declared.run.Run.{Run}
-use Rattle.schedule_workers.specs.Going.{RunsSafely}
+use Rattle.schedule_workers.specs.Going.{CanGo as CanGoOn, PointsUp, RunsSafely, TextFits}
 use Rattle.schedule_workers.specs.Layouts.{layout_of, object_at}
 use Rattle.schedule_workers.specs.Shown.{IsShown, place_of}
+use Rattle.schedule_workers.proofs.Lending.{free_outside, free_small}
 use Rattle.schedule_workers.proofs.Onward.{free_callee, seen, standing}
 use Rattle.schedule_workers.proofs.Standing.{can_step, may_go_on}
 use Rattle.schedule_workers.proofs.Views.{hand_seen}
+use Rattle.schedule_commit.proofs.Noting.{happen_replay}
 use Rattle.schedule_commit.proofs.Sound.{never_traps}
 use Rattle.laws_stacks.specs.Deep.{DeepStrand, IsDeep, Placed}
-use Rattle.laws_stacks.specs.Law.{Fits, IsOrderly, ReadsAgree, Runs}
-use Rattle.laws_stacks.proofs.Law.{deep_reads_are_there}
-use Rattle.private_stack.specs.Along.{GoesDeep, IsAlong, IsUnderWay}
-use Rattle.private_stack.specs.Shown.{ShowsPile}
+use Rattle.laws_strands.specs.Law.{steps_by}
+use Rattle.laws_stacks.specs.Law.{Fits, IsOrderly, ReadsAgree, Runs, absorbed}
+use Rattle.laws_stacks.proofs.Law.{deep_reads_are_there, deep_strands_are_steps}
+use Rattle.private_stack.specs.Along.{GoesDeep, IsAlong, IsLent, IsUnderWay}
+use Rattle.private_stack.specs.OwnCells.{segment_of}
+use Rattle.private_stack.specs.Shown.{CanGo, ShowsPile}
 use Rattle.private_stack.specs.declared.pile.Pile.{Pile}
 use Rattle.schedule_publish.specs.Absorbing.{GoesDeepIn}
-use Rattle.schedule_publish.specs.Fitting.{FitsDeep, HasNoChild}
+use Rattle.schedule_publish.specs.Fitting.{FitsDeep, HasNoChild, segment_block}
 use Rattle.schedule_publish.proofs.Bases.{WaitsForNone}
 
 pub record IsDeepStrand (prog : Program) (places : Places) (k : Run) (worker : ℕ) (x : Pile) (m : Machine) : Type 0 where
   pub strand : DeepStrand
   pub is : IsDeep prog strand
-  pub shown : ShowsPile (layout_of prog places k.cactus m.core) prog places strand x
+  pub shown : ShowsPile (layout_of prog places k.cactus m.core) prog places (segment_of x.cells) strand x
+  pub can : CanGo prog (layout_of prog places k.cactus m.core) (segment_of x.cells) strand
   pub fits : Fits m worker strand
   -- the base waits for no call
   pub free : WaitsForNone strand.base.frame.waits
+  -- what the frames point to does not go before them
+  pub points : (q : Path) (f : frames.Frame) → (absorbed m worker strand).core.frames q ≡ Some f → PointsUp q f
 
 -- ---- regions
 
@@ -56,7 +64,7 @@ all_clear s q made false clear (r ∷ synced) none = absurd (let h : r ∷ synce
 
 -- ---- the strand
 
-module _ (prog : Program) (places : Places) (k : Run) (worker slot : ℕ) (x : Pile) (fits : FitsDeep k worker x slot) (way : IsUnderWay prog places x)
+module _ (prog : Program) (places : Places) (moves : ℕ) (text : TextFits prog places moves) (k : Run) (worker slot : ℕ) (x : Pile) (fits : FitsDeep prog k worker x slot) (way : IsUnderWay prog places x)
     (m : Machine) (shown : IsShown prog places m k) (safe : RunsSafely prog (length k.hands.items) m) (orderly : IsOrderly m) (deep : GoesDeepIn prog places m) where
   abbrev node : Node Activation
   node = fits.node
@@ -91,11 +99,18 @@ module _ (prog : Program) (places : Places) (k : Run) (worker slot : ℕ) (x : P
         (λ childless region. (λ i. none_within m.core (path i) (frame i).made region) ∙ clear childless region) d.synced synced;
   }
 
-  goes : GoesDeep prog places l (reverse x.base.path.items) g x.base.frame x.base.childless
+  lent : IsLent l (segment_of x.cells)
+  lent = record {
+    apart = shown.shows.cells.apart;
+    outside = λ c here n low. free_outside prog places moves text k m shown (segment_block x.cells) fits.free c here n low;
+    small = free_small prog places moves text k m shown (segment_block x.cells) fits.free;
+  }
+
+  goes : GoesDeep prog places l (reverse x.base.path.items) g x.base.frame x.base.childless (segment_of x.cells)
   goes =
       let s = seen prog places k slot node node.frame fits.stands m shown in
-      subst (λ q. GoesDeep prog places l q g x.base.frame x.base.childless) (ap reverse fits.path)
-      (deep (object_at places k.cactus) shown.shows.cells.apart worker p g x.base.frame hand s.is
+      subst (λ q. GoesDeep prog places l q g x.base.frame x.base.childless (segment_of x.cells)) (ap reverse fits.path)
+      (deep (object_at places k.cactus) (segment_of x.cells) lent worker p g x.base.frame hand s.is
       (copy_shows node.frame.frame x.base.frame (copy_back x.base.frame node.frame.frame fits.frame) l places p g s.shows.shown)
       (s.shows.waits ∙ ap wait_of fits.frame.waits) x.base.childless clear)
 
@@ -120,16 +135,32 @@ module _ (prog : Program) (places : Places) (k : Run) (worker slot : ℕ) (x : P
   reads_agree : ReadsAgree m along.strand
   reads_agree c v z read has =
       let inside : IsIn l c = shown.shows.cells.inside c z has in
-      let found : (log_of x.cells).reads (address l c) ≡ Some v = sym (along.shown.kept.reads c inside) ∙ read in
+      let found : (log_of x.cells.log).reads (address l c) ≡ Some v = sym (along.shown.kept.log.reads c inside) ∙ read in
       let held : cell_in k.cells.cells.items (address l c) ≡ Some v = fits.reads (address l c) v found in
       same_Some z v (sym (shown.shows.cells.values c z has) ∙ held)
+
+  never : NeverTraps prog (length k.hands.items) m
+  never = never_traps prog (length k.hands.items) m safe shown.shows.trapped
+
+  there : Fits m worker along.strand
+  there = deep_reads_are_there prog (length k.hands.items) m worker along.strand along.is runs orderly never reads_agree
+
+  few : along.strand.done ≤ 65536
+  few = let done = along.shown.done in let short = way.short in omega (arith, done, short)
+
+  after : CanGoOn prog (absorbed m worker along.strand)
+  after =
+      subst (λ (n : Machine). CanGoOn prog n) (happen_replay prog (length k.hands.items) (steps_by worker along.strand.done) m (absorbed m worker along.strand)
+      (deep_strands_are_steps prog (length k.hands.items) m worker along.strand along.is there orderly never).steps) (safe (steps_by worker along.strand.done))
 
   pub deep_strand : IsDeepStrand prog places k worker x m
   deep_strand = record {
     strand = along.strand;
     is = along.is;
     shown = along.shown;
-    fits = deep_reads_are_there prog (length k.hands.items) m worker along.strand along.is runs orderly (never_traps prog (length k.hands.items) m safe shown.shows.trapped) reads_agree;
+    can = goes.goes along.strand along.is along.base along.shown.synced along.shown.room few;
+    fits = there;
+    points = after.points;
     free = λ n register e. (let h : may_go m.core p g.made (OnCall n register) ≡ true = ap (may_go m.core p g.made) (sym e ∙ ap (λ (f : frames.Frame). f.waits) frame_is) ∙ goes_on in cc);
   }
 

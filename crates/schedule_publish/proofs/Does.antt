@@ -1,5 +1,5 @@
 -- What a pile did happens as steps of the worker, and the run after the commit shows the machine after them.
-use Rattle.std.proofs.Common.{◌≡◌, ◌∙◌, ◌<◌, ℕ, List, length, Some, None, sym, ap, subst}
+use Rattle.std.proofs.Common.{◌≡◌, ◌∙◌, ◌<◌, ℕ, List, [], length, Some, None, sym, ap, subst}
 use Rattle.std.specs.Option.{option_map}
 use Rattle.std.proofs.lemmas.Option.{same_Some}
 use Rattle.semantics.specs.Events.{Machine}
@@ -30,7 +30,7 @@ use Rattle.schedule_publish.proofs.Noting.{last_off}
 use Rattle.schedule_publish.proofs.Shown.{committed_shown, committed_stalls, mid_tree}
 use Rattle.schedule_publish.proofs.Stood.{AreSeated, final_tree, seated, still_there}
 
-module _ (prog : Program) (places : Places) (moves : ℕ) (text : TextFits prog places moves) (k new : Run) (x : Pile) (worker slot : ℕ) (fits : FitsDeep k worker x slot) (within : worker < length k.hands.items) (way : IsUnderWay prog places x)
+module _ (prog : Program) (places : Places) (moves : ℕ) (text : TextFits prog places moves) (k new : Run) (x : Pile) (worker slot : ℕ) (fits : FitsDeep prog k worker x slot) (within : worker < length k.hands.items) (way : IsUnderWay prog places x)
     (mid : Frames Activation) (links : List (Link Activation)) (are : AreLinks worker x links) (slots : List ℕ) (adds : AddsChain k.cactus mid slot links slots) (grows : GrowsChain k.cactus mid slot links)
     (did : IsCommitted (record k { cactus = mid }) new worker slot x slots) where
   abbrev node : Node Activation
@@ -47,15 +47,15 @@ module _ (prog : Program) (places : Places) (moves : ℕ) (text : TextFits prog 
 
   module _ (m : Machine) (shown : IsShown prog places m k) (safe : RunsSafely prog (length k.hands.items) m) (orderly : IsOrderly m) (deep : GoesDeepIn prog places m) where
     abbrev d : IsDeepStrand prog places k worker x m
-    d = deep_strand prog places k worker slot x fits way m shown safe orderly deep
+    d = deep_strand prog places moves text k worker slot x fits way m shown safe orderly deep
 
     none : node.frame.callee ≡ None
-    none = callee_none prog places k worker slot x fits way m shown safe orderly deep
+    none = callee_none prog places moves text k worker slot x fits way m shown safe orderly deep
 
     tree : IsTree new.cactus
     tree =
         subst (λ (f : Frames Activation). IsTree f) (sym did.cactus)
-        (final_tree k.cactus mid slot node fits.stands links slots adds.0 adds.1 did.base (mid_tree prog places moves text k m shown orderly x worker slot fits within d none links are mid grows))
+        (final_tree k.cactus mid slot node fits.stands links slots adds.0 adds.1 did.base (mid_tree prog places moves text k m shown orderly (safe []).points x worker slot fits within d none links are mid grows))
 
     steps : Happen prog (length k.hands.items) (steps_by worker x.done) m (absorbed m worker d.strand)
     steps =
@@ -69,7 +69,7 @@ module _ (prog : Program) (places : Places) (moves : ℕ) (text : TextFits prog 
       pile = d.shown;
       steps = steps;
       shown = subst (λ (r : Run). IsShown prog places (absorbed m worker d.strand) r) (sym did.only)
-          (committed_shown prog places moves text k m shown orderly x worker slot fits within d none links are new.cactus tree did.base is_base slots seats new.cells did.cells);
+          (committed_shown prog places moves text k m shown orderly (safe []).points x worker slot fits within d none links are new.cactus tree did.base is_base slots seats new.cells did.cells);
     }
 
   pub does_deep : DoesDeep prog places k new worker x
@@ -80,7 +80,7 @@ module _ (prog : Program) (places : Places) (moves : ℕ) (text : TextFits prog 
       let s = d m shown safe orderly deep in
       let workers = length k.hands.items in
       let never = never_traps prog workers m safe shown.shows.trapped in
-      committed_stalls prog places moves text k m shown orderly x worker slot fits within s (none m shown safe orderly deep) links are new.cactus (tree m shown safe orderly deep) did.base is_base slots seats new.cells did.cells
+      committed_stalls prog places moves text k m shown orderly (safe []).points x worker slot fits within s (none m shown safe orderly deep) links are new.cactus (tree m shown safe orderly deep) did.base is_base slots seats new.cells did.cells
       last (last_blocks prog workers (steps_by worker x.done) m last)
       (λ q was lives away. ap (λ j. last_blocks prog workers (steps_by worker j) m last q) (sym s.shown.done) ∙ last_off prog workers m worker orderly never last q was lives s.strand s.is s.fits away)
       agree

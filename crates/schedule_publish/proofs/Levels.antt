@@ -6,6 +6,7 @@ use Rattle.std.proofs.lemmas.List.{reverse-reverse}
 use Rattle.std.proofs.lemmas.Option.{same_Some}
 use Rattle.std.proofs.lemmas.Bool.Decides.{eqb_tells}
 use Rattle.semantics.specs.Paths.{Path}
+use Rattle.semantics.specs.Cells.{Local}
 use Rattle.semantics.specs.Frames as frames
 use Rattle.semantics.specs.Frames.{OnCall, OnRegion}
 use Rattle.semantics.specs.Counts.{count_of}
@@ -30,14 +31,18 @@ use Rattle.frame_engine.specs.Shows.{Layout}
 use Rattle.serial_stack.specs.Shown as serial
 use Rattle.schedule_workers.specs.declared.activation.Activation.{Activation}
 use Rattle.schedule_workers.specs.declared.run.Run.{Run}
-use Rattle.schedule_workers.specs.Layouts.{alloca_at, alloca_cells, layout_of, number_in, own_at}
+use Rattle.schedule_workers.specs.Layouts.{alloca_at, number_in, own_at}
+use Rattle.schedule_workers.specs.Lent.{IsFree}
 use Rattle.schedule_workers.specs.Scheduling.{counted_in, hand_of, living_in}
 use Rattle.schedule_workers.specs.Shown.{CalleeStands, HasBlock, HasTaker, IsShown, ShowsAt, ShowsNode, place_of}
-use Rattle.schedule_workers.proofs.Changed.{Holds, Told, anew}
+use Rattle.schedule_workers.proofs.Changed.{Holds}
 use Rattle.schedule_workers.proofs.Handing.{hand_set, taken_up}
 use Rattle.laws_stacks.specs.Deep.{Placed}
 use Rattle.laws_stacks.specs.Law.{counts_in, no_count}
 use Rattle.laws_stacks.proofs.Rising.{IsBehind, of_call, of_detach}
+use Rattle.private_stack.specs.OwnCells.{segment_of}
+use Rattle.private_stack.specs.declared.cells.PileCells.{PileCells}
+use Rattle.schedule_publish.specs.Fitting.{segment_block}
 use Rattle.schedule_publish.specs.Committing.{by_wait, last_of, under}
 use Rattle.schedule_publish.specs.Linking.{counted_above}
 use Rattle.schedule_publish.proofs.Bases.{WaitsForNone}
@@ -45,7 +50,6 @@ use Rattle.schedule_publish.proofs.Climbing.{Climbs, IsOff, IsOn, highest}
 use Rattle.schedule_publish.proofs.Linked.{AreLinked, head_of}
 use Rattle.schedule_publish.proofs.Seats.{Seat, role_counts, seat_up}
 use Rattle.schedule_publish.proofs.Stood.{AreFree, Held, IsOut, last_out}
-use Rattle.schedule_workers.specs.Going.{TextFits}
 
 -- ---- a frame that knows its callee's slot
 
@@ -93,11 +97,13 @@ held_there frames s path a [] (l ∷ links) held = absurd held
 held_there frames s path a (c ∷ slots) [] held = absurd held
 held_there frames s path a (c ∷ slots) (l ∷ links) held = (held.0.node, held.0.stands, held.0.path_is)
 
-module _ (prog : Program) (places : Places) (moves : ℕ) (text : TextFits prog places moves) (k : Run) (m next : Machine) (shown : IsShown prog places m k) (worker slot : ℕ) (node : Node Activation) (stands : node_at k.cactus slot ≡ Some node)
-    (hand : hand_of k.hands.items worker ≡ Some slot) (within : worker < length k.hands.items) (new : Frames Activation) (tree : IsTree new) (peak top : ℕ) where
-  abbrev l : Layout
-  l = layout_of prog places k.cactus m.core
+-- what stands at a path now, and where its allocas lie
+pub record StandsAt (places : Places) (to : Layout) (next : Machine) (new : Frames Activation) (q : Path) : Type 0 where
+  pub shows : ShowsAt to places q (next.core.frames q) (named new (reverse q))
+  pub at : (a : ℕ) → alloca_at places (named new (reverse q)) a ≡ to.at (Local q a)
 
+module _ (prog : Program) (places : Places) (k : Run) (m next : Machine) (shown : IsShown prog places m k) (x : PileCells) (lent : IsFree prog k (segment_block x)) (to : Layout) (worker slot : ℕ) (node : Node Activation) (stands : node_at k.cactus slot ≡ Some node)
+    (hand : hand_of k.hands.items worker ≡ Some slot) (within : worker < length k.hands.items) (new : Frames Activation) (tree : IsTree new) (peak top : ℕ) where
   abbrev hands : Vec (Option ℕ) Global
   hands = with_item k.hands worker (Some top)
 
@@ -105,10 +111,10 @@ module _ (prog : Program) (places : Places) (moves : ℕ) (text : TextFits prog 
   HoldsAt = Holds prog places m next k new peak hands
 
   abbrev ToldAt : Path → Type 0
-  ToldAt = Told prog places m next k new peak hands
+  ToldAt = StandsAt places to next new
 
   abbrev SeatOf : Option Frame → (ℕ → ℕ) → Placed → Frame → ℕ → List ℕ → Activation → Type 0
-  SeatOf = Seat prog places k m shown worker
+  SeatOf = Seat prog places k m shown worker to
 
   -- ---- one frame
 
@@ -117,11 +123,11 @@ module _ (prog : Program) (places : Places) (moves : ℕ) (text : TextFits prog 
     pub in_slot : node_at new s ≡ Some there
     pub place : place_of there ≡ t.path
     pub holds : Holds prog places m next k new peak (with_item k.hands worker (Some top)) s there
-    pub told : Told prog places m next k new peak (with_item k.hands worker (Some top)) t.path
+    pub told : StandsAt places to next new t.path
     -- it is not stalled
     pub going : (region : RegisterId) → there.frame.runner ≡ None → there.frame.frame.waits ≢ wait.Region region
 
-  module _ (above : Option Frame) (older : ℕ → ℕ) (t : Placed) (f : Frame) (s : ℕ) (path : List ℕ) (a : Activation) (seat : SeatOf above older t f s path a) (on : IsOn prog places l m.core next.core t f)
+  module _ (above : Option Frame) (older : ℕ → ℕ) (t : Placed) (f : Frame) (s : ℕ) (path : List ℕ) (a : Activation) (seat : SeatOf above older t f s path a) (on : IsOn prog places to (segment_of x) m.core next.core t f)
       (n : Node Activation) (here : node_at new s ≡ Some n) (numbers : n.path.numbers ≡ path) (same : n.frame.frame ≡ a.frame) (counted : n.frame.counts ≡ a.counts)
       (runs : (v : ℕ) → (n.frame.runner ≡ Some v) ↔ (hand_of hands.items v ≡ Some s)) (callee : CalleeStands new n n.frame.frame.waits n.frame.callee)
       (count : (r : ℕ) → count_of next.core t.path r ≡ counted_above above r + older r)
@@ -153,12 +159,12 @@ module _ (prog : Program) (places : Places) (moves : ℕ) (text : TextFits prog 
       };
       told =
           let at_path : named new (reverse t.path) ≡ Some n = named_is new tree s n (reverse t.path) here (numbers ∙ seat.place) in
-          anew
-          (subst (λ (o : Option frames.Frame). ShowsAt l places t.path o (named new (reverse t.path))) (sym on.there)
-          (subst (λ (o : Option (Node Activation)). ShowsAt l places t.path (Some t.frame) o) (sym at_path)
-          (subst (λ (y : Frame). ShowsNode l places t.path t.frame y) (sym same) seat.shows)))
-          (λ i. ap (λ o. alloca_cells prog o i) on.there ∙ seat.cells i)
-          (λ i. ap (λ o. alloca_at places o i) at_path ∙ (ap (λ (y : Frame). own_at y.role (y.home +ℤ number_in (allocas_of places y.function.0) i)) same ∙ seat.at i));
+          record {
+            shows = subst (λ (o : Option frames.Frame). ShowsAt to places t.path o (named new (reverse t.path))) (sym on.there)
+                (subst (λ (o : Option (Node Activation)). ShowsAt to places t.path (Some t.frame) o) (sym at_path)
+                (subst (λ (y : Frame). ShowsNode to places t.path t.frame y) (sym same) seat.shows));
+            at = λ i. ap (λ o. alloca_at places o i) at_path ∙ (ap (λ (y : Frame). own_at y.role (y.home +ℤ number_in (allocas_of places y.function.0) i)) same ∙ seat.at i);
+          };
     }
 
   -- ---- all of them
@@ -179,7 +185,7 @@ module _ (prog : Program) (places : Places) (moves : ℕ) (text : TextFits prog 
   )
 
   pub levels : (older : ℕ → ℕ) (t : Placed) (f : Frame) (gs : List Placed) (hs : List Frame) (s : ℕ) (path : List ℕ) (a : Activation) (slots : List ℕ) (links : List (Link Activation)) →
-      Climbs prog places l m.core next.core older t f gs hs → Held new s path a slots links → AreLinked worker path f hs links → SeatOf (head_of hs) older t f s path a → AreFree k.cactus slots → top ≡ last_of s slots → Levels t gs s slots
+      Climbs prog places to (segment_of x) m.core next.core older t f gs hs → Held new s path a slots links → AreLinked worker path f hs links → SeatOf (head_of hs) older t f s path a → AreFree k.cactus slots → top ≡ last_of s slots → Levels t gs s slots
   levels older t f [] [] s path a [] [] climbs held linked seat free last =
       let here = held.frame_is in
       level None older t f s path a seat climbs.0 held.node held.stands held.path_is (ap (λ (y : Activation). y.frame) here) (ap (λ (y : Activation). y.counts) here)
@@ -202,7 +208,7 @@ module _ (prog : Program) (places : Places) (moves : ℕ) (text : TextFits prog 
       let here = mine.frame_is in
       let (after, after_stands, after_path) = held_there new c y.path.numbers y.frame slots links rest in
       let away : s ≢ top = λ e. last_out s c slots out (e ∙ last) in
-      let up_on : IsOn prog places l m.core next.core g h = lower_on gs hs more in (
+      let up_on : IsOn prog places to (segment_of x) m.core next.core g h = lower_on gs hs more in (
         level (Some h) older t f s path a seat on mine.node mine.stands mine.path_is (ap (λ (z : Activation). z.frame) here ∙ under_frame c a.frame.waits a) (ap (λ (z : Activation). z.counts) here ∙ under_counts c a.frame.waits a)
             (no_runner s seat.unheld away mine.node.frame.runner (ap (λ (z : Activation). z.runner) here ∙ (under_runner c a.frame.waits a ∙ seat.runner)))
             (subst (λ (z : Activation). CalleeStands new mine.node z.frame.waits z.callee) (sym here)
@@ -211,10 +217,10 @@ module _ (prog : Program) (places : Places) (moves : ℕ) (text : TextFits prog 
             (λ r. (count r ∙ ap (λ n. n + older r) (ap (λ q. counts_in q r) up_on.shows.shown.role ∙ role_counts h.role r)))
             (λ region free waits. not_stalled g.frame.role t.frame.waits region.0 up.behind (on.shows.waits ∙ ap wait_of (sym (ap (λ (z : Frame). z.waits) (ap (λ (z : Activation). z.frame) here ∙ under_frame c a.frame.waits a) ∙ seat.waits) ∙ waits))),
         levels no_count g h gs hs c y.path.numbers y.frame slots links more rest linked
-            (seat_up prog places k m shown worker moves text next t g f h (head_of hs) c y.path.numbers path y.frame up_on up is_act seat.place path_is free.0) free.1 last,
+            (seat_up prog places k m shown worker to x lent next t g f h (head_of hs) c y.path.numbers path y.frame up_on up is_act seat.place path_is free.0) free.1 last,
       )
     where
-      lower_on : (gs2 : List Placed) (hs2 : List Frame) → Climbs prog places l m.core next.core no_count g h gs2 hs2 → IsOn prog places l m.core next.core g h
+      lower_on : (gs2 : List Placed) (hs2 : List Frame) → Climbs prog places to (segment_of x) m.core next.core no_count g h gs2 hs2 → IsOn prog places to (segment_of x) m.core next.core g h
       lower_on [] [] climb = climb.0
       lower_on [] (h2 ∷ hs2) climb = absurd climb
       lower_on (g2 ∷ gs2) [] climb = absurd climb

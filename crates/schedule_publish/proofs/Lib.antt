@@ -1,5 +1,6 @@
 mod Bases
 mod Based
+mod Offsets
 mod Climbing
 mod Linked
 mod Callees
@@ -7,11 +8,9 @@ mod Stood
 mod Regions
 mod Deep
 mod Ready
-mod Empty
 mod Seats
 mod Levels
 mod Others
-mod Cells
 mod Shown
 mod Following
 mod Noting

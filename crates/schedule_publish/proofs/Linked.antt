@@ -11,7 +11,7 @@ use Rattle.frame_engine.specs.declared.activation.Frame.{Frame}
 use Rattle.frame_strand.specs.Standing.{IsCopy}
 use Rattle.schedule_workers.specs.declared.activation.Activation.{Activation}
 use Rattle.schedule_workers.specs.Scheduling.{counted_in}
-use Rattle.schedule_publish.specs.Linking.{AreLinks, IsActivation, IsFrameOf, IsLink, RegionsFit, counted_above, counted_of, frames_of, homeless, path_of, runner_below}
+use Rattle.schedule_publish.specs.Linking.{AreLinks, IsActivation, IsFrameOf, IsLink, RegionsFit, counted_above, counted_of, frames_of, path_of, runner_below}
 use Rattle.private_stack.specs.declared.pile.Pile.{Pile}
 
 -- ---- lists
@@ -44,11 +44,11 @@ path_next x n f at =
     ∙ (ap (λ (ns : List ℕ). x.base.path.items ++ ns) (map_last number (take n (frames_of x)) f)
     ∙ sym (append_assoc x.base.path.items (map number (take n (frames_of x))) ((f.made - 1) ∷ [])))
 
-module _ (worker : ℕ) (x : Pile) (n : ℕ) (f : Frame) (at : slice_get (frames_of x) n ≡ Some f) (a : Activation) (h : Frame) (copied : IsCopy (homeless f) h)
+module _ (worker : ℕ) (x : Pile) (n : ℕ) (f : Frame) (at : slice_get (frames_of x) n ≡ Some f) (a : Activation) (h : Frame) (copied : IsCopy f h)
     (is : a ≡ record { frame = h; counts = a.counts; callee = None; runner = Some worker; stalled_in = None })
     (none : (region : ℕ) → counted_in a region ≡ 0) (as_many : length a.counts.items ≡ length h.registers.items) where
-  copy : IsCopy (homeless f) a.frame
-  copy = subst (λ (g : Frame). IsCopy (homeless f) g) (sym (ap (λ (b : Activation). b.frame) is)) copied
+  copy : IsCopy f a.frame
+  copy = subst (λ (g : Frame). IsCopy f g) (sym (ap (λ (b : Activation). b.frame) is)) copied
 
   long : length a.counts.items ≡ length f.registers.items
   long = as_many ∙ ap (λ zs. length zs) copied.registers
@@ -72,7 +72,7 @@ module _ (worker : ℕ) (x : Pile) (n : ℕ) (f : Frame) (at : slice_get (frames
     frame = f;
     there = at;
     is = record {
-      copy = subst (λ (e : Frame). IsCopy (homeless f) e) (ap (λ (c : Activation). c.frame) (sym only)) copy;
+      copy = subst (λ (e : Frame). IsCopy f e) (ap (λ (c : Activation). c.frame) (sym only)) copy;
       callee = ap (λ (c : Activation). c.callee) only ∙ ap (λ (c : Activation). c.callee) is;
       runner = ap (λ (c : Activation). c.runner) only ∙ ap (runner_below worker) (sym next);
       counts = λ region. (let z = none region in let s = counts region in let e : counted_in b region ≡ counted_of g.role region = omega (arith, z, s) in e ∙ ap (λ o. counted_above o region) (sym next));

@@ -1,6 +1,7 @@
 -- What a deep strand leaves of the frames that are not its own.
 use Rattle.std.proofs.Common.{◌≡◌, ◌≢◌, ◌∙◌, ◌-◌, ℕ, zero, suc, List, [], ◌∷◌, Option, Some, None, inl, inr, refl, sym, ap, subst}
-use Rattle.semantics.specs.Paths.{Path}
+use Rattle.semantics.specs.Paths.{Path, Under}
+use Rattle.semantics.specs.Tree.{Tree}
 use Rattle.semantics.specs.Frames.{Frame}
 use Rattle.semantics.specs.State.{State, children_within, outside, outside_role}
 use Rattle.semantics.specs.Counts.{count_of}
@@ -10,38 +11,47 @@ use Rattle.program.specs.declared.function.Program.{Program}
 use Rattle.frame_engine.specs.declared.activation.Frame as machine
 use Rattle.frame_engine.specs.declared.activation.Places.{Places}
 use Rattle.frame_engine.specs.Shows.{Layout}
+use Rattle.schedule_workers.proofs.Pointing.{not_above}
 use Rattle.laws_stacks.specs.Deep.{Placed}
 use Rattle.laws_stacks.specs.Law.{no_count}
-use Rattle.schedule_publish.proofs.Climbing.{Climbs, IsOff, IsOn}
+use Rattle.private_stack.specs.Layouts.{Segment}
+use Rattle.schedule_publish.proofs.Climbing.{Climbs, IsOff, IsOn, NoneIs}
 
 alike : (s t : State) (q : Path) (r n : ℕ) → ((j : ℕ) → outside r (t.frames (j ∷ q)) ≡ outside r (s.frames (j ∷ q))) → children_within t q n r ≡ children_within s q n r
 alike s t q r zero same = refl
 alike s t q r (suc n) same = rw (same n, alike s t q r n same) refl
 
-module _ (prog : Program) (places : Places) (l : Layout) (old new : State) where
+module _ (prog : Program) (places : Places) (k : Layout) (s : Segment) (old new : State) where
   -- no child of another frame is one of the upper ones
-  ups_off : (older : ℕ → ℕ) (t : Placed) (f : machine.Frame) (gs : List Placed) (hs : List machine.Frame) → Climbs prog places l old new older t f gs hs → (j : ℕ) (q : Path) → IsOff q t gs → t.path ≢ j ∷ q → IsOff (j ∷ q) t gs
+  ups_off : (older : ℕ → ℕ) (t : Placed) (f : machine.Frame) (gs : List Placed) (hs : List machine.Frame) → Climbs prog places k s old new older t f gs hs → (j : ℕ) (q : Path) → IsOff q t gs → t.path ≢ j ∷ q → IsOff (j ∷ q) t gs
   ups_off older t f [] hs climbs j q off away = away
   ups_off older t f (g ∷ gs) [] climbs j q off away = absurd climbs
   ups_off older t f (g ∷ gs) (h ∷ hs) (on, up, count, more) j q off away =
       (away, ups_off no_count g h gs hs more j q off.1 (λ e. (let both : (f.made - 1) ∷ t.path ≡ j ∷ q = sym up.path ∙ e in let same : t.path ≡ q = cc in off.0 same)))
 
   -- and no frame that lived, but for the base
-  pub living_off : (older : ℕ → ℕ) (t : Placed) (f : machine.Frame) (gs : List Placed) (hs : List machine.Frame) → Climbs prog places l old new older t f gs hs → (q : Path) (was : Frame) → old.frames q ≡ Some was → t.path ≢ q → IsOff q t gs
+  pub living_off : (older : ℕ → ℕ) (t : Placed) (f : machine.Frame) (gs : List Placed) (hs : List machine.Frame) → Climbs prog places k s old new older t f gs hs → (q : Path) (was : Frame) → old.frames q ≡ Some was → t.path ≢ q → IsOff q t gs
   living_off older t f [] hs climbs q was is away = away
   living_off older t f (g ∷ gs) [] climbs q was is away = absurd climbs
   living_off older t f (g ∷ gs) (h ∷ hs) (on, up, count, more) q was is away =
       (away, living_off no_count g h gs hs more q was is (λ e. (let none : None ≡ Some was = sym up.fresh ∙ (ap old.frames e ∙ is) in cc)))
 
-  low_on : (older : ℕ → ℕ) (t : Placed) (f : machine.Frame) (gs : List Placed) (hs : List machine.Frame) → Climbs prog places l old new older t f gs hs → IsOn prog places l old new t f
+  -- nor does one of the upper ones stand above a frame that lived
+  pub none_above : (tree : Tree old) (older : ℕ → ℕ) (t : Placed) (f : machine.Frame) (gs : List Placed) (hs : List machine.Frame) → Climbs prog places k s old new older t f gs hs → (q : Path) (was : Frame) → old.frames q ≡ Some was →
+      NoneIs (λ p. Under p q) gs
+  none_above tree older t f [] hs climbs q was is = tt
+  none_above tree older t f (g ∷ gs) [] climbs q was is = absurd climbs
+  none_above tree older t f (g ∷ gs) (h ∷ hs) (on, up, count, more) q was is = (not_above old tree g.path q up.fresh was is, none_above tree no_count g h gs hs more q was is)
+
+  low_on : (older : ℕ → ℕ) (t : Placed) (f : machine.Frame) (gs : List Placed) (hs : List machine.Frame) → Climbs prog places k s old new older t f gs hs → IsOn prog places k s old new t f
   low_on older t f [] [] climbs = climbs.0
   low_on older t f [] (h ∷ hs) climbs = absurd climbs
   low_on older t f (g ∷ gs) [] climbs = absurd climbs
   low_on older t f (g ∷ gs) (h ∷ hs) climbs = climbs.0
 
-  module _ (older : ℕ → ℕ) (t : Placed) (f : machine.Frame) (gs : List Placed) (hs : List machine.Frame) (climbs : Climbs prog places l old new older t f gs hs) (was : Frame) (stood : old.frames t.path ≡ Some was) (role : t.frame.role ≡ was.role)
+  module _ (older : ℕ → ℕ) (t : Placed) (f : machine.Frame) (gs : List Placed) (hs : List machine.Frame) (climbs : Climbs prog places k s old new older t f gs hs) (was : Frame) (stood : old.frames t.path ≡ Some was) (role : t.frame.role ≡ was.role)
       (elsewhere : (q : Path) → IsOff q t gs → new.frames q ≡ old.frames q) where
-    pub on_base : IsOn prog places l old new t f
+    pub on_base : IsOn prog places k s old new t f
     on_base = low_on older t f gs hs climbs
 
     outside_same : (r j : ℕ) (q : Path) → IsOff q t gs → outside r (new.frames (j ∷ q)) ≡ outside r (old.frames (j ∷ q))

@@ -29,7 +29,10 @@ use Rattle.schedule_commit.proofs.Sound.{never_traps}
 use Rattle.laws_stacks.specs.Deep.{DeepStrand, IsDeep, Placed, is_advanced, is_called, is_detached, is_filled, is_loaded, is_past_sync, is_reattached, is_returned}
 use Rattle.laws_stacks.specs.Law.{absorbed}
 use Rattle.laws_stacks.proofs.Law.{deep_strands_are_steps}
+use Rattle.private_stack.specs.Layouts.{end_above}
+use Rattle.private_stack.specs.OwnCells.{segment_of}
 use Rattle.private_stack.specs.Shown.{ShowsBelow}
+use Rattle.private_stack.proofs.Over.{low_end}
 use Rattle.private_stack.specs.declared.pile.Pile.{Pile}
 use Rattle.schedule_publish.specs.Absorbing.{StandsDeep}
 use Rattle.schedule_publish.specs.Committing.{MayCount}
@@ -66,21 +69,34 @@ below_done prog _ (is_reattached d region g rest is act below waits) =
 below_done prog _ (is_returned d result g rest k register is act below waits) =
     let h = below_done prog d is in let n : length d.below ≡ suc (length rest) = ap (λ (xs : List Placed). length xs) below in omega (arith, h, n)
 
-pub as_many_below : (l : Layout) (prog : Program) (places : Places) (gs : List Placed) (fs : List Frame) → ShowsBelow l prog places gs fs → length gs ≡ length fs
-as_many_below l prog places [] [] shown = refl
-as_many_below l prog places [] (f ∷ fs) shown = absurd shown
-as_many_below l prog places (g ∷ gs) [] shown = absurd shown
-as_many_below l prog places (g ∷ gs) (f ∷ fs) shown = ap suc (as_many_below l prog places gs fs shown.2)
+pub as_many_below : (l : Layout) (prog : Program) (places : Places) (start : ℕ) (gs : List Placed) (fs : List Frame) → ShowsBelow l prog places start gs fs → length gs ≡ length fs
+as_many_below l prog places start [] [] shown = refl
+as_many_below l prog places start [] (f ∷ fs) shown = absurd shown
+as_many_below l prog places start (g ∷ gs) [] shown = absurd shown
+as_many_below l prog places start (g ∷ gs) (f ∷ fs) shown = ap suc (as_many_below l prog places start gs fs shown.2)
 
-module _ (prog : Program) (places : Places) (k : Run) (x : Pile) (worker slot : ℕ) (fits : FitsDeep k worker x slot) (st : StandsDeep prog places k) (d : IsDeepStrand prog places k worker x st.machine) where
+module _ (prog : Program) (places : Places) (k : Run) (x : Pile) (worker slot : ℕ) (fits : FitsDeep prog k worker x slot) (st : StandsDeep prog places k) (d : IsDeepStrand prog places k worker x st.machine) where
   abbrev m : Machine
   m = st.machine
 
-  pub within_row : (a : ℤ) → (log_of x.cells).writes a ≢ None → IsTrue (is_cell k.cells.cells.items a)
+  pub within_row : (a : ℤ) → (log_of x.cells.log).writes a ≢ None → IsTrue (is_cell k.cells.cells.items a)
   within_row a written =
-      let (u, found) = some_change ((log_of x.cells).writes a) written in
-      let (c, inside, is_at) = d.shown.kept.written_there a u found in
+      let (u, found) = some_change ((log_of x.cells.log).writes a) written in
+      let (c, inside, is_at) = d.shown.kept.log.written_there a u found in
       subst (λ (a : ℤ). IsTrue (is_cell k.cells.cells.items a)) (sym is_at) (st.shown.shows.cells.reached c inside)
+
+  -- where its own cells end
+  end_is : x.end ≡ end_above prog x.cells.start d.strand.top d.strand.below
+  end_is = d.shown.end
+
+  pub own_begins : x.cells.start ≤ x.end
+  own_begins =
+      let same = end_is in
+      let low = low_end _ prog (segment_of x.cells) d.strand.base d.can.apart d.can.outside d.can.fresh d.can.small d.strand.top d.strand.below in
+      omega (arith, same, low)
+
+  pub own_ends : x.end ≤ x.cells.start + length x.cells.own.items
+  own_ends = let same = end_is in let room = d.shown.room in omega (arith, same, room)
 
   pub counted_after : x.done + m.core.done + 2 < 9223372036854775808
   counted_after =
@@ -100,7 +116,7 @@ module _ (prog : Program) (places : Places) (k : Run) (x : Pile) (worker slot : 
       let done = st.shown.shows.done in
       let same = d.shown.done in
       let low = below_done prog d.strand d.is in
-      let one = as_many_below _ prog places d.strand.below (reverse x.below.items) d.shown.below in
+      let one = as_many_below _ prog places x.cells.start d.strand.below (reverse x.below.items) d.shown.below in
       let two = length-reverse x.below.items in
       omega (arith, after, made, done, low, one, two, same)
 
@@ -122,7 +138,7 @@ module _ (prog : Program) (places : Places) (k : Run) (x : Pile) (worker slot : 
 
   module _ (moves : ℕ) (text : TextFits prog places moves) where
     pub above_fit : RegionsFit x
-    above_fit = regions_fit _ prog places moves text d.strand d.is x d.shown
+    above_fit = regions_fit _ prog places (segment_of x.cells) moves text d.strand d.is x d.shown
 
     pub may_count : (a : Activation) → frame_at k.cactus slot ≡ Some a → MayCount x a
     may_count a found = record {
@@ -130,7 +146,7 @@ module _ (prog : Program) (places : Places) (k : Run) (x : Pile) (worker slot : 
           let node = fits.node in
           let same = frame_found k.cactus slot node fits.stands a found in
           let own = st.shown.agrees.nodes slot node fits.stands in
-          let low = base_regions _ prog places moves text d.strand d.is x d.shown (length node.frame.counts.items) node.frame.frame.function.0 (ap (λ (z : FunctionId). z.0) fits.frame.function) own.counts f r n at_f is_child in
+          let low = base_regions _ prog places (segment_of x.cells) moves text d.strand d.is x d.shown (length node.frame.counts.items) node.frame.frame.function.0 (ap (λ (z : FunctionId). z.0) fits.frame.function) own.counts f r n at_f is_child in
           subst (λ (b : Activation). r.0 < length b.counts.items) same low;
       room = counts_room a found;
     }
@@ -141,7 +157,7 @@ module _ (prog : Program) (places : Places) (k : Run) (x : Pile) (worker slot : 
       let node = fits.node in
       let same = frame_found k.cactus slot node fits.stands a found in
       let own = (st.shown.agrees.nodes slot node fits.stands).fits in
-      let low = lowest_frame _ prog places d.strand d.is x d.shown f at in
+      let low = lowest_frame _ prog places (segment_of x.cells) d.strand d.is x d.shown f at in
       let (y, there) = there_is prog.functions node.frame.frame.function.0 own.there in
       let one : f.function.0 ≡ node.frame.frame.function.0 = sym low.shown.function ∙ ((as_base prog d.strand d.is).function ∙ (d.shown.loaded.function ∙ ap (λ (z : FunctionId). z.0) (sym fits.frame.function))) in
       low.fits.registers y (ap (slice_get prog.functions) one ∙ there) ∙ (sym (own.registers y there) ∙ ap (λ (b : Activation). length b.frame.registers.items) same)

@@ -22,6 +22,7 @@ use Rattle.frame_engine.specs.declared.activation.Places.{Places}
 use Rattle.frame_engine.specs.Shows.{Layout}
 use Rattle.frame_engine.proofs.Turns.{there_is}
 use Rattle.schedule_workers.specs.Going.{TextFits}
+use Rattle.private_stack.specs.Layouts.{Segment}
 use Rattle.private_stack.specs.Shown.{ShowsBelow, ShowsOn, ShowsPile}
 use Rattle.private_stack.specs.declared.pile.Pile.{Pile}
 use Rattle.schedule_publish.specs.Linking.{RegionsFit, frames_of}
@@ -154,42 +155,42 @@ turned : (fs : List Frame) (f : Frame) (more : List Frame) → FitBelow f fs →
 turned [] f more below above = above
 turned (g ∷ fs) f more below above = subst AllFit (sym (reverse_onto g fs (f ∷ more))) (turned fs g (f ∷ more) below.1 (below.0, above))
 
-child_fit : (l : Layout) (prog : Program) (places : Places) (t g : Placed) (ft fg : Frame) → ShowsOn l prog places t ft → ShowsOn l prog places g fg → IsRegionOf prog g.frame.function t.frame.role → IsFit fg ft
-child_fit l prog places t g ft fg top low region r n is =
+child_fit : (l : Layout) (prog : Program) (places : Places) (start : ℕ) (t g : Placed) (below lower : List Placed) (ft fg : Frame) → ShowsOn l prog places start t below ft → ShowsOn l prog places start g lower fg → IsRegionOf prog g.frame.function t.frame.role → IsFit fg ft
+child_fit l prog places start t g below lower ft fg top low region r n is =
     let (h, there) = there_is prog.functions fg.function.0 low.fits.there in
     let is_child : t.frame.role ≡ Child r.0 n.0 = top.shown.role ∙ ap role_of is in
     let small = subst (IsRegionOf prog g.frame.function) is_child region h (ap (slice_get prog.functions) low.shown.function ∙ there) in
     let long = low.fits.registers h there in
     omega (arith, small, long)
 
-fit_below : (l : Layout) (prog : Program) (places : Places) (t : Placed) (gs : List Placed) (f : Frame) (fs : List Frame) → ShowsOn l prog places t f → ShowsBelow l prog places gs fs → RegionsIn prog t gs → FitBelow f fs
-fit_below l prog places t [] f [] top below are = tt
-fit_below l prog places t [] f (g ∷ fs) top below are = absurd below
-fit_below l prog places t (g ∷ gs) f [] top below are = absurd below
-fit_below l prog places t (g ∷ gs) f (h ∷ fs) top below are =
-    (child_fit l prog places t g f h top below.0 are.0, fit_below l prog places g gs h fs below.0 below.2 are.1)
+fit_below : (l : Layout) (prog : Program) (places : Places) (start : ℕ) (t : Placed) (gs : List Placed) (f : Frame) (fs : List Frame) → ShowsOn l prog places start t gs f → ShowsBelow l prog places start gs fs → RegionsIn prog t gs → FitBelow f fs
+fit_below l prog places start t [] f [] top below are = tt
+fit_below l prog places start t [] f (g ∷ fs) top below are = absurd below
+fit_below l prog places start t (g ∷ gs) f [] top below are = absurd below
+fit_below l prog places start t (g ∷ gs) f (h ∷ fs) top below are =
+    (child_fit l prog places start t g (g ∷ gs) gs f h top below.0 are.0, fit_below l prog places start g gs h fs below.0 below.2 are.1)
 
-pub regions_fit : (l : Layout) (prog : Program) (places : Places) (moves : ℕ) → TextFits prog places moves → (d : DeepStrand) → IsDeep prog d → (x : Pile) → ShowsPile l prog places d x → RegionsFit x
-regions_fit l prog places moves text d is x shown n f g r continuation at_f at_g is_child =
-    let near = fit_below l prog places d.top d.below x.top (reverse x.below.items) shown.top shown.below (regions_in prog places moves text d is) in
+pub regions_fit : (l : Layout) (prog : Program) (places : Places) (s : Segment) (moves : ℕ) → TextFits prog places moves → (d : DeepStrand) → IsDeep prog d → (x : Pile) → ShowsPile l prog places s d x → RegionsFit x
+regions_fit l prog places s moves text d is x shown n f g r continuation at_f at_g is_child =
+    let near = fit_below l prog places s.start d.top d.below x.top (reverse x.below.items) shown.top shown.below (regions_in prog places moves text d is) in
     let all : AllFit (frames_of x) = subst (λ (fs : List Frame). AllFit (fs ++ x.top ∷ [])) (reverse-reverse x.below.items) (turned (reverse x.below.items) x.top [] near tt) in
     all_at (frames_of x) all n f g at_f at_g r continuation is_child
 
 -- ---- the base
 
 -- the machine's lowest frame is the base's
-lowest : (l : Layout) (prog : Program) (places : Places) (t : Placed) (gs : List Placed) (f : Frame) (fs more : List Frame) → ShowsOn l prog places t f → ShowsBelow l prog places gs fs → (y : Frame) →
-    slice_get (reverse fs ++ f ∷ more) 0 ≡ Some y → ShowsOn l prog places (lowest_of t gs) y
-lowest l prog places t [] f [] more top below y e = subst (λ (z : Frame). ShowsOn l prog places t z) (same_Some f y e) top
-lowest l prog places t [] f (h ∷ fs) more top below y e = absurd below
-lowest l prog places t (g ∷ gs) f [] more top below y e = absurd below
-lowest l prog places t (g ∷ gs) f (h ∷ fs) more top below y e =
-    lowest l prog places g gs h fs (f ∷ more) below.0 below.2 y (ap (λ (xs : List Frame). slice_get xs 0) (sym (reverse_onto h fs (f ∷ more))) ∙ e)
+lowest : (l : Layout) (prog : Program) (places : Places) (start : ℕ) (t : Placed) (gs : List Placed) (f : Frame) (fs more : List Frame) → ShowsOn l prog places start t gs f → ShowsBelow l prog places start gs fs → (y : Frame) →
+    slice_get (reverse fs ++ f ∷ more) 0 ≡ Some y → ShowsOn l prog places start (lowest_of t gs) [] y
+lowest l prog places start t [] f [] more top below y e = subst (λ (z : Frame). ShowsOn l prog places start t [] z) (same_Some f y e) top
+lowest l prog places start t [] f (h ∷ fs) more top below y e = absurd below
+lowest l prog places start t (g ∷ gs) f [] more top below y e = absurd below
+lowest l prog places start t (g ∷ gs) f (h ∷ fs) more top below y e =
+    lowest l prog places start g gs h fs (f ∷ more) below.0 below.2 y (ap (λ (xs : List Frame). slice_get xs 0) (sym (reverse_onto h fs (f ∷ more))) ∙ e)
 
-pub lowest_frame : (l : Layout) (prog : Program) (places : Places) (d : DeepStrand) → IsDeep prog d → (x : Pile) → ShowsPile l prog places d x → (y : Frame) → slice_get (frames_of x) 0 ≡ Some y →
-    ShowsOn l prog places (lowest_of d.top d.below) y
-lowest_frame l prog places d is x shown y at =
-    lowest l prog places d.top d.below x.top (reverse x.below.items) [] shown.top shown.below y
+pub lowest_frame : (l : Layout) (prog : Program) (places : Places) (s : Segment) (d : DeepStrand) → IsDeep prog d → (x : Pile) → ShowsPile l prog places s d x → (y : Frame) → slice_get (frames_of x) 0 ≡ Some y →
+    ShowsOn l prog places s.start (lowest_of d.top d.below) [] y
+lowest_frame l prog places s d is x shown y at =
+    lowest l prog places s.start d.top d.below x.top (reverse x.below.items) [] shown.top shown.below y
     (ap (λ (fs : List Frame). slice_get (fs ++ x.top ∷ []) 0) (reverse-reverse x.below.items) ∙ at)
 
 head_there : (fs : List Frame) (y : Frame) → slice_get fs 1 ≡ Some y → (x : Frame) × (slice_get fs 0 ≡ Some x)
@@ -197,13 +198,13 @@ head_there [] y e = absurd cc
 head_there (f ∷ fs) y e = (f, refl)
 
 -- so its regions are among those that it counts
-pub base_regions : (l : Layout) (prog : Program) (places : Places) (moves : ℕ) → TextFits prog places moves → (d : DeepStrand) → IsDeep prog d → (x : Pile) → ShowsPile l prog places d x →
+pub base_regions : (l : Layout) (prog : Program) (places : Places) (s : Segment) (moves : ℕ) → TextFits prog places moves → (d : DeepStrand) → IsDeep prog d → (x : Pile) → ShowsPile l prog places s d x →
     (counts function : ℕ) → function ≡ x.base.frame.function.0 → ((h : Function) → slice_get prog.functions function ≡ Some h → counts ≡ length h.registers) →
     (f : Frame) (r : RegisterId) (n : BlockId) → slice_get (frames_of x) 1 ≡ Some f → f.role ≡ role.Child r n → r.0 < counts
-base_regions l prog places moves text d is x shown counts function same many f r n at_f is_child =
+base_regions l prog places s moves text d is x shown counts function same many f r n at_f is_child =
     let (base, at_base) = head_there (frames_of x) f at_f in
-    let small = regions_fit l prog places moves text d is x shown 0 base f r n at_base at_f is_child in
-    let low = lowest_frame l prog places d is x shown base at_base in
+    let small = regions_fit l prog places s moves text d is x shown 0 base f r n at_base at_f is_child in
+    let low = lowest_frame l prog places s d is x shown base at_base in
     let (h, there) = there_is prog.functions base.function.0 low.fits.there in
     let long = low.fits.registers h there in
     let one : function ≡ base.function.0 = same ∙ (sym shown.loaded.function ∙ (sym (as_base prog d is).function ∙ low.shown.function)) in

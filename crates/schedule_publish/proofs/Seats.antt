@@ -5,6 +5,7 @@ use Rattle.std.proofs.lemmas.Bool.Decides.{eqb_tells}
 use Rattle.std.proofs.lemmas.List.{reverse-append, reverse-reverse}
 use Rattle.std.proofs.lemmas.Option.{same_Some}
 use Rattle.semantics.specs.Paths.{Path}
+use Rattle.semantics.specs.Cells.{Local}
 use Rattle.semantics.specs.Frames as frames
 use Rattle.semantics.specs.Frames.{OnCall}
 use Rattle.semantics.specs.Counts.{count_of}
@@ -12,7 +13,6 @@ use Rattle.semantics.specs.Events.{Machine}
 use Rattle.program.specs.declared.identifier.FunctionId.{FunctionId}
 use Rattle.program.specs.declared.function.Function.{Function}
 use Rattle.program.specs.declared.function.Program.{Program}
-use Rattle.program.specs.declared.identifier.ObjectName.TheVariants as object
 use Rattle.frame.specs.declared.frame.Role.{Role}
 use Rattle.frame.specs.declared.frame.Role.TheVariants as role
 use Rattle.frame.specs.Reading.{role_of, wait_of}
@@ -26,25 +26,29 @@ use Rattle.frame_engine.specs.Activation.{FrameFits, ShowsFrame, allocas_of, bas
 use Rattle.frame_engine.specs.Fits.{PlaceFits}
 use Rattle.frame_engine.specs.Shows.{Layout, ShowsBases, ShowsRegisters}
 use Rattle.frame_engine.specs.Words.{bases}
+use Rattle.frame_strand.specs.Standing.{IsCopy}
+use Rattle.frame_strand.proofs.Beginning.{copy_fits, copy_shows}
 use Rattle.schedule_workers.specs.declared.activation.Activation.{Activation}
 use Rattle.schedule_workers.specs.declared.run.Run.{Run}
-use Rattle.schedule_workers.specs.Going.{TextFits}
-use Rattle.schedule_workers.specs.Layouts.{alloca_at, alloca_cells, layout_of, number_in, own_at, own_cells}
+use Rattle.schedule_workers.specs.declared.run.Block.{Block}
+use Rattle.schedule_workers.specs.Layouts.{alloca_at, number_in, own_at}
+use Rattle.schedule_workers.specs.Lent.{IsFree}
 use Rattle.schedule_workers.specs.Scheduling.{counted_in, hand_of}
-use Rattle.schedule_workers.specs.Shown.{HasBlock, IsShown, ShowsAt, ShowsNode, place_of}
+use Rattle.schedule_workers.specs.Shown.{HasBlock, IsBlockOf, IsPlaced, IsShown, LiesWithin, ShowsAt, ShowsNode, cells_in, place_of}
 use Rattle.schedule_workers.proofs.Handing.{own_hand}
 use Rattle.schedule_workers.proofs.Lengths.{not_there}
 use Rattle.schedule_workers.proofs.Views.{hand_seen, named_at_place}
 use Rattle.laws_stacks.specs.Deep.{Placed}
 use Rattle.laws_stacks.specs.Law.{counts_in, no_count}
 use Rattle.schedule_publish.specs.Committing.{IsBase, runner_under}
-use Rattle.schedule_publish.specs.Fitting.{FitsDeep}
+use Rattle.schedule_publish.specs.Fitting.{FitsDeep, segment_block}
 use Rattle.schedule_publish.specs.Linking.{IsActivation, counted_above, counted_of, frames_of, runner_below}
 use Rattle.schedule_publish.proofs.Bases.{IsAsBase}
-use Rattle.schedule_publish.proofs.Climbing.{IsNext, IsOn}
+use Rattle.schedule_publish.proofs.Climbing.{IsNext, IsOn, LiesIn}
 use Rattle.schedule_publish.proofs.Deep.{IsDeepStrand}
-use Rattle.schedule_publish.proofs.Empty.{homeless_fits, homeless_shown, needs_none, nowhere, own_none}
 use Rattle.schedule_publish.proofs.Linked.{head_of}
+use Rattle.private_stack.specs.OwnCells.{segment_of}
+use Rattle.private_stack.specs.declared.cells.PileCells.{PileCells}
 use Rattle.private_stack.specs.declared.pile.Pile.{Pile}
 
 -- ---- small things
@@ -67,13 +71,10 @@ unnamed l places q None None e h = refl
 unnamed l places q None (Some node) e h = absurd h
 unnamed l places q (Some g) n e h = absurd cc
 
-module _ (prog : Program) (places : Places) (k : Run) (m : Machine) (shown : IsShown prog places m k) (worker : ℕ) where
-  abbrev l : Layout
-  l = layout_of prog places k.cactus m.core
-
+module _ (prog : Program) (places : Places) (k : Run) (m : Machine) (shown : IsShown prog places m k) (worker : ℕ) (to : Layout) where
   pub record Seat (above : Option Frame) (older : ℕ → ℕ) (t : Placed) (f : Frame) (s : ℕ) (path : List ℕ) (a : Activation) : Type 0 where
     pub place : path ≡ reverse t.path
-    pub shows : ShowsNode (layout_of prog places k.cactus m.core) places t.path t.frame a.frame
+    pub shows : ShowsNode to places t.path t.frame a.frame
     pub fits : FrameFits prog a.frame
     pub waits : a.frame.waits ≡ f.waits
     pub callee : a.callee ≡ None
@@ -81,22 +82,33 @@ module _ (prog : Program) (places : Places) (k : Run) (m : Machine) (shown : IsS
     pub counts : (r : ℕ) → counted_in a r ≡ counted_above above r + older r
     pub as_many : (g : Function) → slice_get prog.functions a.frame.function.0 ≡ Some g → length a.counts.items ≡ length g.registers
     pub unheld : (v : ℕ) → worker ≢ v → hand_of k.hands.items v ≢ Some s
-    pub cells : (i : ℕ) → alloca_cells prog (Some t.frame) i ≡ alloca_cells prog (m.core.frames t.path) i
-    pub at : (i : ℕ) → own_at a.frame.role (a.frame.home +ℤ number_in (allocas_of places a.frame.function.0) i) ≡ alloca_at places (named k.cactus (reverse t.path)) i
+    pub at : (i : ℕ) → own_at a.frame.role (a.frame.home +ℤ number_in (allocas_of places a.frame.function.0) i) ≡ to.at (Local t.path i)
     pub block : HasBlock prog k.blocks.items k.lent s a.frame
 
   -- ---- a frame above the base
 
-  module _ (moves : ℕ) (text : TextFits prog places moves) where
-    pub seat_up : (m2 : Machine) (t g : Placed) (f h : Frame) (above : Option Frame) (s : ℕ) (path below : List ℕ) (a : Activation) → IsOn prog places l m.core m2.core g h → IsNext prog places l m.core m2.core t g f → IsActivation worker h above a →
-        below ≡ reverse t.path → path ≡ below ++ (f.made - 1) ∷ [] → node_at k.cactus s ≡ None → Seat above no_count g h s path a
-    seat_up m2 t g f h above s path below a on next is under path_is free =
-        let fits = homeless_fits prog places moves text g.frame next.nothing l g.path h a.frame on.shows.shown is.copy on.shows.fits in
-        let nobody : named k.cactus (reverse g.path) ≡ None = unnamed l places g.path _ _ next.fresh (shown.shows.frames g.path) in
+  module _ (x : PileCells) (free : IsFree prog k (segment_block x)) where
+    lent_block : (h : Frame) (s : ℕ) (a : Frame) → IsCopy h a → LiesIn prog (segment_of x) h → 0 < cells_in (slice_get prog.functions a.function.0) → (b : Block) × IsPlaced k.blocks.items k.lent s b × IsBlockOf prog a b
+    lent_block h s a copy lies some =
+        let low = lies.after in
+        let same : cells_in (slice_get prog.functions a.function.0) ≡ cells_in (slice_get prog.functions h.function.0) = ap (λ (y : FunctionId). cells_in (slice_get prog.functions y.0)) copy.function in
+        let high = lies.before in
+        let within : LiesWithin k.lent (segment_block x) = (free.vacant (omega (arith, some, same, low, high))).within in
+        let from = within.0 in
+        let to_end = within.1 in (
+          record { start = lies.home; cells = cells_in (slice_get prog.functions a.function.0) },
+          inr (omega (arith, from, low), omega (arith, same, high, to_end)),
+          record { home = copy.home ∙ lies.is; room = omega arith },
+        )
+
+    pub seat_up : (m2 : Machine) (t g : Placed) (f h : Frame) (above : Option Frame) (s : ℕ) (path below : List ℕ) (a : Activation) → IsOn prog places to (segment_of x) m.core m2.core g h → IsNext prog places to (segment_of x) m.core m2.core t g f h →
+        IsActivation worker h above a → below ≡ reverse t.path → path ≡ below ++ (f.made - 1) ∷ [] → node_at k.cactus s ≡ None → Seat above no_count g h s path a
+    seat_up m2 t g f h above s path below a on next is under path_is free_slot =
+        let fits = copy_fits h a.frame is.copy prog on.shows.fits in
         record {
           place = path_is ∙ (ap (λ (ns : List ℕ). ns ++ (f.made - 1) ∷ []) under ∙ (sym (reverse-append ((f.made - 1) ∷ []) t.path) ∙ ap reverse (sym next.path)));
           shows = record {
-            shown = homeless_shown prog places moves text g.frame next.nothing l g.path h a.frame on.shows.shown is.copy;
+            shown = copy_shows h a.frame is.copy to places g.path g.frame on.shows.shown;
             waits = on.shows.waits ∙ ap wait_of (sym is.copy.waits);
           };
           fits = fits;
@@ -105,17 +117,18 @@ module _ (prog : Program) (places : Places) (k : Run) (m : Machine) (shown : IsS
           runner = is.runner;
           counts = λ r. (let c = is.counts r in omega (arith, c));
           as_many = λ y there. is.as_many ∙ (ap (λ zs. length zs) (sym is.copy.registers) ∙ fits.registers y there);
-          unheld = λ v differ e. not_there k.cactus s free (shown.agrees.held v s e);
-          cells = λ i. own_none prog places moves text g.frame next.nothing i ∙ sym (ap (λ o. alloca_cells prog o i) next.fresh);
-          at = λ i. nowhere prog places moves text g.frame next.nothing l g.path h a.frame on.shows.shown is.copy i ∙ sym (ap (λ o. alloca_at places o i) nobody);
-          block = needs_none prog places moves text g.frame next.nothing l g.path h a.frame on.shows.shown is.copy k.blocks.items k.lent s;
+          unheld = λ v differ e. not_there k.cactus s free_slot (shown.agrees.held v s e);
+          at = λ i. (λ j. own_at (is.copy.role j) (is.copy.home j +ℤ number_in (allocas_of places (ap (λ (y : FunctionId). y.0) is.copy.function j)) i)) ∙ next.at i;
+          block = λ body some. lent_block h s a.frame is.copy (next.lies (sym is.copy.role ∙ body)) some;
         }
 
   -- ---- the base
 
-  module _ (slot : ℕ) (x : Pile) (fits : FitsDeep k worker x slot) (within : worker < length k.hands.items) (d : IsDeepStrand prog places k worker x m) (callee_none : fits.node.frame.callee ≡ None)
+  module _ (slot : ℕ) (x : Pile) (fits : FitsDeep prog k worker x slot) (within : worker < length k.hands.items) (d : IsDeepStrand prog places k worker x m) (callee_none : fits.node.frame.callee ≡ None)
       (base : Activation) (is : IsBase x fits.node.frame base) (low : Placed) (f : Frame) (hs : List Frame) (all : frames_of x ≡ f ∷ hs) (path : low.path ≡ d.strand.base.path) (like : IsAsBase d.strand.base low) (m2 : Machine)
-      (on : IsOn prog places l m.core m2.core low f) where
+      (on : IsOn prog places to (segment_of x.cells) m.core m2.core low f) (loaded : ShowsFrame to places d.strand.base.path d.strand.base.frame x.base.frame)
+      (stays : (i : ℕ) → to.at (Local low.path i) ≡ alloca_at places (named k.cactus (reverse low.path)) i)
+    where
     abbrev node : Node Activation
     node = fits.node
 
@@ -139,9 +152,6 @@ module _ (prog : Program) (places : Places) (k : Run) (m : Machine) (shown : IsS
       where
         hand_here : m.hands worker ≡ Some (place_of node)
         hand_here = shown.shows.hands worker ∙ hand_seen k.cactus k.hands.items worker slot node fits.hand fits.stands
-
-    stood : m.core.frames low.path ≡ Some d.strand.base.frame
-    stood = ap m.core.frames path ∙ d.fits.runs.frame
 
     named_low : named k.cactus (reverse low.path) ≡ Some node
     named_low = ap (λ (q : Path). named k.cactus (reverse q)) same_place ∙ named_at_place k.cactus shown.agrees.tree slot node fits.stands
@@ -167,7 +177,7 @@ module _ (prog : Program) (places : Places) (k : Run) (m : Machine) (shown : IsS
     role_low : low.frame.role ≡ role_of base.frame.role
     role_low = like.role ∙ (d.shown.loaded.role ∙ ap role_of (sym fits.frame.role ∙ sym (ap (λ (y : Frame). y.role) is.went)))
 
-    frame_shown : ShowsFrame l places low.path low.frame base.frame
+    frame_shown : ShowsFrame to places low.path low.frame base.frame
     frame_shown = record {
       function = function_low ∙ sym function;
       block = on.shows.shown.block ∙ ap (λ (y : Place). y.block.0) (sym place_f);
@@ -175,10 +185,10 @@ module _ (prog : Program) (places : Places) (k : Run) (m : Machine) (shown : IsS
       made = on.shows.shown.made ∙ sym (ap (λ (y : Frame). y.made) is.went ∙ ap (λ (y : Frame). y.made) frame_is);
       role = role_low;
       depth = ap (λ (q : Path). length q) path ∙ (d.shown.loaded.depth ∙ (sym fits.frame.depth ∙ sym (ap (λ (y : Frame). y.depth) is.went)));
-      bases = subst (λ (q : Path). ShowsBases l (bases_in places base.frame) q) (sym like.home)
-          (subst (λ b. ShowsBases l b d.strand.base.frame.home) (ap (bases_in places) (sym is.went))
-          (subst (λ b. ShowsBases l b d.strand.base.frame.home) (λ i. bases places.globals (allocas_of places ((sym fits.frame.function i).0)) (sym fits.frame.home i)) d.shown.loaded.bases));
-      registers = subst (ShowsRegisters l low.frame.registers) (sym registers_f) on.shows.shown.registers;
+      bases = subst (λ (q : Path). ShowsBases to (bases_in places base.frame) q) (sym like.home)
+          (subst (λ b. ShowsBases to b d.strand.base.frame.home) (ap (bases_in places) (sym is.went))
+          (subst (λ b. ShowsBases to b d.strand.base.frame.home) (λ i. bases places.globals (allocas_of places ((sym fits.frame.function i).0)) (sym fits.frame.home i)) loaded.bases));
+      registers = subst (ShowsRegisters to low.frame.registers) (sym registers_f) on.shows.shown.registers;
     }
 
     pub seat_base : Seat (head_of hs) (count_of m.core d.strand.base.path) low f slot node.path.numbers base
@@ -204,8 +214,7 @@ module _ (prog : Program) (places : Places) (k : Run) (m : Machine) (shown : IsS
               omega (arith, was, own, now, up);
           as_many = λ y there. is.as_many ∙ before.counts y (ap (slice_get prog.functions) (sym function) ∙ there);
           unheld = λ v differ e. differ (own_hand prog places m k shown slot node fits.stands worker fits.hand within v e);
-          cells = λ i. (λ j. own_cells (like.role j) (frames.cells_of prog (like.function j) (object.Alloca (record { 0 = i })))) ∙ sym (ap (λ o. alloca_cells prog o i) stood);
-          at = λ i. ap (λ (y : Frame). own_at y.role (y.home +ℤ number_in (allocas_of places y.function.0) i)) is.went ∙ sym (ap (λ o. alloca_at places o i) named_low);
+          at = λ i. ap (λ (y : Frame). own_at y.role (y.home +ℤ number_in (allocas_of places y.function.0) i)) is.went ∙ (sym (ap (λ o. alloca_at places o i) named_low) ∙ sym (stays i));
           block = subst (λ (y : Frame). HasBlock prog k.blocks.items k.lent slot y) (sym is.went) (λ body some.
               let own = shown.agrees.blocks.owned slot node fits.stands body some in
               (own.0, own.1, record { home = own.2.home; room = own.2.room }));

@@ -1,5 +1,5 @@
 -- What a commit asks for, of a pile that is under way and fits a run that stands safely.
-use Rattle.std.proofs.Common.{◌≡◌, ◌≢◌, ◌∙◌, ◌+◌, ◌<◌, ℕ, ℤ, List, length, Option, Some, None, refl, sym, ap, subst, arith}
+use Rattle.std.proofs.Common.{◌≡◌, ◌≢◌, ◌∙◌, ◌+◌, ◌<◌, ◌≤◌, ℕ, ℤ, List, length, Option, Some, None, refl, sym, ap, subst, arith}
 use Rattle.std.specs.Prelude.{IsSome, IsTrue, slice_get}
 use Rattle.std.specs.Option.{option_map}
 use Rattle.std.proofs.Math.Logic.{∥∥₁_elim, ∥∥₁_map}
@@ -28,7 +28,7 @@ use Rattle.schedule_publish.specs.Linking.{AreLinks, RegionsFit, frames_of}
 use Rattle.schedule_publish.proofs.Deep.{IsDeepStrand, deep_strand}
 use Rattle.schedule_publish.proofs.Does.{does_deep, stalls_deep}
 use Rattle.schedule_publish.proofs.Following.{commit_follows}
-use Rattle.schedule_publish.proofs.Ready.{above_fit, frames_room, lowest_long, may_count, steps_room, within_row}
+use Rattle.schedule_publish.proofs.Ready.{above_fit, frames_room, lowest_long, may_count, own_begins, own_ends, steps_room, within_row}
 use Rattle.schedule_publish.proofs.Stood.{still_there}
 
 pub hand_within : (hands : List (Option ℕ)) (worker slot : ℕ) → hand_of hands worker ≡ Some slot → worker < length hands
@@ -44,9 +44,9 @@ committed_follows k new x worker slot mid links slots given adds same made =
     let did : IsCommitted (record k { cactus = mid }) new worker slot x slots = subst (λ (ss : List ℕ). IsCommitted (record k { cactus = mid }) new worker slot x ss) same made in
     subst (λ (f : Frames Activation). Follows k.cactus f) (sym did.cactus) (commit_follows k.cactus mid slot links slots adds.0 did.base adds.1)
 
-module _ (prog : Program) (places : Places) (moves : ℕ) (text : TextFits prog places moves) (k : Run) (x : Pile) (worker slot : ℕ) (fits : FitsDeep k worker x slot) (way : ∥ IsUnderWay prog places x ∥₁) (safe : ∥ StandsDeep prog places k ∥₁) where
+module _ (prog : Program) (places : Places) (moves : ℕ) (text : TextFits prog places moves) (k : Run) (x : Pile) (worker slot : ℕ) (fits : FitsDeep prog k worker x slot) (way : ∥ IsUnderWay prog places x ∥₁) (safe : ∥ StandsDeep prog places k ∥₁) where
   strand_of : IsUnderWay prog places x → (st : StandsDeep prog places k) → IsDeepStrand prog places k worker x st.machine
-  strand_of w st = deep_strand prog places k worker slot x fits w st.machine st.shown st.safe st.orderly st.deep
+  strand_of w st = deep_strand prog places moves text k worker slot x fits w st.machine st.shown st.safe st.orderly st.deep
 
   pub regions : RegionsFit x
   regions n f g r continuation at_f at_g is_child =
@@ -58,8 +58,17 @@ module _ (prog : Program) (places : Places) (moves : ℕ) (text : TextFits prog 
   pub counted : k.instructions + x.done < 18446744073709551616
   counted = ∥∥₁_elim way (hlevel props) (λ w. ∥∥₁_elim safe (hlevel props) (λ st. steps_room prog places k x worker slot fits st (strand_of w st)))
 
-  pub within : (a : ℤ) → (log_of x.cells).writes a ≢ None → IsTrue (is_cell k.cells.cells.items a)
+  pub within : (a : ℤ) → (log_of x.cells.log).writes a ≢ None → IsTrue (is_cell k.cells.cells.items a)
   within a written = ∥∥₁_elim way (hlevel props) (λ w. ∥∥₁_elim safe (hlevel props) (λ st. within_row prog places k x worker slot fits st (strand_of w st) a written))
+
+  pub begins : x.cells.start ≤ x.end
+  begins = ∥∥₁_elim way (hlevel props) (λ w. ∥∥₁_elim safe (hlevel props) (λ st. own_begins prog places k x worker slot fits st (strand_of w st)))
+
+  pub ends : x.end ≤ x.cells.start + length x.cells.own.items
+  ends = ∥∥₁_elim way (hlevel props) (λ w. ∥∥₁_elim safe (hlevel props) (λ st. own_ends prog places k x worker slot fits st (strand_of w st)))
+
+  pub row : x.end ≤ length k.cells.cells.items
+  row = let own = ends in let low = fits.free.row in omega (arith, own, low)
 
   -- ---- once the frames were made
 

@@ -12,6 +12,7 @@ use Rattle.schedule_workers.specs.Layouts.{layout_of, living}
 use Rattle.schedule_workers.specs.Shown.{IsShown}
 use Rattle.schedule_workers.specs.Stalls.{Blocks, StallsAgree, last_blocks}
 use Rattle.private_stack.specs.Along.{LoadsGoDeep}
+use Rattle.private_stack.specs.OwnCells.{segment_of}
 use Rattle.private_stack.specs.Shown.{ShowsPile}
 use Rattle.private_stack.specs.declared.pile.Pile.{Pile}
 
@@ -31,7 +32,7 @@ pub record StandsDeep (prog : Program) (places : Places) (k : Run) : Type 0 wher
 pub record Absorbs (prog : Program) (places : Places) (old new : Run) (worker : ℕ) (x : Pile) (m : Machine) : Type 0 where
   pub strand : DeepStrand
   pub is : IsDeep prog strand
-  pub pile : ShowsPile (layout_of prog places old.cactus m.core) prog places strand x
+  pub pile : ShowsPile (layout_of prog places old.cactus m.core) prog places (segment_of x.cells) strand x
   pub steps : Happen prog (length old.hands.items) (steps_by worker x.done) m (absorbed m worker strand)
   pub shown : IsShown prog places (absorbed m worker strand) new
 

@@ -12,8 +12,7 @@ use Rattle.frame_engine.specs.declared.activation.Frame.{Frame}
 use Rattle.schedule_workers.specs.declared.activation.Activation.{Activation}
 use Rattle.schedule_workers.specs.declared.run.Run.{Run}
 use Rattle.schedule_workers.specs.Scheduling.{counted_in}
-use Rattle.private_stack_log.specs.Committing.{IsPutInto}
-use Rattle.private_stack_log.specs.Tables.{log_of}
+use Rattle.private_stack.specs.Putting.{ArePutInto}
 use Rattle.private_stack.specs.declared.pile.Pile.{Pile}
 use Rattle.schedule_publish.specs.Linking.{counted_above, frames_of}
 
@@ -74,7 +73,7 @@ pub record IsCommitted (old new : Run) (worker slot : ℕ) (x : Pile) (slots : L
   pub base : Activation
   pub is_base : IsBase x was base
   pub cactus : new.cactus ≡ linked_up (with_frame old.cactus slot base) slot slots
-  pub cells : IsPutInto (log_of x.cells) old.cells.cells.items new.cells.cells.items
+  pub cells : ArePutInto x.cells x.end old.cells.cells.items new.cells.cells.items
   pub only : new ≡ record old {
     cactus = new.cactus;
     cells = new.cells;

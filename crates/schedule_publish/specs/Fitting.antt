@@ -1,24 +1,33 @@
 -- Where a pile fits a run.
-use Rattle.std.specs.Prelude.{◌≡◌, ℕ, Some, true}
+use Rattle.std.specs.Prelude.{◌≡◌, ℕ, Some, length, true}
 use Rattle.cactus.specs.declared.node.Node.{Node}
 use Rattle.cactus.specs.Frames.{node_at}
 use Rattle.frame_strand.specs.Standing.{IsCopy}
 use Rattle.schedule_workers.specs.declared.activation.Activation.{Activation}
+use Rattle.schedule_workers.specs.declared.run.Block.{Block}
 use Rattle.schedule_workers.specs.declared.run.Run.{Run}
+use Rattle.schedule_workers.specs.Lent.{IsFree}
 use Rattle.schedule_workers.specs.Scheduling.{counted_in, hand_of}
 use Rattle.private_stack_log.specs.Committing.{Agrees}
 use Rattle.private_stack_log.specs.Tables.{log_of}
+use Rattle.program.specs.declared.function.Program.{Program}
+use Rattle.private_stack.specs.declared.cells.PileCells.{PileCells}
 use Rattle.private_stack.specs.declared.pile.Pile.{Pile}
 
 abbrev pub HasNoChild : Activation → Type 0
 HasNoChild a = (region : ℕ) → counted_in a region ≡ 0
 
--- the worker runs the base, word for word as it was loaded, at its path, without children if it had none, and what was read is there
-pub record FitsDeep (k : Run) (worker : ℕ) (x : Pile) (slot : ℕ) : Type 0 where
+abbrev pub segment_block : PileCells → Block
+segment_block x = record { start = x.start; cells = length x.own.items }
+
+-- The worker runs the base, word for word as it was loaded, at its path, without children if it had none, what was read is there, and no frame that lives has its
+-- allocas among the pile's.
+pub record FitsDeep (prog : Program) (k : Run) (worker : ℕ) (x : Pile) (slot : ℕ) : Type 0 where
   pub node : Node Activation
   pub hand : hand_of k.hands.items worker ≡ Some slot
   pub stands : node_at k.cactus slot ≡ Some node
   pub path : node.path.numbers ≡ x.base.path.items
   pub frame : IsCopy x.base.frame node.frame.frame
   pub childless : x.base.childless ≡ true → HasNoChild node.frame
-  pub reads : Agrees (log_of x.cells) k.cells.cells.items
+  pub reads : Agrees (log_of x.cells.log) k.cells.cells.items
+  pub free : IsFree prog k (segment_block x.cells)

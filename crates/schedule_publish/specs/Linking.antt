@@ -1,5 +1,5 @@
 -- The frames above the base, as they are to stand in the cactus.
-use Rattle.std.specs.Prelude.{◌≡◌, ℕ, suc, ◌-◌, ◌<◌, List, [], ◌∷◌, ◌++◌, length, map, take, Option, Some, None, cond, eqb, slice_get, ℤ, pos}
+use Rattle.std.specs.Prelude.{◌≡◌, ℕ, suc, ◌-◌, ◌<◌, List, [], ◌∷◌, ◌++◌, length, map, take, Option, Some, None, cond, eqb, slice_get}
 use Rattle.linear.specs.declared.form.RegisterId.{RegisterId}
 use Rattle.program.specs.declared.identifier.BlockId.{BlockId}
 use Rattle.frame.specs.declared.frame.Role.{Role}
@@ -39,17 +39,9 @@ abbrev pub runner_below : ℕ → Option Frame → Option ℕ
 runner_below worker None = Some worker
 runner_below worker (Some f) = None
 
--- a function's frame above the base has no cells, and so its home is any number
-abbrev pub home_above : Role → ℤ → ℤ
-home_above role.Body home = pos 0
-home_above (role.Child region continuation) home = home
-
-abbrev pub homeless : Frame → Frame
-homeless f = record f { home = home_above f.role f.home }
-
 -- what the scheduler knows of a frame on which this one stands, or none
 pub record IsActivation (worker : ℕ) (f : Frame) (above : Option Frame) (a : Activation) : Type 0 where
-  pub copy : IsCopy (homeless f) a.frame
+  pub copy : IsCopy f a.frame
   pub callee : a.callee ≡ None
   pub runner : a.runner ≡ runner_below worker above
   pub counts : (region : ℕ) → counted_in a region ≡ counted_above above region

@@ -1,4 +1,4 @@
-ghost use Rattle.std.specs.Prelude.{◌≡◌, ◌≢◌, ◌+◌, ◌^◌, ◌<◌, ℕ, ℤ, IsSome, IsTrue, None, Some, length, slice_get, vec_len};
+ghost use Rattle.std.specs.Prelude.{◌≡◌, ◌≢◌, ◌+◌, ◌^◌, ◌<◌, ◌≤◌, ℕ, ℤ, IsSome, IsTrue, None, Some, length, slice_get, vec_len};
 ghost use Rattle.linear.specs.declared.form.RegisterId.{RegisterId};
 ghost use Rattle.program.specs.declared.identifier.BlockId.{BlockId};
 ghost use Rattle.frame.specs.declared.frame.Role.TheVariants as Role;
@@ -82,14 +82,18 @@ fn link_up(frames: &mut Cactus<Activation>, slot: usize, slots: &[usize]) -> usi
 pub(crate) fn commit(run: &mut Run, worker: u8, slot: usize, slots: &[usize], pile: &Pile)
     requires lives { IsSome (frame_at run.old.cactus slot) }
     requires worker { worker < vec_len run.old.hands }
-    requires within { (a : ℤ) → (log_of pile.now.cells).writes a ≢ None → IsTrue (is_cell run.old.cells.cells.items a) }
+    requires begins { pile.now.cells.start ≤ pile.now.end }
+    requires own { pile.now.end ≤ pile.now.cells.start + length pile.now.cells.own.items }
+    requires row { pile.now.end ≤ length run.old.cells.cells.items }
+    requires within { (a : ℤ) → (log_of pile.now.cells.log).writes a ≢ None → IsTrue (is_cell run.old.cells.cells.items a) }
     requires registers { (a : Living) → frame_at run.old.cactus slot ≡ Some a → (f : ShownFrame) → slice_get (frames_of pile.now) 0 ≡ Some f →
         length f.registers.items ≡ length a.frame.registers.items }
     requires counts { (a : Living) → frame_at run.old.cactus slot ≡ Some a → MayCount pile.now a }
     requires counted { run.old.instructions + pile.now.done < 2 ^ 64 }
     ensures { IsCommitted run.old run.new worker slot pile.now slots.now }
 {
-    pile.cells.write_into(run.cells.cells.as_mut_slice());
+    pile.cells
+        .write_into(pile.end, run.cells.cells.as_mut_slice());
     let Some(base) = run.cactus.frame_mut(slot) else {
         unreachable!()
     };

@@ -1,9 +1,10 @@
 ghost use Rattle.std.specs.Prelude.{◌≡◌, ◌↔◌, ℕ, IfNone, IfSome, IsTrue, true};
-ghost use Rattle.schedule_publish.specs.Fitting.{FitsDeep, HasNoChild};
+ghost use Rattle.schedule_publish.specs.Fitting.{FitsDeep, HasNoChild, segment_block};
 
 use private_stack::Pile;
 use schedule_commit::{is_same, same_numbers};
-use schedule_workers::{Activation, Run};
+use program::Program;
+use schedule_workers::{Activation, Block, Run};
 
 /// Whether no child of the frame lives.
 pub fn has_no_child(activation: &Activation) -> bool
@@ -24,11 +25,21 @@ fn is_as_childless(pile: &Pile, activation: &Activation) -> bool
     !pile.base.childless || has_no_child(activation)
 }
 
-/// The slot of the worker's frame, where that is the pile's base as it was loaded, at its path, without children if it had none, and what was
-/// read is there.
-pub fn fitting_deep(run: &Run, worker: u8, pile: &Pile) -> Option<usize>
-    ensures fits { IfSome result (FitsDeep run.now worker pile.now) }
-    ensures only { IfNone result ((slot : ℕ) → FitsDeep run.now worker pile.now slot → ⊥) }
+/// The addresses of the allocas of the frames above the base.
+fn segment(pile: &Pile) -> Block
+    ensures { result ≡ segment_block pile.now.cells }
+{
+    Block {
+        start: pile.cells.start as usize,
+        cells: pile.cells.own.len(),
+    }
+}
+
+/// The slot of the worker's frame, where that is the pile's base as it was loaded, at its path, without children if it had none, what was read
+/// is there, and no frame that lives has its allocas among the pile's.
+pub fn fitting_deep(run: &Run, program: &Program, worker: u8, pile: &Pile) -> Option<usize>
+    ensures fits { IfSome result (FitsDeep program.now run.now worker pile.now) }
+    ensures only { IfNone result ((slot : ℕ) → FitsDeep program.now run.now worker pile.now slot → ⊥) }
 {
     let slot = run.hand(worker)?;
     let node = run.cactus.node(slot)?;
@@ -36,6 +47,7 @@ pub fn fitting_deep(run: &Run, worker: u8, pile: &Pile) -> Option<usize>
         && is_same(&node.frame.frame, &pile.base.frame)
         && is_as_childless(pile, &node.frame)
         && pile.cells.reads_agree(run.cells.cells.as_slice())
+        && run.is_free(program, segment(pile))
     {
         Some(slot)
     } else {

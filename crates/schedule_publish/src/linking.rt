@@ -4,7 +4,7 @@ ghost use Rattle.linear.specs.declared.form.RegisterId.{RegisterId};
 ghost use Rattle.program.specs.declared.identifier.BlockId.{BlockId};
 ghost use Rattle.schedule_workers.specs.Scheduling.{counted_in};
 ghost use Rattle.frame_strand.specs.Standing.{IsCopy};
-ghost use Rattle.schedule_publish.specs.Linking.{AreLinks, IsFrameOf, RegionsFit, counted_of, frames_of, homeless};
+ghost use Rattle.schedule_publish.specs.Linking.{AreLinks, IsFrameOf, RegionsFit, counted_of, frames_of};
 
 use cactus::Link;
 use frame::{Path, Role};
@@ -38,19 +38,9 @@ pub(crate) fn above(pile: &Pile, number: usize) -> Option<&Frame>
     }
 }
 
-/// Where the frame's allocas begin, on the board: a function's has none, and a child names those of the frame that it is a part of.
-fn home_of(frame: &Frame) -> i64
-    ensures { result ≡ (homeless frame.now).home }
-{
-    match frame.role {
-        Role::Body => 0,
-        Role::Child { .. } => frame.home,
-    }
-}
-
 /// The frame again, as it is to stand on the board.
 fn copy_of(alloc: Global, frame: &Frame) -> Result<Frame, OutOfMemory>
-    ensures { IfOk result (IsCopy (homeless frame.now)) }
+    ensures { IfOk result (IsCopy frame.now) }
 {
     Ok(Frame {
         function: frame.function,
@@ -59,7 +49,7 @@ fn copy_of(alloc: Global, frame: &Frame) -> Result<Frame, OutOfMemory>
             index: frame.place.index,
         },
         registers: Vec::from_slice(alloc, frame.registers.as_slice())?,
-        home: home_of(frame),
+        home: frame.home,
         made: frame.made,
         waits: frame.waits,
         role: frame.role,

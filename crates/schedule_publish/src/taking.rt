@@ -26,7 +26,7 @@ fn go_deep(
     requires text { TextFits program.now places.now (length run.old.moves.items) }
     requires way { ∥ IsUnderWay program.now places.now pile.now ∥₁ }
     requires safe { ∥ StandsDeep program.now places.now run.old ∥₁ }
-    requires fits { FitsDeep run.old worker pile.now slot }
+    requires fits { FitsDeep program.now run.old worker pile.now slot }
     ensures does { OnOk result ∥ DoesDeep program.now places.now run.old run.new worker pile.now ∥₁ }
     ensures stalls { OnOk result (LeavesStallsDeep program.now places.now run.old run.new worker pile.now) }
     ensures refused { OnErr result (run.new ≡ run.old) }
@@ -58,7 +58,7 @@ pub fn absorb_deep(
     requires text { TextFits program.now places.now (length run.old.moves.items) }
     requires way { ∥ IsUnderWay program.now places.now pile.now ∥₁ }
     requires safe { ∥ StandsDeep program.now places.now run.old ∥₁ }
-    ensures exactly { IfOk result (λ done. IsTrue done ↔ ((slot : ℕ) × FitsDeep run.old worker pile.now slot)) }
+    ensures exactly { IfOk result (λ done. IsTrue done ↔ ((slot : ℕ) × FitsDeep program.now run.old worker pile.now slot)) }
     ensures does { result ≡ Ok true → ∥ DoesDeep program.now places.now run.old run.new worker pile.now ∥₁ }
     ensures left { result ≡ Ok false → run.new ≡ run.old }
     ensures stalls { result ≡ Ok true → LeavesStallsDeep program.now places.now run.old run.new worker pile.now }
@@ -67,7 +67,7 @@ pub fn absorb_deep(
     ensures workers { length run.new.hands.items ≡ length run.old.hands.items }
     ensures moves { run.new.moves ≡ run.old.moves }
 {
-    let Some(slot) = fitting_deep(run, worker, pile) else {
+    let Some(slot) = fitting_deep(run, program, worker, pile) else {
         return Ok(false);
     };
     go_deep(run, program, places, worker, slot, pile)?;

@@ -80,6 +80,50 @@ module _ (prog : Program) (places : Places) (m next : Machine) (k : Run) (frames
       abbrev pub changed_by : Run
       changed_by = record k { cactus = frames; cells = cells; instructions = done; peak = peak; hands = hands }
 
+      -- what is shown lies as in this layout
+      pub record ChangesTo (to : Layout) : Type 0 where
+        pub laid : layout_of prog places frames next.core ≡ to
+        pub tree : IsTree frames
+        pub stands : (q : Path) → ShowsAt to places q (next.core.frames q) (named frames (reverse q))
+        pub holds : (s : ℕ) (n : Node Activation) → node_at frames s ≡ Some n → Holds s n
+        pub seen : (v : ℕ) → next.hands v ≡ hands_of frames hands.items v
+        pub held : (v s : ℕ) → hand_of hands.items v ≡ Some s → Lives frames s
+        pub made : frames.made ≤ done + 1
+        pub holds_cells : ShowsCells to (is_cell cells.cells.items) (λ a z. cell_in cells.cells.items a ≡ Some z) next.core.memory
+        pub done_is : next.core.done ≡ done
+        pub peak_is : next.core.peak ≡ peak
+        pub result : next.core.result ≡ m.core.result
+        pub sound : next.trapped ≡ None
+
+      module _ (to : Layout) (c : ChangesTo to) where
+        machine_shown : ShowsMachine prog places next changed_by
+        machine_shown = record {
+          frames = λ q. subst (λ (x : Layout). ShowsAt x places q (next.core.frames q) (named frames (reverse q))) (sym c.laid) (c.stands q);
+          cells = subst (λ (x : Layout). ShowsCells x (is_cell cells.cells.items) (λ a z. cell_in cells.cells.items a ≡ Some z) next.core.memory) (sym c.laid) c.holds_cells;
+          done = c.done_is;
+          peak = c.peak_is;
+          result = c.result ∙ shown.shows.result;
+          hands = c.seen;
+          trapped = c.sound;
+        }
+
+        agree_after : Agrees prog next changed_by
+        agree_after =
+            let b = shown.agrees.blocks in
+            record {
+              tree = c.tree;
+              held = c.held;
+              runners = λ s v n here. (c.holds s n here).runner v;
+              nodes = λ s n here. (c.holds s n here).fits;
+              counts = λ s r n here. (c.holds s n here).counts r;
+              made = c.made;
+              blocks = record { owned = λ s n here. (c.holds s n here).block; below = b.below; after = b.after; beside = b.beside; globals = b.globals; lent_after = b.lent_after; lent_below = b.lent_below; lent_beside = b.lent_beside };
+            }
+
+        pub changed_to_shown : IsShown prog places next changed_by
+        changed_to_shown = record { shows = machine_shown; agrees = agree_after }
+
+      -- as what was shown lay
       pub record ChangesBy : Type 0 where
         pub tree : IsTree frames
         pub told : (q : Path) → Told q
@@ -105,32 +149,21 @@ module _ (prog : Program) (places : Places) (m next : Machine) (k : Run) (frames
         layout_stays : layout_of prog places frames next.core ≡ l
         layout_stays = λ i. record { at = λ o. at_stays o i; cells = λ o. lives o i }
 
-        machine_shown : ShowsMachine prog places next changed_by
-        machine_shown = record {
-          frames = λ q. subst (λ (x : Layout). ShowsAt x places q (next.core.frames q) (named frames (reverse q))) (sym layout_stays) (told_shown q (c.told q));
-          cells = subst (λ (x : Layout). ShowsCells x (is_cell cells.cells.items) (λ a z. cell_in cells.cells.items a ≡ Some z) next.core.memory) (sym layout_stays) c.holds_cells;
-          done = c.done_is;
-          peak = c.peak_is;
-          result = c.result ∙ shown.shows.result;
-          hands = c.seen;
-          trapped = c.sound;
-        }
-
-        agree_after : Agrees prog next changed_by
-        agree_after =
-            let b = shown.agrees.blocks in
-            record {
-              tree = c.tree;
-              held = c.held;
-              runners = λ s v n here. (c.holds s n here).runner v;
-              nodes = λ s n here. (c.holds s n here).fits;
-              counts = λ s r n here. (c.holds s n here).counts r;
-              made = c.made;
-              blocks = record { owned = λ s n here. (c.holds s n here).block; below = b.below; after = b.after; beside = b.beside; globals = b.globals; lent_after = b.lent_after; lent_below = b.lent_below; lent_beside = b.lent_beside };
-            }
-
         pub changed_by_shown : IsShown prog places next changed_by
-        changed_by_shown = record { shows = machine_shown; agrees = agree_after }
+        changed_by_shown = changed_to_shown l (record {
+          laid = layout_stays;
+          tree = c.tree;
+          stands = λ q. told_shown q (c.told q);
+          holds = c.holds;
+          seen = c.seen;
+          held = c.held;
+          made = c.made;
+          holds_cells = c.holds_cells;
+          done_is = c.done_is;
+          peak_is = c.peak_is;
+          result = c.result;
+          sound = c.sound;
+        })
 
   -- ---- by one instruction that leaves the cells
 

@@ -3,6 +3,7 @@ use Rattle.std.proofs.Common.{◌≡◌, ℕ, zero, suc, ◌+◌, ◌<◌, ◌�
 use Rattle.std.specs.Prelude.{IsTrue, nat_lt, fold, sum}
 use Rattle.std.specs.Int.{w64}
 use Rattle.std.proofs.lemmas.Int.{ints, int_wrap_fits}
+use Rattle.std.proofs.lemmas.Bool.{lt-ltb}
 use Rattle.std.proofs.lemmas.Bool.Decides.{nat_tests}
 use Rattle.semantics.specs.Arithmetic.{wrapped}
 use Rattle.semantics.specs.Paths.{Path, same_path}
@@ -13,7 +14,7 @@ use Rattle.syntax.specs.declared.operator.Width.TheVariants.{Bits64}
 use Rattle.program.specs.declared.function.Program.{Program}
 use Rattle.frame_engine.specs.Flat.{cell_in, is_cell}
 use Rattle.frame_engine.specs.Shows.{IsIn, Layout, ShowsCells, address}
-use Rattle.serial_stack.specs.Layouts.{size_in, start_in, of_globals, with_allocas, alloca_sizes, for_body, end_of, layout_of}
+use Rattle.serial_stack.specs.Layouts.{offset_in, size_in, start_in, of_globals, with_allocas, alloca_sizes, for_body, end_of, layout_of}
 use Rattle.serial_stack.specs.Steps.{Placed}
 
 summed : (a : ℕ) (cells : List ℕ) → fold (λ (s x : ℕ). s + x) a cells ≡ a + fold (λ (s x : ℕ). s + x) 0 cells
@@ -31,7 +32,7 @@ start_below [] n i h = absurd (omega (arith, h))
 start_below (c ∷ cs) zero i h = let s = sum_more c cs in omega (arith, h, s)
 start_below (c ∷ cs) (suc n) i h = let r = start_below cs n i h in let s = sum_more c cs in omega (arith, r, s)
 
-same_place : (cells : List ℕ) (a b i j : ℕ) → i < size_in cells a → j < size_in cells b → start_in cells a + i ≡ start_in cells b + j → (a ≡ b) × (i ≡ j)
+pub same_place : (cells : List ℕ) (a b i j : ℕ) → i < size_in cells a → j < size_in cells b → start_in cells a + i ≡ start_in cells b + j → (a ≡ b) × (i ≡ j)
 same_place [] a b i j h k e = absurd (omega (arith, h))
 same_place (c ∷ cs) zero zero i j h k e = (refl, omega (arith, e))
 same_place (c ∷ cs) zero (suc b) i j h k e = absurd (omega (arith, h, e))
@@ -40,6 +41,14 @@ same_place (c ∷ cs) (suc a) (suc b) i j h k e =
     let less : start_in cs a + i ≡ start_in cs b + j = omega (arith, e) in
     let r = same_place cs a b i j h k less in
     (ap suc r.0, r.1)
+
+size_within : (cells : List ℕ) (n i : ℕ) → i < size_in cells n → n < length cells
+size_within [] n i h = absurd (omega (arith, h))
+size_within (c ∷ cs) zero i h = omega arith
+size_within (c ∷ cs) (suc n) i h = let r = size_within cs n i h in omega (arith, r)
+
+pub offset_is : (cells : List ℕ) (n : ℕ) → n < length cells → offset_in cells n ≡ start_in cells n
+offset_is cells n h = ap (λ (b : Bool). cond b (start_in cells n) 0) (lt-ltb n (length cells) h)
 
 -- ---- packed layouts
 
@@ -59,10 +68,10 @@ pub record IsPacked (l : Layout) (end : ℕ) : Type 0 where
 sum_of : (a b : ℕ) → pos a +ℤ pos b ≡ pos (a + b)
 sum_of a b = omega (arith, ints)
 
-same_pos : (a b : ℕ) → pos a ≡ pos b → a ≡ b
+pub same_pos : (a b : ℕ) → pos a ≡ pos b → a ≡ b
 same_pos a b e = cc
 
-cell_is : (c d : Cell) → c.object ≡ d.object → c.index ≡ d.index → c ≡ d
+pub cell_is : (c d : Cell) → c.object ≡ d.object → c.index ≡ d.index → c ≡ d
 cell_is c d o i = λ k. record { object = o k; index = i k }
 
 global_lies : (globals : List ℕ) (o : Object) (i : ℕ) → i < (of_globals globals).cells o → (g : ℕ) × (o ≡ Shared g) × (i < size_in globals g) × ((of_globals globals).at o ≡ pos (start_in globals g))
@@ -96,8 +105,13 @@ pub record IsOlder (l : Layout) (at : ℤ) (o : Object) (i : ℕ) : Type 0 where
   pub at_is : at ≡ l.at o
 
 whose : (p : Path) (sizes : List ℕ) (home : ℕ) (l : Layout) (owner : Path) (n i : ℕ) (b : Bool) → same_path p owner ≡ b → i < cond b (size_in sizes n) (l.cells (Local owner n)) →
-    IsOwn p sizes home (cond b (pos (home + start_in sizes n)) (l.at (Local owner n))) (Local owner n) i ⊎ IsOlder l (cond b (pos (home + start_in sizes n)) (l.at (Local owner n))) (Local owner n) i
-whose p sizes home l owner n i true e h = inl (record { alloca = n; object = ap (λ (q : Path). Local q n) (sym (same_path_is p owner e)); within = h; at_is = refl })
+    IsOwn p sizes home (cond b (pos (home + offset_in sizes n)) (l.at (Local owner n))) (Local owner n) i ⊎ IsOlder l (cond b (pos (home + offset_in sizes n)) (l.at (Local owner n))) (Local owner n) i
+whose p sizes home l owner n i true e h = inl (record {
+  alloca = n;
+  object = ap (λ (q : Path). Local q n) (sym (same_path_is p owner e));
+  within = h;
+  at_is = ap (λ (x : ℕ). pos (home + x)) (offset_is sizes n (size_within sizes n i h));
+})
 whose p sizes home l owner n i false e h = inr (record { within = h; at_is = refl })
 
 pub either_one : (p : Path) (sizes : List ℕ) (home : ℕ) (l : Layout) (o : Object) (i : ℕ) → i < (with_allocas p sizes home l).cells o → IsOwn p sizes home ((with_allocas p sizes home l).at o) o i ⊎ IsOlder l ((with_allocas p sizes home l).at o) o i

@@ -3,9 +3,7 @@ use Rattle.std.specs.Option.{option_copied_mut}
 use Rattle.std.specs.Vec.{with_item}
 use Rattle.std.proofs.lemmas.List.{with_items_is}
 use Rattle.frame_engine.specs.declared.flat.Flat.{Flat}
-use Rattle.private_stack_log.specs.Committing.{IsPutInto}
-use Rattle.private_stack_log.specs.Logs.{Log}
-use Rattle.private_stack_log.specs.Tables.{log_of}
+use Rattle.private_stack.specs.Putting.{ArePutInto}
 use Rattle.schedule_workers.specs.declared.run.Run.{Run}
 use Rattle.schedule_publish.proofs.committing.commit.Goals as goal
 
@@ -13,7 +11,6 @@ pub returns : goal.returns
 returns c =
     let k = c.args.run.now in
     let x = c.args.pile.now in
-    let log : Log = log_of x.cells in
     let row = c.write_into.new.row in
     let after = c.set_hand.new.self in
     let set = c.set_hand.ensures in
@@ -25,9 +22,9 @@ returns c =
       is_base = c.write_base.ensures;
       cactus = ap (λ (r : Run). r.cactus) set ∙ c.link_up-top.ensures.linked;
       cells =
-          subst (λ (cs : Flat). IsPutInto log k.cells.cells.items cs.cells.items) (sym (ap (λ (r : Run). r.cells) set))
-          (subst (λ xs. IsPutInto log k.cells.cells.items xs) (sym (with_items_is k.cells.cells row long))
-          (subst (λ (old : List ℤ). IsPutInto log old row) c.as_mut_slice.ensures.value c.write_into.ensures));
+          subst (λ (cs : Flat). ArePutInto x.cells x.end k.cells.cells.items cs.cells.items) (sym (ap (λ (r : Run). r.cells) set))
+          (subst (λ xs. ArePutInto x.cells x.end k.cells.cells.items xs) (sym (with_items_is k.cells.cells row long))
+          (subst (λ (old : List ℤ). ArePutInto x.cells x.end old row) c.as_mut_slice.ensures.value c.write_into.ensures));
       only =
           (λ i. record {
             alloc = (set i).alloc;
@@ -35,6 +32,7 @@ returns c =
             cells = after.cells;
             blocks = (set i).blocks;
             end = (set i).end;
+            lent = (set i).lent;
             hands = (set i).hands;
             instructions = (set i).instructions + x.done;
             peak = c.max-run.ensures i;

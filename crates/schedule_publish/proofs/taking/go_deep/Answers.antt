@@ -3,7 +3,7 @@ use Rattle.cactus.specs.Frames.{Frames}
 use Rattle.schedule_workers.specs.Follows.{Follows}
 use Rattle.schedule_workers.specs.declared.activation.Activation.{Activation}
 use Rattle.schedule_workers.proofs.Uses.{follows_same}
-use Rattle.schedule_publish.proofs.Taken.{committed_follows, counted, counts, does, hand_within, lives, regions, registers, room, stalls, within}
+use Rattle.schedule_publish.proofs.Taken.{begins, committed_follows, counted, counts, does, ends, hand_within, lives, regions, registers, room, row, stalls, within}
 use Rattle.schedule_publish.proofs.taking.go_deep.Goals as goal
 
 pub links_of-requires : goal.links_of-requires
@@ -25,6 +25,15 @@ commit-requires-clause-worker c =
     let low = hand_within c.args.run.now.hands.items c.args.worker c.args.slot c.requires.fits.hand in
     let long = c.args.run.now.hands.ok.0 in
     omega (arith, low, long)
+
+pub commit-requires-clause-begins : goal.commit-requires-clause-begins
+commit-requires-clause-begins c = begins c.args.program.now c.args.places.now _ c.requires.text c.args.run.now c.args.pile.now c.args.worker c.args.slot c.requires.fits c.requires.way c.requires.safe
+
+pub commit-requires-clause-own : goal.commit-requires-clause-own
+commit-requires-clause-own c = ends c.args.program.now c.args.places.now _ c.requires.text c.args.run.now c.args.pile.now c.args.worker c.args.slot c.requires.fits c.requires.way c.requires.safe
+
+pub commit-requires-clause-row : goal.commit-requires-clause-row
+commit-requires-clause-row c = row c.args.program.now c.args.places.now _ c.requires.text c.args.run.now c.args.pile.now c.args.worker c.args.slot c.requires.fits c.requires.way c.requires.safe
 
 pub commit-requires-clause-within : goal.commit-requires-clause-within
 commit-requires-clause-within c = within c.args.program.now c.args.places.now _ c.requires.text c.args.run.now c.args.pile.now c.args.worker c.args.slot c.requires.fits c.requires.way c.requires.safe

@@ -11,9 +11,7 @@ use Rattle.program.specs.declared.function.Alloca.{Alloca}
 use Rattle.program.specs.declared.function.Function.{Function}
 use Rattle.program.specs.declared.function.Program.{Program}
 use Rattle.frame_engine.specs.Shows.{Layout}
-use Rattle.schedule_workers.specs.Layouts.{alloca_cells, living, own_cells}
 use Rattle.serial_stack.specs.Layouts.{alloca_sizes, allocas_in, for_body, size_in, with_allocas}
-use Rattle.laws_workers_strands.specs.Promise.{laid_out}
 use Rattle.private_stack.specs.Layouts.{IsToCome, OwnsNone, end_above, layout_above}
 use Rattle.laws_stacks.specs.Deep.{DeepStrand, IsDeep, Placed}
 use Rattle.laws_stacks.specs.Law.{IsOrderly, Runs, absorbed, with_frames}
@@ -31,12 +29,16 @@ size_is : (prog : Program) (o : Option Function) (a : ℕ) → frames.cells_in p
 size_is prog None a = refl
 size_is prog (Some f) a = alloca_size f.allocas a
 
+-- the cells of a frame's alloca
+abbrev pub alloca_cells : Program → Option Frame → ℕ → ℕ
+alloca_cells prog None a = 0
+alloca_cells prog (Some f) a = for_body f.role (cells_of prog f.function (object.Alloca (record { 0 = a }))) 0
+
 -- ---- cells of a strand's frames
 
-module _ (prog : Program) (begins : Object → ℤ) (m : Machine) (w : ℕ) (d : DeepStrand) (is : IsDeep prog d) (runs : Runs m w d) (orderly : IsOrderly m) (start : ℕ) where
-  abbrev l : Layout
-  l = laid_out begins prog m.core
-
+module _ (prog : Program) (l : Layout) (m : Machine) (local : (owner : Path) (a : ℕ) → l.cells (Local owner a) ≡ alloca_cells prog (m.core.frames owner) a) (w : ℕ) (d : DeepStrand) (is : IsDeep prog d) (runs : Runs m w d)
+    (orderly : IsOrderly m) (start : ℕ)
+  where
   abbrev cells_at : List Placed → Path → ℕ → ℕ
   cells_at gs owner a = alloca_cells prog (with_frames gs m.core.frames owner) a
 
@@ -48,7 +50,7 @@ module _ (prog : Program) (begins : Object → ℤ) (m : Machine) (w : ℕ) (d :
       from false off = refl
       from true same =
           let there = ap m.core.frames (sym (same_path_is t.path owner same) ∙ task.path) ∙ runs.frame in
-          ap (λ o. alloca_cells prog o a) there ∙ sym (λ i. own_cells (task.role i) (cells_of prog (task.function i) (object.Alloca (record { 0 = a }))))
+          ap (λ o. alloca_cells prog o a) there ∙ sym (λ i. for_body (task.role i) (cells_of prog (task.function i) (object.Alloca (record { 0 = a }))) 0)
 
   -- one frame more
   module _ (owner : Path) (a : ℕ) (t g : Placed) (rest : List Placed) (rise : Rises d.base t (g ∷ rest)) where
@@ -61,7 +63,7 @@ module _ (prog : Program) (begins : Object → ℤ) (m : Machine) (w : ℕ) (d :
     abbrev laid : Role → Layout
     laid r = for_body r (with_allocas t.path (alloca_sizes prog t.frame.function) (end_above prog start g rest) lower) lower
 
-    alloca_here : (here : Bool) → alloca_cells prog (cond here (Some t.frame) (with_frames (g ∷ rest) m.core.frames owner)) a ≡ cond here (own_cells t.frame.role text_cells) (cells_at (g ∷ rest) owner a)
+    alloca_here : (here : Bool) → alloca_cells prog (cond here (Some t.frame) (with_frames (g ∷ rest) m.core.frames owner)) a ≡ cond here (for_body t.frame.role text_cells 0) (cells_at (g ∷ rest) owner a)
     alloca_here true = refl
     alloca_here false = refl
 
@@ -76,7 +78,7 @@ module _ (prog : Program) (begins : Object → ℤ) (m : Machine) (w : ℕ) (d :
         let gone = ap (λ x. with_frames (g ∷ rest) m.core.frames x) (sym (same_path_is t.path owner same)) ∙ top_is_new m.core orderly.tree d.base runs.frame t g rest rise in
         ih ∙ ap (λ o. alloca_cells prog o a) gone
 
-    by_role : (r : Role) → lower.cells (Local owner a) ≡ cells_at (g ∷ rest) owner a → (laid r).cells (Local owner a) ≡ cond (same_path t.path owner) (own_cells r text_cells) (cells_at (g ∷ rest) owner a)
+    by_role : (r : Role) → lower.cells (Local owner a) ≡ cells_at (g ∷ rest) owner a → (laid r).cells (Local owner a) ≡ cond (same_path t.path owner) (for_body r text_cells 0) (cells_at (g ∷ rest) owner a)
     by_role Body ih = by_body (same_path t.path owner) ih
     by_role (Child region continuation) ih = by_child (same_path t.path owner) refl ih
 
@@ -84,7 +86,7 @@ module _ (prog : Program) (begins : Object → ℤ) (m : Machine) (w : ℕ) (d :
     more_cells ih = by_role t.frame.role ih ∙ sym (alloca_here (same_path t.path owner))
 
   local_cells : (owner : Path) (a : ℕ) (t : Placed) (below : List Placed) → Rises d.base t below → IsBased d.base t below → (layout_above l prog start t below).cells (Local owner a) ≡ cells_at (t ∷ below) owner a
-  local_cells owner a t [] rise task = base_cells owner a t task
+  local_cells owner a t [] rise task = local owner a ∙ base_cells owner a t task
   local_cells owner a t (g ∷ rest) rise task = more_cells owner a t g rest rise (local_cells owner a g rest rise.4 task)
 
   shared_cells : (n : ℕ) (t : Placed) (below : List Placed) → (layout_above l prog start t below).cells (Shared n) ≡ l.cells (Shared n)
@@ -96,9 +98,11 @@ module _ (prog : Program) (begins : Object → ℤ) (m : Machine) (w : ℕ) (d :
       by Body ih = ih
       by (Child region continuation) ih = ih
 
-  pub cells_above : (o : Object) → living prog (absorbed m w d).core o ≡ (layout_above l prog start d.top d.below).cells o
-  cells_above (Shared n) = sym (shared_cells n d.top d.below)
-  cells_above (Local owner a) = sym (local_cells owner a d.top d.below (rises prog d is) (based prog d is))
+  pub shared_above : (n : ℕ) → (layout_above l prog start d.top d.below).cells (Shared n) ≡ l.cells (Shared n)
+  shared_above n = shared_cells n d.top d.below
+
+  pub local_above : (owner : Path) (a : ℕ) → (layout_above l prog start d.top d.below).cells (Local owner a) ≡ alloca_cells prog ((absorbed m w d).core.frames owner) a
+  local_above owner a = local_cells owner a d.top d.below (rises prog d is) (based prog d is)
 
   -- ---- frames to come
 
@@ -109,11 +113,11 @@ module _ (prog : Program) (begins : Object → ℤ) (m : Machine) (w : ℕ) (d :
   owned_none : (x : Path) → m.core.frames x ≡ None → OwnsNone l x
   owned_none x gone c within = from c.object within (owns x c.object) refl
     where
-      from : (o : Object) → c.index < living prog m.core o → (b : Bool) → owns x o ≡ b → owns x o ≡ false
+      from : (o : Object) → c.index < l.cells o → (b : Bool) → owns x o ≡ b → owns x o ≡ false
       from o low false is_not = is_not
       from (Shared g) low true own = refl
       from (Local owner a) low true own =
-          absurd (let none : living prog m.core (Local owner a) ≡ 0 = ap (λ o. alloca_cells prog o a) (ap m.core.frames (sym (same_path_is x owner own)) ∙ gone) in omega (arith, none, low))
+          absurd (let none : l.cells (Local owner a) ≡ 0 = local owner a ∙ ap (λ o. alloca_cells prog o a) (ap m.core.frames (sym (same_path_is x owner own)) ∙ gone) in omega (arith, none, low))
 
   pub fresh : (x : Path) → IsToCome d.base x → OwnsNone l x
   fresh x come = owned_none x (new_is_none m.core orderly.tree d.base runs.frame x (to_new d.base.path d.base.frame.made come.child come.later x come.under))
