@@ -14,6 +14,7 @@ use Rattle.frame_engine.specs.declared.activation.Places.{Places}
 use Rattle.schedule_workers.specs.declared.activation.Activation.{Activation}
 use Rattle.schedule_workers.specs.declared.run.Run.{Run}
 use Rattle.schedule_workers.specs.Follows.{Follows}
+use Rattle.schedule_workers.specs.Lent.{IsFree}
 use Rattle.schedule_workers.specs.Scheduling.{hand_of}
 use Rattle.schedule_workers.specs.Starts.{ArePlaces}
 use Rattle.private_stack_log.specs.Tables.{log_of}
@@ -21,7 +22,7 @@ use Rattle.laws_stacks.specs.Law.{absorbed}
 use Rattle.private_stack.specs.Along.{IsUnderWay}
 use Rattle.private_stack.specs.declared.pile.Pile.{Pile}
 use Rattle.schedule_publish.specs.Absorbing.{DoesDeep, LeavesStallsDeep, StandsDeep}
-use Rattle.schedule_publish.specs.Fitting.{HasNoChild}
+use Rattle.schedule_publish.specs.Fitting.{HasNoChild, segment_block}
 use Rattle.schedule_core.specs.declared.stage.Stage.{Stage}
 use Rattle.schedule_core.specs.Piles.{IsBegun}
 use Rattle.schedule_core.specs.Replaying.{IsMachine, state_after}
@@ -67,9 +68,9 @@ module _ (old : Stage) (k : Run) (many : length k.hands.items ≡ length old.run
 -- ---- a frame that is loaded
 
 module _ (stage : Stage) (kept : ∥ IsMachine stage ∥₁) (worker slot : ℕ) (node : Node Activation) (x : Pile) (hand : hand_of stage.run.hands.items worker ≡ Some slot) (stands : node_at stage.run.cactus slot ≡ Some node) where
-  pub is_begun : x.base.path.items ≡ node.path.numbers → IsCopy node.frame.frame x.base.frame → (x.base.childless ≡ true → HasNoChild node.frame) → x.done ≡ 0 → ((a : ℤ) → (log_of x.cells).reads a ≡ None) →
-      ∥ IsUnderWay (program_of stage) stage.places x ∥₁ → IsBegun stage worker x
-  is_begun path copy childless done reads way = record {
+  pub is_begun : x.base.path.items ≡ node.path.numbers → IsCopy node.frame.frame x.base.frame → (x.base.childless ≡ true → HasNoChild node.frame) → x.done ≡ 0 → ((a : ℤ) → (log_of x.cells.log).reads a ≡ None) →
+      IsFree (program_of stage) stage.run (segment_block x.cells) → ∥ IsUnderWay (program_of stage) stage.places x ∥₁ → IsBegun stage worker x
+  is_begun path copy childless done reads free way = record {
     way = λ places are. subst (λ (q : Places). ∥ IsUnderWay (program_of stage) q x ∥₁) (sym (same_places stage kept places are)) way;
     fits = (
       slot,
@@ -81,6 +82,7 @@ module _ (stage : Stage) (kept : ∥ IsMachine stage ∥₁) (worker slot : ℕ)
         frame = copy_back node.frame.frame x.base.frame copy;
         childless = childless;
         reads = λ a v read. absurd (let none : None ≡ Some v = sym (reads a) ∙ read in cc);
+        free = free;
       },
     );
     done = done;
