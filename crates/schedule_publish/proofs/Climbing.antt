@@ -252,30 +252,30 @@ module _ (prog : Program) (places : Places) (moves : ℕ) (text : TextFits prog 
   module _ (t g : Placed) (rest gs : List Placed) (f : Frame) (lifted : IsLifted t (g ∷ rest) gs) (on : ShowsOn l prog places s.start t (g ∷ rest) f) (rise : Rises d.base t (g ∷ rest))
       (room : end_above prog s.start t (g ∷ rest) ≤ s.start + s.count) (gone : m.core.frames t.path ≡ None)
     where
-      abbrev home : ℕ
-      home = end_above prog s.start g rest
+      abbrev own_start : ℕ
+      own_start = end_above prog s.start g rest
 
-      abbrev sizes : List ℕ
-      sizes = alloca_sizes prog t.frame.function
+      abbrev own_sizes : List ℕ
+      own_sizes = alloca_sizes prog t.frame.function
 
-      room_body : t.frame.role ≡ Body → home + sum sizes ≤ s.start + s.count
-      room_body body = subst (λ (n : ℕ). n ≤ s.start + s.count) (ap (λ (r : Role). for_body r (home + sum sizes) home) body) room
+      room_body : t.frame.role ≡ Body → own_start + sum own_sizes ≤ s.start + s.count
+      room_body body = subst (λ (n : ℕ). n ≤ s.start + s.count) (ap (λ (r : Role). for_body r (own_start + sum own_sizes) own_start) body) room
 
-      home_body : t.frame.role ≡ Body → f.home ≡ pos home
-      home_body body = subst (λ (r : Role). serial.BeginsAt r f.home home) body on.home
+      home_body : t.frame.role ≡ Body → f.home ≡ pos own_start
+      home_body body = subst (λ (r : Role). serial.BeginsAt r f.home own_start) body on.home
 
       own : (a : ℕ) → k.at (Local t.path a) ≡ (layout_above l prog s.start t (g ∷ rest)).at (Local t.path a)
       own a = lifted.at t.path a (lifted.other t.path (omega arith))
 
-      number : (a : ℕ) → t.frame.role ≡ Body → number_in (allocas_of places f.function.0) a ≡ pos (offset_in sizes a)
+      number : (a : ℕ) → t.frame.role ≡ Body → number_in (allocas_of places f.function.0) a ≡ pos (offset_in own_sizes a)
       number a body =
           let fits = room_body body in
-          let less : home + sum sizes < 9223372036854775808 = small_end (home + sum sizes) fits in
+          let less : own_start + sum own_sizes < 9223372036854775808 = small_end (own_start + sum own_sizes) fits in
           (λ i. number_in (allocas_of places (sym on.shown.function i)) a) ∙ offset_number prog places moves text t.frame.function a (omega (arith, less))
 
       body_at : (a : ℕ) → t.frame.role ≡ Body → f.home +ℤ number_in (allocas_of places f.function.0) a ≡ k.at (Local t.path a)
       body_at a body =
-          let join : pos home +ℤ pos (offset_in sizes a) ≡ pos (home + offset_in sizes a) = omega (arith, ints) in
+          let join : pos own_start +ℤ pos (offset_in own_sizes a) ≡ pos (own_start + offset_in own_sizes a) = omega (arith, ints) in
           (λ i. home_body body i +ℤ number a body i) ∙ (join ∙ sym (own a ∙ at_own l prog s.start t g rest a body))
 
       child_at : (a region continuation : ℕ) → t.frame.role ≡ Child region continuation → pos 0 ≡ k.at (Local t.path a)
@@ -291,10 +291,10 @@ module _ (prog : Program) (places : Places) (moves : ℕ) (text : TextFits prog 
       lies is =
           let body : t.frame.role ≡ Body = on.shown.role ∙ ap role_of is in
           record {
-            home = home;
+            home = own_start;
             is = home_body body;
             after = low_end l prog s d.base can.apart can.outside can.fresh can.small g rest;
-            before = subst (λ (n : ℕ). home + n ≤ s.start + s.count) (sym (ap (λ (n : ℕ). cells_in (slice_get prog.functions n)) (sym on.shown.function) ∙ cells_sum prog t.frame.function)) (room_body body);
+            before = subst (λ (n : ℕ). own_start + n ≤ s.start + s.count) (sym (ap (λ (n : ℕ). cells_in (slice_get prog.functions n)) (sym on.shown.function) ∙ cells_sum prog t.frame.function)) (room_body body);
           }
 
   turn : (t : Placed) (below : List Placed) (f : Frame) (fs : List Frame) (gs : List Placed) (hs : List Frame) (newest : ℕ → ℕ) → IsLifted t below gs → ShowsOn l prog places s.start t below f → HasTaker f f.waits → WaitsForLast t →

@@ -55,7 +55,9 @@ number_of : (sizes : List ℕ) (n : ℕ) → sum sizes < 9223372036854775808 →
 number_of sizes n small = from (nat_lt n (length sizes)) refl
   where
     from : (b : Bool) → nat_lt n (length sizes) ≡ b → number_in (starts_from 0 sizes) n ≡ pos (cond b (start_in sizes n) 0)
-    from true is = there sizes 0 n (omega (arith, small)) (ltb-true n (length sizes) is)
+    from true is =
+        let none_more : 0 + start_in sizes n ≡ start_in sizes n = omega arith in
+        there sizes 0 n (omega (arith, small)) (ltb-true n (length sizes) is) ∙ ap (λ (x : ℕ). pos x) none_more
     from false is = past sizes 0 n (λ h. let both : true ≡ false = sym (lt-ltb n (length sizes) h) ∙ is in cc)
 
 pub offset_number : (prog : Program) (places : Places) (moves : ℕ) → TextFits prog places moves → (function a : ℕ) → sum (alloca_sizes prog function) < 9223372036854775808 →
