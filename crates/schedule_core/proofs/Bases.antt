@@ -11,7 +11,6 @@ use Rattle.schedule_workers.specs.Layouts.{layout_of, living, object_at}
 use Rattle.schedule_workers.specs.Lent.{IsFree}
 use Rattle.schedule_workers.specs.Scheduling.{counted_in, hand_of}
 use Rattle.schedule_workers.specs.Shown.{place_of}
-use Rattle.schedule_workers.specs.Starts.{ArePlaces}
 use Rattle.schedule_workers.proofs.Lending.{free_outside, free_small}
 use Rattle.schedule_workers.proofs.Onward.{seen}
 use Rattle.laws_stacks.specs.Law.{IsOrderly}
@@ -33,8 +32,8 @@ module _ (stage : Stage) (m : Machine) (s : IsState stage m) where
   few_done : m.core.done + 65538 < 18446744073709551616
   few_done = let counted = (s.well.safe []).counted in omega (arith, counted)
 
-  pub loads_here : ArePlaces (program_of stage) stage.places → LoadsGoDeep (program_of stage) stage.places (living (program_of stage) m.core) m
-  loads_here are = loads_go_deep (program_of stage) stage.places are m orderly_here (s.well.deep []) few_done
+  pub loads_here : LoadsGoDeep (program_of stage) stage.places (living (program_of stage) m.core) m
+  loads_here = loads_go_deep (program_of stage) m orderly_here (s.well.deep []) few_done stage.places
 
 module _ (stage : Stage) (kept : ∥ IsMachine stage ∥₁) (worker slot : ℕ) (node : Node Activation) (hand : hand_of stage.run.hands.items worker ≡ Some slot) (stands : node_at stage.run.cactus slot ≡ Some node)
     (childless : Bool) (none : childless ≡ true → (region : ℕ) → counted_in node.frame region ≡ 0) (part : Block) (free : IsFree (program_of stage) stage.run part)
@@ -58,7 +57,7 @@ module _ (stage : Stage) (kept : ∥ IsMachine stage ∥₁) (worker slot : ℕ)
         record {
           layout = layout_of (program_of stage) stage.places stage.run.cactus m.core;
           frame = g.frame;
-          goes = loads_here stage m s k.places (object_at stage.places stage.run.cactus) lent is_lent worker (place_of node) g.frame node.frame.frame
+          goes = loads_here stage m s (object_at stage.places stage.run.cactus) lent is_lent worker (place_of node) g.frame node.frame.frame
               (hand_is stage m s worker slot node hand stands) g.is g.shows.shown g.shows.waits childless (λ is region.
               counted_none m.core (place_of node) region g.frame.made (sym (s.shown.agrees.counts slot region node stands ∙ count_at m.core (place_of node) g.frame region g.is) ∙ none is region));
         })

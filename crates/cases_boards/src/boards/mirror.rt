@@ -117,7 +117,7 @@ fn has_same_tasks(program: &Program, one: &Machine<'_>, other: &Machine<'_>, wor
 /// Whether the globals hold the same. They are the first cells of both rows.
 fn has_same_globals(program: &Program, one: &Machine<'_>, other: &Machine<'_>) -> bool {
     let mut cells: u64 = 0;
-    for global in &program.globals {
+    for global in program.globals.as_slice() {
         cells = cells.saturating_add(global.cells);
     }
     for at in 0..cells.cast_signed() {

@@ -22,6 +22,5 @@ returns-clause-machine c =
     let old = c.args.stage.now in
     let k = c.lend.new.self in
     let follows = keeps_follows old.run.cactus k.cactus (c.lend.ensures.left (program_of old) old.places).uses in
-    ∥∥₁_map
+    ∥∥₁_map c.requires
     (machine_same old k (ap (λ (x : Run). length x.hands.items) c.lend.ensures.only) (ap (λ (x : Run). length x.moves.items) c.lend.ensures.only) follows (Step 0) (left c))
-    c.requires
