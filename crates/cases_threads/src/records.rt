@@ -44,6 +44,20 @@ fn instructions_of(figures: &[Figures]) -> u64 {
     sum
 }
 
+/// Whether each strand was put on the board for one reason.
+fn have_reasons(figures: &[Figures]) -> bool {
+    for worker in figures {
+        let had_to = worker.at_borders.saturating_add(worker.at_full_logs);
+        let all = had_to
+            .saturating_add(worker.at_limits)
+            .saturating_add(worker.for_others);
+        if all != worker.publications {
+            return false;
+        }
+    }
+    true
+}
+
 /// Whether a recorded run of so many workers comes to the answer, as do its events, and its workers did its instructions.
 fn is_recorded<R: Threads + Wait + Clock + Sync>(
     rt: &R,
@@ -81,6 +95,7 @@ fn is_recorded<R: Threads + Wait + Clock + Sync>(
         )
         && figures.len() == workers
         && instructions_of(figures.as_slice()) == wanted.1
+        && have_reasons(figures.as_slice())
 }
 
 /// Answers the cases of runs that are recorded.

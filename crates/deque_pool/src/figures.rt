@@ -1,3 +1,5 @@
+use crate::turns::Turn;
+
 /// What a worker did in a run. Each number stays at 2^64 - 1.
 #[derive(Clone, Copy)]
 pub struct Figures {
@@ -11,8 +13,16 @@ pub struct Figures {
     pub searches: u64,
     /// The strands that were done for nothing: others had meanwhile changed what they rest on.
     pub strangers: u64,
-    /// The strands that were put on the board.
+    /// The strands that were put on the board: the four numbers below together.
     pub publications: u64,
+    /// Next was what only the board does.
+    pub at_borders: u64,
+    /// The next cell was of one more page than a strand has.
+    pub at_full_logs: u64,
+    /// They had done all that a strand may.
+    pub at_limits: u64,
+    /// Others waited for tasks.
+    pub for_others: u64,
 }
 
 impl Figures {
@@ -25,6 +35,10 @@ impl Figures {
             searches: 0,
             strangers: 0,
             publications: 0,
+            at_borders: 0,
+            at_full_logs: 0,
+            at_limits: 0,
+            for_others: 0,
         }
     }
 
@@ -34,9 +48,16 @@ impl Figures {
     }
 
     /// A strand of so many instructions was put on the board.
-    pub(crate) fn count_publication(&mut self, instructions: u64) {
+    pub(crate) fn count_publication(&mut self, instructions: u64, turn: Turn) {
         self.count_instructions(instructions);
         self.publications = self.publications.saturating_add(1);
+        let reason = match turn {
+            Turn::Border => &mut self.at_borders,
+            Turn::Full => &mut self.at_full_logs,
+            Turn::Asked => &mut self.for_others,
+            Turn::Limit | Turn::Starved => &mut self.at_limits,
+        };
+        *reason = reason.saturating_add(1);
     }
 
     /// A strand was done for nothing.

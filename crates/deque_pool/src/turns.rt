@@ -18,6 +18,8 @@ const MOST_PAUSES: u32 = 1_000;
 pub(crate) enum Turn {
     /// Next is what only the board can do.
     Border,
+    /// The next cell is of one page more than it has.
+    Full,
     /// It has done all that it may, or needs what is not there.
     Limit,
     /// Others wait for tasks.
@@ -88,7 +90,8 @@ pub(crate) fn go<L: Bench, R: Wait>(
                     return Turn::Asked;
                 }
             }
-            Standing::Blank | Standing::Full => return Turn::Limit,
+            Standing::Full => return Turn::Full,
+            Standing::Blank => return Turn::Limit,
         }
     }
     Turn::Limit
@@ -156,7 +159,7 @@ pub(crate) fn post<L: Bench, R: Wait>(
         Published::Stranger => return Posted::Stranger,
         Published::OutOfMemory => return Posted::Starved,
     }
-    worker.note_publication(turn == Turn::Asked);
+    worker.note_publication(turn);
     demand.fall(worker.tickets.len());
     worker.offer_tickets();
     if turn == Turn::Border {

@@ -5,6 +5,7 @@ ghost use Rattle.shared_run.specs.schedule_workers.Starts.{ArePlaces};
 use crate::figures::Figures;
 use crate::outlook::Left;
 use crate::pace::Pace;
+use crate::turns::Turn;
 use deque_pool_tickets::{Hands, Taken, Thief};
 use lists::OutOfMemory;
 use shared_run::{Bench, Places, PrivateStack, Seat, Ticket, Verified};
@@ -60,11 +61,11 @@ impl<L: Bench> Worker<'_, L> {
         }
     }
 
-    /// The strand was put on the board, for others or because it had to be.
-    pub(crate) fn note_publication(&mut self, for_others: bool) {
+    /// The strand was put on the board where it had come to.
+    pub(crate) fn note_publication(&mut self, turn: Turn) {
         let done = self.stack.done();
-        self.figures.count_publication(done);
-        self.pace.note(done, for_others);
+        self.figures.count_publication(done, turn);
+        self.pace.note(done, turn == Turn::Asked);
     }
 }
 

@@ -1,5 +1,5 @@
 -- A run of which it is known that it shows a machine, though not how, shows it.
-use Rattle.std.proofs.Common.{◌≡◌, ℕ, ◌+◌, ◌≤◌, List, [], ◌∷◌, ◌++◌, arith, length, reverse, Option, Some, None, Bool, true, false, inl, inr, refl, sym, ap, ◌∙◌, subst, slice_get, ℤ, pos, negsuc, ◌⊎◌}
+use Rattle.std.proofs.Common.{◌≡◌, ℕ, ◌+◌, ◌≤◌, List, [], ◌∷◌, ◌++◌, arith, length, reverse, Option, Some, None, Bool, true, false, inl, inr, refl, sym, ap, ◌∙◌, subst, slice_get, ℤ, pos, ◌⊎◌}
 use Rattle.std.specs.Prelude.{nat_le, slice_index_or, ◌&&◌}
 use Rattle.std.specs.Ordering.{int_eq}
 use Rattle.std.proofs.Math.Logic.{∥∥₁_elim, ∥∥₁_map}
@@ -27,6 +27,7 @@ use Rattle.schedule_workers.specs.declared.activation.Activation.{Activation}
 use Rattle.schedule_workers.specs.declared.run.Block.{Block}
 use Rattle.schedule_workers.specs.declared.run.Run.{Run}
 use Rattle.schedule_workers.specs.Layouts.{layout_of}
+use Rattle.schedule_workers.specs.Lent.{place_at}
 use Rattle.schedule_workers.proofs.Onward.{fits_prop}
 use Rattle.schedule_workers.proofs.Returned.{has_result_prop}
 use Rattle.schedule_workers.specs.Shown.{Agrees, AreBeside, BlocksStand, CalleeStands, HasTaker, IsBlockOf, IsShown, LiesWithin, NodeFits, ShowsAt, ShowsMachine, ShowsNode, cells_in}
@@ -126,21 +127,17 @@ nodes_again prog nodes node t = record {
 abbrev HasBlock : Program → Option Block → Block → Frame → Type 0
 HasBlock prog o lent f = (b : Block) × ((o ≡ Some b) ⊎ LiesWithin lent b) × IsBlockOf prog f b
 
-number_of : ℤ → ℕ
-number_of (pos n) = n
-number_of (negsuc n) = 0
-
 -- the slot's block, if that serves the frame, and else the cells from its home on
 module _ (prog : Program) (lent : Block) (f : Frame) where
   abbrev cells : ℕ
   cells = cells_in (slice_get prog.functions f.function.0)
 
-  serves : Option Block → Bool
+  abbrev serves : Option Block → Bool
   serves None = false
   serves (Some b) = int_eq f.home (pos b.start) && nat_le cells b.cells
 
   abbrev piece : Block
-  piece = record { start = number_of f.home; cells = cells }
+  piece = record { start = place_at f.home; cells = cells }
 
   both : (x y : Bool) → x && y ≡ true → (x ≡ true) × (y ≡ true)
   both true y e = (refl, e)
@@ -161,7 +158,7 @@ module _ (prog : Program) (lent : Block) (f : Frame) where
   in_piece : (o : Option Block) → serves o ≡ false → HasBlock prog o lent f → LiesWithin lent piece × IsBlockOf prog f piece
   in_piece o none (b, inl e, is) = absurd (let bad : true ≡ false = sym (serves_it b is) ∙ ap serves (sym e) ∙ none in cc)
   in_piece o none (b, inr w, is) =
-      let at : number_of f.home ≡ b.start = ap number_of is.home in
+      let at : place_at f.home ≡ b.start = ap place_at is.home in
       let room = is.room in
       let from = w.0 in
       let to = w.1 in (

@@ -1,11 +1,7 @@
 -- What a pile did is so many steps of its worker, and a worker's frame that was loaded fits.
 use Rattle.std.proofs.Common.{◌≡◌, ◌∙◌, ℕ, ℤ, length, Some, None, true, false, Bool, refl, sym, ap, subst}
 use Rattle.std.specs.Prelude.{Result, Ok, Err, OnErr}
-use Rattle.std.proofs.Math.Logic.{∥∥₁_elim, ∥∥₁_map}
-use Rattle.std.proofs.Props.{props}
-use Rattle.std.proofs.Math.Nat.{ℕ_set}
-use Rattle.std.proofs.Math.IntN.{ℤ_set}
-use mathlib.Core.Sum.{⊎_set}
+use Rattle.std.proofs.Math.Logic.{∥∥₁_map}
 use Rattle.lists.specs.declared.memory.OutOfMemory.{OutOfMemory}
 use Rattle.cactus.specs.declared.node.Node.{Node}
 use Rattle.cactus.specs.Frames.{node_at}
@@ -14,14 +10,14 @@ use Rattle.frame_engine.specs.declared.activation.Places.{Places}
 use Rattle.schedule_workers.specs.declared.activation.Activation.{Activation}
 use Rattle.schedule_workers.specs.declared.run.Run.{Run}
 use Rattle.schedule_workers.specs.Follows.{Follows}
+use Rattle.schedule_workers.specs.Lent.{IsFree}
 use Rattle.schedule_workers.specs.Scheduling.{hand_of}
-use Rattle.schedule_workers.specs.Starts.{ArePlaces}
 use Rattle.private_stack_log.specs.Tables.{log_of}
 use Rattle.laws_stacks.specs.Law.{absorbed}
 use Rattle.private_stack.specs.Along.{IsUnderWay}
 use Rattle.private_stack.specs.declared.pile.Pile.{Pile}
 use Rattle.schedule_publish.specs.Absorbing.{DoesDeep, LeavesStallsDeep, StandsDeep}
-use Rattle.schedule_publish.specs.Fitting.{HasNoChild}
+use Rattle.schedule_publish.specs.Fitting.{HasNoChild, segment_block}
 use Rattle.schedule_core.specs.declared.stage.Stage.{Stage}
 use Rattle.schedule_core.specs.Piles.{IsBegun}
 use Rattle.schedule_core.specs.Replaying.{IsMachine, state_after}
@@ -32,25 +28,21 @@ use Rattle.schedule_core.proofs.Commits.{absorbed_machine, same_places, takes_st
 use Rattle.schedule_core.proofs.Loads.{copy_back}
 use Rattle.schedule_core.proofs.Replaying.{with_run}
 
-pub places_in : (stage : Stage) → ∥ IsMachine stage ∥₁ → ArePlaces (program_of stage) stage.places
-places_in stage kept = ∥∥₁_elim kept (Prim.hlevel (props, ⊎_set, ℕ_set, ℤ_set)) (λ m. m.places)
-
 pub stands_deep : (stage : Stage) → ∥ IsMachine stage ∥₁ → ∥ StandsDeep (program_of stage) stage.places stage.run ∥₁
 stands_deep stage kept =
     ∥∥₁_map kept (λ k.
     let m = state_after (program_of stage) k.arguments stage.memory (workers_of stage) k.events in
     let s = k.replays.state in
-    record { machine = m; shown = s.shown; safe = s.well.safe; orderly = orderly_here stage m s; deep = loads_here stage m s k.places })
+    record { machine = m; shown = s.shown; safe = s.well.safe; orderly = orderly_here stage m s; deep = loads_here stage m s })
 
 -- ---- a pile's steps
 
-pub takes_pile : (old : Stage) → ∥ IsMachine old ∥₁ → (k : Run) → length k.hands.items ≡ length old.run.hands.items → (w : ℕ) (x : Pile) → ∥ DoesDeep (program_of old) old.places old.run k w x ∥₁ →
+pub takes_pile : (old : Stage) (k : Run) → length k.hands.items ≡ length old.run.hands.items → (w : ℕ) (x : Pile) → ∥ DoesDeep (program_of old) old.places old.run k w x ∥₁ →
     LeavesStallsDeep (program_of old) old.places old.run k w x → TakesSteps old (with_run old k) w x.done
-takes_pile old kept k many w x does stalls =
-    let are = places_in old kept in
+takes_pile old k many w x does stalls =
     takes_steps old k many w x.done
-    (λ m s. ∥∥₁_map does (λ d. let a = d m s.shown s.well.safe (orderly_here old m s) (loads_here old m s are) in (absorbed m w a.strand, a.steps, a.shown)))
-    (λ m s. stalls m s.shown s.well.safe (orderly_here old m s) (loads_here old m s are))
+    (λ m s. ∥∥₁_map does (λ d. let a = d m s.shown s.well.safe (orderly_here old m s) (loads_here old m s) in (absorbed m w a.strand, a.steps, a.shown)))
+    (λ m s. stalls m s.shown s.well.safe (orderly_here old m s) (loads_here old m s))
 
 -- ---- a stage stays a machine
 
@@ -67,9 +59,9 @@ module _ (old : Stage) (k : Run) (many : length k.hands.items ≡ length old.run
 -- ---- a frame that is loaded
 
 module _ (stage : Stage) (kept : ∥ IsMachine stage ∥₁) (worker slot : ℕ) (node : Node Activation) (x : Pile) (hand : hand_of stage.run.hands.items worker ≡ Some slot) (stands : node_at stage.run.cactus slot ≡ Some node) where
-  pub is_begun : x.base.path.items ≡ node.path.numbers → IsCopy node.frame.frame x.base.frame → (x.base.childless ≡ true → HasNoChild node.frame) → x.done ≡ 0 → ((a : ℤ) → (log_of x.cells).reads a ≡ None) →
-      ∥ IsUnderWay (program_of stage) stage.places x ∥₁ → IsBegun stage worker x
-  is_begun path copy childless done reads way = record {
+  pub is_begun : x.base.path.items ≡ node.path.numbers → IsCopy node.frame.frame x.base.frame → (x.base.childless ≡ true → HasNoChild node.frame) → x.done ≡ 0 → ((a : ℤ) → (log_of x.cells.log).reads a ≡ None) →
+      IsFree (program_of stage) stage.run (segment_block x.cells) → ∥ IsUnderWay (program_of stage) stage.places x ∥₁ → IsBegun stage worker x
+  is_begun path copy childless done reads free way = record {
     way = λ places are. subst (λ (q : Places). ∥ IsUnderWay (program_of stage) q x ∥₁) (sym (same_places stage kept places are)) way;
     fits = (
       slot,
@@ -81,6 +73,7 @@ module _ (stage : Stage) (kept : ∥ IsMachine stage ∥₁) (worker slot : ℕ)
         frame = copy_back node.frame.frame x.base.frame copy;
         childless = childless;
         reads = λ a v read. absurd (let none : None ≡ Some v = sym (reads a) ∙ read in cc);
+        free = free;
       },
     );
     done = done;

@@ -23,14 +23,14 @@ pub record IsPileOf (program : Program) (x : Pile) : Type 0 where
 
 -- the worker runs the base as it was loaded, at its path, without children if it had none, and each cell that was read holds what was read
 abbrev pub FitsStack : Stage → ℕ → Pile → Type 0
-FitsStack stage worker x = (slot : ℕ) × FitsDeep stage.run worker x slot
+FitsStack stage worker x = (slot : ℕ) × FitsDeep (program_of stage) stage.run worker x slot
 
 -- the base is the worker's frame, before its first instruction
 pub record IsBegun (stage : Stage) (worker : ℕ) (x : Pile) : Type 0 where
   pub way : (places : Places) → ArePlaces (program_of stage) places → ∥ IsUnderWay (program_of stage) places x ∥₁
   pub fits : FitsStack stage worker x
   pub done : x.done ≡ 0
-  pub reads : (a : ℤ) → (log_of x.cells).reads a ≡ None
+  pub reads : (a : ℤ) → (log_of x.cells.log).reads a ≡ None
 
 abbrev pub RunsNothing : Stage → ℕ → Type 0
 RunsNothing stage worker = (m : running.Machine) → IsState stage m → m.hands worker ≡ None

@@ -7,6 +7,7 @@ mod absorb;
 mod events;
 mod globals;
 mod laws;
+mod lending;
 mod machine;
 mod parent;
 mod piles;

@@ -66,7 +66,7 @@ pub fn fill_pile(pile: &mut Pile, verified: &Verified, places: &Places, at: i64,
     requires few { length page.now ≤ 64 }
     requires going { ∥ IsGoing verified.now places.now pile.old (Pause.Need at) ∥₁ }
     ensures only { pile.new ≡ record pile.old { cells = pile.new.cells } }
-    ensures filled { log_of pile.new.cells ≡ filled_log (log_of pile.old.cells) at page.now }
+    ensures filled { log_of pile.new.cells.log ≡ filled_log (log_of pile.old.cells.log) at page.now }
     ensures way { ∥ IsUnderWay verified.now places.now pile.new ∥₁ }
 {
     pile.fill(verified.program(), places, &at, page);
@@ -127,10 +127,14 @@ impl Machine<'_> {
             return Ok(false);
         };
         let childless = has_no_child(&node.frame);
+        let program = self.stage.verified.program();
+        let part = self.stage.run.free_part(program, worker);
         pile.load(
             &node.frame.frame,
             node.path.numbers.as_slice(),
             childless,
+            part.start as u64,
+            part.cells,
             self.stage.run.cells.cells.len(),
         )?;
         Ok(true)

@@ -67,7 +67,7 @@ abbrev pub Fills : Story → Apart → Apart → Bool → Type 0
 Fills s x y true =
     (at : ℤ) × (x.standing ≡ Need at) × IsSome (cell_in s.stage.run.cells.cells.items at) × (y.standing ≡ Going) ×
     (y.pile ≡ record x.pile { cells = y.pile.cells }) ×
-    (log_of y.pile.cells ≡ filled_log (log_of x.pile.cells) at (page_around s.stage.run.cells.cells.items at))
+    (log_of y.pile.cells.log ≡ filled_log (log_of x.pile.cells.log) at (page_around s.stage.run.cells.cells.items at))
 Fills s x y false = (y ≡ x) × ((at : ℤ) → x.standing ≡ Need at → cell_in s.stage.run.cells.cells.items at ≡ None)
 
 -- ---- what is put on the board

@@ -89,7 +89,10 @@ impl<'a, L: Bench> Board<'a, L> {
         let Ok(start) = Start::new(alloc, verified, arguments, &memory, workers) else {
             return Err(RunFault::OutOfMemory);
         };
-        let machine = Machine::start(alloc, verified, arguments, memory, workers)?;
+        let mut machine = Machine::start(alloc, verified, arguments, memory, workers)?;
+        let Ok(()) = machine.lend() else {
+            return Err(RunFault::OutOfMemory);
+        };
         let (book, all) = blank.open::<L>();
         let Ok(seats) = seats(alloc, workers as u8, all) else {
             return Err(RunFault::OutOfMemory);

@@ -234,7 +234,7 @@ impl<'p, L: Bench> PrivateStack<'p, L> {
         requires needs { self.old.standing ≡ Standing.Need at }
         ensures goes_on { self.new.standing ≡ Standing.Going }
         ensures only { self.new.pile ≡ record self.old.pile { cells = self.new.pile.cells } }
-        ensures filled { log_of self.new.pile.cells ≡ filled_log (log_of self.old.pile.cells) at page.now }
+        ensures filled { log_of self.new.pile.cells.log ≡ filled_log (log_of self.old.pile.cells.log) at page.now }
     {
         fill_pile(&mut self.pile, self.verified, self.places, at, page);
         self.standing = Standing::Going;

@@ -1,17 +1,17 @@
-//! A machine that is given the events of a board's history one by one.
+//! A machine that is given the events of a board's history one by one. Its frames' allocas may lie elsewhere than the board's, so neither addresses
+//! are compared nor what stands there: what a frame loads shows in its registers.
 
 use lists::OutOfMemory;
+use program::{Program, RegisterKind};
 use schedule_core::{Event, Machine, TaskView};
-use shared_run::{Bench, Board, Entry, History};
+use shared_run::{Bench, Board, Entry, History, Verified};
 use std::alloc::Global;
-
-/// The most cells that are compared.
-const MOST_CELLS: i64 = 4096;
 
 /// The machine after the events of a history that it was given.
 #[derive(Drop)]
 pub struct Mirror<'v> {
     alloc: Global,
+    verified: &'v Verified,
     workers: u8,
     machine: Machine<'v>,
     events: u64,
@@ -19,9 +19,15 @@ pub struct Mirror<'v> {
 
 impl<'v> Mirror<'v> {
     /// A mirror at a machine before the first event.
-    pub fn new(alloc: Global, machine: Machine<'v>, workers: u8) -> Mirror<'v> {
+    pub fn new(
+        alloc: Global,
+        verified: &'v Verified,
+        machine: Machine<'v>,
+        workers: u8,
+    ) -> Mirror<'v> {
         Mirror {
             alloc,
+            verified,
             workers,
             machine,
             events: 0,
@@ -56,43 +62,70 @@ impl<'v> Mirror<'v> {
 
     /// Whether the board stands where the mirror does, after as many events.
     pub fn shows<L: Bench>(&self, board: &Board<'_, L>) -> bool {
-        board.total() == self.events && is_same(&self.machine, board.machine(), self.workers)
+        let program = self.verified.program();
+        board.total() == self.events
+            && is_same(program, &self.machine, board.machine(), self.workers)
     }
 }
 
-fn is_same_task(one: &Option<TaskView<'_>>, other: &Option<TaskView<'_>>) -> bool {
-    match (one, other) {
-        (Some(one), Some(other)) => {
-            one.path.is_same(other.path)
-                && one.top_path.is_same(other.top_path)
-                && one.line == other.line
-                && one.top.registers.as_slice() == other.top.registers.as_slice()
-        }
-        (None, None) => true,
-        _ => false,
-    }
+/// Whether the register holds no address.
+fn is_number(kind: &RegisterKind) -> bool {
+    matches!(kind, RegisterKind::Number(_) | RegisterKind::Truth)
 }
 
-fn has_same_tasks(one: &Machine<'_>, other: &Machine<'_>, workers: u8) -> bool {
-    for worker in 0..workers {
-        if !is_same_task(&one.task_of(worker), &other.task_of(worker)) {
+/// Whether the registers that hold no addresses hold the same.
+fn has_same_numbers(program: &Program, one: &TaskView<'_>, other: &TaskView<'_>) -> bool {
+    let Some(function) = program.functions.as_slice().get(one.top.function.0) else {
+        return false;
+    };
+    let words = one.top.registers.as_slice();
+    let others = other.top.registers.as_slice();
+    for (register, kind) in function.registers.as_slice().iter().enumerate() {
+        if is_number(kind) && words.get(register).copied() != others.get(register).copied() {
             return false;
         }
     }
     true
 }
 
-/// Whether all cells of objects hold the same. They lie in both rows: a call that is refused memory may leave a row longer, by words that no object has.
-fn has_same_cells(one: &Machine<'_>, other: &Machine<'_>) -> bool {
-    for at in 0..MOST_CELLS {
-        let (Some(cell), Some(there)) = (one.cell_at(at), other.cell_at(at)) else {
-            return true;
-        };
-        if cell != there {
+fn is_same_task(
+    program: &Program,
+    one: &Option<TaskView<'_>>,
+    other: &Option<TaskView<'_>>,
+) -> bool {
+    match (one, other) {
+        (Some(one), Some(other)) => {
+            one.path.is_same(other.path)
+                && one.top_path.is_same(other.top_path)
+                && one.line == other.line
+                && has_same_numbers(program, one, other)
+        }
+        (None, None) => true,
+        _ => false,
+    }
+}
+
+fn has_same_tasks(program: &Program, one: &Machine<'_>, other: &Machine<'_>, workers: u8) -> bool {
+    for worker in 0..workers {
+        if !is_same_task(program, &one.task_of(worker), &other.task_of(worker)) {
             return false;
         }
     }
-    false
+    true
+}
+
+/// Whether the globals hold the same. They are the first cells of both rows.
+fn has_same_globals(program: &Program, one: &Machine<'_>, other: &Machine<'_>) -> bool {
+    let mut cells: u64 = 0;
+    for global in program.globals.as_slice() {
+        cells = cells.saturating_add(global.cells);
+    }
+    for at in 0..cells.cast_signed() {
+        if one.cell_at(at) != other.cell_at(at) {
+            return false;
+        }
+    }
+    true
 }
 
 fn has_same_first(one: &Machine<'_>, other: &Machine<'_>) -> bool {
@@ -104,12 +137,12 @@ fn has_same_first(one: &Machine<'_>, other: &Machine<'_>) -> bool {
 }
 
 /// Whether both machines stand as well, as far as they are looked at.
-fn is_same(one: &Machine<'_>, other: &Machine<'_>, workers: u8) -> bool {
+fn is_same(program: &Program, one: &Machine<'_>, other: &Machine<'_>, workers: u8) -> bool {
     one.instructions() == other.instructions()
         && one.live_frames() == other.live_frames()
         && one.peak() == other.peak()
         && one.result() == other.result()
         && has_same_first(one, other)
-        && has_same_cells(one, other)
-        && has_same_tasks(one, other, workers)
+        && has_same_globals(program, one, other)
+        && has_same_tasks(program, one, other, workers)
 }

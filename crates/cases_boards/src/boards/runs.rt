@@ -180,7 +180,7 @@ fn play<L: Bench>(
     let Ok(machine) = machine else {
         return Err(OutOfMemory);
     };
-    let mut mirror = Mirror::new(alloc, machine, (workers % 256) as u8);
+    let mut mirror = Mirror::new(alloc, run.verified, machine, (workers % 256) as u8);
     match run.calls {
         Calls::Rows(rows) => play_rows(run, board, seats, players, rows, &mut mirror, notes),
         Calls::Drawn(seed) => play_drawn(alloc, board, seats, players, seed, &mut mirror, notes),

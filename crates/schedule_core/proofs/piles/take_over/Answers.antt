@@ -35,7 +35,7 @@ does c is =
     let old = c.args.stage.now in
     let k = c.absorb_deep.new.run in
     let x = c.args.pile.now in
-    takes_pile old c.requires.machine k c.absorb_deep.ensures.workers c.args.worker x
+    takes_pile old k c.absorb_deep.ensures.workers c.args.worker x
     (subst (λ (q : Program). ∥ DoesDeep q old.places old.run k c.args.worker x ∥₁) c.program-program.ensures.value (c.absorb_deep.ensures.does is))
     (subst (λ (q : Program). LeavesStallsDeep q old.places old.run k c.args.worker x) c.program-program.ensures.value (c.absorb_deep.ensures.stalls is))
 

@@ -1,4 +1,4 @@
-use Rattle.std.proofs.Common.{sym, ap, ◌∙◌, length, subst}
+use Rattle.std.proofs.Common.{[], sym, ap, ◌∙◌, length, subst}
 use Rattle.schedule_core.specs.store.Made.{IsMadeFor}
 use Rattle.shared_run.specs.Story.{Origin, origin}
 use Rattle.shared_run.proofs.Stories.{legal_begin, legal_start}
@@ -6,13 +6,14 @@ use Rattle.shared_run.proofs.board.Board.new.Goals as goal
 
 pub invariant_of-result : goal.invariant_of-result
 invariant_of-result g c =
-    let stage = c.in_ok-machine.machine.stage in
+    let stage = c.lend.new.machine.stage in
     let memory = c.in_ok-memory.memory in
     let o : Origin = origin c.args.verified.now c.args.arguments.now memory c.args.workers in
     let started = c.in_ok-machine.ensures in
+    let replays = c.lend.ensures.replays c.args.verified.now c.args.arguments.now memory c.args.workers [] started.replays in
     let made : IsMadeFor c.args.verified.now memory = subst (λ m. IsMadeFor c.args.verified.now m) (sym c.in_ok-memory.ensures.same) c.requires.made in (
       legal_begin o c.in-Ok.start c.new-history.result.events stage c.in-Ok.ensures c.new-history.ensures
-          (legal_start o stage started.replays started.in_range c.program-accepted.ensures.accepted started.met made),
+          (legal_start o stage replays started.in_range c.program-accepted.ensures.accepted started.met made),
       c.open-book.ensures.total ∙ sym (ap length c.new-history.ensures),
       ap (λ (x : Origin). x.program) {y = o} c.in-Ok.ensures ∙ c.requires.code,
       ap (λ (x : Origin). x.workers) {y = o} c.in-Ok.ensures ∙ c.requires.crew,
