@@ -10,6 +10,7 @@ ghost use Rattle.syntax.specs.declared.operator.Width.TheVariants.{Bits64};
 ghost use Rattle.frame_engine.specs.Accesses.{Zeroed, ZeroedOf, ZeroingRefused};
 ghost use Rattle.frame_engine.specs.Activation.{LedFrame, ShowsFrame, allocas_of, bases_in};
 ghost use Rattle.frame_engine.specs.Names.{HasObject, sizes};
+ghost use Rattle.frame_engine.specs.Words.{IsFirst};
 ghost use Rattle.frame_engine.specs.Shows.{IsSafe, Layout, Safe, ShowsCells, address};
 
 use crate::activation::{Frame, Places};
@@ -36,6 +37,23 @@ fn write_zeros<C: Cells>(cells: &mut C, at: &i64, count: u64) -> Result<(), C::S
 }
 
 impl Frame {
+    /// The address of the object's first cell.
+    pub fn first_cell(&self, places: &Places, object: ObjectName) -> i64
+        requires there { self.now.function.0 < length places.now.allocas }
+        requires names { HasObject (sizes (length self.now.registers.items) (length places.now.globals)
+            (length (allocas_of places.now self.now.function.0))) object }
+        ensures { IsFirst (bases_in places.now self.now) self.now.registers.items object result }
+    {
+        let allocas = &places.allocas.as_slice()[self.function.0];
+        first(
+            places.globals.as_slice(),
+            allocas.as_slice(),
+            &self.home,
+            self.registers.as_slice(),
+            object,
+        )
+    }
+
     /// Does the array store at its place: so many cells of the object take the number 0.
     pub fn clear<C: Cells>(
         &mut self,
@@ -64,14 +82,7 @@ impl Frame {
             item_at prog g.function g.block g.index ≡ Some (Does (instruction.StoreZeros count object)) → Safe prog l p g m →
             (o : Object) × (object_at g object ≡ Some o) × ZeroingRefused C.does C.refuses (address l (frames.first_cell o)) count cells.old cells.new stop) }
     {
-        let allocas = &places.allocas.as_slice()[self.function.0];
-        let at = first(
-            places.globals.as_slice(),
-            allocas.as_slice(),
-            &self.home,
-            self.registers.as_slice(),
-            object,
-        );
+        let at = self.first_cell(places, object);
         write_zeros(cells, &at, count)?;
         self.place.index += 1;
         Ok(())

@@ -1,0 +1,2 @@
+use Rattle.std.proofs.Common.{◌∙◌}
+use Rattle.private_stack.proofs.cells.PileCells.reserve.Goals as goal
