@@ -83,8 +83,12 @@ impl Frame {
             (o : Object) × (object_at g object ≡ Some o) × ZeroingRefused C.does C.refuses (address l (frames.first_cell o)) count cells.old cells.new stop) }
     {
         let at = self.first_cell(places, object);
-        write_zeros(cells, &at, count)?;
-        self.place.index += 1;
-        Ok(())
+        match write_zeros(cells, &at, count) {
+            Ok(()) => {
+                self.place.index += 1;
+                Ok(())
+            }
+            Err(stop) => Err(stop),
+        }
     }
 }
