@@ -6,8 +6,9 @@ use Rattle.std.specs.Ordering.{int_eq}
 use Rattle.std.proofs.lemmas.Bool.Decides.{Decides-int_eq}
 use Rattle.semantics.specs.Arithmetic.{wrapped}
 use Rattle.syntax.specs.declared.operator.Width.TheVariants.{Bits64}
+use Rattle.semantics.specs.Paths.{Path}
 use Rattle.semantics.specs.Cells.{Cell, Memory, Object}
-use Rattle.semantics.specs.Frames.{Does, Frame, item_at, object_at}
+use Rattle.semantics.specs.Frames.{Does, Frame, first_cell, item_at, object_at}
 use Rattle.semantics.specs.Effect.{Plain, action_of, given, item_action, stores_zeros}
 use Rattle.semantics.specs.State as state
 use Rattle.program.specs.declared.function.Program.{Program}
@@ -16,15 +17,18 @@ use Rattle.program.specs.declared.instruction.Instruction.TheVariants as instruc
 use Rattle.frame.specs.declared.frame.Wait.TheVariants as wait
 use Rattle.frame_engine.specs.Access.{Stores}
 use Rattle.frame_engine.specs.Accesses.{Zeroed, ZeroedOf, ZeroingRefused}
-use Rattle.frame_engine.specs.Activation.{FrameFits, LedFrame, bases_in}
-use Rattle.frame_engine.specs.Shows.{Layout, PlainSteps, Safe, SafeSomewhere, address, here, memory_after, more}
+use Rattle.frame_engine.specs.Activation.{FrameFits, LedFrame, ShowsFrame, bases_in}
+use Rattle.frame_engine.specs.Shows.{Layout, PlainSteps, Safe, SafeSomewhere, ShowsCells, address, here, memory_after, more}
 use Rattle.frame_engine.specs.declared.activation.Frame as machine
 use Rattle.frame_engine.specs.declared.activation.Places.{Places}
 use Rattle.frame_engine.specs.declared.turning.Pause.TheVariants as engine_pause
 use Rattle.frame_engine.proofs.Activations.{shows_all}
+use Rattle.frame_engine.specs.Words.{IsFirst}
 use Rattle.frame_engine.proofs.Runs.{safe_for}
+use Rattle.frame_engine.proofs.Shown.{first_is}
 use Rattle.frame_engine.proofs.Texts.{behind_step, frame_stands, located}
 use Rattle.frame_strand.proofs.Walking.{one_way}
+use Rattle.frame_strand.specs.declared.cells.Change.TheVariants.{Stored}
 use Rattle.frame_strand.specs.declared.cells.Stop.{Stop}
 use Rattle.private_stack_log.specs.Logs.{IsWider, Log, has_place, is_open}
 use Rattle.private_stack_log.specs.Tables.{Table, log_of}
@@ -88,25 +92,25 @@ either P a b false e same other = other (λ q. let h : int_eq a b ≡ true = (De
 
 record Keeps (x c : PileCells) : Type 0 where
   own : (b : ℤ) → IsSome (own_cell x b) → IsSome (own_cell c b)
-  open : (b : ℤ) → is_open (log_of x.log) b ≡ true → is_open (log_of c.log) b ≡ true
+  in_use : (b : ℤ) → is_open (log_of x.log) b ≡ true → is_open (log_of c.log) b ≡ true
 
 keeps_by : (o : Option ℤ) (x c : PileCells) (a z : ℤ) → own_cell x a ≡ o → DoBy o x (Stores a z) c → Keeps x c
 keeps_by (Some v) x c a z e done = record {
   own = λ b some. either (IsSome (own_cell c b)) b a (int_eq b a) refl (λ q. subst IsSome (sym (ap (own_cell c) q ∙ done.here)) refl) (λ q. subst IsSome (sym (done.others b q)) some);
-  open = λ b h. subst (λ (t : Table). is_open (log_of t) b ≡ true) (sym done.log) h;
+  in_use = λ b h. subst (λ (t : Table). is_open (log_of t) b ≡ true) (sym done.log) h;
 }
 keeps_by None x c a z e done = record {
   own = λ b some. subst IsSome (sym (ap (λ (y : PileCells). own_cell y b) done.1)) some;
-  open = λ b h. subst (λ (y : Log). is_open y b ≡ true) (sym done.0.is) (open_changed (log_of x.log) a _ b h);
+  in_use = λ b h. subst (λ (y : Log). is_open y b ≡ true) (sym done.0.is) (open_changed (log_of x.log) a (Stored z) b h);
 }
 
 zeroed_keeps : (at : ℤ) (x : PileCells) (n : ℕ) (c : PileCells) → Zeroed CellsDo at x n c → Keeps x c
-zeroed_keeps at x zero c same = record { own = λ b some. subst IsSome (sym (ap (λ (y : PileCells). own_cell y b) same)) some; open = λ b h. subst (λ (y : PileCells). is_open (log_of y.log) b ≡ true) (sym same) h }
+zeroed_keeps at x zero c same = record { own = λ b some. subst IsSome (sym (ap (λ (y : PileCells). own_cell y b) same)) some; in_use = λ b h. subst (λ (y : PileCells). is_open (log_of y.log) b ≡ true) (sym same) h }
 zeroed_keeps at x (suc n) c (mid, before, done) =
     let w = zeroed_keeps at x n mid before in
     let a = wrapped Bits64 (at +ℤ pos n) in
     let t = keeps_by (own_cell mid a) mid c a (pos 0) refl done in
-    record { own = λ b some. t.own b (w.own b some); open = λ b h. t.open b (w.open b h) }
+    record { own = λ b some. t.own b (w.own b some); in_use = λ b h. t.in_use b (w.in_use b h) }
 
 refuses_open : (o : Option ℤ) (x c : PileCells) (a : ℤ) (stop : Stop) → own_cell c a ≡ o → Keeps x c → CanStore x a → RefuseBy o c (Stores a (pos 0)) stop → ⊥
 refuses_open (Some v) x c a stop e keeps can why = why
@@ -114,7 +118,7 @@ refuses_open None x c a stop e keeps can why = from (own_cell x a) refl
   where
     from : (p : Option ℤ) → own_cell x a ≡ p → ⊥
     from (Some v) is = let some = subst IsSome e (keeps.own a (subst IsSome (sym is) refl)) in cc
-    from None is = let place = has_place_open (log_of c.log) a (keeps.open a (can is)) in let both : true ≡ false = sym place ∙ why.none in cc
+    from None is = let place = has_place_open (log_of c.log) a (keeps.in_use a (can is)) in let both : true ≡ false = sym place ∙ why.none in cc
 
 pub never_refused : (at : ℤ) (count : ℕ) (x c : PileCells) (stop : Stop) → ((i : ℕ) → i < count → CanStore x (wrapped Bits64 (at +ℤ pos i))) → ZeroingRefused CellsDo CellsRefuse at count x c stop → ⊥
 never_refused at count x c stop can why =
@@ -188,5 +192,58 @@ module _ (prog : Program) (places : Places) (x : Pile) (l : Layout) (s : Segment
         only_place = only ∙ sym (λ i. record x.top { place = (only i).place; registers = (only i).registers })
 
         pub array_goes : (j : Pile) → j ≡ record x { top = record f { waits = wait.Nothing }; done = x.done + 1; cells = b; moves = j.moves } → Deeper l prog places s d j
+        unfolding counted
         array_goes j e =
             (goes_free prog places x l s d is h can engine_pause.Limit f (x.done + 1) b only_place behind tt counted went (λ none. (omega (arith, none))) j e).0
+
+-- ---- after a place was made for each cell
+
+module _ (prog : Program) (places : Places) (x : Pile) (name : ObjectName) (count : ℕ) (item : item_here prog x.top ≡ Some (Does (instruction.StoreZeros count name))) (b : PileCells) (only : b ≡ record x.cells { log = b.log })
+    (wide : IsWider (log_of x.cells.log) (log_of b.log))
+  where
+    abbrev y : Pile
+    y = record x { cells = record x.cells { log = b.log } }
+
+    pub reserved_goes : GoesOn prog places x (record x { cells = b })
+    reserved_goes = subst (λ (c : PileCells). GoesOn prog places x (record x { cells = c })) (sym only) (wider_goes prog places x b.log wide)
+
+    pub reserved_safe : Stands prog places x → SafeSomewhere (bases_in places x.top) (any_cell b) (may_be b) x.top.registers.items (instruction.StoreZeros count name)
+    reserved_safe w =
+        let v = wider_stands prog places x b.log wide w in
+        subst (λ (c : PileCells). SafeSomewhere (bases_in places x.top) (any_cell c) (may_be c) x.top.registers.items (instruction.StoreZeros count name)) (sym only)
+        (safe_store prog places y v.layout v.segment v.strand v.is v.shown v.can name count item)
+
+    -- what the engine says of an array store from these cells
+    abbrev pub Says : (Layout → Path → Frame → Memory → Type 0) → PileCells → Type 0
+    Says P c =
+        (l : Layout) (p : Path) (g : Frame) (m : Memory) → ShowsFrame l places p g x.top → ShowsCells l (any_cell c) (may_be c) m → item_at prog g.function g.block g.index ≡ Some (Does (instruction.StoreZeros count name)) →
+        Safe prog l p g m → P l p g m
+
+    pub never_stops : (at : ℤ) → IsFirst (bases_in places x.top) x.top.registers.items name at → ((i : ℕ) → i < count → CanStore b (wrapped Bits64 (at +ℤ pos i))) → (c : PileCells) (stop : Stop) →
+        Says (λ l p g m. (o : Object) × (object_at g name ≡ Some o) × ZeroingRefused CellsDo CellsRefuse (address l (first_cell o)) count b c stop) b → Stands prog places x → ⊥
+    never_stops at first can c stop says w =
+        let v = wider_stands prog places x b.log wide w in
+        let d = v.strand in
+        let k = go.k prog places y v.layout v.segment d v.is v.shown v.can in
+        let m = go.now prog places y v.layout v.segment d v.is v.shown v.can in
+        let cells = subst (λ (q : PileCells). ShowsCells k (any_cell q) (may_be q) m) (sym only) (go.cells prog places y v.layout v.segment d v.is v.shown v.can) in
+        let there = place prog places y v.layout v.segment d v.is v.shown v.can name count item in
+        let safe = safe_now prog places y v.layout v.segment d v.is v.shown v.can name count item in
+        let (o, names, why) = says k d.top.path d.top.frame m v.shown.top.shown cells there safe in
+        let sound = safe_for prog k d.top.path d.top.frame m (instruction.StoreZeros count name) safe there in
+        let at_is : at ≡ address k (first_cell o) = first_is k (bases_in places x.top) x.top.registers.items d.top.frame name at o v.shown.top.shown.bases v.shown.top.shown.registers sound.whole first names in
+        never_refused at count b c stop can (subst (λ (a : ℤ). ZeroingRefused CellsDo CellsRefuse a count b c stop) (sym at_is) why)
+
+    pub array_done : FrameFits prog x.top → (c : PileCells) (f : machine.Frame) → f ≡ record x.top { place = record { block = x.top.place.block; index = x.top.place.index + 1 } } →
+        Says (λ l p g m. LedFrame prog l places p g m 0 1 (any_cell c) (may_be c) f) b → Says (λ l p g m. ZeroedOf CellsDo l g name count b c) b →
+        (j : Pile) → j ≡ record x { top = record f { waits = wait.Nothing }; done = x.done + 1; cells = c; moves = j.moves } → GoesOn prog places x j
+    array_done stands c f only_f leads zeroes j e l s d is h can =
+        let shown = wider_shown prog places x b.log wide l s d h in
+        let k = go.k prog places y l s d is shown can in
+        let m = go.now prog places y l s d is shown can in
+        let cells = subst (λ (q : PileCells). ShowsCells k (any_cell q) (may_be q) m) (sym only) (go.cells prog places y l s d is shown can) in
+        let there = place prog places y l s d is shown can name count item in
+        let safe = safe_now prog places y l s d is shown can name count item in
+        array_goes prog places y l s d is shown can name count item stands c f only_f
+        (leads k d.top.path d.top.frame m h.top.shown cells there safe)
+        (subst (λ (q : PileCells). ZeroedOf CellsDo k d.top.frame name count q c) only (zeroes k d.top.path d.top.frame m h.top.shown cells there safe)) j e

@@ -42,6 +42,12 @@ one_kept true true t u w here below other = rw (here refl) refl
 one_kept true false true u w here below other = rw (below refl) refl
 one_kept true false false u w here below other = rw (other refl refl) refl
 
+last_or : (j k : ℕ) → j < suc k → (k ≡ j → ⊥) → j < k
+last_or j k low other = elim (leb_tells (suc j) k) [
+  | inl h ↦ (let r = h.1 in omega (arith, r))
+  | inr h ↦ absurd (let r = h.1 in other (omega (arith, r, low)))
+]
+
 -- with one more of them
 next_zeros : (f : Footprint) (g : Frame) (o : Object) (n : ℕ) → with_writes (zeros f g o n) (stores g (record { object = o; index = n }) (pos 0)).writes (stores g (record { object = o; index = n }) (pos 0)).adds ≡ zeros f g o (suc n)
 next_zeros f g o n = λ i. record f { writes = λ y. at y i }
@@ -57,12 +63,6 @@ next_zeros f g o n = λ i. record f { writes = λ y. at y i }
           | inl h ↦ let both : true ≡ false = sym h.0 ∙ e in cc
           | inr h ↦ let both : true ≡ false = sym (lt-ltb y.index n (last_or y.index n below h.1)) ∙ low in cc
         ]))
-
-    last_or : (j k : ℕ) → j < suc k → (k ≡ j → ⊥) → j < k
-    last_or j k low other = elim (leb_tells (suc j) k) [
-      | inl h ↦ (let r = h.1 in omega (arith, r))
-      | inr h ↦ absurd (let r = h.1 in other (omega (arith, r, low)))
-    ]
 
 module _ (l k : Layout) (first : Cell → ℤ) (s : Segment) (end : ℕ) (over : LiesOver l k s.start end) (outside : (c : Cell) → IsIn l c → IsOutside s (address l c)) (m : Memory) (begins : (c : Cell) → (IsIn l c → ⊥) → IsIn k c → m c ≡ Some (first c)) where
   -- ---- one store

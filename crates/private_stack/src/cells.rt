@@ -8,7 +8,7 @@ ghost use Rattle.syntax.specs.declared.operator.Width.TheVariants.{Bits64};
 ghost use Rattle.private_stack.specs.OwnCells.{CanStore, CellsDo, CellsRefuse, any_cell, may_be, own_cell};
 ghost use Rattle.private_stack.specs.Putting.{ArePutInto, IsCopiedTo};
 
-use frame_engine::{Cells, sum};
+use frame_engine::{Cells, behind, sum};
 use frame_strand::Stop;
 use private_stack_log::PageLog;
 
@@ -70,7 +70,7 @@ impl PileCells {
             if !self.open(&next) {
                 return false;
             }
-            next = next.wrapping_add(1);
+            next = behind(next, 1);
         }
         true
     }

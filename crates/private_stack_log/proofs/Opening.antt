@@ -1,12 +1,13 @@
 -- Pages that are in use stay so, and their cells have places.
-use Rattle.std.proofs.Common.{◌≡◌, ◌∙◌, ℕ, ℤ, pos, negsuc, ◌/◌, Bool, true, false, cond, nat_eq, nat_lt, ◌&&◌, ◌||◌, refl, sym, ap}
+use Rattle.std.proofs.Common.{◌≡◌, ◌∙◌, ℕ, ℤ, pos, negsuc, ◌/◌, Bool, true, false, cond, nat_eq, nat_lt, ◌&&◌, ◌||◌, refl, sym, ap, arith, subst}
 use Rattle.std.proofs.lemmas.Bool.{and_parts}
 use Rattle.std.proofs.lemmas.Bool.Decides.{nat_tests}
 use Rattle.frame_strand.specs.declared.cells.Change.{Change}
 use Rattle.private_stack_log.specs.Logs.{IsWider, Log, changed_log, has_place, is_open, pages_with, used_with, with_page}
+use Rattle.private_stack_log.specs.Tables.{Table, log_of}
 
 same_number : (n : ℕ) → nat_eq n n ≡ true
-same_number n = grind nat_tests
+same_number n = grind (arith, nat_tests)
 
 pub opened : (x : Log) (a : ℤ) → has_place x a ≡ true → is_open (with_page x a) a ≡ true
 opened x (pos n) e =
@@ -30,13 +31,13 @@ still_open x (negsuc n) b e = by b e
     by (negsuc m) h = h
 
 pub with_page_wider : (x : Log) (a : ℤ) → IsWider x (with_page x a)
-with_page_wider x a = record { near = refl; reads = refl; writes = refl; open = λ b e. still_open x a b e }
+with_page_wider x a = record { near = refl; reads = refl; writes = refl; in_use = λ b e. still_open x a b e }
 
 pub same_wider : (x : Log) → IsWider x x
-same_wider x = record { near = refl; reads = refl; writes = refl; open = λ b e. e }
+same_wider x = record { near = refl; reads = refl; writes = refl; in_use = λ b e. e }
 
 pub wider_on : (x y z : Log) → IsWider x y → IsWider y z → IsWider x z
-wider_on x y z p q = record { near = q.near ∙ p.near; reads = q.reads ∙ p.reads; writes = q.writes ∙ p.writes; open = λ a e. q.open a (p.open a e) }
+wider_on x y z p q = record { near = q.near ∙ p.near; reads = q.reads ∙ p.reads; writes = q.writes ∙ p.writes; in_use = λ a e. q.in_use a (p.in_use a e) }
 
 -- a page in use has a place, and is in use after a change
 pub has_place_open : (x : Log) (a : ℤ) → is_open x a ≡ true → has_place x a ≡ true
@@ -51,3 +52,8 @@ open_changed x a u b e = by b (still_open x a b e)
     by : (c : ℤ) → is_open (with_page x a) c ≡ true → is_open (changed_log x a u) c ≡ true
     by (pos m) h = h
     by (negsuc m) h = h
+
+-- whether a page was put in use or not
+pub reserved_wider : (r : Bool) (x y : Table) (a : ℤ) → (r ≡ true → log_of y ≡ with_page (log_of x) a) → (r ≡ false → y ≡ x) → IsWider (log_of x) (log_of y)
+reserved_wider true x y a put same = subst (IsWider (log_of x)) (sym (put refl)) (with_page_wider (log_of x) a)
+reserved_wider false x y a put same = subst (λ (t : Table). IsWider (log_of x) (log_of t)) (sym (same refl)) (same_wider (log_of x))

@@ -40,7 +40,7 @@ pub record IsWider (old new : Log) : Type 0 where
   pub near : new.near ≡ old.near
   pub reads : new.reads ≡ old.reads
   pub writes : new.writes ≡ old.writes
-  pub open : (a : ℤ) → is_open old a ≡ true → is_open new a ≡ true
+  pub in_use : (a : ℤ) → is_open old a ≡ true → is_open new a ≡ true
 
 -- what the cell holds, as far as that is at hand
 abbrev pub value_at : Log → ℤ → Option ℤ

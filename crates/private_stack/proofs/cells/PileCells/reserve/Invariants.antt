@@ -11,5 +11,5 @@ invariant-loop-index l = record {
   only : l.self ≡ record l.fn.self { log = l.self.log };
   wider : IsWider (log_of l.fn.self.log) (log_of l.self.log);
   at : l.next ≡ wrapped Bits64 (l.at +ℤ pos l._index);
-  open : (j : ℕ) → j < l._index → CanStore l.self (wrapped Bits64 (l.at +ℤ pos j));
+  can : (j : ℕ) → j < l._index → CanStore l.self (wrapped Bits64 (l.at +ℤ pos j));
 }
