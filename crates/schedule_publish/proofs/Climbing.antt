@@ -183,183 +183,183 @@ module _ (prog : Program) (places : Places) (moves : ℕ) (text : TextFits prog 
     (can : CanGo prog l s d) (runs : Runs m w d) (orderly : IsOrderly m) (points : (q : Path) (f : Shown) → (absorbed m w d).core.frames q ≡ Some f → PointsUp q f)
     (nowhere : (q : Path) (a : ℕ) → m.core.frames q ≡ None → l.at (Local q a) ≡ pos 0)
   where
-  abbrev k : Layout
-  k = layout_above l prog s.start d.top d.below
+    abbrev k : Layout
+    k = layout_above l prog s.start d.top d.below
 
-  abbrev z : State
-  z = (absorbed m w d).core
+    abbrev z : State
+    z = (absorbed m w d).core
 
-  abbrev ClimbsFrom : (ℕ → ℕ) → Placed → Frame → List Placed → List Frame → Type 0
-  ClimbsFrom = Climbs prog places k s m.core z
+    abbrev ClimbsFrom : (ℕ → ℕ) → Placed → Frame → List Placed → List Frame → Type 0
+    ClimbsFrom = Climbs prog places k s m.core z
 
-  abbrev older : ℕ → ℕ
-  older = count_of m.core d.base.path
+    abbrev older : ℕ → ℕ
+    older = count_of m.core d.base.path
 
-  -- what the frames above one leave
-  pub record IsLifted (t : Placed) (below gs : List Placed) : Type 0 where
-    pub at : (q : Path) (a : ℕ) → NoneIs (λ p. p ≡ q) gs → (layout_above l prog s.start d.top d.below).at (Local q a) ≡ (layout_above l prog s.start t below).at (Local q a)
-    pub shown : (q : Path) (v : Shown) (f : Frame) → NoneIs (λ p. Under p q) gs → PointsUp q v → ShowsFrame (layout_above l prog s.start t below) places q v f → ShowsFrame (layout_above l prog s.start d.top d.below) places q v f
-    -- they are longer
-    pub other : (q : Path) → length q ≤ length t.path → NoneIs (λ p. p ≡ q) gs
-    pub lower : (q : Path) → length q ≤ length t.path → NoneIs (λ p. Under p q) gs
+    -- what the frames above one leave
+    pub record IsLifted (t : Placed) (below gs : List Placed) : Type 0 where
+      pub at : (q : Path) (a : ℕ) → NoneIs (λ p. p ≡ q) gs → (layout_above l prog s.start d.top d.below).at (Local q a) ≡ (layout_above l prog s.start t below).at (Local q a)
+      pub shown : (q : Path) (v : Shown) (f : Frame) → NoneIs (λ p. Under p q) gs → PointsUp q v → ShowsFrame (layout_above l prog s.start t below) places q v f → ShowsFrame (layout_above l prog s.start d.top d.below) places q v f
+      -- they are longer
+      pub other : (q : Path) → length q ≤ length t.path → NoneIs (λ p. p ≡ q) gs
+      pub lower : (q : Path) → length q ≤ length t.path → NoneIs (λ p. Under p q) gs
 
-  top_lifted : IsLifted d.top d.below []
-  top_lifted = record { at = λ q a off. refl; shown = λ q v f off up h. h; other = λ q low. tt; lower = λ q low. tt }
+    top_lifted : IsLifted d.top d.below []
+    top_lifted = record { at = λ q a off. refl; shown = λ q v f off up h. h; other = λ q low. tt; lower = λ q low. tt }
 
-  lifted_below : (t g : Placed) (rest gs : List Placed) → length t.path ≡ suc (length g.path) → IsLifted t (g ∷ rest) gs → IsLifted g rest (t ∷ gs)
-  lifted_below t g rest gs longer up = record {
-    at = λ q a off. up.at q a off.1 ∙ at_other l prog s.start t g rest q a off.0;
-    shown = λ q v f off above h. up.shown q v f off.1 above (shown_above l prog s.start t g rest places q v f off.0 above h);
-    other = λ q low. (
-      (λ e. (let n : length t.path ≡ length q = ap (λ (y : Path). length y) e in omega (arith, n, low, longer))),
-      up.other q (omega (arith, low, longer)),
-    );
-    lower = λ q low. (
-      (λ u. (let n = under_long t.path q u in omega (arith, n, low, longer))),
-      up.lower q (omega (arith, low, longer)),
-    );
-  }
+    lifted_below : (t g : Placed) (rest gs : List Placed) → length t.path ≡ suc (length g.path) → IsLifted t (g ∷ rest) gs → IsLifted g rest (t ∷ gs)
+    lifted_below t g rest gs longer up = record {
+      at = λ q a off. up.at q a off.1 ∙ at_other l prog s.start t g rest q a off.0;
+      shown = λ q v f off above h. up.shown q v f off.1 above (shown_above l prog s.start t g rest places q v f off.0 above h);
+      other = λ q low. (
+        (λ e. (let n : length t.path ≡ length q = ap (λ (y : Path). length y) e in omega (arith, n, low, longer))),
+        up.other q (omega (arith, low, longer)),
+      );
+      lower = λ q low. (
+        (λ u. (let n = under_long t.path q u in omega (arith, n, low, longer))),
+        up.lower q (omega (arith, low, longer)),
+      );
+    }
 
-  -- all of them
-  pub record Climbed : Type 0 where
-    pub low : Placed
-    pub frame : Frame
-    pub ups : List Placed
-    pub frames : List Frame
-    pub climbs : Climbs prog places (layout_above l prog s.start d.top d.below) s m.core (absorbed m w d).core (count_of m.core d.base.path) low frame ups frames
-    pub all : frames_of x ≡ frame ∷ frames
-    pub path : low.path ≡ d.base.path
-    pub like : IsAsBase d.base low
-    pub elsewhere : (q : Path) → IsOff q low ups → (absorbed m w d).core.frames q ≡ m.core.frames q
-    pub top : highest low ups ≡ d.top.path
-    pub lifted : IsLifted low [] ups
+    -- all of them
+    pub record Climbed : Type 0 where
+      pub low : Placed
+      pub frame : Frame
+      pub ups : List Placed
+      pub frames : List Frame
+      pub climbs : Climbs prog places (layout_above l prog s.start d.top d.below) s m.core (absorbed m w d).core (count_of m.core d.base.path) low frame ups frames
+      pub all : frames_of x ≡ frame ∷ frames
+      pub path : low.path ≡ d.base.path
+      pub like : IsAsBase d.base low
+      pub elsewhere : (q : Path) → IsOff q low ups → (absorbed m w d).core.frames q ≡ m.core.frames q
+      pub top : highest low ups ≡ d.top.path
+      pub lifted : IsLifted low [] ups
 
-  -- those from t up stand, if t stands with so many children
-  abbrev Waiting : (ℕ → ℕ) → Placed → Frame → List Placed → List Frame → Type 0
-  Waiting newest t f gs hs = (more : ℕ → ℕ) → IsOn prog places k s m.core z t f → ((r : ℕ) → count_of z t.path r ≡ newest r + more r) → ClimbsFrom more t f gs hs
+    -- those from t up stand, if t stands with so many children
+    abbrev Waiting : (ℕ → ℕ) → Placed → Frame → List Placed → List Frame → Type 0
+    Waiting newest t f gs hs = (more : ℕ → ℕ) → IsOn prog places k s m.core z t f → ((r : ℕ) → count_of z t.path r ≡ newest r + more r) → ClimbsFrom more t f gs hs
 
-  small_end : (end : ℕ) → end ≤ s.start + s.count → end < 9223372036854775808
-  small_end end room = let small = can.small in omega (arith, room, small)
+    small_end : (end : ℕ) → end ≤ s.start + s.count → end < 9223372036854775808
+    small_end end room = let small = can.small in omega (arith, room, small)
 
-  in_k : (t : Placed) (below gs : List Placed) (f : Frame) → IsLifted t below gs → z.frames t.path ≡ Some t.frame → ShowsOn l prog places s.start t below f → ShowsIn prog places k t f
-  in_k t below gs f lifted there on = record {
-    shown = lifted.shown t.path t.frame f (lifted.lower t.path (omega arith)) (points t.path t.frame there) on.shown;
-    fits = on.fits;
-    waits = on.waits;
-  }
+    in_k : (t : Placed) (below gs : List Placed) (f : Frame) → IsLifted t below gs → z.frames t.path ≡ Some t.frame → ShowsOn l prog places s.start t below f → ShowsIn prog places k t f
+    in_k t below gs f lifted there on = record {
+      shown = lifted.shown t.path t.frame f (lifted.lower t.path (omega arith)) (points t.path t.frame there) on.shown;
+      fits = on.fits;
+      waits = on.waits;
+    }
 
-  -- where an upper frame has its allocas
-  module _ (t g : Placed) (rest gs : List Placed) (f : Frame) (lifted : IsLifted t (g ∷ rest) gs) (on : ShowsOn l prog places s.start t (g ∷ rest) f) (rise : Rises d.base t (g ∷ rest))
-      (room : end_above prog s.start t (g ∷ rest) ≤ s.start + s.count) (gone : m.core.frames t.path ≡ None)
-    where
-      abbrev own_start : ℕ
-      own_start = end_above prog s.start g rest
+    -- where an upper frame has its allocas
+    module _ (t g : Placed) (rest gs : List Placed) (f : Frame) (lifted : IsLifted t (g ∷ rest) gs) (on : ShowsOn l prog places s.start t (g ∷ rest) f) (rise : Rises d.base t (g ∷ rest))
+        (room : end_above prog s.start t (g ∷ rest) ≤ s.start + s.count) (gone : m.core.frames t.path ≡ None)
+      where
+        abbrev own_start : ℕ
+        own_start = end_above prog s.start g rest
 
-      abbrev own_sizes : List ℕ
-      own_sizes = alloca_sizes prog t.frame.function
+        abbrev own_sizes : List ℕ
+        own_sizes = alloca_sizes prog t.frame.function
 
-      room_body : t.frame.role ≡ Body → own_start + sum own_sizes ≤ s.start + s.count
-      room_body body = subst (λ (n : ℕ). n ≤ s.start + s.count) (ap (λ (r : Role). for_body r (own_start + sum own_sizes) own_start) body) room
+        room_body : t.frame.role ≡ Body → own_start + sum own_sizes ≤ s.start + s.count
+        room_body body = subst (λ (n : ℕ). n ≤ s.start + s.count) (ap (λ (r : Role). for_body r (own_start + sum own_sizes) own_start) body) room
 
-      home_body : t.frame.role ≡ Body → f.home ≡ pos own_start
-      home_body body = subst (λ (r : Role). serial.BeginsAt r f.home own_start) body on.home
+        home_body : t.frame.role ≡ Body → f.home ≡ pos own_start
+        home_body body = subst (λ (r : Role). serial.BeginsAt r f.home own_start) body on.home
 
-      own : (a : ℕ) → k.at (Local t.path a) ≡ (layout_above l prog s.start t (g ∷ rest)).at (Local t.path a)
-      own a = lifted.at t.path a (lifted.other t.path (omega arith))
+        own : (a : ℕ) → k.at (Local t.path a) ≡ (layout_above l prog s.start t (g ∷ rest)).at (Local t.path a)
+        own a = lifted.at t.path a (lifted.other t.path (omega arith))
 
-      number : (a : ℕ) → t.frame.role ≡ Body → number_in (allocas_of places f.function.0) a ≡ pos (offset_in own_sizes a)
-      number a body =
-          let fits = room_body body in
-          let less : own_start + sum own_sizes < 9223372036854775808 = small_end (own_start + sum own_sizes) fits in
-          (λ i. number_in (allocas_of places (sym on.shown.function i)) a) ∙ offset_number prog places moves text t.frame.function a (omega (arith, less))
+        number : (a : ℕ) → t.frame.role ≡ Body → number_in (allocas_of places f.function.0) a ≡ pos (offset_in own_sizes a)
+        number a body =
+            let fits = room_body body in
+            let less : own_start + sum own_sizes < 9223372036854775808 = small_end (own_start + sum own_sizes) fits in
+            (λ i. number_in (allocas_of places (sym on.shown.function i)) a) ∙ offset_number prog places moves text t.frame.function a (omega (arith, less))
 
-      body_at : (a : ℕ) → t.frame.role ≡ Body → f.home +ℤ number_in (allocas_of places f.function.0) a ≡ k.at (Local t.path a)
-      body_at a body =
-          let join : pos own_start +ℤ pos (offset_in own_sizes a) ≡ pos (own_start + offset_in own_sizes a) = omega (arith, ints) in
-          (λ i. home_body body i +ℤ number a body i) ∙ (join ∙ sym (own a ∙ at_own l prog s.start t g rest a body))
+        body_at : (a : ℕ) → t.frame.role ≡ Body → f.home +ℤ number_in (allocas_of places f.function.0) a ≡ k.at (Local t.path a)
+        body_at a body =
+            let join : pos own_start +ℤ pos (offset_in own_sizes a) ≡ pos (own_start + offset_in own_sizes a) = omega (arith, ints) in
+            (λ i. home_body body i +ℤ number a body i) ∙ (join ∙ sym (own a ∙ at_own l prog s.start t g rest a body))
 
-      child_at : (a region continuation : ℕ) → t.frame.role ≡ Child region continuation → pos 0 ≡ k.at (Local t.path a)
-      child_at a region continuation child =
-          let up : length t.path ≡ suc (length g.path) = ap (λ (q : Path). length q) rise.1 in
-          sym (own a ∙ (ap (λ (r : Role). (laid l prog s.start t g rest r).at (Local t.path a)) child ∙ (long_at l prog s.start d.base g rest rise.4 t.path a (omega (arith, up)) ∙ nowhere t.path a gone)))
+        child_at : (a region continuation : ℕ) → t.frame.role ≡ Child region continuation → pos 0 ≡ k.at (Local t.path a)
+        child_at a region continuation child =
+            let up : length t.path ≡ suc (length g.path) = ap (λ (q : Path). length q) rise.1 in
+            sym (own a ∙ (ap (λ (r : Role). (laid l prog s.start t g rest r).at (Local t.path a)) child ∙ (long_at l prog s.start d.base g rest rise.4 t.path a (omega (arith, up)) ∙ nowhere t.path a gone)))
 
-      at_is : (r : Kind) → f.role ≡ r → (a : ℕ) → own_at r (f.home +ℤ number_in (allocas_of places f.function.0) a) ≡ k.at (Local t.path a)
-      at_is role.Body is a = body_at a (on.shown.role ∙ ap role_of is)
-      at_is (role.Child region continuation) is a = child_at a region.0 continuation.0 (on.shown.role ∙ ap role_of is)
+        at_is : (r : Kind) → f.role ≡ r → (a : ℕ) → own_at r (f.home +ℤ number_in (allocas_of places f.function.0) a) ≡ k.at (Local t.path a)
+        at_is role.Body is a = body_at a (on.shown.role ∙ ap role_of is)
+        at_is (role.Child region continuation) is a = child_at a region.0 continuation.0 (on.shown.role ∙ ap role_of is)
 
-      lies : f.role ≡ role.Body → LiesIn prog s f
-      lies is =
-          let body : t.frame.role ≡ Body = on.shown.role ∙ ap role_of is in
-          record {
-            home = own_start;
-            is = home_body body;
-            after = low_end l prog s d.base can.apart can.outside can.fresh can.small g rest;
-            before = subst (λ (n : ℕ). own_start + n ≤ s.start + s.count) (sym (ap (λ (n : ℕ). cells_in (slice_get prog.functions n)) (sym on.shown.function) ∙ cells_sum prog t.frame.function)) (room_body body);
-          }
+        lies : f.role ≡ role.Body → LiesIn prog s f
+        lies is =
+            let body : t.frame.role ≡ Body = on.shown.role ∙ ap role_of is in
+            record {
+              home = own_start;
+              is = home_body body;
+              after = low_end l prog s d.base can.apart can.outside can.fresh can.small g rest;
+              before = subst (λ (n : ℕ). own_start + n ≤ s.start + s.count) (sym (ap (λ (n : ℕ). cells_in (slice_get prog.functions n)) (sym on.shown.function) ∙ cells_sum prog t.frame.function)) (room_body body);
+            }
 
-  turn : (t : Placed) (below : List Placed) (f : Frame) (fs : List Frame) (gs : List Placed) (hs : List Frame) (newest : ℕ → ℕ) → IsLifted t below gs → ShowsOn l prog places s.start t below f → HasTaker f f.waits → WaitsForLast t →
-      Rises d.base t below → AreBehind t below → ShowsBelow l prog places s.start below fs → end_above prog s.start t below ≤ s.start + s.count → AllWaitForLast below → CountsAre (count_of z) older newest t below →
-      ((q : Path) → length q ≤ length t.path → z.frames q ≡ with_frames (t ∷ below) m.core.frames q) → ((q : Path) → IsOff q t gs → z.frames q ≡ with_frames below m.core.frames q) →
-      reverse fs ++ (f ∷ hs) ≡ frames_of x → IsAsBase d.base (lowest_of t below) → highest t gs ≡ d.top.path → Waiting newest t f gs hs → Climbed
-  turn t [] f [] gs hs newest lifted on taker last rise back below room waits counts same off all like top up =
-      let here = same t.path (omega arith) ∙ rw (same_path_itself t.path) refl in
-      record {
-        low = t;
-        frame = f;
-        ups = gs;
-        frames = hs;
-        climbs = up older (record { shows = in_k t [] gs f lifted here on; taker = taker; there = here; last = last }) counts;
-        all = sym all;
-        path = rise.0;
-        like = like;
-        elsewhere = off;
-        top = top;
-        lifted = lifted;
-      }
-  turn t [] f (h ∷ fs) gs hs newest lifted on taker last rise back below room waits counts same off all like top up = absurd below
-  turn t (g ∷ rest) f [] gs hs newest lifted on taker last rise back below room waits counts same off all like top up = absurd below
-  turn t (g ∷ rest) f (h ∷ fs) gs hs newest lifted on taker last (k, path, next, new, more) back below room waits counts same off all like top up =
-      turn g rest h fs (t ∷ gs) (f ∷ hs) (counts_in t.frame.role) (lifted_below t g rest gs longer lifted) below.0 below.1 waits.0 more back.1 below.2
-      (room_below l prog s d.base can.apart can.outside can.fresh can.small t g rest (s.start + s.count) room) waits.1 counts.1 lower off_below
-      (sym (reverse_onto h fs (f ∷ hs)) ∙ all) like top
-      (λ many here count. (
-        here,
+    turn : (t : Placed) (below : List Placed) (f : Frame) (fs : List Frame) (gs : List Placed) (hs : List Frame) (newest : ℕ → ℕ) → IsLifted t below gs → ShowsOn l prog places s.start t below f → HasTaker f f.waits → WaitsForLast t →
+        Rises d.base t below → AreBehind t below → ShowsBelow l prog places s.start below fs → end_above prog s.start t below ≤ s.start + s.count → AllWaitForLast below → CountsAre (count_of z) older newest t below →
+        ((q : Path) → length q ≤ length t.path → z.frames q ≡ with_frames (t ∷ below) m.core.frames q) → ((q : Path) → IsOff q t gs → z.frames q ≡ with_frames below m.core.frames q) →
+        reverse fs ++ (f ∷ hs) ≡ frames_of x → IsAsBase d.base (lowest_of t below) → highest t gs ≡ d.top.path → Waiting newest t f gs hs → Climbed
+    turn t [] f [] gs hs newest lifted on taker last rise back below room waits counts same off all like top up =
+        let here = same t.path (omega arith) ∙ rw (same_path_itself t.path) refl in
         record {
-          path = path ∙ ap (λ (j : ℕ). j ∷ g.path) number_is;
-          behind = back.0;
-          fresh = gone;
-          at = at_is t g rest gs f lifted on (k, path, next, new, more) room gone f.role refl;
-          lies = lies t g rest gs f lifted on (k, path, next, new, more) room gone;
-        },
-        count,
-        up no_count (record { shows = in_k t (g ∷ rest) gs f lifted there on; taker = taker; there = there; last = last }) (λ r. (let c = counts.0 r in omega (arith, c))),
-      ))
-    where
-      gone : m.core.frames t.path ≡ None
-      gone = new_is_none m.core orderly.tree d.base runs.frame t.path new
+          low = t;
+          frame = f;
+          ups = gs;
+          frames = hs;
+          climbs = up older (record { shows = in_k t [] gs f lifted here on; taker = taker; there = here; last = last }) counts;
+          all = sym all;
+          path = rise.0;
+          like = like;
+          elsewhere = off;
+          top = top;
+          lifted = lifted;
+        }
+    turn t [] f (h ∷ fs) gs hs newest lifted on taker last rise back below room waits counts same off all like top up = absurd below
+    turn t (g ∷ rest) f [] gs hs newest lifted on taker last rise back below room waits counts same off all like top up = absurd below
+    turn t (g ∷ rest) f (h ∷ fs) gs hs newest lifted on taker last (k, path, next, new, more) back below room waits counts same off all like top up =
+        turn g rest h fs (t ∷ gs) (f ∷ hs) (counts_in t.frame.role) (lifted_below t g rest gs longer lifted) below.0 below.1 waits.0 more back.1 below.2
+        (room_below l prog s d.base can.apart can.outside can.fresh can.small t g rest (s.start + s.count) room) waits.1 counts.1 lower off_below
+        (sym (reverse_onto h fs (f ∷ hs)) ∙ all) like top
+        (λ many here count. (
+          here,
+          record {
+            path = path ∙ ap (λ (j : ℕ). j ∷ g.path) number_is;
+            behind = back.0;
+            fresh = gone;
+            at = at_is t g rest gs f lifted on (k, path, next, new, more) room gone f.role refl;
+            lies = lies t g rest gs f lifted on (k, path, next, new, more) room gone;
+          },
+          count,
+          up no_count (record { shows = in_k t (g ∷ rest) gs f lifted there on; taker = taker; there = there; last = last }) (λ r. (let c = counts.0 r in omega (arith, c))),
+        ))
+      where
+        gone : m.core.frames t.path ≡ None
+        gone = new_is_none m.core orderly.tree d.base runs.frame t.path new
 
-      there : z.frames t.path ≡ Some t.frame
-      there = same t.path (omega arith) ∙ rw (same_path_itself t.path) refl
+        there : z.frames t.path ≡ Some t.frame
+        there = same t.path (omega arith) ∙ rw (same_path_itself t.path) refl
 
-      longer : length t.path ≡ suc (length g.path)
-      longer = ap (λ (q : Path). length q) path
+        longer : length t.path ≡ suc (length g.path)
+        longer = ap (λ (q : Path). length q) path
 
-      number_is : k ≡ h.made - 1
-      number_is = let made = below.0.shown.made in omega (arith, next, made)
+        number_is : k ≡ h.made - 1
+        number_is = let made = below.0.shown.made in omega (arith, next, made)
 
-      lower : (q : Path) → length q ≤ length g.path → z.frames q ≡ with_frames (g ∷ rest) m.core.frames q
-      lower q low =
-          let long = longer in
-          same q (omega (arith, low, long)) ∙ rw (same_path_apart t.path q (λ e. (let n : length t.path ≡ length q = ap (λ (y : Path). length y) e in omega (arith, n, low, long)))) refl
+        lower : (q : Path) → length q ≤ length g.path → z.frames q ≡ with_frames (g ∷ rest) m.core.frames q
+        lower q low =
+            let long = longer in
+            same q (omega (arith, low, long)) ∙ rw (same_path_apart t.path q (λ e. (let n : length t.path ≡ length q = ap (λ (y : Path). length y) e in omega (arith, n, low, long)))) refl
 
-      off_below : (q : Path) → IsOff q g (t ∷ gs) → z.frames q ≡ with_frames rest m.core.frames q
-      off_below q away = off q away.1 ∙ rw (same_path_apart g.path q away.0) refl
+        off_below : (q : Path) → IsOff q g (t ∷ gs) → z.frames q ≡ with_frames rest m.core.frames q
+        off_below q away = off q away.1 ∙ rw (same_path_apart g.path q away.0) refl
 
-  pub climbed : WaitsForNone d.base.frame.waits → Climbed
-  climbed base =
-      let free : WaitsForNone d.top.frame.waits = top_waits prog d is base in
-      turn d.top d.below x.top (reverse x.below.items) [] [] no_count top_lifted pile.top (no_call x.top.waits x.top (subst WaitsForNone pile.top.waits free)) (no_call_last d.top free)
-      (rises prog d is) (behind prog d is) pile.below pile.room (below_waits prog d is) (deep_strands_count prog m w d is runs orderly) (λ q low. refl)
-      (λ q away. rw (same_path_apart d.top.path q away) refl)
-      (ap (λ (fs : List Frame). fs ++ x.top ∷ []) (reverse-reverse x.below.items)) (as_base prog d is) refl
-      (λ more here count. (here, free, λ r. (let c = count r in omega (arith, c))))
+    pub climbed : WaitsForNone d.base.frame.waits → Climbed
+    climbed base =
+        let free : WaitsForNone d.top.frame.waits = top_waits prog d is base in
+        turn d.top d.below x.top (reverse x.below.items) [] [] no_count top_lifted pile.top (no_call x.top.waits x.top (subst WaitsForNone pile.top.waits free)) (no_call_last d.top free)
+        (rises prog d is) (behind prog d is) pile.below pile.room (below_waits prog d is) (deep_strands_count prog m w d is runs orderly) (λ q low. refl)
+        (λ q away. rw (same_path_apart d.top.path q away) refl)
+        (ap (λ (fs : List Frame). fs ++ x.top ∷ []) (reverse-reverse x.below.items)) (as_base prog d is) refl
+        (λ more here count. (here, free, λ r. (let c = count r in omega (arith, c))))

@@ -129,93 +129,93 @@ module _ (prog : Program) (places : Places) (k : Run) (m : Machine) (shown : IsS
       (on : IsOn prog places to (segment_of x.cells) m.core m2.core low f) (loaded : ShowsFrame to places d.strand.base.path d.strand.base.frame x.base.frame)
       (stays : (i : ℕ) → to.at (Local low.path i) ≡ alloca_at places (named k.cactus (reverse low.path)) i)
     where
-    abbrev node : Node Activation
-    node = fits.node
+      abbrev node : Node Activation
+      node = fits.node
 
-    abbrev old : Frame
-    old = node.frame.frame
+      abbrev old : Frame
+      old = node.frame.frame
 
-    frame_is : is.frame ≡ f
-    frame_is = same_Some is.frame f (sym is.there ∙ ap (λ (fs : List Frame). slice_get fs 0) all)
+      frame_is : is.frame ≡ f
+      frame_is = same_Some is.frame f (sym is.there ∙ ap (λ (fs : List Frame). slice_get fs 0) all)
 
-    above_is : slice_get (frames_of x) 1 ≡ head_of hs
-    above_is = ap (λ (fs : List Frame). slice_get fs 1) all ∙ first hs
-      where
-        first : (fs : List Frame) → slice_get fs 0 ≡ head_of fs
-        first [] = refl
-        first (g ∷ fs) = refl
+      above_is : slice_get (frames_of x) 1 ≡ head_of hs
+      above_is = ap (λ (fs : List Frame). slice_get fs 1) all ∙ first hs
+        where
+          first : (fs : List Frame) → slice_get fs 0 ≡ head_of fs
+          first [] = refl
+          first (g ∷ fs) = refl
 
-    same_place : low.path ≡ place_of node
-    same_place =
-        let there : Some d.strand.base.path ≡ Some (place_of node) = sym d.fits.runs.hand ∙ hand_here in
-        path ∙ same_Some d.strand.base.path (place_of node) there
-      where
-        hand_here : m.hands worker ≡ Some (place_of node)
-        hand_here = shown.shows.hands worker ∙ hand_seen k.cactus k.hands.items worker slot node fits.hand fits.stands
+      same_place : low.path ≡ place_of node
+      same_place =
+          let there : Some d.strand.base.path ≡ Some (place_of node) = sym d.fits.runs.hand ∙ hand_here in
+          path ∙ same_Some d.strand.base.path (place_of node) there
+        where
+          hand_here : m.hands worker ≡ Some (place_of node)
+          hand_here = shown.shows.hands worker ∙ hand_seen k.cactus k.hands.items worker slot node fits.hand fits.stands
 
-    named_low : named k.cactus (reverse low.path) ≡ Some node
-    named_low = ap (λ (q : Path). named k.cactus (reverse q)) same_place ∙ named_at_place k.cactus shown.agrees.tree slot node fits.stands
+      named_low : named k.cactus (reverse low.path) ≡ Some node
+      named_low = ap (λ (q : Path). named k.cactus (reverse q)) same_place ∙ named_at_place k.cactus shown.agrees.tree slot node fits.stands
 
-    function : base.frame.function.0 ≡ old.function.0
-    function = ap (λ (y : Frame). y.function.0) is.went
+      function : base.frame.function.0 ≡ old.function.0
+      function = ap (λ (y : Frame). y.function.0) is.went
 
-    function_low : low.frame.function ≡ old.function.0
-    function_low = like.function ∙ (d.shown.loaded.function ∙ ap (λ (y : FunctionId). y.0) (sym fits.frame.function))
+      function_low : low.frame.function ≡ old.function.0
+      function_low = like.function ∙ (d.shown.loaded.function ∙ ap (λ (y : FunctionId). y.0) (sym fits.frame.function))
 
-    function_f : f.function.0 ≡ base.frame.function.0
-    function_f = sym on.shows.shown.function ∙ (function_low ∙ sym function)
+      function_f : f.function.0 ≡ base.frame.function.0
+      function_f = sym on.shows.shown.function ∙ (function_low ∙ sym function)
 
-    registers_f : base.frame.registers.items ≡ f.registers.items
-    registers_f = is.registers ∙ ap (λ (y : Frame). y.registers.items) frame_is
+      registers_f : base.frame.registers.items ≡ f.registers.items
+      registers_f = is.registers ∙ ap (λ (y : Frame). y.registers.items) frame_is
 
-    place_f : base.frame.place ≡ f.place
-    place_f = ap (λ (y : Frame). y.place) is.went ∙ ap (λ (y : Frame). y.place) frame_is
+      place_f : base.frame.place ≡ f.place
+      place_f = ap (λ (y : Frame). y.place) is.went ∙ ap (λ (y : Frame). y.place) frame_is
 
-    waits_f : base.frame.waits ≡ f.waits
-    waits_f = ap (λ (y : Frame). y.waits) is.went ∙ ap (λ (y : Frame). y.waits) frame_is
+      waits_f : base.frame.waits ≡ f.waits
+      waits_f = ap (λ (y : Frame). y.waits) is.went ∙ ap (λ (y : Frame). y.waits) frame_is
 
-    role_low : low.frame.role ≡ role_of base.frame.role
-    role_low = like.role ∙ (d.shown.loaded.role ∙ ap role_of (sym fits.frame.role ∙ sym (ap (λ (y : Frame). y.role) is.went)))
+      role_low : low.frame.role ≡ role_of base.frame.role
+      role_low = like.role ∙ (d.shown.loaded.role ∙ ap role_of (sym fits.frame.role ∙ sym (ap (λ (y : Frame). y.role) is.went)))
 
-    frame_shown : ShowsFrame to places low.path low.frame base.frame
-    frame_shown = record {
-      function = function_low ∙ sym function;
-      block = on.shows.shown.block ∙ ap (λ (y : Place). y.block.0) (sym place_f);
-      index = on.shows.shown.index ∙ ap (λ (y : Place). y.index) (sym place_f);
-      made = on.shows.shown.made ∙ sym (ap (λ (y : Frame). y.made) is.went ∙ ap (λ (y : Frame). y.made) frame_is);
-      role = role_low;
-      depth = ap (λ (q : Path). length q) path ∙ (d.shown.loaded.depth ∙ (sym fits.frame.depth ∙ sym (ap (λ (y : Frame). y.depth) is.went)));
-      bases = subst (λ (q : Path). ShowsBases to (bases_in places base.frame) q) (sym like.home)
-          (subst (λ b. ShowsBases to b d.strand.base.frame.home) (ap (bases_in places) (sym is.went))
-          (subst (λ b. ShowsBases to b d.strand.base.frame.home) (λ i. bases places.globals (allocas_of places ((sym fits.frame.function i).0)) (sym fits.frame.home i)) loaded.bases));
-      registers = subst (ShowsRegisters to low.frame.registers) (sym registers_f) on.shows.shown.registers;
-    }
+      frame_shown : ShowsFrame to places low.path low.frame base.frame
+      frame_shown = record {
+        function = function_low ∙ sym function;
+        block = on.shows.shown.block ∙ ap (λ (y : Place). y.block.0) (sym place_f);
+        index = on.shows.shown.index ∙ ap (λ (y : Place). y.index) (sym place_f);
+        made = on.shows.shown.made ∙ sym (ap (λ (y : Frame). y.made) is.went ∙ ap (λ (y : Frame). y.made) frame_is);
+        role = role_low;
+        depth = ap (λ (q : Path). length q) path ∙ (d.shown.loaded.depth ∙ (sym fits.frame.depth ∙ sym (ap (λ (y : Frame). y.depth) is.went)));
+        bases = subst (λ (q : Path). ShowsBases to (bases_in places base.frame) q) (sym like.home)
+            (subst (λ b. ShowsBases to b d.strand.base.frame.home) (ap (bases_in places) (sym is.went))
+            (subst (λ b. ShowsBases to b d.strand.base.frame.home) (λ i. bases places.globals (allocas_of places ((sym fits.frame.function i).0)) (sym fits.frame.home i)) loaded.bases));
+        registers = subst (ShowsRegisters to low.frame.registers) (sym registers_f) on.shows.shown.registers;
+      }
 
-    pub seat_base : Seat (head_of hs) (count_of m.core d.strand.base.path) low f slot node.path.numbers base
-    seat_base =
-        let before = shown.agrees.nodes slot node fits.stands in
-        record {
-          place = sym (reverse-reverse node.path.numbers) ∙ ap reverse (sym same_place);
-          shows = record { shown = frame_shown; waits = on.shows.waits ∙ ap wait_of (sym waits_f) };
-          fits = record {
-            there = subst (λ (n : ℕ). n < length prog.functions) (sym function) before.fits.there;
-            registers = λ y there. ap (λ (zs : List ℤ). length zs) registers_f ∙ on.shows.fits.registers y (ap (slice_get prog.functions) function_f ∙ there);
-            place = λ y there. subst (λ (z : Place). PlaceFits y.blocks z.block.0 z.index) (sym place_f) (on.shows.fits.place y (ap (slice_get prog.functions) function_f ∙ there));
-          };
-          waits = waits_f;
-          callee = ap (λ (y : Activation). y.callee) is.only ∙ callee_none;
-          runner = ap (λ (y : Activation). y.runner) is.only ∙ (ap (runner_under (slice_get (frames_of x) 1)) ((shown.agrees.runners slot worker node fits.stands).1 fits.hand)
-              ∙ (runner_is (slice_get (frames_of x) 1) worker ∙ ap (runner_below worker) above_is));
-          counts = λ r.
-              let was = shown.agrees.counts slot r node fits.stands in
-              let own : count_of m.core (place_of node) r ≡ count_of m.core d.strand.base.path r = ap (λ (q : Path). count_of m.core q r) (sym same_place ∙ path) in
-              let now = is.counts r in
-              let up : counted_above (slice_get (frames_of x) 1) r ≡ counted_above (head_of hs) r = ap (λ o. counted_above o r) above_is in
-              omega (arith, was, own, now, up);
-          as_many = λ y there. is.as_many ∙ before.counts y (ap (slice_get prog.functions) (sym function) ∙ there);
-          unheld = λ v differ e. differ (own_hand prog places m k shown slot node fits.stands worker fits.hand within v e);
-          at = λ i. ap (λ (y : Frame). own_at y.role (y.home +ℤ number_in (allocas_of places y.function.0) i)) is.went ∙ (sym (ap (λ o. alloca_at places o i) named_low) ∙ sym (stays i));
-          block = subst (λ (y : Frame). HasBlock prog k.blocks.items k.lent slot y) (sym is.went) (λ body some.
-              let own = shown.agrees.blocks.owned slot node fits.stands body some in
-              (own.0, own.1, record { home = own.2.home; room = own.2.room }));
-        }
+      pub seat_base : Seat (head_of hs) (count_of m.core d.strand.base.path) low f slot node.path.numbers base
+      seat_base =
+          let before = shown.agrees.nodes slot node fits.stands in
+          record {
+            place = sym (reverse-reverse node.path.numbers) ∙ ap reverse (sym same_place);
+            shows = record { shown = frame_shown; waits = on.shows.waits ∙ ap wait_of (sym waits_f) };
+            fits = record {
+              there = subst (λ (n : ℕ). n < length prog.functions) (sym function) before.fits.there;
+              registers = λ y there. ap (λ (zs : List ℤ). length zs) registers_f ∙ on.shows.fits.registers y (ap (slice_get prog.functions) function_f ∙ there);
+              place = λ y there. subst (λ (z : Place). PlaceFits y.blocks z.block.0 z.index) (sym place_f) (on.shows.fits.place y (ap (slice_get prog.functions) function_f ∙ there));
+            };
+            waits = waits_f;
+            callee = ap (λ (y : Activation). y.callee) is.only ∙ callee_none;
+            runner = ap (λ (y : Activation). y.runner) is.only ∙ (ap (runner_under (slice_get (frames_of x) 1)) ((shown.agrees.runners slot worker node fits.stands).1 fits.hand)
+                ∙ (runner_is (slice_get (frames_of x) 1) worker ∙ ap (runner_below worker) above_is));
+            counts = λ r.
+                let was = shown.agrees.counts slot r node fits.stands in
+                let own : count_of m.core (place_of node) r ≡ count_of m.core d.strand.base.path r = ap (λ (q : Path). count_of m.core q r) (sym same_place ∙ path) in
+                let now = is.counts r in
+                let up : counted_above (slice_get (frames_of x) 1) r ≡ counted_above (head_of hs) r = ap (λ o. counted_above o r) above_is in
+                omega (arith, was, own, now, up);
+            as_many = λ y there. is.as_many ∙ before.counts y (ap (slice_get prog.functions) (sym function) ∙ there);
+            unheld = λ v differ e. differ (own_hand prog places m k shown slot node fits.stands worker fits.hand within v e);
+            at = λ i. ap (λ (y : Frame). own_at y.role (y.home +ℤ number_in (allocas_of places y.function.0) i)) is.went ∙ (sym (ap (λ o. alloca_at places o i) named_low) ∙ sym (stays i));
+            block = subst (λ (y : Frame). HasBlock prog k.blocks.items k.lent slot y) (sym is.went) (λ body some.
+                let own = shown.agrees.blocks.owned slot node fits.stands body some in
+                (own.0, own.1, record { home = own.2.home; room = own.2.room }));
+          }

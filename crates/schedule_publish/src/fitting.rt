@@ -2,8 +2,8 @@ ghost use Rattle.std.specs.Prelude.{◌≡◌, ◌↔◌, ℕ, IfNone, IfSome, I
 ghost use Rattle.schedule_publish.specs.Fitting.{FitsDeep, HasNoChild, segment_block};
 
 use private_stack::Pile;
-use schedule_commit::{is_same, same_numbers};
 use program::Program;
+use schedule_commit::{is_same, same_numbers};
 use schedule_workers::{Activation, Block, Run};
 
 /// Whether no child of the frame lives.
