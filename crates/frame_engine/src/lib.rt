@@ -24,3 +24,4 @@ pub use doing::{Did, plain};
 pub use flat::Flat;
 pub use items::Item;
 pub use turning::{Pause, Place, advance};
+pub use words::behind;

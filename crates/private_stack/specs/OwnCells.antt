@@ -5,7 +5,7 @@ use Rattle.frame_engine.specs.Access.{Access, Loads, Stores, Adds}
 use Rattle.frame_engine.specs.Flat.{cell_in}
 use Rattle.frame_strand.specs.declared.cells.Stop.{Stop}
 use Rattle.private_stack_log.specs.Accessing.{TableDoes, TableRefuses}
-use Rattle.private_stack_log.specs.Logs.{value_at}
+use Rattle.private_stack_log.specs.Logs.{is_open, value_at}
 use Rattle.private_stack_log.specs.Tables.{log_of}
 use Rattle.private_stack.specs.Layouts.{Segment}
 use Rattle.private_stack.specs.declared.cells.PileCells.{PileCells}
@@ -24,6 +24,10 @@ own_or None other = other
 -- what the cell at the address is known to hold
 abbrev pub held_at : PileCells → ℤ → Option ℤ
 held_at x a = own_or (own_cell x a) (value_at (log_of x.log) a)
+
+-- the cell can be stored to: it is one of the segment, or its page is in use
+abbrev pub CanStore : PileCells → ℤ → Type 0
+CanStore x a = own_cell x a ≡ None → is_open (log_of x.log) a ≡ true
 
 -- as far as the cells tell, the cell may hold the number
 abbrev pub may_be : PileCells → ℤ → ℤ → Type 0

@@ -1,11 +1,14 @@
-ghost use Rattle.std.specs.Prelude.{◌≡◌, ◌≢◌, ◌<◌, ◌≤◌, ◌+◌, ◌↔◌, ℤ, pos, IfNone, IfSome, IsTrue, None, Some, length, slice_get};
+ghost use Rattle.std.specs.Prelude.{◌≡◌, ◌≢◌, ◌<◌, ◌≤◌, ◌+◌, ◌+ℤ◌, ◌↔◌, ℕ, ℤ, pos, true, IfNone, IfSome, IsTrue, None, Some, length, slice_get};
 ghost use Rattle.frame_engine.specs.Flat.{is_cell};
 ghost use Rattle.private_stack_log.specs.Committing.{Agrees};
+ghost use Rattle.private_stack_log.specs.Logs.{IsWider};
 ghost use Rattle.private_stack_log.specs.Tables.{log_of};
-ghost use Rattle.private_stack.specs.OwnCells.{CellsDo, CellsRefuse, any_cell, may_be, own_cell};
+ghost use Rattle.semantics.specs.Arithmetic.{wrapped};
+ghost use Rattle.syntax.specs.declared.operator.Width.TheVariants.{Bits64};
+ghost use Rattle.private_stack.specs.OwnCells.{CanStore, CellsDo, CellsRefuse, any_cell, may_be, own_cell};
 ghost use Rattle.private_stack.specs.Putting.{ArePutInto, IsCopiedTo};
 
-use frame_engine::{Cells, sum};
+use frame_engine::{Cells, behind, sum};
 use frame_strand::Stop;
 use private_stack_log::PageLog;
 
@@ -40,6 +43,36 @@ impl PileCells {
             Some(place) if (place as usize) < self.own.len() => Some(place as usize),
             Some(_) | None => None,
         }
+    }
+}
+
+impl PileCells {
+    /// Makes sure that the cell at the address can be stored to; whether it can.
+    fn open(&mut self, at: &i64) -> bool
+        ensures only { self.new ≡ record self.old { log = self.new.log } }
+        ensures wider { IsWider (log_of self.old.log) (log_of self.new.log) }
+        ensures yes { result ≡ true → CanStore self.new at.now }
+    {
+        match self.place(at) {
+            Some(_) => true,
+            None => self.log.reserve(at),
+        }
+    }
+
+    /// Makes sure that so many cells from the address on can be stored to; whether they can.
+    pub(crate) fn reserve(&mut self, at: &i64, count: u64) -> bool
+        ensures only { self.new ≡ record self.old { log = self.new.log } }
+        ensures wider { IsWider (log_of self.old.log) (log_of self.new.log) }
+        ensures yes { result ≡ true → (i : ℕ) → i < count → CanStore self.new (wrapped Bits64 (at.now +ℤ pos i)) }
+    {
+        let mut next = *at;
+        for _index in 0..count {
+            if !self.open(&next) {
+                return false;
+            }
+            next = behind(next, 1);
+        }
+        true
     }
 }
 

@@ -8,3 +8,4 @@ pub mod Paged
 pub mod Rows
 pub mod Scanning
 pub mod Slots
+pub mod Opening

@@ -1,5 +1,5 @@
 -- What a log shows, by addresses.
-use Rattle.std.specs.Prelude.{◌+◌, ◌*◌, ◌/◌, ◌%◌, ℕ, suc, ℤ, pos, negsuc, Bool, true, false, cond, ◌&&◌, ◌||◌, nat_eq, nat_lt, min, List, [], take, drop, Option, Some, None, slice_get}
+use Rattle.std.specs.Prelude.{◌≡◌, ◌+◌, ◌*◌, ◌/◌, ◌%◌, ℕ, suc, ℤ, pos, negsuc, Bool, true, false, cond, ◌&&◌, ◌||◌, nat_eq, nat_lt, min, List, [], take, drop, Option, Some, None, slice_get}
 use Rattle.std.specs.Int.{w64, cast_unsigned}
 use Rattle.frame_strand.specs.declared.cells.Change.{Change}
 use Rattle.private_stack_log.specs.Known.{at_address, at_place, first_of, read_after, settled_change, value_of}
@@ -29,6 +29,18 @@ place_of a = cast_unsigned w64 a % 64
 abbrev pub has_place : Log → ℤ → Bool
 has_place x (pos n) = nat_lt (n / 64) x.pages && (x.has_page (n / 64) || nat_lt x.used 512)
 has_place x (negsuc n) = false
+
+-- the cell's page is in use
+abbrev pub is_open : Log → ℤ → Bool
+is_open x (pos n) = nat_lt (n / 64) x.pages && x.has_page (n / 64)
+is_open x (negsuc n) = false
+
+-- more pages may be in use, and nothing else differs
+pub record IsWider (old new : Log) : Type 0 where
+  pub near : new.near ≡ old.near
+  pub reads : new.reads ≡ old.reads
+  pub writes : new.writes ≡ old.writes
+  pub in_use : (a : ℤ) → is_open old a ≡ true → is_open new a ≡ true
 
 -- what the cell holds, as far as that is at hand
 abbrev pub value_at : Log → ℤ → Option ℤ

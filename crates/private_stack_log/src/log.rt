@@ -160,6 +160,18 @@ impl PageLog {
         }
     }
 
+    /// Puts the cell's page in use, if that may be; whether it is.
+    pub fn reserve(&mut self, at: &i64) -> bool
+        ensures place { result ≡ true → has_place (log_of self.old) at.now ≡ true }
+        ensures opened { result ≡ true → log_of self.new ≡ with_page (log_of self.old) at.now }
+        ensures unchanged { result ≡ false → self.new ≡ self.old }
+    {
+        match self.open(at) {
+            Some(_) => true,
+            None => false,
+        }
+    }
+
     /// What a cell in a page in use holds, if that is at hand.
     #[inline(always)]
     fn load_from(&mut self, slot: usize, at: &i64) -> Option<i64>
