@@ -1,5 +1,5 @@
 //! A machine that is given the events of a board's history one by one. Its frames' allocas may lie elsewhere than the board's, so neither addresses
-//! are compared nor what stands there: what a frame loads shows in its registers.
+//! are compared nor what stands there. What a frame makes of it shows in calls, in the globals and in the end.
 
 use lists::OutOfMemory;
 use program::{Program, RegisterKind};
@@ -73,14 +73,15 @@ fn is_number(kind: &RegisterKind) -> bool {
     matches!(kind, RegisterKind::Number(_) | RegisterKind::Truth)
 }
 
-/// Whether the registers that hold no addresses hold the same.
-fn has_same_numbers(program: &Program, one: &TaskView<'_>, other: &TaskView<'_>) -> bool {
+/// Whether the parameters that are no addresses are the same. What a register holds that has no value yet counts for nothing.
+fn has_same_parameters(program: &Program, one: &TaskView<'_>, other: &TaskView<'_>) -> bool {
     let Some(function) = program.functions.as_slice().get(one.top.function.0) else {
         return false;
     };
     let words = one.top.registers.as_slice();
     let others = other.top.registers.as_slice();
-    for (register, kind) in function.registers.as_slice().iter().enumerate() {
+    let kinds = function.registers.as_slice().iter();
+    for (register, kind) in kinds.take(function.parameters.len()).enumerate() {
         if is_number(kind) && words.get(register).copied() != others.get(register).copied() {
             return false;
         }
@@ -98,7 +99,7 @@ fn is_same_task(
             one.path.is_same(other.path)
                 && one.top_path.is_same(other.top_path)
                 && one.line == other.line
-                && has_same_numbers(program, one, other)
+                && has_same_parameters(program, one, other)
         }
         (None, None) => true,
         _ => false,

@@ -1,4 +1,5 @@
 use Rattle.std.proofs.Common.{[], sym, ap, ◌∙◌, length, subst}
+use Rattle.schedule_core.specs.Replaying.{Replays}
 use Rattle.schedule_core.specs.store.Made.{IsMadeFor}
 use Rattle.shared_run.specs.Story.{Origin, origin}
 use Rattle.shared_run.proofs.Stories.{legal_begin, legal_start}
@@ -6,7 +7,7 @@ use Rattle.shared_run.proofs.board.Board.new.Goals as goal
 
 pub invariant_of-result : goal.invariant_of-result
 invariant_of-result g c =
-    let stage = c.lend.new.machine.stage in
+    let stage = c.lend.new.self.stage in
     let memory = c.in_ok-memory.memory in
     let o : Origin = origin c.args.verified.now c.args.arguments.now memory c.args.workers in
     let started = c.in_ok-machine.ensures in
@@ -18,3 +19,16 @@ invariant_of-result g c =
       ap (λ (x : Origin). x.program) {y = o} c.in-Ok.ensures ∙ c.requires.code,
       ap (λ (x : Origin). x.workers) {y = o} c.in-Ok.ensures ∙ c.requires.crew,
     )
+
+pub returns-clause-begins : goal.returns-clause-begins
+returns-clause-begins g c =
+    let verified = c.args.verified.now in
+    let arguments = c.args.arguments.now in
+    let workers = c.args.workers in
+    let memory = c.in_ok-memory.memory in
+    let replays = c.lend.ensures.replays verified arguments memory workers [] c.in_ok-machine.ensures.replays in
+    record {
+      start = c.in-Ok.ensures ∙ ap (λ m. origin verified arguments m workers) c.in_ok-memory.ensures.same;
+      events = c.new-history.ensures;
+      stage = subst (λ m. Replays verified arguments m workers [] c.lend.new.self.stage) c.in_ok-memory.ensures.same replays;
+    }
