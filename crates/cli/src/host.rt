@@ -89,18 +89,15 @@ fn explain_status(rt: &impl Eprint, request: &Request, status: u8, texts: &Texts
     }
 }
 
-/// Writes the file that is asked for, if one is.
-fn write_asked<R: AllocGlobal + Eprint + Files>(rt: &R, request: &Request, text: &str) -> Status {
-    let Some(file) = &request.telling.file else {
-        return Status::Done;
-    };
-    match write_file(rt, file.as_str(), text) {
-        Ok(()) => Status::Done,
-        Err(error) => {
-            complain(rt, file.as_str(), &error);
-            Status::Stream
+/// Writes the files that are asked for, up to one that cannot be written.
+fn write_asked<R: AllocGlobal + Eprint + Files>(rt: &R, beside: &Beside) -> Status {
+    for file in &beside.files {
+        if let Err(error) = write_file(rt, file.word.as_str(), file.text.as_str()) {
+            complain(rt, file.word.as_str(), &error);
+            return Status::Stream;
         }
     }
+    Status::Done
 }
 
 /// The text of the file that a word names, or why it cannot be read; want of memory is no such reason.
@@ -165,7 +162,7 @@ fn tell_beside<R: AllocGlobal + Eprint + Files>(
     let _ = rt.eprint(beside.notes.as_str());
     explain_status(rt, request, status, texts);
     if status == Status::Done as u8 {
-        return write_asked(rt, request, beside.file.as_str()) as u8;
+        return write_asked(rt, beside) as u8;
     }
     status
 }

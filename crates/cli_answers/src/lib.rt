@@ -8,6 +8,7 @@
 mod dialogue;
 mod draw;
 mod job;
+mod json;
 mod requests;
 mod runs;
 mod tell;
@@ -25,3 +26,6 @@ pub use debugger::{
 pub use job::Job;
 pub use requests::{answer, effort_of};
 pub use runs::{prepared, print_run, print_unprepared};
+pub use tell::{is_told, tell_course};
+pub use cli_tellings::{Crew, Effort};
+pub use view_traces::Course;
