@@ -1,18 +1,9 @@
 //! A run whose events are drawn at random.
 
-<<<<<<< HEAD
-ghost use Rattle.serial_machine.specs.store.Made.{IsMadeFor};
-
-use crate::job::{Job, print_schedule_fault};
-use crate::runs::{prepared, run_replay};
-use cli_modules::{Beside, Status, stop_for_memory};
-use debugger::{Memory, read_schedule};
-=======
 use crate::job::Job;
 use crate::runs::{prepared, print_unprepared};
 use crate::tell::tell_course;
 use cli_modules::{Beside, Status};
->>>>>>> 9dcdb2f331cc96a1efeaf54877c493e9c95d237b
 use std::io;
 use std::io::Write;
 use cli_tellings::Crew;

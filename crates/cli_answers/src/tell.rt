@@ -1,11 +1,5 @@
 //! A run that is told event for event.
 
-<<<<<<< HEAD
-use crate::job::Job;
-use crate::runs::{prepared, run_schedule};
-use cli_modules::{Beside, Status, stop_for_memory};
-use debugger::{Event, RunFault, ScheduleFault, read_schedule};
-=======
 ghost use Rattle.serial_machine.specs.store.Made.{IsMadeFor};
 
 use crate::job::{Job, print_schedule_fault};
@@ -16,7 +10,6 @@ use view_events::Names;
 use ir_reader::read;
 use cli_modules::{Beside, Status, stop_for_memory};
 use std::alloc::AllocError;
->>>>>>> 9dcdb2f331cc96a1efeaf54877c493e9c95d237b
 use std::io;
 use std::io::Write;
 use syntax::Module;

@@ -14,14 +14,8 @@ mod watching;
 
 pub use course::{Course, Listed};
 pub use dice::Dice;
-<<<<<<< HEAD
-pub use random::random_schedule;
-pub use view_moments::{Hindrance, Moment, Outcome, Place, TaskName, picture, write_trace};
-pub use watching::watch;
-=======
 pub use view_moments::{Hindrance, Moment, Outcome, Place, TaskName};
 pub use random::Draw;
 pub use schedule_core::{Event, Machine, Memory, RunFault, Verified};
 pub use script::Script;
 pub use watching::Watch;
->>>>>>> 9dcdb2f331cc96a1efeaf54877c493e9c95d237b

@@ -1,11 +1,6 @@
 //! The text of a schedule, event for event.
 
-<<<<<<< HEAD
-use frame::Path;
-=======
 use frame::{Event, Path};
-use view_moments::TaskName;
->>>>>>> 9dcdb2f331cc96a1efeaf54877c493e9c95d237b
 use std::alloc::{AllocError, Global};
 use view_moments::TaskName;
 

@@ -7,14 +7,10 @@ use crate::objects::Objects;
 use frame_engine::Frame;
 use frame::Path;
 use lists::OutOfMemory;
-<<<<<<< HEAD
-=======
-use view_moments::{Act, Change, Hindrance, Moment, Outcome, Place, Settings, Written};
 use program::RegisterId;
->>>>>>> 9dcdb2f331cc96a1efeaf54877c493e9c95d237b
 use schedule_core::{Event, Machine, Memory, RunFault, Status, TaskView, Verified};
 use std::alloc::Global;
-use view_moments::{Hindrance, Moment, Outcome, Place};
+use view_moments::{Act, Change, Hindrance, Moment, Outcome, Place, Settings, Written};
 
 /// A run that is watched: each event gives a [`Moment`].
 #[derive(Drop)]
