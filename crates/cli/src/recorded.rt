@@ -65,6 +65,7 @@ fn efforts_of(alloc: Global, figures: &[Figures]) -> Result<Vec<Effort>, AllocEr
             strands: worker.strands,
             strangers: worker.strangers,
             searches: worker.searches,
+            publications: worker.publications,
         })?;
     }
     Ok(efforts)

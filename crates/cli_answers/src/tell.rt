@@ -13,7 +13,7 @@ use std::alloc::AllocError;
 use std::io;
 use std::io::Write;
 use syntax::Module;
-use cli_tellings::{Crew, Subject, Told, Wanted, tell};
+use cli_tellings::{Crew, Subject, Told, Wanted, Words, tell};
 use view_traces::{Course, Listed};
 
 /// What is asked to be told of a run.
@@ -114,16 +114,18 @@ fn tell_named<'x, C: Course, W: Write>(
     let subject = Subject {
         alloc,
         verified: job.verified,
-        names: &names,
         title,
         source,
-        lines,
         arguments,
         workers: job.request.workers,
         crew,
     };
+    let words = Words {
+        names: &names,
+        lines,
+    };
     let wanted = wanted_of(&job.request.telling);
-    match tell(subject, memory, course, wanted, output)? {
+    match tell(subject, words, memory, course, wanted, output)? {
         Ok((told, machine)) => {
             print_replayed(job, machine, output)?;
             keep_told(job, told, output, beside)

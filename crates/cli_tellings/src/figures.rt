@@ -14,6 +14,8 @@ pub struct Effort {
     pub strangers: u64,
     /// The times that it looked for a task.
     pub searches: u64,
+    /// The strands that it put on the board.
+    pub publications: u64,
 }
 
 /// What the workers of a run on threads did beside its events, and how long it took.
@@ -94,10 +96,11 @@ impl Figures {
                         strands,
                         strangers,
                         searches,
+                        publications,
                     } = *effort;
                     write!(
                         out,
-                        "strands {strands} steals {steals} strangers {strangers} searches {searches}"
+                        "strands {strands} steals {steals} strangers {strangers} searches {searches} publications {publications}"
                     )?;
                 }
                 None => write!(out, "steals {steals}")?,

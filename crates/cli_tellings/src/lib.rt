@@ -8,4 +8,4 @@ mod teller;
 mod telling;
 
 pub use figures::{Crew, Effort};
-pub use telling::{Subject, Told, Wanted, tell};
+pub use telling::{Subject, Told, Wanted, Words, tell};

@@ -1,11 +1,10 @@
 //! All that is told of events, one after another.
 
 use crate::figures::Figures;
-use crate::telling::{Subject, Told, Wanted};
-use view_events::{Numbered, push_event};
+use crate::telling::{Subject, Told, Wanted, Words};
+use view_events::{MOST_EVENTS, Numbered, Page, Start, push_event};
 use lists::OutOfMemory;
 use view_moments::{Moment, Rounds, Settings, write_moment};
-use view_pages::{MOST_EVENTS, Page, Start};
 use view_pictures::{Scene, picture};
 use std::alloc::{AllocError, Global};
 use std::io;
@@ -32,20 +31,25 @@ pub fn refused(_error: OutOfMemory) -> io::Error {
 }
 
 /// A page of a run that begins so.
-fn page_of<'a>(subject: Subject<'a>, root: &'a Settings) -> Result<Page, AllocError> {
+fn page_of<'a>(
+    subject: Subject<'a>,
+    words: Words<'a>,
+    root: &'a Settings,
+) -> Result<Page, AllocError> {
     let start = Start {
         title: subject.title,
         source: subject.source,
         workers: subject.workers,
         root,
     };
-    Page::start(subject.alloc, subject.names, start)
+    Page::start(subject.alloc, words.names, start)
 }
 
 impl Teller {
     /// Before the first event; `root` is what the root is given.
     pub fn new<'a>(
         subject: Subject<'a>,
+        words: Words<'a>,
         wanted: Wanted,
         root: &'a Settings,
     ) -> Result<Teller, OutOfMemory> {
@@ -64,7 +68,7 @@ impl Teller {
             teller.scene = Some(Scene::new(alloc, workers)?);
         }
         if wanted.page {
-            teller.page = Some(page_of(subject, root)?);
+            teller.page = Some(page_of(subject, words, root)?);
         }
         if wanted.json {
             teller.json = Some(String::new(alloc));
@@ -83,14 +87,14 @@ impl Teller {
     /// The event on the page and as a line of JSON.
     fn add_line<'a>(
         &mut self,
-        subject: Subject<'a>,
+        words: Words<'a>,
         numbered: Numbered<'a>,
     ) -> Result<(), AllocError> {
         if let Some(page) = &mut self.page {
-            page.add(subject.names, numbered)?;
+            page.add(words.names, numbered)?;
         }
         if let Some(json) = &mut self.json {
-            push_event(self.alloc, json, subject.names, numbered)?;
+            push_event(self.alloc, json, words.names, numbered)?;
             json.push_str("\n")?;
         }
         Ok(())
@@ -99,7 +103,7 @@ impl Teller {
     /// The next event, but for the trace.
     fn add_event<'a>(
         &mut self,
-        subject: Subject<'a>,
+        words: Words<'a>,
         event: &'a Event,
         moment: &'a Moment,
     ) -> Result<(), OutOfMemory> {
@@ -117,14 +121,14 @@ impl Teller {
             moment,
             round: timing.round,
         };
-        self.add_line(subject, numbered)?;
+        self.add_line(words, numbered)?;
         Ok(())
     }
 
     /// The next event.
     pub fn add<W: Write>(
         &mut self,
-        subject: Subject<'_>,
+        words: Words<'_>,
         wanted: Wanted,
         event: &Event,
         moment: &Moment,
@@ -132,9 +136,9 @@ impl Teller {
     ) -> io::Result<()> {
         self.events = self.events.saturating_add(1);
         if wanted.trace {
-            write_moment(output, self.events, event, moment, subject.lines)?;
+            write_moment(output, self.events, event, moment, words.lines)?;
         }
-        self.add_event(subject, event, moment).map_err(refused)
+        self.add_event(words, event, moment).map_err(refused)
     }
 
     /// All that was told; `answer` is what the run came to.

@@ -43,17 +43,23 @@ pub struct Told {
     pub page: Option<String>,
 }
 
-/// A run, and the texts that it is told with.
+/// The texts that a run is told with.
+#[derive(Clone, Copy)]
+pub struct Words<'a> {
+    pub names: &'a Names<'a>,
+    /// The lines of the module's text.
+    pub lines: &'a [&'a str],
+}
+
+/// A run that is to be told.
 #[derive(Clone, Copy)]
 pub struct Subject<'a> {
     pub alloc: Global,
     pub verified: &'a Verified,
-    pub names: &'a Names<'a>,
     /// What a page is headed by.
     pub title: &'a str,
-    /// The module's text, and its lines.
+    /// The module's text.
     pub source: &'a str,
-    pub lines: &'a [&'a str],
     pub arguments: &'a [i64],
     pub workers: usize,
     /// Of a run on threads what its workers did beside the events.
@@ -77,7 +83,7 @@ fn answer_of(alloc: Global, machine: &Machine<'_>) -> Result<String, AllocError>
 
 /// The next event, told; false at the end.
 fn tell_next<C: Course, W: Write>(
-    subject: Subject<'_>,
+    words: Words<'_>,
     wanted: Wanted,
     watch: &mut Watch<'_>,
     teller: &mut Teller,
@@ -92,13 +98,13 @@ fn tell_next<C: Course, W: Write>(
     }
     let moment = watch.next(&event).map_err(refused)?;
     course.done(watch.machine()).map_err(refused)?;
-    teller.add(subject, wanted, &event, &moment, output)?;
+    teller.add(words, wanted, &event, &moment, output)?;
     Ok(true)
 }
 
 /// All events, told.
 fn tell_all<C: Course, W: Write>(
-    subject: Subject<'_>,
+    words: Words<'_>,
     wanted: Wanted,
     watch: &mut Watch<'_>,
     teller: &mut Teller,
@@ -106,7 +112,7 @@ fn tell_all<C: Course, W: Write>(
     output: &mut W,
 ) -> io::Result<()> {
     for _event in 0..u64::MAX {
-        if !tell_next(subject, wanted, watch, teller, course, output)? {
+        if !tell_next(words, wanted, watch, teller, course, output)? {
             return Ok(());
         }
     }
@@ -116,6 +122,7 @@ fn tell_all<C: Course, W: Write>(
 /// A run that has begun, told.
 fn tell_from<C: Course, W: Write>(
     subject: Subject<'_>,
+    words: Words<'_>,
     watch: &mut Watch<'_>,
     course: &mut C,
     wanted: Wanted,
@@ -127,8 +134,8 @@ fn tell_from<C: Course, W: Write>(
     } else {
         Settings::none(alloc)
     };
-    let mut teller = Teller::new(subject, wanted, &given).map_err(refused)?;
-    tell_all(subject, wanted, watch, &mut teller, course, output)?;
+    let mut teller = Teller::new(subject, words, wanted, &given).map_err(refused)?;
+    tell_all(words, wanted, watch, &mut teller, course, output)?;
     let answer = answer_of(alloc, watch.machine())?;
     teller
         .finish(subject, wanted, answer.as_str())
@@ -143,6 +150,7 @@ fn tell_from<C: Course, W: Write>(
 /// Those of the output; want of memory is one of them.
 pub fn tell<'v, C: Course, W: Write>(
     subject: Subject<'v>,
+    words: Words<'_>,
     memory: Memory,
     course: &mut C,
     wanted: Wanted,
@@ -159,7 +167,7 @@ pub fn tell<'v, C: Course, W: Write>(
     );
     match started {
         Ok(mut watch) => {
-            let told = tell_from(subject, &mut watch, course, wanted, output)?;
+            let told = tell_from(subject, words, &mut watch, course, wanted, output)?;
             Ok(Ok((told, watch.into_machine())))
         }
         Err(fault) => Ok(Err(fault)),

@@ -2,7 +2,9 @@
 
 use crate::script::SCRIPT;
 use crate::style::STYLE;
-use view_events::{Names, Numbered, push_event, push_settings, quoted};
+use crate::event::{Numbered, push_event, push_settings};
+use crate::names::Names;
+use crate::spelling::quoted;
 use view_moments::Settings;
 use std::alloc::{AllocError, Global};
 
