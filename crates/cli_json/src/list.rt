@@ -1,7 +1,7 @@
 //! Lists of texts.
 
-use view_events::quoted;
 use std::alloc::{AllocError, Global};
+use view_events::quoted;
 
 /// The separator before an item of a list, where another one stands before it.
 pub fn push_separator(out: &mut String) -> Result<(), AllocError> {

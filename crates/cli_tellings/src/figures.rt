@@ -1,8 +1,8 @@
 //! Figures of a run: what each worker did, and how much could be done at once.
 
 use lists::OutOfMemory;
-use view_moments::{Moment, Outcome, Timing};
 use std::alloc::{AllocError, Global};
+use view_moments::{Moment, Outcome, Timing};
 use view_traces::Event;
 
 /// What a worker of a run on threads did beside its events.

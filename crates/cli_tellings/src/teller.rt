@@ -2,13 +2,13 @@
 
 use crate::figures::Figures;
 use crate::telling::{Subject, Told, Wanted, Words};
-use view_events::{MOST_EVENTS, Numbered, Page, Start, push_event};
 use lists::OutOfMemory;
-use view_moments::{Moment, Rounds, Settings, write_moment};
-use view_pictures::{Scene, picture};
 use std::alloc::{AllocError, Global};
 use std::io;
 use std::io::Write;
+use view_events::{MOST_EVENTS, Numbered, Page, Start, push_event};
+use view_moments::{Moment, Rounds, Settings, write_moment};
+use view_pictures::{Scene, picture};
 use view_traces::{Event, Script};
 
 /// What is made of the events of a run.
@@ -85,11 +85,7 @@ impl Teller {
     }
 
     /// The event on the page and as a line of JSON.
-    fn add_line<'a>(
-        &mut self,
-        words: Words<'a>,
-        numbered: Numbered<'a>,
-    ) -> Result<(), AllocError> {
+    fn add_line<'a>(&mut self, words: Words<'a>, numbered: Numbered<'a>) -> Result<(), AllocError> {
         if let Some(page) = &mut self.page {
             page.add(words.names, numbered)?;
         }

@@ -4,11 +4,11 @@ ghost use Rattle.schedule_core.specs.store.Made.{IsMadeFor};
 
 use crate::figures::Crew;
 use crate::teller::{Teller, refused};
-use view_events::Names;
-use view_moments::Settings;
 use std::alloc::{AllocError, Global};
 use std::io;
 use std::io::Write;
+use view_events::Names;
+use view_moments::Settings;
 use view_traces::{Course, Machine, Memory, RunFault, Verified, Watch};
 
 /// What is asked for.

@@ -3,8 +3,8 @@
 use crate::names::{Names, NumberName, ThingName, ValueName};
 use crate::spelling::quoted;
 use frame::Event;
-use view_moments::{Change, Hindrance, Moment, Outcome, Place, Settings, TaskName, Written};
 use std::alloc::{AllocError, Global};
+use view_moments::{Change, Hindrance, Moment, Outcome, Place, Settings, TaskName, Written};
 
 /// An event of a run with its number, from 1, and its round.
 #[derive(Clone, Copy)]

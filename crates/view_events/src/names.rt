@@ -1,12 +1,12 @@
 //! The names of a module's text.
 
-use lists::OutOfMemory;
-use view_moments::{CellPlace, TaskName, Thing, Value};
-use program::{Program, RegisterId};
 use explain_scenes::Scene;
+use lists::OutOfMemory;
+use program::{Program, RegisterId};
 use std::alloc::Global;
 use std::fmt;
 use syntax::Module;
+use view_moments::{CellPlace, TaskName, Thing, Value};
 
 /// The functions of a program, each beside its text.
 #[derive(Drop)]

@@ -1,12 +1,12 @@
 //! The page's text.
 
-use crate::script::SCRIPT;
-use crate::style::STYLE;
 use crate::event::{Numbered, push_event, push_settings};
 use crate::names::Names;
+use crate::script::SCRIPT;
 use crate::spelling::quoted;
-use view_moments::Settings;
+use crate::style::STYLE;
 use std::alloc::{AllocError, Global};
+use view_moments::Settings;
 
 /// The most events that a page tells.
 pub const MOST_EVENTS: u64 = 20_000;

@@ -42,7 +42,13 @@ const setRegisters = (s, path, sets) => {
   for (const [name, value] of Object.entries(sets)) { frame.registers.set(name, value); s.fresh.add(path + " " + name); }
 };
 
-const setCell = (s, object, index, value) => { s.cells.set(object + ":" + index, value); s.fresh.add(object + ":" + index); };
+// Cells stand in the order in which they were last set.
+const setCell = (s, object, index, value) => {
+  const name = object + ":" + index;
+  s.cells.delete(name);
+  s.cells.set(name, value);
+  s.fresh.add(name);
+};
 
 const doSteal = (s, e) => {
   s.hands[e.worker] = e.task;
@@ -290,10 +296,12 @@ const drawRegisters = (state) => {
   byId("registers").replaceChildren(table);
 };
 
+// The cells that were set last come first; no more are drawn than can be read.
 const drawCells = (state) => {
-  const table = element("table");
-  for (const [name, value] of state.cells) table.append(row([name, value], state.fresh.has(name)));
-  byId("cells").replaceChildren(state.cells.size ? table : element("span", "none yet", "gone"));
+  const table = element("table"), all = [...state.cells].reverse();
+  for (const [name, value] of all.slice(0, 300)) table.append(row([name, value], state.fresh.has(name)));
+  const rest = element("span", all.length === 0 ? "none yet" : all.length > 300 ? `and ${all.length - 300} more` : "", "gone");
+  byId("cells").replaceChildren(table, rest);
 };
 
 const drawWorkers = (state) => {
@@ -350,7 +358,7 @@ byId("last").addEventListener("click", () => { stop(); go(events.length); });
 byId("play").addEventListener("click", play);
 addEventListener("keydown", (e) => {
   const keys = { ArrowRight: () => go(position + 1), ArrowLeft: () => go(position - 1), Home: () => go(0), End: () => go(events.length), " ": play };
-  if (!keys[e.key] || e.target.tagName === "INPUT" || e.target.tagName === "BUTTON") return;
+  if (!keys[e.key] || e.target.tagName === "INPUT" || (e.key === " " && e.target.tagName === "BUTTON")) return;
   e.preventDefault();
   if (e.key !== " ") stop();
   keys[e.key]();

@@ -3,8 +3,8 @@
 use crate::grid::Grid;
 use crate::scene::Scene;
 use crate::svg::{Rectangle, push_rectangle};
-use view_moments::TaskName;
 use std::alloc::{AllocError, Global};
+use view_moments::TaskName;
 
 /// The room below the rows.
 pub const LEGEND: u64 = 64;

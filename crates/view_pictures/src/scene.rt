@@ -2,8 +2,8 @@
 
 use frame::{Event, Path};
 use lists::OutOfMemory;
-use view_moments::{Instant, Moment, Outcome, Place, Timing};
 use std::alloc::Global;
+use view_moments::{Instant, Moment, Outcome, Place, Timing};
 
 /// A worker and its task, after one round and up to another.
 #[derive(Clone, Copy)]

@@ -6,8 +6,8 @@ use crate::legend::{LEGEND, push_legend};
 use crate::scene::{Miss, Scene, Stay, Theft, Work};
 use crate::summary::push_summary;
 use lists::OutOfMemory;
-use view_moments::TaskName;
 use std::alloc::{AllocError, Global};
+use view_moments::TaskName;
 
 /// The looks of all but the tasks, in light and in dark.
 const STYLE: &str = "\

@@ -1,11 +1,11 @@
 //! What stands in the program at a frame's place, and which registers and cells it sets.
 
-use frame_engine::{Frame, Places};
 use frame::{Role, block_at};
+use frame_engine::{Frame, Places};
 use lists::OutOfMemory;
-use view_moments::Act;
 use program::{Address, BlockId, Instruction, ObjectName, Program, RegisterId, Terminator};
 use std::alloc::Global;
+use view_moments::Act;
 
 /// Cells that an instruction is about to write, from an address on.
 #[derive(Clone, Copy)]

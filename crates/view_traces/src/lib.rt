@@ -14,8 +14,8 @@ mod watching;
 
 pub use course::{Course, Listed};
 pub use dice::Dice;
-pub use view_moments::{Hindrance, Moment, Outcome, Place, TaskName};
 pub use random::Draw;
 pub use schedule_core::{Event, Machine, Memory, RunFault, Verified};
 pub use script::Script;
+pub use view_moments::{Hindrance, Moment, Outcome, Place, TaskName};
 pub use watching::Watch;

@@ -1,12 +1,12 @@
 //! The objects of a run by their addresses: what a word means that is a pointer.
 
-use frame_engine::{Frame, Places};
 use frame::Path;
+use frame_engine::{Frame, Places};
 use lists::OutOfMemory;
-use view_moments::{CellPlace, Setting, Settings, Thing, Value};
 use program::{Program, RegisterId, RegisterKind};
 use schedule_core::{RunFault, Verified, places_of};
 use std::alloc::Global;
+use view_moments::{CellPlace, Setting, Settings, Thing, Value};
 
 /// Where the arrays of a living frame stand.
 #[derive(Drop)]

@@ -4,8 +4,8 @@ ghost use Rattle.schedule_core.specs.store.Made.{IsMadeFor};
 
 use crate::items::{Plan, parameters_at, phis_at, plan_of, result_at};
 use crate::objects::Objects;
-use frame_engine::Frame;
 use frame::Path;
+use frame_engine::Frame;
 use lists::OutOfMemory;
 use program::RegisterId;
 use schedule_core::{Event, Machine, Memory, RunFault, Status, TaskView, Verified};
