@@ -94,8 +94,7 @@ fn tell_recorded<W: Write>(
         next: 0,
         done: 0,
     };
-    let near = *job;
-    tell_course(&near, memory, &mut events, crew, output, beside)
+    tell_course(job, memory, &mut events, crew, output, beside)
 }
 
 /// Runs the module on workers, each on a thread of its own, and tells of the events that were done.

@@ -21,9 +21,5 @@ pub fn run_drawn<W: Write>(
     };
     let seed = job.request.telling.seed.unwrap_or(0);
     let mut draw = Draw::new(job.alloc, seed, job.request.workers);
-    let crew = Crew {
-        efforts: &[],
-        microseconds: 0,
-    };
-    tell_course(job, memory, &mut draw, crew, output, beside)
+    tell_course(job, memory, &mut draw, Crew::none(), output, beside)
 }

@@ -90,12 +90,12 @@ fn keep_told<W: Write>(
 }
 
 /// Tells of a run with the names of its text.
-fn tell_named<'x, C: Course, W: Write>(
-    job: &Job<'x>,
-    module: &'x Module,
+fn tell_named<C: Course, W: Write>(
+    job: &Job<'_>,
+    module: &Module,
     memory: Memory,
     course: &mut C,
-    crew: Crew<'x>,
+    crew: Crew<'_>,
     output: &mut W,
     beside: &mut Beside,
 ) -> io::Result<Status>
@@ -118,11 +118,11 @@ fn tell_named<'x, C: Course, W: Write>(
         source,
         arguments,
         workers: job.request.workers,
-        crew,
     };
     let words = Words {
         names: &names,
         lines,
+        crew,
     };
     let wanted = wanted_of(&job.request.telling);
     match tell(subject, words, memory, course, wanted, output)? {
@@ -135,22 +135,18 @@ fn tell_named<'x, C: Course, W: Write>(
 }
 
 /// Runs by the events of a course. What is asked to be told of them comes before the answer, the figures after it.
-pub fn tell_course<'x, C: Course, W: Write>(
-    job: &Job<'x>,
+pub fn tell_course<C: Course, W: Write>(
+    job: &Job<'_>,
     memory: Memory,
     course: &mut C,
-    crew: Crew<'x>,
+    crew: Crew<'_>,
     output: &mut W,
     beside: &mut Beside,
 ) -> io::Result<Status>
     requires { IsMadeFor job.now.verified.now memory }
 {
     match read(job.alloc, job.state, job.text) {
-        Ok(module) => {
-            let near = *job;
-            let crew = Crew { ..crew };
-            tell_named(&near, &module, memory, course, crew, output, beside)
-        }
+        Ok(module) => tell_named(job, &module, memory, course, crew, output, beside),
         // It was read before.
         Err(_) => stop_for_memory(output),
     }
@@ -174,11 +170,7 @@ fn tell_schedule<W: Write>(
         Err(status) => return print_unprepared(status, output),
     };
     let mut course = Listed::new(job.alloc, events.as_slice());
-    let crew = Crew {
-        efforts: &[],
-        microseconds: 0,
-    };
-    tell_course(job, memory, &mut course, crew, output, beside)
+    tell_course(job, memory, &mut course, Crew::none(), output, beside)
 }
 
 /// Runs by a schedule, and tells of its events where that is asked for.

@@ -140,7 +140,7 @@ impl Teller {
     /// All that was told; `answer` is what the run came to.
     pub fn finish(
         self,
-        subject: Subject<'_>,
+        words: Words<'_>,
         wanted: Wanted,
         answer: &str,
     ) -> Result<Told, OutOfMemory> {
@@ -163,7 +163,7 @@ impl Teller {
             page: None,
         };
         if wanted.stats {
-            figures.push_lines(&mut told.stats, subject.crew)?;
+            figures.push_lines(&mut told.stats, words.crew)?;
         }
         if let Some(script) = script {
             told.script = script.into_text()?;

@@ -43,12 +43,14 @@ pub struct Told {
     pub page: Option<String>,
 }
 
-/// The texts that a run is told with.
+/// What a run is told with.
 #[derive(Clone, Copy)]
 pub struct Words<'a> {
     pub names: &'a Names<'a>,
     /// The lines of the module's text.
     pub lines: &'a [&'a str],
+    /// Of a run on threads what its workers did beside the events.
+    pub crew: Crew<'a>,
 }
 
 /// A run that is to be told.
@@ -62,8 +64,6 @@ pub struct Subject<'a> {
     pub source: &'a str,
     pub arguments: &'a [i64],
     pub workers: usize,
-    /// Of a run on threads what its workers did beside the events.
-    pub crew: Crew<'a>,
 }
 
 /// What the run came to.
@@ -138,7 +138,7 @@ fn tell_from<C: Course, W: Write>(
     tell_all(words, wanted, watch, &mut teller, course, output)?;
     let answer = answer_of(alloc, watch.machine())?;
     teller
-        .finish(subject, wanted, answer.as_str())
+        .finish(words, wanted, answer.as_str())
         .map_err(refused)
 }
 
