@@ -306,7 +306,9 @@ const drawCells = (state) => {
 
 const drawWorkers = (state) => {
   const table = element("table");
-  state.hands.forEach((task, w) => table.append(row([`worker ${w}`, task || "idle", `${state.executed[w]} instructions`, `${state.steals[w]} steals`])));
+  const counted = (number, word) => `${number} ${word}${number === 1 ? "" : "s"}`;
+  state.hands.forEach((task, w) =>
+    table.append(row([`worker ${w}`, task || "idle", counted(state.executed[w], "instruction"), counted(state.steals[w], "steal")])));
   byId("workers").replaceChildren(table);
 };
 
