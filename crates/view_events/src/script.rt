@@ -326,6 +326,8 @@ const go = (to) => {
   byId("event").textContent = e ? eventWords(e) : "before the first event";
   const x = xOf(e ? e.round : 0);
   hand.setAttribute("x1", x); hand.setAttribute("x2", x);
+  const time = byId("time");
+  if (x < time.scrollLeft || x > time.scrollLeft + time.clientWidth - 20) time.scrollLeft = x - time.clientWidth / 2;
   drawSource(state); drawTree(state); drawRegisters(state); drawCells(state); drawWorkers(state);
 };
 

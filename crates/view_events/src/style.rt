@@ -13,7 +13,7 @@ button{font:inherit;padding:2px 10px}
 #time{overflow-x:auto}
 #columns{display:grid;grid-template-columns:minmax(380px,1.2fr) minmax(300px,1fr);gap:18px}
 pre{margin:0;font:12.5px/1.45 ui-monospace,monospace}
-pre,.scroll{max-height:70vh;overflow:auto}
+pre,.scroll{max-height:70vh;overflow:auto;position:relative}
 .row{display:block;white-space:pre;padding:0 4px}
 .row .n{display:inline-block;width:3em;text-align:right;margin-right:8px;color:var(--soft)}
 .row.note{color:var(--soft)}
