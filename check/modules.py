@@ -3,6 +3,32 @@ import itertools, os, subprocess, tempfile, time
 
 LIMIT = 1048576
 
+# A loop of so many rounds as @main's argument says, of four instructions each.
+LOOP = """define i64 @main(i64 %n) {
+;! requires %n >= 1
+;! requires %n <= 1000000000
+;! budget 0 4000000002
+entry:
+;! left 0 4*%n+2
+br label %head
+head:
+;! keeps %i >= 0
+;! keeps %i+1 <= %n
+;! keeps %n <= 1000000000
+;! left 0 4*%n-4*%i+1
+%i = phi i64 [ 0, %entry ], [ %k, %head ]
+%sum = phi i64 [ 0, %entry ], [ %t, %head ]
+%t = add i64 %sum, %i
+%k = add nsw i64 %i, 1
+%c = icmp slt i64 %k, %n
+br i1 %c, label %head, label %out
+out:
+;! left 0 1
+ret i64 %sum
+}
+"""
+
+
 def seconds(tapirvm, text, wanted):
     """The least of seven runs. The program has to print a line that begins with `wanted`."""
     assert len(text) <= LIMIT, len(text)
@@ -18,6 +44,7 @@ def seconds(tapirvm, text, wanted):
     os.unlink(file.name)
     return best
 
+
 def verified(tapirvm, text, effort=None):
     """The time of one `verify`, within this effort if one is named, and what it says first; after 90 seconds it is not waited for."""
     with tempfile.NamedTemporaryFile("w", suffix=".ll", delete=False) as file:
@@ -30,6 +57,7 @@ def verified(tapirvm, text, effort=None):
         told = "not waited for"
     os.unlink(file.name)
     return time.time() - start, told
+
 
 def chain(name, blocks, defined):
     """A function of so many blocks one after another, each but the first with a phi and so many more registers."""
@@ -44,6 +72,7 @@ def chain(name, blocks, defined):
         before, value = f"a{block}", f"%p{block}"
     return "".join(out) + "}\n"
 
+
 def calls(functions):
     """All functions but the main one: each calls the one above and passes a pointer."""
     out, cost = ["@a = global [4 x i64] zeroinitializer\n"], 0
@@ -55,11 +84,13 @@ def calls(functions):
         out.append(f"store i64 %n, ptr %p\n{call}ret void\n}}\n")
     return "".join(out)
 
+
 def filled(part, limit):
     """As many functions as a text of this many bytes holds, and half of them."""
     one = len(part("f0"))
     half = min(255, limit // (one + 2)) // 2
     return ["".join(part(f"f{f}") for f in range(count)) for count in (half, 2 * half)]
+
 
 def known(facts):
     """A block at whose end so many facts are known, all of the same two registers, and a `shows` line with two factors that no two of them show."""
@@ -68,12 +99,14 @@ def known(facts):
         out.append(f";! shows 3*%n+2*%m >= {-k}\n" + (f"%x{k} = add i64 %n, 0\n" if k % 32 == 0 else ""))
     return "".join(out) + ("" if facts % 32 else f"%x = add i64 %n, 0\n") + ";! shows 5*%n+7*%m >= 1\nret i64 0\n}\n"
 
+
 def steps(count):
     """So many sums in one block, each of the one before; two `shows` lines before each bound it by the two facts that stand last."""
     out = [f"define i64 @main(i64 %n) {{\n;! requires %n >= 0\n;! requires %n <= 9\n;! budget 0 {count + 1}\nentry:\n;! left 0 {count + 1}\n"]
     out.append("%x0 = add nsw i64 %n, 1\n")
     out += [f";! shows %x{k - 1} >= 0\n;! shows %x{k - 1} <= {k + 9}\n%x{k} = add nsw i64 %x{k - 1}, 1\n" for k in range(1, count)]
     return "".join(out) + "ret i64 0\n}\n"
+
 
 def shown(count, form):
     """So many `shows` lines in one block, 32 before each add."""
@@ -82,19 +115,23 @@ def shown(count, form):
         out.append(f";! shows {form(k)}\n" + (f"%x{k} = add i64 %n, 0\n" if k % 32 == 0 else ""))
     return "".join(out) + "ret i64 0\n}\n"
 
+
 def weaker(count):
     """Each line says less than the one before it of the same left side, of which there are two, one after the other."""
     return shown(count, lambda k: f"%n+%m >= {-k}" if k % 2 else f"%n >= {-k}")
 
+
 def apart(count):
     """Each line has a coefficient of its own, and the oldest fact alone shows it."""
     return shown(count, lambda k: f"{k + 1}*%n >= {-k}")
+
 
 def pairs(count):
     """Each line has coefficients of its own, and the two oldest facts alone show it, which are the last that a search by values comes to."""
     head = f"define i64 @main(i64 %n, i64 %m) {{\n;! requires %n <= 9\n;! requires %m <= 9\n;! budget 0 {count // 32 + 2}\nentry:\n;! left 0 {count // 32 + 2}\n"
     lines = [f";! shows {k + 1}*%n+{k + 2}*%m <= {9 * (2 * k + 3)}\n" + (f"%x{k} = add i64 %n, 0\n" if k % 32 == 0 else "") for k in range(1, count + 1)]
     return head + "".join(lines) + "ret i64 0\n}\n"
+
 
 def strands(rounds):
     """As many children as @main's argument says, up to 64, each of which calls a loop of so many rounds and stores what it gives."""
@@ -174,6 +211,7 @@ ret i64 %n
 }}
 """
 
+
 def clear(facts):
     """A detach beside a child: 32 zones of one against 32 of the other, which the oldest of so many facts keep apart."""
     adds = facts // 32 + 1
@@ -190,6 +228,7 @@ def clear(facts):
     last = "f:\n" + bounds + ";! pending %s reads @a 0 %m\n;! pending %s writes @a %n %n+32\n;! left 0 2\nsync within %s, label %g\ng:\n;! left 0 1\nret i64 0\n}\n"
     return head + first + middle + second + last
 
+
 def stores(count):
     """So many facts, and then as many stores of a cell whose index the two oldest facts bound."""
     adds = count // 32
@@ -197,6 +236,7 @@ def stores(count):
     head += f";! budget 0 {adds + count + 2}\nentry:\n;! left 0 {adds + count + 2}\n"
     facts = [f";! shows {k + 1}*%m <= {9 * k + 10}\n" + (f"%x{k} = add i64 %n, 0\n" if k % 32 == 0 else "") for k in range(1, count + 1)]
     return head + "".join(facts) + "%p = getelementptr inbounds i64, ptr @a, i64 %n\n" + "store i64 0, ptr %p\n" * count + "ret i64 0\n}\n"
+
 
 def promises(count):
     """So many calls of a function with 32 `requires` and 32 `ensures` lines, each of which the two oldest facts show."""
@@ -207,6 +247,7 @@ def promises(count):
     head = f"define i64 @main(i64 %n, i64 %m) {{\n;! requires %n <= 9\n;! requires %m <= 9\n;! budget 0 {total}\nentry:\n;! left 0 {total}\n"
     return callee + head + "call void @f(i64 %n, i64 %m)\n" * count + "ret i64 0\n}\n"
 
+
 def covers(count):
     """So many calls of a function with 32 zones of each mode, each of which the last of the caller's 32 zones alone covers."""
     modes = [("reads", 0), ("writes", 32), ("adds", 64)]
@@ -215,6 +256,7 @@ def covers(count):
     total = 2 * count + 1
     head = "define i64 @main(i64 %n) {\n" + "".join(f";! writes @a {k + 200} {k + 201}\n" for k in range(31)) + f";! writes @a 0 99\n;! budget 0 {total}\nentry:\n;! left 0 {total}\n"
     return callee + head + "call void @f()\n" * count + "ret i64 0\n}\n"
+
 
 def cases(count):
     """So many facts at the end of a block, and then a switch to 64 blocks with 32 `keeps` lines each, which the two oldest facts show."""
@@ -225,12 +267,14 @@ def cases(count):
     keeps = "".join(f";! keeps {k + 1}*%n+{k + 2}*%m <= {18 * k + 27}\n" for k in range(32))
     return head + "".join(facts) + ways + "".join(f"a{k}:\n{keeps};! left 0 1\nret i64 0\n" for k in range(65)) + "}\n"
 
+
 def pointers(count):
     """So many calls in one block, then a pointer, and as many loads through it."""
     total = 3 * count + 2
     callee = "@a = global [9 x i64] zeroinitializer\ndefine void @f() {\n;! budget 0 1\nentry:\n;! left 0 1\nret void\n}\n"
     head = f"define i64 @main(i64 %n) {{\n;! writes @a 0 9\n;! budget 0 {total}\nentry:\n;! left 0 {total}\n"
     return callee + head + "call void @f()\n" * count + "%p = getelementptr inbounds i64, ptr @a, i64 0\n" + "store i64 0, ptr %p\n" * count + "ret i64 0\n}\n"
+
 
 def selves(count):
     """So many facts in one block, and as many self calls after them, whose measure the two oldest facts bound."""
@@ -242,6 +286,7 @@ def selves(count):
     main = "define i64 @main(i64 %n) {\n;! budget 0 1\nentry:\n;! left 0 1\nret i64 0\n}\n"
     return head + first + "".join(facts) + "call void @f(i64 %k, i64 %m)\n" * count + "ret void\nb:\n;! left 0 1\nret void\n}\n" + main
 
+
 def asked(count):
     """Sixteen facts of four registers, and so many calls of a function with 32 `requires` lines that two of them show with two factors."""
     lines = [f"{k + 2}*%a+{k + 3}*%b+{k + 2}*%c+{k + 3}*%d >= {-9 * k}" for k in range(32)]
@@ -251,6 +296,7 @@ def asked(count):
     head = "define i64 @main(i64 %a, i64 %b, i64 %c, i64 %d) {\n" + "".join(f";! requires {fact}\n" for fact in facts) + f";! budget 0 {total}\nentry:\n;! left 0 {total}\n"
     return callee + head + "call void @f(i64 %a, i64 %b, i64 %c, i64 %d)\n" * count + "ret i64 0\n}\n"
 
+
 def given(count):
     """So many calls of a function with 32 `ensures` lines, each with a register of its own."""
     lines = [f"{k + 1}*%n >= {-k}" for k in range(32)]
@@ -258,6 +304,7 @@ def given(count):
     total = 3 * count + 1
     head = f"define i64 @main(i64 %n) {{\n;! requires %n >= 0\n;! budget 0 {total}\nentry:\n;! left 0 {total}\n"
     return callee + head + "".join(f"%x{k} = and i64 %n, 7\ncall void @f(i64 %x{k})\n" for k in range(count)) + "ret i64 0\n}\n"
+
 
 def beside(count):
     """So many calls of a function with 32 zones of each mode, beside a child with 32 zones that start where those end."""
@@ -271,6 +318,7 @@ def beside(count):
     rest = f"c:\n;! left 0 {total - 3}\n" + "".join(f";! pending %s {zone}\n" for zone in zones)
     return callee + head + child + rest + "call void @f()\n" * count + "sync within %s, label %e\ne:\n;! left 0 1\nret i64 0\n}\n"
 
+
 def crossed(count):
     """So many `shows` lines of two registers with small coefficients of both signs, each in turn the first and the last that its question comes to."""
     wide = int(count ** 0.5) // 2 + 1
@@ -283,6 +331,7 @@ def crossed(count):
         lines.append(f";! shows {x}*%n{y:+}*%m >= {least}\n".replace("+0*%m", "+0*%m") + (f"%x{k} = add i64 %n, 0\n" if k % 32 == 0 else ""))
     return head + "".join(lines) + "ret i64 0\n}\n"
 
+
 def multiples(count, bounds, up, down):
     """So many `shows` lines that are multiples of one form of two registers, of both signs, each k times these bounds and 5 less."""
     head = "define i64 @main(i64 %n, i64 %m) {\n" + "".join(f";! requires {bound}\n" for bound in bounds)
@@ -294,13 +343,16 @@ def multiples(count, bounds, up, down):
         lines.append(f";! shows {line}\n" + (f"%x{j} = add i64 %n, 0\n" if j % 32 == 0 else ""))
     return head + "".join(lines) + "ret i64 0\n}\n"
 
+
 def woven(count):
     """Multiples of which two of the four oldest facts show each, and very many two others come to its terms, and not to its constant."""
     return multiples(count, ["%n+%m >= 0", "%m >= -9", "%n+%m <= 9", "%m <= 9"], -9, -18)
 
+
 def knit(count):
     """As `woven`, where of the factors the last two alone serve."""
     return multiples(count, ["%n-2*%m >= 0", "2*%m >= -9", "%n-2*%m <= 9", "2*%m <= 9"], -18, -27)
+
 
 def pressed(count):
     """So many facts as in `woven`, and as many calls of a function with 32 `requires` lines that two of the four oldest facts show, and no other two."""
@@ -311,6 +363,7 @@ def pressed(count):
     facts = facts.replace(f" 0 {count // 32 + 2}\n", f" 0 {total}\n")
     return callee + facts[:facts.index("ret i64 0")] + "call void @f(i64 %n, i64 %m)\n" * count + "ret i64 0\n}\n"
 
+
 def branched(count):
     """So many calls of a function with 32 `ensures` lines, and then a switch to 65 blocks with 32 `keeps` lines each."""
     lines = [f"{k + 1}*%n >= {-k}" for k in range(32)]
@@ -320,6 +373,7 @@ def branched(count):
     ways = "switch i64 %m, label %a64 [" + "".join(f" i64 {k}, label %a{k}" for k in range(64)) + " ]\n"
     keeps = "".join(f";! keeps {line}\n" for line in lines)
     return callee + head + "call void @f(i64 %n)\n" * count + ways + "".join(f"a{k}:\n{keeps};! left 0 1\nret i64 0\n" for k in range(65)) + "}\n"
+
 
 def zoned(count):
     """So many calls of a function with 32 zones of each mode at multiples of a register, beside a child with 32 such zones."""
@@ -336,6 +390,7 @@ def zoned(count):
     rest = f"c:\n{keeps};! left 0 {total - 3}\n" + "".join(f";! pending %s {zone}\n" for zone in zones)
     return callee + head + child + rest + "call void @f(i64 %n)\n" * count + "sync within %s, label %e\ne:\n;! left 0 1\nret i64 0\n}\n"
 
+
 def scaled(count):
     """As `zoned`, where the child's zones are at multiples of another register, and of 32 zones of the caller's at multiples the last alone covers."""
     bounds, others = ["%n >= 1", "%n <= 9"], ["%m >= 1", "%m <= 9"]
@@ -351,10 +406,12 @@ def scaled(count):
     rest = f"c:\n{keeps};! left 0 {total - 3}\n" + "".join(f";! pending %s writes @a {k + 1}*%m {k + 2}*%m\n" for k in range(32))
     return callee + head + child + rest + "call void @f(i64 %n)\n" * count + "sync within %s, label %e\ne:\n;! left 0 1\nret i64 0\n}\n"
 
+
 def slanted(count):
     """As `scaled`, where another parameter stands in both ends of each zone of the callee's."""
     text = scaled(count).replace("define void @f(i64 %n) {\n", "define void @f(i64 %n, i64 %p) {\n;! requires %p >= 1\n;! requires %p <= 9\n")
     return text.replace("*%n+369", "*%n+%p+369").replace("call void @f(i64 %n)", "call void @f(i64 %n, i64 %m)")
+
 
 def posed(count):
     """So many facts of four registers, and calls of functions with 32 `requires` lines that two of the 24 oldest show with two factors, at the limit 95,000 different questions."""
@@ -377,6 +434,7 @@ def posed(count):
     body = [f"call void @f{n % functions}(" + ", ".join(f"i64 {register}" for register in orders[n // functions % 24]) + ")\n" for n in range(calls)]
     return callees + head + "".join(facts) + "".join(body) + "ret i64 0\n}\n"
 
+
 def strewn(count):
     """As `posed`, where 1,536 pairs of facts in turn show what is asked."""
     registers, functions = ["%a", "%b", "%c", "%d"], count // 100 + 1
@@ -395,6 +453,7 @@ def strewn(count):
     shows = "".join(f";! shows {fact}\n" + (f"%x{j} = add i64 %a, 0\n" if j % 32 == 0 else "") for j, fact in enumerate(facts, 1))
     body = [f"call void @f{n % functions}(" + ", ".join(f"i64 {register}" for register in orders[n // functions % 24]) + ")\n" for n in range(calls)]
     return callees + head + shows + "".join(body) + "ret i64 0\n}\n"
+
 
 def scattered(count):
     """So many calls of functions with 32 `ensures` lines of two registers each, and four times as many of functions with 32 `requires` lines of four registers,
@@ -417,6 +476,7 @@ def scattered(count):
     head += f";! budget 0 {total}\nentry:\n;! left 0 {total}\n"
     return "".join(map(maker, range(makers))) + "".join(map(asker, range(askers))) + head + "".join(made) + "".join(asked) + "ret i64 0\n}\n"
 
+
 def pending(blocks):
     """A child that may run beside so many blocks, each with 32 `pending` lines."""
     out = ["@a = global [99 x i64] zeroinitializer\n"]
@@ -428,6 +488,7 @@ def pending(blocks):
         out += [f";! pending %s reads @a 0 {k}\n" for k in range(32, 64)]
         out.append(f"br label %a{block + 1}\n" if block < blocks - 1 else "sync within %s, label %e\n")
     return "".join(out) + "e:\n;! left 0 1\nret i64 0\n}\n"
+
 
 def children(name, blocks, allocas, turned=False):
     """So many blocks: detaches in a row, each within a region of its own, and then their syncs. Each alloca is stored by one child, and
@@ -444,6 +505,7 @@ def children(name, blocks, allocas, turned=False):
     first = ["entry:\n"] + entry + ["detach within %r0, label %d0, label %c0\n"]
     return f"define i64 @{name}(i64 %n) {{\n" + "".join("".join(block) for block in [first] + (out[::-1] if turned else out)) + "}\n"
 
+
 def nested(name, blocks, allocas):
     """Children within children: each starts a region of its own, and the innermost one stores all allocas."""
     count = (blocks - 2) // 3
@@ -456,6 +518,7 @@ def nested(name, blocks, allocas):
         out.append(f"reattach within %r{k - 1}, label %c{k - 1}\n" if k else "".join(f"atomicrmw add ptr %x{a}, i64 1 seq_cst\n" for a in range(allocas)) + "ret i64 0\n")
     return f"define i64 @{name}(i64 %n) {{\n" + "".join(out) + "}\n"
 
+
 def endless(name, blocks, allocas):
     """Detaches in a row of children that never end, and then their syncs: after those nothing runs, so that each alloca is sure."""
     count = (blocks - 2) // 4
@@ -467,6 +530,7 @@ def endless(name, blocks, allocas):
     out += [f"s{k}:\nsync within %r{k}, label %s{k + 1}\n" for k in range(count)]
     out += [f"s{count}:\n"] + [f"atomicrmw add ptr %x{a}, i64 1 seq_cst\n" for a in range(allocas)] + ["ret i64 0\n"]
     return f"define i64 @{name}(i64 %n) {{\n" + "".join(out) + "}\n"
+
 
 def plain(size):
     """A module of this many bytes: functions of blocks with annotations, adds, branches and returns."""
@@ -485,6 +549,7 @@ def plain(size):
         count += 1
     text = "".join(out) + main
     return text + ";" * (size - len(text) - 1) + "\n"
+
 
 def costly(size):
     """A module of at most this many bytes: calls of a function whose greatest measure is the greatest that there is."""
