@@ -89,18 +89,19 @@ fn explain_status(rt: &impl Eprint, request: &Request, status: u8, texts: &Texts
     }
 }
 
-/// Writes the file that is asked for, if one is.
-fn write_asked<R: AllocGlobal + Eprint + Files>(rt: &R, request: &Request, text: &str) -> Status {
-    let Some(file) = &request.telling.file else {
-        return Status::Done;
-    };
-    match write_file(rt, file.as_str(), text) {
-        Ok(()) => Status::Done,
-        Err(error) => {
-            complain(rt, file.as_str(), &error);
-            Status::Stream
+/// Writes the files that are asked for, up to one that cannot be written; want of memory is no such reason.
+fn write_asked<R: AllocGlobal + Eprint + Files>(rt: &R, beside: &Beside) -> io::Result<Status> {
+    for file in &beside.files {
+        match write_file(rt, file.word.as_str(), file.text.as_str()) {
+            Ok(()) => {}
+            Err(error) if error.kind() == ErrorKind::OutOfMemory => return Err(error),
+            Err(error) => {
+                complain(rt, file.word.as_str(), &error);
+                return Ok(Status::Stream);
+            }
         }
     }
+    Ok(Status::Done)
 }
 
 /// The text of the file that a word names, or why it cannot be read; want of memory is no such reason.
@@ -161,13 +162,13 @@ fn tell_beside<R: AllocGlobal + Eprint + Files>(
     texts: &Texts,
     beside: &Beside,
     status: u8,
-) -> u8 {
+) -> io::Result<u8> {
     let _ = rt.eprint(beside.notes.as_str());
     explain_status(rt, request, status, texts);
     if status == Status::Done as u8 {
-        return write_asked(rt, request, beside.file.as_str()) as u8;
+        return Ok(write_asked(rt, beside)? as u8);
     }
-    status
+    Ok(status)
 }
 
 /// Reads the files, does what is asked and answers the status.
@@ -188,7 +189,7 @@ fn obey<
     let mut beside = Beside::nothing(rt.alloc());
     beside.has_colours = has_terminal && !has_no_colours(rt);
     let status = answer(rt, request, &texts, &mut beside)?;
-    Ok(tell_beside(rt, request, &texts, &beside, status))
+    tell_beside(rt, request, &texts, &beside, status)
 }
 
 /// What was read.

@@ -5,8 +5,11 @@
 //! itself, and all else by `answers`. What runs are made of is passed on for tests that look inside one.
 #![tactic(auto)]
 
+mod clocks;
 mod host;
+mod recorded;
 mod requests;
+mod speedup;
 
 pub use cli_answers::{
     Beside, CellWord, Debugger, Event, Finished, Machine, Memory, Request, RunFault, Setting,

@@ -1,7 +1,9 @@
 //! Runs on threads, and all other answers.
 
+use crate::recorded::run_told;
+use crate::speedup::run_speedup;
 use cli_answers::{
-    Beside, Job, Request, Status, Verb, answer, effort_of, fail, prepared, print_run,
+    Beside, Job, Request, Status, Verb, answer, effort_of, fail, is_told, prepared, print_run,
     print_unprepared, print_unreadable, print_unverified, verify_within,
 };
 use deque_pool::OpenGate;
@@ -61,12 +63,19 @@ fn verify_and_run<T: Threads + Wait + Clock + Sync, W: Write>(
         Ok(verified) => {
             let job = Job {
                 alloc,
+                state,
                 request,
                 text,
                 verified: &verified,
                 schedule,
             };
-            run_on_workers(rt, &job, output, beside)
+            if !request.speedup.is_empty() {
+                run_speedup(rt, &job, output, beside)
+            } else if is_told(&request.telling) {
+                run_told(rt, &job, output, beside)
+            } else {
+                run_on_workers(rt, &job, output, beside)
+            }
         }
         Err(unverified) => print_unverified(&unverified, output, beside),
     }

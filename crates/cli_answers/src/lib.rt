@@ -8,6 +8,7 @@
 mod dialogue;
 mod draw;
 mod job;
+mod json;
 mod requests;
 mod runs;
 mod tell;
@@ -15,6 +16,7 @@ mod tell;
 pub use cli_modules::{
     Beside, Status, fail, print_unreadable, print_unverified, read_file, read_text, write_file,
 };
+pub use cli_tellings::{Crew, Effort};
 pub use cli_words::{
     CellWord, Request, Setting, Telling, Verb, WordsFault, bytes_of, text_of, words,
 };
@@ -25,3 +27,5 @@ pub use debugger::{
 pub use job::Job;
 pub use requests::{answer, effort_of};
 pub use runs::{prepared, print_run, print_unprepared};
+pub use tell::{is_told, tell_course};
+pub use view_traces::Course;
