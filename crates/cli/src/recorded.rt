@@ -66,6 +66,10 @@ fn efforts_of(alloc: Global, figures: &[Figures]) -> Result<Vec<Effort>, AllocEr
             strangers: worker.strangers,
             searches: worker.searches,
             publications: worker.publications,
+            at_borders: worker.at_borders,
+            at_full_logs: worker.at_full_logs,
+            at_limits: worker.at_limits,
+            for_others: worker.for_others,
         })?;
     }
     Ok(efforts)

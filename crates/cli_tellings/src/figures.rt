@@ -14,8 +14,40 @@ pub struct Effort {
     pub strangers: u64,
     /// The times that it looked for a task.
     pub searches: u64,
-    /// The strands that it put on the board.
+    /// The strands that it put on the board: the four numbers below together.
     pub publications: u64,
+    /// Next was what only the board does.
+    pub at_borders: u64,
+    /// The next cell was of one more page than a strand has.
+    pub at_full_logs: u64,
+    /// They had done all that a strand may.
+    pub at_limits: u64,
+    /// Others waited for tasks.
+    pub for_others: u64,
+}
+
+impl Effort {
+    /// What it did beside its events, as it stands in the worker's line.
+    fn push_words(self, out: &mut String, steals: u64) -> Result<(), AllocError> {
+        let Effort {
+            strands,
+            strangers,
+            searches,
+            publications,
+            at_borders,
+            at_full_logs,
+            at_limits,
+            for_others,
+        } = self;
+        write!(
+            out,
+            "strands {strands} steals {steals} strangers {strangers} searches {searches} publications {publications} "
+        )?;
+        write!(
+            out,
+            "borders {at_borders} pages {at_full_logs} limits {at_limits} others {for_others}"
+        )
+    }
 }
 
 /// What the workers of a run on threads did beside its events, and how long it took.
@@ -91,18 +123,7 @@ impl Figures {
             } = *figures;
             write!(out, "worker {worker} instructions {instructions} ")?;
             match efforts.get(worker) {
-                Some(effort) => {
-                    let Effort {
-                        strands,
-                        strangers,
-                        searches,
-                        publications,
-                    } = *effort;
-                    write!(
-                        out,
-                        "strands {strands} steals {steals} strangers {strangers} searches {searches} publications {publications}"
-                    )?;
-                }
+                Some(effort) => effort.push_words(out, steals)?,
                 None => write!(out, "steals {steals}")?,
             }
             let busy = share_of(instructions.saturating_add(steals), self.rounds);
