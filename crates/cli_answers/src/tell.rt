@@ -9,6 +9,7 @@ use cli_tellings::{Crew, Subject, Told, Wanted, Words, tell};
 use cli_words::Telling;
 use debugger::{Memory, read_schedule};
 use ir_reader::read;
+use program::Program;
 use std::alloc::AllocError;
 use std::io;
 use std::io::Write;
@@ -89,9 +90,42 @@ fn keep_told<W: Write>(
     Ok(keep_script(job, script, events, beside)?)
 }
 
-/// Tells of a run with the names of its text.
+/// Tells of a run, with its names and the lines of its text.
 fn tell_named<C: Course, W: Write>(
     job: &Job<'_>,
+    names: &Names<'_>,
+    lines: &[&str],
+    memory: Memory,
+    course: &mut C,
+    crew: Crew<'_>,
+    output: &mut W,
+    beside: &mut Beside,
+) -> io::Result<Status>
+    requires { IsMadeFor job.now.verified.now memory }
+{
+    let subject = Subject {
+        alloc: job.alloc,
+        verified: job.verified,
+        title: job.request.file.as_str(),
+        source: job.source(),
+        arguments: job.request.args.as_slice(),
+        workers: job.request.workers,
+    };
+    let words = Words { names, lines, crew };
+    let wanted = wanted_of(&job.request.telling);
+    match tell(subject, words, memory, course, wanted, output)? {
+        Ok((told, machine)) => {
+            print_replayed(job, machine, output)?;
+            keep_told(job, told, output, beside)
+        }
+        Err(fault) => job.print_run_fault(&fault, output, beside),
+    }
+}
+
+/// Tells of a run of a module that means this program.
+fn tell_module<C: Course, W: Write>(
+    job: &Job<'_>,
+    program: &Program,
     module: &Module,
     memory: Memory,
     course: &mut C,
@@ -101,37 +135,13 @@ fn tell_named<C: Course, W: Write>(
 ) -> io::Result<Status>
     requires { IsMadeFor job.now.verified.now memory }
 {
-    let alloc = job.alloc;
-    let program = job.verified.program();
-    let Ok(names) = Names::of(alloc, program, module) else {
+    let Ok(names) = Names::of(job.alloc, program, module) else {
         return Err(io::Error::from(AllocError));
     };
     let source = job.source();
-    let list: Vec<&str> = source.lines().collect(alloc)?;
-    let title = job.request.file.as_str();
+    let list: Vec<&str> = source.lines().collect(job.alloc)?;
     let lines = list.as_slice();
-    let arguments = job.request.args.as_slice();
-    let subject = Subject {
-        alloc,
-        verified: job.verified,
-        title,
-        source,
-        arguments,
-        workers: job.request.workers,
-    };
-    let words = Words {
-        names: &names,
-        lines,
-        crew,
-    };
-    let wanted = wanted_of(&job.request.telling);
-    match tell(subject, words, memory, course, wanted, output)? {
-        Ok((told, machine)) => {
-            print_replayed(job, machine, output)?;
-            keep_told(job, told, output, beside)
-        }
-        Err(fault) => job.print_run_fault(&fault, output, beside),
-    }
+    tell_named(job, &names, lines, memory, course, crew, output, beside)
 }
 
 /// Runs by the events of a course. What is asked to be told of them comes before the answer, the figures after it.
@@ -146,7 +156,10 @@ pub fn tell_course<C: Course, W: Write>(
     requires { IsMadeFor job.now.verified.now memory }
 {
     match read(job.alloc, job.state, job.text) {
-        Ok(module) => tell_named(job, &module, memory, course, crew, output, beside),
+        Ok(module) => {
+            let program = job.verified.program();
+            tell_module(job, program, &module, memory, course, crew, output, beside)
+        }
         // It was read before.
         Err(_) => stop_for_memory(output),
     }
