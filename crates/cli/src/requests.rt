@@ -1,8 +1,9 @@
 //! Runs on threads, and all other answers.
 
+use crate::clocks::microseconds_since;
 use cli_answers::{
-    Beside, Job, Request, Status, Verb, answer, effort_of, fail, prepared, print_run,
-    print_unprepared, print_unreadable, print_unverified, verify_within,
+    Beside, Job, Request, Status, Verb, answer, answer_verified, effort_of, fail, prepared,
+    print_run, print_unprepared, print_unreadable, print_unverified, verify_within,
 };
 use deque_pool::OpenGate;
 use std::alloc::Global;
@@ -11,7 +12,7 @@ use std::io;
 use std::io::{Read, Write};
 use std::sync::Wait;
 use std::thread::Threads;
-use std::time::Clock;
+use std::time::{Clock, Instant};
 
 /// Whether a request is for a run on workers: one that no seed draws.
 fn is_on_workers(request: &Request) -> bool {
@@ -25,7 +26,7 @@ fn run_on_workers<T: Threads + Wait + Clock + Sync, W: Write>(
     output: &mut W,
     beside: &mut Beside,
 ) -> io::Result<Status> {
-    let memory = match prepared(job) {
+    let memory = match prepared(job, beside) {
         Ok(memory) => memory,
         Err(status) => return print_unprepared(status, output),
     };
@@ -43,30 +44,54 @@ fn run_on_workers<T: Threads + Wait + Clock + Sync, W: Write>(
     print_run(job, &run, output, beside)
 }
 
-/// Verifies the module, and runs it on workers.
-fn verify_and_run<T: Threads + Wait + Clock + Sync, W: Write>(
+/// Runs a module that the verifier took, and notes what that took.
+fn run_timed<T: Threads + Wait + Clock + Sync, R: Read, W: Write>(
+    rt: &T,
+    job: &Job<'_>,
+    state: RandomState,
+    input: &mut R,
+    output: &mut W,
+    beside: &mut Beside,
+) -> io::Result<Status> {
+    let begun = Instant::now(rt)?;
+    let status = if is_on_workers(job.request) {
+        run_on_workers(rt, job, output, beside)?
+    } else {
+        answer_verified(job, state, input, output, beside)?
+    };
+    beside.times.running = microseconds_since(rt, begun)?;
+    Ok(status)
+}
+
+/// Verifies the module, and runs it.
+fn verify_and_run<T: Threads + Wait + Clock + Sync, R: Read, W: Write>(
     rt: &T,
     alloc: Global,
     state: RandomState,
     request: &Request,
     module: Option<&[u8]>,
     schedule: Option<&[u8]>,
+    input: &mut R,
     output: &mut W,
     beside: &mut Beside,
 ) -> io::Result<Status> {
     let Some(text) = module else {
         return print_unreadable(alloc, request.file.as_str(), output);
     };
-    match verify_within(alloc, state, text, &effort_of(request)) {
+    let begun = Instant::now(rt)?;
+    let verdict = verify_within(alloc, state, text, &effort_of(request));
+    beside.times.verifying = microseconds_since(rt, begun)?;
+    match verdict {
         Ok(verified) => {
             let job = Job {
                 alloc,
+                state,
                 request,
                 text,
                 verified: &verified,
                 schedule,
             };
-            run_on_workers(rt, &job, output, beside)
+            run_timed(rt, &job, state, input, output, beside)
         }
         Err(unverified) => print_unverified(&unverified, output, beside),
     }
@@ -87,8 +112,10 @@ pub fn act<T: Threads + Wait + Clock + Sync, R: Read, W: Write>(
     output: &mut W,
     beside: &mut Beside,
 ) -> u8 {
-    let answered = if is_on_workers(request) {
-        verify_and_run(rt, alloc, state, request, module, schedule, output, beside)
+    let answered = if is_on_workers(request) || request.is_timed {
+        verify_and_run(
+            rt, alloc, state, request, module, schedule, input, output, beside,
+        )
     } else {
         answer(
             alloc, state, request, module, schedule, input, output, beside,

@@ -3,7 +3,7 @@
 ghost use Rattle.serial_machine.specs.store.Made.{IsMadeFor};
 
 use crate::job::{Job, print_schedule_fault};
-use crate::runs::{prepared, run_replay};
+use crate::runs::{prepared, print_unprepared, run_replay};
 use cli_modules::{Beside, Status, stop_for_memory};
 use debugger::{Memory, read_schedule};
 use std::io;
@@ -55,9 +55,12 @@ pub fn run_drawn<W: Write>(
     output: &mut W,
     beside: &mut Beside,
 ) -> io::Result<Status> {
-    match (prepared(job), prepared(job)) {
-        (Ok(first), Ok(second)) => run_twice(job, first, second, output, beside),
-        (Err(Status::Stopped), _) | (_, Err(Status::Stopped)) => stop_for_memory(output),
-        (Err(status), _) | (_, Err(status)) => Ok(status),
+    let first = match prepared(job, beside) {
+        Ok(first) => first,
+        Err(status) => return print_unprepared(status, output),
+    };
+    match first.copy() {
+        Ok(second) => run_twice(job, first, second, output, beside),
+        Err(_) => stop_for_memory(output),
     }
 }

@@ -4,6 +4,7 @@ use cli_modules::{Beside, Status, stop_for_memory};
 use cli_words::Request;
 use debugger::{RunFault, ScheduleFault, Verified};
 use std::alloc::{AllocError, Global};
+use std::hash::RandomState;
 use std::io;
 use std::io::Write;
 
@@ -11,6 +12,8 @@ use std::io::Write;
 #[derive(Clone, Copy)]
 pub struct Job<'a> {
     pub alloc: Global,
+    /// What a text is read with.
+    pub state: RandomState,
     pub request: &'a Request,
     /// The module's text.
     pub text: &'a [u8],

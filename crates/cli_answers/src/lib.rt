@@ -5,15 +5,18 @@
 //! above.
 #![tactic(auto)]
 
+mod data;
 mod dialogue;
 mod draw;
 mod job;
+mod people;
 mod requests;
 mod runs;
 mod tell;
 
 pub use cli_modules::{
-    Beside, Status, fail, print_unreadable, print_unverified, read_file, read_text, write_file,
+    Beside, Dump, Status, Times, fail, print_unreadable, print_unverified, read_data, read_file,
+    read_text, write_bytes, write_file,
 };
 pub use cli_words::{
     CellWord, Request, Setting, Telling, Verb, WordsFault, bytes_of, text_of, words,
@@ -23,5 +26,5 @@ pub use debugger::{
     read_schedule, replay, verify, verify_within,
 };
 pub use job::Job;
-pub use requests::{answer, effort_of};
+pub use requests::{answer, answer_verified, effort_of};
 pub use runs::{prepared, print_run, print_unprepared};

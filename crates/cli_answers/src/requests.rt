@@ -67,6 +67,7 @@ pub fn answer<R: Read, W: Write>(
         Ok(verified) => {
             let job = Job {
                 alloc,
+                state,
                 request,
                 text,
                 verified: &verified,
@@ -83,7 +84,8 @@ pub fn answer<R: Read, W: Write>(
     }
 }
 
-fn answer_verified<R: Read, W: Write>(
+/// Answers a request for a module that the verifier took.
+pub fn answer_verified<R: Read, W: Write>(
     job: &Job<'_>,
     state: RandomState,
     input: &mut R,

@@ -35,7 +35,7 @@ fn tell_run<W: Write>(
     output: &mut W,
     beside: &mut Beside,
 ) -> io::Result<Status> {
-    let memory = match prepared(job) {
+    let memory = match prepared(job, beside) {
         Ok(memory) => memory,
         Err(Status::Stopped) => return stop_for_memory(output),
         Err(_) => return Ok(Status::Done),

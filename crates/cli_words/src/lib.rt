@@ -4,6 +4,7 @@
 //! ([`text_of`]) and a word again where a file is opened ([`bytes_of`]).
 #![tactic(auto)]
 
+mod data;
 mod manual_page;
 mod parsing;
 mod request;
@@ -11,8 +12,9 @@ mod shells;
 mod version;
 mod word;
 
+pub use data::{DataWord, DataWords, RowWord};
 pub use manual_page::manual;
 pub use parsing::{is_name, words};
-pub use request::{CellWord, Request, Setting, Shell, Telling, Verb, WordsFault};
+pub use request::{CellWord, Dialogue, Request, Setting, Shell, Telling, Verb, WordsFault};
 pub use shells::completions;
 pub use word::{bytes_of, is_raw, text_of};

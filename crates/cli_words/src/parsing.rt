@@ -3,6 +3,7 @@
 ghost use Rattle.std.specs.Prelude.{◌≡◌, IfOk, IfSome, map};
 ghost use Rattle.cli_words.specs.Asked.{IsAsked, word_of};
 
+use crate::data::{CELLS, DUMP, INTERACTIVE, LOAD, RAW, TIME, data_of};
 use crate::request::{CellWord, Request, Setting, Shell, Verb, WordsFault};
 use crate::version::VERSION_LINES;
 use clap::error::ErrorKind;
@@ -21,7 +22,7 @@ Statuses:
   1  the module is refused
   2  the command line is wrong, an option names nothing, or help was asked for
   3  the run was stopped, memory was refused, or the effort is spent
-  4  FILE or SCHEDULE cannot be read
+  4  FILE, SCHEDULE or data cannot be read
   5  SCHEDULE is no schedule
   6  standard input cannot be read, or an output cannot be written";
 
@@ -116,7 +117,7 @@ fn fault_with(text: Result<String, AllocError>) -> WordsFault {
     }
 }
 
-fn wrong_value(alloc: Global, option: &str, text: &str) -> WordsFault {
+pub(crate) fn wrong_value(alloc: Global, option: &str, text: &str) -> WordsFault {
     fault_with(format!(in alloc; "error: invalid value '{text}' for '{option}'\n"))
 }
 
@@ -223,6 +224,8 @@ pub(crate) enum Given {
     Repeated,
     /// An option with a value, which needs this option too.
     With(&'static str),
+    /// An option with three values, which may be given more than once.
+    Row,
     /// An option without a value.
     Flag,
 }
@@ -334,6 +337,9 @@ const SHELL: Part = Part {
     help: "bash, zsh or fish",
 };
 
+/// What help calls the values of a row.
+static ROW_NAMES: [&str; 3] = ["@a", "I", "N"];
+
 /// The words and options of the commands, as their help lists them; a command that only reads a module takes its file alone.
 static MODULE_PARTS: [Part; 1] = [FILE];
 
@@ -343,15 +349,28 @@ static EXPLAIN_PARTS: [Part; 2] = [FILE_OR_NUMBER, EFFORT];
 
 static KNOWN_PARTS: [Part; 2] = [FILE, EFFORT];
 
-static SERIAL_PARTS: [Part; 5] = [FILE, ARG, SET, SHOW, EFFORT];
+static SERIAL_PARTS: [Part; 10] = [FILE, ARG, SET, SHOW, LOAD, DUMP, RAW, CELLS, TIME, EFFORT];
 
-static RUN_PARTS: [Part; 8] = [FILE, ARG, SET, SHOW, WORKERS, SEED, SAVE, EFFORT];
-
-static REPLAY_PARTS: [Part; 9] = [
-    FILE, ARG, SET, SHOW, SCHEDULE, WORKERS, TRACE, PICTURE, EFFORT,
+static RUN_PARTS: [Part; 13] = [
+    FILE, ARG, SET, SHOW, LOAD, DUMP, RAW, CELLS, WORKERS, SEED, SAVE, TIME, EFFORT,
 ];
 
-static DEBUG_PARTS: [Part; 7] = [FILE, ARG, SET, SHOW, SCHEDULE, WORKERS, EFFORT];
+static REPLAY_PARTS: [Part; 14] = [
+    FILE, ARG, SET, SHOW, LOAD, DUMP, RAW, CELLS, SCHEDULE, WORKERS, TRACE, PICTURE, TIME, EFFORT,
+];
+
+static DEBUG_PARTS: [Part; 10] = [
+    FILE,
+    ARG,
+    SET,
+    SHOW,
+    LOAD,
+    RAW,
+    SCHEDULE,
+    WORKERS,
+    INTERACTIVE,
+    EFFORT,
+];
 
 static COMPLETIONS_PARTS: [Part; 1] = [SHELL];
 
@@ -369,6 +388,11 @@ fn arg_of<'a>(alloc: Global, part: &Part) -> Result<Arg<'a>, AllocError> {
         Given::Option => Ok(option(arg, part, ArgAction::Set)),
         Given::Required => Ok(option(arg, part, ArgAction::Set).required(true)),
         Given::Repeated => Ok(option(arg, part, ArgAction::Append)),
+        Given::Row => Ok(
+            option(arg, part, ArgAction::Append)
+                .value_names(&ROW_NAMES)
+                .num_args(3),
+        ),
         Given::With(other) => option(arg, part, ArgAction::Set).requires_arg(other),
         Given::Flag => Ok(arg.long(part.name).action(ArgAction::SetTrue)),
     }
@@ -537,6 +561,8 @@ fn read_running(
     request.args = args_of(alloc, matches)?;
     request.set = settings_of(alloc, matches)?;
     request.show = cells_of(alloc, matches)?;
+    request.data = data_of(alloc, matches)?;
+    request.is_timed = matches.get_flag("time");
     read_effort(alloc, matches, request)
 }
 
@@ -631,6 +657,19 @@ fn read_scheduled(
     Ok(())
 }
 
+/// Reads the options of a dialogue.
+fn read_debug(
+    alloc: Global,
+    matches: &ArgMatches<'_>,
+    request: &mut Request,
+) -> Result<(), WordsFault>
+    ensures { request.new.verb ≡ request.old.verb }
+{
+    read_scheduled(alloc, matches, request)?;
+    request.dialogue.is_for_people = matches.get_flag("interactive");
+    Ok(())
+}
+
 /// Reads the options of a replay.
 fn read_replay(
     alloc: Global,
@@ -658,7 +697,7 @@ fn read_options(
         Verb::Explain => read_explain(alloc, matches, request)?,
         Verb::Run => read_run(alloc, matches, request)?,
         Verb::Replay => read_replay(alloc, matches, request)?,
-        Verb::Debug => read_scheduled(alloc, matches, request)?,
+        Verb::Debug => read_debug(alloc, matches, request)?,
         Verb::Serial => read_running(alloc, matches, request)?,
         Verb::Completions => request.shell = Some(shell_of(alloc, request.file.as_str())?),
         Verb::Show => read_effort(alloc, matches, request)?,

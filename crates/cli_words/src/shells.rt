@@ -97,7 +97,7 @@ fn push_zsh_part(out: &mut String, part: &Part) -> Result<(), AllocError> {
     let help = part.help;
     let value = part.value;
     let action = zsh_action(part);
-    let repeated = if matches!(part.given, Given::Repeated) {
+    let repeated = if matches!(part.given, Given::Repeated | Given::Row) {
         "*"
     } else {
         ""
