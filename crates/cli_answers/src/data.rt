@@ -108,13 +108,21 @@ fn note_counts(
     beside.note(note.as_str())
 }
 
+/// Gives a cell a number, where it is there.
+fn put(memory: &mut Memory, name: &str, index: usize, value: i64)
+    ensures cells { (program : Program) → HasGlobalCells program memory.old → HasGlobalCells program memory.new }
+    ensures made { (program : Program) → IsMadeFor program memory.old → IsMadeFor program memory.new }
+{
+    let _is_there = memory.set_global(name, index as u64, value);
+}
+
 /// Gives the cells of a global these numbers.
 fn fill(memory: &mut Memory, name: &str, numbers: &[i64])
     ensures cells { (program : Program) → HasGlobalCells program memory.old → HasGlobalCells program memory.new }
     ensures made { (program : Program) → IsMadeFor program memory.old → IsMadeFor program memory.new }
 {
     for index in 0..numbers.len() {
-        let _set = memory.set_global(name, index as u64, numbers[index]);
+        put(memory, name, index, numbers[index]);
     }
 }
 

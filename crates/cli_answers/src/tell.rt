@@ -35,7 +35,9 @@ fn tell_run<W: Write>(
     output: &mut W,
     beside: &mut Beside,
 ) -> io::Result<Status> {
-    let memory = match prepared(job, beside) {
+    // What is wrong with the data is said once, by the run itself.
+    let mut unsaid = Beside::nothing(job.alloc);
+    let memory = match prepared(job, &mut unsaid) {
         Ok(memory) => memory,
         Err(Status::Stopped) => return stop_for_memory(output),
         Err(_) => return Ok(Status::Done),

@@ -1,5 +1,7 @@
 //! A debugger and what is shown with it.
 
+ghost use Rattle.std.specs.Prelude.{◌≤◌, length};
+
 use crate::names::Names;
 use debugger::{Debugger, Event, TaskView};
 use frame::Path;
@@ -43,30 +45,22 @@ impl Session<'_, '_> {
         let mut sorted: Vec<Path> = Vec::new(self.alloc);
         for path in self.debugger.machine().paths(self.alloc)? {
             let place = place_for(sorted.as_slice(), &path);
-            sorted.push(path)?;
-            sink(&mut sorted, place);
+            sorted.insert(place, path)?;
         }
         Ok(sorted)
     }
 }
 
 /// Where a path belongs among others that are sorted.
-fn place_for(sorted: &[Path], path: &Path) -> usize {
+fn place_for(sorted: &[Path], path: &Path) -> usize
+    ensures { result ≤ length sorted.now }
+{
     for place in 0..sorted.len() {
         if sorted[place].compare(path).is_gt() {
             return place;
         }
     }
     sorted.len()
-}
-
-/// Moves the last path down to the place.
-fn sink(sorted: &mut Vec<Path>, place: usize) {
-    for at in (place..sorted.len().saturating_sub(1)).rev() {
-        if at + 1 < sorted.len() {
-            sorted.as_mut_slice().swap(at, at + 1);
-        }
-    }
 }
 
 /// An event in words.
