@@ -4,6 +4,7 @@ import collections, itertools
 
 CELLS, SMALL, SORTED = 1024, 256, 128
 
+
 def loop(name, count, body, calls, zones="", parameters="", start="0"):
     """A function of one loop, in which `body` has %i, from 0 up to `count`, and %sum, of which it makes %next; and its cost. `calls` is what
     the calls of the body cost besides themselves."""
@@ -28,6 +29,7 @@ out:
 ret i64 %next
 }}
 """, budget
+
 
 def main(body, calls, zones, most=1000):
     """@main(n): the body n times."""
@@ -55,20 +57,25 @@ ret i64 %next
 }}
 """
 
+
 def cell(name, array, index):
     """The address of a cell; the mask shows that it is there. 2 instructions."""
     return f"%{name}.i = and i64 {index}, {CELLS - 1}\n%{name}.p = getelementptr inbounds i64, ptr @{array}, i64 %{name}.i\n"
 
+
 def global_(name):
     return f"@{name} = global [{CELLS} x i64] zeroinitializer\n"
 
+
 def zones(*lines):
     return "".join(f";! {mode} @{name} 0 {CELLS}\n" for mode, name in lines)
+
 
 def fill(array):
     """Fills the array with numbers from a linear congruential generator."""
     body = "%m = mul i64 %sum, 6364136223846793005\n%next = add i64 %m, 1442695040888963407\n%x = lshr i64 %next, 40\n"
     return loop(f"fill.{array}", CELLS, body + cell("t", array, "%i") + "store i64 %x, ptr %t.p\n", 0, zones(("writes", array)), "i64 %seed", "%seed")
+
 
 def matrix():
     fill_a, cost_a = fill("a")
@@ -82,6 +89,7 @@ def matrix():
     text = global_("a") + global_("b") + global_("c") + fill_a + fill_b + dot + product
     return text + main(body, cost_a + cost_b + each, zones(("reads", "a"), ("reads", "b"), ("writes", "a"), ("writes", "b"), ("writes", "c")))
 
+
 def matrix_result(n):
     total = 0
     for i in range(n):
@@ -89,6 +97,7 @@ def matrix_result(n):
         _, b = filled(u)
         total += folded([sum(a[32 * r + k] * b[32 * k + c] for k in range(32)) for r in range(32) for c in range(32)])
     return total
+
 
 def folded(numbers):
     value = 0
@@ -98,12 +107,14 @@ def folded(numbers):
 
 MASK = 2 ** 64 - 1
 
+
 def filled(seed):
     numbers = []
     for _ in range(CELLS):
         seed = seed * 6364136223846793005 + 1442695040888963407 & MASK
         numbers.append(seed >> 40)
     return seed, numbers
+
 
 def sieve():
     clear, cost_clear = loop("clear", SMALL, cell("t", "a", "%i") + "store i64 0, ptr %t.p\n%next = add i64 %sum, 0\n", 0, zones(("writes", "a")))
@@ -173,8 +184,10 @@ ret i64 %next
     body = "%u = call i64 @clear()\n%p = call i64 @primes()\n%next = add i64 %sum, %p\n"
     return global_("a") + clear + strike + primes + main(body, cost_clear + steps * SMALL, zones(("reads", "a"), ("writes", "a")))
 
+
 def sieve_result(n):
     return n * sum(all(p % d for d in range(2, p)) for p in range(2, SMALL))
+
 
 def sort():
     fill_a, cost_fill = fill("a")
@@ -229,8 +242,10 @@ ret i64 0
     body = "%u = call i64 @fill.a(i64 %i)\n%v = call i64 @sweeps()\n%f = call i64 @fold()\n%next = add i64 %sum, %f\n"
     return global_("a") + fill_a + sweep + sweeps + fold + main(body, cost_fill + cost_sweeps + cost_fold, zones(("reads", "a"), ("writes", "a")))
 
+
 def sort_result(n):
     return sum(folded(sorted(filled(i)[1][:SORTED])) for i in range(n))
+
 
 def crc():
     fill_a, cost_fill = fill("a")
@@ -239,6 +254,7 @@ def crc():
     check, cost_check = loop("check", CELLS, body, cost_word, zones(("reads", "a")))
     body = "%u = call i64 @fill.a(i64 %i)\n%v = call i64 @check()\n%next = add i64 %sum, %v\n"
     return global_("a") + fill_a + word + check + main(body, cost_fill + cost_check, zones(("reads", "a"), ("writes", "a")))
+
 
 def crc_result(n):
     total = 0
@@ -250,6 +266,7 @@ def crc_result(n):
                 value = value >> 1 ^ (3988292384 if value & 1 else 0)
         total += value
     return total
+
 
 def stencil():
     fill_a, cost_fill = fill("a")
@@ -266,8 +283,10 @@ def stencil():
     text = global_("a") + global_("b") + fill_a + forth + back + both
     return text + main(body, cost_fill + cost_both, zones(("reads", "a"), ("writes", "a"), ("reads", "b"), ("writes", "b")))
 
+
 def smoothed(a):
     return [(((a[i - 1] + a[(i + 1) % CELLS]) >> 1) + a[i]) >> 1 for i in range(CELLS)]
+
 
 def stencil_result(n):
     total = 0
@@ -279,8 +298,10 @@ def stencil_result(n):
         total += value
     return total
 
+
 def fold(array):
     return loop(f"fold.{array}", CELLS, cell("t", array, "%i") + "%x = load i64, ptr %t.p\n%y = xor i64 %sum, %x\n%next = add i64 %y, %i\n", 0, zones(("reads", array)))
+
 
 def prefix():
     fill_a, cost_fill = fill("a")
@@ -291,8 +312,10 @@ def prefix():
     text = global_("a") + global_("b") + fill_a + sums + fold_b
     return text + main(body, cost_fill + cost + cost_fold, zones(("reads", "a"), ("writes", "a"), ("reads", "b"), ("writes", "b")))
 
+
 def prefix_result(n):
     return sum(folded(itertools.accumulate(filled(i)[1])) for i in range(n))
+
 
 def histogram():
     fill_a, cost_fill = fill("a")
@@ -303,6 +326,7 @@ def histogram():
     body = "%u = call i64 @fill.a(i64 %i)\n%v = call i64 @clear()\n%w = call i64 @tally()\n%f = call i64 @fold.b()\n%next = add i64 %sum, %f\n"
     text = global_("a") + global_("b") + fill_a + clear + tally + fold_b
     return text + main(body, cost_fill + cost_clear + cost + cost_fold, zones(("reads", "a"), ("writes", "a"), ("reads", "b"), ("writes", "b")))
+
 
 def histogram_result(n):
     total = 0

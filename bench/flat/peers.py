@@ -6,6 +6,8 @@ import ast, re, shutil, subprocess, time
 CELLS, ARRAYS = 1024, ["a", "b", "c"]
 
 FILL = """
+
+
 def fill_{0}(seed):
     i = 0
     x = seed
@@ -17,6 +19,8 @@ def fill_{0}(seed):
 """
 
 FOLD = """
+
+
 def fold():
     i = 0
     s = 0
@@ -28,14 +32,20 @@ def fold():
 
 SOURCES = {
     "fib": """
+
+
 def fib(n):
     if n < 2:
         return n
     return fib(n - 1) + fib(n - 2)
+
+
 def main(n):
     return fib(n)
 """,
     "long": """
+
+
 def main(n):
     i = 0
     s = 0
@@ -47,6 +57,8 @@ def main(n):
     return s
 """,
     "matrix": FILL.format("a") + FILL.format("b") + """
+
+
 def dot(row, column):
     i = 0
     s = 0
@@ -54,6 +66,8 @@ def dot(row, column):
         s = s + a[(row + i) & 1023] * b[(i * 32 + column) & 1023]
         i = i + 1
     return s
+
+
 def product():
     i = 0
     s = 0
@@ -63,6 +77,8 @@ def product():
         s = (s ^ d) + i
         i = i + 1
     return s
+
+
 def main(n):
     i = 0
     s = 0
@@ -74,18 +90,24 @@ def main(n):
     return s
 """,
     "sieve": """
+
+
 def clear():
     i = 0
     while i < 256:
         a[i & 1023] = 0
         i = i + 1
     return 0
+
+
 def strike(p):
     j = p
     while j < 256:
         a[j] = 1
         j = j + p
     return 1
+
+
 def primes():
     i = 2
     s = 0
@@ -94,6 +116,8 @@ def primes():
             s = s + strike(i)
         i = i + 1
     return s
+
+
 def main(n):
     i = 0
     s = 0
@@ -104,6 +128,8 @@ def main(n):
     return s
 """,
     "sort": FILL.format("a") + """
+
+
 def sweep():
     i = 0
     while i < 127:
@@ -114,6 +140,8 @@ def sweep():
             a[i + 1] = x
         i = i + 1
     return 0
+
+
 def sweeps():
     i = 0
     s = 0
@@ -121,6 +149,8 @@ def sweeps():
         s = s + sweep()
         i = i + 1
     return s
+
+
 def fold():
     i = 0
     s = 0
@@ -128,6 +158,8 @@ def fold():
         s = (s ^ a[i & 1023]) + i
         i = i + 1
     return s
+
+
 def main(n):
     i = 0
     s = 0
@@ -139,6 +171,8 @@ def main(n):
     return s
 """,
     "crc": FILL.format("a") + """
+
+
 def word(w):
     i = 0
     s = w
@@ -146,6 +180,8 @@ def word(w):
         s = (s >> 1) ^ ((0 - (s & 1)) & 3988292384)
         i = i + 1
     return s
+
+
 def check():
     i = 0
     s = 0
@@ -153,6 +189,8 @@ def check():
         s = word(s ^ a[i & 1023])
         i = i + 1
     return s
+
+
 def main(n):
     i = 0
     s = 0
@@ -163,6 +201,8 @@ def main(n):
     return s
 """,
     "stencil": FILL.format("a") + "".join(f"""
+
+
 def {name}():
     i = 0
     s = 0
@@ -173,6 +213,8 @@ def {name}():
         i = i + 1
     return s
 """ for name, x, y in (("forth", "a", "b"), ("back", "b", "a"))) + """
+
+
 def both():
     i = 0
     s = 0
@@ -181,6 +223,8 @@ def both():
         s = s ^ back()
         i = i + 1
     return s
+
+
 def main(n):
     i = 0
     s = 0
@@ -191,6 +235,8 @@ def main(n):
     return s
 """,
     "prefix": FILL.format("a") + """
+
+
 def sums():
     i = 0
     s = 0
@@ -200,6 +246,8 @@ def sums():
         i = i + 1
     return s
 """ + FOLD + """
+
+
 def main(n):
     i = 0
     s = 0
@@ -211,12 +259,16 @@ def main(n):
     return s
 """,
     "histogram": FILL.format("a") + """
+
+
 def clear():
     i = 0
     while i < 1024:
         b[i & 1023] = 0
         i = i + 1
     return 0
+
+
 def tally():
     i = 0
     s = 0
@@ -228,6 +280,8 @@ def tally():
         i = i + 1
     return s
 """ + FOLD + """
+
+
 def main(n):
     i = 0
     s = 0
@@ -246,10 +300,12 @@ BINARY = {ast.Add: ("i64.add", "+"), ast.Sub: ("i64.sub", "-"), ast.Mult: ("i64.
           ast.BitXor: ("i64.xor", "bxor"), ast.RShift: ("i64.shr_u", "rshift")}
 COMPARED = {ast.Lt: ("i64.lt_s", "<"), ast.Gt: ("i64.gt_s", ">"), ast.Eq: ("i64.eq", "==")}
 
+
 def locals_of(function):
     """The names that the function sets, which are none of its parameters."""
     names = [node.id for node in ast.walk(function) if isinstance(node, ast.Name) and isinstance(node.ctx, ast.Store)]
     return [name for name in dict.fromkeys(names) if name not in [one.arg for one in function.args.args]]
+
 
 class Wasm:
     """Writes WebAssembly's text; each loop tests at its end, as the kernels do."""
@@ -299,6 +355,7 @@ class Wasm:
             functions.append(f"(func ${function.name} {head} {self.lines(function.body)} (unreachable))")
         return "\n".join(["(module (memory 1)", *functions, f'(func (export "run") (result i64) (call $main (i64.const {argument}))))'])
 
+
 class Lua:
     """Writes Lua."""
     def number(self, node):
@@ -340,6 +397,7 @@ class Lua:
             lines.append(f"function {one.name}({', '.join(p.arg for p in one.args.args)}) {'local ' + ', '.join(names) if names else ''} {self.lines(one.body)} end")
         return "\n".join([*lines, f"print(string.format('%d', main({argument})))"])
 
+
 def wasm(work, name, argument):
     """The words that run the kernel in wabt's interpreter."""
     path = f"{work}/{name}.{argument}"
@@ -347,10 +405,12 @@ def wasm(work, name, argument):
     subprocess.run(["wat2wasm", f"{path}.wat", "-o", f"{path}.wasm"], check=True)
     return ["wasm-interp", f"{path}.wasm", "--run-all-exports"]
 
+
 def lua(work, name, argument):
     """The words that run the kernel in LuaJIT's interpreter, with its compiler off."""
     open(f"{work}/{name}.{argument}.lua", "w").write(Lua().program(SOURCES[name], argument))
     return ["luajit", "-joff", f"{work}/{name}.{argument}.lua"]
+
 
 def run_of(words, wanted):
     start = time.time()
@@ -359,6 +419,7 @@ def run_of(words, wanted):
     found = int(re.findall(r"-?\d+", done.stdout)[-1])
     assert found % 2 ** 64 == wanted % 2 ** 64, (words, found, wanted)
     return took
+
 
 def times(work, name, most, least, wanted, count):
     """Seconds of each interpreter that is installed: the least of so many runs, less that of the smallest run."""

@@ -3,7 +3,7 @@
 //! at its end each run is compared with the serial run: result, memory, count of instructions, most frames. A line is told of each block.
 //!
 //! A call that is refused memory has to leave all as it was, and is made once more; so is the whole block where another of its requests is refused.
-//! Where a file or its module is refused memory the program ends. In the stored run no call is: `bench/sweeps` lets each request fail in turn.
+//! Where a file or its module is refused memory the program ends. In the stored run no call is: `check/sweeps` lets each request fail in turn.
 
 mod blocks;
 mod calls;

@@ -1,6 +1,6 @@
 //! Cases of texts, in files: a text each, and what the layers below the program make of it. [`answer`] answers each case of a file and tells a line
 //! of it. A file's folder is its kind: `tokens`, `annotations`, `items`, `parts`, `faults`. What the program itself shows of texts is asked of it as it
-//! is built (`bench/check-texts`).
+//! is built (`check/texts`).
 //!
 //! `==== TITLE` begins some cases that belong together, `# ..` speaks to the reader, and each other line that is not empty is a case: a row
 //! `ANSWER | TEXT`. Texts of tokens and items have the escapes of `escapes`.

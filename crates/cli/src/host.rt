@@ -100,18 +100,15 @@ fn explain_status(rt: &impl Eprint, request: &Request, status: u8, texts: &Texts
     }
 }
 
-/// Writes the file that is asked for, if one is.
-fn write_asked<R: AllocGlobal + Eprint + Files>(rt: &R, request: &Request, text: &str) -> Status {
-    let Some(file) = &request.telling.file else {
-        return Status::Done;
-    };
-    match write_file(rt, file.as_str(), text) {
-        Ok(()) => Status::Done,
-        Err(error) => {
-            complain(rt, file.as_str(), &error);
-            Status::Stream
+/// Writes the files that are asked for, up to one that cannot be written.
+fn write_asked<R: AllocGlobal + Eprint + Files>(rt: &R, beside: &Beside) -> Status {
+    for file in &beside.files {
+        if let Err(error) = write_file(rt, file.word.as_str(), file.text.as_str()) {
+            complain(rt, file.word.as_str(), &error);
+            return Status::Stream;
         }
     }
+    Status::Done
 }
 
 /// The text of the file that a word names, or why it cannot be read; want of memory is no such reason.
@@ -181,7 +178,7 @@ fn tell_beside<R: AllocGlobal + Eprint + Files>(
     if request.is_timed {
         tell_times(rt, &beside.times);
     }
-    match write_asked(rt, request, beside.file.as_str()) {
+    match write_asked(rt, beside) {
         Status::Done => write_dumps(rt, beside) as u8,
         status => status as u8,
     }

@@ -8,7 +8,9 @@
 mod clocks;
 mod data;
 mod host;
+mod recorded;
 mod requests;
+mod speedup;
 mod times;
 
 pub use cli_answers::{

@@ -1,9 +1,11 @@
 //! Runs on threads, and all other answers.
 
 use crate::clocks::microseconds_since;
+use crate::recorded::run_told;
+use crate::speedup::run_speedup;
 use cli_answers::{
-    Beside, Job, Request, Status, Verb, answer, answer_verified, effort_of, fail, prepared,
-    print_run, print_unprepared, print_unreadable, print_unverified, verify_within,
+    Beside, Job, Request, Status, Verb, answer, answer_verified, effort_of, fail, is_told,
+    prepared, print_run, print_unprepared, print_unreadable, print_unverified, verify_within,
 };
 use deque_pool::OpenGate;
 use std::alloc::Global;
@@ -44,6 +46,22 @@ fn run_on_workers<T: Threads + Wait + Clock + Sync, W: Write>(
     print_run(job, &run, output, beside)
 }
 
+/// Runs the module on workers, and tells of it what is asked for.
+fn run_asked<T: Threads + Wait + Clock + Sync, W: Write>(
+    rt: &T,
+    job: &Job<'_>,
+    output: &mut W,
+    beside: &mut Beside,
+) -> io::Result<Status> {
+    if !job.request.speedup.is_empty() {
+        run_speedup(rt, job, output, beside)
+    } else if is_told(&job.request.telling) {
+        run_told(rt, job, output, beside)
+    } else {
+        run_on_workers(rt, job, output, beside)
+    }
+}
+
 /// Runs a module that the verifier took, and notes what that took.
 fn run_timed<T: Threads + Wait + Clock + Sync, R: Read, W: Write>(
     rt: &T,
@@ -55,7 +73,7 @@ fn run_timed<T: Threads + Wait + Clock + Sync, R: Read, W: Write>(
 ) -> io::Result<Status> {
     let begun = Instant::now(rt)?;
     let status = if is_on_workers(job.request) {
-        run_on_workers(rt, job, output, beside)?
+        run_asked(rt, job, output, beside)?
     } else {
         answer_verified(job, state, input, output, beside)?
     };

@@ -9,6 +9,7 @@ mod data;
 mod dialogue;
 mod draw;
 mod job;
+mod json;
 mod people;
 mod requests;
 mod runs;
@@ -18,6 +19,7 @@ pub use cli_modules::{
     Beside, Dump, Status, Times, fail, print_unreadable, print_unverified, read_data, read_file,
     read_text, write_bytes, write_file,
 };
+pub use cli_tellings::{Crew, Effort};
 pub use cli_words::{
     CellWord, Request, Setting, Telling, Verb, WordsFault, bytes_of, text_of, words,
 };
@@ -28,3 +30,5 @@ pub use debugger::{
 pub use job::Job;
 pub use requests::{answer, answer_verified, effort_of};
 pub use runs::{prepared, print_run, print_unprepared};
+pub use tell::{is_told, tell_course};
+pub use view_traces::Course;

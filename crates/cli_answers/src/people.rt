@@ -2,12 +2,13 @@
 
 use crate::job::Job;
 use cli_modules::{Status, print_refused};
-use cli_prompts::{Names, Session, converse};
+use cli_prompts::{Session, converse};
 use debugger::Debugger;
 use ir_reader::read;
 use std::alloc::AllocError;
 use std::io;
 use std::io::{Read, Write};
+use view_events::Names;
 
 /// Answers people up to `quit` or the end of the input.
 pub fn guide<R: Read + Drop, W: Write>(

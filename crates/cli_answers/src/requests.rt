@@ -2,6 +2,7 @@
 
 use crate::draw::run_drawn;
 use crate::job::Job;
+use crate::json::answer_json;
 use crate::runs::{debug, run_serial};
 use crate::tell::tell_replay;
 use cli_modules::{
@@ -60,6 +61,9 @@ pub fn answer<R: Read, W: Write>(
         return print_unreadable(alloc, request.file.as_str(), output);
     };
     let effort = effort_of(request);
+    if let Some(status) = answer_json(alloc, state, request, text, &effort, output, beside)? {
+        return Ok(status);
+    }
     if let Some(status) = answer_text(alloc, state, request, text, &effort, output, beside)? {
         return Ok(status);
     }

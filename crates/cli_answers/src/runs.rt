@@ -48,7 +48,7 @@ pub fn run_schedule<W: Write>(
 }
 
 /// Says that the schedule's file could not be read.
-fn print_no_schedule<W: Write>(job: &Job<'_>, output: &mut W) -> io::Result<Status> {
+pub fn print_no_schedule<W: Write>(job: &Job<'_>, output: &mut W) -> io::Result<Status> {
     match &job.request.schedule {
         Some(file) => print_unreadable(job.alloc, file.as_str(), output),
         None => Ok(Status::Unreadable),
@@ -142,7 +142,7 @@ fn run_events<W: Write>(
 }
 
 /// The answer of a run by these events.
-pub fn run_replay<W: Write>(
+fn run_replay<W: Write>(
     job: &Job<'_>,
     memory: Memory,
     events: &[Event],
@@ -172,7 +172,8 @@ pub fn print_run<W: Write>(
     }
 }
 
-fn print_replayed<W: Write>(
+/// The answer of a run that stands so.
+pub fn print_replayed<W: Write>(
     job: &Job<'_>,
     machine: Machine<'_>,
     output: &mut W,

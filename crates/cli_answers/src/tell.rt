@@ -1,84 +1,187 @@
-//! A replay that is told event for event.
+//! A run that is told event for event.
 
-use crate::job::Job;
-use crate::runs::{prepared, run_schedule};
+ghost use Rattle.serial_machine.specs.store.Made.{IsMadeFor};
+
+use crate::job::{Job, print_schedule_fault};
+use crate::runs::{prepared, print_no_schedule, print_replayed, print_unprepared, run_schedule};
 use cli_modules::{Beside, Status, stop_for_memory};
-use debugger::{Event, RunFault, ScheduleFault, read_schedule};
+use cli_tellings::{Crew, Subject, Told, Wanted, Words, tell};
+use cli_words::Telling;
+use debugger::{Memory, read_schedule};
+use ir_reader::read;
+use std::alloc::AllocError;
 use std::io;
 use std::io::Write;
-use view_traces::{Moment, picture, watch, write_trace};
+use syntax::Module;
+use view_events::Names;
+use view_traces::{Course, Listed};
 
-/// Prints the lines of a trace, and keeps the picture for its file, where they are asked for.
-fn tell_moments<W: Write>(
-    job: &Job<'_>,
-    events: &[Event],
-    moments: &[Moment],
-    output: &mut W,
-    beside: &mut Beside,
-) -> io::Result<Status> {
-    if job.request.telling.trace {
-        write_trace(job.alloc, output, job.source(), events, moments)?;
+/// What is asked to be told of a run.
+fn wanted_of(telling: &Telling) -> Wanted {
+    Wanted {
+        trace: telling.trace,
+        script: telling.save.is_some(),
+        stats: telling.stats,
+        picture: telling.picture.is_some(),
+        json: telling.json.is_some(),
+        page: telling.page.is_some(),
     }
-    if job.request.telling.file.is_some() {
-        let Ok(drawn) = picture(job.alloc, job.request.workers, events, moments) else {
-            return stop_for_memory(output);
-        };
-        beside.file.push_str(drawn.as_str())?;
-    }
-    Ok(Status::Done)
 }
 
-/// Tells of these events in a run that can start; else nothing.
-fn tell_run<W: Write>(
-    job: &Job<'_>,
-    events: &[Event],
-    output: &mut W,
+/// Whether anything is to be told of a run's events.
+pub fn is_told(telling: &Telling) -> bool {
+    wanted_of(telling).is_any()
+}
+
+/// Keeps a text for the file where one is asked for.
+fn keep(
+    file: &Option<String>,
+    text: Option<String>,
     beside: &mut Beside,
-) -> io::Result<Status> {
-    // What is wrong with the data is said once, by the run itself.
-    let mut unsaid = Beside::nothing(job.alloc);
-    let memory = match prepared(job, &mut unsaid) {
-        Ok(memory) => memory,
-        Err(Status::Stopped) => return stop_for_memory(output),
-        Err(_) => return Ok(Status::Done),
+) -> Result<(), AllocError> {
+    match (file, text) {
+        (Some(file), Some(text)) => beside.keep_file(file.as_str(), text),
+        _ => Ok(()),
+    }
+}
+
+/// Keeps the schedule for its file, or says that it would be too long.
+fn keep_script(
+    job: &Job<'_>,
+    script: Option<String>,
+    events: u64,
+    beside: &mut Beside,
+) -> Result<Status, AllocError> {
+    let Some(file) = &job.request.telling.save else {
+        return Ok(Status::Done);
     };
-    let args = job.request.args.as_slice();
-    let workers = job.request.workers;
-    match watch(job.alloc, job.verified, args, memory, workers, events) {
-        Ok(moments) => tell_moments(job, events, moments.as_slice(), output, beside),
-        Err(RunFault::OutOfMemory) => stop_for_memory(output),
-        Err(_) => Ok(Status::Done),
+    if let Some(script) = script {
+        beside.keep_file(file.as_str(), script)?;
+        return Ok(Status::Done);
     }
+    let note = format!(in job.alloc;
+        "{file}: the run has {events} events; a schedule has at most 1048576, in as many bytes, so none is saved"
+    )?;
+    beside.note(note.as_str())?;
+    Ok(Status::Schedule)
 }
 
-/// Tells of the events of a schedule that can be read; else nothing.
-fn tell_events<W: Write>(
+/// Writes and keeps what was told.
+fn keep_told<W: Write>(
     job: &Job<'_>,
-    schedule: &[u8],
+    told: Told,
     output: &mut W,
     beside: &mut Beside,
 ) -> io::Result<Status> {
-    match read_schedule(job.alloc, schedule) {
-        Ok(events) => tell_run(job, events.as_slice(), output, beside),
-        Err(ScheduleFault::Memory) => stop_for_memory(output),
-        Err(_) => Ok(Status::Done),
+    let Told {
+        script,
+        events,
+        stats,
+        picture,
+        json,
+        page,
+    } = told;
+    output.write_all(stats.as_bytes())?;
+    let telling = &job.request.telling;
+    keep(&telling.picture, picture, beside)?;
+    keep(&telling.json, json, beside)?;
+    keep(&telling.page, page, beside)?;
+    Ok(keep_script(job, script, events, beside)?)
+}
+
+/// Tells of a run with the names of its text.
+fn tell_named<C: Course, W: Write>(
+    job: &Job<'_>,
+    module: &Module,
+    memory: Memory,
+    course: &mut C,
+    crew: Crew<'_>,
+    output: &mut W,
+    beside: &mut Beside,
+) -> io::Result<Status>
+    requires { IsMadeFor job.now.verified.now memory }
+{
+    let alloc = job.alloc;
+    let program = job.verified.program();
+    let Ok(names) = Names::of(alloc, program, module) else {
+        return Err(io::Error::from(AllocError));
+    };
+    let source = job.source();
+    let list: Vec<&str> = source.lines().collect(alloc)?;
+    let title = job.request.file.as_str();
+    let lines = list.as_slice();
+    let arguments = job.request.args.as_slice();
+    let subject = Subject {
+        alloc,
+        verified: job.verified,
+        title,
+        source,
+        arguments,
+        workers: job.request.workers,
+    };
+    let words = Words {
+        names: &names,
+        lines,
+        crew,
+    };
+    let wanted = wanted_of(&job.request.telling);
+    match tell(subject, words, memory, course, wanted, output)? {
+        Ok((told, machine)) => {
+            print_replayed(job, machine, output, beside)?;
+            keep_told(job, told, output, beside)
+        }
+        Err(fault) => job.print_run_fault(&fault, output, beside),
     }
 }
 
-/// Runs by a schedule. What is asked to be told of the events comes before the answer.
+/// Runs by the events of a course. What is asked to be told of them comes before the answer, the figures after it.
+pub fn tell_course<C: Course, W: Write>(
+    job: &Job<'_>,
+    memory: Memory,
+    course: &mut C,
+    crew: Crew<'_>,
+    output: &mut W,
+    beside: &mut Beside,
+) -> io::Result<Status>
+    requires { IsMadeFor job.now.verified.now memory }
+{
+    match read(job.alloc, job.state, job.text) {
+        Ok(module) => tell_named(job, &module, memory, course, crew, output, beside),
+        // It was read before.
+        Err(_) => stop_for_memory(output),
+    }
+}
+
+/// Runs by a schedule, and tells of its events.
+fn tell_schedule<W: Write>(
+    job: &Job<'_>,
+    output: &mut W,
+    beside: &mut Beside,
+) -> io::Result<Status> {
+    let Some(text) = job.schedule else {
+        return print_no_schedule(job, output);
+    };
+    let events = match read_schedule(job.alloc, text) {
+        Ok(events) => events,
+        Err(fault) => return print_schedule_fault(job, &fault, output, beside),
+    };
+    let memory = match prepared(job, beside) {
+        Ok(memory) => memory,
+        Err(status) => return print_unprepared(status, output),
+    };
+    let mut course = Listed::new(job.alloc, events.as_slice());
+    tell_course(job, memory, &mut course, Crew::none(), output, beside)
+}
+
+/// Runs by a schedule, and tells of its events where that is asked for.
 pub fn tell_replay<W: Write>(
     job: &Job<'_>,
     output: &mut W,
     beside: &mut Beside,
 ) -> io::Result<Status> {
-    let is_told = job.request.telling.trace || job.request.telling.file.is_some();
-    if let Some(bytes) = job.schedule {
-        if is_told {
-            let status = tell_events(job, bytes, output, beside)?;
-            if status != Status::Done {
-                return Ok(status);
-            }
-        }
+    if is_told(&job.request.telling) {
+        tell_schedule(job, output, beside)
+    } else {
+        run_schedule(job, output, beside)
     }
-    run_schedule(job, output, beside)
 }

@@ -6,8 +6,8 @@ use std::io;
 use std::io::Write;
 use verifier::Verified;
 
-/// The number of a function.
-fn find_function(verified: &Verified, name: &str) -> Option<usize> {
+/// The number of the function of this name.
+pub fn find_function(verified: &Verified, name: &str) -> Option<usize> {
     let functions = verified.program().functions.as_slice();
     for number in 0..functions.len() {
         if functions[number].name.as_str() == name {

@@ -2,6 +2,14 @@
 
 use std::alloc::{AllocError, Global};
 
+/// A file that is to be written.
+#[derive(Drop)]
+pub struct FileText {
+    /// The word that names it.
+    pub word: String,
+    pub text: String,
+}
+
 /// A file to write, by the word that names it.
 #[derive(Drop)]
 pub struct Dump {
@@ -21,12 +29,13 @@ pub struct Times {
 /// What goes to standard error and to files.
 #[derive(Drop)]
 pub struct Beside {
+    alloc: Global,
     /// Whether lines for standard error may have colours.
     pub has_colours: bool,
     /// Lines for standard error.
     pub notes: String,
-    /// What the file that is to be written holds.
-    pub file: String,
+    /// Files to write once the answer has been.
+    pub files: Vec<FileText>,
     /// The globals that go to files.
     pub dumps: Vec<Dump>,
     pub times: Times,
@@ -35,9 +44,10 @@ pub struct Beside {
 impl Beside {
     pub fn nothing(alloc: Global) -> Beside {
         Beside {
+            alloc,
             has_colours: false,
             notes: String::new(alloc),
-            file: String::new(alloc),
+            files: Vec::new(alloc),
             dumps: Vec::new(alloc),
             times: Times {
                 reading: 0,
@@ -80,5 +90,12 @@ impl Beside {
         write!(self.notes, "{file}:{line}: ")?;
         self.push_error()?;
         writeln!(self.notes, " {what}")
+    }
+
+    /// Keeps a text for the file that the word names.
+    pub fn keep_file(&mut self, word: &str, text: String) -> Result<(), AllocError> {
+        let word = String::from_str(self.alloc, word)?;
+        self.files.push(FileText { word, text })?;
+        Ok(())
     }
 }

@@ -11,9 +11,9 @@ mod refusals;
 mod shown;
 mod status;
 
-pub use accepted::print_verified;
-pub use beside::{Beside, Dump, Times};
-pub use faults::note_unverified;
+pub use accepted::{find_function, print_verified};
+pub use beside::{Beside, Dump, FileText, Times};
+pub use faults::{note_effort, note_fault, note_unverified};
 pub use files::{read_data, read_file, read_text, write_bytes, write_file};
 pub use reasons::print_rule;
 pub use refusals::{fail, print_refused, print_unreadable, print_unverified, stop_for_memory};

@@ -57,7 +57,7 @@ pub fn print_refused<W: Write>(refused: &Refused, output: &mut W) -> io::Result<
 /// Says that the effort that was granted is spent before a verdict.
 pub fn print_undecided<W: Write>(output: &mut W, beside: &mut Beside) -> io::Result<Status> {
     writeln!(output, "undecided")?;
-    beside.note("the effort is spent before a verdict; --effort=N grants more")?;
+    note_effort(beside)?;
     Ok(Status::Stopped)
 }
 

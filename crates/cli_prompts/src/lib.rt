@@ -7,7 +7,6 @@ mod command;
 mod dialogue;
 mod going;
 mod help;
-mod names;
 mod paint;
 mod pointers;
 mod session;
@@ -16,5 +15,4 @@ mod source;
 mod values;
 
 pub use dialogue::converse;
-pub use names::Names;
 pub use session::Session;

@@ -32,7 +32,7 @@ fn object_before(starts: &[i64], address: i64) -> Option<(usize, u64)> {
 impl Session<'_, '_> {
     /// Whether an alloca of the frame has a cell at this address.
     fn owns(&self, view: FrameView<'_>, address: i64) -> bool {
-        let room = room_of(self.names.program, view.frame.function.0);
+        let room = room_of(self.names.program(), view.frame.function.0);
         let distance = address.wrapping_sub(view.frame.home).cast_unsigned();
         view.frame.role == Role::Body && distance < room
     }

@@ -2,11 +2,11 @@
 
 ghost use Rattle.std.specs.Prelude.{◌≤◌, length};
 
-use crate::names::Names;
 use debugger::{Debugger, Event, TaskView};
 use frame::Path;
 use lists::OutOfMemory;
 use std::alloc::{AllocError, Global};
+use view_events::Names;
 use view_moments::TaskName;
 
 /// A debugger, with the texts that people see.

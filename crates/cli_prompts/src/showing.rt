@@ -140,7 +140,7 @@ impl Session<'_, '_> {
         register: RegisterId,
     ) -> Result<(), OutOfMemory> {
         let function = frame.function.0;
-        let Some(found) = self.names.program.functions.as_slice().get(function) else {
+        let Some(found) = self.names.program().functions.as_slice().get(function) else {
             return Ok(());
         };
         let kind = found.registers.as_slice().get(register.0).copied();
@@ -161,7 +161,7 @@ impl Session<'_, '_> {
         let Some(view) = self.debugger.show_frame(path) else {
             return self.push_missing(out, "frame", path);
         };
-        for register in registers_with_values(self.alloc, self.names.program, view.frame)? {
+        for register in registers_with_values(self.alloc, self.names.program(), view.frame)? {
             self.push_register(out, view.frame, register)?;
         }
         Ok(())
@@ -193,7 +193,7 @@ impl Session<'_, '_> {
             return self.push_missing(out, "frame", path);
         };
         let function = view.frame.function.0;
-        let Some(found) = self.names.program.functions.as_slice().get(function) else {
+        let Some(found) = self.names.program().functions.as_slice().get(function) else {
             return Ok(());
         };
         if found.allocas.is_empty() {

@@ -170,6 +170,20 @@ fn workers_of(alloc: Global, matches: &ArgMatches<'_>) -> Result<usize, WordsFau
     }
 }
 
+/// Reads `N,N..`, where runs are to be timed.
+fn speedup_of(alloc: Global, matches: &ArgMatches<'_>) -> Result<Vec<usize>, WordsFault> {
+    let mut numbers = Vec::new(alloc);
+    if let Some(text) = matches.get_str("speedup") {
+        for word in text.split(",") {
+            match word.parse::<usize>() {
+                Ok(workers) => numbers.push(workers)?,
+                Err(_) => return Err(wrong_value(alloc, "--speedup <N,N..>", text)),
+            }
+        }
+    }
+    Ok(numbers)
+}
+
 /// Reads `@f`, where a table is asked for.
 fn table_of(alloc: Global, matches: &ArgMatches<'_>) -> Result<Option<String>, WordsFault> {
     let Some(text) = matches.get_str("table") else {
@@ -220,10 +234,10 @@ pub(crate) enum Given {
     Option,
     /// An option with a value, which has to be there.
     Required,
+    /// An option with a value, which has to be there unless this one is.
+    Unless(&'static str),
     /// An option with a value, which may be given more than once.
     Repeated,
-    /// An option with a value, which needs this option too.
-    With(&'static str),
     /// An option with three values, which may be given more than once.
     Row,
     /// An option without a value.
@@ -295,17 +309,29 @@ const WORKERS: Part = Part {
     help: "the number of workers, from 1 to 64",
 };
 
+const WORKERS_OF_ONE: Part = Part {
+    given: Given::Unless("speedup"),
+    ..WORKERS
+};
+
+const SPEEDUP: Part = Part {
+    name: "speedup",
+    value: "N,N..",
+    given: Given::Option,
+    help: "in place of --workers: times runs on each of these numbers of workers, the least of five",
+};
+
 const SEED: Part = Part {
     name: "seed",
     value: "S",
     given: Given::Option,
-    help: "draws the events, at most 1048576, at random by this number",
+    help: "draws the events at random by this number",
 };
 
 const SAVE: Part = Part {
     name: "save",
     value: "OUT",
-    given: Given::With("seed"),
+    given: Given::Option,
     help: "writes the events to a file, as replay takes them",
 };
 
@@ -330,6 +356,34 @@ const PICTURE: Part = Part {
     help: "writes a picture of the run to a file, as SVG",
 };
 
+const JSON: Part = Part {
+    name: "json",
+    value: "",
+    given: Given::Flag,
+    help: "prints the answer as one object of JSON",
+};
+
+const EVENTS: Part = Part {
+    name: "json",
+    value: "OUT",
+    given: Given::Option,
+    help: "writes a line of JSON for each event to a file",
+};
+
+const PAGE: Part = Part {
+    name: "page",
+    value: "OUT",
+    given: Given::Option,
+    help: "writes a page to step through the run to a file, as HTML",
+};
+
+const STATS: Part = Part {
+    name: "stats",
+    value: "",
+    given: Given::Flag,
+    help: "prints what each worker did after the answer",
+};
+
 const SHELL: Part = Part {
     name: "shell",
     value: "SHELL",
@@ -343,20 +397,39 @@ static ROW_NAMES: [&str; 3] = ["@a", "I", "N"];
 /// The words and options of the commands, as their help lists them; a command that only reads a module takes its file alone.
 static MODULE_PARTS: [Part; 1] = [FILE];
 
-static VERIFY_PARTS: [Part; 3] = [FILE, TABLE, EFFORT];
+static VERIFY_PARTS: [Part; 4] = [FILE, TABLE, EFFORT, JSON];
 
-static EXPLAIN_PARTS: [Part; 2] = [FILE_OR_NUMBER, EFFORT];
+static EXPLAIN_PARTS: [Part; 3] = [FILE_OR_NUMBER, EFFORT, JSON];
 
-static KNOWN_PARTS: [Part; 2] = [FILE, EFFORT];
+static KNOWN_PARTS: [Part; 3] = [FILE, EFFORT, JSON];
 
 static SERIAL_PARTS: [Part; 10] = [FILE, ARG, SET, SHOW, LOAD, DUMP, RAW, CELLS, TIME, EFFORT];
 
-static RUN_PARTS: [Part; 13] = [
-    FILE, ARG, SET, SHOW, LOAD, DUMP, RAW, CELLS, WORKERS, SEED, SAVE, TIME, EFFORT,
+static RUN_PARTS: [Part; 19] = [
+    FILE,
+    ARG,
+    SET,
+    SHOW,
+    LOAD,
+    DUMP,
+    RAW,
+    CELLS,
+    WORKERS_OF_ONE,
+    SPEEDUP,
+    SEED,
+    SAVE,
+    TRACE,
+    STATS,
+    PICTURE,
+    EVENTS,
+    PAGE,
+    TIME,
+    EFFORT,
 ];
 
-static REPLAY_PARTS: [Part; 14] = [
-    FILE, ARG, SET, SHOW, LOAD, DUMP, RAW, CELLS, SCHEDULE, WORKERS, TRACE, PICTURE, TIME, EFFORT,
+static REPLAY_PARTS: [Part; 18] = [
+    FILE, ARG, SET, SHOW, LOAD, DUMP, RAW, CELLS, SCHEDULE, WORKERS, SAVE, TRACE, STATS, PICTURE,
+    EVENTS, PAGE, TIME, EFFORT,
 ];
 
 static DEBUG_PARTS: [Part; 10] = [
@@ -387,13 +460,13 @@ fn arg_of<'a>(alloc: Global, part: &Part) -> Result<Arg<'a>, AllocError> {
         Given::Word => Ok(arg.value_name(part.value).required(true)),
         Given::Option => Ok(option(arg, part, ArgAction::Set)),
         Given::Required => Ok(option(arg, part, ArgAction::Set).required(true)),
+        Given::Unless(other) => option(arg, part, ArgAction::Set).required_unless_present(other),
         Given::Repeated => Ok(option(arg, part, ArgAction::Append)),
         Given::Row => Ok(
             option(arg, part, ArgAction::Append)
                 .value_names(&ROW_NAMES)
                 .num_args(3),
         ),
-        Given::With(other) => option(arg, part, ArgAction::Set).requires_arg(other),
         Given::Flag => Ok(arg.long(part.name).action(ArgAction::SetTrue)),
     }
 }
@@ -594,6 +667,18 @@ fn read_effort(
     Ok(())
 }
 
+/// Reads the options of a verb that tells what is known.
+fn read_show(
+    alloc: Global,
+    matches: &ArgMatches<'_>,
+    request: &mut Request,
+) -> Result<(), WordsFault>
+    ensures { request.new.verb ≡ request.old.verb }
+{
+    request.is_json = matches.get_flag("json");
+    read_effort(alloc, matches, request)
+}
+
 /// Reads the options of a verification.
 fn read_verify(
     alloc: Global,
@@ -603,7 +688,7 @@ fn read_verify(
     ensures { request.new.verb ≡ request.old.verb }
 {
     request.table = table_of(alloc, matches)?;
-    read_effort(alloc, matches, request)
+    read_show(alloc, matches, request)
 }
 
 /// Reads the options of an explanation.
@@ -615,7 +700,7 @@ fn read_explain(
     ensures { request.new.verb ≡ request.old.verb }
 {
     request.rule = rule_of(alloc, request.file.as_str())?;
-    read_effort(alloc, matches, request)
+    read_show(alloc, matches, request)
 }
 
 /// The file that an option names.
@@ -630,6 +715,23 @@ fn written_file(
     }
 }
 
+/// Reads what is to be told of a run.
+fn read_telling(
+    alloc: Global,
+    matches: &ArgMatches<'_>,
+    request: &mut Request,
+) -> Result<(), WordsFault>
+    ensures { request.new.verb ≡ request.old.verb }
+{
+    request.telling.trace = matches.get_flag("trace");
+    request.telling.stats = matches.get_flag("stats");
+    request.telling.save = written_file(alloc, matches, "save")?;
+    request.telling.picture = written_file(alloc, matches, "picture")?;
+    request.telling.json = written_file(alloc, matches, "json")?;
+    request.telling.page = written_file(alloc, matches, "page")?;
+    Ok(())
+}
+
 /// Reads the options of a run on workers.
 fn read_run(
     alloc: Global,
@@ -640,7 +742,15 @@ fn read_run(
 {
     read_running(alloc, matches, request)?;
     request.telling.seed = number_of(alloc, matches, "seed", "--seed <S>")?;
-    request.telling.file = written_file(alloc, matches, "save")?;
+    read_telling(alloc, matches, request)?;
+    request.speedup = speedup_of(alloc, matches)?;
+    let is_one = request.telling.is_any() || matches.get_str("workers").is_some();
+    if is_one && !request.speedup.is_empty() {
+        return Err(fault_with(String::from_str(
+            alloc,
+            "error: --speedup goes without --workers, --seed and what tells of one run\n",
+        )));
+    }
     Ok(())
 }
 
@@ -679,9 +789,7 @@ fn read_replay(
     ensures { request.new.verb ≡ request.old.verb }
 {
     read_scheduled(alloc, matches, request)?;
-    request.telling.trace = matches.get_flag("trace");
-    request.telling.file = written_file(alloc, matches, "picture")?;
-    Ok(())
+    read_telling(alloc, matches, request)
 }
 
 /// Reads the options of the request's verb.
@@ -700,7 +808,7 @@ fn read_options(
         Verb::Debug => read_debug(alloc, matches, request)?,
         Verb::Serial => read_running(alloc, matches, request)?,
         Verb::Completions => request.shell = Some(shell_of(alloc, request.file.as_str())?),
-        Verb::Show => read_effort(alloc, matches, request)?,
+        Verb::Show => read_show(alloc, matches, request)?,
         Verb::Print | Verb::Annotate | Verb::Man => {}
     }
     Ok(())

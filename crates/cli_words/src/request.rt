@@ -84,6 +84,8 @@ pub struct Request {
     pub schedule: Option<String>,
     /// How many workers run; 1 where the verb takes none.
     pub workers: usize,
+    /// The numbers of workers whose runs are timed, in place of one run.
+    pub speedup: Vec<usize>,
     /// The arguments of `@main`, in order.
     pub args: Vec<i64>,
     /// Cells to set before the run; of two for one cell the last one stays.
@@ -104,6 +106,8 @@ pub struct Request {
     pub rule: Option<u16>,
     /// The shell whose words to complete, for the verb that takes one.
     pub shell: Option<Shell>,
+    /// Whether the answer is an object of JSON, for the verbs that have one.
+    pub is_json: bool,
     /// How the verb tells of the run, and where to.
     pub telling: Telling,
 }
@@ -116,6 +120,7 @@ impl Drop for Request {
             file: _,
             schedule: _,
             workers: _,
+            speedup: _,
             args: _,
             set: _,
             show: _,
@@ -126,6 +131,7 @@ impl Drop for Request {
             effort: _,
             rule: _,
             shell: _,
+            is_json: _,
             telling: _,
         } = self;
     }
@@ -141,6 +147,7 @@ impl Request {
             file,
             schedule: None,
             workers: 1,
+            speedup: Vec::new(alloc),
             args: Vec::new(alloc),
             set: Vec::new(alloc),
             show: Vec::new(alloc),
@@ -154,6 +161,7 @@ impl Request {
             effort: None,
             rule: None,
             shell: None,
+            is_json: false,
             telling: Telling::nothing(),
         }
     }
@@ -167,24 +175,41 @@ pub struct Dialogue {
     pub has_colours: bool,
 }
 
-/// What is told of a run beside its answer.
+/// What is told of a run beside its answer. A file is named where something is to be written there.
 #[derive(Drop)]
 pub struct Telling {
-    /// A line for each event of a replay.
+    /// A line for each event.
     pub trace: bool,
+    /// What each worker did, after the answer.
+    pub stats: bool,
     /// Draws the events of a run by this seed; without one its workers have threads.
     pub seed: Option<u64>,
-    /// The file to write: the picture of a replay, or the schedule of a run that is drawn.
-    pub file: Option<String>,
+    /// The events, as a schedule.
+    pub save: Option<String>,
+    pub picture: Option<String>,
+    /// A line of JSON for each event.
+    pub json: Option<String>,
+    pub page: Option<String>,
 }
 
 impl Telling {
     pub fn nothing() -> Telling {
         Telling {
             trace: false,
+            stats: false,
             seed: None,
-            file: None,
+            save: None,
+            picture: None,
+            json: None,
+            page: None,
         }
+    }
+
+    /// Whether anything is told of a run's events, or they are drawn.
+    pub fn is_any(&self) -> bool {
+        let is_written = self.save.is_some() || self.picture.is_some();
+        let is_listed = self.json.is_some() || self.page.is_some();
+        self.trace || self.stats || self.seed.is_some() || is_written || is_listed
     }
 }
 

@@ -1,15 +1,16 @@
-//! What the events of a run came to, and how people see that: a line for each event, and a picture of the whole run.
+//! What the events of a run came to, and when: a line for each event, and its round.
 //!
-//! A [`Moment`] is where an event found its task, and what it came to, or why it was not enabled. [`write_trace`] and [`picture`] show
-//! moments; neither asks a machine.
+//! A [`Moment`] is where an event found its task, what it came to, or why it was not enabled, and, where that is asked for, what it set.
+//! [`write_moment`] shows one as a line of a trace; [`Rounds`] tells when events could have happened at the earliest. Nothing here asks a
+//! machine.
 #![tactic(auto)]
 
-mod colour;
+mod change;
 mod moment;
-mod scene;
-mod svg;
+mod rounds;
 mod trace;
 
-pub use moment::{Hindrance, Moment, Outcome, Place, TaskName};
-pub use svg::picture;
-pub use trace::write_trace;
+pub use change::{CellPlace, Change, Setting, Settings, Thing, Value, Written};
+pub use moment::{Act, Hindrance, Moment, Outcome, Place, TaskName};
+pub use rounds::{Instant, Rounds, Timing, parent_of};
+pub use trace::write_moment;

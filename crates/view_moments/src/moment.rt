@@ -1,3 +1,4 @@
+use crate::change::Change;
 use frame::Path;
 use std::fmt;
 
@@ -19,6 +20,8 @@ impl fmt::Display for TaskName<'_> {
 #[derive(Drop)]
 pub struct Place {
     pub task: Path,
+    /// The frame on top of it, which executes its next instruction.
+    pub frame: Path,
     /// The line of its next instruction, or of the sync at which it waits; from 1.
     pub line: u32,
 }
@@ -66,6 +69,10 @@ pub enum Outcome {
     Begins(Path),
     /// The child has ended, and the worker goes on with this task.
     TakesOn(Path),
+    /// The frame has called a function, whose frame this is.
+    Calls(Path),
+    /// The frame has returned to this one, which called it.
+    ReturnsTo(Path),
     /// The task waits at a sync; the worker is idle.
     Waits,
     /// The child has ended, and nothing is left for the worker.
@@ -76,10 +83,22 @@ pub enum Outcome {
     NotEnabled(Hindrance),
 }
 
+/// What an event did to tasks, where it is more than an instruction of one frame. Regions are the numbers of the registers that name them.
+#[derive(Clone, Copy, PartialEq, Eq)]
+pub enum Act {
+    Plain,
+    Detach,
+    Reattach(usize),
+    Sync(usize),
+}
+
 /// One event of a run.
 #[derive(Drop)]
 pub struct Moment {
     /// Where the event found the task that it is about: the worker's own, or the one to be taken. None where there is none.
     pub place: Option<Place>,
+    pub act: Act,
     pub outcome: Outcome,
+    /// What registers and cells it set, where that was asked for.
+    pub change: Option<Change>,
 }

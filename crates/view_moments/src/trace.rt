@@ -2,7 +2,6 @@
 
 use crate::moment::{Moment, Outcome, Place, TaskName};
 use frame::Event;
-use std::alloc::Global;
 use std::io;
 use std::io::Write;
 
@@ -44,7 +43,7 @@ fn write_place<W: Write>(
 
 fn write_outcome<W: Write>(output: &mut W, outcome: &Outcome) -> io::Result<()> {
     match outcome {
-        Outcome::GoesOn => Ok(()),
+        Outcome::GoesOn | Outcome::Calls(_) | Outcome::ReturnsTo(_) => Ok(()),
         Outcome::Begins(child) => {
             let child = TaskName(child);
             write!(output, " -> begins {child}")
@@ -60,9 +59,12 @@ fn write_outcome<W: Write>(output: &mut W, outcome: &Outcome) -> io::Result<()> 
     }
 }
 
-fn write_moment<W: Write>(
+/// Writes the line of an event: its number, the event, the task that it found, the line of that task's next instruction and that
+/// instruction as the module's text has it. What follows is told after an arrow, where it is more than that the worker goes on with its
+/// task.
+pub fn write_moment<W: Write>(
     output: &mut W,
-    number: usize,
+    number: u64,
     event: &Event,
     moment: &Moment,
     lines: &[&str],
@@ -74,30 +76,4 @@ fn write_moment<W: Write>(
     }
     write_outcome(output, &moment.outcome)?;
     writeln!(output)
-}
-
-/// Writes a line for each event, numbered from 1, with the task that the event found, the line of its next instruction and that
-/// instruction as the module's text has it. What follows is told after an arrow, where it is more than that the worker goes on with
-/// its task.
-pub fn write_trace<W: Write>(
-    alloc: Global,
-    output: &mut W,
-    source: &str,
-    events: &[Event],
-    moments: &[Moment],
-) -> io::Result<()> {
-    let lines: Vec<&str> = source.lines().collect(alloc)?;
-    for index in 0..events.len() {
-        if index < moments.len() {
-            let number = index.saturating_add(1);
-            write_moment(
-                output,
-                number,
-                &events[index],
-                &moments[index],
-                lines.as_slice(),
-            )?;
-        }
-    }
-    Ok(())
 }

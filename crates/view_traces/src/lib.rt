@@ -1,15 +1,21 @@
 //! Runs watched event by event, and schedules drawn at random.
 //!
-//! [`watch`] runs a module by a schedule and keeps a [`Moment`] for each event: where it found its task, and what it came to, or why it
-//! was not enabled; how moments are shown is passed on. [`random_schedule`] is a schedule's text, drawn by a seed, of the whole run.
+//! A [`Watch`] runs a module event by event, and tells of each by a [`Moment`]: where it found its task, what it came to, or why it was not
+//! enabled, and what it set. The events come from a [`Course`]: a list, or a [`Draw`] by a seed. A [`Script`] is their text.
 #![tactic(auto)]
 
+mod course;
 mod dice;
+mod items;
+mod objects;
 mod random;
 mod script;
 mod watching;
 
+pub use course::{Course, Listed};
 pub use dice::Dice;
-pub use random::random_schedule;
-pub use view_moments::{Hindrance, Moment, Outcome, Place, TaskName, picture, write_trace};
-pub use watching::watch;
+pub use random::Draw;
+pub use schedule_core::{Event, Machine, Memory, RunFault, Verified};
+pub use script::Script;
+pub use view_moments::{Hindrance, Moment, Outcome, Place, TaskName};
+pub use watching::Watch;

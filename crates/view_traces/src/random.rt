@@ -1,37 +1,53 @@
-//! Schedules at random.
+//! Events at random.
 
-ghost use Rattle.schedule_core.specs.store.Made.{IsMadeFor};
-ghost use Rattle.std.specs.Prelude.{◌<◌, ◌≤◌};
+ghost use Rattle.std.specs.Prelude.{◌<◌};
 
+use crate::course::Course;
 use crate::dice::Dice;
-use crate::script::Script;
 use crate::watching::path_of;
 use frame::Path;
 use lists::OutOfMemory;
-use schedule_core::{Event, Machine, Memory, RunFault, Verified};
+use schedule_core::{Event, Machine};
 use std::alloc::Global;
 
-/// The events that a schedule has at most.
-const MOST_EVENTS: usize = 1_048_576;
-
-/// The text of the events that were drawn and done, and what may be drawn next.
+/// A worker's step that was drawn: the task that it had.
 #[derive(Drop)]
-struct Draw {
-    alloc: Global,
-    script: Script,
-    /// The tasks that may be taken.
-    ready: Vec<Path>,
+struct Drawn {
+    worker: u8,
+    task: Path,
 }
 
-/// The path of the worker's task.
-fn task_of(alloc: Global, machine: &Machine<'_>, worker: u8) -> Result<Option<Path>, OutOfMemory> {
-    match path_of(machine, worker) {
-        Some(path) => Ok(Some(path.copy(alloc)?)),
-        None => Ok(None),
-    }
+/// Events that are drawn by a seed: again and again a worker by chance steps, or, where it has no task, takes one by chance of those that
+/// are ready. Each event is enabled, and the events go on to the end of the run.
+#[derive(Drop)]
+pub struct Draw {
+    alloc: Global,
+    dice: Dice,
+    workers: u8,
+    /// The tasks that may be taken.
+    ready: Vec<Path>,
+    /// The step that was drawn last.
+    step: Option<Drawn>,
+    ghost some: { 0 < workers },
 }
 
 impl Draw {
+    /// Of so many workers, from 1 to 64; of no worker as of one.
+    pub fn new(alloc: Global, seed: u64, workers: usize) -> Draw {
+        let workers = match workers {
+            0 => 1,
+            1..=63 => workers as u8,
+            _ => 64,
+        };
+        Draw {
+            alloc,
+            dice: Dice::new(seed),
+            workers,
+            ready: Vec::new(alloc),
+            step: None,
+        }
+    }
+
     /// The task may not be taken any more.
     fn forget(&mut self, task: &Path) {
         for place in 0..self.ready.len() {
@@ -52,119 +68,48 @@ impl Draw {
         Ok(())
     }
 
-    /// A step of a worker that runs this task.
-    fn step(
-        &mut self,
-        machine: &mut Machine<'_>,
-        worker: u8,
-        before: Path,
-    ) -> Result<(), OutOfMemory> {
-        if machine.apply(&Event::Step(worker))? {
-            self.script.step(worker)?;
+    /// A steal of a task by chance; none where none may be taken.
+    fn steal(&mut self, worker: u8) -> Option<Event> {
+        if self.ready.is_empty() {
+            return None;
         }
-        match task_of(self.alloc, machine, worker)? {
-            Some(after) if !after.is_same(&before) => self.note(before, &after),
-            _ => Ok(()),
-        }
+        let place = self.dice.below(self.ready.len());
+        Some(Event::Steal(worker, self.ready.swap_remove(place)))
     }
 
-    /// Does a steal, and writes it where it was enabled.
-    fn apply_steal(&mut self, machine: &mut Machine<'_>, event: &Event) -> Result<(), OutOfMemory> {
-        if machine.apply(event)? {
-            if let Event::Steal(worker, task) = event {
-                self.script.steal(*worker, task)?;
+    /// An event of the worker; none where it has no task, and none may be taken.
+    fn event(&mut self, machine: &Machine<'_>, worker: u8) -> Result<Option<Event>, OutOfMemory> {
+        let Some(task) = path_of(machine, worker) else {
+            return Ok(self.steal(worker));
+        };
+        let task = task.copy(self.alloc)?;
+        self.step = Some(Drawn { worker, task });
+        Ok(Some(Event::Step(worker)))
+    }
+}
+
+impl Course for Draw {
+    fn next(&mut self, machine: &Machine<'_>) -> Result<Option<Event>, OutOfMemory> {
+        for _try in 0..u64::MAX {
+            if machine.ended() {
+                return Ok(None);
+            }
+            let worker = self.dice.below(usize::from(self.workers));
+            let event = self.event(machine, worker as u8)?;
+            if event.is_some() {
+                return Ok(event);
             }
         }
-        Ok(())
+        Ok(None)
     }
 
-    /// A steal of a task by chance, by a worker without one; nothing happens where none may be taken.
-    fn steal(
-        &mut self,
-        machine: &mut Machine<'_>,
-        worker: u8,
-        dice: &mut Dice,
-    ) -> Result<(), OutOfMemory> {
-        if self.ready.is_empty() {
+    fn done(&mut self, machine: &Machine<'_>) -> Result<(), OutOfMemory> {
+        let Some(Drawn { worker, task }) = self.step.take() else {
             return Ok(());
+        };
+        match path_of(machine, worker) {
+            Some(after) if !after.is_same(&task) => self.note(task, after),
+            _ => Ok(()),
         }
-        let place = dice.below(self.ready.len());
-        let event = Event::Steal(worker, self.ready.swap_remove(place));
-        self.apply_steal(machine, &event)
-    }
-
-    /// An event of the worker.
-    fn event(
-        &mut self,
-        machine: &mut Machine<'_>,
-        worker: u8,
-        dice: &mut Dice,
-    ) -> Result<(), OutOfMemory> {
-        match task_of(self.alloc, machine, worker)? {
-            Some(task) => self.step(machine, worker, task),
-            None => self.steal(machine, worker, dice),
-        }
-    }
-}
-
-/// Draws events until the run has ended, or has one more than a schedule may have.
-fn draw_all(
-    draw: &mut Draw,
-    machine: &mut Machine<'_>,
-    workers: u8,
-    dice: &mut Dice,
-) -> Result<(), OutOfMemory>
-    requires { 0 < workers }
-{
-    for _event in 0..u64::MAX {
-        if machine.ended() || draw.script.events() > MOST_EVENTS {
-            return Ok(());
-        }
-        let worker = dice.below(usize::from(workers));
-        draw.event(machine, worker as u8, dice)?;
-    }
-    Ok(())
-}
-
-/// The text of the events that are drawn.
-fn drawn_text(
-    alloc: Global,
-    machine: &mut Machine<'_>,
-    workers: u8,
-    seed: u64,
-) -> Result<String, OutOfMemory>
-    requires { 0 < workers }
-{
-    let mut draw = Draw {
-        alloc,
-        script: Script::new(alloc),
-        ready: Vec::new(alloc),
-    };
-    let mut dice = Dice::new(seed);
-    draw_all(&mut draw, machine, workers, &mut dice)?;
-    Ok(draw.script.into_text()?)
-}
-
-/// The text of a schedule that is drawn by a seed: again and again a worker by chance steps, or, where it has no task, takes one by chance
-/// of those that are ready. Each event of it is enabled. The text goes on to the end of the run, or to one event more than a schedule may
-/// have.
-///
-/// # Errors
-///
-/// Those of [`Machine::start`]; 803 too where memory is refused.
-pub fn random_schedule(
-    alloc: Global,
-    verified: &Verified,
-    arguments: &[i64],
-    memory: Memory,
-    workers: usize,
-    seed: u64,
-) -> Result<String, RunFault>
-    requires { IsMadeFor verified.now memory }
-{
-    let mut machine = Machine::start(alloc, verified, arguments, memory, workers)?;
-    match drawn_text(alloc, &mut machine, workers as u8, seed) {
-        Ok(text) => Ok(text),
-        Err(_) => Err(RunFault::OutOfMemory),
     }
 }

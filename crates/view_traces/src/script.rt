@@ -1,17 +1,22 @@
 //! The text of a schedule, event for event.
 
-use frame::Path;
+use frame::{Event, Path};
 use std::alloc::{AllocError, Global};
 use view_moments::TaskName;
 
-/// A schedule's text, of which the steps of one worker in a row are written as one line.
+/// The events and the bytes that a schedule has at most.
+const MOST: usize = 1_048_576;
+
+/// A schedule's text, of which the steps of one worker in a row are written as one line. Where it grows too long only its events are
+/// counted on.
 #[derive(Drop)]
 pub struct Script {
     text: String,
     /// The worker of the steps that are not written yet, and how many they are.
     worker: u8,
     steps: u64,
-    events: usize,
+    events: u64,
+    is_too_long: bool,
 }
 
 impl Script {
@@ -21,11 +26,12 @@ impl Script {
             worker: 0,
             steps: 0,
             events: 0,
+            is_too_long: false,
         }
     }
 
     /// The number of events.
-    pub fn events(&self) -> usize {
+    pub fn events(&self) -> u64 {
         self.events
     }
 
@@ -41,28 +47,45 @@ impl Script {
     }
 
     /// A step of the worker.
-    pub fn step(&mut self, worker: u8) -> Result<(), AllocError> {
+    fn step(&mut self, worker: u8) -> Result<(), AllocError> {
         if worker != self.worker {
             self.flush()?;
         }
         self.worker = worker;
         self.steps = self.steps.saturating_add(1);
-        self.events = self.events.saturating_add(1);
         Ok(())
     }
 
     /// A steal of the task.
-    pub fn steal(&mut self, worker: u8, task: &Path) -> Result<(), AllocError> {
+    fn steal(&mut self, worker: u8, task: &Path) -> Result<(), AllocError> {
         self.flush()?;
         let task = TaskName(task);
-        writeln!(self.text, "steal {worker} {task}")?;
-        self.events = self.events.saturating_add(1);
-        Ok(())
+        writeln!(self.text, "steal {worker} {task}")
     }
 
-    /// The whole text.
-    pub fn into_text(mut self) -> Result<String, AllocError> {
+    /// The next event.
+    pub fn add(&mut self, event: &Event) -> Result<(), AllocError> {
+        self.events = self.events.saturating_add(1);
+        let is_full = self.events > MOST as u64 || self.text.len() > MOST;
+        self.is_too_long = self.is_too_long || is_full;
+        if self.is_too_long {
+            return Ok(());
+        }
+        match event {
+            Event::Step(worker) => self.step(*worker),
+            Event::Steal(worker, task) => self.steal(*worker, task),
+        }
+    }
+
+    /// The whole text; none where it is longer than a schedule may be.
+    pub fn into_text(mut self) -> Result<Option<String>, AllocError> {
+        if self.is_too_long {
+            return Ok(None);
+        }
         self.flush()?;
-        Ok(self.text)
+        if self.text.len() > MOST {
+            return Ok(None);
+        }
+        Ok(Some(self.text))
     }
 }

@@ -1,20 +1,42 @@
-//! A run by a schedule, event for event.
+//! A run, event for event.
 
 ghost use Rattle.schedule_core.specs.store.Made.{IsMadeFor};
 
+use crate::items::{Plan, parameters_at, phis_at, plan_of, result_at};
+use crate::objects::Objects;
 use frame::Path;
+use frame_engine::Frame;
 use lists::OutOfMemory;
+use program::RegisterId;
 use schedule_core::{Event, Machine, Memory, RunFault, Status, TaskView, Verified};
 use std::alloc::Global;
-use view_moments::{Hindrance, Moment, Outcome, Place};
+use view_moments::{Act, Change, Hindrance, Moment, Outcome, Place, Settings, Written};
+
+/// A run that is watched: each event gives a [`Moment`].
+#[derive(Drop)]
+pub struct Watch<'v> {
+    alloc: Global,
+    verified: &'v Verified,
+    machine: Machine<'v>,
+    workers: usize,
+    objects: Objects,
+    /// Whether the next moment tells what registers and cells were set.
+    is_detailed: bool,
+}
 
 /// Where a task stands.
-fn place_of(alloc: Global, view: Option<TaskView<'_>>) -> Result<Option<Place>, OutOfMemory> {
+fn place_of(alloc: Global, view: &TaskView<'_>) -> Result<Place, OutOfMemory> {
+    Ok(Place {
+        task: view.path.copy(alloc)?,
+        frame: view.top_path.copy(alloc)?,
+        line: view.line,
+    })
+}
+
+/// Where a task stands, if there is one.
+fn place_if(alloc: Global, view: Option<TaskView<'_>>) -> Result<Option<Place>, OutOfMemory> {
     match view {
-        Some(view) => Ok(Some(Place {
-            task: view.path.copy(alloc)?,
-            line: view.line,
-        })),
+        Some(view) => Ok(Some(place_of(alloc, &view)?)),
         None => Ok(None),
     }
 }
@@ -27,14 +49,25 @@ pub fn path_of<'m>(machine: &'m Machine<'_>, worker: u8) -> Option<&'m Path> {
     }
 }
 
-/// What the worker does after a step for a task, where it has one now.
-fn after_work(alloc: Global, before: &Path, now: &Path) -> Result<Outcome, OutOfMemory> {
-    if now.is_same(before) {
-        Ok(Outcome::GoesOn)
-    } else if now.numbers.len() > before.numbers.len() {
-        Ok(Outcome::Begins(now.copy(alloc)?))
+/// What a step came to within one task, whose top was `before`.
+fn after_call(alloc: Global, before: &Path, now: &Path) -> Result<Outcome, OutOfMemory> {
+    if now.numbers.len() > before.numbers.len() {
+        Ok(Outcome::Calls(now.copy(alloc)?))
+    } else if now.numbers.len() < before.numbers.len() {
+        Ok(Outcome::ReturnsTo(now.copy(alloc)?))
     } else {
-        Ok(Outcome::TakesOn(now.copy(alloc)?))
+        Ok(Outcome::GoesOn)
+    }
+}
+
+/// What the worker does after a step for a task, where it has one now.
+fn after_work(alloc: Global, before: &Place, now: &TaskView<'_>) -> Result<Outcome, OutOfMemory> {
+    if now.path.is_same(&before.task) {
+        after_call(alloc, &before.frame, now.top_path)
+    } else if now.path.numbers.len() > before.task.numbers.len() {
+        Ok(Outcome::Begins(now.path.copy(alloc)?))
+    } else {
+        Ok(Outcome::TakesOn(now.path.copy(alloc)?))
     }
 }
 
@@ -43,14 +76,14 @@ fn after_step(
     alloc: Global,
     machine: &Machine<'_>,
     worker: u8,
-    task: &Path,
+    before: &Place,
 ) -> Result<Outcome, OutOfMemory> {
     if machine.ended() {
         return Ok(Outcome::Returns);
     }
-    match path_of(machine, worker) {
-        Some(now) => after_work(alloc, task, now),
-        None if machine.task(task).is_some() => Ok(Outcome::Waits),
+    match machine.task_of(worker) {
+        Some(now) => after_work(alloc, before, &now),
+        None if machine.task(&before.task).is_some() => Ok(Outcome::Waits),
         None => Ok(Outcome::Ends),
     }
 }
@@ -86,113 +119,245 @@ fn steal_hindrance(machine: &Machine<'_>, workers: usize, worker: u8, task: &Pat
     }
 }
 
-/// Does a step of the worker, which has this task in its hand, if it has one.
-fn step_outcome(
-    alloc: Global,
-    machine: &mut Machine<'_>,
-    workers: usize,
-    event: &Event,
-    worker: u8,
-    task: Option<&Path>,
-) -> Result<Outcome, OutOfMemory> {
-    let hindrance = worker_hindrance(machine, workers, worker).unwrap_or(Hindrance::Idle);
-    let done = machine.apply(event)?;
-    match task {
-        Some(task) if done => after_step(alloc, machine, worker, task),
-        _ => Ok(Outcome::NotEnabled(hindrance)),
+/// A moment of an event that was not enabled.
+fn missed(place: Option<Place>, hindrance: Hindrance) -> Moment {
+    Moment {
+        place,
+        act: Act::Plain,
+        outcome: Outcome::NotEnabled(hindrance),
+        change: None,
     }
 }
 
-fn watch_step(
-    alloc: Global,
-    machine: &mut Machine<'_>,
-    workers: usize,
-    event: &Event,
-    worker: u8,
-) -> Result<Moment, OutOfMemory> {
-    let place = place_of(alloc, machine.task_of(worker))?;
-    let task = match &place {
-        Some(place) => Some(&place.task),
-        None => None,
-    };
-    let outcome = step_outcome(alloc, machine, workers, event, worker, task)?;
-    Ok(Moment { place, outcome })
-}
-
-/// Does a steal of the task.
-fn steal_outcome(
-    machine: &mut Machine<'_>,
-    workers: usize,
-    event: &Event,
-    worker: u8,
-    task: &Path,
-) -> Result<Outcome, OutOfMemory> {
-    let hindrance = steal_hindrance(machine, workers, worker, task);
-    if machine.apply(event)? {
-        Ok(Outcome::GoesOn)
-    } else {
-        Ok(Outcome::NotEnabled(hindrance))
+impl<'v> Watch<'v> {
+    /// Before the first event.
+    ///
+    /// # Errors
+    ///
+    /// Those of [`Machine::start`].
+    pub fn start(
+        alloc: Global,
+        verified: &'v Verified,
+        arguments: &[i64],
+        memory: Memory,
+        workers: usize,
+    ) -> Result<Watch<'v>, RunFault>
+        requires { IsMadeFor verified.now memory }
+    {
+        let machine = Machine::start(alloc, verified, arguments, memory, workers)?;
+        Ok(Watch {
+            alloc,
+            verified,
+            machine,
+            workers,
+            objects: Objects::of(alloc, verified)?,
+            is_detailed: false,
+        })
     }
-}
 
-fn watch_steal(
-    alloc: Global,
-    machine: &mut Machine<'_>,
-    workers: usize,
-    event: &Event,
-    worker: u8,
-    task: &Path,
-) -> Result<Moment, OutOfMemory> {
-    let place = place_of(alloc, machine.task(task))?;
-    let outcome = steal_outcome(machine, workers, event, worker, task)?;
-    Ok(Moment { place, outcome })
-}
-
-/// One event, done and seen. Where memory is refused the event may be done.
-fn watch_event(
-    alloc: Global,
-    machine: &mut Machine<'_>,
-    workers: usize,
-    event: &Event,
-) -> Result<Moment, OutOfMemory> {
-    match event {
-        Event::Step(worker) => watch_step(alloc, machine, workers, event, *worker),
-        Event::Steal(worker, task) => watch_steal(alloc, machine, workers, event, *worker, task),
+    /// From now on moments tell what registers and cells were set, which takes longer. The answer is what the root was given. Nothing is told
+    /// of arrays of frames that were made before.
+    pub fn begin_details(&mut self) -> Result<Settings, OutOfMemory> {
+        self.is_detailed = true;
+        let program = self.verified.program();
+        let Some(view) = self.machine.task_of(0) else {
+            return Ok(Settings::none(self.alloc));
+        };
+        self.objects.begin(program, view.top_path, view.top)?;
+        let given = parameters_at(self.alloc, program, view.top)?;
+        self.objects.settings(program, view.top, given.as_slice())
     }
-}
 
-/// All events, done and seen.
-fn watch_all(
-    alloc: Global,
-    machine: &mut Machine<'_>,
-    workers: usize,
-    events: &[Event],
-) -> Result<Vec<Moment>, OutOfMemory> {
-    let mut moments = Vec::new(alloc);
-    for event in events {
-        moments.push(watch_event(alloc, machine, workers, event)?)?;
+    /// Moments do not tell any more what was set.
+    pub fn end_details(&mut self) {
+        self.is_detailed = false;
     }
-    Ok(moments)
-}
 
-/// The moments of a run by a schedule, one for each event, in their order.
-///
-/// # Errors
-///
-/// Those of [`Machine::start`]; 803 too where an event is refused memory.
-pub fn watch(
-    alloc: Global,
-    verified: &Verified,
-    arguments: &[i64],
-    memory: Memory,
-    workers: usize,
-    events: &[Event],
-) -> Result<Vec<Moment>, RunFault>
-    requires { IsMadeFor verified.now memory }
-{
-    let mut machine = Machine::start(alloc, verified, arguments, memory, workers)?;
-    match watch_all(alloc, &mut machine, workers, events) {
-        Ok(moments) => Ok(moments),
-        Err(_) => Err(RunFault::OutOfMemory),
+    /// The machine after the events that were done.
+    pub fn machine(&self) -> &Machine<'v> {
+        &self.machine
+    }
+
+    /// The machine after the events that were done, for good.
+    pub fn into_machine(self) -> Machine<'v> {
+        let Watch {
+            alloc: _,
+            verified: _,
+            machine,
+            workers: _,
+            objects: _,
+            is_detailed: _,
+        } = self;
+        machine
+    }
+
+    /// What the next step of the worker's task is about to do.
+    fn plan(&self, worker: u8) -> Option<Plan> {
+        let view = self.machine.task_of(worker)?;
+        Some(plan_of(self.verified.program(), &self.objects.places, view.top))
+    }
+
+    /// What these registers of a frame hold now.
+    fn settings(&self, frame: &Frame, registers: &[RegisterId]) -> Result<Settings, OutOfMemory> {
+        self.objects
+            .settings(self.verified.program(), frame, registers)
+    }
+
+    /// The phis of the block in which a frame stands.
+    fn entered(&self, frame: &Frame) -> Result<Settings, OutOfMemory> {
+        let phis = phis_at(self.alloc, self.verified.program(), frame)?;
+        self.settings(frame, phis.as_slice())
+    }
+
+    /// What a step set in the frame that did it, which lives on as the top of this task.
+    fn own(&self, plan: &Plan, task: Option<TaskView<'_>>) -> Result<Settings, OutOfMemory> {
+        match (task, plan.register) {
+            (Some(view), _) if plan.is_ending => self.entered(view.top),
+            (Some(view), Some(register)) => self.settings(view.top, &[register]),
+            _ => Ok(Settings::none(self.alloc)),
+        }
+    }
+
+    /// What a step set in the frame to which the worker came by it.
+    fn other(
+        &self,
+        plan: &Plan,
+        now: TaskView<'_>,
+        outcome: &Outcome,
+    ) -> Result<Settings, OutOfMemory> {
+        let program = self.verified.program();
+        let registers = match outcome {
+            Outcome::Begins(_) => phis_at(self.alloc, program, now.top)?,
+            // A task that was stalled goes on behind its sync, any other one where the child was detached.
+            Outcome::TakesOn(_) if plan.continuation != Some(now.top.place.block) => {
+                phis_at(self.alloc, program, now.top)?
+            }
+            Outcome::Calls(_) => parameters_at(self.alloc, program, now.top)?,
+            Outcome::ReturnsTo(_) => result_at(self.alloc, program, now.top)?,
+            _ => Vec::new(self.alloc),
+        };
+        self.settings(now.top, registers.as_slice())
+    }
+
+    /// What a step wrote.
+    fn written(&self, plan: &Plan) -> Result<Written, OutOfMemory> {
+        let Some(target) = plan.target else {
+            return Ok(Written::Nothing);
+        };
+        let Some(cell) = self.objects.cell_at(target.address)? else {
+            return Ok(Written::Nothing);
+        };
+        match target.zeros {
+            Some(cells) => Ok(Written::Zeros { cell, cells }),
+            None => Ok(Written::Cell {
+                cell,
+                number: self.machine.cell_at(target.address).unwrap_or(0),
+            }),
+        }
+    }
+
+    /// What a step of the worker set.
+    fn change(
+        &self,
+        plan: &Plan,
+        worker: u8,
+        place: &Place,
+        outcome: &Outcome,
+    ) -> Result<Change, OutOfMemory> {
+        let now = self.machine.task_of(worker);
+        let own = match outcome {
+            Outcome::GoesOn => self.own(plan, now)?,
+            Outcome::Begins(_) => self.own(plan, self.machine.task(&place.task))?,
+            _ => Settings::none(self.alloc),
+        };
+        let other = match now {
+            Some(now) => self.other(plan, now, outcome)?,
+            None => Settings::none(self.alloc),
+        };
+        Ok(Change {
+            own,
+            other,
+            written: self.written(plan)?,
+        })
+    }
+
+    /// Keeps which frames live that have arrays.
+    fn note_frames(
+        &mut self,
+        worker: u8,
+        place: &Place,
+        outcome: &Outcome,
+    ) -> Result<(), OutOfMemory> {
+        match (outcome, self.machine.task_of(worker)) {
+            (Outcome::Calls(_), Some(view)) => {
+                let program = self.verified.program();
+                self.objects.begin(program, view.top_path, view.top)
+            }
+            (Outcome::ReturnsTo(_), _) => {
+                self.objects.end(&place.frame);
+                Ok(())
+            }
+            _ => Ok(()),
+        }
+    }
+
+    /// A step of a worker with a task.
+    fn step_from(
+        &mut self,
+        event: &Event,
+        worker: u8,
+        place: Place,
+        plan: Plan,
+    ) -> Result<Moment, OutOfMemory> {
+        if !self.machine.apply(event)? {
+            return Ok(missed(Some(place), Hindrance::Ended));
+        }
+        let outcome = after_step(self.alloc, &self.machine, worker, &place)?;
+        let change = if self.is_detailed {
+            self.note_frames(worker, &place, &outcome)?;
+            Some(self.change(&plan, worker, &place, &outcome)?)
+        } else {
+            None
+        };
+        Ok(Moment {
+            place: Some(place),
+            act: plan.act,
+            outcome,
+            change,
+        })
+    }
+
+    fn step(&mut self, event: &Event, worker: u8) -> Result<Moment, OutOfMemory> {
+        let place = place_if(self.alloc, self.machine.task_of(worker))?;
+        if let Some(hindrance) = worker_hindrance(&self.machine, self.workers, worker) {
+            return Ok(missed(place, hindrance));
+        }
+        match (place, self.plan(worker)) {
+            (Some(place), Some(plan)) => self.step_from(event, worker, place, plan),
+            (place, _) => Ok(missed(place, Hindrance::Idle)),
+        }
+    }
+
+    fn steal(&mut self, event: &Event, worker: u8, task: &Path) -> Result<Moment, OutOfMemory> {
+        let place = place_if(self.alloc, self.machine.task(task))?;
+        let hindrance = steal_hindrance(&self.machine, self.workers, worker, task);
+        if self.machine.apply(event)? {
+            Ok(Moment {
+                place,
+                act: Act::Plain,
+                outcome: Outcome::GoesOn,
+                change: None,
+            })
+        } else {
+            Ok(missed(place, hindrance))
+        }
+    }
+
+    /// The next event, done and seen. Where memory is refused the event may be done.
+    pub fn next(&mut self, event: &Event) -> Result<Moment, OutOfMemory> {
+        match event {
+            Event::Step(worker) => self.step(event, *worker),
+            Event::Steal(worker, task) => self.steal(event, *worker, task),
+        }
     }
 }

@@ -1,0 +1,194 @@
+//! What the verifier knows of each block, from the lines that `show` prints.
+
+use crate::list::{push_member, push_separator, push_text};
+use lists::OutOfMemory;
+use std::alloc::{AllocError, Global};
+
+/// What stands around the line of a function or a block.
+#[derive(Clone, Copy, PartialEq, Eq)]
+enum Inside {
+    Module,
+    Function,
+    Block,
+}
+
+/// The lines that are read, and what is written of them.
+#[derive(Drop)]
+struct Reading {
+    alloc: Global,
+    out: String,
+    inside: Inside,
+    lists: Lists,
+}
+
+/// The lines of a block that may come more than once, each as the members of a list.
+#[derive(Drop)]
+struct Lists {
+    opened: String,
+    pending: String,
+    foot: String,
+    knows: String,
+}
+
+/// Closes a list, and opens it for the next block.
+fn close_list(out: &mut String, key: &str, list: &mut String) -> Result<(), AllocError> {
+    write!(out, ",\"{key}\":{list}]")?;
+    list.clear();
+    list.push_str("[")
+}
+
+impl Reading {
+    /// Closes the block, with its lists.
+    fn close_block(&mut self) -> Result<(), AllocError> {
+        close_list(&mut self.out, "open", &mut self.lists.opened)?;
+        close_list(&mut self.out, "pending", &mut self.lists.pending)?;
+        close_list(&mut self.out, "foot", &mut self.lists.foot)?;
+        close_list(&mut self.out, "knows", &mut self.lists.knows)?;
+        self.out.push_str("}")
+    }
+
+    /// Closes what is open, down to the module.
+    fn close(&mut self) -> Result<(), AllocError> {
+        if self.inside == Inside::Block {
+            self.close_block()?;
+        }
+        if self.inside != Inside::Module {
+            self.out.push_str("]}")?;
+        }
+        self.inside = Inside::Module;
+        Ok(())
+    }
+
+    /// `function @f line 3`
+    fn function(&mut self, rest: &str) -> Result<(), AllocError> {
+        self.close()?;
+        let (name, line) = rest.split_once(" line ").unwrap_or((rest, "0"));
+        push_separator(&mut self.out)?;
+        self.inside = Inside::Function;
+        write!(
+            self.out,
+            "{{\"name\":\"{name}\",\"line\":{line},\"blocks\":["
+        )
+    }
+
+    /// `block %b line 3`
+    fn block(&mut self, rest: &str) -> Result<(), AllocError> {
+        if self.inside == Inside::Block {
+            self.close_block()?;
+        }
+        let (label, line) = rest.split_once(" line ").unwrap_or((rest, "0"));
+        push_separator(&mut self.out)?;
+        self.inside = Inside::Block;
+        write!(self.out, "{{\"label\":\"{label}\",\"line\":{line}")
+    }
+
+    /// A line of a block.
+    fn member(&mut self, word: &str, rest: &str) -> Result<(), AllocError> {
+        match word {
+            "open" => push_text(self.alloc, &mut self.lists.opened, rest),
+            "pending" => push_text(self.alloc, &mut self.lists.pending, rest),
+            "foot" => push_text(self.alloc, &mut self.lists.foot, rest),
+            "knows" => push_text(self.alloc, &mut self.lists.knows, rest),
+            _ => push_member(self.alloc, &mut self.out, word, rest),
+        }
+    }
+
+    /// A line behind those of the module, which begins with this word.
+    fn worded(&mut self, word: &str, rest: &str) -> Result<(), AllocError> {
+        match word {
+            "function" => self.function(rest),
+            "block" => self.block(rest),
+            "budget" | "depth" | "cells" | "global" | "argument" => Ok(()),
+            _ => self.member(word, rest),
+        }
+    }
+
+    /// All functions.
+    fn functions(&mut self, shown: &str) -> Result<(), AllocError> {
+        self.out.push_str(",\"functions\":[")?;
+        for line in shown.lines() {
+            let line = line.trim();
+            match line.split_once(" ") {
+                Some((word, rest)) => self.worded(word, rest)?,
+                None => self.worded(line, "")?,
+            }
+        }
+        self.close()?;
+        self.out.push_str("]")
+    }
+
+    /// `budget 14`, `depth 2`, `cells of frames 0 for each worker`
+    fn totals(&mut self, shown: &str) -> Result<(), AllocError> {
+        for line in shown.lines() {
+            if let Some(budget) = line.strip_prefix("budget ") {
+                write!(self.out, ",\"budget\":{budget}")?;
+            }
+            if let Some(depth) = line.strip_prefix("depth ") {
+                write!(self.out, ",\"depth\":{depth}")?;
+            }
+            if let Some(rest) = line.strip_prefix("cells of frames ") {
+                if let Some((cells, _)) = rest.split_once(" ") {
+                    write!(self.out, ",\"cells\":{cells}")?;
+                }
+            }
+        }
+        Ok(())
+    }
+
+    /// `global @a cells 2`
+    fn globals(&mut self, shown: &str) -> Result<(), AllocError> {
+        self.out.push_str(",\"globals\":[")?;
+        for line in shown.lines() {
+            if let Some(rest) = line.strip_prefix("global ") {
+                if let Some((name, cells)) = rest.split_once(" cells ") {
+                    push_separator(&mut self.out)?;
+                    write!(self.out, "{{\"name\":\"{name}\",\"cells\":{cells}}}")?;
+                }
+            }
+        }
+        self.out.push_str("]")
+    }
+
+    /// `argument %n from 0 to 100`: the ends are texts, since they may be past what readers of JSON keep.
+    fn arguments(&mut self, shown: &str) -> Result<(), AllocError> {
+        self.out.push_str(",\"arguments\":[")?;
+        for line in shown.lines() {
+            if let Some(rest) = line.strip_prefix("argument ") {
+                if let Some((name, range)) = rest.split_once(" from ") {
+                    let (from, to) = range.split_once(" to ").unwrap_or((range, ""));
+                    push_separator(&mut self.out)?;
+                    write!(
+                        self.out,
+                        "{{\"name\":\"{name}\",\"from\":\"{from}\",\"to\":\"{to}\"}}"
+                    )?;
+                }
+            }
+        }
+        self.out.push_str("]")
+    }
+}
+
+/// What `show` says of a module, from the lines that it prints.
+///
+/// # Errors
+///
+/// Memory was refused.
+pub fn known_json(alloc: Global, shown: &str) -> Result<String, OutOfMemory> {
+    let mut reading = Reading {
+        alloc,
+        out: String::from_str(alloc, "{\"verdict\":\"accepted\"")?,
+        inside: Inside::Module,
+        lists: Lists {
+            opened: String::from_str(alloc, "[")?,
+            pending: String::from_str(alloc, "[")?,
+            foot: String::from_str(alloc, "[")?,
+            knows: String::from_str(alloc, "[")?,
+        },
+    };
+    reading.totals(shown)?;
+    reading.globals(shown)?;
+    reading.arguments(shown)?;
+    reading.functions(shown)?;
+    reading.out.push_str("}\n")?;
+    Ok(reading.out)
+}

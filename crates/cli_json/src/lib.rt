@@ -1,0 +1,15 @@
+//! Answers about a module as JSON, for editors and services: an object a line, as `docs/FORMATS.md` tells.
+//!
+//! What a verdict or an explanation says is what the words of `verify`, `explain` and `show` say; here it has names.
+#![tactic(auto)]
+
+mod explanation;
+mod fault;
+mod known;
+mod list;
+mod verdict;
+
+pub use explanation::explanation_json;
+pub use fault::refusal_json;
+pub use known::known_json;
+pub use verdict::{UNDECIDED, accepted_json};

@@ -1,0 +1,11 @@
+//! What is told of a run by a list of events, beside its answer: lines of a trace, lines of JSON, a picture, a page and figures.
+//!
+//! [`tell`] runs the module once more, event by event, and hands each event to all that is wanted.
+#![tactic(auto)]
+
+mod figures;
+mod teller;
+mod telling;
+
+pub use figures::{Crew, Effort};
+pub use telling::{Subject, Told, Wanted, Words, tell};

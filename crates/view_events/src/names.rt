@@ -1,0 +1,145 @@
+//! The names of a module's text.
+
+use explain_scenes::Scene;
+use lists::OutOfMemory;
+use program::{Program, RegisterId};
+use std::alloc::Global;
+use std::fmt;
+use syntax::Module;
+use view_moments::{CellPlace, TaskName, Thing, Value};
+
+/// The functions of a program, each beside its text.
+#[derive(Drop)]
+pub struct Names<'a> {
+    program: &'a Program,
+    scenes: Vec<Scene<'a>>,
+}
+
+impl<'a> Names<'a> {
+    /// The names of a module that means this program.
+    pub fn of(
+        alloc: Global,
+        program: &'a Program,
+        module: &'a Module,
+    ) -> Result<Names<'a>, OutOfMemory> {
+        let mut scenes = Vec::new(alloc);
+        for index in 0..program.functions.len() {
+            if let Some(scene) = Scene::of(alloc, program, module, index)? {
+                scenes.push(scene)?;
+            }
+        }
+        Ok(Names { program, scenes })
+    }
+
+    pub fn program(&self) -> &'a Program {
+        self.program
+    }
+
+    /// The name of a function's register, without its sigil.
+    pub fn register(&self, function: usize, register: usize) -> &str {
+        match self.scenes.as_slice().get(function) {
+            Some(scene) => scene.register(RegisterId(register)),
+            None => "?",
+        }
+    }
+
+    /// The name of a function, without its sigil.
+    pub fn function(&self, function: usize) -> &str {
+        match self.program.functions.as_slice().get(function) {
+            Some(function) => function.name.as_str(),
+            None => "?",
+        }
+    }
+
+    /// The name of a global, without its sigil.
+    pub fn global(&self, global: usize) -> &str {
+        match self.program.globals.as_slice().get(global) {
+            Some(global) => global.name.as_str(),
+            None => "?",
+        }
+    }
+
+    /// The name of a function's alloca, without its sigil.
+    pub fn alloca(&self, function: usize, number: usize) -> &str {
+        let found = match self.program.functions.as_slice().get(function) {
+            Some(function) => function.allocas.as_slice().get(number),
+            None => None,
+        };
+        match found {
+            Some(alloca) => self.register(function, alloca.register.0),
+            None => "?",
+        }
+    }
+}
+
+/// An object: `@a`, or `root.0%b` of the frame `root.0`.
+#[derive(Clone, Copy)]
+pub struct ThingName<'a> {
+    pub names: &'a Names<'a>,
+    pub thing: &'a Thing,
+}
+
+impl fmt::Display for ThingName<'_> {
+    fn fmt<W: fmt::Write>(&self, f: &mut fmt::Formatter<W>) -> fmt::Result {
+        match self.thing {
+            Thing::Global(number) => {
+                let name = self.names.global(*number);
+                write!(f, "@{name}")
+            }
+            Thing::Alloca {
+                owner,
+                function,
+                number,
+            } => {
+                let owner = TaskName(owner);
+                let name = self.names.alloca(*function, *number);
+                write!(f, "{owner}%{name}")
+            }
+        }
+    }
+}
+
+/// A number as JSON: past 2^53, where readers of JSON may round it, as a text.
+#[derive(Clone, Copy)]
+pub struct NumberName(pub i64);
+
+impl fmt::Display for NumberName {
+    fn fmt<W: fmt::Write>(&self, f: &mut fmt::Formatter<W>) -> fmt::Result {
+        let number = self.0;
+        if number.unsigned_abs() < 1 << 53 {
+            write!(f, "{number}")
+        } else {
+            write!(f, "\"{number}\"")
+        }
+    }
+}
+
+/// What a register holds, as JSON: a number, `true` or `false`, or the text of a cell's name, as `"@a:1"`.
+#[derive(Clone, Copy)]
+pub struct ValueName<'a> {
+    pub names: &'a Names<'a>,
+    pub value: &'a Value,
+}
+
+fn write_cell<'a, W: fmt::Write>(
+    f: &mut fmt::Formatter<W>,
+    names: &'a Names<'a>,
+    cell: &'a CellPlace,
+) -> fmt::Result {
+    let thing = ThingName {
+        names,
+        thing: &cell.thing,
+    };
+    let index = cell.index;
+    write!(f, "\"{thing}:{index}\"")
+}
+
+impl fmt::Display for ValueName<'_> {
+    fn fmt<W: fmt::Write>(&self, f: &mut fmt::Formatter<W>) -> fmt::Result {
+        match self.value {
+            Value::Number(number) => write!(f, "{}", NumberName(*number)),
+            Value::Truth(truth) => write!(f, "{truth}"),
+            Value::Pointer(cell) => write_cell(f, self.names, cell),
+        }
+    }
+}
