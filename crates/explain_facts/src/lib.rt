@@ -5,5 +5,5 @@ mod gap;
 mod known;
 
 pub use explain_scenes::{Matched, Scene, match_text, push_form, push_inequality};
-pub use gap::{edge_known, first_facts, is_against, spend};
+pub use gap::{edge_known, first_facts, is_against, raised, spend};
 pub use known::{Known, fact_lines, start_lines};

@@ -3,7 +3,7 @@
 use crate::unmet::{Site, Unmet, all_unmet};
 use explain_facts::{
     Known, Matched, Scene, edge_known, fact_lines, first_facts, is_against, match_text,
-    push_inequality, spend,
+    push_inequality, raised, spend,
 };
 use explain_findings::{Finding, Source, line_at, push_finding, with_line_before};
 use linear::{Form, FormFault, RegisterId};
@@ -183,7 +183,15 @@ fn push_mending(
     }
 }
 
-/// A line at the block's start that says a form, unless the form is known to be below 0.
+/// Whether a form is known to be at most 0, so that a line that says it leaves one number at most.
+fn leaves_one(alloc: Global, known: Known<'_>, form: &Form) -> Result<bool, Unanswered> {
+    match raised(alloc, form, -1)? {
+        Some(less) => is_against(alloc, known.facts, &less, known.effort),
+        None => Ok(false),
+    }
+}
+
+/// A line at the block's start that says a form, unless that would leave no number but one.
 fn push_if_possible(
     alloc: Global,
     source: Source<'_>,
@@ -193,7 +201,7 @@ fn push_if_possible(
     old: &[Unmet],
     notes: &mut String,
 ) -> Result<(), Unanswered> {
-    if is_against(alloc, known.facts, form, known.effort)? {
+    if leaves_one(alloc, known, form)? {
         Ok(())
     } else {
         push_start_line(alloc, source, known, block, form, old, notes)

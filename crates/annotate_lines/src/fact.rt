@@ -44,7 +44,7 @@ impl<'a> Facts<'a> {
     }
 
     /// States that a sum is at least 0.
-    fn add(&mut self, sum: Sum<'a>) -> Result<(), AllocError> {
+    pub fn add(&mut self, sum: Sum<'a>) -> Result<(), AllocError> {
         if let Some(number) = self.find(&sum) {
             self.stated.push(number)?;
             return Ok(());
@@ -185,7 +185,6 @@ fn order_of(predicate: Predicate, holds: bool, is_turned: bool) -> Option<bool> 
         Predicate::SignedGreater if holds == is_turned => Some(holds),
         Predicate::SignedAtLeast if holds == is_turned => Some(!holds),
         Predicate::Equal if holds => Some(false),
-        Predicate::NotEqual if !holds => Some(false),
         _ => None,
     }
 }

@@ -97,7 +97,7 @@ fn greatest_by<'a>(
 }
 
 /// The greatest number that a sum may come to, from 0 to that of a budget; none where there is none.
-fn greatest<'a>(facts: &[Sum<'a>], sum: &Sum<'a>) -> Result<Option<u64>, AllocError> {
+pub fn greatest<'a>(facts: &[Sum<'a>], sum: &Sum<'a>) -> Result<Option<u64>, AllocError> {
     let mut most = greatest_apart(facts, sum);
     for fact in facts {
         most = bound_among(most, greatest_by(facts, sum, fact)?, true);
