@@ -131,6 +131,7 @@ fn with_all(
 ) -> Result<String, Unanswered> {
     let text = String::from_str(alloc, text)?;
     let text = with_kind(alloc, state, text, Kind::Facts, effort)?;
+    let text = with_kind(alloc, state, text, Kind::Steps, effort)?;
     let text = with_kind(alloc, state, text, Kind::Zones, effort)?;
     with_kind(alloc, state, text, Kind::Costs, effort)
 }

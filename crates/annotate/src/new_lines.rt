@@ -31,6 +31,19 @@ impl NewLines {
         number >= 1 && number <= self.marks.len() && self.marks[number - 1]
     }
 
+    /// The line, without those that were put in, that this one is or stands behind; counted from 1.
+    pub fn own_line(&self, line: u32) -> u32 {
+        let mut own = 0u32;
+        let mut number = 0u32;
+        for mark in &self.marks {
+            number = number.saturating_add(1);
+            if number <= line && !*mark {
+                own = own.saturating_add(1);
+            }
+        }
+        own
+    }
+
     /// How many were put in.
     pub fn count(&self) -> usize {
         let mut count = 0usize;

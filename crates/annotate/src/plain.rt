@@ -34,13 +34,22 @@ fn said_of(alloc: Global, block: &Block) -> Result<Vec<Said>, Unanswered> {
     Ok(said)
 }
 
+fn is_number(form: &Form) -> bool {
+    for term in form.terms.as_slice() {
+        if term.coefficient != 0 {
+            return false;
+        }
+    }
+    true
+}
+
 /// Whether one line says no more than the other, and less or stands behind it.
 fn is_plain_by(alloc: Global, one: &Said, other: &Said) -> bool {
     if one.line == other.line {
         return false;
     }
     match one.form.difference(alloc, &other.form) {
-        Ok(apart) if apart.terms.is_empty() => {
+        Ok(apart) if is_number(&apart) => {
             apart.constant > 0 || apart.constant == 0 && one.line > other.line
         }
         _ => false,

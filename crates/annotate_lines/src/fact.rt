@@ -190,7 +190,7 @@ fn order_of(predicate: Predicate, holds: bool, is_turned: bool) -> Option<bool> 
 }
 
 /// Whether an instruction makes its sum or product as it is, without a remainder by the width.
-fn is_exact(instruction: &Instruction) -> bool {
+pub fn is_exact(instruction: &Instruction) -> bool {
     match instruction {
         Instruction::Binary { operator, .. } => matches!(
             operator,

@@ -1,7 +1,7 @@
 //! What a block needs, from its own instructions and from what is left behind it.
 
-use crate::edge::{Edge, Way, block_at, phi_value, register_of};
 use crate::budget::greatest;
+use crate::edge::{Edge, Way, block_at, phi_value, register_of};
 use crate::keep::{Known, MOST_BLOCKS};
 use crate::ring::{Ring, names_inner, ring_of};
 use crate::sum::Sum;
@@ -221,11 +221,7 @@ impl<'a> Finder<'_, 'a> {
     }
 
     /// Joins what is needed behind all edges out of a loop to nothing. Whether it is known, and whether all of them begin at the head.
-    fn join_exits(
-        &self,
-        ring: &Ring<'a>,
-        all: &mut Need<'a>,
-    ) -> Result<(bool, bool), AllocError> {
+    fn join_exits(&self, ring: &Ring<'a>, all: &mut Need<'a>) -> Result<(bool, bool), AllocError> {
         let mut is_first = true;
         let mut is_tested_first = true;
         for edge in &self.known.edges {
@@ -393,10 +389,7 @@ fn count_round<'a>(
 }
 
 /// The loops whose rounds are counted, the inner ones first.
-fn rings_of<'a>(
-    known: &Known<'a>,
-    costs: &[(&'a str, u128)],
-) -> Result<Vec<Ring<'a>>, AllocError> {
+fn rings_of<'a>(known: &Known<'a>, costs: &[(&'a str, u128)]) -> Result<Vec<Ring<'a>>, AllocError> {
     let mut rings = Vec::new(known.alloc);
     let count = known.function.blocks.len();
     if count > MOST_BLOCKS {

@@ -15,6 +15,7 @@ mod left;
 mod pending;
 mod proposal;
 mod ring;
+mod step;
 mod sum;
 
 pub use proposal::{Kind, proposed};

@@ -5,6 +5,7 @@ use crate::hull::hulls_of;
 use crate::keep::{Known, known_of};
 use crate::left::{Need, needs_of};
 use crate::pending::{Handed, waiting_of};
+use crate::step::Walk;
 use crate::sum::Sum;
 use ir_annotation::push_zone;
 use ir_reader::read;
@@ -21,6 +22,8 @@ const MOST_LINES: usize = 32;
 pub enum Kind {
     /// `keeps`, those too that may be so of counters and are to be tried.
     Facts,
+    /// `shows`
+    Steps,
     /// `pending`
     Zones,
     /// `left` and `budget`
@@ -114,6 +117,24 @@ fn push_requirements<'a>(
     Ok(())
 }
 
+/// The last of a block's `keeps` lines, or its label.
+fn end_of_keeps(block: &Block) -> u32 {
+    let mut line = block.line;
+    for inequality in block.notes.keeps.as_slice() {
+        line = line.max(inequality.line);
+    }
+    line
+}
+
+/// The last of a block's `keeps` and `pending` lines, or its label.
+fn end_of_pending(block: &Block) -> u32 {
+    let mut line = end_of_keeps(block);
+    for pending in block.notes.pending.as_slice() {
+        line = line.max(pending.zone.line);
+    }
+    line
+}
+
 impl<'a> Draft<'a> {
     fn propose(&mut self, behind: u32, lines: String) -> Result<(), AllocError> {
         if !lines.is_empty() {
@@ -174,6 +195,28 @@ impl<'a> Draft<'a> {
         Ok(())
     }
 
+    /// Proposes the bounds of products behind the steps of a block.
+    fn add_steps_of(&mut self, block: &'a Block, facts: Vec<Sum<'a>>) -> Result<(), AllocError> {
+        let mut walk = Walk::new(self.alloc, facts);
+        for step in block.steps.as_slice() {
+            let mut lines = String::new(self.alloc);
+            walk.pass(step, &mut lines)?;
+            self.propose(step.line, lines)?;
+        }
+        Ok(())
+    }
+
+    /// Proposes the bounds of products behind the steps of all blocks.
+    fn add_steps(&mut self, function: &'a Function) -> Result<(), AllocError> {
+        let known = known_of(self.alloc, function, false)?;
+        let blocks = function.blocks.as_slice();
+        for index in 0..blocks.len() {
+            let facts = known.facts_at(index)?;
+            self.add_steps_of(&blocks[index], facts)?;
+        }
+        Ok(())
+    }
+
     /// Proposes what is handed on to the heads of the blocks.
     fn add_zones(&mut self, function: &'a Function) -> Result<(), AllocError> {
         let hulls = hulls_of(self.alloc, function)?;
@@ -184,23 +227,30 @@ impl<'a> Draft<'a> {
                 let mut lines = String::new(self.alloc);
                 let handed = waiting.handed[index].as_slice();
                 push_pending(&mut lines, handed, &blocks[index])?;
-                self.propose(blocks[index].line, lines)?;
+                self.propose(end_of_keeps(&blocks[index]), lines)?;
             }
         }
         Ok(())
     }
 
+    /// Proposes that the budget is left at the head of the entry.
+    fn propose_whole(&mut self, entry: &Block, total: Total) -> Result<(), AllocError> {
+        let mut lines = String::new(self.alloc);
+        if entry.notes.left.line == entry.line {
+            let calls = total.self_calls;
+            let instructions = total.instructions;
+            write!(lines, "  ;! left {calls} {instructions}\n")?;
+        }
+        self.propose(end_of_pending(entry), lines)
+    }
+
     /// Proposes what is left at the head of a block, if it is known.
-    fn propose_left(
-        &mut self,
-        block: &Block,
-        need: &Option<Need<'a>>,
-    ) -> Result<(), AllocError> {
+    fn propose_left(&mut self, block: &Block, need: &Option<Need<'a>>) -> Result<(), AllocError> {
         let mut lines = String::new(self.alloc);
         if let Some(need) = need {
             push_left(&mut lines, block, need)?;
         }
-        self.propose(block.line, lines)
+        self.propose(end_of_pending(block), lines)
     }
 
     /// Proposes what is left at the heads of the blocks, and the budget.
@@ -212,9 +262,11 @@ impl<'a> Draft<'a> {
         }
         let blocks = function.blocks.as_slice();
         for index in 0..blocks.len() {
-            if index < needs.len() {
-                let block = &blocks[index];
-                self.propose_left(block, &needs[index])?;
+            let block = &blocks[index];
+            match given(function) {
+                Some(total) if index == 0 => self.propose_whole(block, total)?,
+                _ if index < needs.len() => self.propose_left(block, &needs[index])?,
+                _ => {}
             }
         }
         Ok(())
@@ -224,6 +276,7 @@ impl<'a> Draft<'a> {
         for function in functions {
             match self.kind {
                 Kind::Facts => self.add_facts(function)?,
+                Kind::Steps => self.add_steps(function)?,
                 Kind::Zones => self.add_zones(function)?,
                 Kind::Costs => self.add_costs(function)?,
             }

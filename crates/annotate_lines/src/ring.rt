@@ -95,11 +95,7 @@ fn fall_along<'a>(
 }
 
 /// By how much a sum at the head of a loop falls each time round: the same number on each edge that leads back, 1 or more.
-fn fall_of<'a>(
-    known: &Known<'a>,
-    head: usize,
-    rank: &Sum<'a>,
-) -> Result<Option<i128>, AllocError> {
+fn fall_of<'a>(known: &Known<'a>, head: usize, rank: &Sum<'a>) -> Result<Option<i128>, AllocError> {
     let mut found = None;
     for edge in &known.edges {
         if edge.to == head && edge.from >= head {
@@ -131,11 +127,7 @@ fn fall_by<'a>(
 }
 
 /// What is at least 0 at the head, if this is so on an edge that leads back to it: each phi in place of what it takes there.
-fn at_head<'a>(
-    known: &Known<'a>,
-    edge: Edge<'a>,
-    fact: &Sum<'a>,
-) -> Result<Sum<'a>, AllocError> {
+fn at_head<'a>(known: &Known<'a>, edge: Edge<'a>, fact: &Sum<'a>) -> Result<Sum<'a>, AllocError> {
     let mut rank = fact.copy()?;
     let (Some(head), Some(from)) = (
         block_at(known.function, edge.to),

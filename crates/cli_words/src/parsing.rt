@@ -264,6 +264,13 @@ const EFFORT: Part = Part {
     help: "gives up after N steps of search, in place of 1000000000",
 };
 
+const ANNOTATE: Part = Part {
+    name: "annotate",
+    value: "",
+    given: Given::Flag,
+    help: "puts in lines that follow from others first, as the command of this name does",
+};
+
 const ARG: Part = Part {
     name: "arg",
     value: "V",
@@ -337,15 +344,17 @@ const SHELL: Part = Part {
 /// The words and options of the commands, as their help lists them; a command that only reads a module takes its file alone.
 static MODULE_PARTS: [Part; 1] = [FILE];
 
-static VERIFY_PARTS: [Part; 3] = [FILE, TABLE, EFFORT];
+static VERIFY_PARTS: [Part; 4] = [FILE, TABLE, ANNOTATE, EFFORT];
 
 static EXPLAIN_PARTS: [Part; 2] = [FILE_OR_NUMBER, EFFORT];
 
 static KNOWN_PARTS: [Part; 2] = [FILE, EFFORT];
 
-static SERIAL_PARTS: [Part; 5] = [FILE, ARG, SET, SHOW, EFFORT];
+static SERIAL_PARTS: [Part; 6] = [FILE, ARG, SET, SHOW, ANNOTATE, EFFORT];
 
-static RUN_PARTS: [Part; 8] = [FILE, ARG, SET, SHOW, WORKERS, SEED, SAVE, EFFORT];
+static RUN_PARTS: [Part; 9] = [
+    FILE, ARG, SET, SHOW, WORKERS, SEED, SAVE, ANNOTATE, EFFORT,
+];
 
 static REPLAY_PARTS: [Part; 9] = [
     FILE, ARG, SET, SHOW, SCHEDULE, WORKERS, TRACE, PICTURE, EFFORT,
@@ -577,6 +586,7 @@ fn read_verify(
     ensures { request.new.verb ≡ request.old.verb }
 {
     request.table = table_of(alloc, matches)?;
+    request.annotates = matches.get_flag("annotate");
     read_effort(alloc, matches, request)
 }
 
@@ -604,6 +614,18 @@ fn written_file(
     }
 }
 
+/// Reads the options of the serial run.
+fn read_serial(
+    alloc: Global,
+    matches: &ArgMatches<'_>,
+    request: &mut Request,
+) -> Result<(), WordsFault>
+    ensures { request.new.verb ≡ request.old.verb }
+{
+    request.annotates = matches.get_flag("annotate");
+    read_running(alloc, matches, request)
+}
+
 /// Reads the options of a run on workers.
 fn read_run(
     alloc: Global,
@@ -613,6 +635,7 @@ fn read_run(
     ensures { request.new.verb ≡ request.old.verb }
 {
     read_running(alloc, matches, request)?;
+    request.annotates = matches.get_flag("annotate");
     request.telling.seed = number_of(alloc, matches, "seed", "--seed <S>")?;
     request.telling.file = written_file(alloc, matches, "save")?;
     Ok(())
@@ -659,7 +682,7 @@ fn read_options(
         Verb::Run => read_run(alloc, matches, request)?,
         Verb::Replay => read_replay(alloc, matches, request)?,
         Verb::Debug => read_scheduled(alloc, matches, request)?,
-        Verb::Serial => read_running(alloc, matches, request)?,
+        Verb::Serial => read_serial(alloc, matches, request)?,
         Verb::Completions => request.shell = Some(shell_of(alloc, request.file.as_str())?),
         Verb::Show => read_effort(alloc, matches, request)?,
         Verb::Print | Verb::Annotate | Verb::Man => {}
