@@ -197,13 +197,13 @@ impl<'a> Known<'a> {
         one: &Sum<'a>,
         other: &Sum<'a>,
     ) -> Result<Sum<'a>, AllocError> {
-        let first = self.lack_of(block, one, other)?;
         let second = self.lack_of(block, other, one)?;
-        match (first, second) {
-            (Some(first), Some(second)) if first <= second => raised(one, first),
-            (_, Some(second)) => raised(other, second),
-            (Some(first), None) => raised(one, first),
-            (None, None) => one.with(other, 1),
+        match self.lack_of(block, one, other)? {
+            Some(first) => raised_less(one, first, other, second),
+            None => match second {
+                Some(second) => raised(other, second),
+                None => one.with(other, 1),
+            },
         }
     }
 
@@ -318,6 +318,19 @@ fn lack_by<'a>(sum: &Sum<'a>, fact: &Sum<'a>) -> Option<i128> {
     match sum.number_with(fact, 0i128.saturating_sub(times)) {
         Some(number) => Some(number.saturating_neg().max(0)),
         None => None,
+    }
+}
+
+/// One sum and what it lacks, or the other, whichever lacks less.
+fn raised_less<'a>(
+    one: &Sum<'a>,
+    first: i128,
+    other: &Sum<'a>,
+    second: Option<i128>,
+) -> Result<Sum<'a>, AllocError> {
+    match second {
+        Some(second) if second < first => raised(other, second),
+        _ => raised(one, first),
     }
 }
 

@@ -1,5 +1,6 @@
 //! Loops that a counter leads round: what falls each time, and what a round needs.
 
+use crate::budget::greatest_apart;
 use crate::edge::{Edge, block_at, definition_in, phi_value};
 use crate::keep::{Known, names_own};
 use crate::left::definition_of;
@@ -77,13 +78,13 @@ fn add_next<'a>(
     fall.add_operand(value, times)
 }
 
-/// By how much a sum at the head falls along an edge that leads back from this block; none where that is no number.
+/// By how much a sum at the head falls along an edge that leads back from this block.
 fn fall_along<'a>(
     known: &Known<'a>,
     head: &'a Block,
     from: &'a Block,
     rank: &Sum<'a>,
-) -> Result<Option<i128>, AllocError> {
+) -> Result<Sum<'a>, AllocError> {
     let mut fall = Sum::number(known.alloc, 0);
     for (name, coefficient) in &rank.terms {
         if let Some(value) = phi_value(head.phis.as_slice(), name, &from.label) {
@@ -91,10 +92,25 @@ fn fall_along<'a>(
             add_next(known, &mut fall, value, 0i128.saturating_sub(*coefficient))?;
         }
     }
-    Ok(fall.as_number())
+    Ok(fall)
 }
 
-/// By how much a sum at the head of a loop falls each time round: the same number on each edge that leads back, 1 or more.
+/// The least number that a sum may come to at a block, by the bounds of its registers.
+fn least_of<'a>(
+    known: &Known<'a>,
+    block: usize,
+    sum: &Sum<'a>,
+) -> Result<Option<i128>, AllocError> {
+    let mut opposite = Sum::number(known.alloc, 0);
+    opposite.add(sum, -1)?;
+    let facts = known.facts_at(block)?;
+    Ok(match greatest_apart(facts.as_slice(), &opposite) {
+        Some(most) => Some(0i128.saturating_sub(most)),
+        None => None,
+    })
+}
+
+/// By how much a sum at the head of a loop falls each time round at least: the same number on each edge that leads back, 1 or more.
 fn fall_of<'a>(known: &Known<'a>, head: usize, rank: &Sum<'a>) -> Result<Option<i128>, AllocError> {
     let mut found = None;
     for edge in &known.edges {
@@ -120,7 +136,8 @@ fn fall_by<'a>(
     ) else {
         return Ok(None);
     };
-    Ok(match fall_along(known, head, from, rank)? {
+    let fall = fall_along(known, head, from, rank)?;
+    Ok(match least_of(known, edge.to, &fall)? {
         Some(fall) if fall >= 1 => Some(fall),
         _ => None,
     })
