@@ -103,7 +103,7 @@ fn edge_fault(
     Ok(fault_unless(calls, instructions, line, 702))
 }
 
-/// The same of all edges of a block where this is known at its end.
+/// What is left of a block does not cover what it does and what is left behind one of its edges, where this is known at its end.
 fn edges_fault(
     alloc: Global,
     function: &Function,
@@ -250,7 +250,7 @@ fn falling_fault(
     Ok(fault_unless(low, falls, line, 703))
 }
 
-/// The same of a step, where it is a self call.
+/// The measure of a step that is a self call is not shown to be at least 0 and less than the call's own.
 pub fn step_fault(
     alloc: Global,
     function: &Function,

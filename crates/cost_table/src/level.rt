@@ -2,6 +2,8 @@ ghost use Rattle.std.specs.Prelude.{◌≡◌, ◌≤◌, length};
 ghost use Rattle.ranges.specs.region_match.Tasks.{task_at};
 ghost use Rattle.cost_table.specs.Depth.{detaches_around};
 
+use ranges::Task;
+
 /// The task of a block.
 fn task_at(tasks: &[Task], block: usize) -> Task
     ensures { result ≡ task_at tasks.now block }
@@ -27,5 +29,3 @@ pub fn detaches_around(tasks: &[Task], block: usize) -> usize
     }
     level
 }
-
-use ranges::Task;

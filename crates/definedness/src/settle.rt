@@ -149,8 +149,8 @@ fn lower_along(
     narrow(alloc, sets, stops, forks, blocks, edge.to.0, given, work)
 }
 
-/// Does so for the edges of a block. Goes from the last to the first, so that the child of a detach, whose edge is the first, is
-/// gone through before its continuation.
+/// Takes from the labels at the ends of a block's edges what these do not give. Goes from the last to the first, so that the child of a detach,
+/// whose edge is the first, is gone through before its continuation.
 fn lower_edges(
     alloc: Global,
     sets: &mut Sets,
@@ -175,7 +175,7 @@ fn lower_edges(
     Ok(())
 }
 
-/// Does so for a block.
+/// Takes from the labels behind a block what its edges do not give.
 fn lower_block(
     alloc: Global,
     sets: &mut Sets,

@@ -160,7 +160,7 @@ fn is_put_clear(
     }
 }
 
-/// The same of each zone of a callee: it needs no cover, or has one.
+/// Whether each zone of a callee needs no cover, or has one.
 fn are_put_allowed(
     alloc: Global,
     place: &MeasuredPlace<'_>,

@@ -122,7 +122,7 @@ fn covers_by_start(measured: &MeasuredZone<'_>, y: &PlacedZone<'_>, extent: &Ext
     ends_after(&measured.extent, extent)
 }
 
-/// The same: where it ends is compared first.
+/// Whether a zone covers `y` by numbers alone: where it ends is compared first.
 #[inline(always)]
 fn covers_by_end(measured: &MeasuredZone<'_>, y: &PlacedZone<'_>, extent: &Extent) -> bool
     ensures { (facts : List Fact) → IsMeasured facts measured.now → IsExtent facts (span y.now.object y.now.moves.now y.now.zone.now) extent.now
@@ -151,7 +151,7 @@ fn one_covers_by_start(zones: &[MeasuredZone<'_>], y: &PlacedZone<'_>, extent: &
     false
 }
 
-/// The same, of whose ends the last ones are compared first.
+/// Whether one of the zones covers `y` by numbers alone, of whose ends the last ones are compared first.
 #[tactic(auto, using(crate::proofs::Numbers::one_covers))]
 fn one_covers_by_end(zones: &[MeasuredZone<'_>], y: &PlacedZone<'_>, extent: &Extent) -> bool
     ensures { (facts : List Fact) → All (IsMeasured facts) zones.now → IsExtent facts (span y.now.object y.now.moves.now y.now.zone.now) extent.now

@@ -43,7 +43,7 @@ impl Path {
         })
     }
 
-    /// The same path again.
+    /// A copy of the path.
     pub fn copy(&self, alloc: Global) -> Result<Path, OutOfMemory>
         ensures { IfOk result (λ p. p.numbers ≡ self.now.numbers) }
     {

@@ -22,3 +22,4 @@ pub use spelling::{
     push_budget, push_foot, push_form, push_inequality, push_left, push_measure, push_pending,
     push_zone,
 };
+pub use words::{is_numeral, small_value};

@@ -18,7 +18,8 @@ pub fn unexpected(line: u32) -> Refused
     Refused::Fault { number: 103, line }
 }
 
-fn is_numeral(bytes: &[u8]) -> bool
+/// Whether these are the digits of a number without leading zeros.
+pub fn is_numeral(bytes: &[u8]) -> bool
     ensures { result ≡ is_numeral bytes.now }
 {
     match bytes {
@@ -28,7 +29,7 @@ fn is_numeral(bytes: &[u8]) -> bool
 }
 
 /// The value of digits, where it is below 2^64.
-fn small_value(digits: &[u8]) -> Option<u64>
+pub fn small_value(digits: &[u8]) -> Option<u64>
     requires { is_numeral digits.now ≡ true }
     ensures { result ≡ small_value digits.now }
 {

@@ -124,7 +124,7 @@ pub fn kinds_are_tested()
     ensures { KindsAreTested }
 {}
 
-/// The same of widths, by the test.
+/// So the numbers of `i32` that an instruction reads fit, by the test of a frame.
 pub fn widths_are_given_by_tests()
     ensures { WidthsAreGivenByTests }
 {}

@@ -122,7 +122,7 @@ impl Form {
         }
     }
 
-    /// The same form again.
+    /// A copy of the form.
     pub fn copy(&self, alloc: Global) -> Result<Form, AllocError>
         ensures { IfOk result (λ f. f ≡ self.now) }
     {

@@ -64,7 +64,7 @@ impl<'a> Known<'a> {
         shown_by_index(self.facts, self.layers, form)
     }
 
-    /// The same, unless the effort that is granted was spent before.
+    /// Whether the facts show the form, unless the effort that is granted was spent before.
     pub fn ask(&self, form: &Form) -> Result<bool, OutOfEffort>
         ensures { IfOk result (λ b. b ≡ is_shown self.now form.now) }
     {

@@ -41,7 +41,7 @@ fn is_sum_at(search: &Search<'_>, first: usize, a: u32, second: usize, b: u32) -
     agree(e.terms, a, f.terms, b, g.terms)
 }
 
-/// The same of two entries, whose constants are looked at first.
+/// Whether the form is such a sum of two entries, whose constants are looked at first.
 fn is_sum(search: &Search<'_>, first: Entry, a: u32, second: Entry, b: u32) -> bool
     requires first { IsEntry search.now.facts.now first }
     requires second { IsEntry search.now.facts.now second }

@@ -47,7 +47,7 @@ impl Name {
         self.as_bytes() == other.as_bytes()
     }
 
-    /// The same name again.
+    /// A copy of the name.
     pub fn copy(&self) -> Result<Name, AllocError>
         ensures { IfOk result (λ n. n ≡ self.now) }
     {

@@ -297,7 +297,7 @@ fn edge_facts(
     })
 }
 
-/// The same of each edge.
+/// The edges from a block, each with what its target's phis take and what its being taken says.
 pub fn all_edge_facts(
     alloc: Global,
     blocks: &[Block],

@@ -91,7 +91,7 @@ pub fn difference_of(
     })
 }
 
-/// The same of each inequality.
+/// The greater side of each inequality without the lesser, with the moves' operands put in.
 pub fn differences_of(
     alloc: Global,
     moves: &[Move],

@@ -73,7 +73,7 @@ impl<'v> Machine<'v> {
         apply_to(&mut self.stage, event)
     }
 
-    /// The same machine again.
+    /// A copy of the machine.
     ///
     /// # Errors
     ///

@@ -53,7 +53,7 @@ impl FrameData for Activation {
 }
 
 impl Run {
-    /// The same run again.
+    /// A copy of the run.
     ///
     /// # Errors
     ///

@@ -27,7 +27,7 @@ impl Model for GlobalCells {
 }
 
 impl GlobalCells {
-    /// The same global again.
+    /// A copy of the global.
     fn copy(&self) -> Result<GlobalCells, OutOfMemory>
         ensures { IfOk result (λ g. g ≡ self.now) }
     {
@@ -175,7 +175,7 @@ impl Memory {
         }
     }
 
-    /// The same memory again.
+    /// A copy of the memory.
     pub fn copy(&self) -> Result<Memory, OutOfMemory>
         ensures { IfOk result (λ m. m ≡ self.now) }
     {
