@@ -145,21 +145,9 @@ pub fn block_at(function: &Function, number: usize) -> Option<&Block> {
 
 /// The register that an instruction defines.
 pub fn register_of(instruction: &Instruction) -> Option<&str> {
-    match instruction {
-        Instruction::Binary { register, .. }
-        | Instruction::Compare { register, .. }
-        | Instruction::Convert { register, .. }
-        | Instruction::Alloca { register, .. }
-        | Instruction::ElementPointer { register, .. }
-        | Instruction::Load { register, .. }
-        | Instruction::StartRegion { register } => Some(register.as_str()),
-        Instruction::Call { register, .. } => match register {
-            Some(register) => Some(register.as_str()),
-            None => None,
-        },
-        Instruction::Store { .. }
-        | Instruction::StoreZeros { .. }
-        | Instruction::AtomicAdd { .. } => None,
+    match instruction.register() {
+        Some(register) => Some(register.as_str()),
+        None => None,
     }
 }
 

@@ -1,7 +1,7 @@
 //! What is to be stored before the cells of an alloca are read.
 
+use explain_facts::{Matched, Scene, match_text};
 use explain_findings::{Source, with_line_before};
-use explain_scenes::{Matched, Scene, match_text};
 use footprints::address_cell;
 use program::{Address, Alloca, AllocaId, Argument, Block, Instruction, ObjectName, Step};
 use ranges::Unanswered;

@@ -90,7 +90,7 @@ pub fn shortfall(
     least_amount(alloc, &cursor.known(), form)
 }
 
-/// The same of what is known at a place.
+/// The least amount with which the form is shown by what is known.
 fn least_amount(alloc: Global, known: &Known<'_>, form: &Form) -> Result<Option<i128>, Unanswered> {
     let Some(mut least) = amount_enough(alloc, known, form)? else {
         return Ok(None);

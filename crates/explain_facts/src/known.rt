@@ -1,7 +1,8 @@
 //! Notes on what is known at a place, and on what it does not show.
 
 use crate::gap::{facts_used, first_facts, is_shown, raised, shortfall, step_between};
-use explain_scenes::{Scene, push_inequality};
+use crate::scene::Scene;
+use crate::spelling::push_inequality;
 use linear::{Fact, Form};
 use lists::OutOfMemory;
 use program::{Block, Function, Inequality, RegisterId};

@@ -1,9 +1,18 @@
-//! What is known of numbers at a place, and how far that is from showing what is to be shown there.
+//! What is known of numbers at a place, and how far that is from showing what is to be shown there. Functions of a program beside the names of their
+//! text, and how forms are spelled with them. Faults of numbers, each with lines that would mend it.
 #![tactic(auto)]
 
+mod choices;
 mod gap;
 mod known;
+mod scene;
+mod spelling;
+mod trial;
+mod unmet;
 
-pub use explain_scenes::{Matched, Scene, match_text, push_form, push_inequality};
+pub use choices::number_findings;
 pub use gap::{edge_known, first_facts, is_against, spend};
 pub use known::{Known, fact_lines, start_lines};
+pub use scene::Scene;
+pub use spelling::{push_form, push_inequality};
+pub use trial::{Matched, match_text};

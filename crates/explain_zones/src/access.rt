@@ -5,7 +5,7 @@ use explain_facts::{Known, Matched, Scene, fact_lines, spend};
 use explain_findings::{Finding, Source, push_finding};
 use footprints::{
     Cell, Place, PlacedZone, address_cell, cells_zone, conflict, covers, end_use, is_allowed,
-    is_clear, is_empty, passes_on, pointers_of, step_use,
+    is_clear, is_empty, passes_on, pointers_of, put_object, step_use,
 };
 use linear::RegisterId;
 use linear_shown::{FactBranches, FactCursor, Known as KnownFacts};
@@ -189,7 +189,7 @@ impl Spot<'_, '_> {
     ) -> Result<(), Unanswered> {
         let moves = argument_moves(alloc, arguments)?;
         for zone in callee.zones.as_slice() {
-            if let Some(object) = object_put(arguments, zone.object) {
+            if let Some(object) = put_object(arguments, zone.object) {
                 let y = PlacedZone {
                     object,
                     moves: moves.as_slice(),
@@ -470,18 +470,6 @@ fn push_none_pending(
         out,
         "    %{label} has no `pending %{name}` line of that object"
     )?)
-}
-
-/// The caller's object for a callee's name.
-fn object_put(arguments: &[Argument], object: ObjectName) -> Option<ObjectName> {
-    match object {
-        ObjectName::Global(global) => Some(ObjectName::Global(global)),
-        ObjectName::Alloca(_) => None,
-        ObjectName::Parameter(register) => match arguments.get(register.0) {
-            Some(Argument::Object(object)) => Some(*object),
-            Some(Argument::Number(_)) | None => None,
-        },
-    }
 }
 
 fn no_notes(alloc: Global) -> Notes {

@@ -25,4 +25,4 @@ pub use footprints_zones::{
     mode_covers, modes_agree, same_object,
 };
 pub use pass::passes_on;
-pub use touch::{end_use, step_use};
+pub use touch::{end_use, put_object, step_use};

@@ -99,7 +99,7 @@ fn array_use(
 }
 
 /// The caller's object behind a callee's name.
-fn put_object(arguments: &[Argument], object: ObjectName) -> Option<ObjectName>
+pub fn put_object(arguments: &[Argument], object: ObjectName) -> Option<ObjectName>
     ensures { result ≡ put_object arguments.now object }
 {
     match object {

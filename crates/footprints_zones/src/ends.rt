@@ -8,7 +8,7 @@ ghost use Rattle.footprints_zones.specs.Zones.{shows_order};
 ghost use Rattle.footprints_zones.specs.Ends.{AreBounds, AreOther, IsLeast, IsBetween, IsEnd};
 
 use crate::bounds::{RegisterBounds, bounds_for, unbounded};
-use crate::order::{operand_for, product};
+use crate::order::product;
 use linear::{Form, RegisterId, side_of};
 use program::Operand;
 use ranges::Move;

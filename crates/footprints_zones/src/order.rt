@@ -13,7 +13,7 @@ use linear::{Form, RegisterId, Side, Term, side_of};
 use linear_shown::{Known, OutOfEffort};
 use lists::{OutOfMemory, Seq};
 use program::Operand;
-use ranges::{Move, Sum, Unanswered, push_parts, shows_at};
+use ranges::{Move, Sum, Unanswered, operand_for, push_parts, shows_at};
 use std::alloc::Global;
 
 /// high - low, each with the operands of its own zone put in.
@@ -35,18 +35,6 @@ fn between(
         constant: high.constant - low.constant,
         parts: Seq::from_vec(parts),
     })
-}
-
-/// What the moves put in for a register; a register that they do not name stays.
-pub fn operand_for(moves: &[Move], register: RegisterId) -> Operand
-    ensures { result ≡ operand_for moves.now register }
-{
-    for item in moves {
-        if item.register.0 == register.0 {
-            return item.value;
-        }
-    }
-    Operand::Register(register)
 }
 
 /// The number that the moves put in for a register, if they do.

@@ -20,6 +20,6 @@ pub use meaning::{Annotation, AnnotationLine};
 pub use refusal::Refused as AnnotationFault;
 pub use spelling::{
     push_budget, push_foot, push_form, push_inequality, push_left, push_measure, push_pending,
-    push_zone,
+    push_zone, sign_text,
 };
 pub use words::{is_numeral, small_value};

@@ -13,7 +13,8 @@ use syntax::{
     Address, Budget, Form, Inequality, Left, Measure, Mode, Pending, Relation, Term, Zone,
 };
 
-fn sign_text(is_first: bool, number: i64) -> &'static str
+/// The sign before a number's size: that of a first number is left out where it is `+`.
+pub fn sign_text(is_first: bool, number: i128) -> &'static str
     ensures { result.now ≡ sign_text is_first number }
 {
     if number < 0 {
@@ -39,7 +40,7 @@ fn write_factor(out: &mut String, factor: u64) -> Result<(), AllocError>
 fn write_term(out: &mut String, is_first: bool, term: &Term) -> Result<(), AllocError>
     ensures { OnOk result (string_bytes out.new ≡ string_bytes out.old ++ term_text is_first term.now) }
 {
-    out.push_str(sign_text(is_first, term.coefficient))?;
+    out.push_str(sign_text(is_first, i128::from(term.coefficient)))?;
     write_factor(out, term.coefficient.unsigned_abs())?;
     out.push_str("%")?;
     out.push_str(term.register.as_str())
@@ -62,7 +63,7 @@ fn write_constant(out: &mut String, constant: i64) -> Result<(), AllocError>
     if size == 0 {
         return Ok(());
     }
-    out.push_str(sign_text(false, constant))?;
+    out.push_str(sign_text(false, i128::from(constant)))?;
     out.push_str(Buffer::new().format(size))
 }
 

@@ -32,7 +32,7 @@ pub use linear_shown::{Effort, OutOfEffort};
 pub use past::stands_before;
 pub use ranges_owed::{
     Move, Obligation, Part, Sum, Way, argument_moves, call_moves, difference_of, inequalities_owed,
-    owed, owed_at_end, push_parts, result_moves,
+    operand_for, owed, owed_at_end, push_parts, result_moves,
 };
 pub use region_match::{Graph, Regions, Task};
 pub use table::{BlockFacts, EdgeFacts, Facts, FunctionFacts};

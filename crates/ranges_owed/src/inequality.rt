@@ -11,7 +11,7 @@ use program::{Argument, Function, Inequality, Operand};
 use std::alloc::Global;
 
 /// What the moves put in for a register; a register that they do not name stays.
-fn operand_for(moves: &[Move], register: RegisterId) -> Operand
+pub fn operand_for(moves: &[Move], register: RegisterId) -> Operand
     ensures { result ≡ operand_for moves.now register }
 {
     for item in moves {

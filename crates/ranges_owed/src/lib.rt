@@ -8,7 +8,8 @@ mod sum;
 
 pub use cfg::{Move, Way, make_moves};
 pub use inequality::{
-    argument_moves, call_moves, difference_of, differences_of, push_parts, result_moves,
+    argument_moves, call_moves, difference_of, differences_of, operand_for, push_parts,
+    result_moves,
 };
 pub use owe::{inequalities_owed, owed, owed_at_end};
 pub use scale::scale_of;

@@ -1,4 +1,4 @@
-//! The rules in words: one table of where each is told, what it means, how to mend it, and an example.
+//! The rules in words: one table of where each is reported, what it means, how to mend it, and an example.
 #![tactic(auto)]
 
 mod rule;

@@ -4,10 +4,10 @@ use crate::texts::RULES;
 use lists::OutOfMemory;
 use std::alloc::{AllocError, Global};
 
-/// A row of the rules: where it is told, what it means, how to mend it, an example.
+/// A row of the rules: where it is reported, what it means, how to mend it, an example.
 #[derive(Clone, Copy)]
 struct Row<'a> {
-    told_at: &'a str,
+    reported_at: &'a str,
     means: &'a str,
     mend: &'a str,
     example: &'a str,
@@ -20,11 +20,11 @@ fn all_rules() -> &'static str {
 
 /// The row of a line without its number.
 fn row_in(text: &str) -> Option<Row<'_>> {
-    let (told_at, rest) = text.split_once(" | ")?;
+    let (reported_at, rest) = text.split_once(" | ")?;
     let (means, rest) = rest.split_once(" | ")?;
     let (mend, example) = rest.split_once(" | ")?;
     Some(Row {
-        told_at,
+        reported_at,
         means,
         mend,
         example,
@@ -42,8 +42,8 @@ fn row_of(line: &str, number: u16) -> Option<Row<'_>> {
 }
 
 /// Whether a row is for a line of a module that breaks the rule: of the two of 703 the line says which.
-fn is_told_at(row: Row<'_>, broken: &str) -> bool {
-    match row.told_at {
+fn is_reported_at(row: Row<'_>, broken: &str) -> bool {
+    match row.reported_at {
         "the `measure` line" => broken.starts_with(";!"),
         "the self call" => !broken.starts_with(";!"),
         _ => true,
@@ -53,7 +53,7 @@ fn is_told_at(row: Row<'_>, broken: &str) -> bool {
 /// The row of a line, if it is of this number and for this line of a module.
 fn row_at<'a>(line: &'a str, number: u16, broken: &str) -> Option<Row<'a>> {
     let row = row_of(line, number)?;
-    if is_told_at(row, broken) {
+    if is_reported_at(row, broken) {
         Some(row)
     } else {
         None
@@ -76,7 +76,7 @@ fn push_part(out: &mut String, name: &str, text: &str) -> Result<(), AllocError>
 fn push_rule(out: &mut String, number: u16, row: Row<'_>) -> Result<(), AllocError> {
     let means = row.means;
     writeln!(out, "{number}: {means}")?;
-    push_part(out, "told at", row.told_at)?;
+    push_part(out, "reported at", row.reported_at)?;
     push_part(out, "mend", row.mend)?;
     push_part(out, "example", row.example)
 }
@@ -103,7 +103,7 @@ pub fn push_meanings(out: &mut String, number: u16, broken: &str) -> Result<(), 
     Ok(())
 }
 
-/// The same without its causes, which stand behind a colon: it is for where the one that applies is told.
+/// Adds what the rule means without its causes, which stand behind a colon: for places that say which of them applies.
 pub fn push_heads(out: &mut String, number: u16, broken: &str) -> Result<(), OutOfMemory> {
     for line in all_rules().lines() {
         if let Some(row) = row_at(line, number, broken) {

@@ -1,4 +1,4 @@
-//! The rules: a line each with its number, where it is told, what it means, how to mend it, and an example. `docs/make-rules` makes the
+//! The rules: a line each with its number, where it is reported, what it means, how to mend it, and an example. `docs/make-rules` makes the
 //! tables of `docs/RULES.md` of it.
 
 pub const RULES: &str = "\
@@ -9,19 +9,19 @@ ASCII | write the word as LANGUAGE.md says; save with LF alone | `%x = add i64 %
 instructions, terminator | `%x = add i64 %n 7`; right is `%x = add i64 %n, 7`
 104 | the line | a limit is passed: of the text, a name, a number, or how many of a kind | split the module or the function; the limits \
 stand in LANGUAGE.md | `ret i64 9223372036854775808`; the greatest number is 9223372036854775807
-105 | the line | the text ends inside a function; told at the last line that holds a byte | close the function with `}` | a function whose \
+105 | the line | the text ends inside a function; reported at the last line that holds a byte | close the function with `}` | a function whose \
 last line is `ret i64 0`; right with `}` after it
-106 | the line | a name is defined twice, or `%.ret` or `@llvm.syncregion.start` is defined; told at the second definition | rename; labels, \
+106 | the line | a name is defined twice, or `%.ret` or `@llvm.syncregion.start` is defined; reported at the second definition | rename; labels, \
 registers and parameters of a function share one name space, globals and functions another | `%n = add nsw i64 %n, 1` where `%n` is a \
 parameter; right is `%m = add nsw i64 %n, 1`
 107 | the line | the annotation's first word is unknown | see the list of annotations; for a plain comment leave the `!` out | `;! keep %n \
 >= 0`; right is `;! keeps %n >= 0`
-201 | the line | a name that nothing in its name space defines; no `@main` (told at line 1); in a function's annotation a register that is \
+201 | the line | a name that nothing in its name space defines; no `@main` (reported at line 1); in a function's annotation a register that is \
 no parameter | define it, or correct its spelling | `ret i64 %q` where nothing defines `%q`
 202 | the line | a type does not fit: i64 for i32, a number out of an i32, a label for a register, a pointer in a form, a result that the \
 function does not have; `@main` that does not return i64 or takes a pointer | convert by `trunc`, `sext` or `zext`, or correct the type | \
 `ret void` in `@main`; right is `ret i64 0`
-203 | the line | a call has another number of arguments than the callee has parameters | pass what it asks | `%r = call i64 @f(i64 0, i64 \
+203 | the line | a call has another number of arguments than the callee has parameters | pass what it takes | `%r = call i64 @f(i64 0, i64 \
 1)` where `@f` has one parameter; right is `%r = call i64 @f(i64 0)`
 204 | the line | a pointer is used in a way that the language does not have: a `getelementptr` result outside its block or as an argument, \
 an `alloca` outside the entry block, an object that is too small or passed twice, a global passed to a function that names it | pass whole \
@@ -110,6 +110,6 @@ an argument below `%n`
 before. Examples: `step 0 0`, `step 64 1`, `step 0 01`, `steal 1 root.`, a last line without LF, an empty line; `step 0 1` after `step 0 1`. \
 | Write numbers without sign and leading zeros, one space between words, workers from 0 to 63, numbers of paths up to 1,000,000,000,000, and \
 all steps of one worker that follow each other on one line. | `step 0 01`; right is `step 0 1`
-902 | the line | With this line the text has over 1,048,576 bytes or events. | Cut the schedule: `step 0 1048577` asks for more events than \
-a schedule may have. | `step 0 1048577` alone asks for too many events
+902 | the line | With this line the text has over 1,048,576 bytes or events. | Cut the schedule: `step 0 1048577` is more events than \
+a schedule may have. | `step 0 1048577` alone is too many events
 ";

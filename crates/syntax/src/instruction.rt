@@ -129,6 +129,25 @@ pub enum Instruction {
     },
 }
 
+impl Instruction {
+    /// The register that it defines, if it defines one.
+    pub fn register(&self) -> Option<&Name> {
+        match self {
+            Instruction::Binary { register, .. } => Some(register),
+            Instruction::Compare { register, .. } => Some(register),
+            Instruction::Convert { register, .. } => Some(register),
+            Instruction::Alloca { register, .. } => Some(register),
+            Instruction::ElementPointer { register, .. } => Some(register),
+            Instruction::Load { register, .. } => Some(register),
+            Instruction::StartRegion { register } => Some(register),
+            Instruction::Call { register, .. } => register.as_ref(),
+            Instruction::Store { .. }
+            | Instruction::StoreZeros { .. }
+            | Instruction::AtomicAdd { .. } => None,
+        }
+    }
+}
+
 /// An instruction with the `shows` lines directly before it.
 #[derive(Drop)]
 pub struct Step {

@@ -1,6 +1,6 @@
 //! The names of a module's text.
 
-use explain_scenes::Scene;
+use explain_facts::Scene;
 use lists::OutOfMemory;
 use program::{Program, RegisterId};
 use std::alloc::Global;

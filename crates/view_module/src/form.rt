@@ -1,21 +1,12 @@
 //! Facts, spelled as annotations spell them.
 
+use ir_annotation::sign_text;
 use program::{Fact, RegisterId, Term};
 use std::alloc::{AllocError, Global};
 
 /// A name by the register's number; `?` where there is none.
 pub fn name_of<'a>(names: &[&'a str], register: RegisterId) -> &'a str {
     names.get(register.0).copied().unwrap_or("?")
-}
-
-fn sign_of(is_first: bool, is_negative: bool) -> &'static str {
-    if is_negative {
-        "-"
-    } else if is_first {
-        ""
-    } else {
-        "+"
-    }
 }
 
 /// A coefficient, unless it is 1 or -1, and the register.
@@ -25,7 +16,7 @@ fn push_term(
     name: &str,
     coefficient: i64,
 ) -> Result<(), AllocError> {
-    let sign = sign_of(is_first, coefficient < 0);
+    let sign = sign_text(is_first, i128::from(coefficient));
     let size = coefficient.unsigned_abs();
     if size == 1 {
         write!(out, "{sign}%{name}")
@@ -58,7 +49,7 @@ fn push_form(out: &mut String, terms: &[(&str, i64)], constant: i128) -> Result<
     if constant == 0 && !is_first {
         return Ok(());
     }
-    let sign = sign_of(is_first, constant < 0);
+    let sign = sign_text(is_first, constant);
     let size = constant.unsigned_abs();
     write!(out, "{sign}{size}")
 }

@@ -1,27 +1,7 @@
 //! The names of registers.
 
 use std::alloc::{AllocError, Global};
-use syntax::{Block, Function, Instruction, Parameter};
-
-/// The register that an instruction defines.
-fn defined(instruction: &Instruction) -> Option<&str> {
-    match instruction {
-        Instruction::Binary { register, .. }
-        | Instruction::Compare { register, .. }
-        | Instruction::Convert { register, .. }
-        | Instruction::Alloca { register, .. }
-        | Instruction::ElementPointer { register, .. }
-        | Instruction::Load { register, .. }
-        | Instruction::StartRegion { register } => Some(register.as_str()),
-        Instruction::Call { register, .. } => match register {
-            Some(register) => Some(register.as_str()),
-            None => None,
-        },
-        Instruction::Store { .. }
-        | Instruction::StoreZeros { .. }
-        | Instruction::AtomicAdd { .. } => None,
-    }
-}
+use syntax::{Block, Function, Parameter};
 
 fn push_parameters<'a>(
     names: &mut Vec<&'a str>,
@@ -39,8 +19,8 @@ fn push_parameters<'a>(
 
 fn push_steps<'a>(names: &mut Vec<&'a str>, block: &'a Block) -> Result<(), AllocError> {
     for step in block.steps.as_slice() {
-        if let Some(name) = defined(&step.instruction) {
-            names.push(name)?;
+        if let Some(register) = step.instruction.register() {
+            names.push(register.as_str())?;
         }
     }
     Ok(())

@@ -16,7 +16,7 @@ pub enum Answer {
     Ready(Ticket),
     /// Where a strand stands, and how many instructions it did.
     Paused(Pause, u64),
-    /// The same of a private stack.
+    /// Where a private stack stands, and how many instructions it did.
     Stands(Standing, u64),
     /// Nothing was done.
     Not(&'static str),

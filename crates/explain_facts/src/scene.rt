@@ -3,7 +3,7 @@
 use lists::{Name, OutOfMemory};
 use program::{AllocaId, BlockId, Function, GlobalId, ObjectName, Program, RegisterId};
 use std::alloc::{AllocError, Global};
-use syntax::{Instruction, Module, Parameter};
+use syntax::{Module, Parameter};
 
 /// A function of a program, and the names that its text gives to registers, in their order.
 #[derive(Drop)]
@@ -22,23 +22,6 @@ fn parameter_name(parameter: &Parameter) -> &Name {
     }
 }
 
-/// The register that an instruction defines.
-fn register_of(instruction: &Instruction) -> Option<&Name> {
-    match instruction {
-        Instruction::Binary { register, .. } => Some(register),
-        Instruction::Compare { register, .. } => Some(register),
-        Instruction::Convert { register, .. } => Some(register),
-        Instruction::Alloca { register, .. } => Some(register),
-        Instruction::ElementPointer { register, .. } => Some(register),
-        Instruction::Load { register, .. } => Some(register),
-        Instruction::StartRegion { register } => Some(register),
-        Instruction::Call { register, .. } => register.as_ref(),
-        Instruction::Store { .. }
-        | Instruction::StoreZeros { .. }
-        | Instruction::AtomicAdd { .. } => None,
-    }
-}
-
 fn push_phis<'a>(names: &mut Vec<&'a Name>, block: &'a syntax::Block) -> Result<(), AllocError> {
     for phi in block.phis.as_slice() {
         names.push(&phi.register)?;
@@ -48,7 +31,7 @@ fn push_phis<'a>(names: &mut Vec<&'a Name>, block: &'a syntax::Block) -> Result<
 
 fn push_steps<'a>(names: &mut Vec<&'a Name>, block: &'a syntax::Block) -> Result<(), AllocError> {
     for step in block.steps.as_slice() {
-        if let Some(name) = register_of(&step.instruction) {
+        if let Some(name) = step.instruction.register() {
             names.push(name)?;
         }
     }

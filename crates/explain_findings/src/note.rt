@@ -1,8 +1,8 @@
 //! What there is to say of a line that breaks a rule of names, blocks or regions.
 
 use crate::cause::cause_of;
+use crate::finding::{Finding, Source};
 use crate::row::{Row, function_of, rows_of};
-use explain_findings::{Finding, Source};
 use lists::OutOfMemory;
 use std::alloc::{AllocError, Global};
 

@@ -1,6 +1,7 @@
 //! What a program owes of its numbers and what is known there does not show.
 
-use explain_facts::{Matched, spend};
+use crate::gap::spend;
+use crate::trial::Matched;
 use linear_shown::{FactBranches, FactCursor, Known};
 use lists::Seq;
 use program::{Block, Ending, Function, Inequality, Program, Step};

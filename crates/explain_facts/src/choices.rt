@@ -1,10 +1,11 @@
 //! Faults of numbers, each with what was to be shown.
 
+use crate::gap::{edge_known, first_facts, is_against, spend};
+use crate::known::{Known, fact_lines};
+use crate::scene::Scene;
+use crate::spelling::push_inequality;
+use crate::trial::{Matched, match_text};
 use crate::unmet::{Site, Unmet, all_unmet};
-use explain_facts::{
-    Known, Matched, Scene, edge_known, fact_lines, first_facts, is_against, match_text,
-    push_inequality, spend,
-};
 use explain_findings::{Finding, Source, line_at, push_finding, with_line_before};
 use linear::{Form, FormFault, RegisterId};
 use lists::OutOfMemory;
@@ -256,7 +257,7 @@ fn push_place_notes(
     push_choices(alloc, source, known, unmet, old, notes)
 }
 
-/// The same of an edge from where this is known.
+/// What there is to say of an edge, where this is known at the end of its block.
 fn push_edge_notes(
     alloc: Global,
     source: Source<'_>,

@@ -1,7 +1,8 @@
 //! Faults of the text: the word that was found, and what could stand there. What could is tried, by reading the line with it.
 
+use crate::finding::{Finding, Source, push_finding};
 use crate::left_out::push_left_out;
-use explain_findings::{Finding, Source, lines_before, push_finding};
+use crate::lines::lines_before;
 use ir_item::read_line;
 use ir_lex::{Kind, Token, lex};
 use ir_reader::read;

@@ -1,6 +1,7 @@
 //! How forms and what is shown of them are spelled, with the names of the text.
 
 use crate::scene::Scene;
+use ir_annotation::sign_text;
 use linear::{Form, Term, side_of};
 use lists::OutOfMemory;
 use std::alloc::{AllocError, Global};
@@ -69,23 +70,13 @@ fn spell<'a>(
     })
 }
 
-fn sign_of(is_first: bool, is_negative: bool) -> &'static str {
-    if is_negative {
-        "-"
-    } else if is_first {
-        ""
-    } else {
-        "+"
-    }
-}
-
 fn push_term(
     out: &mut String,
     is_first: bool,
     name: &str,
     coefficient: i64,
 ) -> Result<(), AllocError> {
-    out.push_str(sign_of(is_first, coefficient < 0))?;
+    out.push_str(sign_text(is_first, i128::from(coefficient)))?;
     let size = coefficient.unsigned_abs();
     if size != 1 {
         write!(out, "{size}*")?;

@@ -1,6 +1,0 @@
-use Rattle.std.proofs.Common.{◌≡◌, drop}
-use Rattle.ranges.specs.ranges_owed.Inequalities.{operand_for}
-use Rattle.footprints_zones.proofs.order.operand_for.Given as goal
-
-abbrev pub invariant-loop-item : goal.invariant-loop-item
-invariant-loop-item l = operand_for (drop l.item-index l.moves) l.register ≡ operand_for l.moves l.register
