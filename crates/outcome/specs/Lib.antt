@@ -1,3 +1,4 @@
+pub mod Admission
 pub mod Requirements
 pub mod Serially
 -- for the crates above

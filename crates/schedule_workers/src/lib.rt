@@ -30,5 +30,6 @@ mod sync;
 mod tops;
 
 pub use activation::Activation;
+pub use copies::copy_of;
 pub use moves::most_moves;
 pub use run::{Block, Run};
