@@ -9,7 +9,6 @@ use Rattle.frame.specs.declared.frame.Role.TheVariants as role
 use Rattle.cactus.specs.declared.node.Link.{Link}
 use Rattle.frame_engine.specs.declared.activation.Frame.{Frame}
 use Rattle.frame_strand.specs.Standing.{IsCopy}
-use Rattle.schedule_workers.specs.Copying.{IsFrameCopy}
 use Rattle.schedule_workers.specs.declared.activation.Activation.{Activation}
 use Rattle.schedule_workers.specs.Scheduling.{counted_in}
 use Rattle.schedule_publish.specs.Linking.{AreLinks, IsActivation, IsFrameOf, IsLink, RegionsFit, counted_above, counted_of, frames_of, path_of, runner_below}
@@ -37,18 +36,6 @@ last_or (z ∷ xs) y zero x e = inl e
 last_or (z ∷ xs) y (suc i) x e = elim (last_or xs y i x e) [ inl h ↦ inl h | inr h ↦ inr (ap suc h.0, h.1) ]
 
 -- ---- one frame
-
-pub as_copy : (f g : Frame) → IsFrameCopy f g → IsCopy f g
-as_copy f g c = record {
-  function = ap (λ (h : Frame). h.function) c.only;
-  place = ap (λ (h : Frame). h.place) c.only;
-  registers = c.registers;
-  home = ap (λ (h : Frame). h.home) c.only;
-  made = ap (λ (h : Frame). h.made) c.only;
-  waits = ap (λ (h : Frame). h.waits) c.only;
-  role = ap (λ (h : Frame). h.role) c.only;
-  depth = ap (λ (h : Frame). h.depth) c.only;
-}
 
 pub path_next : (x : Pile) (n : ℕ) (f : Frame) → slice_get (frames_of x) n ≡ Some f → path_of x (suc n) ≡ path_of x n ++ (f.made - 1) ∷ []
 path_next x n f at =

@@ -17,23 +17,25 @@ use schedule_workers::Run;
 /// Makes the pile's frames, all or none, and then puts in what it did.
 fn go_deep(
     run: &mut Run,
-    _program: &Program,
-    _places: &Places,
+    program: &Program,
+    places: &Places,
     worker: u8,
     slot: usize,
     pile: &Pile,
 ) -> Result<(), OutOfMemory>
-    requires text { TextFits _program.now _places.now (length run.old.moves.items) }
-    requires way { ∥ IsUnderWay _program.now _places.now pile.now ∥₁ }
-    requires safe { ∥ StandsDeep _program.now _places.now run.old ∥₁ }
-    requires fits { FitsDeep _program.now run.old worker pile.now slot }
-    ensures does { OnOk result ∥ DoesDeep _program.now _places.now run.old run.new worker pile.now ∥₁ }
-    ensures stalls { OnOk result (LeavesStallsDeep _program.now _places.now run.old run.new worker pile.now) }
+    requires text { TextFits program.now places.now (length run.old.moves.items) }
+    requires way { ∥ IsUnderWay program.now places.now pile.now ∥₁ }
+    requires safe { ∥ StandsDeep program.now places.now run.old ∥₁ }
+    requires fits { FitsDeep program.now run.old worker pile.now slot }
+    ensures does { OnOk result ∥ DoesDeep program.now places.now run.old run.new worker pile.now ∥₁ }
+    ensures stalls { OnOk result (LeavesStallsDeep program.now places.now run.old run.new worker pile.now) }
     ensures refused { OnErr result (run.new ≡ run.old) }
     ensures follows { Follows run.old.cactus run.new.cactus }
     ensures workers { length run.new.hands.items ≡ length run.old.hands.items }
     ensures moves { run.new.moves ≡ run.old.moves }
 {
+    let _program = program;
+    let _places = places;
     let links = links_of(run.alloc, worker, pile)?;
     let slots = run.cactus.add_chain(slot, links)?;
     commit(run, worker, slot, slots.as_slice(), pile);

@@ -10,8 +10,8 @@ use frame_engine::{Flat, Frame, Place};
 use lists::OutOfMemory;
 use std::alloc::{AllocError, Global};
 
-/// The frame again, in a list of its own.
-pub fn copy_of(frame: &Frame) -> Result<Frame, AllocError>
+/// The frame again.
+fn copy_of(frame: &Frame) -> Result<Frame, AllocError>
     ensures { IfOk result (IsFrameCopy frame.now) }
 {
     let alloc = *frame.registers.allocator();

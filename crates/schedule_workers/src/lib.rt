@@ -30,6 +30,5 @@ mod sync;
 mod tops;
 
 pub use activation::Activation;
-pub use copies::copy_of;
 pub use moves::most_moves;
 pub use run::{Block, Run};
