@@ -2,7 +2,7 @@
 
 ghost use Rattle.std.specs.Prelude.{◌≡◌, ◌≤◌, ◌-◌, ◌+◌, None, IfOk, IfSome, IfNone, OnOk, OnErr, length, min};
 ghost use Rattle.schedule_core.specs.store.Made.{IsMadeFor};
-ghost use Rattle.schedule_core.specs.outcome.Admission.{IsAdmitted};
+ghost use Rattle.schedule_core.specs.Admission.{IsAdmitted};
 ghost use Rattle.schedule_core.specs.Stages.{global_named};
 ghost use Rattle.schedule_core.specs.Viewed.{IsTask, status_in};
 ghost use Rattle.debugger.specs.Sessions.{AreMarks, Debugs, HasLineAt, IsAt, IsFirstStop, Session, Stays, state_at};

@@ -1,9 +1,10 @@
 //! The run of one worker alone: there is nobody to share with.
-ghost use Rattle.std.specs.Prelude.{IfOk};
-ghost use Rattle.shared_run.specs.outcome.Admission.{IsAdmitted};
+ghost use Rattle.std.specs.Prelude.{◌≡◌, ℕ, None, IfErr, IfOk, OnOk};
+ghost use Rattle.shared_run.specs.outcome.Requirements.{unmet_in};
 ghost use Rattle.shared_run.specs.store.Made.{IsMadeFor};
 ghost use Rattle.shared_run.specs.Answer.{IsSerialAnswer};
 ghost use Rattle.shared_run.specs.Story.{origin};
+ghost use Rattle.deque_pool_alone.specs.UnderWay.{IsRefusal};
 
 use crate::gate::{Gate, Go};
 use deque_pool_alone::LoneRun;
@@ -27,7 +28,8 @@ pub(crate) fn run_alone<G: Gate, R: Wait>(
 ) -> Result<Finished, RunFault>
     requires made { IsMadeFor verified.now memory }
     ensures answer { IfOk result (λ done. IsSerialAnswer (origin verified.now arguments.now memory 1) done) }
-    ensures admitted { IsAdmitted verified.now arguments.now memory 1 result }
+    ensures met { OnOk result (unmet_in verified.now arguments.now ≡ None) }
+    ensures refused { IfErr result (IsRefusal verified.now arguments.now memory) }
 {
     let mut run = LoneRun::begin(alloc, verified, arguments, memory)?;
     let mut strand: u64 = 0;

@@ -2,7 +2,7 @@
 //! left and it has not ended, though none of them was refused memory or stopped, they are set to work again.
 ghost use Rattle.std.specs.Prelude.{◌≡◌, vec_len, IfOk};
 ghost use Rattle.shared_run.specs.schedule_workers.Starts.{ArePlaces};
-ghost use Rattle.shared_run.specs.outcome.Admission.{IsAdmitted};
+ghost use Rattle.shared_run.specs.schedule_core.Admission.{IsAdmitted};
 ghost use Rattle.shared_run.specs.store.Made.{IsMadeFor};
 ghost use Rattle.shared_run.specs.Answer.{IsSerialAnswer, LeadTo};
 ghost use Rattle.shared_run.specs.Story.{origin};

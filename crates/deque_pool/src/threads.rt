@@ -1,6 +1,6 @@
 //! Runs on threads of their own.
 ghost use Rattle.std.specs.Prelude.{IfOk};
-ghost use Rattle.shared_run.specs.outcome.Admission.{IsAdmitted};
+ghost use Rattle.shared_run.specs.schedule_core.Admission.{IsAdmitted};
 ghost use Rattle.shared_run.specs.store.Made.{IsMadeFor};
 ghost use Rattle.shared_run.specs.Answer.{IsSerialAnswer, LeadTo};
 ghost use Rattle.shared_run.specs.Story.{origin};

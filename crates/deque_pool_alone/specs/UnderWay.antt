@@ -3,6 +3,8 @@ use Rattle.std.specs.Prelude.{◌≡◌, ℕ, ◌<◌, List, length, map, None, 
 use Rattle.program.specs.declared.function.Function.{Function}
 use Rattle.program.specs.declared.function.Program.{Program}
 use Rattle.outcome.specs.Requirements.{unmet_in}
+use Rattle.outcome.specs.declared.outcome.RunFault.{RunFault}
+use Rattle.outcome.specs.declared.outcome.RunFault.TheVariants.{BadArguments, BadWorkers, OutOfMemory, Stopped}
 use Rattle.outcome.specs.store.Cells.{NamedCells}
 use Rattle.outcome.specs.store.Made.{HasGlobalCells}
 use Rattle.outcome.specs.store.Rows.{row_of, sizes_of}
@@ -47,3 +49,10 @@ IsRunOf program arguments memory r = (r.program.now ≡ program) × (r.arguments
 -- at least one instruction was done, and not yet all that the budget allows
 abbrev pub GetsOn : LoneRun → LoneRun → Type 0
 GetsOn old new = (old.done < new.done) × (new.done < budget_of new.program.now)
+
+-- why it does not begin, or does not end: 801 hands the memory back; else the arguments are taken, and the fault is 803 or 804
+abbrev pub IsRefusal : Program → List ℤ → List NamedCells → RunFault → Type 0
+IsRefusal program arguments memory (BadArguments requirement m) = (unmet_in program arguments ≡ Some requirement) × (m ≡ memory)
+IsRefusal program arguments memory (BadWorkers m) = ⊥
+IsRefusal program arguments memory OutOfMemory = unmet_in program arguments ≡ None
+IsRefusal program arguments memory Stopped = unmet_in program arguments ≡ None

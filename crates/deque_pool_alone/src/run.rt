@@ -1,12 +1,11 @@
-ghost use Rattle.std.specs.Prelude.{◌≡◌, ◌≢◌, ◌<◌, Err, IfNone, IfOk, IfSome, None};
-ghost use Rattle.outcome.specs.Admission.{IsAdmitted};
+ghost use Rattle.std.specs.Prelude.{◌≡◌, ◌≢◌, ◌<◌, Err, IfErr, IfNone, IfOk, IfSome, None};
 ghost use Rattle.outcome.specs.Requirements.{unmet_in};
 ghost use Rattle.outcome.specs.store.Made.{HasGlobalCells, IsMadeFor};
 ghost use Rattle.outcome.specs.verifier.Accepted.{IsAccepted};
 ghost use Rattle.outcome.specs.verifier.Budgets.{budget_of};
 ghost use Rattle.serial_machine.specs.Promise.{EndsWithinBudget, TakesMore};
 ghost use Rattle.serial_machine.specs.Safe.{HasMoves};
-ghost use Rattle.deque_pool_alone.specs.UnderWay.{GetsOn, IsRunOf, IsUnderWay};
+ghost use Rattle.deque_pool_alone.specs.UnderWay.{GetsOn, IsRefusal, IsRunOf, IsUnderWay};
 
 use crate::counted::CountedCells;
 use crate::steps::{advance, border, is_at_border};
@@ -115,7 +114,7 @@ impl<'v> LoneRun<'v> {
         requires made { IsMadeFor verified.now memory }
         requires cells { HasGlobalCells verified.now memory }
         ensures begins { IfOk result (IsRunOf verified.now arguments.now memory) }
-        ensures admitted { IsAdmitted verified.now arguments.now memory 1 result }
+        ensures refused { IfErr result (IsRefusal verified.now arguments.now memory) }
         ensures not_stopped { result ≢ Err RunFault.Stopped }
     {
         let program = verified.program();

@@ -7,7 +7,7 @@ use Rattle.semantics.specs.Events as running
 use Rattle.semantics.specs.Frames.{Frame}
 use Rattle.semantics.specs.Replay.{NeverTraps, has_ended}
 use Rattle.semantics.specs.SerialMeaning.{Gave}
-use Rattle.outcome.specs.Admission.{IsNumberOfWorkers}
+use Rattle.schedule_core.specs.Admission.{IsNumberOfWorkers}
 use Rattle.outcome.specs.Requirements.{unmet_in}
 use Rattle.outcome.specs.store.Cells.{NamedCells}
 use Rattle.outcome.specs.store.Made.{HasGlobalCells}

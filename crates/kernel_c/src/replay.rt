@@ -1,7 +1,7 @@
 //! The call that runs a module that is kept by a schedule.
 
 ghost use Rattle.std.specs.Prelude.{◌≡◌, ◌≢◌, ◌⊎◌, None, Some, length, sum};
-ghost use Rattle.outcome.specs.Admission.{IsNumberOfWorkers};
+ghost use Rattle.schedule_core.specs.Admission.{IsNumberOfWorkers};
 ghost use Rattle.outcome.specs.Requirements.{unmet_in};
 ghost use Rattle.outcome.specs.store.Rows.{sizes_of};
 ghost use Rattle.semantics.specs.Events as running;

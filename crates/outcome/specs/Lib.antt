@@ -1,4 +1,3 @@
-pub mod Admission
 pub mod Requirements
 pub mod Serially
 -- for the crates above

@@ -1,7 +1,7 @@
 ghost use Rattle.std.specs.Prelude.{◌≡◌, ◌<◌, [], None, Ok, false, IfOk, OnOk, OnErr};
 ghost use Rattle.semantics.specs.Events.{Machine};
 ghost use Rattle.laws_workers.specs.outcome.Requirements.{unmet_in};
-ghost use Rattle.laws_workers.specs.outcome.Admission.{IsAdmitted};
+ghost use Rattle.schedule_core.specs.Admission.{IsAdmitted};
 ghost use Rattle.schedule_workers.specs.Follows.{Follows};
 ghost use Rattle.schedule_core.specs.Replaying.{GrowsOnly, Happens, IsMachine, LeavesAsBefore};
 ghost use Rattle.schedule_core.specs.Replaying.{Replays, ReplaysMore, ReplaysOneMore, StandsAsWell, event_of};

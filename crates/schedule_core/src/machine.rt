@@ -1,7 +1,7 @@
 ghost use Rattle.std.specs.Prelude.{◌↔◌, ◌≡◌, [], Ok, IsSome, IsTrue, IfOk, true, false, OnErr, OnOk};
 ghost use Rattle.semantics.specs.Events as running;
 ghost use Rattle.semantics.specs.Replay.{CountsFrames, has_ended};
-ghost use Rattle.laws_workers.specs.outcome.Admission.{IsAdmitted};
+ghost use Rattle.schedule_core.specs.Admission.{IsAdmitted};
 ghost use Rattle.schedule_core.specs.Spots.{KeepsSpots};
 ghost use Rattle.schedule_core.specs.Replaying.{GrowsOnly, Happens, IsMachine, KeepsItsSchedule, KeepsItWith, LeavesAsBefore};
 ghost use Rattle.schedule_core.specs.Replaying.{Replays, ReplaysOneMore, StandsAsWell, event_of};

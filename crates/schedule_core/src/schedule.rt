@@ -1,5 +1,5 @@
 ghost use Rattle.std.specs.Prelude.{IfOk, OnOk};
-ghost use Rattle.laws_workers.specs.outcome.Admission.{IsAdmitted};
+ghost use Rattle.schedule_core.specs.Admission.{IsAdmitted};
 ghost use Rattle.schedule_core.specs.Replaying.{KeepsItsSchedule, Replays};
 ghost use Rattle.laws_workers.specs.store.Made.{IsMadeFor};
 

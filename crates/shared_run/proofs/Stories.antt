@@ -12,7 +12,7 @@ use Rattle.semantics.proofs.Workers.{Manned}
 use Rattle.program.specs.declared.function.Program.{Program}
 use Rattle.schedule_core.specs.verifier.Accepted.{IsAccepted}
 use Rattle.schedule_core.specs.store.Made.{IsMadeFor}
-use Rattle.schedule_core.specs.outcome.Admission.{IsNumberOfWorkers}
+use Rattle.schedule_core.specs.Admission.{IsNumberOfWorkers}
 use Rattle.schedule_core.specs.outcome.Requirements.{unmet_in}
 use Rattle.schedule_core.specs.outcome.declared.outcome.Finished.{Finished}
 use Rattle.schedule_core.proofs.laws_workers.Results.{IsOpen, always_open}

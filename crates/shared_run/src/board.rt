@@ -1,6 +1,6 @@
 ghost use Rattle.std.specs.Prelude.{◌≡◌, ◌≢◌, ◌⊎◌, ◌+◌, ◌*◌, ◌<◌, ◌≤◌, None, Some, is_some, length, vec_len, sum_by, IfOk, IfErr, IfNone};
 ghost use Rattle.std.specs.Prelude.{IfSome, OnErr};
-ghost use Rattle.schedule_core.specs.outcome.Admission.{IsAdmitted};
+ghost use Rattle.schedule_core.specs.Admission.{IsAdmitted};
 ghost use Rattle.schedule_core.specs.store.Made.{IsMadeFor};
 ghost use Rattle.schedule_core.specs.verifier.Budgets.{budget_of};
 ghost use Rattle.schedule_core.specs.Parents.{HasNoReadyParent, IsReadyParent};

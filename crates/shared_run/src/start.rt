@@ -1,5 +1,5 @@
 ghost use Rattle.std.specs.Prelude.{◌≡◌, ◌↔◌, IfOk, IsTrue};
-ghost use Rattle.schedule_core.specs.outcome.Admission.{IsAdmitted};
+ghost use Rattle.schedule_core.specs.Admission.{IsAdmitted};
 ghost use Rattle.shared_run.specs.Story.{origin};
 
 use lists::OutOfMemory;
