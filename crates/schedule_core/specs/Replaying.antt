@@ -29,9 +29,6 @@ abbrev pub event_of : Event → running.Event
 event_of (Step worker) = running.Step worker
 event_of (Steal worker path) = running.Steal worker (reverse path.numbers)
 
-abbrev pub IsNumberOfWorkers : ℕ → Type 0
-IsNumberOfWorkers workers = (0 < workers) × (workers ≤ 64)
-
 -- ---- one event
 
 -- the event is done just where the definitions enable it, and then the stage stands as they say
