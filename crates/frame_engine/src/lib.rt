@@ -7,6 +7,7 @@ mod borders;
 mod calls;
 mod cells;
 mod clearing;
+mod coded;
 mod doing;
 mod ending;
 mod entering;

@@ -6,6 +6,7 @@ use Rattle.program.specs.declared.function.Function.{Function}
 use Rattle.program.specs.declared.function.Program.{Program}
 use Rattle.outcome.specs.verifier.Accepted.{IsProgramOf}
 use Rattle.outcome.specs.verifier.Budgets.{budget_of}
+use Rattle.frame_code.specs.Codes.{program_codes}
 use Rattle.frame_engine.specs.Operands.{ItemFits}
 use Rattle.frame_engine.specs.Starts.{alloca_starts}
 use Rattle.frame_engine.specs.declared.activation.Places.{Places}
@@ -39,4 +40,4 @@ HasMoves program moves = (k : ℕ) (f : Function) → slice_get program.function
 abbrev pub TextsFit : Type 0
 TextsFit =
     (text : List ℕ) (program : Program) → IsProgramOf text program → (places : Places) (moves : ℕ) → length program.globals ≤ length places.globals →
-    places.allocas ≡ map (λ (f : Function). alloca_starts f.allocas) program.functions → HasMoves program moves → TextFits program places moves
+    places.allocas ≡ map (λ (f : Function). alloca_starts f.allocas) program.functions → places.codes ≡ program_codes program → HasMoves program moves → TextFits program places moves

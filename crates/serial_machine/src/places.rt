@@ -1,5 +1,6 @@
 ghost use Rattle.std.specs.Prelude.{◌≡◌, IfOk, map};
 ghost use Rattle.program.specs.declared.function.Function.{Function};
+ghost use Rattle.frame_code.specs.Codes.{program_codes};
 ghost use Rattle.frame_engine.specs.Starts.{alloca_starts, starts_from};
 ghost use Rattle.serial_machine.specs.Safe.{HasMoves};
 
@@ -28,6 +29,7 @@ pub(crate) fn places_of(
     sizes: &[u64],
 ) -> Result<Places, OutOfMemory>
     ensures globals { IfOk result (λ places. places.globals ≡ starts_from 0 sizes.now) }
+    ensures codes { IfOk result (λ places. places.codes ≡ program_codes program.now) }
     ensures allocas { IfOk result (λ places. places.allocas ≡ map (λ (f : Function). alloca_starts f.allocas) program.now.functions) }
 {
     let mut places = Places::of_program(alloc, program)?;

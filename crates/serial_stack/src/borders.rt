@@ -13,6 +13,7 @@ use lists::OutOfMemory;
 use program::{Argument, BlockId, Function, FunctionId, ObjectName, Operand, Program, RegisterId};
 
 /// The register that takes what a call returns, of a frame that waits for one.
+#[inline(always)]
 fn taker(waits: Wait) -> Option<RegisterId>
     ensures { result ≡ taker_of waits }
 {
@@ -23,6 +24,7 @@ fn taker(waits: Wait) -> Option<RegisterId>
 }
 
 /// The function, which is there.
+#[inline(always)]
 pub(crate) fn function_at(program: &Program, function: FunctionId) -> &Function
     requires { function.0 < length program.now.functions }
     ensures { slice_get program.now.functions function.0 ≡ Some result.now }
@@ -32,6 +34,7 @@ pub(crate) fn function_at(program: &Program, function: FunctionId) -> &Function
 
 impl Stack {
     /// The child begins; its parent stands at the continuation from here on.
+    #[inline(always)]
     pub(crate) fn detach(
         &mut self,
         program: &Program,
@@ -56,6 +59,7 @@ impl Stack {
     }
 
     /// The child is over, and its parent goes on.
+    #[inline(always)]
     pub(crate) fn reattach(
         &mut self,
         program: &Program,
@@ -119,6 +123,7 @@ impl Stack {
     }
 
     /// The callee begins, with its allocas at the end of the cells; its caller waits from here on.
+    #[inline(always)]
     pub(crate) fn call(
         &mut self,
         program: &Program,
@@ -160,6 +165,7 @@ impl Stack {
     }
 
     /// The function is over, and its caller goes on with what it returns; the root's is the run's result.
+    #[inline(always)]
     pub(crate) fn return_with(
         &mut self,
         program: &Program,

@@ -41,6 +41,7 @@ pub(crate) fn blank(alloc: Global) -> Frame {
 
 impl Stack {
     /// A frame that is over, or a new one.
+    #[inline(always)]
     pub(crate) fn fresh(&mut self) -> Result<Box<Frame>, OutOfMemory>
         ensures only { OnOk result (self.new ≡ record self.old { spare = self.new.spare }) }
     {
@@ -51,6 +52,7 @@ impl Stack {
     }
 
     /// The frame goes on, on top of the one that made it.
+    #[inline(always)]
     pub(crate) fn push(&mut self, frame: Box<Frame>) -> Result<(), OutOfMemory>
         ensures below { OnOk result (self.new.below.items ≡ self.old.below.items ++ self.old.top ∷ []) }
         ensures only { OnOk result (self.new ≡ record self.old { top = frame; below = self.new.below }) }
@@ -61,6 +63,7 @@ impl Stack {
     }
 
     /// The frame, which stood below the one on top, goes on.
+    #[inline(always)]
     pub(crate) fn go_back_to(&mut self, frame: Box<Frame>) -> Result<(), OutOfMemory>
         ensures only { OnOk result (self.new ≡ record self.old { top = frame; spare = self.new.spare }) }
     {
