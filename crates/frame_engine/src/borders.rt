@@ -9,7 +9,7 @@ ghost use Rattle.program.specs.declared.instruction.Terminator.TheVariants as te
 ghost use Rattle.frame_engine.specs.declared.activation.Places.{Places};
 ghost use Rattle.frame_engine.specs.Activation.{ShowsFrame};
 ghost use Rattle.frame_engine.specs.Fits.{EdgeFits, HasReturned};
-ghost use Rattle.frame_engine.specs.Names.{HasResult, sizes};
+ghost use Rattle.frame_engine.specs.Names.{HasResult, sizes, taker_of};
 ghost use Rattle.frame_engine.specs.Shows.{Layout};
 
 use crate::activation::Frame;
@@ -19,6 +19,17 @@ use crate::words::{define, word};
 use frame::{Role, Wait};
 use lists::OutOfMemory;
 use program::{BlockId, Operand, Program, RegisterId};
+
+/// The register that takes what a call returns, of a frame that waits for one.
+#[inline(always)]
+pub fn taker(waits: Wait) -> Option<RegisterId>
+    ensures { result ≡ taker_of waits }
+{
+    match waits {
+        Wait::Call { register, .. } => register,
+        Wait::Nothing | Wait::Region(_) => None,
+    }
+}
 
 impl Frame {
     /// Goes along the edge to the target of its sync, to wait there for its children within the region.

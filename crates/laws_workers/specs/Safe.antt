@@ -7,7 +7,7 @@ use Rattle.program.specs.declared.function.Program.{Program}
 use Rattle.frame_code.specs.Codes.{program_codes}
 use Rattle.frame_engine.specs.Starts.{alloca_starts, global_starts}
 use Rattle.frame_engine.specs.declared.activation.Places.{Places}
-use Rattle.serial_machine.specs.Safe.{HasMoves}
+use Rattle.frame_engine.specs.Fits.{HasMoves}
 use Rattle.serial_machine.specs.laws_schedule.Promise.{AreTaken, HasGlobals}
 use Rattle.serial_machine.specs.verifier.Accepted.{IsProgramOf}
 use Rattle.schedule_workers.specs.Going.{RunsSafely, TextFits}

@@ -10,7 +10,8 @@ use Rattle.semantics.specs.Events.{Machine}
 use Rattle.laws_workers.specs.store.Cells.{NamedCells}
 use Rattle.frame_engine.specs.declared.activation.Places.{Places}
 use Rattle.schedule_workers.specs.Copying.{IsCopy}
-use Rattle.schedule_workers.specs.Starts.{ArePlaces, HasMoves}
+use Rattle.frame_engine.specs.Fits.{HasMoves}
+use Rattle.schedule_workers.specs.Starts.{ArePlaces}
 use Rattle.schedule_workers.specs.Stalls.{last_blocks, no_blocks}
 use Rattle.schedule_workers.specs.declared.run.Run.{Run}
 use Rattle.schedule_core.specs.declared.stage.Stage.{Stage}

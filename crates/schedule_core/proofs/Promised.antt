@@ -23,7 +23,8 @@ use Rattle.schedule_workers.specs.Follows.{AreGiven, Follows}
 use Rattle.schedule_workers.specs.Going.{DoesSteal, StandsSafely, TextFits}
 use Rattle.schedule_workers.specs.Left.{LeavesAsShown}
 use Rattle.schedule_workers.specs.Stalls.{KeepsStalls}
-use Rattle.schedule_workers.specs.Starts.{ArePlaces, HasMoves}
+use Rattle.frame_engine.specs.Fits.{HasMoves}
+use Rattle.schedule_workers.specs.Starts.{ArePlaces}
 use Rattle.frame_engine.specs.declared.activation.Places.{Places}
 use Rattle.frame.specs.declared.event.Event.{Event}
 use Rattle.frame.specs.declared.event.Event.TheVariants.{Step, Steal}

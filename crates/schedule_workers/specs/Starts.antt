@@ -36,7 +36,3 @@ pub record ArePlaces (prog : Program) (places : Places) : Type 0 where
 abbrev pub Begins : Program → List ℤ → List ℤ → Run → Type 0
 Begins prog arguments row k =
     (places : Places) (memory : Memory) → ArePlaces prog places → IsRowOf prog memory row → IsShown prog places (running.start prog arguments memory) k
-
--- as many moves as a function has registers are enough
-abbrev pub HasMoves : Program → ℕ → Type 0
-HasMoves program moves = (k : ℕ) (f : Function) → slice_get program.functions k ≡ Some f → length f.registers ≤ moves

@@ -7,6 +7,7 @@ use Rattle.program.specs.declared.function.Program.{Program}
 use Rattle.outcome.specs.verifier.Accepted.{IsProgramOf}
 use Rattle.outcome.specs.verifier.Budgets.{budget_of}
 use Rattle.frame_code.specs.Codes.{program_codes}
+use Rattle.frame_engine.specs.Fits.{HasMoves}
 use Rattle.frame_engine.specs.Operands.{ItemFits}
 use Rattle.frame_engine.specs.Starts.{alloca_starts}
 use Rattle.frame_engine.specs.declared.activation.Places.{Places}
@@ -31,10 +32,6 @@ RunsAreSafe =
 -- numbers of i32 that an instruction reads are numbers of that type
 abbrev pub ItemsFit : Type 0
 ItemsFit = (prog : Program) → HasKinds prog → (f : Frame) → HasKindedRegisters prog f → ItemFits f (item_at prog f.function f.block f.index)
-
--- as many moves as a function has registers are enough
-abbrev pub HasMoves : Program → ℕ → Type 0
-HasMoves program moves = (k : ℕ) (f : Function) → slice_get program.functions k ≡ Some f → length f.registers ≤ moves
 
 -- what the text names is there
 abbrev pub TextsFit : Type 0

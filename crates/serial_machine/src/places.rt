@@ -2,7 +2,6 @@ ghost use Rattle.std.specs.Prelude.{◌≡◌, IfOk, map};
 ghost use Rattle.program.specs.declared.function.Function.{Function};
 ghost use Rattle.frame_code.specs.Codes.{program_codes};
 ghost use Rattle.frame_engine.specs.Starts.{alloca_starts, starts_from};
-ghost use Rattle.serial_machine.specs.Safe.{HasMoves};
 
 use frame_engine::Places;
 use lists::{OutOfMemory, Seq};
@@ -35,15 +34,4 @@ pub(crate) fn places_of(
     let mut places = Places::of_program(alloc, program)?;
     places.globals = starts(alloc, sizes)?;
     Ok(places)
-}
-
-/// As many moves as any edge of the program makes at a time.
-pub(crate) fn most_moves(program: &Program) -> usize
-    ensures { HasMoves program.now result }
-{
-    let mut most = 0;
-    for function in program.functions.as_slice() {
-        most = most.max(function.registers.len());
-    }
-    most
 }

@@ -1,36 +1,14 @@
-ghost use Rattle.std.specs.Prelude.{◌≡◌, ◌<◌, OnOk, IfOk, Some, length, slice_get};
+ghost use Rattle.std.specs.Prelude.{◌≡◌, OnOk, IfOk, Some, length};
 ghost use Rattle.semantics.specs.Frames.{Does, Ends};
 ghost use Rattle.program.specs.declared.instruction.Instruction.TheVariants as instruction;
 ghost use Rattle.program.specs.declared.instruction.Terminator.TheVariants as terminator;
-ghost use Rattle.serial_stack.specs.Shown.{GoesOn, HasNumbers, Returns, StandsSafely, TextFits, item_here, taker_of};
+ghost use Rattle.serial_stack.specs.Shown.{GoesOn, HasNumbers, Returns, StandsSafely, TextFits, item_here};
 ghost use Rattle.frame_engine.specs.Activation.{FrameFits};
 
 use crate::stack::Stack;
-use crate::text::frame_cells;
-use frame::Wait;
-use frame_engine::Places;
+use frame_engine::{Places, frame_cells, function_at, taker};
 use lists::OutOfMemory;
-use program::{Argument, BlockId, Function, FunctionId, ObjectName, Operand, Program, RegisterId};
-
-/// The register that takes what a call returns, of a frame that waits for one.
-#[inline(always)]
-fn taker(waits: Wait) -> Option<RegisterId>
-    ensures { result ≡ taker_of waits }
-{
-    match waits {
-        Wait::Call { register, .. } => register,
-        Wait::Nothing | Wait::Region(_) => None,
-    }
-}
-
-/// The function, which is there.
-#[inline(always)]
-pub(crate) fn function_at(program: &Program, function: FunctionId) -> &Function
-    requires { function.0 < length program.now.functions }
-    ensures { slice_get program.now.functions function.0 ≡ Some result.now }
-{
-    &program.functions.as_slice()[function.0]
-}
+use program::{Argument, BlockId, FunctionId, ObjectName, Operand, Program, RegisterId};
 
 impl Stack {
     /// The child begins; its parent stands at the continuation from here on.

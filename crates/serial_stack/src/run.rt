@@ -45,7 +45,7 @@ impl Stack {
 
     /// Does the instruction at its place, which is no plain one.
     #[inline(always)]
-    pub fn step_over(
+    fn step_over(
         &mut self,
         program: &Program,
         places: &Places,
@@ -76,7 +76,7 @@ impl Stack {
 
     /// Does the ending at its place, which is no plain one; the run's result where it has ended.
     #[inline(always)]
-    pub fn end_block(
+    fn end_block(
         &mut self,
         program: &Program,
         places: &Places,
@@ -131,7 +131,7 @@ pub struct Ended {
 impl Stack {
     /// Does what stands at its place, which is no plain step; the run's result where it has ended.
     #[inline(always)]
-    fn border(&mut self, program: &Program, places: &Places) -> Result<Option<i64>, OutOfMemory>
+    pub fn border(&mut self, program: &Program, places: &Places) -> Result<Option<i64>, OutOfMemory>
         requires stands { FrameFits program.now self.old.top.value }
         requires text { TextFits program.now places.now (length self.old.moves.items) }
         requires border { IsBorderItem (item_here program.now self.old.top.value) }

@@ -1,9 +1,7 @@
 ghost use Rattle.std.specs.Prelude.{◌≡◌, ◌++◌, ◌∷◌, [], OnOk};
 
-use frame::{Role, Wait};
-use frame_engine::{Flat, Frame, Place};
+use frame_engine::{Flat, Frame, blank};
 use lists::OutOfMemory;
-use program::{BlockId, FunctionId};
 use std::alloc::Global;
 use std::mem;
 
@@ -20,23 +18,6 @@ pub struct Stack {
     pub end: usize,
     /// Room for the phi moves of an edge.
     pub moves: Vec<i64>,
-}
-
-/// A frame to be made something of.
-pub(crate) fn blank(alloc: Global) -> Frame {
-    Frame {
-        function: FunctionId(0),
-        place: Place {
-            block: BlockId(0),
-            index: 0,
-        },
-        registers: Vec::new(alloc),
-        home: 0,
-        made: 0,
-        waits: Wait::Nothing,
-        role: Role::Body,
-        depth: 0,
-    }
 }
 
 impl Stack {

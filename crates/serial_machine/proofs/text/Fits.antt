@@ -51,12 +51,12 @@ use Rattle.laws_schedule.proofs.Accepted.{IsTaken, is_taken}
 use Rattle.outcome.specs.verifier.Accepted.{IsProgramOf}
 use Rattle.frame_engine.specs.declared.activation.Places.{Places}
 use Rattle.frame_engine.specs.Activation.{allocas_of, or_none}
-use Rattle.frame_engine.specs.Fits.{BlockFits, EdgeFits, EndingFits, HasEnding, HasEntry, HasPhi, HasReturned}
+use Rattle.frame_engine.specs.Fits.{BlockFits, EdgeFits, EndingFits, HasEnding, HasEntry, HasPhi, HasReturned, HasMoves}
 use Rattle.frame_engine.specs.Names.{Sizes, sizes, HasAddress, HasArgument, HasNames, HasObject, HasOperand, HasResult}
 use Rattle.frame_code.specs.Codes.{program_codes}
 use Rattle.frame_engine.specs.Starts.{alloca_starts, starts_from}
 use Rattle.serial_stack.specs.Shown.{TextFits}
-use Rattle.serial_machine.specs.Safe.{HasMoves, TextsFit}
+use Rattle.serial_machine.specs.Safe.{TextsFit}
 use Rattle.serial_machine.proofs.text.Named.{IsThere, alloca_named, object_named}
 use Rattle.frame_engine.proofs.Turns.{item_end}
 

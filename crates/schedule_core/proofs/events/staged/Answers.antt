@@ -3,7 +3,8 @@ use Rattle.std.specs.Prelude.{sum}
 use Rattle.program.specs.declared.function.Function.{Function}
 use Rattle.program.specs.declared.function.Program.{Program}
 use Rattle.laws_workers.specs.store.Rows.{row_of, sizes_of}
-use Rattle.schedule_workers.specs.Starts.{ArePlaces, Begins, HasMoves}
+use Rattle.frame_engine.specs.Fits.{HasMoves}
+use Rattle.schedule_workers.specs.Starts.{ArePlaces, Begins}
 use Rattle.schedule_core.specs.declared.stage.Stage.{Stage}
 use Rattle.schedule_core.proofs.Grounds.{laws}
 use Rattle.schedule_core.proofs.Begun.{begun_machine, begun_replays, row_long}
