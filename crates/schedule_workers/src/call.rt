@@ -26,7 +26,7 @@ use crate::run::Run;
 use frame::{Role, Wait};
 use frame_engine::{Places, blank, frame_cells, function_at};
 use lists::OutOfMemory;
-use program::{Argument, BlockId, FunctionId, Program, RegisterId};
+use program::{Argument, FunctionId, Program, RegisterId};
 use std::alloc::Global;
 
 impl Activation {

@@ -20,6 +20,7 @@ ghost use Rattle.schedule_workers.specs.Shown.{item_here};
 
 use crate::activation::Activation;
 use crate::run::Run;
+use frame::Wait;
 use frame_engine::{Places, taker};
 use program::{Operand, Program};
 
