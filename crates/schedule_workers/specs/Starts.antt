@@ -1,5 +1,5 @@
 -- How a run begins: with the cells of the globals in one row.
-use Rattle.std.specs.Prelude.{◌≡◌, ℕ, ◌+◌, ◌<◌, ◌≤◌, List, length, map, sum, take, Some, ℤ, slice_get}
+use Rattle.std.specs.Prelude.{◌≡◌, ℕ, ◌+◌, ◌<◌, List, length, map, sum, take, Some, ℤ, slice_get}
 use Rattle.semantics.specs.Cells.{Shared, Memory}
 use Rattle.semantics.specs.Events as running
 use Rattle.program.specs.declared.function.Function.{Function}
