@@ -15,7 +15,8 @@ use Rattle.laws_workers.specs.store.Rows.{sizes_of}
 use Rattle.schedule_workers.specs.Events.{GrowsAtStep}
 use Rattle.schedule_workers.specs.Follows.{AreGiven, KeepsUses}
 use Rattle.schedule_workers.specs.Stalls.{StallsAgree, last_blocks, no_blocks}
-use Rattle.schedule_workers.specs.Starts.{ArePlaces, HasMoves}
+use Rattle.frame_engine.specs.Fits.{HasMoves}
+use Rattle.schedule_workers.specs.Starts.{ArePlaces}
 use Rattle.schedule_core.specs.Spots.{KeepsSpots}
 use Rattle.schedule_core.specs.Lines.{line_after, line_or_zero}
 use Rattle.laws_workers.specs.store.Made.{IsMadeFor}

@@ -10,10 +10,10 @@ ghost use Rattle.schedule_core.specs.Stages.{IsState, program_of};
 
 use crate::stage::Stage;
 use frame::Event;
-use frame_engine::Places;
+use frame_engine::{Places, most_moves};
 use lists::OutOfMemory;
 use outcome::{Memory, RunFault, Verified, unmet_requirement};
-use schedule_workers::{Run, most_moves};
+use schedule_workers::Run;
 use std::alloc::Global;
 
 /// The stage before the first event, of arguments that `main` takes.

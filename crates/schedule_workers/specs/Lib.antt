@@ -6,7 +6,6 @@ pub mod Going
 pub mod Forking
 pub mod Rooms
 pub mod Calls
-pub mod Returns
 pub mod Follows
 pub mod Left
 pub mod Stalls

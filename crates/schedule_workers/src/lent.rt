@@ -7,10 +7,9 @@ ghost use Rattle.frame_engine.specs.declared.activation.Places.{Places};
 ghost use Rattle.schedule_workers.specs.Left.{LeavesAsShown};
 ghost use Rattle.schedule_workers.specs.Shown.{LiesWithin, cells_in};
 
-use crate::room::frame_cells;
 use crate::run::{Block, Run};
 use frame::Role;
-use frame_engine::Frame;
+use frame_engine::{Frame, frame_cells};
 use lists::OutOfMemory;
 use program::{FunctionId, Program};
 

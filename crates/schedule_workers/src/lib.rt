@@ -17,7 +17,6 @@ mod detach;
 mod hands;
 mod lent;
 mod lowest;
-mod moves;
 mod plain;
 mod reattach;
 mod returning;
@@ -30,5 +29,4 @@ mod sync;
 mod tops;
 
 pub use activation::Activation;
-pub use moves::most_moves;
 pub use run::{Block, Run};
