@@ -18,6 +18,7 @@ mod hands;
 mod lent;
 mod lowest;
 mod moves;
+mod pieces;
 mod plain;
 mod reattach;
 mod returning;
