@@ -15,3 +15,4 @@ pub mod Starts
 pub mod Roots
 pub mod Copying
 pub mod Lent
+pub mod Pieces

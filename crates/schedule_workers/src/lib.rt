@@ -17,6 +17,7 @@ mod detach;
 mod hands;
 mod lent;
 mod lowest;
+mod pieces;
 mod plain;
 mod reattach;
 mod returning;
