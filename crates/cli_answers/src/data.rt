@@ -8,6 +8,7 @@ use cli_data::{DataFault, print_numbers, read_numbers, read_words, write_words};
 use cli_modules::{Beside, Dump, Status};
 use cli_words::{DataWord, DataWords, RowWord};
 use debugger::Memory;
+use program::GlobalId;
 use std::alloc::{AllocError, Global};
 use std::io;
 use std::io::Write;
@@ -109,20 +110,20 @@ fn note_counts(
 }
 
 /// Gives a cell a number, where it is there.
-fn put(memory: &mut Memory, name: &str, index: usize, value: i64)
+fn put(memory: &mut Memory, global: GlobalId, index: usize, value: i64)
     ensures cells { (program : Program) → HasGlobalCells program memory.old → HasGlobalCells program memory.new }
     ensures made { (program : Program) → IsMadeFor program memory.old → IsMadeFor program memory.new }
 {
-    let _is_there = memory.set_global(name, index as u64, value);
+    let _is_there = memory.set_cell(global, index as u64, value);
 }
 
 /// Gives the cells of a global these numbers.
-fn fill(memory: &mut Memory, name: &str, numbers: &[i64])
+fn fill(memory: &mut Memory, global: GlobalId, numbers: &[i64])
     ensures cells { (program : Program) → HasGlobalCells program memory.old → HasGlobalCells program memory.new }
     ensures made { (program : Program) → IsMadeFor program memory.old → IsMadeFor program memory.new }
 {
     for index in 0..numbers.len() {
-        put(memory, name, index, numbers[index]);
+        put(memory, global, index, numbers[index]);
     }
 }
 
@@ -137,7 +138,7 @@ fn load(
     ensures made { (program : Program) → IsMadeFor program memory.old → IsMadeFor program memory.new }
 {
     let name = word.name.as_str();
-    let (Some(bytes), Some((_, cells))) = (&word.bytes, memory.place_of(name)) else {
+    let (Some(bytes), Some((global, cells))) = (&word.bytes, memory.place_of(name)) else {
         return Err(Status::Unreadable);
     };
     let numbers = numbers_in(job, word, bytes.as_slice(), beside)?;
@@ -145,7 +146,7 @@ fn load(
         let said = note_counts(job.alloc, word, numbers.len(), cells, beside);
         return Err(unusable(said));
     }
-    fill(memory, name, numbers.as_slice());
+    fill(memory, GlobalId(global), numbers.as_slice());
     Ok(())
 }
 
@@ -169,11 +170,12 @@ pub fn print_rows<W: Write>(memory: &Memory, rows: &[RowWord], output: &mut W) -
 }
 
 fn print_row<W: Write>(memory: &Memory, row: &RowWord, output: &mut W) -> io::Result<()> {
-    let name = row.name.as_str();
-    let first = row.first;
-    write!(output, "@{name}:{first}")?;
-    for index in first..first.saturating_add(row.count) {
-        if let Some(value) = memory.get_global(name, index) {
+    let Some((global, _)) = memory.place_of(row.name.as_str()) else {
+        return Ok(());
+    };
+    write!(output, "@{}:{}", row.name, row.first)?;
+    for index in row.first..row.first.saturating_add(row.count) {
+        if let Some(value) = memory.cell(GlobalId(global), index) {
             write!(output, " {value}")?;
         }
     }
@@ -183,9 +185,9 @@ fn print_row<W: Write>(memory: &Memory, row: &RowWord, output: &mut W) -> io::Re
 /// The numbers of a global.
 fn numbers_of(alloc: Global, memory: &Memory, name: &str) -> Result<Vec<i64>, AllocError> {
     let mut numbers = Vec::new(alloc);
-    if let Some((_, cells)) = memory.place_of(name) {
+    if let Some((global, cells)) = memory.place_of(name) {
         for index in 0..cells {
-            numbers.push(memory.get_global(name, index).unwrap_or(0))?;
+            numbers.push(memory.cell(GlobalId(global), index).unwrap_or(0))?;
         }
     }
     Ok(numbers)

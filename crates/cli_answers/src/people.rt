@@ -29,6 +29,7 @@ pub fn guide<R: Read + Drop, W: Write>(
     let session = Session {
         alloc,
         debugger,
+        verified: job.verified,
         names: &names,
         lines: lines.as_slice(),
         workers: job.request.workers,

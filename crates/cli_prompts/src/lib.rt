@@ -8,11 +8,12 @@ mod dialogue;
 mod going;
 mod help;
 mod paint;
-mod pointers;
+mod registers;
 mod session;
 mod showing;
 mod source;
 mod values;
+mod word;
 
 pub use dialogue::converse;
 pub use session::Session;

@@ -2,7 +2,7 @@
 
 ghost use Rattle.std.specs.Prelude.{◌≤◌, length};
 
-use debugger::{Debugger, Event, TaskView};
+use debugger::{Debugger, Event, TaskView, Verified};
 use frame::Path;
 use lists::OutOfMemory;
 use std::alloc::{AllocError, Global};
@@ -14,6 +14,7 @@ use view_moments::TaskName;
 pub struct Session<'s, 'v> {
     pub alloc: Global,
     pub debugger: &'s mut Debugger<'v>,
+    pub verified: &'s Verified,
     pub names: &'s Names<'s>,
     /// The lines of the module.
     pub lines: &'s [&'s str],
@@ -43,7 +44,7 @@ impl Session<'_, '_> {
     /// The paths of the living frames, by rising path: each behind the one that made it.
     pub fn paths(&self) -> Result<Vec<Path>, OutOfMemory> {
         let mut sorted: Vec<Path> = Vec::new(self.alloc);
-        for path in self.debugger.machine().paths(self.alloc)? {
+        for path in self.debugger.paths(self.alloc)? {
             let place = place_for(sorted.as_slice(), &path);
             sorted.insert(place, path)?;
         }

@@ -2,11 +2,9 @@
 
 use crate::paint::{Paint, push_painted};
 use crate::session::{Session, push_event};
-use crate::values::registers_with_values;
-use debugger::{Frame, FrameView, Status, TaskView};
+use debugger::{FrameView, Status, TaskView};
 use frame::Path;
 use lists::OutOfMemory;
-use program::{RegisterId, RegisterKind};
 use view_moments::TaskName;
 
 /// The most cells that one command shows of an object.
@@ -50,7 +48,12 @@ impl Session<'_, '_> {
     }
 
     /// A note that no task or frame has this path.
-    fn push_missing(&self, out: &mut String, what: &str, path: &Path) -> Result<(), OutOfMemory> {
+    pub fn push_missing(
+        &self,
+        out: &mut String,
+        what: &str,
+        path: &Path,
+    ) -> Result<(), OutOfMemory> {
         write!(out, "no {what} ")?;
         self.push_path(out, path)?;
         out.push_str(" lives here\n")?;
@@ -128,41 +131,6 @@ impl Session<'_, '_> {
             if let Some(view) = self.debugger.show_frame(&path) {
                 self.push_frame(out, view)?;
             }
-        }
-        Ok(())
-    }
-
-    /// A register of a frame and what it holds; nothing of a region.
-    fn push_register(
-        &self,
-        out: &mut String,
-        frame: &Frame,
-        register: RegisterId,
-    ) -> Result<(), OutOfMemory> {
-        let function = frame.function.0;
-        let Some(found) = self.names.program().functions.as_slice().get(function) else {
-            return Ok(());
-        };
-        let kind = found.registers.as_slice().get(register.0).copied();
-        let word = frame.registers.as_slice().get(register.0).copied();
-        match (kind, word) {
-            (None, _) | (_, None) | (Some(RegisterKind::Region), _) => Ok(()),
-            (Some(kind), Some(word)) => {
-                let name = self.names.register(function, register.0);
-                write!(out, "%{name} ")?;
-                self.push_value(out, kind, word)?;
-                Ok(out.push_str("\n")?)
-            }
-        }
-    }
-
-    /// The registers of a frame that have values, but for regions.
-    pub fn push_registers(&self, out: &mut String, path: &Path) -> Result<(), OutOfMemory> {
-        let Some(view) = self.debugger.show_frame(path) else {
-            return self.push_missing(out, "frame", path);
-        };
-        for register in registers_with_values(self.alloc, self.names.program(), view.frame)? {
-            self.push_register(out, view.frame, register)?;
         }
         Ok(())
     }

@@ -108,7 +108,8 @@ fn read_run(
     request.telling.seed = number_of(alloc, matches, "seed", "--seed <S>")?;
     read_telling(alloc, matches, request)?;
     request.speedup = speedup_of(alloc, matches)?;
-    let is_one = request.telling.is_any() || matches.get_str("workers").is_some();
+    let is_told = request.telling.is_any() || request.is_timed;
+    let is_one = is_told || matches.get_str("workers").is_some();
     if is_one && !request.speedup.is_empty() {
         return Err(fault_with(String::from_str(
             alloc,

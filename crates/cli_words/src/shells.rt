@@ -97,17 +97,12 @@ fn push_zsh_part(out: &mut String, part: &Part) -> Result<(), AllocError> {
     let help = part.help;
     let value = part.value;
     let action = zsh_action(part);
-    let repeated = if matches!(part.given, Given::Repeated | Given::Row) {
-        "*"
-    } else {
-        ""
-    };
-    if !is_option(part) {
-        write!(out, " ':{value}:{action}'")
-    } else if has_value(part) {
-        write!(out, " '{repeated}--{name}=[{help}]:{value}:{action}'")
-    } else {
-        write!(out, " '--{name}[{help}]'")
+    match part.given {
+        Given::Word => write!(out, " ':{value}:{action}'"),
+        Given::Flag => write!(out, " '--{name}[{help}]'"),
+        Given::Row => write!(out, " '*--{name}[{help}]:@a: :I: :N: '"),
+        Given::Repeated => write!(out, " '*--{name}=[{help}]:{value}:{action}'"),
+        _ => write!(out, " '--{name}=[{help}]:{value}:{action}'"),
     }
 }
 

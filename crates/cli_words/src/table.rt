@@ -29,6 +29,9 @@ Commands, one a line:
   cell @a:I   shows a cell
   quit        ends, as the end of the input does
 
+Between terminals, or with --interactive, there is a prompt, and help lists
+more commands.
+
 Example:
   $ printf 'to 6\\ntask root\\nback\\n' | tapirvm debug pair.ll s.txt --workers 2 --arg 7
   at 6 of 15

@@ -1,14 +1,16 @@
 //! What else is seen of the state at the position: frames with their registers, cells of allocas, and what workers run.
 
-ghost use Rattle.std.specs.Prelude.{◌≡◌, IfNone, IfSome, None};
-ghost use Rattle.schedule_core.specs.FrameViews.{IsFrameAt, IsHeldBy};
+ghost use Rattle.std.specs.Prelude.{◌≡◌, IfNone, IfOk, IfSome, None};
+ghost use Rattle.schedule_core.specs.FrameViews.{AreLiving, IsFrameAt, IsHeldBy};
 ghost use Rattle.schedule_core.specs.Stages.{IsState};
 ghost use Rattle.schedule_core.specs.Viewed.{IsRunBy, place_in};
 ghost use Rattle.debugger.specs.Sessions.{Debugs, Session, state_at};
 
 use crate::debugger::Debugger;
 use frame::Path;
+use lists::OutOfMemory;
 use schedule_core::{Event, FrameView, Machine, TaskView};
+use std::alloc::Global;
 
 impl<'v> Debugger<'v> {
     /// The events of the schedule.
@@ -23,6 +25,17 @@ impl<'v> Debugger<'v> {
         ensures { (s : Session) → Debugs s self.now → IsState result.now.stage (state_at s self.now.position) }
     {
         &self.machine
+    }
+
+    /// The paths of the living frames, in no order that tells.
+    ///
+    /// # Errors
+    ///
+    /// Memory was refused.
+    pub fn paths(&self, alloc: Global) -> Result<Vec<Path>, OutOfMemory>
+        ensures { IfOk result (λ paths. (s : Session) → Debugs s self.now → AreLiving (state_at s self.now.position) paths.items) }
+    {
+        self.machine.paths(alloc)
     }
 
     /// The frame of the path, with its registers; none where no such frame lives.

@@ -23,7 +23,7 @@ use Rattle.schedule_workers.specs.Shown.{ShowsNode, place_of}
 use Rattle.schedule_workers.proofs.Onward.{seen}
 use Rattle.schedule_core.specs.declared.frames.FrameView.{FrameView}
 use Rattle.schedule_core.specs.declared.stage.Stage.{Stage}
-use Rattle.schedule_core.specs.FrameViews.{IsFrameAt, IsHeldAt, IsHeldBy, layout_in}
+use Rattle.schedule_core.specs.FrameViews.{IsAddressIn, IsFrameAt, IsHeldAt, IsHeldBy, layout_in}
 use Rattle.schedule_core.specs.Stages.{IsState, program_of}
 use Rattle.schedule_core.specs.Viewed.{place_in}
 use Rattle.schedule_core.proofs.Spots.{same_node}
@@ -64,12 +64,13 @@ index_wraps n low = ap (cast_signed w64) (sym (mod-eq_of_lt low)) ∙ sym (wrapp
 cell_behind : (at first : ℤ) (n : ℕ) → n < 18446744073709551616 → first ≡ wrapped Bits64 (at +ℤ pos 0) → wrapped Bits64 (first +ℤ cast_signed w64 n) ≡ wrapped Bits64 (at +ℤ pos n)
 cell_behind at first n low e = ap (λ (y : ℤ). wrapped Bits64 (first +ℤ y)) (index_wraps n low) ∙ int_wrap-add_right w64 first (pos n) ∙ cells_on at first (pos n) n e refl
 
-no_alloca : {P : Type 0} (places : Places) (function alloca : ℕ) (k : ℤ) → slice_get places.allocas function ≡ None → slice_get (allocas_of places function) alloca ≡ Some k → P
-no_alloca places function alloca k none e = absurd (go (slice_get places.allocas function) none e)
-  where
-    go : (o : Option (List ℤ)) → o ≡ None → slice_get (or_none o) alloca ≡ Some k → ⊥
-    go None n h = cc
-    go (Some ks) n h = cc
+-- a function that is not there has no alloca
+pub no_alloca : (places : Places) (function alloca : ℕ) → slice_get places.allocas function ≡ None → slice_get (allocas_of places function) alloca ≡ None
+no_alloca places function alloca none = ap (λ (o : Option (List ℤ)). slice_get (or_none o) alloca) none
+
+-- no frame lives at the path, so none of its cells holds anything
+pub gone_held : (stage : Stage) (m : Machine) (path : Path) (alloca index : ℕ) → m.core.frames (place_in path) ≡ None → IsHeldBy stage m path alloca index None
+gone_held stage m path alloca index gone f k z lives stands held = absurd (let e : None ≡ Some f = sym gone ∙ lives in cc)
 
 module _ (stage : Stage) (m : Machine) (path : Path) where
   -- where no such alloca is, none of its cells holds anything
@@ -79,11 +80,11 @@ module _ (stage : Stage) (m : Machine) (path : Path) where
       let function : f.function ≡ view.frame.now.function.0 = ap (λ (g : Frame). g.function) (sym same) ∙ s.shown.shown.function in
       absurd (let e : None ≡ Some k = sym none ∙ subst (λ (g : ℕ). slice_get (allocas_of stage.places g) alloca ≡ Some k) function stands in cc)
 
-  pub alloca_held : (view : FrameView) (alloca index : ℕ) (start at : ℤ) (word : Option ℤ) → IsFrameAt stage m path view → index < 18446744073709551616 →
-      slice_get (allocas_of stage.places view.frame.now.function.0) alloca ≡ Some start → at ≡ cell_sum (cell_sum view.frame.now.home start) (cast_signed w64 index) → IsHeldAt stage m at word → IsHeldBy stage m path alloca index word
-  alloca_held view alloca index start at word s low there is held f k z lives stands value =
+  pub alloca_held : (view : FrameView) (alloca index : ℕ) (at : ℤ) (word : Option ℤ) → IsFrameAt stage m path view → index < 18446744073709551616 →
+      IsAddressIn stage.places view.frame.now alloca index at → IsHeldAt stage m at word → IsHeldBy stage m path alloca index word
+  alloca_held view alloca index at word s low a held f k z lives stands value =
       let same : s.frame ≡ f = same_Some s.frame f (sym s.stands ∙ lives) in
       let l : Layout = layout_in stage m in
-      let first : cell_sum view.frame.now.home start ≡ address l (first_cell (Local s.frame.home alloca)) = s.shown.shown.bases.allocas alloca start there in
-      let behind : at ≡ address l (record { object = Local s.frame.home alloca; index = index }) = is ∙ cell_behind (l.at (Local s.frame.home alloca)) (cell_sum view.frame.now.home start) index low first in
+      let first : cell_sum view.frame.now.home a.start ≡ address l (first_cell (Local s.frame.home alloca)) = s.shown.shown.bases.allocas alloca a.start a.there in
+      let behind : at ≡ address l (record { object = Local s.frame.home alloca; index = index }) = a.is ∙ cell_behind (l.at (Local s.frame.home alloca)) (cell_sum view.frame.now.home a.start) index low first in
       held (record { object = Local f.home alloca; index = index }) z (sym (behind ∙ ap (λ (g : Frame). address l (record { object = Local g.home alloca; index = index })) same)) value

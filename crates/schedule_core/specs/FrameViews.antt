@@ -1,10 +1,14 @@
 -- What the views of single frames and cells show, in the definitions of running.
-use Rattle.std.specs.Prelude.{◌≡◌, ℕ, ℤ, Option, Some, slice_get}
+use Rattle.std.specs.Prelude.{◌≡◌, ℕ, ℤ, List, Contains, Option, Some, IsSome, slice_get}
+use Rattle.std.specs.Int.{cast_signed, w64}
+use Rattle.semantics.specs.Arithmetic.{cell_sum}
 use Rattle.semantics.specs.Cells.{Cell, Local}
 use Rattle.semantics.specs.Frames.{Frame}
 use Rattle.semantics.specs.Events as running
 use Rattle.frame.specs.declared.path.Path.{Path}
 use Rattle.frame_engine.specs.Activation.{allocas_of}
+use Rattle.frame_engine.specs.declared.activation.Places.{Places}
+use Rattle.frame_engine.specs.declared.activation.Frame as machine
 use Rattle.frame_engine.specs.Shows.{Layout, address}
 use Rattle.schedule_workers.specs.Layouts.{layout_of}
 use Rattle.schedule_workers.specs.Shown.{ShowsNode}
@@ -23,6 +27,17 @@ pub record IsFrameAt (stage : Stage) (m : running.Machine) (path : Path) (view :
   pub frame : Frame
   pub stands : m.core.frames (place_in path) ≡ Some frame
   pub shown : ShowsNode (layout_in stage m) stage.places (place_in path) frame view.frame.now
+
+-- the paths are those of the living frames
+pub record AreLiving (m : running.Machine) (paths : List Path) : Type 0 where
+  pub live : (path : Path) → Contains paths path → IsSome (m.core.frames (place_in path))
+  pub listed : (path : Path) → IsSome (m.core.frames (place_in path)) → Contains paths path
+
+-- the address is that of a cell of the frame's alloca: so far behind where the alloca begins
+pub record IsAddressIn (places : Places) (frame : machine.Frame) (alloca index : ℕ) (at : ℤ) : Type 0 where
+  pub start : ℤ
+  pub there : slice_get (allocas_of places frame.function.0) alloca ≡ Some start
+  pub is : at ≡ cell_sum (cell_sum frame.home start) (cast_signed w64 index)
 
 -- it is what each cell at this address holds, where one does
 abbrev pub IsHeldAt : Stage → running.Machine → ℤ → Option ℤ → Type 0

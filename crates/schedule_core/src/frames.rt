@@ -1,9 +1,10 @@
 //! Living frames one by one, and what cells hold by their addresses.
 
-ghost use Rattle.std.specs.Prelude.{◌≡◌, ℤ, IfSome, IfNone, None, Some};
+ghost use Rattle.std.specs.Prelude.{◌≡◌, ◌++◌, ◌∷◌, [], ℤ, IfOk, IfSome, IfNone, None, OnOk, Some, slice_get};
+ghost use Rattle.frame_engine.specs.Activation.{allocas_of};
 ghost use Rattle.frame_engine.specs.Flat.{cell_in};
 ghost use Rattle.semantics.specs.Events as running;
-ghost use Rattle.schedule_core.specs.FrameViews.{IsFrameAt, IsHeldAt, IsHeldBy};
+ghost use Rattle.schedule_core.specs.FrameViews.{AreLiving, IsAddressIn, IsFrameAt, IsHeldAt, IsHeldBy};
 ghost use Rattle.schedule_core.specs.Stages.{IsState};
 ghost use Rattle.schedule_core.specs.Viewed.{place_in};
 
@@ -28,6 +29,33 @@ fn word_in(row: &[i64], address: i64) -> Option<i64>
         Ok(index) => row.get(index).copied(),
         Err(_) => None,
     }
+}
+
+/// Adds a copy of the path.
+fn push_path(alloc: Global, paths: &mut Vec<Path>, path: &Path) -> Result<(), OutOfMemory>
+    ensures { OnOk result (paths.new.items ≡ paths.old.items ++ path.now ∷ []) }
+{
+    let copy = path.copy(alloc)?;
+    paths.push(copy)?;
+    Ok(())
+}
+
+/// Where an alloca of the frame's function begins behind its home; none where the function has no such alloca.
+fn start_of(places: &Places, function: usize, alloca: usize) -> Option<i64>
+    ensures { result ≡ slice_get (allocas_of places.now function) alloca }
+{
+    let starts = places.allocas.as_slice().get(function)?;
+    starts.as_slice().get(alloca).copied()
+}
+
+/// The address of a cell of the frame's alloca; none where its function has no such alloca.
+fn address_in(places: &Places, frame: &Frame, alloca: usize, index: u64) -> Option<i64>
+    ensures address { IfSome result (IsAddressIn places.now frame.now alloca index) }
+    ensures none { IfNone result (slice_get (allocas_of places.now frame.now.function.0) alloca ≡ None) }
+{
+    let start = start_of(places, frame.function.0, alloca)?;
+    let first = sum(frame.home, start);
+    Some(sum(first, index.cast_signed()))
 }
 
 impl Machine<'_> {
@@ -62,12 +90,9 @@ impl Machine<'_> {
     pub fn alloca_cell(&self, path: &Path, alloca: usize, index: u64) -> Option<i64>
         ensures { (m : running.Machine) → IsState self.now.stage m → IsHeldBy self.now.stage m path.now alloca index result }
     {
-        let frame = self.frame(path)?.frame;
-        let places = &self.stage.places;
-        let allocas = places.allocas.as_slice().get(frame.function.0)?;
-        let start = allocas.as_slice().get(alloca).copied()?;
-        let first = sum(frame.home, start);
-        self.word_at(sum(first, index.cast_signed()))
+        let view = self.frame(path)?;
+        let address = address_in(&self.stage.places, view.frame, alloca, index)?;
+        self.word_at(address)
     }
 
     /// The paths of the living frames, in no order that tells.
@@ -75,10 +100,12 @@ impl Machine<'_> {
     /// # Errors
     ///
     /// Memory was refused.
-    pub fn paths(&self, alloc: Global) -> Result<Vec<Path>, OutOfMemory> {
+    pub fn paths(&self, alloc: Global) -> Result<Vec<Path>, OutOfMemory>
+        ensures { IfOk result (λ paths. (m : running.Machine) → IsState self.now.stage m → AreLiving m paths.items) }
+    {
         let mut paths = Vec::new(alloc);
         for (_slot, node) in self.stage.run.cactus.iter() {
-            paths.push(node.path.copy(alloc)?)?;
+            push_path(alloc, &mut paths, &node.path)?;
         }
         Ok(paths)
     }
