@@ -1,4 +1,4 @@
-/// The commands in words. A beginning of a command's word stands for the first of these that begins so.
+/// The commands in words. Of those that begin as a word does, the first is meant that takes what follows.
 pub const HELP: &str = "\
 Going:
   to N           goes to the position after N events
@@ -24,5 +24,7 @@ Showing:
   help           this
   quit           ends, as the end of the input does
 
-A word may be cut short, as f for forward. An empty line does the last command again. Paths are root, root.0, root.0.1 and so on.
+A word may be cut short: f goes forward, b back, b 20 to a break.
+An empty line does the last command again.
+Paths are root, root.0, root.0.1 and so on.
 ";

@@ -13,6 +13,7 @@ mod session;
 mod showing;
 mod source;
 mod values;
+mod ways;
 mod word;
 
 pub use dialogue::converse;

@@ -35,16 +35,21 @@ impl Session<'_, '_> {
         Ok(())
     }
 
-    /// How a task stands, and where.
-    fn push_view(&self, out: &mut String, view: TaskView<'_>) -> Result<(), OutOfMemory> {
-        self.push_path(out, view.path)?;
-        out.push_str(" ")?;
-        push_status(out, view.status)?;
+    /// Where a task stands: its top frame, where that is another than its own, and the line.
+    fn push_place(&self, out: &mut String, view: TaskView<'_>) -> Result<(), OutOfMemory> {
         if !view.top_path.is_same(view.path) {
             out.push_str(", in ")?;
             self.push_path(out, view.top_path)?;
         }
         self.push_line(out, view.line)
+    }
+
+    /// How a task stands, and where.
+    fn push_view(&self, out: &mut String, view: TaskView<'_>) -> Result<(), OutOfMemory> {
+        self.push_path(out, view.path)?;
+        out.push_str(" ")?;
+        push_status(out, view.status)?;
+        self.push_place(out, view)
     }
 
     /// A note that no task or frame has this path.
@@ -83,7 +88,7 @@ impl Session<'_, '_> {
             match self.worker(worker as u64) {
                 Some(view) => {
                     self.push_path(out, view.path)?;
-                    self.push_line(out, view.line)?;
+                    self.push_place(out, view)?;
                 }
                 None => out.push_str("idle\n")?,
             }
