@@ -139,14 +139,14 @@ module _ (prog : Program) (k : Run) (worker : ℕ) (piece : Block) (usable : IsU
         elim taken.from [
           | inl all ↦ omega (arith, here, to, all)
           | inr found ↦
-            let (slot, node, stands, has) = found in
-            let touch = has.0 in
-            let is = has.1 in
-            let behind = touch.behind in
-            elim (vacant.apart slot node stands touch.body touch.some) [
-              | inl below ↦ absurd (omega (arith, here, behind, below))
-              | inr above ↦ omega (arith, here, is, above)
-            ]
+              let (slot, node, stands, has) = found in
+              let touch = has.0 in
+              let is = has.1 in
+              let behind = touch.behind in
+              elim (vacant.apart slot node stands touch.body touch.some) [
+                | inl below ↦ absurd (omega (arith, here, behind, below))
+                | inr above ↦ omega (arith, here, is, above)
+              ]
         ]
 
     back_most : other.start + other.cells ≡ (piece_of k worker).start + (piece_of k worker).cells → other.cells ≤ piece_end - t.to
@@ -158,14 +158,14 @@ module _ (prog : Program) (k : Run) (worker : ℕ) (piece : Block) (usable : IsU
         elim taken.to [
           | inl all ↦ omega (arith, here, from, all)
           | inr found ↦
-            let (slot, node, stands, has) = found in
-            let touch = has.0 in
-            let is = has.1 in
-            let before = touch.before in
-            elim (vacant.apart slot node stands touch.body touch.some) [
-              | inl below ↦ omega (arith, here, is, below)
-              | inr above ↦ absurd (omega (arith, here, before, above))
-            ]
+              let (slot, node, stands, has) = found in
+              let touch = has.0 in
+              let is = has.1 in
+              let before = touch.before in
+              elim (vacant.apart slot node stands touch.body touch.some) [
+                | inl below ↦ omega (arith, here, is, below)
+                | inr above ↦ absurd (omega (arith, here, before, above))
+              ]
         ]
 
   module _ (part : Block) (front : t.from - piece.start ≤ part.cells) (back : piece_end - t.to ≤ part.cells) where
