@@ -1,3 +1,4 @@
+pub mod Admission
 pub mod Stages
 pub mod Lines
 pub mod Viewed
