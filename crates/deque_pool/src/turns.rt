@@ -11,7 +11,8 @@ const SHORTEST_SLICE: u64 = 2;
 const LONGEST_SLICE: u64 = 1_000;
 
 /// A frame of a stack that is put on the board ends there, at some cost, and one that is ready may be stolen. So between these numbers of instructions a
-/// strand notes how low its stack comes, and after them it is put on the board where that is as low again, not first at its limit.
+/// strand notes how low its stack comes, and after them it is put on the board where that is as low again, not first at its limit. One whose stack never
+/// was higher goes on to its limit.
 const SEEN_FROM: u64 = 32_768;
 
 const SEEN_TO: u64 = 49_152;
@@ -71,25 +72,30 @@ fn is_asked<L: Bench>(demand: &Demand, worker: &Worker<'_, L>) -> bool {
     demand.is_there() && worker.pace.is_due(worker.stack.done()) && worker.stack.has_ready_frame()
 }
 
-/// The fewest frames of a strand's stack that were seen.
+/// How many frames a strand's stack was seen to have.
 #[derive(Drop)]
-struct Lowest {
-    frames: usize,
+struct Heights {
+    lowest: usize,
+    highest: usize,
 }
 
-impl Lowest {
-    fn none_seen() -> Lowest {
-        Lowest { frames: 0 }
+impl Heights {
+    fn none_seen() -> Heights {
+        Heights {
+            lowest: 0,
+            highest: 0,
+        }
     }
 
     /// Whether the strand, whose stack has so many frames after so many instructions, has come to where it leaves few.
-    fn is_reached(&mut self, done: u64, frames: usize) -> bool {
+    fn is_low(&mut self, done: u64, frames: usize) -> bool {
+        self.highest = self.highest.max(frames);
         if done < SEEN_FROM {
-            self.frames = frames;
+            self.lowest = frames;
         } else if done < SEEN_TO {
-            self.frames = self.frames.min(frames);
+            self.lowest = self.lowest.min(frames);
         }
-        SEEN_TO <= done && frames <= self.frames
+        SEEN_TO <= done && frames <= self.lowest && frames < self.highest
     }
 }
 
@@ -100,7 +106,7 @@ pub(crate) fn go<L: Bench, R: Wait>(
     demand: &Demand,
     worker: &mut Worker<'_, L>,
 ) -> Turn {
-    let mut lowest = Lowest::none_seen();
+    let mut heights = Heights::none_seen();
     for _ in 0..MOST_PAUSES {
         let slice = worker.stack.done().clamp(SHORTEST_SLICE, LONGEST_SLICE);
         match worker.stack.advance(slice) {
@@ -113,9 +119,7 @@ pub(crate) fn go<L: Bench, R: Wait>(
             }
             Standing::Going => {
                 let done = worker.stack.done();
-                if done == MOST_INSTRUCTIONS
-                    || lowest.is_reached(done, worker.stack.frames_below())
-                {
+                if done == MOST_INSTRUCTIONS || heights.is_low(done, worker.stack.frames_below()) {
                     return Turn::Limit;
                 }
                 if is_asked(demand, worker) {
