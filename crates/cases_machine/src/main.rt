@@ -1,7 +1,7 @@
-//! Cases of all below the program. `machine_cases WORD..` answers those that each word names: `shown`, `steps`, `schedules` and `threads` are groups of
-//! cases, any other word is a file of cases, whose folder is its kind. The libraries of cases tell of them. It prints a line of each case, and fails
-//! where one is not answered as it is to be. What is expected is worked by hand. The last line names the call at a board that was refused memory, and
-//! made once more.
+//! All cases below the program. `cases_machine WORD..` answers the cases of each word. `shown`, `steps`, `schedules` and `threads` are groups of cases in
+//! code; any other word is a file of cases, whose folder says their kind. The libraries `cases_*` describe them. The program prints a line for each case
+//! and fails if an answer is not the expected one. Expected answers are worked out by hand. The last line names the call at a board that was refused
+//! memory and made once more.
 #![tactic(auto)]
 
 use cases::{Lines, Report};

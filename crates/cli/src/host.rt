@@ -1,7 +1,12 @@
 //! The program over its words, files and streams.
 
+use crate::clocks::microseconds_since;
+use crate::data::{read_load, write_dumps};
 use crate::requests::act;
-use cli_answers::{Beside, Request, Status, WordsFault, read_file, text_of, words, write_file};
+use crate::times::tell_times;
+use cli_answers::{
+    Beside, Question, Request, Status, WordsFault, read_file, text_of, words, write_file,
+};
 use std::env::FillError;
 use std::hash::RandomState;
 use std::io;
@@ -10,10 +15,18 @@ use std::random::RandomSource;
 use std::rt::{Env, Files};
 use std::sync::Wait;
 use std::thread::Threads;
-use std::time::Clock;
+use std::time::{Clock, Instant};
 
 /// More bytes than a word of a command line has.
 const WORD_ROOM: usize = 131_072;
+
+/// Which of the program's streams are terminals.
+#[derive(Clone, Copy)]
+pub struct Terminals {
+    pub input: bool,
+    pub output: bool,
+    pub errors: bool,
+}
 
 /// The files that a request names, each with why it could not be read.
 #[derive(Drop)]
@@ -42,7 +55,7 @@ fn read_words<R: AllocGlobal + Env>(rt: &R) -> io::Result<Vec<String>> {
 }
 
 /// Says on standard error what went wrong. Where that fails too the status alone tells.
-fn complain(rt: &impl Eprint, subject: &str, error: &io::Error) {
+pub(crate) fn complain(rt: &impl Eprint, subject: &str, error: &io::Error) {
     let _ = rt.eprint("error: ");
     let _ = rt.eprint(subject);
     let _ = rt.eprint(": ");
@@ -138,21 +151,25 @@ fn answer<R: AllocGlobal + Clock + Eprint + Input + Print + RandomSource + Sync 
     beside: &mut Beside,
 ) -> io::Result<u8> {
     let alloc = rt.alloc();
-    let state = RandomState::new(rt)?;
+    let question = Question {
+        alloc,
+        state: RandomState::new(rt)?,
+        request,
+        module: bytes_of_read(&texts.module),
+        schedule: texts.schedule.as_ref().and_then(bytes_of_read),
+    };
     let mut output = BufWriter::new(alloc, io::writer(rt))?;
     let mut input = rt.reader();
-    let status = act(
-        rt,
-        alloc,
-        state,
-        request,
-        bytes_of_read(&texts.module),
-        texts.schedule.as_ref().and_then(bytes_of_read),
-        &mut input,
-        &mut output,
-        beside,
-    );
+    let status = act(rt, &question, &mut input, &mut output, beside);
     Ok(finish(rt, status, output))
+}
+
+/// Writes all files that are asked for, texts first.
+fn write_files<R: AllocGlobal + Eprint + Files>(rt: &R, beside: &Beside) -> io::Result<Status> {
+    match write_asked(rt, beside)? {
+        Status::Done => write_dumps(rt, beside),
+        status => Ok(status),
+    }
 }
 
 /// Tells what stands beside standard output, and answers the status.
@@ -165,10 +182,13 @@ fn tell_beside<R: AllocGlobal + Eprint + Files>(
 ) -> io::Result<u8> {
     let _ = rt.eprint(beside.notes.as_str());
     explain_status(rt, request, status, texts);
-    if status == Status::Done as u8 {
-        return Ok(write_asked(rt, beside)? as u8);
+    if status != Status::Done as u8 {
+        return Ok(status);
     }
-    Ok(status)
+    if request.is_timed {
+        tell_times(rt, &beside.times);
+    }
+    Ok(write_files(rt, beside)? as u8)
 }
 
 /// Reads the files, does what is asked and answers the status.
@@ -184,12 +204,18 @@ fn obey<
         + Sync
         + Threads
         + Wait,
->(rt: &R, request: &Request, has_terminal: bool) -> io::Result<u8> {
-    let texts = read_texts(rt, request)?;
+>(rt: &R, mut request: Request, terminals: Terminals) -> io::Result<u8> {
+    let begun = Instant::now(rt)?;
+    let texts = read_texts(rt, &request)?;
+    read_load(rt, &mut request)?;
     let mut beside = Beside::nothing(rt.alloc());
-    beside.has_colours = has_terminal && !has_no_colours(rt);
-    let status = answer(rt, request, &texts, &mut beside)?;
-    tell_beside(rt, request, &texts, &beside, status)
+    beside.times.reading = microseconds_since(rt, begun)?;
+    let may_have_colours = !has_no_colours(rt);
+    beside.has_colours = terminals.errors && may_have_colours;
+    request.dialogue.is_for_people |= terminals.input && terminals.output;
+    request.dialogue.has_colours = terminals.output && may_have_colours;
+    let status = answer(rt, &request, &texts, &mut beside)?;
+    tell_beside(rt, &request, &texts, &beside, status)
 }
 
 /// What was read.
@@ -247,17 +273,17 @@ fn obey_words<
         + Sync
         + Threads
         + Wait,
->(rt: &R, has_terminal: bool) -> io::Result<u8> {
+>(rt: &R, terminals: Terminals) -> io::Result<u8> {
     let alloc = rt.alloc();
     let texts = read_words(rt)?;
     let list: Vec<&str> = texts.iter().map(|t| t.as_str()).collect(alloc)?;
     match words(alloc, list.as_slice()) {
-        Ok(request) => obey(rt, &request, has_terminal),
+        Ok(request) => obey(rt, request, terminals),
         Err(fault) => Ok(refuse_words(rt, &fault) as u8),
     }
 }
 
-/// Does what the program's words ask for, and answers its exit status. The caller says whether standard error is a terminal.
+/// Does what the program's words ask for, and answers its exit status. The caller says which streams are terminals.
 pub fn run<
     R: AllocGlobal
         + Clock
@@ -270,8 +296,8 @@ pub fn run<
         + Sync
         + Threads
         + Wait,
->(rt: &R, has_terminal: bool) -> u8 {
-    match obey_words(rt, has_terminal) {
+>(rt: &R, terminals: Terminals) -> u8 {
+    match obey_words(rt, terminals) {
         Ok(status) => status,
         Err(error) if error.kind() == ErrorKind::OutOfMemory => stop_for_memory(rt) as u8,
         Err(error) => {

@@ -83,7 +83,7 @@ fn tell_recorded<W: Write>(
     output: &mut W,
     beside: &mut Beside,
 ) -> io::Result<Status> {
-    let memory = match prepared(job) {
+    let memory = match prepared(job, beside) {
         Ok(memory) => memory,
         Err(status) => return print_unprepared(status, output),
     };
@@ -108,7 +108,7 @@ pub fn run_told<T: Threads + Wait + Clock + Sync, W: Write>(
     output: &mut W,
     beside: &mut Beside,
 ) -> io::Result<Status> {
-    let memory = match prepared(job) {
+    let memory = match prepared(job, beside) {
         Ok(memory) => memory,
         Err(status) => return print_unprepared(status, output),
     };

@@ -1,19 +1,19 @@
 //! Runs on threads, and all other answers.
 
+use crate::clocks::microseconds_since;
 use crate::recorded::run_told;
 use crate::speedup::run_speedup;
 use cli_answers::{
-    Beside, Job, Request, Status, Verb, answer, effort_of, fail, is_told, prepared, print_run,
-    print_unprepared, print_unreadable, print_unverified, verify_within,
+    Beside, Job, Question, Request, Status, Verb, answer, answer_verified, effort_of, fail,
+    is_told, prepared, print_run, print_unprepared, print_unreadable, print_unverified,
+    verify_within,
 };
 use deque_pool::OpenGate;
-use std::alloc::Global;
-use std::hash::RandomState;
 use std::io;
 use std::io::{Read, Write};
 use std::sync::Wait;
 use std::thread::Threads;
-use std::time::Clock;
+use std::time::{Clock, Instant};
 
 /// Whether a request is for a run on workers: one that no seed draws.
 fn is_on_workers(request: &Request) -> bool {
@@ -27,7 +27,7 @@ fn run_on_workers<T: Threads + Wait + Clock + Sync, W: Write>(
     output: &mut W,
     beside: &mut Beside,
 ) -> io::Result<Status> {
-    let memory = match prepared(job) {
+    let memory = match prepared(job, beside) {
         Ok(memory) => memory,
         Err(status) => return print_unprepared(status, output),
     };
@@ -45,66 +45,84 @@ fn run_on_workers<T: Threads + Wait + Clock + Sync, W: Write>(
     print_run(job, &run, output, beside)
 }
 
-/// Verifies the module, and runs it on workers.
-fn verify_and_run<T: Threads + Wait + Clock + Sync, W: Write>(
+/// Runs the module on workers, and tells of it what is asked for.
+fn run_asked<T: Threads + Wait + Clock + Sync, W: Write>(
     rt: &T,
-    alloc: Global,
-    state: RandomState,
-    request: &Request,
-    module: Option<&[u8]>,
-    schedule: Option<&[u8]>,
+    job: &Job<'_>,
     output: &mut W,
     beside: &mut Beside,
 ) -> io::Result<Status> {
-    let Some(text) = module else {
+    if !job.request.speedup.is_empty() {
+        run_speedup(rt, job, output, beside)
+    } else if is_told(&job.request.telling) {
+        run_told(rt, job, output, beside)
+    } else {
+        run_on_workers(rt, job, output, beside)
+    }
+}
+
+/// Runs a module that the verifier took, and notes what that took.
+fn run_timed<T: Threads + Wait + Clock + Sync, R: Read, W: Write>(
+    rt: &T,
+    job: &Job<'_>,
+    input: &mut R,
+    output: &mut W,
+    beside: &mut Beside,
+) -> io::Result<Status> {
+    let begun = Instant::now(rt)?;
+    let status = if is_on_workers(job.request) {
+        run_asked(rt, job, output, beside)?
+    } else {
+        answer_verified(job, input, output, beside)?
+    };
+    beside.times.running = microseconds_since(rt, begun)?;
+    Ok(status)
+}
+
+/// Verifies the module, and runs it.
+fn verify_and_run<T: Threads + Wait + Clock + Sync, R: Read, W: Write>(
+    rt: &T,
+    question: &Question<'_>,
+    input: &mut R,
+    output: &mut W,
+    beside: &mut Beside,
+) -> io::Result<Status> {
+    let Question {
+        alloc,
+        state,
+        request,
+        ..
+    } = *question;
+    let Some(text) = question.module else {
         return print_unreadable(alloc, request.file.as_str(), output);
     };
-    match verify_within(alloc, state, text, &effort_of(request)) {
+    let begun = Instant::now(rt)?;
+    let verdict = verify_within(alloc, state, text, &effort_of(request));
+    beside.times.verifying = microseconds_since(rt, begun)?;
+    match verdict {
         Ok(verified) => {
-            let job = Job {
-                alloc,
-                state,
-                request,
-                text,
-                verified: &verified,
-                schedule,
-            };
-            if !request.speedup.is_empty() {
-                run_speedup(rt, &job, output, beside)
-            } else if is_told(&request.telling) {
-                run_told(rt, &job, output, beside)
-            } else {
-                run_on_workers(rt, &job, output, beside)
-            }
+            let job = question.job(text, &verified);
+            run_timed(rt, &job, input, output, beside)
         }
         Err(unverified) => print_unverified(&unverified, output, beside),
     }
 }
 
-/// Does what is asked and answers the status.
-///
-/// `module` and `schedule` are the bytes of the files, `None` where one could not be read. What is told beside the output is added to
-/// `beside`.
+/// Does what is asked and answers the status. What is told beside the output is added to `beside`.
 pub fn act<T: Threads + Wait + Clock + Sync, R: Read, W: Write>(
     rt: &T,
-    alloc: Global,
-    state: RandomState,
-    request: &Request,
-    module: Option<&[u8]>,
-    schedule: Option<&[u8]>,
+    question: &Question<'_>,
     input: &mut R,
     output: &mut W,
     beside: &mut Beside,
 ) -> u8 {
-    let answered = if is_on_workers(request) {
-        verify_and_run(rt, alloc, state, request, module, schedule, output, beside)
+    let answered = if is_on_workers(question.request) || question.request.is_timed {
+        verify_and_run(rt, question, input, output, beside)
     } else {
-        answer(
-            alloc, state, request, module, schedule, input, output, beside,
-        )
+        answer(question, input, output, beside)
     };
     match answered {
         Ok(status) => status as u8,
-        Err(error) => fail(alloc, &error, output, beside) as u8,
+        Err(error) => fail(question.alloc, &error, output, beside) as u8,
     }
 }

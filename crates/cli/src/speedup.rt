@@ -24,7 +24,7 @@ fn run_least<T: Threads + Wait + Clock + Sync, W: Write>(
     let mut least = u64::MAX;
     let mut answer = None;
     for _time in 0..TIMES {
-        let memory = match prepared(job) {
+        let memory = match prepared(job, beside) {
             Ok(memory) => memory,
             Err(status) => return Ok(Err(print_unprepared(status, output)?)),
         };

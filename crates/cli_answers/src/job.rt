@@ -8,6 +8,33 @@ use std::hash::RandomState;
 use std::io;
 use std::io::Write;
 
+/// A request, and what it is answered from.
+#[derive(Clone, Copy)]
+pub struct Question<'a> {
+    pub alloc: Global,
+    /// What a text is read with.
+    pub state: RandomState,
+    pub request: &'a Request,
+    /// The module's text; none where its file could not be read.
+    pub module: Option<&'a [u8]>,
+    /// The schedule's text; none where its file could not be read, or the verb takes none.
+    pub schedule: Option<&'a [u8]>,
+}
+
+impl<'a> Question<'a> {
+    /// What is asked of the module of this text, which the verifier took.
+    pub fn job(&self, text: &'a [u8], verified: &'a Verified) -> Job<'a> {
+        Job {
+            alloc: self.alloc,
+            state: self.state,
+            request: self.request,
+            text,
+            verified,
+            schedule: self.schedule,
+        }
+    }
+}
+
 /// What a run is made from.
 #[derive(Clone, Copy)]
 pub struct Job<'a> {

@@ -1,5 +1,6 @@
 //! Answers about a module as JSON.
 
+use crate::job::Question;
 use cli_json::{UNDECIDED, accepted_json, explanation_json, known_json, refusal_json};
 use cli_modules::{Beside, Status, find_function, note_effort, note_fault, stop_for_memory};
 use cli_words::{Request, Verb};
@@ -127,24 +128,22 @@ impl Asked<'_> {
 
 /// Answers a request for JSON; none where it is not one.
 pub fn answer_json<W: Write>(
-    alloc: Global,
-    state: RandomState,
-    request: &Request,
+    question: &Question<'_>,
     text: &[u8],
     effort: &Effort,
     output: &mut W,
     beside: &mut Beside,
 ) -> io::Result<Option<Status>> {
-    if !request.is_json {
+    if !question.request.is_json {
         return Ok(None);
     }
     let asked = Asked {
-        alloc,
-        state,
-        request,
+        alloc: question.alloc,
+        state: question.state,
+        request: question.request,
         text,
     };
-    let status = match request.verb {
+    let status = match question.request.verb {
         Verb::Explain => asked.answer_explained(effort, output, beside)?,
         _ => asked.answer_verdict(effort, output, beside)?,
     };

@@ -1,7 +1,7 @@
 //! From a request and the bytes of its files to text and a status.
 
 use crate::draw::run_drawn;
-use crate::job::Job;
+use crate::job::{Job, Question};
 use crate::json::answer_json;
 use crate::runs::{debug, run_serial};
 use crate::tell::tell_replay;
@@ -12,7 +12,6 @@ use cli_modules::{
 use cli_words::{Request, Verb, completions, manual};
 use debugger::{Effort, verify_within};
 use std::alloc::Global;
-use std::hash::RandomState;
 use std::io;
 use std::io::{Read, Write};
 
@@ -39,29 +38,31 @@ fn answer_words<W: Write>(
     Ok(Some(Status::Done))
 }
 
-/// Answers a request by the status, over the bytes of the files: `None` where one could not be read. What is told beside the output is
-/// added to `beside`. A run on workers is the caller's, who may start threads: here a run without a seed is drawn by the seed 0.
+/// Answers a question by the status. What is told beside the output is added to `beside`. A run on workers is the caller's, who may start
+/// threads: here a run without a seed is drawn by the seed 0.
 pub fn answer<R: Read, W: Write>(
-    alloc: Global,
-    state: RandomState,
-    request: &Request,
-    module: Option<&[u8]>,
-    schedule: Option<&[u8]>,
+    question: &Question<'_>,
     input: &mut R,
     output: &mut W,
     beside: &mut Beside,
 ) -> io::Result<Status> {
+    let Question {
+        alloc,
+        state,
+        request,
+        ..
+    } = *question;
     if let Some(number) = request.rule {
         return print_rule(alloc, number, output);
     }
     if let Some(status) = answer_words(alloc, request, output)? {
         return Ok(status);
     }
-    let Some(text) = module else {
+    let Some(text) = question.module else {
         return print_unreadable(alloc, request.file.as_str(), output);
     };
     let effort = effort_of(request);
-    if let Some(status) = answer_json(alloc, state, request, text, &effort, output, beside)? {
+    if let Some(status) = answer_json(question, text, &effort, output, beside)? {
         return Ok(status);
     }
     if let Some(status) = answer_text(alloc, state, request, text, &effort, output, beside)? {
@@ -69,15 +70,8 @@ pub fn answer<R: Read, W: Write>(
     }
     match verify_within(alloc, state, text, &effort) {
         Ok(verified) => {
-            let job = Job {
-                alloc,
-                state,
-                request,
-                text,
-                verified: &verified,
-                schedule,
-            };
-            answer_verified(&job, state, input, output, beside)
+            let job = question.job(text, &verified);
+            answer_verified(&job, input, output, beside)
         }
         Err(unverified) => {
             if request.verb == Verb::Verify {
@@ -88,15 +82,15 @@ pub fn answer<R: Read, W: Write>(
     }
 }
 
-fn answer_verified<R: Read, W: Write>(
+/// Answers a request for a module that the verifier took.
+pub fn answer_verified<R: Read, W: Write>(
     job: &Job<'_>,
-    state: RandomState,
     input: &mut R,
     output: &mut W,
     beside: &mut Beside,
 ) -> io::Result<Status> {
     match job.request.verb {
-        Verb::Show => print_known(job.alloc, state, job.text, job.verified, output),
+        Verb::Show => print_known(job.alloc, job.state, job.text, job.verified, output),
         Verb::Replay => tell_replay(job, output, beside),
         Verb::Run => run_drawn(job, output, beside),
         Verb::Debug => debug(job, input, output, beside),

@@ -4,8 +4,10 @@ ghost use Rattle.program.specs.declared.function.Program.{Program};
 ghost use Rattle.std.specs.Prelude.{IfOk};
 ghost use Rattle.serial_machine.specs.store.Made.{HasGlobalCells, IsMadeFor};
 
+use crate::data::{has_data, keep_dumps, load_all, print_rows};
 use crate::dialogue::converse;
 use crate::job::{Job, print_schedule_fault};
+use crate::people::guide;
 use cli_modules::{Beside, Status, print_unreadable, stop_for_memory};
 use cli_words::{CellWord, Setting};
 use debugger::{
@@ -21,7 +23,7 @@ pub fn run_serial<W: Write>(
     output: &mut W,
     beside: &mut Beside,
 ) -> io::Result<Status> {
-    let memory = match prepared(job) {
+    let memory = match prepared(job, beside) {
         Ok(memory) => memory,
         Err(status) => return print_unprepared(status, output),
     };
@@ -76,7 +78,7 @@ fn debug_events<R: Read, W: Write>(
     output: &mut W,
     beside: &mut Beside,
 ) -> io::Result<Status> {
-    let memory = match prepared(job) {
+    let memory = match prepared(job, beside) {
         Ok(memory) => memory,
         Err(status) => return print_unprepared(status, output),
     };
@@ -88,13 +90,16 @@ fn debug_events<R: Read, W: Write>(
     } = *job;
     let args = request.args.as_slice();
     match Debugger::new(alloc, verified, args, memory, request.workers, events) {
+        Ok(mut debugger) if request.dialogue.is_for_people => {
+            guide(job, &mut debugger, input, output)
+        }
         Ok(mut debugger) => converse(alloc, &mut debugger, input, output),
         Err(fault) => job.print_run_fault(&fault, output, beside),
     }
 }
 
 /// The memory to begin with; else the status: an option names no cell, or memory was refused.
-pub fn prepared(job: &Job<'_>) -> Result<Memory, Status>
+pub fn prepared(job: &Job<'_>, beside: &mut Beside) -> Result<Memory, Status>
     ensures cells { IfOk result (λ memory. HasGlobalCells job.now.verified.now memory) }
     ensures made { IfOk result (λ memory. IsMadeFor job.now.verified.now memory) }
 {
@@ -102,8 +107,12 @@ pub fn prepared(job: &Job<'_>) -> Result<Memory, Status>
         return Err(Status::Stopped);
     };
     let request = job.request;
-    let has_shown = has_cells(&memory, request.show.as_slice());
-    if set_cells(&mut memory, request.set.as_slice()) && has_shown {
+    let shown = request.show.as_slice();
+    if !has_cells(&memory, shown) || !has_data(&memory, &request.data) {
+        return Err(Status::Words);
+    }
+    load_all(job, &mut memory, beside)?;
+    if set_cells(&mut memory, request.set.as_slice()) {
         Ok(memory)
     } else {
         Err(Status::Words)
@@ -125,7 +134,7 @@ fn run_events<W: Write>(
     output: &mut W,
     beside: &mut Beside,
 ) -> io::Result<Status> {
-    let memory = match prepared(job) {
+    let memory = match prepared(job, beside) {
         Ok(memory) => memory,
         Err(status) => return print_unprepared(status, output),
     };
@@ -145,7 +154,7 @@ fn run_replay<W: Write>(
     let args = job.request.args.as_slice();
     let workers = job.request.workers;
     match replay(job.alloc, job.verified, args, memory, workers, events) {
-        Ok(machine) => print_replayed(job, machine, output),
+        Ok(machine) => print_replayed(job, machine, output, beside),
         Err(fault) => job.print_run_fault(&fault, output, beside),
     }
 }
@@ -158,7 +167,7 @@ pub fn print_run<W: Write>(
     beside: &mut Beside,
 ) -> io::Result<Status> {
     match finished {
-        Ok(finished) => print_finished(finished, job.request.show.as_slice(), output),
+        Ok(finished) => print_finished(job, finished, output, beside),
         Err(fault) => job.print_run_fault(fault, output, beside),
     }
 }
@@ -168,30 +177,28 @@ pub fn print_replayed<W: Write>(
     job: &Job<'_>,
     machine: Machine<'_>,
     output: &mut W,
+    beside: &mut Beside,
 ) -> io::Result<Status> {
-    let cells = job.request.show.as_slice();
     match machine.result() {
-        Some(result) => print_finished(&finished(machine, result), cells, output),
-        None => print_unfinished(&machine, cells, output),
+        Some(result) => print_finished(job, &finished(machine, result), output, beside),
+        None => print_unfinished(job, machine, output, beside),
     }
 }
 
 fn print_unfinished<W: Write>(
-    machine: &Machine<'_>,
-    cells: &[CellWord],
+    job: &Job<'_>,
+    machine: Machine<'_>,
     output: &mut W,
+    beside: &mut Beside,
 ) -> io::Result<Status> {
     let instructions = machine.instructions();
     let frames = machine.live_frames();
+    beside.times.instructions = instructions;
     writeln!(
         output,
         "not ended\ninstructions {instructions}\nframes {frames}"
     )?;
-    for cell in cells {
-        let value = machine.get_global(cell.name.as_str(), cell.index);
-        print_cell(cell, value, output)?;
-    }
-    Ok(Status::Done)
+    print_memory(job, &machine.into_memory(), output, beside)
 }
 
 /// Sets a cell; false where it is not there.
@@ -241,18 +248,32 @@ fn finished(machine: Machine<'_>, returned: i64) -> Finished {
 }
 
 fn print_finished<W: Write>(
+    job: &Job<'_>,
     finished: &Finished,
-    cells: &[CellWord],
     output: &mut W,
+    beside: &mut Beside,
 ) -> io::Result<Status> {
     let result = finished.result;
     let instructions = finished.instructions;
     let peak = finished.peak;
+    beside.times.instructions = instructions;
     writeln!(
         output,
         "result {result}\ninstructions {instructions}\npeak {peak}"
     )?;
-    print_cells(&finished.memory, cells, output)?;
+    print_memory(job, &finished.memory, output, beside)
+}
+
+/// Prints the cells that are asked for, and keeps the globals that go to files.
+fn print_memory<W: Write>(
+    job: &Job<'_>,
+    memory: &Memory,
+    output: &mut W,
+    beside: &mut Beside,
+) -> io::Result<Status> {
+    print_cells(memory, job.request.show.as_slice(), output)?;
+    print_rows(memory, job.request.data.rows.as_slice(), output)?;
+    keep_dumps(job, memory, beside)?;
     Ok(Status::Done)
 }
 

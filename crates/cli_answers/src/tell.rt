@@ -115,7 +115,7 @@ fn tell_named<C: Course, W: Write>(
     let wanted = wanted_of(&job.request.telling);
     match tell(subject, words, memory, course, wanted, output)? {
         Ok((told, machine)) => {
-            print_replayed(job, machine, output)?;
+            print_replayed(job, machine, output, beside)?;
             keep_told(job, told, output, beside)
         }
         Err(fault) => job.print_run_fault(&fault, output, beside),
@@ -178,7 +178,7 @@ fn tell_schedule<W: Write>(
         Ok(events) => events,
         Err(fault) => return print_schedule_fault(job, &fault, output, beside),
     };
-    let memory = match prepared(job) {
+    let memory = match prepared(job, beside) {
         Ok(memory) => memory,
         Err(status) => return print_unprepared(status, output),
     };

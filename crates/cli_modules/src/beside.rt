@@ -10,6 +10,22 @@ pub struct FileText {
     pub text: String,
 }
 
+/// A file to write, by the word that names it.
+#[derive(Drop)]
+pub struct Dump {
+    pub word: String,
+    pub bytes: Vec<u8>,
+}
+
+/// What a request took, in microseconds, and the instructions that its run did.
+#[derive(Clone, Copy)]
+pub struct Times {
+    pub reading: u64,
+    pub verifying: u64,
+    pub running: u64,
+    pub instructions: u64,
+}
+
 /// What goes to standard error and to files.
 #[derive(Drop)]
 pub struct Beside {
@@ -20,6 +36,9 @@ pub struct Beside {
     pub notes: String,
     /// Files to write once the answer has been.
     pub files: Vec<FileText>,
+    /// The globals that go to files.
+    pub dumps: Vec<Dump>,
+    pub times: Times,
 }
 
 impl Beside {
@@ -29,6 +48,13 @@ impl Beside {
             has_colours: false,
             notes: String::new(alloc),
             files: Vec::new(alloc),
+            dumps: Vec::new(alloc),
+            times: Times {
+                reading: 0,
+                verifying: 0,
+                running: 0,
+                instructions: 0,
+            },
         }
     }
 
@@ -44,6 +70,19 @@ impl Beside {
         } else {
             "error:"
         })
+    }
+
+    /// Adds a line for standard error that begins with a place in a file.
+    pub fn note_in(
+        &mut self,
+        file: &str,
+        line: usize,
+        column: usize,
+        what: &str,
+    ) -> Result<(), AllocError> {
+        write!(self.notes, "{file}:{line}:{column}: ")?;
+        self.push_error()?;
+        writeln!(self.notes, " {what}")
     }
 
     /// Adds a line for standard error that begins with a line of a file, so that editors find that.

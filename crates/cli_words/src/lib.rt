@@ -4,15 +4,21 @@
 //! ([`text_of`]) and a word again where a file is opened ([`bytes_of`]).
 #![tactic(auto)]
 
+mod command;
+mod data;
 mod manual_page;
 mod parsing;
 mod request;
 mod shells;
+mod table;
+mod values;
 mod version;
 mod word;
 
+pub use data::{DataWord, DataWords, RowWord};
 pub use manual_page::manual;
-pub use parsing::{is_name, words};
-pub use request::{CellWord, Request, Setting, Shell, Telling, Verb, WordsFault};
+pub use parsing::words;
+pub use request::{CellWord, Dialogue, Request, Setting, Shell, Telling, Verb, WordsFault};
 pub use shells::completions;
+pub use values::is_name;
 pub use word::{bytes_of, is_raw, text_of};

@@ -1,7 +1,7 @@
 //! The manual page, written from the table of the program's commands.
 
-use crate::parsing::{ABOUT, Given, Part, STATUSES, VERBS, about_of, example_of, parts_of};
 use crate::request::Verb;
+use crate::table::{ABOUT, Given, Part, STATUSES, VERBS, about_of, example_of, parts_of};
 use crate::version::VERSION;
 use std::alloc::{AllocError, Global};
 

@@ -1,6 +1,7 @@
 ghost use Rattle.std.specs.Prelude.{◌≡◌};
 ghost use Rattle.cli_words.specs.Asked.{word_of};
 
+use crate::data::DataWords;
 use std::alloc::{AllocError, AllocFailed, Global};
 
 /// What the program is asked to do.
@@ -91,6 +92,12 @@ pub struct Request {
     pub set: Vec<Setting>,
     /// Cells to print after the run.
     pub show: Vec<CellWord>,
+    /// What comes from files, and goes to them.
+    pub data: DataWords,
+    /// Whether it is told what the request took.
+    pub is_timed: bool,
+    /// Whom the dialogue is for, for the verb that has one.
+    pub dialogue: Dialogue,
     /// The name, without `@`, of the function whose costs to print, for the verb that takes one.
     pub table: Option<String>,
     /// How many steps of search a verdict may take, where a number is named; of the verbs that ask for one.
@@ -117,6 +124,9 @@ impl Drop for Request {
             args: _,
             set: _,
             show: _,
+            data: _,
+            is_timed: _,
+            dialogue: _,
             table: _,
             effort: _,
             rule: _,
@@ -141,6 +151,12 @@ impl Request {
             args: Vec::new(alloc),
             set: Vec::new(alloc),
             show: Vec::new(alloc),
+            data: DataWords::nothing(alloc),
+            is_timed: false,
+            dialogue: Dialogue {
+                is_for_people: false,
+                has_colours: false,
+            },
             table: None,
             effort: None,
             rule: None,
@@ -149,6 +165,14 @@ impl Request {
             telling: Telling::nothing(),
         }
     }
+}
+
+/// Whom a dialogue is for.
+#[derive(Clone, Copy)]
+pub struct Dialogue {
+    /// For people it has a prompt and help; else each answer is a line for a program.
+    pub is_for_people: bool,
+    pub has_colours: bool,
 }
 
 /// What is told of a run beside its answer. A file is named where something is to be written there.

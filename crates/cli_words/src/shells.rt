@@ -1,7 +1,7 @@
 //! Scripts that complete the program's words in a shell, written from the table of its commands.
 
-use crate::parsing::{Given, Part, VERBS, about_of, parts_of};
 use crate::request::{Shell, Verb};
+use crate::table::{Given, Part, VERBS, about_of, parts_of};
 use std::alloc::{AllocError, Global};
 
 /// Whether a part is an option, and so one of the words that begin with `--`.
@@ -97,17 +97,12 @@ fn push_zsh_part(out: &mut String, part: &Part) -> Result<(), AllocError> {
     let help = part.help;
     let value = part.value;
     let action = zsh_action(part);
-    let repeated = if matches!(part.given, Given::Repeated) {
-        "*"
-    } else {
-        ""
-    };
-    if !is_option(part) {
-        write!(out, " ':{value}:{action}'")
-    } else if has_value(part) {
-        write!(out, " '{repeated}--{name}=[{help}]:{value}:{action}'")
-    } else {
-        write!(out, " '--{name}[{help}]'")
+    match part.given {
+        Given::Word => write!(out, " ':{value}:{action}'"),
+        Given::Flag => write!(out, " '--{name}[{help}]'"),
+        Given::Row => write!(out, " '*--{name}[{help}]:@a: :I: :N: '"),
+        Given::Repeated => write!(out, " '*--{name}=[{help}]:{value}:{action}'"),
+        _ => write!(out, " '--{name}=[{help}]:{value}:{action}'"),
     }
 }
 

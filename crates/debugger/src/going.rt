@@ -1,10 +1,8 @@
 //! Forwards and backwards through a schedule.
 
-ghost use Rattle.std.specs.Prelude.{◌≡◌, ◌≤◌, ◌-◌, ◌+◌, ℕ, Some, None, IfOk, IfSome, IfNone, OnOk, OnErr, length, min, vec_len};
+ghost use Rattle.std.specs.Prelude.{◌≡◌, ◌≤◌, ◌-◌, ◌+◌, None, IfOk, IfSome, IfNone, OnOk, OnErr, length, min};
 ghost use Rattle.schedule_core.specs.store.Made.{IsMadeFor};
-ghost use Rattle.schedule_core.specs.store.declared.memory.Memory.{Memory};
-ghost use Rattle.schedule_core.specs.outcome.Requirements.{unmet_in};
-ghost use Rattle.schedule_core.specs.Replaying.{IsNumberOfWorkers};
+ghost use Rattle.schedule_core.specs.Admission.{IsAdmitted};
 ghost use Rattle.schedule_core.specs.Stages.{global_named};
 ghost use Rattle.schedule_core.specs.Viewed.{IsTask, status_in};
 ghost use Rattle.debugger.specs.Sessions.{AreMarks, Debugs, HasLineAt, IsAt, IsFirstStop, Session, Stays, state_at};
@@ -79,14 +77,7 @@ impl<'v> Debugger<'v> {
             record { program = verified.now; arguments = arguments.now; globals = memory; workers = workers; events = events.items }
             in IfOk result (Debugs s) }
         ensures first { IfOk result (λ d. d.position ≡ 0) }
-        ensures in_range { OnOk result (IsNumberOfWorkers workers) }
-        ensures bad_arguments { (requirement : ℕ) → unmet_in verified.now arguments.now ≡ Some requirement
-            → result ≡ Err (RunFault.BadArguments requirement memory) }
-        ensures bad_workers { unmet_in verified.now arguments.now ≡ None → ¬ IsNumberOfWorkers workers → result ≡ Err (RunFault.BadWorkers memory) }
-        ensures only_bad_arguments { (requirement : ℕ) (m : Memory) → result ≡ Err (RunFault.BadArguments requirement m)
-            → unmet_in verified.now arguments.now ≡ Some requirement }
-        ensures only_bad_workers { (m : Memory) → result ≡ Err (RunFault.BadWorkers m) → ¬ IsNumberOfWorkers workers }
-        ensures met { OnOk result (unmet_in verified.now arguments.now ≡ None) }
+        ensures admitted { IsAdmitted verified.now arguments.now memory workers result }
     {
         let first = Machine::start(alloc, verified, arguments, memory, workers)?;
         let Ok(machine) = first.copy() else {

@@ -7,9 +7,12 @@
 mod debugger;
 mod going;
 mod marks;
+mod views;
 
 pub use debugger::Debugger;
-pub use schedule_core::{Event, Finished, Machine, Memory, RunFault, Status, TaskView, replay};
+pub use schedule_core::{
+    Event, Finished, Frame, FrameView, Machine, Memory, Places, RunFault, Status, TaskView, replay,
+};
 pub use schedule_text::{
     Line, ScheduleFault, print_schedule, read_number, read_schedule, read_task,
 };

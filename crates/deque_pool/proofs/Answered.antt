@@ -1,13 +1,18 @@
--- What one worker alone answers.
-use Rattle.std.proofs.Common.{◌≡◌, ℕ, List, ℤ, Option, Some, refl, subst}
-use Rattle.std.specs.Prelude.{IfSome}
+-- What one worker alone answers, and why it has no answer.
+use Rattle.std.proofs.Common.{◌≡◌, ℕ, List, ℤ, Option, Some, refl, subst, arith}
+use Rattle.std.specs.Prelude.{None, Result, Ok, Err, IfErr, IfSome, OnOk}
 use Rattle.semantics.specs.SerialMeaning.{Gave}
 use Rattle.program.specs.declared.function.Program.{Program}
 use Rattle.shared_run.specs.outcome.Serially.{memory_of_globals}
+use Rattle.shared_run.specs.outcome.Requirements.{unmet_in}
 use Rattle.shared_run.specs.outcome.declared.outcome.Finished.{Finished}
+use Rattle.shared_run.specs.outcome.declared.outcome.RunFault.{RunFault}
+use Rattle.shared_run.specs.outcome.declared.outcome.RunFault.TheVariants.{BadArguments, BadWorkers, OutOfMemory, Stopped}
+use Rattle.shared_run.specs.schedule_core.Admission.{IsAdmitted, IsNumberOfWorkers}
 use Rattle.shared_run.specs.store.Cells.{NamedCells}
 use Rattle.shared_run.specs.Answer.{IsSerialAnswer}
 use Rattle.shared_run.specs.Story.{origin}
+use Rattle.deque_pool_alone.specs.UnderWay.{IsRefusal}
 use Rattle.deque_pool_alone.specs.serial_machine.Promise.{EndsWithinBudget}
 
 pub answered : (program : Program) (arguments : List ℤ) (memory : List NamedCells) (workers : ℕ) (done : Finished) → EndsWithinBudget program arguments memory done → IsSerialAnswer (origin program arguments memory workers) done
@@ -29,3 +34,16 @@ answered_by p program a arguments m memory workers same_program same_arguments s
     let f : EndsWithinBudget program a m done = subst (λ (x : Program). EndsWithinBudget x a m done) same_program e in
     let g : EndsWithinBudget program arguments m done = subst (λ (x : List ℤ). EndsWithinBudget program x m done) same_arguments f in
     answered program arguments memory workers done (subst (λ (x : List NamedCells). EndsWithinBudget program arguments x done) same_memory g)
+
+-- ---- why it has none
+
+one_worker : (workers : ℕ) → workers ≡ 1 → IsNumberOfWorkers workers
+one_worker workers one = (omega (arith, one), omega (arith, one))
+
+pub admitted_alone : {T : Type 0} (program : Program) (arguments : List ℤ) (memory : List NamedCells) (workers : ℕ) → workers ≡ 1 → (result : Result T RunFault) →
+    OnOk result (unmet_in program arguments ≡ None) → IfErr result (IsRefusal program arguments memory) → IsAdmitted program arguments memory workers result
+admitted_alone program arguments memory workers one (Ok done) met refused = (met, one_worker workers one)
+admitted_alone program arguments memory workers one (Err (BadArguments requirement m)) met refused = refused
+admitted_alone program arguments memory workers one (Err (BadWorkers m)) met refused = absurd refused
+admitted_alone program arguments memory workers one (Err OutOfMemory) met refused = (refused, one_worker workers one)
+admitted_alone program arguments memory workers one (Err Stopped) met refused = (refused, one_worker workers one)

@@ -1,11 +1,9 @@
 //! The rounds of a run on threads. There is one: its workers leave when the run has ended. No contract tells what stands behind a lock, so where they
 //! left and it has not ended, though none of them was refused memory or stopped, they are set to work again.
-ghost use Rattle.std.specs.Prelude.{◌≡◌, ◌<◌, ℕ, None, Some, Err, vec_len, IfOk, OnOk};
+ghost use Rattle.std.specs.Prelude.{◌≡◌, vec_len, IfOk};
 ghost use Rattle.shared_run.specs.schedule_workers.Starts.{ArePlaces};
-ghost use Rattle.shared_run.specs.outcome.Requirements.{unmet_in};
+ghost use Rattle.shared_run.specs.schedule_core.Admission.{IsAdmitted};
 ghost use Rattle.shared_run.specs.store.Made.{IsMadeFor};
-ghost use Rattle.shared_run.specs.store.declared.memory.Memory.{Memory};
-ghost use Rattle.shared_run.specs.schedule_core.Replaying.{IsNumberOfWorkers};
 ghost use Rattle.shared_run.specs.Answer.{IsSerialAnswer, LeadTo};
 ghost use Rattle.shared_run.specs.Story.{origin};
 
@@ -46,14 +44,7 @@ pub(crate) fn run_by<L: Bench + Send + Sync, G: Gate + Sync, R: Threads + Wait +
     requires one_each { blank.parts ≡ workers }
     ensures answer { IfOk result (λ run. IsSerialAnswer (origin verified.now arguments.now memory workers) run.finished) }
     ensures replays { IfOk result (λ run. LeadTo (origin verified.now arguments.now memory workers) run.history.events run.finished) }
-    ensures in_range { OnOk result (IsNumberOfWorkers workers) }
-    ensures met { OnOk result (unmet_in verified.now arguments.now ≡ None) }
-    ensures bad_arguments { (requirement : ℕ) → unmet_in verified.now arguments.now ≡ Some requirement
-        → result ≡ Err (RunFault.BadArguments requirement memory) }
-    ensures bad_workers { unmet_in verified.now arguments.now ≡ None → ¬ IsNumberOfWorkers workers → result ≡ Err (RunFault.BadWorkers memory) }
-    ensures only_bad_arguments { (requirement : ℕ) (m : Memory) → result ≡ Err (RunFault.BadArguments requirement m)
-        → unmet_in verified.now arguments.now ≡ Some requirement }
-    ensures only_bad_workers { (m : Memory) → result ≡ Err (RunFault.BadWorkers m) → ¬ IsNumberOfWorkers workers }
+    ensures admitted { IsAdmitted verified.now arguments.now memory workers result }
 {
     let (mut shared, mut seats) = Shared::<L>::new(
         alloc, verified, arguments, memory, workers, blank,

@@ -1,9 +1,7 @@
 //! Runs on threads of their own.
-ghost use Rattle.std.specs.Prelude.{◌≡◌, ℕ, None, Some, Err, IfOk, OnOk};
-ghost use Rattle.shared_run.specs.outcome.Requirements.{unmet_in};
+ghost use Rattle.std.specs.Prelude.{IfOk};
+ghost use Rattle.shared_run.specs.schedule_core.Admission.{IsAdmitted};
 ghost use Rattle.shared_run.specs.store.Made.{IsMadeFor};
-ghost use Rattle.shared_run.specs.store.declared.memory.Memory.{Memory};
-ghost use Rattle.shared_run.specs.schedule_core.Replaying.{IsNumberOfWorkers};
 ghost use Rattle.shared_run.specs.Answer.{IsSerialAnswer, LeadTo};
 ghost use Rattle.shared_run.specs.Story.{origin};
 
@@ -38,14 +36,7 @@ pub fn run<G: Gate + Sync, R: Threads + Wait + Clock + Sync>(
 ) -> Result<Finished, RunFault>
     requires made { IsMadeFor verified.now memory }
     ensures answer { IfOk result (λ done. IsSerialAnswer (origin verified.now arguments.now memory workers) done) }
-    ensures in_range { OnOk result (IsNumberOfWorkers workers) }
-    ensures met { OnOk result (unmet_in verified.now arguments.now ≡ None) }
-    ensures bad_arguments { (requirement : ℕ) → unmet_in verified.now arguments.now ≡ Some requirement
-        → result ≡ Err (RunFault.BadArguments requirement memory) }
-    ensures bad_workers { unmet_in verified.now arguments.now ≡ None → ¬ IsNumberOfWorkers workers → result ≡ Err (RunFault.BadWorkers memory) }
-    ensures only_bad_arguments { (requirement : ℕ) (m : Memory) → result ≡ Err (RunFault.BadArguments requirement m)
-        → unmet_in verified.now arguments.now ≡ Some requirement }
-    ensures only_bad_workers { (m : Memory) → result ≡ Err (RunFault.BadWorkers m) → ¬ IsNumberOfWorkers workers }
+    ensures admitted { IsAdmitted verified.now arguments.now memory workers result }
 {
     if workers == 1 {
         return run_alone(rt, alloc, verified, arguments, memory, gate);
@@ -74,14 +65,7 @@ pub fn run_recorded<G: Gate + Sync, R: Threads + Wait + Clock + Sync>(
     requires made { IsMadeFor verified.now memory }
     ensures answer { IfOk result (λ run. IsSerialAnswer (origin verified.now arguments.now memory workers) run.finished) }
     ensures replays { IfOk result (λ run. LeadTo (origin verified.now arguments.now memory workers) run.history.events run.finished) }
-    ensures in_range { OnOk result (IsNumberOfWorkers workers) }
-    ensures met { OnOk result (unmet_in verified.now arguments.now ≡ None) }
-    ensures bad_arguments { (requirement : ℕ) → unmet_in verified.now arguments.now ≡ Some requirement
-        → result ≡ Err (RunFault.BadArguments requirement memory) }
-    ensures bad_workers { unmet_in verified.now arguments.now ≡ None → ¬ IsNumberOfWorkers workers → result ≡ Err (RunFault.BadWorkers memory) }
-    ensures only_bad_arguments { (requirement : ℕ) (m : Memory) → result ≡ Err (RunFault.BadArguments requirement m)
-        → unmet_in verified.now arguments.now ≡ Some requirement }
-    ensures only_bad_workers { (m : Memory) → result ≡ Err (RunFault.BadWorkers m) → ¬ IsNumberOfWorkers workers }
+    ensures admitted { IsAdmitted verified.now arguments.now memory workers result }
 {
     let blank = Blank::new(workers as u64);
     run_by::<Brand, G, R>(rt, alloc, verified, arguments, memory, workers, gate, blank)

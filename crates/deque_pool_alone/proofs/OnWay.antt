@@ -46,6 +46,7 @@ module _ (program : Program) (arguments : List ℤ) (memory : List NamedCells) (
     may = w.may;
     globals = w.globals;
     allocas = w.allocas;
+    codes = w.codes;
     small = w.small;
     few = w.few;
     text = subst (λ (x : ℕ). TextFits program places x) (sym moves) w.text;
@@ -66,6 +67,7 @@ module _ (program : Program) (arguments : List ℤ) (memory : List NamedCells) (
         may = w.may;
         globals = w.globals;
         allocas = w.allocas;
+        codes = w.codes;
         small = w.small;
         few = w.few;
         text = subst (λ (x : ℕ). TextFits program places x) (sym moves) w.text;
@@ -81,10 +83,10 @@ module _ (program : Program) (arguments : List ℤ) (memory : List NamedCells) (
       let e : Ended = record { result = z; instructions = m; peak = peak } in
       let runs : RunsTo program places (budget_of program) w.first j e =
       λ globals start safe h. turned globals program places (budget_of program) n m peak start k j (Some z) safe (w.walked globals start safe h) one returns in
-      ends program w.may.accepted arguments memory w.may.taken w.may.cells places w.globals w.allocas w.first w.begun w.small j e runs
+      ends program w.may.accepted arguments memory w.may.taken w.may.cells places w.globals w.allocas w.codes w.first w.begun w.small j e runs
 
   -- ---- what is left
 
   pub takes : TakesMore program arguments memory n
-  takes = takes_more program w.may.accepted arguments memory w.may.taken w.may.cells places w.globals w.allocas w.first w.begun n (λ globals start safe h.
+  takes = takes_more program w.may.accepted arguments memory w.may.taken w.may.cells places w.globals w.allocas w.codes w.first w.begun n (λ globals start safe h.
       let a = w.walked globals start safe h in record { peak = peak; run = a.run; walk = a.walk })

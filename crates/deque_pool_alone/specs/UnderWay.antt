@@ -10,6 +10,7 @@ use Rattle.outcome.specs.store.Made.{HasGlobalCells}
 use Rattle.outcome.specs.store.Rows.{row_of, sizes_of}
 use Rattle.outcome.specs.verifier.Accepted.{IsAccepted}
 use Rattle.outcome.specs.verifier.Budgets.{budget_of}
+use Rattle.frame_code.specs.Codes.{program_codes}
 use Rattle.frame_engine.specs.Starts.{alloca_starts, starts_from}
 use Rattle.frame_engine.specs.declared.activation.Places.{Places}
 use Rattle.serial_stack.specs.Runs.{GoesSafely, HasWalked}
@@ -30,6 +31,7 @@ pub record IsOnWay (program : Program) (arguments : List ℤ) (memory : List Nam
   pub may : MayBegin program arguments memory
   pub globals : places.globals ≡ starts_from 0 (sizes_of memory)
   pub allocas : places.allocas ≡ map (λ (f : Function). alloca_starts f.allocas) program.functions
+  pub codes : places.codes ≡ program_codes program
   pub small : length (row_of memory) < 9223372036854775808
   pub few : budget_of program < 18446744073709551616
   pub text : TextFits program places (length stack.moves.items)

@@ -4,12 +4,11 @@ ghost use Rattle.outcome.specs.store.Made.{HasGlobalCells, IsMadeFor};
 ghost use Rattle.outcome.specs.verifier.Accepted.{IsAccepted};
 ghost use Rattle.outcome.specs.verifier.Budgets.{budget_of};
 ghost use Rattle.serial_machine.specs.Promise.{EndsWithinBudget, TakesMore};
-ghost use Rattle.serial_machine.specs.Safe.{HasMoves};
 ghost use Rattle.deque_pool_alone.specs.UnderWay.{GetsOn, IsRefusal, IsRunOf, IsUnderWay};
 
 use crate::counted::CountedCells;
-use crate::steps::{advance, border, is_at_border};
-use frame_engine::{Flat, Places};
+use crate::steps::{advance, is_at_border};
+use frame_engine::{Flat, Places, most_moves};
 use frame_strand::{MOST, StrandCells};
 use lists::OutOfMemory;
 use outcome::{Finished, Memory, RunFault, Verified, unmet_requirement};
@@ -47,17 +46,6 @@ impl Drop for LoneRun<'_> {
             peak: _,
         } = self;
     }
-}
-
-/// As many moves as any edge of the program makes at a time.
-fn most_moves(program: &Program) -> usize
-    ensures { HasMoves program.now result }
-{
-    let mut most = 0;
-    for function in program.functions.as_slice() {
-        most = most.max(function.registers.len());
-    }
-    most
 }
 
 /// Nothing is counted yet.
@@ -167,7 +155,7 @@ impl<'v> LoneRun<'v> {
             return Ok(None);
         }
         self.done += 1;
-        match border(&mut self.stack, program, &self.places)? {
+        match self.stack.border(program, &self.places)? {
             Some(result) => {
                 let mut memory = self.memory.take();
                 memory.set_row(self.stack.cells.cells.as_slice());

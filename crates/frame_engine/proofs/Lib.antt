@@ -17,3 +17,4 @@ pub mod Passing
 pub mod Zeroing
 pub mod Touches
 pub mod Texts
+pub mod Meant

@@ -9,7 +9,7 @@ ghost use Rattle.program.specs.declared.instruction.Terminator.TheVariants as te
 ghost use Rattle.frame_engine.specs.declared.activation.Places.{Places};
 ghost use Rattle.frame_engine.specs.Activation.{ShowsFrame};
 ghost use Rattle.frame_engine.specs.Fits.{EdgeFits, HasReturned};
-ghost use Rattle.frame_engine.specs.Names.{HasResult, sizes};
+ghost use Rattle.frame_engine.specs.Names.{HasResult, sizes, taker_of};
 ghost use Rattle.frame_engine.specs.Shows.{Layout};
 
 use crate::activation::Frame;
@@ -19,6 +19,17 @@ use crate::words::{define, word};
 use frame::{Role, Wait};
 use lists::OutOfMemory;
 use program::{BlockId, Operand, Program, RegisterId};
+
+/// The register that takes what a call returns, of a frame that waits for one.
+#[inline(always)]
+pub fn taker(waits: Wait) -> Option<RegisterId>
+    ensures { result ≡ taker_of waits }
+{
+    match waits {
+        Wait::Call { register, .. } => register,
+        Wait::Nothing | Wait::Region(_) => None,
+    }
+}
 
 impl Frame {
     /// Goes along the edge to the target of its sync, to wait there for its children within the region.
@@ -55,6 +66,7 @@ impl Frame {
     }
 
     /// Goes on at the continuation, once the child of its detach was made.
+    #[inline(always)]
     pub fn continue_at(&mut self, continuation: BlockId)
         requires { self.old.made + 1 < 18446744073709551616 }
         ensures is { self.new ≡ record self.old { place = record { block = continuation; index = 0 }; made = self.old.made + 1; waits = Wait.Nothing } }
@@ -70,6 +82,7 @@ impl Frame {
     }
 
     /// Waits for the call that it has just made.
+    #[inline(always)]
     pub fn wait_for_call(&mut self, register: Option<RegisterId>)
         requires made { self.old.made + 1 < 18446744073709551616 }
         requires index { self.old.place.index + 1 < 18446744073709551616 }
@@ -91,6 +104,7 @@ impl Frame {
     }
 
     /// What it returns.
+    #[inline(always)]
     pub fn returned(&self, value: Option<Operand>) -> Option<i64>
         requires { HasReturned (sizes (length self.now.registers.items) 0 0) value }
         ensures { (prog : Program) (l : Layout) (places : Places) (p : Path) (g : frames.Frame) (v : Option ℤ)
@@ -103,6 +117,7 @@ impl Frame {
     }
 
     /// Goes on with what its call returned, which the register takes.
+    #[inline(always)]
     pub fn resume(&mut self, register: Option<RegisterId>, number: Option<i64>)
         requires { HasResult (length self.old.registers.items) register }
         ensures only { self.new ≡ record self.old { registers = self.new.registers; waits = Wait.Nothing } }

@@ -18,8 +18,21 @@ use frame::{Role, Wait};
 use lists::OutOfMemory;
 use program::{Argument, BlockId, FunctionId};
 
+/// Has so many words. What they held counts for nothing, so a frame that was one of the same function before is not written over.
+#[inline(always)]
+fn have_words(words: &mut Vec<i64>, count: usize) -> Result<(), OutOfMemory>
+    ensures { OnOk result (length words.new.items ≡ count) }
+{
+    if words.len() != count {
+        words.truncate(count);
+        words.resize(count, 0)?;
+    }
+    Ok(())
+}
+
 impl Frame {
     /// The word that a call passes.
+    #[inline(always)]
     fn argument(&self, places: &Places, argument: Argument) -> i64
         requires there { self.now.function.0 < length places.now.allocas }
         requires names { HasArgument (sizes (length self.now.registers.items) (length places.now.globals)
@@ -40,6 +53,7 @@ impl Frame {
     }
 
     /// Writes the words that a call passes.
+    #[inline(always)]
     fn pass(&self, places: &Places, arguments: &[Argument], words: &mut [i64])
         requires there { self.now.function.0 < length places.now.allocas }
         requires names { (k : ℕ) (a : Argument) → slice_get arguments.now k ≡ Some a
@@ -56,6 +70,7 @@ impl Frame {
     }
 
     /// Makes `callee` the frame of this frame's call of the function, with so many registers, whatever it was.
+    #[inline(always)]
     pub fn call_into(
         &self,
         places: &Places,
@@ -79,9 +94,7 @@ impl Frame {
             → PointsAlike l k values → ShowsBases k (bases places.now.globals (allocas_of places.now function.0) home) (g.made ∷ p)
             → ShowsFrame k places.now (g.made ∷ p) (called p g function.0 values) callee.new) }
     {
-        // What the words held counts for nothing, so a frame that was one of the same function before is not written over.
-        callee.registers.truncate(registers);
-        callee.registers.resize(registers, 0)?;
+        have_words(&mut callee.registers, registers)?;
         self.pass(places, arguments, callee.registers.as_mut_slice());
         callee.function = function;
         callee.place = Place {

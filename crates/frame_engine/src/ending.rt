@@ -7,13 +7,15 @@ ghost use Rattle.semantics.specs.Frames as frames;
 ghost use Rattle.semantics.specs.Effect.{Plain, case_for, jumps, terminator_action, with_phis};
 ghost use Rattle.program.specs.declared.function.Program.{Program};
 ghost use Rattle.program.specs.declared.function.Block.{Block};
+ghost use Rattle.frame_code.specs.Codes.{edge_of, first_target, second_target};
 ghost use Rattle.frame_engine.specs.Names.{Sizes, sizes};
 ghost use Rattle.frame_engine.specs.Fits.{EdgeFits, EndingFits, HasTest};
 ghost use Rattle.frame_engine.specs.Border.{IsBorderEnding};
 ghost use Rattle.frame_engine.specs.Shows.{Layout, ShowsRegisters, TrapFree};
 
-use crate::entering::enter;
+use crate::entering::{enter, enter_along};
 use crate::words::{register, word};
+use frame_code::BlockCode;
 use program::{Block, BlockId, Case, Terminator};
 
 /// The case of a switch for the number.
@@ -111,9 +113,12 @@ pub fn leave(
     moves: &mut [i64],
     blocks: &[Block],
     from: BlockId,
+    code: &BlockCode,
     terminator: &Terminator,
 ) -> Option<BlockId>
-    requires { EndingFits (sizes (length regs.old) 0 0) (length moves.old) from.0 blocks.now terminator.now }
+    requires fits { EndingFits (sizes (length regs.old) 0 0) (length moves.old) from.0 blocks.now terminator.now }
+    requires first { code.now.first ≡ edge_of from.0 blocks.now (first_target terminator.now) }
+    requires second { code.now.second ≡ edge_of from.0 blocks.now (second_target terminator.now) }
     ensures length { length regs.new ≡ length regs.old }
     ensures moves { length moves.new ≡ length moves.old }
     ensures there { IfSome result (λ t. t.0 < length blocks.now) }
@@ -127,7 +132,7 @@ pub fn leave(
 {
     match terminator {
         Terminator::Jump { target } => {
-            enter(regs, moves, blocks, from, *target);
+            enter_along(regs, moves, blocks, from, &code.first);
             Some(*target)
         }
         Terminator::Branch {
@@ -136,10 +141,10 @@ pub fn leave(
             when_false,
         } => {
             if register(regs, *condition) != 0 {
-                enter(regs, moves, blocks, from, *when_true);
+                enter_along(regs, moves, blocks, from, &code.first);
                 Some(*when_true)
             } else {
-                enter(regs, moves, blocks, from, *when_false);
+                enter_along(regs, moves, blocks, from, &code.second);
                 Some(*when_false)
             }
         }

@@ -45,10 +45,14 @@ impl Cells for Flat {
 
 impl Flat {
     /// So many more cells at the end, for the allocas of a frame that begins. What they hold counts for nothing.
+    #[inline(always)]
     pub fn grow(&mut self, cells: usize) -> Result<(), OutOfMemory>
         ensures grown { OnOk result (self.new.cells.items ≡ self.old.cells.items ++ replicate cells (pos 0)) }
         ensures same { OnErr result (self.new.cells.items ≡ self.old.cells.items) }
     {
+        if cells == 0 {
+            return Ok(());
+        }
         match self.cells.len().checked_add(cells) {
             Some(end) => Ok(self.cells.resize(end, 0)?),
             None => Err(OutOfMemory),

@@ -15,6 +15,7 @@ pub enum Item<'p> {
 
 impl Frame {
     /// What the frame does next.
+    #[inline(always)]
     pub fn item<'p>(&self, program: &'p Program) -> Item<'p>
         requires stands { FrameFits program.now self.now }
         requires ends { (b : Block) → block_at program.now self.now.function.0 self.now.place.block.0 ≡ Some b → b.ending ≢ None }

@@ -3,14 +3,17 @@
 
 mod activation;
 mod arithmetic;
+mod beginning;
 mod borders;
 mod calls;
 mod cells;
 mod clearing;
+mod coded;
 mod doing;
 mod ending;
 mod entering;
 mod flat;
+mod functions;
 mod items;
 mod placing;
 mod stepping;
@@ -19,9 +22,12 @@ mod words;
 
 pub use activation::{Frame, Places};
 pub use arithmetic::sum;
+pub use beginning::{blank, first_registers};
+pub use borders::taker;
 pub use cells::Cells;
 pub use doing::{Did, plain};
 pub use flat::Flat;
+pub use functions::{frame_cells, function_at, most_moves};
 pub use items::Item;
 pub use turning::{Pause, Place, advance};
 pub use words::behind;

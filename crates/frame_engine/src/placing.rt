@@ -1,8 +1,10 @@
 ghost use Rattle.std.specs.Prelude.{◌≡◌, IfOk, map};
 ghost use Rattle.program.specs.declared.function.Function.{Function};
+ghost use Rattle.frame_code.specs.Codes.{program_codes};
 ghost use Rattle.frame_engine.specs.Starts.{alloca_starts, global_starts};
 
 use crate::activation::Places;
+use frame_code::program_codes;
 use lists::{OutOfMemory, Seq};
 use program::{Alloca, Program};
 use std::alloc::Global;
@@ -37,6 +39,7 @@ impl Places {
     /// The places of a program's objects.
     pub fn of_program(alloc: Global, program: &Program) -> Result<Places, OutOfMemory>
         ensures globals { IfOk result (λ places. places.globals ≡ global_starts program.now.globals) }
+        ensures codes { IfOk result (λ places. places.codes ≡ program_codes program.now) }
         ensures allocas { IfOk result (λ places. places.allocas ≡ map (λ (f : Function). alloca_starts f.allocas) program.now.functions) }
     {
         let globals = starts_of_globals(alloc, program.globals.as_slice())?;
@@ -47,6 +50,7 @@ impl Places {
         Ok(Places {
             globals,
             allocas: Seq::from_vec(allocas),
+            codes: program_codes(alloc, program)?,
         })
     }
 }

@@ -7,11 +7,12 @@ use Rattle.semantics.specs.Events as running
 use Rattle.semantics.specs.Frames.{Frame}
 use Rattle.semantics.specs.Replay.{NeverTraps, has_ended}
 use Rattle.semantics.specs.SerialMeaning.{Gave}
+use Rattle.schedule_core.specs.Admission.{IsNumberOfWorkers}
 use Rattle.outcome.specs.Requirements.{unmet_in}
 use Rattle.outcome.specs.store.Cells.{NamedCells}
 use Rattle.outcome.specs.store.Made.{HasGlobalCells}
 use Rattle.outcome.specs.verifier.Accepted.{IsAccepted}
-use Rattle.schedule_core.specs.Replaying.{IsNumberOfWorkers, KeepsItsSchedule, Replays, event_of, first_state, state_after}
+use Rattle.schedule_core.specs.Replaying.{KeepsItsSchedule, Replays, event_of, first_state, state_after}
 use Rattle.schedule_core.specs.Stages.{IsState, given}
 use Rattle.schedule_core.specs.declared.stage.Stage.{Stage}
 use Rattle.schedule_core.proofs.laws_workers.Results.{IsOpen, always_open}

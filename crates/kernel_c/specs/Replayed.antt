@@ -9,7 +9,8 @@ use Rattle.frame.specs.declared.event.Event.{Event}
 use Rattle.outcome.specs.Requirements.{unmet_in}
 use Rattle.outcome.specs.store.Cells.{NamedCells, cell_at}
 use Rattle.outcome.specs.store.Rows.{row_of}
-use Rattle.schedule_core.specs.Replaying.{IsNumberOfWorkers, KeepsItsSchedule, state_after}
+use Rattle.schedule_core.specs.Replaying.{KeepsItsSchedule, state_after}
+use Rattle.schedule_core.specs.Admission.{IsNumberOfWorkers}
 use Rattle.schedule_core.specs.Stages.{given}
 use Rattle.schedule_text.specs.ScheduleText.{IsSchedule}
 use Rattle.kernel_c.specs.Told.{bad_arguments, done, memory_from, other_cells, out_of_memory, sizes_in}

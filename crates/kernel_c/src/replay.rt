@@ -1,10 +1,10 @@
 //! The call that runs a module that is kept by a schedule.
 
 ghost use Rattle.std.specs.Prelude.{◌≡◌, ◌≢◌, ◌⊎◌, None, Some, length, sum};
+ghost use Rattle.schedule_core.specs.Admission.{IsNumberOfWorkers};
 ghost use Rattle.outcome.specs.Requirements.{unmet_in};
 ghost use Rattle.outcome.specs.store.Rows.{sizes_of};
 ghost use Rattle.semantics.specs.Events as running;
-ghost use Rattle.schedule_core.specs.Replaying.{IsNumberOfWorkers};
 ghost use Rattle.schedule_core.specs.Stages.{IsState};
 ghost use Rattle.schedule_text.specs.ScheduleText.{IsBadLine, IsTooLong};
 ghost use Rattle.schedule_text.specs.declared.fault.ScheduleFault.TheVariants.{BadLine, TooLong};

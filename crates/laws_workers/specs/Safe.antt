@@ -4,9 +4,10 @@ use Rattle.semantics.specs.Cells.{Memory}
 use Rattle.semantics.specs.Events.{start}
 use Rattle.program.specs.declared.function.Function.{Function}
 use Rattle.program.specs.declared.function.Program.{Program}
+use Rattle.frame_code.specs.Codes.{program_codes}
 use Rattle.frame_engine.specs.Starts.{alloca_starts, global_starts}
 use Rattle.frame_engine.specs.declared.activation.Places.{Places}
-use Rattle.serial_machine.specs.Safe.{HasMoves}
+use Rattle.frame_engine.specs.Fits.{HasMoves}
 use Rattle.serial_machine.specs.laws_schedule.Promise.{AreTaken, HasGlobals}
 use Rattle.serial_machine.specs.verifier.Accepted.{IsProgramOf}
 use Rattle.schedule_workers.specs.Going.{RunsSafely, TextFits}
@@ -22,7 +23,7 @@ RunsAreSafe =
 abbrev pub TextsFit : Type 0
 TextsFit =
     (text : List ℕ) (program : Program) → IsProgramOf text program → (places : Places) (moves : ℕ) → places.globals ≡ global_starts program.globals →
-    places.allocas ≡ map (λ (f : Function). alloca_starts f.allocas) program.functions → HasMoves program moves → TextFits program places moves
+    places.allocas ≡ map (λ (f : Function). alloca_starts f.allocas) program.functions → places.codes ≡ program_codes program → HasMoves program moves → TextFits program places moves
 
 -- `main` is there, and has an entry and a register for each of these arguments
 pub record StartFits (program : Program) (arguments : List ℤ) : Type 0 where

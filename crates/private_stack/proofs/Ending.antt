@@ -22,10 +22,10 @@ use Rattle.frame_engine.specs.declared.activation.Frame.{Frame}
 use Rattle.frame_engine.specs.declared.activation.Places.{Places}
 use Rattle.frame_engine.specs.Activation.{ShowsFrame}
 use Rattle.frame_engine.specs.Fits.{PlaceFits}
-use Rattle.frame_engine.specs.Names.{HasResult}
+use Rattle.frame_engine.specs.Names.{HasResult, taker_of}
 use Rattle.frame_engine.specs.Shows.{IsIn, Layout, address}
 use Rattle.frame_engine.proofs.Texts.{Located, ends_fit, frame_stands, located, starts_block}
-use Rattle.serial_stack.specs.Shown.{HasTaker, TextFits, item_here, taker_of}
+use Rattle.serial_stack.specs.Shown.{HasTaker, TextFits, item_here}
 use Rattle.serial_stack.specs.Layouts.{alloca_sizes, for_body, with_allocas}
 use Rattle.serial_stack.specs.Shown as serial
 use Rattle.serial_stack.proofs.Owners.{address_apart, in_apart, out_apart}

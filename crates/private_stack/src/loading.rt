@@ -9,8 +9,8 @@ ghost use Rattle.private_stack.specs.Along.{IsUnderWay, MayBegin};
 ghost use Rattle.private_stack.specs.OwnCells.{segment_of};
 
 use crate::cells::PileCells;
-use crate::pile::{Base, Pile, blank};
-use frame_engine::{Frame, Place};
+use crate::pile::{Base, Pile};
+use frame_engine::{Frame, Place, blank};
 use lists::OutOfMemory;
 use private_stack_log::PageLog;
 use std::alloc::Global;

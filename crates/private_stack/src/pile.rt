@@ -1,10 +1,8 @@
 ghost use Rattle.std.specs.Prelude.{◌≡◌, ◌++◌, ◌∷◌, [], OnOk};
 
 use crate::cells::PileCells;
-use frame::{Role, Wait};
-use frame_engine::{Frame, Place};
+use frame_engine::{Frame, blank};
 use lists::OutOfMemory;
-use program::{BlockId, FunctionId};
 use std::alloc::Global;
 use std::mem;
 
@@ -35,23 +33,6 @@ pub struct Pile {
     pub end: u64,
     /// Room for the phi moves of an edge.
     pub moves: Vec<i64>,
-}
-
-/// A frame to be made something of.
-pub(crate) fn blank(alloc: Global) -> Frame {
-    Frame {
-        function: FunctionId(0),
-        place: Place {
-            block: BlockId(0),
-            index: 0,
-        },
-        registers: Vec::new(alloc),
-        home: 0,
-        made: 0,
-        waits: Wait::Nothing,
-        role: Role::Body,
-        depth: 0,
-    }
 }
 
 /// A frame that is over, or a new one.

@@ -13,7 +13,8 @@ use Rattle.laws_workers.specs.store.Cells.{NamedCells, cell_at}
 use Rattle.laws_workers.specs.store.Rows.{row_of, sizes_of}
 use Rattle.schedule_workers.specs.Follows.{AreGiven}
 use Rattle.schedule_workers.specs.Stalls.{StallsAgree, no_blocks}
-use Rattle.schedule_workers.specs.Starts.{ArePlaces, Begins, HasMoves, IsRowOf}
+use Rattle.frame_engine.specs.Fits.{HasMoves}
+use Rattle.schedule_workers.specs.Starts.{ArePlaces, Begins, IsRowOf}
 use Rattle.frame.specs.declared.event.Event.{Event}
 use Rattle.schedule_core.specs.declared.stage.Stage.{Stage}
 use Rattle.schedule_core.specs.Replaying.{IsMachine, KeepsItsSchedule, KeepsItWith, Replays, StaysLow, first_state, state_after}

@@ -6,6 +6,7 @@ use Rattle.std.proofs.Props.{props}
 use Rattle.std.proofs.Math.Nat.{ℕ_set}
 use Rattle.std.proofs.Math.IntN.{ℤ_set}
 use mathlib.Core.Sum.{⊎_set}
+use Rattle.frame_code.proofs.Sets.{codes_equal}
 use Rattle.std.proofs.lemmas.List.{map-append}
 use Rattle.lists.specs.declared.memory.OutOfMemory.{OutOfMemory}
 use Rattle.semantics.specs.Events as running
@@ -188,4 +189,5 @@ pub same_places : (stage : Stage) → ∥ IsMachine stage ∥₁ → (places : P
 same_places stage kept places at =
     let globals : places.globals ≡ stage.places.globals = at.globals ∙ sym (∥∥₁_elim kept (Prim.hlevel (props, ⊎_set, ℕ_set, ℤ_set)) (λ m. m.places.globals)) in
     let allocas : places.allocas ≡ stage.places.allocas = at.allocas ∙ sym (∥∥₁_elim kept (Prim.hlevel (props, ⊎_set, ℕ_set, ℤ_set)) (λ m. m.places.allocas)) in
-    λ i. record { globals = globals i; allocas = allocas i }
+    let codes : places.codes ≡ stage.places.codes = at.codes ∙ sym (∥∥₁_elim kept (codes_equal _ _) (λ m. m.places.codes)) in
+    λ i. record { globals = globals i; allocas = allocas i; codes = codes i }

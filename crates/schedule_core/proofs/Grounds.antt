@@ -22,7 +22,8 @@ use Rattle.laws_workers.proofs.Texts.{texts_fit, starts_fit}
 use Rattle.laws_workers_strands.specs.Promise.{StaysSafeDeep}
 use Rattle.laws_workers_strands.proofs.Law.{frames_go_deep}
 use Rattle.schedule_workers.specs.Going.{RunsSafely, TextFits}
-use Rattle.schedule_workers.specs.Starts.{ArePlaces, HasMoves}
+use Rattle.frame_engine.specs.Fits.{HasMoves}
+use Rattle.schedule_workers.specs.Starts.{ArePlaces}
 use Rattle.frame_engine.specs.declared.activation.Places.{Places}
 use Rattle.schedule_core.specs.Replaying.{KeepsItsSchedule, event_of}
 use Rattle.schedule_core.specs.Stages.{AreFull, given}
@@ -105,7 +106,7 @@ module _ (program : Program) (a : IsAccepted program) (arguments : List ℤ) (no
 
 pub laws : Laws
 laws = record {
-  texts_fit = λ program a places at moves has. texts_fit a.text program a.means places moves at.globals at.allocas has;
+  texts_fit = λ program a places at moves has. texts_fit a.text program a.means places moves at.globals at.allocas at.codes has;
   from_start = λ program a arguments none globals made workers some. from program a arguments none globals made workers some;
   main = λ program a arguments none. main program a arguments none;
 }

@@ -1,3 +1,4 @@
+pub mod Admission
 pub mod Stages
 pub mod Lines
 pub mod Viewed
@@ -8,6 +9,7 @@ pub mod Over
 pub mod Strands
 pub mod Piles
 pub mod ReadyBelow
+pub mod FrameViews
 -- for the crates above
 pub use Rattle.laws_workers.specs.laws_conditions as laws_conditions
 pub use Rattle.laws_workers.specs.outcome as outcome

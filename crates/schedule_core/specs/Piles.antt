@@ -3,7 +3,8 @@ use Rattle.std.specs.Prelude.{◌≡◌, ℕ, ℤ, length, None}
 use Rattle.semantics.specs.Events as running
 use Rattle.program.specs.declared.function.Program.{Program}
 use Rattle.frame_engine.specs.declared.activation.Places.{Places}
-use Rattle.schedule_workers.specs.Starts.{ArePlaces, HasMoves}
+use Rattle.frame_engine.specs.Fits.{HasMoves}
+use Rattle.schedule_workers.specs.Starts.{ArePlaces}
 use Rattle.private_stack_log.specs.Tables.{log_of}
 use Rattle.private_stack.specs.Along.{IsUnderWay}
 use Rattle.private_stack.specs.declared.pile.Pile.{Pile}

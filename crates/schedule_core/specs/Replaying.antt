@@ -15,7 +15,8 @@ use Rattle.laws_workers.specs.store.Rows.{sizes_of}
 use Rattle.schedule_workers.specs.Events.{GrowsAtStep}
 use Rattle.schedule_workers.specs.Follows.{AreGiven, KeepsUses}
 use Rattle.schedule_workers.specs.Stalls.{StallsAgree, last_blocks, no_blocks}
-use Rattle.schedule_workers.specs.Starts.{ArePlaces, HasMoves}
+use Rattle.frame_engine.specs.Fits.{HasMoves}
+use Rattle.schedule_workers.specs.Starts.{ArePlaces}
 use Rattle.schedule_core.specs.Spots.{KeepsSpots}
 use Rattle.schedule_core.specs.Lines.{line_after, line_or_zero}
 use Rattle.laws_workers.specs.store.Made.{IsMadeFor}
@@ -28,9 +29,6 @@ use Rattle.schedule_core.specs.declared.task.TaskView.{TaskView}
 abbrev pub event_of : Event → running.Event
 event_of (Step worker) = running.Step worker
 event_of (Steal worker path) = running.Steal worker (reverse path.numbers)
-
-abbrev pub IsNumberOfWorkers : ℕ → Type 0
-IsNumberOfWorkers workers = (0 < workers) × (workers ≤ 64)
 
 -- ---- one event
 

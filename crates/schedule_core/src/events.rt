@@ -1,19 +1,19 @@
-ghost use Rattle.std.specs.Prelude.{◌≡◌, ◌≢◌, ◌<◌, ℕ, [], Some, None, Err, Ok, true, false, IfOk, OnOk, OnErr, length, sum};
+ghost use Rattle.std.specs.Prelude.{◌≡◌, ◌<◌, [], None, Ok, false, IfOk, OnOk, OnErr};
 ghost use Rattle.semantics.specs.Events.{Machine};
 ghost use Rattle.laws_workers.specs.outcome.Requirements.{unmet_in};
-ghost use Rattle.laws_workers.specs.store.declared.memory.Memory.{Memory};
+ghost use Rattle.schedule_core.specs.Admission.{IsAdmitted};
 ghost use Rattle.schedule_workers.specs.Follows.{Follows};
-ghost use Rattle.schedule_core.specs.Replaying.{GrowsOnly, Happens, IsMachine, IsNumberOfWorkers, LeavesAsBefore};
+ghost use Rattle.schedule_core.specs.Replaying.{GrowsOnly, Happens, IsMachine, LeavesAsBefore};
 ghost use Rattle.schedule_core.specs.Replaying.{Replays, ReplaysMore, ReplaysOneMore, StandsAsWell, event_of};
 ghost use Rattle.laws_workers.specs.store.Made.{IsMadeFor};
 ghost use Rattle.schedule_core.specs.Stages.{IsState, program_of};
 
 use crate::stage::Stage;
 use frame::Event;
-use frame_engine::Places;
+use frame_engine::{Places, most_moves};
 use lists::OutOfMemory;
 use outcome::{Memory, RunFault, Verified, unmet_requirement};
-use schedule_workers::{Run, most_moves};
+use schedule_workers::Run;
 use std::alloc::Global;
 
 /// The stage before the first event, of arguments that `main` takes.
@@ -53,14 +53,7 @@ pub(crate) fn begin<'v>(
     requires { IsMadeFor verified.now memory }
     ensures machine { IfOk result IsMachine }
     ensures replays { IfOk result (Replays verified.now arguments.now memory workers []) }
-    ensures in_range { OnOk result (IsNumberOfWorkers workers) }
-    ensures bad_arguments { (requirement : ℕ) → unmet_in verified.now arguments.now ≡ Some requirement
-        → result ≡ Err (RunFault.BadArguments requirement memory) }
-    ensures bad_workers { unmet_in verified.now arguments.now ≡ None → ¬ IsNumberOfWorkers workers → result ≡ Err (RunFault.BadWorkers memory) }
-    ensures only_bad_arguments { (requirement : ℕ) (m : Memory) → result ≡ Err (RunFault.BadArguments requirement m)
-        → unmet_in verified.now arguments.now ≡ Some requirement }
-    ensures only_bad_workers { (m : Memory) → result ≡ Err (RunFault.BadWorkers m) → ¬ IsNumberOfWorkers workers }
-    ensures met { OnOk result (unmet_in verified.now arguments.now ≡ None) }
+    ensures admitted { IsAdmitted verified.now arguments.now memory workers result }
 {
     if let Some(requirement) = unmet_requirement(verified.program(), arguments) {
         return Err(RunFault::BadArguments {

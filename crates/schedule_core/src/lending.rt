@@ -1,5 +1,8 @@
 //! Cells that workers have apart from the machine, for the frames of stacks of their own.
+ghost use Rattle.std.specs.Prelude.{◌*◌, OnOk};
+ghost use Rattle.schedule_workers.specs.Lent.{Lends};
 ghost use Rattle.schedule_core.specs.Replaying.{IsMachine, LeavesAsBefore};
+ghost use Rattle.schedule_core.specs.Stages.{workers_of};
 
 use crate::machine::Machine;
 use crate::stage::Stage;
@@ -8,13 +11,13 @@ use lists::OutOfMemory;
 /// The cells that a worker is lent.
 const LENT: usize = 4096;
 
-/// Lends cells to each worker, where none are lent yet.
-fn lend_cells(stage: &mut Stage<'_>) -> Result<(), OutOfMemory>
+/// Lends so many cells to the workers, where none are lent yet.
+fn lend_cells(stage: &mut Stage<'_>, cells: usize) -> Result<(), OutOfMemory>
     requires { ∥ IsMachine stage.old ∥₁ }
+    ensures lends { OnOk result (Lends cells stage.old.run stage.new.run) }
     ensures as_before { LeavesAsBefore stage.old stage.new }
     ensures machine { ∥ IsMachine stage.new ∥₁ }
 {
-    let cells = stage.run.hands.len().saturating_mul(LENT);
     stage.run.lend(cells)
 }
 
@@ -25,8 +28,12 @@ impl Machine<'_> {
     ///
     /// Memory was refused.
     pub fn lend(&mut self) -> Result<(), OutOfMemory>
-        ensures { LeavesAsBefore self.old.stage self.new.stage }
+        ensures lends { OnOk result (Lends (workers_of self.old.stage * 4096) self.old.stage.run self.new.stage.run) }
+        ensures as_before { LeavesAsBefore self.old.stage self.new.stage }
     {
-        lend_cells(&mut self.stage)
+        let Some(cells) = self.stage.run.hands.len().checked_mul(LENT) else {
+            return Err(OutOfMemory);
+        };
+        lend_cells(&mut self.stage, cells)
     }
 }

@@ -5,6 +5,7 @@
 
 mod absorb;
 mod events;
+mod frames;
 mod globals;
 mod laws;
 mod lending;
@@ -20,7 +21,8 @@ mod view;
 
 pub use absorb::{places_of, steps_of};
 pub use frame::Event;
-pub use frame_engine::Places;
+pub use frame_engine::{Frame, Places};
+pub use frames::FrameView;
 pub use laws::ended_enables_nothing;
 pub use machine::Machine;
 pub use outcome::{Finished, Memory, RunFault, Verified, unmet_requirement};

@@ -1,10 +1,9 @@
-ghost use Rattle.std.specs.Prelude.{◌↔◌, ◌≡◌, [], None, Some, Err, Ok, IsSome, ℕ, IsTrue, IfOk, true, false, OnErr, OnOk};
+ghost use Rattle.std.specs.Prelude.{◌↔◌, ◌≡◌, [], Ok, IsSome, IsTrue, IfOk, true, false, OnErr, OnOk};
 ghost use Rattle.semantics.specs.Events as running;
 ghost use Rattle.semantics.specs.Replay.{CountsFrames, has_ended};
-ghost use Rattle.laws_workers.specs.outcome.Requirements.{unmet_in};
-ghost use Rattle.laws_workers.specs.store.declared.memory.Memory.{Memory};
+ghost use Rattle.schedule_core.specs.Admission.{IsAdmitted};
 ghost use Rattle.schedule_core.specs.Spots.{KeepsSpots};
-ghost use Rattle.schedule_core.specs.Replaying.{GrowsOnly, Happens, IsMachine, IsNumberOfWorkers, KeepsItsSchedule, KeepsItWith, LeavesAsBefore};
+ghost use Rattle.schedule_core.specs.Replaying.{GrowsOnly, Happens, IsMachine, KeepsItsSchedule, KeepsItWith, LeavesAsBefore};
 ghost use Rattle.schedule_core.specs.Replaying.{Replays, ReplaysOneMore, StandsAsWell, event_of};
 ghost use Rattle.laws_workers.specs.store.Made.{IsMadeFor};
 ghost use Rattle.schedule_core.specs.Stages.{IsState, program_of};
@@ -41,14 +40,7 @@ impl<'v> Machine<'v> {
         requires { IsMadeFor verified.now memory }
         ensures replays { IfOk result (λ m. Replays verified.now arguments.now memory workers [] m.stage) }
         ensures schedule { OnOk result (KeepsItsSchedule verified.now arguments.now memory workers []) }
-        ensures in_range { OnOk result (IsNumberOfWorkers workers) }
-        ensures bad_arguments { (requirement : ℕ) → unmet_in verified.now arguments.now ≡ Some requirement
-            → result ≡ Err (RunFault.BadArguments requirement memory) }
-        ensures bad_workers { unmet_in verified.now arguments.now ≡ None → ¬ IsNumberOfWorkers workers → result ≡ Err (RunFault.BadWorkers memory) }
-        ensures only_bad_arguments { (requirement : ℕ) (m : Memory) → result ≡ Err (RunFault.BadArguments requirement m)
-            → unmet_in verified.now arguments.now ≡ Some requirement }
-        ensures only_bad_workers { (m : Memory) → result ≡ Err (RunFault.BadWorkers m) → ¬ IsNumberOfWorkers workers }
-        ensures met { OnOk result (unmet_in verified.now arguments.now ≡ None) }
+        ensures admitted { IsAdmitted verified.now arguments.now memory workers result }
     {
         let stage = begin(alloc, verified, arguments, memory, workers)?;
         Ok(Machine { stage })

@@ -15,13 +15,12 @@ ghost use Rattle.schedule_core.specs.Strands.{TakesSteps};
 
 use crate::machine::Machine;
 use crate::stage::Stage;
-use frame_engine::Places;
+use frame_engine::{Places, most_moves};
 use lists::OutOfMemory;
 use outcome::Verified;
 use private_stack::{Pause, Pile};
 use private_stack_log::page_around;
 use schedule_publish::{absorb_deep, has_no_child};
-use schedule_workers::most_moves;
 use std::alloc::Global;
 
 /// A pile without a base, with room for the phi moves of the module.

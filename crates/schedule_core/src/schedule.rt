@@ -1,7 +1,6 @@
-ghost use Rattle.std.specs.Prelude.{◌≡◌, ◌≢◌, ℕ, Some, None, Err, IfOk, OnOk};
-ghost use Rattle.laws_workers.specs.outcome.Requirements.{unmet_in};
-ghost use Rattle.laws_workers.specs.store.declared.memory.Memory.{Memory};
-ghost use Rattle.schedule_core.specs.Replaying.{IsNumberOfWorkers, KeepsItsSchedule, Replays};
+ghost use Rattle.std.specs.Prelude.{IfOk, OnOk};
+ghost use Rattle.schedule_core.specs.Admission.{IsAdmitted};
+ghost use Rattle.schedule_core.specs.Replaying.{KeepsItsSchedule, Replays};
 ghost use Rattle.laws_workers.specs.store.Made.{IsMadeFor};
 
 use crate::events::{apply_all, begin};
@@ -27,14 +26,7 @@ pub fn replay<'v>(
     requires { IsMadeFor verified.now memory }
     ensures replays { IfOk result (λ m. Replays verified.now arguments.now memory workers events.now m.stage) }
     ensures keeps { OnOk result (KeepsItsSchedule verified.now arguments.now memory workers events.now) }
-    ensures in_range { OnOk result (IsNumberOfWorkers workers) }
-    ensures bad_arguments { (requirement : ℕ) → unmet_in verified.now arguments.now ≡ Some requirement
-        → result ≡ Err (RunFault.BadArguments requirement memory) }
-    ensures bad_workers { unmet_in verified.now arguments.now ≡ None → ¬ IsNumberOfWorkers workers → result ≡ Err (RunFault.BadWorkers memory) }
-    ensures only_bad_arguments { (requirement : ℕ) (m : Memory) → result ≡ Err (RunFault.BadArguments requirement m)
-        → unmet_in verified.now arguments.now ≡ Some requirement }
-    ensures only_bad_workers { (m : Memory) → result ≡ Err (RunFault.BadWorkers m) → ¬ IsNumberOfWorkers workers }
-    ensures met { OnOk result (unmet_in verified.now arguments.now ≡ None) }
+    ensures admitted { IsAdmitted verified.now arguments.now memory workers result }
 {
     let mut stage = begin(alloc, verified, arguments, memory, workers)?;
     match apply_all(&mut stage, events) {

@@ -15,6 +15,7 @@ pub mod Pointing
 pub mod Roomy
 pub mod Lying
 pub mod Lending
+mod Ends
 pub mod Begun
 pub mod Calling
 pub mod Callee

@@ -36,14 +36,13 @@ use Rattle.frame_engine.specs.declared.activation.Frame.{Frame}
 use Rattle.frame_engine.specs.declared.activation.Places.{Places}
 use Rattle.frame_engine.specs.Activation.{FrameFits, ShowsFrame}
 use Rattle.frame_engine.specs.Fits.{HasReturned}
-use Rattle.frame_engine.specs.Names.{HasResult, Sizes, sizes}
+use Rattle.frame_engine.specs.Names.{HasResult, Sizes, sizes, taker_of}
 use Rattle.frame_engine.specs.Shows.{Layout, TrapFree}
 use Rattle.frame_engine.proofs.Texts.{ends_fit, located, sizes_in}
 use Rattle.schedule_workers.specs.declared.activation.Activation.{Activation}
 use Rattle.schedule_workers.specs.declared.run.Run.{Run}
 use Rattle.schedule_workers.specs.Layouts.{alloca_at, alloca_cells, layout_of, object_at}
 use Rattle.schedule_workers.specs.Going.{CanGo, CanStep, RunsSafely, TextFits}
-use Rattle.schedule_workers.specs.Returns.{taker_of}
 use Rattle.schedule_workers.specs.Scheduling.{hand_of}
 use Rattle.schedule_workers.specs.Shown.{CalleeStands, HasTaker, IsShown, ShowsAt, item_here, place_of}
 use Rattle.schedule_workers.proofs.Changed.{Holds, Told, alike, anew, kept_holds}

@@ -6,7 +6,6 @@ pub mod Going
 pub mod Forking
 pub mod Rooms
 pub mod Calls
-pub mod Returns
 pub mod Follows
 pub mod Left
 pub mod Stalls
@@ -16,3 +15,4 @@ pub mod Starts
 pub mod Roots
 pub mod Copying
 pub mod Lent
+pub mod Pieces

@@ -22,30 +22,12 @@ ghost use Rattle.schedule_workers.specs.Shown.{item_here};
 ghost use Rattle.schedule_workers.specs.Going.{DoesStep, StandsSafely, TextFits};
 
 use crate::activation::Activation;
-use crate::room::{frame_cells, function_at};
 use crate::run::Run;
 use frame::{Role, Wait};
-use frame_engine::{Frame, Place, Places};
+use frame_engine::{Places, blank, frame_cells, function_at};
 use lists::OutOfMemory;
-use program::{Argument, BlockId, FunctionId, Program, RegisterId};
+use program::{Argument, FunctionId, Program, RegisterId};
 use std::alloc::Global;
-
-/// A frame to be made something of.
-fn blank(alloc: Global) -> Frame {
-    Frame {
-        function: FunctionId(0),
-        place: Place {
-            block: BlockId(0),
-            index: 0,
-        },
-        registers: Vec::new(alloc),
-        home: 0,
-        made: 0,
-        waits: Wait::Nothing,
-        role: Role::Body,
-        depth: 0,
-    }
-}
 
 impl Activation {
     /// The frame of this frame's call of the function, which has so many registers; the worker begins it.

@@ -1,16 +1,15 @@
 //! Cells that are lent to workers, for the allocas of frames that they make apart from the run.
 
-ghost use Rattle.std.specs.Prelude.{◌≡◌, ◌↔◌, ◌+◌, ◌≤◌, IfNone, IfSome, IsTrue, slice_get};
-ghost use Rattle.schedule_workers.specs.Lent.{AllAreClearOf, IsClearOf, IsFree, IsVacant, place_at};
+ghost use Rattle.std.specs.Prelude.{◌≡◌, ◌↔◌, ◌+◌, ◌≤◌, IfNone, IfSome, IsTrue, OnOk, slice_get};
+ghost use Rattle.schedule_workers.specs.Lent.{AllAreClearOf, IsClearOf, IsFree, IsVacant, Lends, place_at};
 ghost use Rattle.program.specs.declared.function.Program.{Program as Text};
 ghost use Rattle.frame_engine.specs.declared.activation.Places.{Places};
 ghost use Rattle.schedule_workers.specs.Left.{LeavesAsShown};
 ghost use Rattle.schedule_workers.specs.Shown.{LiesWithin, cells_in};
 
-use crate::room::frame_cells;
 use crate::run::{Block, Run};
 use frame::Role;
-use frame_engine::Frame;
+use frame_engine::{Frame, frame_cells};
 use lists::OutOfMemory;
 use program::{FunctionId, Program};
 
@@ -35,7 +34,7 @@ fn lies_within(outer: Block, block: Block) -> bool
 }
 
 /// The place of a frame's home in the row.
-fn home_place(home: i64) -> usize
+pub(crate) fn home_place(home: i64) -> usize
     ensures { result ≡ place_at home }
 {
     if home < 0 {
@@ -57,7 +56,7 @@ fn own_cells(program: &Program, function: FunctionId) -> Option<usize>
 }
 
 /// Where the allocas of a function's frame end; none where 64 bits don't tell.
-fn own_end(program: &Program, frame: &Frame) -> Option<usize>
+pub(crate) fn own_end(program: &Program, frame: &Frame) -> Option<usize>
     ensures some { IfSome result (λ end. end ≡ place_at frame.now.home + cells_in (slice_get program.now.functions frame.now.function.0)) }
     ensures none { IfNone result (18446744073709551616 ≤ place_at frame.now.home + cells_in (slice_get program.now.functions frame.now.function.0)) }
 {
@@ -69,11 +68,12 @@ fn own_end(program: &Program, frame: &Frame) -> Option<usize>
 fn is_clear_of(program: &Program, part: Block, frame: &Frame) -> bool
     ensures { IsTrue result ↔ IsClearOf program.now part frame.now }
 {
-    if frame.role != Role::Body || ends_by(part.start, part.cells, home_place(frame.home)) {
+    let home = home_place(frame.home);
+    if frame.role != Role::Body || ends_by(part.start, part.cells, home) {
         return true;
     }
     match own_end(program, frame) {
-        Some(end) => end <= part.start,
+        Some(end) => end == home || end <= part.start,
         None => false,
     }
 }
@@ -108,50 +108,6 @@ impl Run {
             && (part.cells == 0 || self.is_vacant(program, part))
     }
 
-    /// As many cells for each worker, one worker's after the other's.
-    fn piece_of(&self, worker: u8) -> Block {
-        let cells = self.lent.cells.checked_div(self.hands.len()).unwrap_or(0);
-        let before = cells.saturating_mul(worker as usize);
-        Block {
-            start: self.lent.start.saturating_add(before),
-            cells,
-        }
-    }
-
-    /// Behind the allocas of the frames that have theirs in the piece.
-    fn end_within(&self, program: &Program, piece: Block) -> usize {
-        let limit = piece.start.saturating_add(piece.cells);
-        let mut end = piece.start;
-        for (_slot, node) in self.cactus.iter() {
-            let frame = &node.frame.frame;
-            if frame.role == Role::Body && home_place(frame.home) < limit {
-                end = end.max(own_end(program, frame).unwrap_or(limit));
-            }
-        }
-        end
-    }
-
-    /// What is free of the worker's piece of the cells that are lent: it may have none.
-    pub fn free_part(&self, program: &Program, worker: u8) -> Block
-        ensures { IsFree program.now self.now result }
-    {
-        let piece = self.piece_of(worker);
-        let start = self.end_within(program, piece);
-        let limit = piece.start.saturating_add(piece.cells);
-        let part = Block {
-            start,
-            cells: limit.saturating_sub(start),
-        };
-        if self.is_free(program, part) {
-            part
-        } else {
-            Block {
-                start: self.cells.cells.len(),
-                cells: 0,
-            }
-        }
-    }
-
     /// Lends so many cells to the workers, where none are lent yet. Nothing changes that is seen of the run.
     ///
     /// # Errors
@@ -159,6 +115,7 @@ impl Run {
     /// Memory was refused.
     pub fn lend(&mut self, cells: usize) -> Result<(), OutOfMemory>
         ensures only { self.new ≡ record self.old { cells = self.new.cells; lent = self.new.lent; end = self.new.end } }
+        ensures lends { OnOk result (Lends cells self.old self.new) }
         ensures left { (prog : Text) (places : Places) → LeavesAsShown prog places self.old self.new }
     {
         if self.lent.cells != 0 {

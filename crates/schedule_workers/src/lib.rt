@@ -17,7 +17,7 @@ mod detach;
 mod hands;
 mod lent;
 mod lowest;
-mod moves;
+mod pieces;
 mod plain;
 mod reattach;
 mod returning;
@@ -30,5 +30,4 @@ mod sync;
 mod tops;
 
 pub use activation::Activation;
-pub use moves::most_moves;
 pub use run::{Block, Run};

@@ -9,31 +9,20 @@ ghost use Rattle.cactus.specs.Frames.{node_at};
 ghost use Rattle.cactus.specs.declared.node.Node.{Node};
 ghost use Rattle.frame_engine.specs.declared.activation.Places.{Places};
 ghost use Rattle.frame_engine.specs.Activation.{ShowsFrame};
-ghost use Rattle.frame_engine.specs.Names.{HasResult};
+ghost use Rattle.frame_engine.specs.Names.{HasResult, taker_of};
 ghost use Rattle.frame_engine.specs.Shows.{Layout};
 ghost use Rattle.schedule_workers.specs.declared.activation.Activation.{Activation as Living};
 ghost use Rattle.schedule_workers.specs.Events.{LeavesStalls};
 ghost use Rattle.schedule_workers.specs.Follows.{Follows};
 ghost use Rattle.schedule_workers.specs.Going.{DoesStep, StandsSafely, TextFits};
-ghost use Rattle.schedule_workers.specs.Returns.{taker_of};
 ghost use Rattle.schedule_workers.specs.Scheduling.{hand_of};
 ghost use Rattle.schedule_workers.specs.Shown.{item_here};
 
 use crate::activation::Activation;
 use crate::run::Run;
 use frame::Wait;
-use frame_engine::Places;
-use program::{Operand, Program, RegisterId};
-
-/// The register that takes what a call returns, of a frame that waits for one.
-fn taker(waits: Wait) -> Option<RegisterId>
-    ensures { result ≡ taker_of waits }
-{
-    match waits {
-        Wait::Call { register, .. } => register,
-        Wait::Nothing | Wait::Region(_) => None,
-    }
-}
+use frame_engine::{Places, taker};
+use program::{Operand, Program};
 
 impl Activation {
     /// The worker goes on with the frame, whose call has returned this.

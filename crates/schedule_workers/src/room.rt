@@ -1,34 +1,9 @@
-ghost use Rattle.std.specs.Prelude.{◌≡◌, ◌+◌, ◌++◌, ◌<◌, ◌≤◌, ℕ, IfNone, IfOk, IfSome, OnOk, length, map, max, replicate, slice_get, Some, sum, vec_len};
+ghost use Rattle.std.specs.Prelude.{◌≡◌, ◌+◌, ◌++◌, ◌<◌, ℕ, IfOk, OnOk, length, max, replicate, vec_len};
 ghost use Rattle.std.specs.Vec.{with_item};
-ghost use Rattle.program.specs.declared.function.Alloca.{Alloca};
 ghost use Rattle.schedule_workers.specs.Rooms.{IsRoom, IsRoomier, empty_at};
 
 use crate::run::{Block, Run};
 use lists::OutOfMemory;
-use program::{Alloca, Function, FunctionId, Program};
-
-/// The function, which is there.
-pub(crate) fn function_at(program: &Program, function: FunctionId) -> &Function
-    requires { function.0 < length program.now.functions }
-    ensures { slice_get program.now.functions function.0 ≡ Some result.now }
-{
-    &program.functions.as_slice()[function.0]
-}
-
-/// The cells of a function's allocas; none where 64 bits don't count them.
-pub(crate) fn frame_cells(allocas: &[Alloca]) -> Option<usize>
-    ensures some { IfSome result (λ n. n ≡ sum (map (λ (a : Alloca). a.cells) allocas.now)) }
-    ensures none { IfNone result (18446744073709551616 ≤ sum (map (λ (a : Alloca). a.cells) allocas.now)) }
-{
-    let mut cells: usize = 0;
-    for alloca in allocas {
-        match cells.checked_add(alloca.cells as usize) {
-            Some(more) => cells = more,
-            None => return None,
-        }
-    }
-    Some(cells)
-}
 
 impl Run {
     /// Slots up to this one have blocks from here on.

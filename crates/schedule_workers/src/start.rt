@@ -1,4 +1,4 @@
-ghost use Rattle.std.specs.Prelude.{◌≡◌, ◌<◌, ◌≤◌, ◌-◌, ◌++◌, IfOk, None, Some, length, pos, replicate, slice_get, slice_set};
+ghost use Rattle.std.specs.Prelude.{◌≡◌, ◌<◌, ◌≤◌, IfOk, None, Some, length, replicate, slice_get, slice_set};
 ghost use Rattle.program.specs.declared.function.Function.{Function};
 ghost use Rattle.schedule_workers.specs.Follows.{AreGiven};
 ghost use Rattle.schedule_workers.specs.Roots.{HasBlock, IsRoot};
@@ -6,29 +6,13 @@ ghost use Rattle.schedule_workers.specs.Stalls.{StallsAgree, no_blocks};
 ghost use Rattle.schedule_workers.specs.Starts.{Begins};
 
 use crate::activation::Activation;
-use crate::room::{frame_cells, function_at};
 use crate::run::{Block, Run};
 use cactus::Cactus;
 use frame::{Role, Wait};
-use frame_engine::{Flat, Frame, Place};
+use frame_engine::{Flat, Frame, Place, first_registers, frame_cells, function_at};
 use lists::OutOfMemory;
 use program::{BlockId, FunctionId, Program};
 use std::alloc::Global;
-
-/// The arguments, and words for the other registers.
-fn first_registers(
-    alloc: Global,
-    arguments: &[i64],
-    registers: usize,
-) -> Result<Vec<i64>, OutOfMemory>
-    requires { length arguments.now ≤ registers }
-    ensures { IfOk result (λ words. words.items ≡ arguments.now ++ replicate (registers - length arguments.now) (pos 0)) }
-{
-    let mut words = Vec::new(alloc);
-    words.extend_from_slice(arguments)?;
-    words.resize(registers, 0)?;
-    Ok(words)
-}
 
 /// The block for the slot; slots before it have empty ones.
 fn first_blocks(alloc: Global, slot: usize, block: Block) -> Result<Vec<Block>, OutOfMemory>

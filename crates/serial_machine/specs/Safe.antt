@@ -1,11 +1,13 @@
 -- What the machine rests on, of each program that the verifier took: its text fits, and its serial run can do each next step.
-use Rattle.std.specs.Prelude.{◌≡◌, ℕ, ◌≤◌, List, length, map, Some, ℤ, slice_get}
+use Rattle.std.specs.Prelude.{◌≡◌, ℕ, ◌≤◌, List, length, map, ℤ, slice_get}
 use Rattle.semantics.specs.Cells.{Memory}
 use Rattle.semantics.specs.Frames.{Frame, global_cells, item_at}
 use Rattle.program.specs.declared.function.Function.{Function}
 use Rattle.program.specs.declared.function.Program.{Program}
 use Rattle.outcome.specs.verifier.Accepted.{IsProgramOf}
 use Rattle.outcome.specs.verifier.Budgets.{budget_of}
+use Rattle.frame_code.specs.Codes.{program_codes}
+use Rattle.frame_engine.specs.Fits.{HasMoves}
 use Rattle.frame_engine.specs.Operands.{ItemFits}
 use Rattle.frame_engine.specs.Starts.{alloca_starts}
 use Rattle.frame_engine.specs.declared.activation.Places.{Places}
@@ -31,12 +33,8 @@ RunsAreSafe =
 abbrev pub ItemsFit : Type 0
 ItemsFit = (prog : Program) → HasKinds prog → (f : Frame) → HasKindedRegisters prog f → ItemFits f (item_at prog f.function f.block f.index)
 
--- as many moves as a function has registers are enough
-abbrev pub HasMoves : Program → ℕ → Type 0
-HasMoves program moves = (k : ℕ) (f : Function) → slice_get program.functions k ≡ Some f → length f.registers ≤ moves
-
 -- what the text names is there
 abbrev pub TextsFit : Type 0
 TextsFit =
     (text : List ℕ) (program : Program) → IsProgramOf text program → (places : Places) (moves : ℕ) → length program.globals ≤ length places.globals →
-    places.allocas ≡ map (λ (f : Function). alloca_starts f.allocas) program.functions → HasMoves program moves → TextFits program places moves
+    places.allocas ≡ map (λ (f : Function). alloca_starts f.allocas) program.functions → places.codes ≡ program_codes program → HasMoves program moves → TextFits program places moves

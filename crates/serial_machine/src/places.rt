@@ -1,7 +1,7 @@
 ghost use Rattle.std.specs.Prelude.{◌≡◌, IfOk, map};
 ghost use Rattle.program.specs.declared.function.Function.{Function};
+ghost use Rattle.frame_code.specs.Codes.{program_codes};
 ghost use Rattle.frame_engine.specs.Starts.{alloca_starts, starts_from};
-ghost use Rattle.serial_machine.specs.Safe.{HasMoves};
 
 use frame_engine::Places;
 use lists::{OutOfMemory, Seq};
@@ -28,20 +28,10 @@ pub(crate) fn places_of(
     sizes: &[u64],
 ) -> Result<Places, OutOfMemory>
     ensures globals { IfOk result (λ places. places.globals ≡ starts_from 0 sizes.now) }
+    ensures codes { IfOk result (λ places. places.codes ≡ program_codes program.now) }
     ensures allocas { IfOk result (λ places. places.allocas ≡ map (λ (f : Function). alloca_starts f.allocas) program.now.functions) }
 {
     let mut places = Places::of_program(alloc, program)?;
     places.globals = starts(alloc, sizes)?;
     Ok(places)
-}
-
-/// As many moves as any edge of the program makes at a time.
-pub(crate) fn most_moves(program: &Program) -> usize
-    ensures { HasMoves program.now result }
-{
-    let mut most = 0;
-    for function in program.functions.as_slice() {
-        most = most.max(function.registers.len());
-    }
-    most
 }

@@ -5,7 +5,8 @@ ghost use Rattle.outcome.specs.verifier.Accepted.{IsAccepted};
 ghost use Rattle.outcome.specs.verifier.Budgets.{budget_of};
 ghost use Rattle.serial_machine.specs.Promise.{EndsOrLacksMemory, EndsWithinBudget, EndsWithinFuel, TakesMore};
 
-use crate::places::{most_moves, places_of};
+use crate::places::places_of;
+use frame_engine::most_moves;
 use lists::OutOfMemory;
 use outcome::{Finished, Memory, RunFault, Verified, unmet_requirement};
 use program::Program;

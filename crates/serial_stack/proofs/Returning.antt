@@ -30,11 +30,11 @@ use Rattle.frame_engine.specs.declared.flat.Flat.{Flat}
 use Rattle.frame_engine.specs.Activation.{FrameFits, ShowsFrame}
 use Rattle.frame_engine.specs.Fits.{HasReturned, PlaceFits}
 use Rattle.frame_engine.specs.Flat.{cell_in, is_cell}
-use Rattle.frame_engine.specs.Names.{HasResult, Sizes, sizes}
+use Rattle.frame_engine.specs.Names.{HasResult, Sizes, sizes, taker_of}
 use Rattle.frame_engine.specs.Shows.{IsIn, Layout, ShowsCells, address}
 use Rattle.serial_stack.specs.Layouts.{alloca_sizes, end_of, for_body, layout_of, with_allocas}
 use Rattle.serial_stack.specs.Steps.{Placed, Run, Goes, ret}
-use Rattle.serial_stack.specs.Shown.{BeginsAt, CanGo, HasTaker, Ends as EndsRun, ShowsBelow, ShowsOn, ShowsRun, TextFits, item_here, taker_of, unboxed}
+use Rattle.serial_stack.specs.Shown.{BeginsAt, CanGo, HasTaker, Ends as EndsRun, ShowsBelow, ShowsOn, ShowsRun, TextFits, item_here, unboxed}
 use Rattle.serial_stack.specs.declared.stack.Stack.{Stack}
 use Rattle.serial_stack.proofs.Calling.{tall_below}
 use Rattle.serial_stack.proofs.Joining.{below_is, nothing_left, popped}

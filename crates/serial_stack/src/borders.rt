@@ -1,37 +1,18 @@
-ghost use Rattle.std.specs.Prelude.{◌≡◌, ◌<◌, OnOk, IfOk, Some, length, slice_get};
+ghost use Rattle.std.specs.Prelude.{◌≡◌, OnOk, IfOk, Some, length};
 ghost use Rattle.semantics.specs.Frames.{Does, Ends};
 ghost use Rattle.program.specs.declared.instruction.Instruction.TheVariants as instruction;
 ghost use Rattle.program.specs.declared.instruction.Terminator.TheVariants as terminator;
-ghost use Rattle.serial_stack.specs.Shown.{GoesOn, HasNumbers, Returns, StandsSafely, TextFits, item_here, taker_of};
+ghost use Rattle.serial_stack.specs.Shown.{GoesOn, HasNumbers, Returns, StandsSafely, TextFits, item_here};
 ghost use Rattle.frame_engine.specs.Activation.{FrameFits};
 
 use crate::stack::Stack;
-use crate::text::frame_cells;
-use frame::Wait;
-use frame_engine::Places;
+use frame_engine::{Places, frame_cells, function_at, taker};
 use lists::OutOfMemory;
-use program::{Argument, BlockId, Function, FunctionId, ObjectName, Operand, Program, RegisterId};
-
-/// The register that takes what a call returns, of a frame that waits for one.
-fn taker(waits: Wait) -> Option<RegisterId>
-    ensures { result ≡ taker_of waits }
-{
-    match waits {
-        Wait::Call { register, .. } => register,
-        Wait::Nothing | Wait::Region(_) => None,
-    }
-}
-
-/// The function, which is there.
-pub(crate) fn function_at(program: &Program, function: FunctionId) -> &Function
-    requires { function.0 < length program.now.functions }
-    ensures { slice_get program.now.functions function.0 ≡ Some result.now }
-{
-    &program.functions.as_slice()[function.0]
-}
+use program::{Argument, BlockId, FunctionId, ObjectName, Operand, Program, RegisterId};
 
 impl Stack {
     /// The child begins; its parent stands at the continuation from here on.
+    #[inline(always)]
     pub(crate) fn detach(
         &mut self,
         program: &Program,
@@ -56,6 +37,7 @@ impl Stack {
     }
 
     /// The child is over, and its parent goes on.
+    #[inline(always)]
     pub(crate) fn reattach(
         &mut self,
         program: &Program,
@@ -119,6 +101,7 @@ impl Stack {
     }
 
     /// The callee begins, with its allocas at the end of the cells; its caller waits from here on.
+    #[inline(always)]
     pub(crate) fn call(
         &mut self,
         program: &Program,
@@ -160,6 +143,7 @@ impl Stack {
     }
 
     /// The function is over, and its caller goes on with what it returns; the root's is the run's result.
+    #[inline(always)]
     pub(crate) fn return_with(
         &mut self,
         program: &Program,

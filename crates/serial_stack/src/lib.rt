@@ -6,7 +6,6 @@ mod borders;
 mod run;
 mod stack;
 mod start;
-mod text;
 
 pub use run::Ended;
 pub use stack::Stack;

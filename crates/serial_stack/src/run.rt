@@ -14,6 +14,7 @@ use std::convert::Infallible;
 
 impl Stack {
     /// Goes on to the next place that is no plain step, or to the limit of instructions done.
+    #[inline(always)]
     pub fn advance(
         &mut self,
         program: &Program,
@@ -43,7 +44,8 @@ impl Stack {
     }
 
     /// Does the instruction at its place, which is no plain one.
-    pub fn step_over(
+    #[inline(always)]
+    fn step_over(
         &mut self,
         program: &Program,
         places: &Places,
@@ -73,7 +75,8 @@ impl Stack {
     }
 
     /// Does the ending at its place, which is no plain one; the run's result where it has ended.
-    pub fn end_block(
+    #[inline(always)]
+    fn end_block(
         &mut self,
         program: &Program,
         places: &Places,
@@ -127,7 +130,8 @@ pub struct Ended {
 
 impl Stack {
     /// Does what stands at its place, which is no plain step; the run's result where it has ended.
-    fn border(&mut self, program: &Program, places: &Places) -> Result<Option<i64>, OutOfMemory>
+    #[inline(always)]
+    pub fn border(&mut self, program: &Program, places: &Places) -> Result<Option<i64>, OutOfMemory>
         requires stands { FrameFits program.now self.old.top.value }
         requires text { TextFits program.now places.now (length self.old.moves.items) }
         requires border { IsBorderItem (item_here program.now self.old.top.value) }
@@ -146,6 +150,7 @@ impl Stack {
     }
 
     /// Goes on to a border, or to the limit of instructions done: whether it came to a border before that.
+    #[inline(always)]
     fn comes_to_border(
         &mut self,
         program: &Program,

@@ -1,9 +1,7 @@
 ghost use Rattle.std.specs.Prelude.{◌≡◌, ◌++◌, ◌∷◌, [], OnOk};
 
-use frame::{Role, Wait};
-use frame_engine::{Flat, Frame, Place};
+use frame_engine::{Flat, Frame, blank};
 use lists::OutOfMemory;
-use program::{BlockId, FunctionId};
 use std::alloc::Global;
 use std::mem;
 
@@ -22,25 +20,9 @@ pub struct Stack {
     pub moves: Vec<i64>,
 }
 
-/// A frame to be made something of.
-pub(crate) fn blank(alloc: Global) -> Frame {
-    Frame {
-        function: FunctionId(0),
-        place: Place {
-            block: BlockId(0),
-            index: 0,
-        },
-        registers: Vec::new(alloc),
-        home: 0,
-        made: 0,
-        waits: Wait::Nothing,
-        role: Role::Body,
-        depth: 0,
-    }
-}
-
 impl Stack {
     /// A frame that is over, or a new one.
+    #[inline(always)]
     pub(crate) fn fresh(&mut self) -> Result<Box<Frame>, OutOfMemory>
         ensures only { OnOk result (self.new ≡ record self.old { spare = self.new.spare }) }
     {
@@ -51,6 +33,7 @@ impl Stack {
     }
 
     /// The frame goes on, on top of the one that made it.
+    #[inline(always)]
     pub(crate) fn push(&mut self, frame: Box<Frame>) -> Result<(), OutOfMemory>
         ensures below { OnOk result (self.new.below.items ≡ self.old.below.items ++ self.old.top ∷ []) }
         ensures only { OnOk result (self.new ≡ record self.old { top = frame; below = self.new.below }) }
@@ -61,6 +44,7 @@ impl Stack {
     }
 
     /// The frame, which stood below the one on top, goes on.
+    #[inline(always)]
     pub(crate) fn go_back_to(&mut self, frame: Box<Frame>) -> Result<(), OutOfMemory>
         ensures only { OnOk result (self.new ≡ record self.old { top = frame; spare = self.new.spare }) }
     {

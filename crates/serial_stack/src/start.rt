@@ -1,30 +1,13 @@
-ghost use Rattle.std.specs.Prelude.{◌≡◌, ◌<◌, ◌≤◌, ◌-◌, ◌++◌, IfOk, Some, length, pos, replicate, slice_get};
+ghost use Rattle.std.specs.Prelude.{◌≡◌, ◌<◌, ◌≤◌, IfOk, Some, length, slice_get};
 ghost use Rattle.program.specs.declared.function.Function.{Function};
 ghost use Rattle.serial_stack.specs.Starts.{Begins};
 
-use crate::borders::function_at;
 use crate::stack::Stack;
-use crate::text::frame_cells;
 use frame::{Role, Wait};
-use frame_engine::{Flat, Frame, Place};
+use frame_engine::{Flat, Frame, Place, first_registers, frame_cells, function_at};
 use lists::OutOfMemory;
 use program::{BlockId, Program};
 use std::alloc::Global;
-
-/// The arguments, and words for the other registers.
-fn first_registers(
-    alloc: Global,
-    arguments: &[i64],
-    registers: usize,
-) -> Result<Vec<i64>, OutOfMemory>
-    requires { length arguments.now ≤ registers }
-    ensures { IfOk result (λ words. words.items ≡ arguments.now ++ replicate (registers - length arguments.now) (pos 0)) }
-{
-    let mut words = Vec::new(alloc);
-    words.extend_from_slice(arguments)?;
-    words.resize(registers, 0)?;
-    Ok(words)
-}
 
 impl Stack {
     /// The first frame of a run, with its arguments, behind the numbers of the globals.

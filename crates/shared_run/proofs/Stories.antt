@@ -12,6 +12,7 @@ use Rattle.semantics.proofs.Workers.{Manned}
 use Rattle.program.specs.declared.function.Program.{Program}
 use Rattle.schedule_core.specs.verifier.Accepted.{IsAccepted}
 use Rattle.schedule_core.specs.store.Made.{IsMadeFor}
+use Rattle.schedule_core.specs.Admission.{IsNumberOfWorkers}
 use Rattle.schedule_core.specs.outcome.Requirements.{unmet_in}
 use Rattle.schedule_core.specs.outcome.declared.outcome.Finished.{Finished}
 use Rattle.schedule_core.proofs.laws_workers.Results.{IsOpen, always_open}
@@ -20,7 +21,7 @@ use Rattle.schedule_core.proofs.Reached.{reached_manned, replay_more}
 use Rattle.frame.specs.declared.event.Event.{Event}
 use Rattle.frame.specs.declared.event.Event.TheVariants.{Step, Steal}
 use Rattle.schedule_core.specs.declared.stage.Stage.{Stage}
-use Rattle.schedule_core.specs.Replaying.{AreEnabled, event_of, Happens, IsNumberOfWorkers, KeepsItsSchedule, Replays, ReplaysOneMore, ReplaysTheSame}
+use Rattle.schedule_core.specs.Replaying.{AreEnabled, event_of, Happens, KeepsItsSchedule, Replays, ReplaysOneMore, ReplaysTheSame}
 use Rattle.schedule_core.specs.Stages.{given, HoldsGlobals, IsState, names_of, program_of, workers_of}
 use Rattle.shared_run.specs.Answer.{IsSerialAnswer, LeadTo}
 use Rattle.shared_run.specs.Story.{Origin, IsLegal, first_of, reached}

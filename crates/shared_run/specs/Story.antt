@@ -9,7 +9,8 @@ use Rattle.frame.specs.declared.path.Path.{Path}
 use Rattle.schedule_core.specs.outcome.Requirements.{unmet_in}
 use Rattle.frame.specs.declared.event.Event.{Event}
 use Rattle.schedule_core.specs.declared.stage.Stage.{Stage}
-use Rattle.schedule_core.specs.Replaying.{AreEnabled, event_of, first_state, state_after, IsNumberOfWorkers, Replays}
+use Rattle.schedule_core.specs.Replaying.{AreEnabled, event_of, first_state, state_after, Replays}
+use Rattle.schedule_core.specs.Admission.{IsNumberOfWorkers}
 use Rattle.schedule_core.specs.Spots.{path_of_use}
 use Rattle.schedule_core.specs.declared.ready.Spot.{Spot as Ticket}
 

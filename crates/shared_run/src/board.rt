@@ -1,11 +1,10 @@
-ghost use Rattle.std.specs.Prelude.{◌≡◌, ◌≢◌, ◌⊎◌, ℕ, ◌+◌, ◌*◌, ◌<◌, ◌≤◌, None, Some, Err, is_some, length, vec_len, sum_by, IfOk, IfErr, IfNone};
-ghost use Rattle.std.specs.Prelude.{IfSome, OnErr, OnOk};
-ghost use Rattle.schedule_core.specs.outcome.Requirements.{unmet_in};
+ghost use Rattle.std.specs.Prelude.{◌≡◌, ◌≢◌, ◌⊎◌, ◌+◌, ◌*◌, ◌<◌, ◌≤◌, None, Some, is_some, length, vec_len, sum_by, IfOk, IfErr, IfNone};
+ghost use Rattle.std.specs.Prelude.{IfSome, OnErr};
+ghost use Rattle.schedule_core.specs.Admission.{IsAdmitted};
 ghost use Rattle.schedule_core.specs.store.Made.{IsMadeFor};
-ghost use Rattle.schedule_core.specs.store.declared.memory.Memory.{Memory};
 ghost use Rattle.schedule_core.specs.verifier.Budgets.{budget_of};
 ghost use Rattle.schedule_core.specs.Parents.{HasNoReadyParent, IsReadyParent};
-ghost use Rattle.schedule_core.specs.Replaying.{IsNumberOfWorkers, KeepsItsSchedule};
+ghost use Rattle.schedule_core.specs.Replaying.{KeepsItsSchedule};
 ghost use Rattle.schedule_core.specs.Stages.{workers_of};
 ghost use Rattle.schedule_core.specs.Strands.{IsMadeOf};
 ghost use Rattle.schedule_core.specs.frame_strand.declared.standing.Pause.TheVariants as pause;
@@ -74,14 +73,7 @@ impl<'a, L: Bench> Board<'a, L> {
         requires one_each { blank.parts ≡ workers }
         ensures begins { IfOk result (λ made. Begins (origin verified.now arguments.now memory workers) made.0) }
         ensures seats { IfOk result (λ made. AreSeats workers made.1.items) }
-        ensures in_range { OnOk result (IsNumberOfWorkers workers) }
-        ensures met { OnOk result (unmet_in verified.now arguments.now ≡ None) }
-        ensures bad_arguments { (requirement : ℕ) → unmet_in verified.now arguments.now ≡ Some requirement
-            → result ≡ Err (RunFault.BadArguments requirement memory) }
-        ensures bad_workers { unmet_in verified.now arguments.now ≡ None → ¬ IsNumberOfWorkers workers → result ≡ Err (RunFault.BadWorkers memory) }
-        ensures only_bad_arguments { (requirement : ℕ) (m : Memory) → result ≡ Err (RunFault.BadArguments requirement m)
-            → unmet_in verified.now arguments.now ≡ Some requirement }
-        ensures only_bad_workers { (m : Memory) → result ≡ Err (RunFault.BadWorkers m) → ¬ IsNumberOfWorkers workers }
+        ensures admitted { IsAdmitted verified.now arguments.now memory workers result }
     {
         // for what it says of the module: that it is accepted
         let _accepted = verified.program();

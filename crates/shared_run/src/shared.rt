@@ -1,8 +1,6 @@
-ghost use Rattle.std.specs.Prelude.{◌≡◌, ℕ, ◌<◌, None, Some, Err, length, vec_len, sum_by, IfOk, IfErr, OnOk};
-ghost use Rattle.schedule_core.specs.outcome.Requirements.{unmet_in};
+ghost use Rattle.std.specs.Prelude.{◌≡◌, ◌<◌, length, vec_len, sum_by, IfOk, IfErr};
+ghost use Rattle.schedule_core.specs.Admission.{IsAdmitted};
 ghost use Rattle.schedule_core.specs.store.Made.{IsMadeFor};
-ghost use Rattle.schedule_core.specs.store.declared.memory.Memory.{Memory};
-ghost use Rattle.schedule_core.specs.Replaying.{IsNumberOfWorkers};
 ghost use Rattle.shared_run.specs.Answer.{IsSerialAnswer, LeadTo};
 ghost use Rattle.shared_run.specs.Story.{AreSeats, origin};
 
@@ -58,14 +56,7 @@ impl<'a, L: Bench> Shared<'a, L> {
         requires one_each { blank.parts ≡ workers }
         ensures start { IfOk result (λ made. made.0 ≡ origin verified.now arguments.now memory workers) }
         ensures seats { IfOk result (λ made. AreSeats workers made.1.items) }
-        ensures in_range { OnOk result (IsNumberOfWorkers workers) }
-        ensures met { OnOk result (unmet_in verified.now arguments.now ≡ None) }
-        ensures bad_arguments { (requirement : ℕ) → unmet_in verified.now arguments.now ≡ Some requirement
-            → result ≡ Err (RunFault.BadArguments requirement memory) }
-        ensures bad_workers { unmet_in verified.now arguments.now ≡ None → ¬ IsNumberOfWorkers workers → result ≡ Err (RunFault.BadWorkers memory) }
-        ensures only_bad_arguments { (requirement : ℕ) (m : Memory) → result ≡ Err (RunFault.BadArguments requirement m)
-            → unmet_in verified.now arguments.now ≡ Some requirement }
-        ensures only_bad_workers { (m : Memory) → result ≡ Err (RunFault.BadWorkers m) → ¬ IsNumberOfWorkers workers }
+        ensures admitted { IsAdmitted verified.now arguments.now memory workers result }
     {
         let memory = admitted(verified, arguments, memory, workers)?;
         let Ok(start) = Start::new(alloc, verified, arguments, &memory, workers) else {

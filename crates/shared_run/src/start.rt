@@ -1,7 +1,5 @@
-ghost use Rattle.std.specs.Prelude.{◌≡◌, ◌↔◌, ℕ, Some, None, Err, IfOk, IsTrue, OnOk};
-ghost use Rattle.schedule_core.specs.outcome.Requirements.{unmet_in};
-ghost use Rattle.schedule_core.specs.store.declared.memory.Memory.{Memory};
-ghost use Rattle.schedule_core.specs.Replaying.{IsNumberOfWorkers};
+ghost use Rattle.std.specs.Prelude.{◌≡◌, ◌↔◌, IfOk, IsTrue};
+ghost use Rattle.schedule_core.specs.Admission.{IsAdmitted};
 ghost use Rattle.shared_run.specs.Story.{origin};
 
 use lists::OutOfMemory;
@@ -79,14 +77,7 @@ pub(crate) fn admitted(
     workers: usize,
 ) -> Result<Memory, RunFault>
     ensures same { IfOk result (λ m. m ≡ memory) }
-    ensures in_range { OnOk result (IsNumberOfWorkers workers) }
-    ensures met { OnOk result (unmet_in verified.now arguments.now ≡ None) }
-    ensures bad_arguments { (requirement : ℕ) → unmet_in verified.now arguments.now ≡ Some requirement
-        → result ≡ Err (RunFault.BadArguments requirement memory) }
-    ensures bad_workers { unmet_in verified.now arguments.now ≡ None → ¬ IsNumberOfWorkers workers → result ≡ Err (RunFault.BadWorkers memory) }
-    ensures only_bad_arguments { (requirement : ℕ) (m : Memory) → result ≡ Err (RunFault.BadArguments requirement m)
-        → unmet_in verified.now arguments.now ≡ Some requirement }
-    ensures only_bad_workers { (m : Memory) → result ≡ Err (RunFault.BadWorkers m) → ¬ IsNumberOfWorkers workers }
+    ensures admitted { IsAdmitted verified.now arguments.now memory workers result }
 {
     if let Some(requirement) = unmet_requirement(verified.program(), arguments) {
         return Err(RunFault::BadArguments {

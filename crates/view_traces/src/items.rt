@@ -38,7 +38,7 @@ const UNKNOWN: Plan = Plan {
 };
 
 /// The register that an instruction defines at once.
-fn defined_by(instruction: &Instruction) -> Option<RegisterId> {
+pub fn defined_by(instruction: &Instruction) -> Option<RegisterId> {
     match instruction {
         Instruction::Binary { register, .. }
         | Instruction::Compare { register, .. }

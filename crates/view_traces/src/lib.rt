@@ -14,6 +14,8 @@ mod watching;
 
 pub use course::{Course, Listed};
 pub use dice::Dice;
+pub use items::{defined_by, parameters_at};
+pub use objects::Objects;
 pub use random::Draw;
 pub use schedule_core::{Event, Machine, Memory, RunFault, Verified};
 pub use script::Script;

@@ -51,11 +51,12 @@ use Rattle.laws_schedule.proofs.Accepted.{IsTaken, is_taken}
 use Rattle.outcome.specs.verifier.Accepted.{IsProgramOf}
 use Rattle.frame_engine.specs.declared.activation.Places.{Places}
 use Rattle.frame_engine.specs.Activation.{allocas_of, or_none}
-use Rattle.frame_engine.specs.Fits.{BlockFits, EdgeFits, EndingFits, HasEnding, HasEntry, HasPhi, HasReturned}
+use Rattle.frame_engine.specs.Fits.{BlockFits, EdgeFits, EndingFits, HasEnding, HasEntry, HasPhi, HasReturned, HasMoves}
 use Rattle.frame_engine.specs.Names.{Sizes, sizes, HasAddress, HasArgument, HasNames, HasObject, HasOperand, HasResult}
+use Rattle.frame_code.specs.Codes.{program_codes}
 use Rattle.frame_engine.specs.Starts.{alloca_starts, starts_from}
 use Rattle.serial_stack.specs.Shown.{TextFits}
-use Rattle.serial_machine.specs.Safe.{HasMoves, TextsFit}
+use Rattle.serial_machine.specs.Safe.{TextsFit}
 use Rattle.serial_machine.proofs.text.Named.{IsThere, alloca_named, object_named}
 use Rattle.frame_engine.proofs.Turns.{item_end}
 
@@ -102,7 +103,7 @@ parameters_first program kinds f function at =
     below_all function.parameters (length function.registers) (λ i one is. slice_get_within function.registers i _ (kinds.parameters f i function one at is))
 
 module _ (text : List ℕ) (program : Program) (accepted : IsProgramOf text program) (places : Places) (moves : ℕ) (enough : length program.globals ≤ length places.globals)
-    (all : places.allocas ≡ map (λ (f : Function). alloca_starts f.allocas) program.functions) (room : HasMoves program moves)
+    (all : places.allocas ≡ map (λ (f : Function). alloca_starts f.allocas) program.functions) (codes : places.codes ≡ program_codes program) (room : HasMoves program moves)
   where
     taken : IsTaken program
     taken = is_taken text program accepted
@@ -266,6 +267,7 @@ module _ (text : List ℕ) (program : Program) (accepted : IsProgramOf text prog
     pub text_fits : TextFits program places moves
     text_fits = record {
       fits = record {
+        codes = codes;
         allocas = ap length all ∙ length-map program.functions (λ (f : Function). alloca_starts f.allocas);
         blocks = λ k g at from b at_block. block_fits k g at from b at_block;
       };
@@ -275,4 +277,4 @@ module _ (text : List ℕ) (program : Program) (accepted : IsProgramOf text prog
     }
 
 pub texts_fit : TextsFit
-texts_fit text program accepted places moves enough all room = text_fits text program accepted places moves enough all room
+texts_fit text program accepted places moves enough all codes room = text_fits text program accepted places moves enough all codes room

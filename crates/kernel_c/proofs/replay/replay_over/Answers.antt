@@ -13,9 +13,9 @@ returns-in-Ok-replay-clause-ended c is =
     let filled = c.in-Ok.ensures in
     let ran = c.in-Ok-replay.ensures in
     let cells : HasGlobalCells program (memory_from program row) = subst (λ (m : List NamedCells). HasGlobalCells program m) filled.filled filled.cells in
-    let after = is_after program args.arguments.now row args.workers args.events.now _ filled.filled ran.met filled.long ran.in_range ran.keeps in
+    let after = is_after program args.arguments.now row args.workers args.events.now _ filled.filled ran.admitted.0 filled.long ran.admitted.1 ran.keeps in
     let ended = c.come_to.ensures.ended is _ (stands_after program args.arguments.now row args.workers args.events.now _ filled.filled _ ran.replays) in
-    ends_by program c.program-program.ensures.accepted args.arguments.now row args.workers args.events.now ran.met cells after _ _ ended
+    ends_by program c.program-program.ensures.accepted args.arguments.now row args.workers args.events.now ran.admitted.0 cells after _ _ ended
 
 pub returns-in-Ok-replay-clause-stands : goal.returns-in-Ok-replay-clause-stands
 returns-in-Ok-replay-clause-stands c is =
@@ -26,6 +26,6 @@ returns-in-Ok-replay-clause-stands c is =
     let ran = c.in-Ok-replay.ensures in
     record {
       machine = _;
-      replayed = is_after program args.arguments.now row args.workers args.events.now _ filled.filled ran.met filled.long ran.in_range ran.keeps;
+      replayed = is_after program args.arguments.now row args.workers args.events.now _ filled.filled ran.admitted.0 filled.long ran.admitted.1 ran.keeps;
       stands = c.come_to.ensures.stands is _ (stands_after program args.arguments.now row args.workers args.events.now _ filled.filled _ ran.replays);
     }

@@ -9,7 +9,7 @@ returns-clause-replays c = c.in-Ok.ensures.replays _ _ _ _ _ c.in_ok-stage.ensur
 
 pub returns-clause-keeps : goal.returns-clause-keeps
 returns-clause-keeps c =
-    kept_by c.args.verified.now c.args.arguments.now c.args.memory c.args.workers c.in_ok-stage.stage c.in_ok-stage.ensures.machine c.in_ok-stage.ensures.replays c.in_ok-stage.ensures.met c.requires c.in_ok-stage.ensures.in_range.0 c.args.events.now
+    kept_by c.args.verified.now c.args.arguments.now c.args.memory c.args.workers c.in_ok-stage.stage c.in_ok-stage.ensures.machine c.in_ok-stage.ensures.replays c.in_ok-stage.ensures.admitted.0 c.requires c.in_ok-stage.ensures.admitted.1.0 c.args.events.now
 
 pub invariant_of-result : goal.invariant_of-result
 invariant_of-result c = record { kept = c.apply_all.ensures.machine }

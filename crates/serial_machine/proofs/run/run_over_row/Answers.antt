@@ -22,14 +22,14 @@ pub begin-requires-clause-entry : goal.begin-requires-clause-entry
 begin-requires-clause-entry c =
     let places = c.in_ok-places.places in
     let globals_are : places.globals ≡ starts_from 0 (sizes_of c.args.memory.now) = c.in_ok-places.ensures.globals ∙ ap (λ (xs : List ℕ). starts_from 0 xs) (c.as_slice.ensures.value ∙ c.in_ok-sizes.ensures) in
-    (fits c.args.program.now c.requires.accepted c.args.arguments.now c.args.memory.now c.requires.taken c.requires.cells places globals_are c.in_ok-places.ensures.allocas c.most_moves.result c.most_moves.ensures).entries c.args.program.now.main.0
+    (fits c.args.program.now c.requires.accepted c.args.arguments.now c.args.memory.now c.requires.taken c.requires.cells places globals_are c.in_ok-places.ensures.allocas c.in_ok-places.ensures.codes c.most_moves.result c.most_moves.ensures).entries c.args.program.now.main.0
 
 pub run-requires-clause-text : goal.run-requires-clause-text
 run-requires-clause-text c =
     let places = c.in_ok-places.places in
     let globals_are : places.globals ≡ starts_from 0 (sizes_of c.args.memory.now) = c.in_ok-places.ensures.globals ∙ ap (λ (xs : List ℕ). starts_from 0 xs) (c.as_slice.ensures.value ∙ c.in_ok-sizes.ensures) in
     subst (λ (n : ℕ). TextFits c.args.program.now places n) (sym c.in_ok-stack.ensures.moves)
-    (fits c.args.program.now c.requires.accepted c.args.arguments.now c.args.memory.now c.requires.taken c.requires.cells places globals_are c.in_ok-places.ensures.allocas c.most_moves.result c.most_moves.ensures)
+    (fits c.args.program.now c.requires.accepted c.args.arguments.now c.args.memory.now c.requires.taken c.requires.cells places globals_are c.in_ok-places.ensures.allocas c.in_ok-places.ensures.codes c.most_moves.result c.most_moves.ensures)
 
 pub run-requires-clause-safe : goal.run-requires-clause-safe
 run-requires-clause-safe c =
@@ -38,7 +38,7 @@ run-requires-clause-safe c =
     let globals_are : places.globals ≡ starts_from 0 (sizes_of c.args.memory.now) = c.in_ok-places.ensures.globals ∙ ap (λ (xs : List ℕ). starts_from 0 xs) (c.as_slice.ensures.value ∙ c.in_ok-sizes.ensures) in
     let begun : Begins c.args.program.now c.args.arguments.now (row_of c.args.memory.now) k = subst (λ (xs : List ℤ). Begins c.args.program.now c.args.arguments.now xs k) c.in_ok-row.ensures c.in_ok-stack.ensures.begins in
     subst (λ (b : ℕ). GoesSafely c.args.program.now places b 0 k) (sym c.requires.budget)
-    (goes c.args.program.now c.requires.accepted c.args.arguments.now c.args.memory.now c.requires.taken c.requires.cells places globals_are c.in_ok-places.ensures.allocas k begun)
+    (goes c.args.program.now c.requires.accepted c.args.arguments.now c.args.memory.now c.requires.taken c.requires.cells places globals_are c.in_ok-places.ensures.allocas c.in_ok-places.ensures.codes k begun)
 
 pub returns-in_default-clause-beyond : goal.returns-in_default-clause-beyond
 returns-in_default-clause-beyond c =
@@ -49,7 +49,7 @@ returns-in_default-clause-beyond c =
     let globals_are : places.globals ≡ starts_from 0 (sizes_of m) = c.in_ok-places.ensures.globals ∙ ap (λ (xs : List ℕ). starts_from 0 xs) (c.as_slice.ensures.value ∙ c.in_ok-sizes.ensures) in
     let begun : Begins program c.args.arguments.now (row_of m) k = subst (λ (xs : List ℤ). Begins program c.args.arguments.now xs k) c.in_ok-row.ensures c.in_ok-stack.ensures.begins in
     let beyond : RunsBeyond program places c.args.budget c.args.fuel k = subst (λ (o : Option Ended). IfNone o (RunsBeyond program places c.args.budget c.args.fuel k)) c.in_default.is c.in_ok-ended.ensures.beyond in
-    takes_more program c.requires.accepted c.args.arguments.now m c.requires.taken c.requires.cells places globals_are c.in_ok-places.ensures.allocas k begun c.args.fuel
+    takes_more program c.requires.accepted c.args.arguments.now m c.requires.taken c.requires.cells places globals_are c.in_ok-places.ensures.allocas c.in_ok-places.ensures.codes k begun c.args.fuel
     (subst (λ (b : ℕ). RunsBeyond program places b c.args.fuel k) c.requires.budget beyond)
 
 pub returns-clause-ends : goal.returns-clause-ends
@@ -72,4 +72,4 @@ returns-clause-ends c =
     (record { result = to_z w64 (of_z w64 e.result); memory = c.in_ok-globals.globals; instructions = e.instructions; peak = e.peak }) =
     λ i. record { result = sym number i; memory = sym kept i; instructions = e.instructions; peak = e.peak } in
     subst (λ (d : Finished). EndsWithinBudget program c.args.arguments.now m d) same
-    (ends program c.requires.accepted c.args.arguments.now m c.requires.taken c.requires.cells places globals_are c.in_ok-places.ensures.allocas k begun small new e runs)
+    (ends program c.requires.accepted c.args.arguments.now m c.requires.taken c.requires.cells places globals_are c.in_ok-places.ensures.allocas c.in_ok-places.ensures.codes k begun small new e runs)

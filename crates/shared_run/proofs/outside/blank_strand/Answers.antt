@@ -1,7 +1,7 @@
 use Rattle.std.proofs.Common.{◌≡◌, sym, subst}
 use Rattle.std.specs.Prelude.{IfOk}
 use Rattle.program.specs.declared.function.Program.{Program}
-use Rattle.schedule_workers.specs.Starts.{HasMoves}
+use Rattle.schedule_core.specs.frame_engine.Fits.{HasMoves}
 use Rattle.schedule_core.specs.frame_engine.Activation.{ProgramFits}
 use Rattle.schedule_core.proofs.Grounds.{laws}
 use Rattle.shared_run.proofs.Made.{made_new}

@@ -14,7 +14,7 @@ pub begin-requires-clause-entry : goal.begin-requires-clause-entry
 begin-requires-clause-entry c =
     let places = c.in_ok-places.places in
     let globals : places.globals ≡ starts_from 0 (sizes_of c.args.memory) = c.in_ok-places.ensures.globals ∙ ap (λ (xs : List ℕ). starts_from 0 xs) (sym c.requires.made) in
-    (fits c.args.program.now c.requires.accepted c.args.arguments.now c.args.memory c.requires.taken c.requires.cells places globals c.in_ok-places.ensures.allocas c.most_moves.result c.most_moves.ensures).entries c.args.program.now.main.0
+    (fits c.args.program.now c.requires.accepted c.args.arguments.now c.args.memory c.requires.taken c.requires.cells places globals c.in_ok-places.ensures.allocas c.in_ok-places.ensures.codes c.most_moves.result c.most_moves.ensures).entries c.args.program.now.main.0
 
 pub returns : goal.returns
 returns c =
@@ -32,11 +32,12 @@ returns c =
         may = record { accepted = c.requires.accepted; taken = c.requires.taken; cells = c.requires.cells };
         globals = globals;
         allocas = c.in_ok-places.ensures.allocas;
+        codes = c.in_ok-places.ensures.codes;
         small = subst (λ (xs : List ℤ). length xs < 9223372036854775808) c.in_ok-row.ensures (vec_small c.in_ok-row.row);
         few = c.requires.few;
         text = subst (λ (n : ℕ). TextFits program places n) (sym c.in_ok-stack.ensures.moves)
-            (fits program c.requires.accepted arguments m c.requires.taken c.requires.cells places globals c.in_ok-places.ensures.allocas c.most_moves.result c.most_moves.ensures);
-        safe = goes program c.requires.accepted arguments m c.requires.taken c.requires.cells places globals c.in_ok-places.ensures.allocas k begun;
+            (fits program c.requires.accepted arguments m c.requires.taken c.requires.cells places globals c.in_ok-places.ensures.allocas c.in_ok-places.ensures.codes c.most_moves.result c.most_moves.ensures);
+        safe = goes program c.requires.accepted arguments m c.requires.taken c.requires.cells places globals c.in_ok-places.ensures.allocas c.in_ok-places.ensures.codes k begun;
         first = k;
         begun = begun;
         walked = λ globals start safe h. h;

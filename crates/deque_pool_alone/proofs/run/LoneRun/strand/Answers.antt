@@ -44,7 +44,7 @@ pub returns-in-None-clause-goes : goal.returns-in-None-clause-goes
 returns-in-None-clause-goes c =
     let program = c.args.self.now.program.now in
     let places = c.args.self.now.places in
-    let new = c.border.new.stack in
+    let new = c.border.new.self in
     let a = c.len.ensures in
     let b = new.below.ok.0 in
     let long : c.len.result + 1 ≡ suc (length new.below.items) = omega (arith, a, b) in (
@@ -66,7 +66,7 @@ returns-in-Some-clause-ends c =
     let program = c.args.self.now.program.now in
     let places = c.args.self.now.places in
     let m = c.args.self.now.memory in
-    let new = c.border.new.stack in
+    let new = c.border.new.self in
     let n = c.advance-pause.new.done + 1 in
     let peak = c.args.self.now.peak in
     let z = c.in-Some.result in

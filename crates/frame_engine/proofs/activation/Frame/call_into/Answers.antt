@@ -12,7 +12,7 @@ use Rattle.frame_engine.proofs.activation.Frame.call_into.Goals as goal
 pub returns-clause-shown : goal.returns-clause-shown
 returns-clause-shown c = λ l k p g values s whole e alike begins.
     let fit : FitsSigned w64 c.args.home = search rules in
-    let words = vec_words c.resize.new.self c.as_mut_slice.result.now c.pass.new.words c.pass.ensures.length c.as_mut_slice.ensures.value in
+    let words = vec_words c.have_words.new.words c.as_mut_slice.result.now c.pass.new.words c.pass.ensures.length c.as_mut_slice.ensures.value in
     let deep = s.depth in
     record {
       function = refl;

@@ -30,7 +30,7 @@ returns-clause-begun c here =
     let path = c.as_slice.ensures in
     let loaded = c.in_ok-load.ensures in
     let part = c.free_part-part.result in
-    let free : IsFree (program_of stage) stage.run part = subst (λ (q : Program). IsFree q stage.run part) c.program-program.ensures.value c.free_part-part.ensures in
+    let free : IsFree (program_of stage) stage.run part = subst (λ (q : Program). IsFree q stage.run part) c.program-program.ensures.value c.free_part-part.ensures.free in
     let segment : segment_block x.cells ≡ part = ap (λ (s : Segment). record { start = s.start; cells = s.count }) loaded.segment in
     is_begun stage kept c.args.worker slot node x hand stands (loaded.path ∙ path) loaded.loaded (λ e. none (sym loaded.childless ∙ e)) loaded.done (λ a. ap (λ (l : Log). l.reads a) loaded.log)
     (subst (λ (b : Block). IsFree (program_of stage) stage.run b) (sym segment) free)

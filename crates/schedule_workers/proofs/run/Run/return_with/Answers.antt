@@ -4,11 +4,10 @@ use Rattle.std.proofs.Math.Logic.{∥∥₁_elim}
 use Rattle.std.proofs.Props.{props}
 use Rattle.semantics.specs.Events.{Step}
 use Rattle.frame_engine.specs.Activation.{FrameFits}
-use Rattle.frame_engine.specs.Names.{HasResult}
+use Rattle.frame_engine.specs.Names.{HasResult, taker_of}
 use Rattle.schedule_workers.specs.declared.activation.Activation.{Activation}
 use Rattle.schedule_workers.specs.declared.run.Run.{Run}
 use Rattle.schedule_workers.specs.Follows.{Follows}
-use Rattle.schedule_workers.specs.Returns.{taker_of}
 use Rattle.schedule_workers.specs.Stalls.{NotesStalls}
 use Rattle.schedule_workers.proofs.Leaving.{found_above, lives_mid}
 use Rattle.schedule_workers.proofs.Onward.{fits_prop, not_there}

@@ -11,10 +11,10 @@ invariant_of-result g c =
     let memory = c.in_ok-memory.memory in
     let o : Origin = origin c.args.verified.now c.args.arguments.now memory c.args.workers in
     let started = c.in_ok-machine.ensures in
-    let replays = c.lend.ensures.replays c.args.verified.now c.args.arguments.now memory c.args.workers [] started.replays in
+    let replays = c.lend.ensures.as_before.replays c.args.verified.now c.args.arguments.now memory c.args.workers [] started.replays in
     let made : IsMadeFor c.args.verified.now memory = subst (λ m. IsMadeFor c.args.verified.now m) (sym c.in_ok-memory.ensures.same) c.requires.made in (
       legal_begin o c.in-Ok.start c.new-history.result.events stage c.in-Ok.ensures c.new-history.ensures
-          (legal_start o stage replays started.in_range c.program-accepted.ensures.accepted started.met made),
+          (legal_start o stage replays started.admitted.1 c.program-accepted.ensures.accepted started.admitted.0 made),
       c.open-book.ensures.total ∙ sym (ap length c.new-history.ensures),
       ap (λ (x : Origin). x.program) {y = o} c.in-Ok.ensures ∙ c.requires.code,
       ap (λ (x : Origin). x.workers) {y = o} c.in-Ok.ensures ∙ c.requires.crew,
@@ -26,7 +26,7 @@ returns-clause-begins g c =
     let arguments = c.args.arguments.now in
     let workers = c.args.workers in
     let memory = c.in_ok-memory.memory in
-    let replays = c.lend.ensures.replays verified arguments memory workers [] c.in_ok-machine.ensures.replays in
+    let replays = c.lend.ensures.as_before.replays verified arguments memory workers [] c.in_ok-machine.ensures.replays in
     record {
       start = c.in-Ok.ensures ∙ ap (λ m. origin verified arguments m workers) c.in_ok-memory.ensures.same;
       events = c.new-history.ensures;

@@ -1,0 +1,5 @@
+mod Places
+mod Printed
+mod Progress
+mod Scans
+mod Spelled

@@ -1,0 +1,8 @@
+//! Codes: a program's blocks once more, with operands and edges resolved, so that the engine asks no kind twice.
+#![tactic(auto)]
+
+mod code;
+mod decode;
+
+pub use code::{BlockCode, Code, Edge, Move, Moves};
+pub use decode::program_codes;
