@@ -25,10 +25,7 @@ fn print_text<W: Write>(text: Result<String, Refused>, output: &mut W) -> io::Re
 }
 
 /// Prints a module's text with annotations put in.
-fn print_annotated<W: Write>(
-    text: Result<Vec<u8>, Refused>,
-    output: &mut W,
-) -> io::Result<Status> {
+fn print_annotated<W: Write>(text: Result<Vec<u8>, Refused>, output: &mut W) -> io::Result<Status> {
     match text {
         Ok(text) => {
             output.write_all(text.as_slice())?;

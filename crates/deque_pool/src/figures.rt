@@ -19,7 +19,7 @@ pub struct Figures {
     pub at_borders: u64,
     /// The next cell was of one more page than a strand has.
     pub at_full_logs: u64,
-    /// They had done all that a strand may.
+    /// They had done as much as a strand does.
     pub at_limits: u64,
     /// Others waited for tasks.
     pub for_others: u64,

@@ -10,6 +10,12 @@ const SHORTEST_SLICE: u64 = 2;
 
 const LONGEST_SLICE: u64 = 1_000;
 
+/// A frame of a stack that is put on the board ends there, at some cost, and one that is ready may be stolen. So between these numbers of instructions a
+/// strand notes how low its stack comes, and after them it is put on the board where that is as low again, not first at its limit.
+const SEEN_FROM: u64 = 32_768;
+
+const SEEN_TO: u64 = 49_152;
+
 /// More pauses than the slices and the cells of a strand make.
 const MOST_PAUSES: u32 = 1_000;
 
@@ -65,6 +71,28 @@ fn is_asked<L: Bench>(demand: &Demand, worker: &Worker<'_, L>) -> bool {
     demand.is_there() && worker.pace.is_due(worker.stack.done()) && worker.stack.has_ready_frame()
 }
 
+/// The fewest frames of a strand's stack that were seen.
+#[derive(Drop)]
+struct Lowest {
+    frames: usize,
+}
+
+impl Lowest {
+    fn none_seen() -> Lowest {
+        Lowest { frames: 0 }
+    }
+
+    /// Whether the strand, whose stack has so many frames after so many instructions, has come to where it leaves few.
+    fn is_reached(&mut self, done: u64, frames: usize) -> bool {
+        if done < SEEN_FROM {
+            self.frames = frames;
+        } else if done < SEEN_TO {
+            self.frames = self.frames.min(frames);
+        }
+        SEEN_TO <= done && frames <= self.frames
+    }
+}
+
 /// Goes on with the loaded frame outside of the board, to where the strand is to be put on it.
 pub(crate) fn go<L: Bench, R: Wait>(
     rt: &R,
@@ -72,6 +100,7 @@ pub(crate) fn go<L: Bench, R: Wait>(
     demand: &Demand,
     worker: &mut Worker<'_, L>,
 ) -> Turn {
+    let mut lowest = Lowest::none_seen();
     for _ in 0..MOST_PAUSES {
         let slice = worker.stack.done().clamp(SHORTEST_SLICE, LONGEST_SLICE);
         match worker.stack.advance(slice) {
@@ -83,7 +112,10 @@ pub(crate) fn go<L: Bench, R: Wait>(
                 }
             }
             Standing::Going => {
-                if worker.stack.done() == MOST_INSTRUCTIONS {
+                let done = worker.stack.done();
+                if done == MOST_INSTRUCTIONS
+                    || lowest.is_reached(done, worker.stack.frames_below())
+                {
                     return Turn::Limit;
                 }
                 if is_asked(demand, worker) {
@@ -131,6 +163,7 @@ fn step_over<L: Bench>(
                     Some(own) => {
                         demand.rise();
                         worker.take_back(own);
+                        worker.pace.note_return();
                     }
                     None => worker.pace.note_theft(),
                 }
@@ -146,15 +179,13 @@ fn step_over<L: Bench>(
 }
 
 /// Puts the worker's strand on the board, with the border's step where it stands at one, and offers the tasks that it leaves ready.
-pub(crate) fn post<L: Bench, R: Wait>(
-    rt: &R,
-    shared: &Shared<'_, L>,
+fn put<L: Bench>(
+    board: &mut Board<'_, L>,
     demand: &Demand,
     worker: &mut Worker<'_, L>,
     turn: Turn,
 ) -> Posted {
-    let mut board = shared.board.lock(rt);
-    match publish(&mut board, worker) {
+    match publish(board, worker) {
         Published::Done => {}
         Published::Stranger => return Posted::Stranger,
         Published::OutOfMemory => return Posted::Starved,
@@ -163,11 +194,29 @@ pub(crate) fn post<L: Bench, R: Wait>(
     demand.fall(worker.tickets.len());
     worker.offer_tickets();
     if turn == Turn::Border {
-        step_over(&mut board, demand, worker)
+        step_over(board, demand, worker)
     } else {
         Posted::After {
             idle: false,
             ended: false,
         }
     }
+}
+
+/// The same under the board's lock, and after it wakes workers for those tasks.
+pub(crate) fn post<L: Bench, R: Wait>(
+    rt: &R,
+    shared: &Shared<'_, L>,
+    demand: &Demand,
+    worker: &mut Worker<'_, L>,
+    turn: Turn,
+) -> Posted {
+    let mut board = shared.board.lock(rt);
+    let posted = put(&mut board, demand, worker, turn);
+    drop(board);
+    let offered = worker.tickets.len();
+    if offered > 0 {
+        demand.ring(offered);
+    }
+    posted
 }

@@ -10,12 +10,12 @@ use shared_run::{Bench, Claimed, Loaded, Shared};
 use std::sync::Wait;
 use std::sync::atomic::{AtomicBool, Ordering};
 use std::thread;
-use std::time::{Clock, Duration};
+use std::time::Duration;
 
-/// How many searches in vain a worker makes with no more than a yield between them.
-const YIELDS: u32 = 64;
+/// How many searches in vain a worker makes with no more than a yield between them. To be woken takes longer than some hundreds of them.
+const YIELDS: u32 = 256;
 
-/// The shortest sleep between two searches, in microseconds; each further one is twice as long, up to `DOUBLINGS` times.
+/// The longest time that a worker sleeps at first, in microseconds; each further one is twice as long, up to `DOUBLINGS` times. It is woken for a task.
 const SHORTEST_SLEEP: u64 = 64;
 
 const DOUBLINGS: u32 = 4;
@@ -25,12 +25,15 @@ const DOUBLINGS: u32 = 4;
 enum Next {
     Strand,
     Search,
-    Rest,
+    Rest {
+        /// How often the bell was rung before the search.
+        heard: u64,
+    },
     Leave(Left),
 }
 
 /// Works until a worker leaves: `main` has returned, memory was refused, or the gate stopped the run. Why this worker left stands in it.
-pub(crate) fn work<L: Bench, G: Gate, R: Wait + Clock>(
+pub(crate) fn work<L: Bench, G: Gate, R: Wait>(
     rt: &R,
     shared: &Shared<'_, L>,
     over: &AtomicBool,
@@ -53,15 +56,16 @@ pub(crate) fn work<L: Bench, G: Gate, R: Wait + Clock>(
                     Go::Stop => Next::Leave(Left::Stopped),
                 };
             }
-            Next::Search => next = search(rt, shared, worker, rests),
-            Next::Rest => {
-                rest(rt, rests);
+            Next::Search => next = search(rt, shared, demand, worker, rests),
+            Next::Rest { heard } => {
+                rest(rt, demand, heard, rests);
                 rests = rests.saturating_add(1);
                 next = Next::Search;
             }
             Next::Leave(left) => {
                 worker.left = left;
                 over.store(true, Ordering::SeqCst);
+                demand.ring_for_all();
             }
         }
     }
@@ -119,17 +123,19 @@ fn after(posted: Posted) -> Next
     }
 }
 
-/// Claims a task by a ticket; where there is none, the first that is ready at the board, at which a worker looks no more while it only yields.
+/// Claims a task by a ticket. Where there is none, a worker that has yielded for long looks at the board for the first that is ready.
 fn search<L: Bench, R: Wait>(
     rt: &R,
     shared: &Shared<'_, L>,
+    demand: &Demand,
     worker: &mut Worker<'_, L>,
     rests: u32,
 ) -> Next {
     worker.figures.count_search();
+    let heard = demand.rings();
     let ticket = worker.next_ticket();
-    if ticket.is_none() && 0 < rests && rests < YIELDS {
-        return Next::Rest;
+    if ticket.is_none() && rests < YIELDS {
+        return Next::Rest { heard };
     }
     let mut board = shared.board.lock(rt);
     let claimed = match ticket {
@@ -139,29 +145,31 @@ fn search<L: Bench, R: Wait>(
     drop(board);
     if let Claimed::Taken = claimed {
         worker.figures.count_steal();
+        worker.pace.note_task();
     }
-    after_claim(claimed, ticket.is_some())
+    after_claim(claimed, ticket.is_some(), heard)
 }
 
 /// What comes after a claim, of a ticket's task or of the first that is ready.
-fn after_claim(claimed: Claimed, by_ticket: bool) -> Next
+fn after_claim(claimed: Claimed, by_ticket: bool, heard: u64) -> Next
     ensures { (result ≡ Next.Leave Left.Starved) ↔ (claimed ≡ Claimed.OutOfMemory) }
 {
     match claimed {
         Claimed::Taken => Next::Strand,
         Claimed::Gone if by_ticket => Next::Search,
-        Claimed::Gone => Next::Rest,
+        Claimed::Gone => Next::Rest { heard },
         Claimed::OutOfMemory => Next::Leave(Left::Starved),
     }
 }
 
-/// Lets other threads go first: at first by a yield, later by a sleep, so that a worker with nothing to do needs no processor.
-fn rest<R: Clock>(rt: &R, rests: u32) {
+/// Lets other threads go first: at first by a yield, later by a sleep until a task is offered, so that a worker with nothing to do needs no processor.
+fn rest<R: Wait>(rt: &R, demand: &Demand, heard: u64, rests: u32) {
     match rests.checked_sub(YIELDS) {
         None => thread::yield_now(),
         Some(slept) => {
             let doublings = slept.min(DOUBLINGS);
-            thread::sleep(rt, Duration::from_micros(SHORTEST_SLEEP << doublings));
+            let time = Duration::from_micros(SHORTEST_SLEEP << doublings);
+            demand.sleep(rt, heard, time);
         }
     }
 }

@@ -65,7 +65,11 @@ impl<L: Bench> Worker<'_, L> {
     pub(crate) fn note_publication(&mut self, turn: Turn) {
         let done = self.stack.done();
         self.figures.count_publication(done, turn);
-        self.pace.note(done, turn == Turn::Asked);
+        if turn == Turn::Asked {
+            self.pace.note_offer(self.tickets.len());
+        } else {
+            self.pace.note(done);
+        }
     }
 }
 

@@ -1,5 +1,5 @@
 -- A strand is not full before its first instruction.
-use Rattle.std.proofs.Common.{◌≡◌, ℕ, zero, suc, ◌+◌, ◌<◌, Bool, false, [], refl, ap, ◌∙◌, subst, arith, ℤ, Option, Some, None}
+use Rattle.std.proofs.Common.{◌≡◌, ℕ, zero, suc, ◌+◌, ◌<◌, Bool, false, refl, sym, subst, arith, ℤ, Option, Some, None}
 use Rattle.std.specs.Prelude.{IsTrue}
 use Rattle.semantics.specs.Paths.{Path}
 use Rattle.semantics.specs.Cells.{Memory}
@@ -15,23 +15,23 @@ use Rattle.frame_engine.specs.declared.activation.Frame as machine
 use Rattle.frame_engine.specs.declared.activation.Places.{Places}
 use Rattle.frame_engine.specs.declared.turning.Pause.{Pause}
 use Rattle.frame_engine.specs.declared.turning.Pause.TheVariants.{Border, Limit, Stopped}
-use Rattle.frame_strand.specs.Buffers.{Buffers}
 use Rattle.deque_pool_alone.specs.Counted.{IsBlank, IsFull}
 use Rattle.deque_pool_alone.specs.declared.counted.CountedCells.{CountedCells}
+use Rattle.deque_pool_alone.specs.declared.counts.Counts.{Counts}
 use Rattle.deque_pool_alone.specs.declared.counted.Full.{Full}
 
 -- ---- no access needs a place that is not there
 
-none_full : (a : Access) → IsFull (record { reads = []; writes = [] }) a → ⊥
-none_full (Loads at) (unheld, is) = cc
-none_full (Stores at z) lacks = let full = lacks.full in omega (arith, full)
-none_full (Adds at z) lacks = let full = lacks.full in omega (arith, full)
+none_full : (c : Counts) (a : Access) → IsBlank c → IsFull c a → ⊥
+none_full c (Loads at) blank full = let none = blank.0 in omega (arith, none, full)
+none_full c (Stores at z) blank full = let none = blank.1 in omega (arith, none, full)
+none_full c (Adds at z) blank full = let none = blank.1 in omega (arith, none, full)
 
-module _ (l : Layout) (f : Frame) (c : CountedCells) (s : Full) (blank : IsBlank c.cells) where
-  room : (a : Access) → IsFull c.cells a → ⊥
-  room a full = none_full a (subst (λ (b : Buffers). IsFull b a) blank full)
+module _ (l : Layout) (f : Frame) (c : CountedCells) (s : Full) (blank : IsBlank c.counts) where
+  room : (a : Access) → IsFull c.counts a → ⊥
+  room a full = none_full c.counts a blank full
 
-  not_refused : (o : Option Item) → RefusedItem {C = CountedCells} {S = Full} (λ d a t. IsFull d.cells a) l f c s o → ⊥
+  not_refused : (o : Option Item) → RefusedItem {C = CountedCells} {S = Full} (λ d a t. IsFull d.counts a) l f c s o → ⊥
   not_refused None h = absurd h
   not_refused (Some (Ends t)) h = absurd h
   not_refused (Some (Does (instruction.Load r a))) (x, here, is, full) = room (Loads (address l x)) full
@@ -55,20 +55,20 @@ as_before does prog l p f m first n c (touched d g k before steps item) none = a
 -- ---- so an instruction was done where the strand stops
 
 module _ (prog : Program) (places : Places) (f : machine.Frame) (reaches : ℤ → Bool) (holds : ℤ → ℤ → Type 0) (does : CountedCells → Access → CountedCells → Type 0) (first c : CountedCells) (n m : ℕ) (s : Full) where
-  pub stops_later : SafeStanding prog places f reaches holds → IsBlank first.cells →
+  pub stops_later : SafeStanding prog places f reaches holds → IsBlank first.counts →
       ((l : Layout) (p : Path) (g : Frame) (k : Memory) → ShowsFrame l places p g f → ShowsCells l reaches holds k → StaysSafe prog l p g k → TouchedOn does prog l p g k n m first c) →
-      ((l : Layout) (p : Path) (g : Frame) (k : Memory) → ShowsFrame l places p g f → ShowsCells l reaches holds k → StaysSafe prog l p g k → RefusedOn (λ d a t. IsFull d.cells a) prog l p g k n m c s) → n < m
+      ((l : Layout) (p : Path) (g : Frame) (k : Memory) → ShowsFrame l places p g f → ShowsCells l reaches holds k → StaysSafe prog l p g k → RefusedOn (λ d a t. IsFull d.counts a) prog l p g k n m c s) → n < m
   stops_later w blank touches refuses =
       let t = touches w.layout w.path w.frame w.memory w.shown w.cells w.stays in
       from t.count t.counted t.touched_is
     where
-      r : RefusedOn (λ d a t. IsFull d.cells a) prog w.layout w.path w.frame w.memory n m c s
+      r : RefusedOn (λ d a t. IsFull d.counts a) prog w.layout w.path w.frame w.memory n m c s
       r = refuses w.layout w.path w.frame w.memory w.shown w.cells w.stays
 
       from : (count : ℕ) → m ≡ n + count → Touched does prog w.layout w.path w.frame w.memory first count c → n < m
       from zero counted t =
           let same : c ≡ first = as_before does prog w.layout w.path w.frame w.memory first zero c t refl in
-          absurd (not_refused w.layout r.refused.frame c s (ap (λ (d : CountedCells). d.cells) same ∙ blank) _ r.refused.item)
+          absurd (not_refused w.layout r.refused.frame c s (subst (λ (d : CountedCells). IsBlank d.counts) (sym same) blank) _ r.refused.item)
       from (suc count) counted t = omega (arith, counted)
 
 pub if_stopped : {P Q : Full → Type 0} (pause : Pause Full) → ((s : Full) → P s → Q s) → IfStopped pause P → IfStopped pause Q

@@ -1,13 +1,14 @@
--- For the functions of this crate alone: the cells that a strand has read and written.
-use Rattle.std.specs.Prelude.{◌≡◌, []}
-use Rattle.frame_engine.specs.Access.{Access}
-use Rattle.frame_strand.specs.Buffers.{Buffers, BuffersRefuse}
-use Rattle.frame_strand.specs.declared.cells.Stop.TheVariants.{Full}
+-- For the functions of this crate alone: how many cells a strand has read and written.
+use Rattle.std.specs.Prelude.{◌≡◌, ◌≤◌}
+use Rattle.frame_engine.specs.Access.{Access, Adds, Loads, Stores}
+use Rattle.deque_pool_alone.specs.declared.counts.Counts.{Counts}
 
 -- none: the strand begins
-abbrev pub IsBlank : Buffers → Type 0
-IsBlank b = b ≡ record { reads = []; writes = [] }
+abbrev pub IsBlank : Counts → Type 0
+IsBlank c = (c.reads ≡ 0) × (c.writes ≡ 0)
 
--- the access needs a place for one more cell, and there is none
-abbrev pub IsFull : Buffers → Access → Type 0
-IsFull b a = BuffersRefuse b a Full
+-- the access is of one cell more, and there may be none
+abbrev pub IsFull : Counts → Access → Type 0
+IsFull c (Loads at) = 256 ≤ c.reads
+IsFull c (Stores at z) = 256 ≤ c.writes
+IsFull c (Adds at z) = 256 ≤ c.writes

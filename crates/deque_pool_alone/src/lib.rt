@@ -4,8 +4,10 @@
 #![tactic(auto)]
 
 mod counted;
+mod counts;
 mod run;
 mod steps;
 
 pub use counted::{CountedCells, Full};
+pub use counts::Counts;
 pub use run::LoneRun;

@@ -7,9 +7,10 @@ ghost use Rattle.serial_machine.specs.Promise.{EndsWithinBudget, TakesMore};
 ghost use Rattle.deque_pool_alone.specs.UnderWay.{GetsOn, IsRefusal, IsRunOf, IsUnderWay};
 
 use crate::counted::CountedCells;
+use crate::counts::Counts;
 use crate::steps::{advance, is_at_border};
 use frame_engine::{Flat, Places, most_moves};
-use frame_strand::{MOST, StrandCells};
+use frame_strand::MOST;
 use lists::OutOfMemory;
 use outcome::{Finished, Memory, RunFault, Verified, unmet_requirement};
 use program::Program;
@@ -49,12 +50,12 @@ impl Drop for LoneRun<'_> {
 }
 
 /// Nothing is counted yet.
-fn blank(alloc: Global) -> Result<CountedCells, OutOfMemory> {
+fn blank(alloc: Global) -> CountedCells {
     let flat = Flat {
         cells: Vec::new(alloc),
     };
-    let cells = StrandCells::new(alloc)?;
-    Ok(CountedCells { flat, cells })
+    let counts = Counts::new(alloc);
+    CountedCells { flat, counts }
 }
 
 impl<'v> LoneRun<'v> {
@@ -75,7 +76,7 @@ impl<'v> LoneRun<'v> {
         let places = Places::of_program(alloc, program)?;
         let row = memory.row()?;
         let stack = Stack::begin(alloc, program, arguments, row, most_moves(program))?;
-        let counted = blank(alloc)?;
+        let counted = blank(alloc);
         Ok(LoneRun {
             program,
             arguments,
@@ -141,7 +142,8 @@ impl<'v> LoneRun<'v> {
         ensures gets_on { IfOk result (λ end. IfNone end (GetsOn self.old self.new)) }
     {
         let program = self.program;
-        self.counted.cells.clear();
+        let cells = self.stack.cells.cells.len();
+        self.counted.counts.begin(cells)?;
         let limit = self.done.saturating_add(MOST);
         let pause = advance(
             &mut self.stack,

@@ -47,16 +47,16 @@ touches prog start limit f body some =
     ]
 
 module _ (prog : Program) (k : Run) (worker : ℕ) (piece : Block) (usable : IsUsable k worker piece) (whole : HoldsUsable k worker piece) (t : Taken) (taken : IsTaken prog k piece.start (piece.start + piece.cells) t) where
-  abbrev limit : ℕ
-  limit = piece.start + piece.cells
+  abbrev piece_end : ℕ
+  piece_end = piece.start + piece.cells
 
   -- ---- the part before, and the part behind
 
   module _ (part : Block) (start : part.start ≡ piece.start) (cells : part.cells ≡ t.from - piece.start) where
-    front_beside : (f : Frame) → Covers prog piece.start limit f t → f.role ≡ Body → 0 < (own_block prog f).cells → 0 < part.cells → AreBeside (own_block prog f) part
+    front_beside : (f : Frame) → Covers prog piece.start piece_end f t → f.role ≡ Body → 0 < (own_block prog f).cells → 0 < part.cells → AreBeside (own_block prog f) part
     front_beside f covers body own some =
         let low = taken.low in
-        elim (touches prog piece.start limit f body own) [
+        elim (touches prog piece.start piece_end f body own) [
           | inl touch ↦ (let from = (covers touch).0 in inr (omega (arith, start, cells, some, from)))
           | inr apart ↦ elim apart [
             | inl above ↦ inr (omega (arith, start, cells, some, above, low))
@@ -89,11 +89,11 @@ module _ (prog : Program) (k : Run) (worker : ℕ) (piece : Block) (usable : IsU
     pub front_within : 0 < part.cells → LiesWithin (piece_of k worker) part
     front_within some = front_in (piece_of k worker) usable.piece some
 
-  module _ (part : Block) (end : part.start + part.cells ≡ limit) (cells : part.cells ≡ limit - t.to) where
-    back_beside : (f : Frame) → Covers prog piece.start limit f t → f.role ≡ Body → 0 < (own_block prog f).cells → 0 < part.cells → AreBeside (own_block prog f) part
+  module _ (part : Block) (end : part.start + part.cells ≡ piece_end) (cells : part.cells ≡ piece_end - t.to) where
+    back_beside : (f : Frame) → Covers prog piece.start piece_end f t → f.role ≡ Body → 0 < (own_block prog f).cells → 0 < part.cells → AreBeside (own_block prog f) part
     back_beside f covers body own some =
         let high = taken.high in
-        elim (touches prog piece.start limit f body own) [
+        elim (touches prog piece.start piece_end f body own) [
           | inl touch ↦ elim (covers touch).1 [
             | inl to ↦ inl (omega (arith, end, cells, some, to))
             | inr all ↦ absurd (omega (arith, cells, some, all))
@@ -149,12 +149,12 @@ module _ (prog : Program) (k : Run) (worker : ℕ) (piece : Block) (usable : IsU
               ]
         ]
 
-    back_most : other.start + other.cells ≡ (piece_of k worker).start + (piece_of k worker).cells → other.cells ≤ limit - t.to
+    back_most : other.start + other.cells ≡ (piece_of k worker).start + (piece_of k worker).cells → other.cells ≤ piece_end - t.to
     back_most at =
         let outer = usable.piece.1 in
         let to = inside.1 in
         let from = inside.0 in
-        let here : other.start + other.cells ≡ limit = omega (arith, at, outer, to) in
+        let here : other.start + other.cells ≡ piece_end = omega (arith, at, outer, to) in
         elim taken.to [
           | inl all ↦ omega (arith, here, from, all)
           | inr found ↦
@@ -168,7 +168,7 @@ module _ (prog : Program) (k : Run) (worker : ℕ) (piece : Block) (usable : IsU
               ]
         ]
 
-  module _ (part : Block) (front : t.from - piece.start ≤ part.cells) (back : limit - t.to ≤ part.cells) where
+  module _ (part : Block) (front : t.from - piece.start ≤ part.cells) (back : piece_end - t.to ≤ part.cells) where
     most_of : (other : Block) → LiesWithin (piece_of k worker) other → IsFree prog k other → IsAtEnd (piece_of k worker) other → 0 < other.cells → other.cells ≤ part.cells
     most_of other within free end some =
         let v = free.vacant some in
@@ -178,7 +178,7 @@ module _ (prog : Program) (k : Run) (worker : ℕ) (piece : Block) (usable : IsU
           | inr at ↦ (let low = back_most other some within v inside at in omega (arith, low, back))
         ]
 
-    pub part_for : ((part.start ≡ piece.start) × (part.cells ≡ t.from - piece.start)) ⊎ ((part.start + part.cells ≡ limit) × (part.cells ≡ limit - t.to)) → IsPartFor prog k worker part
+    pub part_for : ((part.start ≡ piece.start) × (part.cells ≡ t.from - piece.start)) ⊎ ((part.start + part.cells ≡ piece_end) × (part.cells ≡ piece_end - t.to)) → IsPartFor prog k worker part
     part_for (inl is) = record { free = front_free part is.0 is.1; within = front_within part is.0 is.1; most = λ other within free end. no_more other.cells part.cells (most_of other within free end) }
     part_for (inr is) = record { free = back_free part is.0 is.1; within = back_within part is.0 is.1; most = λ other within free end. no_more other.cells part.cells (most_of other within free end) }
 

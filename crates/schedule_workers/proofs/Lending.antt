@@ -114,7 +114,7 @@ module _ (prog : Program) (places : Places) (moves : ℕ) (text : TextFits prog 
         let home : place_at b.node.frame.frame.home ≡ b.block.start = ap place_at b.home in
         let from = b.from in
         let own = b.own in
-        elim (vacant.apart b.slot b.node b.stands b.body) [
+        elim (vacant.apart b.slot b.node b.stands b.body (omega (arith, from, own))) [
           | inl below ↦ omega (arith, here, home, from, own, below, within)
           | inr above ↦ omega (arith, here, home, from, own, above, within)
         ]

@@ -24,7 +24,7 @@ returns-then-not-is_at_border-clause-gets_on c =
     let low = within _ _ _ _ _ _ _ c.requires in
     let few = c.requires.few in
     let limit = c.saturating_add-limit.ensures in (
-      got_on c.advance-pause.result _ _ _ _ _ c.is_at_border.ensures.paused c.if-not-is_at_border.true c.advance-pause.ensures.limit (omega (arith, low, few, limit)) c.clear.ensures c.advance-pause.ensures.gets_on,
+      got_on c.advance-pause.result _ _ _ _ _ c.is_at_border.ensures.paused c.if-not-is_at_border.true c.advance-pause.ensures.limit (omega (arith, low, few, limit)) c.in_ok-begin.ensures c.advance-pause.ensures.gets_on,
       within _ _ _ _ _ _ _ (returns-then-not-is_at_border-clause-goes c).3,
     )
 
