@@ -4,7 +4,7 @@ use crate::beside::Beside;
 use crate::reasons::print_explanation;
 use crate::refusals::print_refused;
 use crate::status::Status;
-use annotate::annotated;
+use annotate_trial::annotated;
 use cli_words::{Request, Verb};
 use std::alloc::Global;
 use std::hash::RandomState;
@@ -24,6 +24,17 @@ fn print_text<W: Write>(text: Result<String, Refused>, output: &mut W) -> io::Re
     }
 }
 
+/// Prints a module's text with annotations put in.
+fn print_annotated<W: Write>(text: Result<Vec<u8>, Refused>, output: &mut W) -> io::Result<Status> {
+    match text {
+        Ok(text) => {
+            output.write_all(text.as_slice())?;
+            Ok(Status::Done)
+        }
+        Err(refused) => print_refused(&refused, output),
+    }
+}
+
 /// Prints a module that is not run, or explains it within this effort; none where it is verified first.
 pub fn answer_text<W: Write>(
     alloc: Global,
@@ -36,7 +47,7 @@ pub fn answer_text<W: Write>(
 ) -> io::Result<Option<Status>> {
     let status = match request.verb {
         Verb::Print => print_text(printed(alloc, state, text), output)?,
-        Verb::Annotate => print_text(annotated(alloc, state, text), output)?,
+        Verb::Annotate => print_annotated(annotated(alloc, state, text, effort), output)?,
         Verb::Explain => print_explanation(
             alloc,
             state,

@@ -12,7 +12,7 @@ loop-slot-init c =
     record {
       can_next = tt;
       is_finite = tt;
-      takes = begins frames c.into_iter-slot-iterator.result items;
+      takes = rw c.new-paths.ensures.items (begins frames c.into_iter-slot-iterator.result items);
     }
 
 pub loop-slot-preserved : goal.loop-slot-preserved
