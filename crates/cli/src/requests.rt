@@ -91,9 +91,10 @@ fn verify_and_run<T: Threads + Wait + Clock + Sync, R: Read, W: Write>(
         alloc,
         state,
         request,
-        ..
+        module,
+        schedule,
     } = *question;
-    let Some(text) = question.module else {
+    let Some(text) = module else {
         return print_unreadable(alloc, request.file.as_str(), output);
     };
     let begun = Instant::now(rt)?;
@@ -101,7 +102,14 @@ fn verify_and_run<T: Threads + Wait + Clock + Sync, R: Read, W: Write>(
     beside.times.verifying = microseconds_since(rt, begun)?;
     match verdict {
         Ok(verified) => {
-            let job = question.job(text, &verified);
+            let job = Job {
+                alloc,
+                state,
+                request,
+                text,
+                verified: &verified,
+                schedule,
+            };
             run_timed(rt, &job, input, output, beside)
         }
         Err(unverified) => print_unverified(&unverified, output, beside),

@@ -21,20 +21,6 @@ pub struct Question<'a> {
     pub schedule: Option<&'a [u8]>,
 }
 
-impl<'a> Question<'a> {
-    /// What is asked of the module of this text, which the verifier took.
-    pub fn job(&self, text: &'a [u8], verified: &'a Verified) -> Job<'a> {
-        Job {
-            alloc: self.alloc,
-            state: self.state,
-            request: self.request,
-            text,
-            verified,
-            schedule: self.schedule,
-        }
-    }
-}
-
 /// What a run is made from.
 #[derive(Clone, Copy)]
 pub struct Job<'a> {

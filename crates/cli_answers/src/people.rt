@@ -5,10 +5,52 @@ use cli_modules::{Status, print_refused};
 use cli_prompts::{Session, converse};
 use debugger::Debugger;
 use ir_reader::read;
+use program::Program;
 use std::alloc::AllocError;
 use std::io;
 use std::io::{Read, Write};
+use syntax::Module;
 use view_events::Names;
+
+/// Answers people by the module's names and lines.
+fn guide_named<R: Read + Drop, W: Write>(
+    job: &Job<'_>,
+    debugger: &mut Debugger<'_>,
+    names: &Names<'_>,
+    lines: &[&str],
+    input: R,
+    output: &mut W,
+) -> io::Result<Status> {
+    let session = Session {
+        alloc: job.alloc,
+        debugger,
+        verified: job.verified,
+        names,
+        lines,
+        workers: job.request.workers,
+        has_colours: job.request.dialogue.has_colours,
+    };
+    converse(session, input, output)?;
+    Ok(Status::Done)
+}
+
+/// Answers people about runs of a module that means this program.
+fn guide_module<R: Read + Drop, W: Write>(
+    job: &Job<'_>,
+    debugger: &mut Debugger<'_>,
+    program: &Program,
+    module: &Module,
+    input: R,
+    output: &mut W,
+) -> io::Result<Status> {
+    let Ok(names) = Names::of(job.alloc, program, module) else {
+        return Err(io::Error::from(AllocError));
+    };
+    let source = job.source();
+    let list: Vec<&str> = source.lines().collect(job.alloc)?;
+    let lines = list.as_slice();
+    guide_named(job, debugger, &names, lines, input, output)
+}
 
 /// Answers people up to `quit` or the end of the input.
 pub fn guide<R: Read + Drop, W: Write>(
@@ -17,24 +59,11 @@ pub fn guide<R: Read + Drop, W: Write>(
     input: R,
     output: &mut W,
 ) -> io::Result<Status> {
-    let alloc = job.alloc;
-    let module = match read(alloc, job.state, job.text) {
-        Ok(module) => module,
-        Err(refused) => return print_refused(&refused, output),
-    };
-    let Ok(names) = Names::of(alloc, job.verified.program(), &module) else {
-        return Err(io::Error::from(AllocError));
-    };
-    let lines: Vec<&str> = job.source().lines().collect(alloc)?;
-    let session = Session {
-        alloc,
-        debugger,
-        verified: job.verified,
-        names: &names,
-        lines: lines.as_slice(),
-        workers: job.request.workers,
-        has_colours: job.request.dialogue.has_colours,
-    };
-    converse(session, input, output)?;
-    Ok(Status::Done)
+    match read(job.alloc, job.state, job.text) {
+        Ok(module) => {
+            let program = job.verified.program();
+            guide_module(job, debugger, program, &module, input, output)
+        }
+        Err(refused) => print_refused(&refused, output),
+    }
 }

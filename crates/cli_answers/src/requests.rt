@@ -50,7 +50,8 @@ pub fn answer<R: Read, W: Write>(
         alloc,
         state,
         request,
-        ..
+        module,
+        schedule,
     } = *question;
     if let Some(number) = request.rule {
         return print_rule(alloc, number, output);
@@ -58,7 +59,7 @@ pub fn answer<R: Read, W: Write>(
     if let Some(status) = answer_words(alloc, request, output)? {
         return Ok(status);
     }
-    let Some(text) = question.module else {
+    let Some(text) = module else {
         return print_unreadable(alloc, request.file.as_str(), output);
     };
     let effort = effort_of(request);
@@ -70,7 +71,14 @@ pub fn answer<R: Read, W: Write>(
     }
     match verify_within(alloc, state, text, &effort) {
         Ok(verified) => {
-            let job = question.job(text, &verified);
+            let job = Job {
+                alloc,
+                state,
+                request,
+                text,
+                verified: &verified,
+                schedule,
+            };
             answer_verified(&job, input, output, beside)
         }
         Err(unverified) => {
