@@ -110,20 +110,20 @@ fn note_counts(
 }
 
 /// Gives a cell a number, where it is there.
-fn put(memory: &mut Memory, global: GlobalId, index: usize, value: i64)
+fn put(memory: &mut Memory, name: &str, index: usize, value: i64)
     ensures cells { (program : Program) → HasGlobalCells program memory.old → HasGlobalCells program memory.new }
     ensures made { (program : Program) → IsMadeFor program memory.old → IsMadeFor program memory.new }
 {
-    let _is_there = memory.set_cell(global, index as u64, value);
+    let _is_there = memory.set_global(name, index as u64, value);
 }
 
 /// Gives the cells of a global these numbers.
-fn fill(memory: &mut Memory, global: GlobalId, numbers: &[i64])
+fn fill(memory: &mut Memory, name: &str, numbers: &[i64])
     ensures cells { (program : Program) → HasGlobalCells program memory.old → HasGlobalCells program memory.new }
     ensures made { (program : Program) → IsMadeFor program memory.old → IsMadeFor program memory.new }
 {
     for index in 0..numbers.len() {
-        put(memory, global, index, numbers[index]);
+        put(memory, name, index, numbers[index]);
     }
 }
 
@@ -138,7 +138,7 @@ fn load(
     ensures made { (program : Program) → IsMadeFor program memory.old → IsMadeFor program memory.new }
 {
     let name = word.name.as_str();
-    let (Some(bytes), Some((global, cells))) = (&word.bytes, memory.place_of(name)) else {
+    let (Some(bytes), Some((_, cells))) = (&word.bytes, memory.place_of(name)) else {
         return Err(Status::Unreadable);
     };
     let numbers = numbers_in(job, word, bytes.as_slice(), beside)?;
@@ -146,7 +146,7 @@ fn load(
         let said = note_counts(job.alloc, word, numbers.len(), cells, beside);
         return Err(unusable(said));
     }
-    fill(memory, GlobalId(global), numbers.as_slice());
+    fill(memory, name, numbers.as_slice());
     Ok(())
 }
 
