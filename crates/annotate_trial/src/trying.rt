@@ -42,6 +42,7 @@ fn judged(
             drop(verified);
             copied(alloc, more)
         }
+        Err(Unverified::Refused(Refused::Memory)) => Err(Refused::Memory),
         Err(_) => match verify_within(alloc, state, text, effort) {
             Err(Unverified::Refused(Refused::Fault { .. })) => copied(alloc, more),
             Err(Unverified::Refused(Refused::Memory)) => Err(Refused::Memory),
