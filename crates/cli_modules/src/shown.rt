@@ -24,6 +24,20 @@ fn print_text<W: Write>(text: Result<String, Refused>, output: &mut W) -> io::Re
     }
 }
 
+/// Prints a module's text with lines put in that follow from others.
+fn print_annotated<W: Write>(
+    text: Result<Vec<u8>, Refused>,
+    output: &mut W,
+) -> io::Result<Status> {
+    match text {
+        Ok(text) => {
+            output.write_all(text.as_slice())?;
+            Ok(Status::Done)
+        }
+        Err(refused) => print_refused(&refused, output),
+    }
+}
+
 /// Prints a module that is not run, or explains it within this effort; none where it is verified first.
 pub fn answer_text<W: Write>(
     alloc: Global,
@@ -36,7 +50,7 @@ pub fn answer_text<W: Write>(
 ) -> io::Result<Option<Status>> {
     let status = match request.verb {
         Verb::Print => print_text(printed(alloc, state, text), output)?,
-        Verb::Annotate => print_text(annotated(alloc, state, text), output)?,
+        Verb::Annotate => print_annotated(annotated(alloc, state, text, effort), output)?,
         Verb::Explain => print_explanation(
             alloc,
             state,

@@ -278,6 +278,13 @@ const EFFORT: Part = Part {
     help: "gives up after N steps of search, in place of 1000000000",
 };
 
+const ANNOTATE: Part = Part {
+    name: "annotate",
+    value: "",
+    given: Given::Flag,
+    help: "puts in lines that follow from others first, as the command of this name does",
+};
+
 const ARG: Part = Part {
     name: "arg",
     value: "V",
@@ -391,15 +398,15 @@ const SHELL: Part = Part {
 /// The words and options of the commands, as their help lists them; a command that only reads a module takes its file alone.
 static MODULE_PARTS: [Part; 1] = [FILE];
 
-static VERIFY_PARTS: [Part; 4] = [FILE, TABLE, EFFORT, JSON];
+static VERIFY_PARTS: [Part; 5] = [FILE, TABLE, ANNOTATE, EFFORT, JSON];
 
 static EXPLAIN_PARTS: [Part; 3] = [FILE_OR_NUMBER, EFFORT, JSON];
 
 static KNOWN_PARTS: [Part; 3] = [FILE, EFFORT, JSON];
 
-static SERIAL_PARTS: [Part; 5] = [FILE, ARG, SET, SHOW, EFFORT];
+static SERIAL_PARTS: [Part; 6] = [FILE, ARG, SET, SHOW, ANNOTATE, EFFORT];
 
-static RUN_PARTS: [Part; 14] = [
+static RUN_PARTS: [Part; 15] = [
     FILE,
     ARG,
     SET,
@@ -413,6 +420,7 @@ static RUN_PARTS: [Part; 14] = [
     PICTURE,
     EVENTS,
     PAGE,
+    ANNOTATE,
     EFFORT,
 ];
 
@@ -658,6 +666,7 @@ fn read_verify(
     ensures { request.new.verb ≡ request.old.verb }
 {
     request.table = table_of(alloc, matches)?;
+    request.annotates = matches.get_flag("annotate");
     read_show(alloc, matches, request)
 }
 
@@ -683,6 +692,18 @@ fn written_file(
         Some(file) => Ok(Some(String::from_str(alloc, file)?)),
         None => Ok(None),
     }
+}
+
+/// Reads the options of the serial run.
+fn read_serial(
+    alloc: Global,
+    matches: &ArgMatches<'_>,
+    request: &mut Request,
+) -> Result<(), WordsFault>
+    ensures { request.new.verb ≡ request.old.verb }
+{
+    request.annotates = matches.get_flag("annotate");
+    read_running(alloc, matches, request)
 }
 
 /// Reads what is to be told of a run.
@@ -711,6 +732,7 @@ fn read_run(
     ensures { request.new.verb ≡ request.old.verb }
 {
     read_running(alloc, matches, request)?;
+    request.annotates = matches.get_flag("annotate");
     request.telling.seed = number_of(alloc, matches, "seed", "--seed <S>")?;
     read_telling(alloc, matches, request)?;
     request.speedup = speedup_of(alloc, matches)?;
@@ -763,7 +785,7 @@ fn read_options(
         Verb::Run => read_run(alloc, matches, request)?,
         Verb::Replay => read_replay(alloc, matches, request)?,
         Verb::Debug => read_scheduled(alloc, matches, request)?,
-        Verb::Serial => read_running(alloc, matches, request)?,
+        Verb::Serial => read_serial(alloc, matches, request)?,
         Verb::Completions => request.shell = Some(shell_of(alloc, request.file.as_str())?),
         Verb::Show => read_show(alloc, matches, request)?,
         Verb::Print | Verb::Annotate | Verb::Man => {}

@@ -93,6 +93,8 @@ pub struct Request {
     pub show: Vec<CellWord>,
     /// The name, without `@`, of the function whose costs to print, for the verb that takes one.
     pub table: Option<String>,
+    /// Whether lines that follow from others are put in before the module is judged; of the verbs that may be asked for it.
+    pub annotates: bool,
     /// How many steps of search a verdict may take, where a number is named; of the verbs that ask for one.
     pub effort: Option<u64>,
     /// The number of the rule to print in place of a module, for the verb that takes one.
@@ -118,6 +120,7 @@ impl Drop for Request {
             set: _,
             show: _,
             table: _,
+            annotates: _,
             effort: _,
             rule: _,
             shell: _,
@@ -142,6 +145,7 @@ impl Request {
             set: Vec::new(alloc),
             show: Vec::new(alloc),
             table: None,
+            annotates: false,
             effort: None,
             rule: None,
             shell: None,

@@ -44,7 +44,7 @@ impl<'a> Facts<'a> {
     }
 
     /// States that a sum is at least 0.
-    fn add(&mut self, sum: Sum<'a>) -> Result<(), AllocError> {
+    pub fn add(&mut self, sum: Sum<'a>) -> Result<(), AllocError> {
         if let Some(number) = self.find(&sum) {
             self.stated.push(number)?;
             return Ok(());
@@ -185,13 +185,12 @@ fn order_of(predicate: Predicate, holds: bool, is_turned: bool) -> Option<bool> 
         Predicate::SignedGreater if holds == is_turned => Some(holds),
         Predicate::SignedAtLeast if holds == is_turned => Some(!holds),
         Predicate::Equal if holds => Some(false),
-        Predicate::NotEqual if !holds => Some(false),
         _ => None,
     }
 }
 
 /// Whether an instruction makes its sum or product as it is, without a remainder by the width.
-fn is_exact(instruction: &Instruction) -> bool {
+pub fn is_exact(instruction: &Instruction) -> bool {
     match instruction {
         Instruction::Binary { operator, .. } => matches!(
             operator,
