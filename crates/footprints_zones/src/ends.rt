@@ -11,7 +11,7 @@ use crate::bounds::{RegisterBounds, bounds_for, unbounded};
 use crate::order::product;
 use linear::{Form, RegisterId, side_of};
 use program::Operand;
-use ranges::Move;
+use ranges::{Move, operand_for};
 
 /// An end at a place, with the operands put in: a number of times a register, and a constant. What it is at least and at most is known by facts
 /// about the register alone.
