@@ -4,7 +4,7 @@ use Rattle.program.specs.declared.function.Function.{Function}
 use Rattle.program.specs.declared.function.Program.{Program}
 use Rattle.ranges.specs.region_match.declared.task.Task.{Task}
 use Rattle.ranges.specs.region_match.declared.tables.Regions.{Regions}
-use Rattle.cost_table.specs.declared.entry.Entry.{Entry}
+use Rattle.cost_table.specs.declared.entry.FunctionCost.{FunctionCost}
 use Rattle.cost_table.specs.declared.table.Table.{Table}
 use Rattle.cost_table.specs.Cost.{cost}
 use Rattle.cost_table.specs.Depth.{flat_depth, self_calls_depth, first_depths, depth, tasks_of}
@@ -24,25 +24,25 @@ abbrev pub above_self_call : ℕ → ℕ → ℕ
 above_self_call zero depth = 0
 above_self_call (suc frames) depth = suc frames + depth
 
-abbrev pub climbed : Entry → ℕ → ℕ
+abbrev pub climbed : FunctionCost → ℕ → ℕ
 climbed entry zero = entry.flat
 climbed entry (suc m) = max entry.flat (as_u64 (above_self_call entry.rise (climbed entry m)))
 
 -- ---- the table
 
 -- the row of a function of this number, over the depths of those before it
-pub record IsEntryOver (before : List ℕ) (f : ℕ) (tasks : List Task) (function : Function) (entry : Entry) : Type 0 where
+pub record IsEntryOver (before : List ℕ) (f : ℕ) (tasks : List Task) (function : Function) (entry : FunctionCost) : Type 0 where
   pub bound : entry.bound ≡ function.measure.bound
   pub budget : entry.budget ≡ function.budget
   pub flat : entry.flat ≡ as_u64 (flat_depth before f tasks function.blocks)
   pub rise : entry.rise ≡ as_u64 (self_calls_depth f tasks function.blocks 0)
 
-abbrev pub IsEntry : Program → Regions → ℕ → Function → Entry → Type 0
+abbrev pub IsEntry : Program → Regions → ℕ → Function → FunctionCost → Type 0
 IsEntry program regions f function entry = IsEntryOver (first_depths program regions f) f (tasks_of regions f) function entry
 
 pub record IsTable (program : Program) (regions : Regions) (table : Table) : Type 0 where
   pub functions : length table.functions ≡ length program.functions
-  pub each : (f : ℕ) (function : Function) (entry : Entry) → slice_get program.functions f ≡ Some function → slice_get table.functions f ≡ Some entry
+  pub each : (f : ℕ) (function : Function) (entry : FunctionCost) → slice_get program.functions f ≡ Some function → slice_get table.functions f ≡ Some entry
       → IsEntry program regions f function entry
 
 abbrev pub bounded : ℕ → ℕ → ℕ → Option ℕ

@@ -8,7 +8,7 @@ use program::Budget;
 
 /// What the table keeps of a function.
 #[derive(Drop)]
-pub struct Entry {
+pub struct FunctionCost {
     /// The greatest measure.
     pub bound: u64,
     pub budget: Budget,
@@ -65,7 +65,7 @@ fn narrowed(number: u128) -> u64
     u64::try_from(number).unwrap_or(u64::MAX)
 }
 
-impl Entry {
+impl FunctionCost {
     /// What a call of this measure costs at most; none beyond the bound.
     pub fn cost(&self, measure: u64) -> Option<u64>
         ensures { result ≡ within self.now.bound measure (cost_below self.now.budget (suc measure)) }

@@ -24,6 +24,6 @@ mod table;
 mod work;
 
 pub use check::check_cost;
-pub use entry::Entry;
+pub use entry::FunctionCost;
 pub use table::{Table, make_table};
 pub use work::{Work, work_of};

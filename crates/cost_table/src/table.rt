@@ -6,7 +6,7 @@ ghost use Rattle.cost_table.specs.Depth.{tasks_of};
 ghost use Rattle.cost_table.specs.Tables.{IsEntryOver, IsTable, cost_at, depth_at};
 
 use crate::depth::{flat_depth, self_calls_depth};
-use crate::entry::Entry;
+use crate::entry::FunctionCost;
 use lists::{OutOfMemory, Seq};
 use program::{Budget, Function, Program};
 use ranges::{Regions, Task};
@@ -14,7 +14,7 @@ use std::alloc::Global;
 
 /// The costs and depths of all functions' calls.
 pub struct Table {
-    pub functions: Seq<Entry>,
+    pub functions: Seq<FunctionCost>,
 }
 
 /// Written out, so that no crate above proves it anew.
@@ -26,7 +26,7 @@ impl Drop for Table {
 
 impl Table {
     /// What the table keeps of a function.
-    fn entry(&self, function: usize) -> Option<&Entry>
+    fn entry(&self, function: usize) -> Option<&FunctionCost>
         ensures { option_copied result ≡ slice_get self.now.functions function }
     {
         self.functions.as_slice().get(function)
@@ -76,11 +76,11 @@ fn tasks_of(regions: &Regions, function: usize) -> &[Task]
 }
 
 /// The row of a function, by the depths of those before it.
-fn entry_of(before: &[u64], index: usize, tasks: &[Task], function: &Function) -> Entry
+fn entry_of(before: &[u64], index: usize, tasks: &[Task], function: &Function) -> FunctionCost
     ensures { IsEntryOver before.now index tasks.now function.now result }
 {
     let blocks = function.blocks.as_slice();
-    Entry {
+    FunctionCost {
         bound: function.measure.bound,
         budget: copy_budget(&function.budget),
         flat: flat_depth(before, index, tasks, blocks),
@@ -92,7 +92,7 @@ fn entry_of(before: &[u64], index: usize, tasks: &[Task], function: &Function) -
 pub fn make_table(alloc: Global, program: &Program, regions: &Regions) -> Result<Table, OutOfMemory>
     ensures { IfOk result (IsTable program.now regions.now) }
 {
-    let mut entries: Vec<Entry> = Vec::new(alloc);
+    let mut entries: Vec<FunctionCost> = Vec::new(alloc);
     let mut depths: Vec<u64> = Vec::new(alloc);
     let functions = program.functions.as_slice();
     for (index, function) in functions.iter().enumerate() {

@@ -14,7 +14,7 @@ const SLOTS: usize = 1_024;
 
 /// An address, and how many addresses there are up to the one before it in its chain; 0 where it is the first.
 #[derive(Clone, Copy)]
-pub struct Entry {
+pub struct IndexEntry {
     at: i64,
     earlier: u16,
 }
@@ -24,7 +24,7 @@ pub struct Entry {
 pub struct Index {
     /// How many addresses there are up to the latest of each chain; 0 where it is empty.
     heads: Vec<u16>,
-    entries: Vec<Entry>,
+    entries: Vec<IndexEntry>,
 }
 
 impl Model for Index {
@@ -54,7 +54,7 @@ fn head_at(heads: &[u16], slot: usize) -> u16
     heads[slot]
 }
 
-fn entry_at(entries: &[Entry], place: usize) -> Entry
+fn entry_at(entries: &[IndexEntry], place: usize) -> IndexEntry
     requires { place < length entries.now }
     ensures { slice_get entries.now place ≡ Some result }
 {
@@ -63,7 +63,7 @@ fn entry_at(entries: &[Entry], place: usize) -> Entry
 
 /// Takes the addresses out of their chains, from the latest on: each chain is led to as it was before its address was put there. Most strands
 /// have few addresses, and there are many chains.
-fn unchain(heads: &mut Vec<u16>, entries: &mut Vec<Entry>)
+fn unchain(heads: &mut Vec<u16>, entries: &mut Vec<IndexEntry>)
     requires { IsChained heads.old.items entries.old.items }
     ensures chained { IsChained heads.new.items [] }
     ensures empty { entries.new.items ≡ [] }
@@ -119,7 +119,7 @@ impl Index {
     {
         let slot = slot(at);
         let earlier = head_at(self.heads.as_slice(), slot);
-        self.entries.push_reserved(Entry { at: *at, earlier });
+        self.entries.push_reserved(IndexEntry { at: *at, earlier });
         self.heads[slot] = self.entries.len() as u16;
     }
 

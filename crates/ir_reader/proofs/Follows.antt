@@ -27,8 +27,8 @@ use Rattle.syntax.specs.declared.module.Module.{Module}
 use Rattle.ir_reader.specs.declared.annotating.FunctionHead.{FunctionHead}
 use Rattle.ir_reader.specs.declared.annotating.BlockHead.{BlockHead}
 use Rattle.ir_reader.specs.declared.draft.Draft.{Draft}
-use Rattle.ir_reader.specs.declared.draft.Place.{Place}
-use Rattle.ir_reader.specs.declared.draft.Place.TheVariants as place
+use Rattle.ir_reader.specs.declared.draft.LineContext.{LineContext}
+use Rattle.ir_reader.specs.declared.draft.LineContext.TheVariants as place
 use Rattle.ir_reader.specs.Opening.{new_block, new_function, with_global, with_function, with_block, with_phi, with_step, with_ending}
 use Rattle.ir_reader.specs.Annotating.{with_requirement, with_guarantee, with_measure, with_budget, with_keeps, with_pending, with_left, with_foot, with_zone_of}
 use Rattle.ir_reader.specs.Draft.{drafted, new_place, placed, placed_in, placed_outside, placed_at_function, placed_in_function_head, placed_at_block, annotated_in_block_head, placed_in_block_head, placed_in_phis, placed_in_body, placed_in_ended}
@@ -332,7 +332,7 @@ outside_follows m line (item.Global g) = global_if m g (length m.functions == 0)
 outside_follows m line (item.Define name result_type parameters) = define_follows m line name result_type parameters
 outside_follows m line _ = tt
 
-in_place : (m : Module) (p : Place) (line : ℕ) (i : Item) → IsStepless p → FollowsIfSome m (open_function p) i (placed_in m p line i)
+in_place : (m : Module) (p : LineContext) (line : ℕ) (i : Item) → IsStepless p → FollowsIfSome m (open_function p) i (placed_in m p line i)
 in_place m place.Outside line i none = outside_follows m line i
 in_place m (place.FunctionHead h) line i none = function_head_follows m h line i
 in_place m (place.BlockHead f h) line i none = block_head_follows m f h line i none

@@ -17,8 +17,8 @@ use Rattle.syntax.specs.declared.module.Module.{Module}
 use Rattle.ir_reader.specs.declared.annotating.FunctionHead.{FunctionHead}
 use Rattle.ir_reader.specs.declared.annotating.BlockHead.{BlockHead}
 use Rattle.ir_reader.specs.declared.draft.Draft.{Draft}
-use Rattle.ir_reader.specs.declared.draft.Place.{Place}
-use Rattle.ir_reader.specs.declared.draft.Place.TheVariants as place
+use Rattle.ir_reader.specs.declared.draft.LineContext.{LineContext}
+use Rattle.ir_reader.specs.declared.draft.LineContext.TheVariants as place
 use Rattle.ir_reader.specs.Opening.{with_block}
 use Rattle.ir_reader.specs.Annotating.{annotated_function, annotated_block}
 use Rattle.ir_reader.specs.Draft.{placed, placed_in, placed_outside, placed_at_function, placed_in_function_head, placed_at_block, annotated_in_block_head, placed_in_block_head, placed_in_phis, placed_in_body, placed_in_ended}
@@ -110,7 +110,7 @@ outside_grows m line (item.Global g) = if_grows m None (length m.functions == 0)
 outside_grows m line (item.Define name result_type parameters) = λ all one. all
 outside_grows m line _ = tt
 
-in_place : (m : Module) (p : Place) (line : ℕ) (i : Item) → Grows m (open_function p) (placed_in m p line i)
+in_place : (m : Module) (p : LineContext) (line : ℕ) (i : Item) → Grows m (open_function p) (placed_in m p line i)
 in_place m place.Outside line i = outside_grows m line i
 in_place m (place.FunctionHead h) line i = function_head_grows m h line i
 in_place m (place.BlockHead f h) line i = block_head_grows m f h line i
@@ -213,7 +213,7 @@ all_kept fs counted written within = λ k d h. whole_function (get_or fs k d) (c
 abbrev whole : Module → Result Module (ℕ × ℕ)
 whole m = Ok m
 
-ended_kept : (m n : Module) (p : Place) (count : ℕ) → IsKeptDraft (record { whole = m; place = p }) → ended m p count ≡ whole n → IsKeptModule n
+ended_kept : (m n : Module) (p : LineContext) (count : ℕ) → IsKeptDraft (record { whole = m; place = p }) → ended m p count ≡ whole n → IsKeptModule n
 ended_kept m n place.Outside count kept h =
     let same : m ≡ n = cc in
     subst IsKeptModule same (record {

@@ -22,8 +22,8 @@ use Rattle.syntax.specs.declared.module.Module.{Module}
 use Rattle.ir_reader.specs.declared.annotating.FunctionHead.{FunctionHead}
 use Rattle.ir_reader.specs.declared.annotating.BlockHead.{BlockHead}
 use Rattle.ir_reader.specs.declared.draft.Draft.{Draft}
-use Rattle.ir_reader.specs.declared.draft.Place.{Place}
-use Rattle.ir_reader.specs.declared.draft.Place.TheVariants as place
+use Rattle.ir_reader.specs.declared.draft.LineContext.{LineContext}
+use Rattle.ir_reader.specs.declared.draft.LineContext.TheVariants as place
 use Rattle.ir_reader.specs.Opening.{new_function, new_block, with_global, with_block, with_phi, with_step, with_ending}
 use Rattle.ir_reader.specs.Annotating.{with_function_notes, with_block_notes, with_zone_of, annotated_function}
 use Rattle.ir_reader.specs.Draft.{drafted, placed, placed_in, placed_outside, placed_at_function, placed_in_function_head, placed_at_block, annotated_in_block_head, placed_in_block_head, placed_in_phis, placed_in_body, placed_in_ended}
@@ -97,7 +97,7 @@ pub record IsOpenWithin (m : Module) (f : Function) (b : Block) : Type 0 where
   pub blocks : length f.blocks < 1024
   pub block : IsBlockWithin b
 
-abbrev pub IsPlaceWithin : Module → Place → Type 0
+abbrev pub IsPlaceWithin : Module → LineContext → Type 0
 IsPlaceWithin m place.Outside = Unit {0}
 IsPlaceWithin m (place.FunctionHead h) = IsFunctionWithin h.function × (length m.functions < 256)
 IsPlaceWithin m (place.BlockHead f h) = IsOpenWithin m f h.block
@@ -229,7 +229,7 @@ outside_within m at (item.Define name result_type parameters) whole = λ w.
     record { whole = whole; place = (next, ltb-true (length m.functions) 256 u.0) }
 outside_within m at _ whole = tt
 
-in_place : (m : Module) (p : Place) (at : ℕ) (i : Item) → IsWholeWithin m → IsPlaceWithin m p → WithinIfSome (placed_in m p at i)
+in_place : (m : Module) (p : LineContext) (at : ℕ) (i : Item) → IsWholeWithin m → IsPlaceWithin m p → WithinIfSome (placed_in m p at i)
 in_place m place.Outside at i whole p_is = outside_within m at i whole
 in_place m (place.FunctionHead h) at i whole p_is = function_head_within m h at i whole p_is.0 p_is.1
 in_place m (place.BlockHead f h) at i whole p_is = block_head_within m f h at i whole p_is
@@ -257,7 +257,7 @@ pub record IsOpenFew (m : Module) (f : Function) (b : Block) : Type 0 where
   pub blocks : length f.blocks < 1024
   pub body : IsBodyFew b
 
-abbrev pub IsPlaceFew : Module → Place → Type 0
+abbrev pub IsPlaceFew : Module → LineContext → Type 0
 IsPlaceFew m place.Outside = Unit {0}
 IsPlaceFew m (place.FunctionHead h) = IsFunctionWithin h.function × (length m.functions < 256)
 IsPlaceFew m (place.BlockHead f h) = IsOpenFew m f h.block
@@ -279,7 +279,7 @@ AtItsEnds item.Close o = IsOpenKept o
 AtItsEnds (item.Define name result_type parameters) o = IsOpenKept o
 AtItsEnds _ o = Unit {0}
 
-abbrev BeforeIfSome : Module → Place → Item → Option Draft → Type 0
+abbrev BeforeIfSome : Module → LineContext → Item → Option Draft → Type 0
 BeforeIfSome m p i None = Unit {0}
 BeforeIfSome m p i (Some e) = IsDraftFew e → IsDraftFew (drafted m p) × AtItsEnds i (open_function p)
 
@@ -443,7 +443,7 @@ function_head_before m h at (item.Annotation a) = function_annotated_before m h 
 function_head_before m h at (item.Label label) = λ e. (record { whole = e.whole; place = (e.place.function, e.place.room) }, tt)
 function_head_before m h at _ = tt
 
-if_before : (m : Module) (p : Place) (i : Item) (test : Bool) (e : Option Draft) → BeforeIfSome m p i e → BeforeIfSome m p i (if test then e else None)
+if_before : (m : Module) (p : LineContext) (i : Item) (test : Bool) (e : Option Draft) → BeforeIfSome m p i e → BeforeIfSome m p i (if test then e else None)
 if_before m p i true e h = h
 if_before m p i false e h = tt
 
@@ -454,7 +454,7 @@ outside_before m at (item.Global g) =
 outside_before m at (item.Define name result_type parameters) = λ e. (record { whole = e.whole; place = tt }, tt)
 outside_before m at _ = tt
 
-before_place : (m : Module) (p : Place) (at : ℕ) (i : Item) → BeforeIfSome m p i (placed_in m p at i)
+before_place : (m : Module) (p : LineContext) (at : ℕ) (i : Item) → BeforeIfSome m p i (placed_in m p at i)
 before_place m place.Outside at i = outside_before m at i
 before_place m (place.FunctionHead h) at i = function_head_before m h at i
 before_place m (place.BlockHead f h) at i = block_head_before m f h at i
@@ -467,7 +467,7 @@ pub placed_before : (d e : Draft) (at : ℕ) (i : Item) → placed d at i ≡ So
 placed_before d e at i h = subst (BeforeIfSome d.whole d.place i) h (before_place d.whole d.place at i)
 
 -- and it passes no limit of its place
-pub place_passes : (m : Module) (p : Place) → IsPlaceFew m p → is_place_within m p ≡ true
+pub place_passes : (m : Module) (p : LineContext) → IsPlaceFew m p → is_place_within m p ≡ true
 place_passes m place.Outside is = refl
 place_passes m (place.FunctionHead h) is = rw (lt-ltb (length m.functions) 256 is.1, le-leb (length h.function.parameters) 16 is.0.parameters, function_notes_pass h.function.notes is.0.notes) refl
 place_passes m (place.BlockHead f h) is = rw (lt-ltb (length f.blocks) 1024 is.blocks, block_notes_pass h.block.notes is.body.notes) refl

@@ -7,8 +7,8 @@ use Rattle.ir_item.specs.declared.line.Line.{Line}
 use Rattle.ir_item.specs.Lines.{line_of, IsFaultOfLine}
 use Rattle.syntax.specs.declared.module.Module.{Module}
 use Rattle.ir_reader.specs.declared.draft.Draft.{Draft}
-use Rattle.ir_reader.specs.declared.draft.Place.{Place}
-use Rattle.ir_reader.specs.declared.draft.Place.TheVariants as place
+use Rattle.ir_reader.specs.declared.draft.LineContext.{LineContext}
+use Rattle.ir_reader.specs.declared.draft.LineContext.TheVariants as place
 use Rattle.ir_reader.specs.Lines.{lines_of, content}
 use Rattle.ir_reader.specs.Faults.{IsOnLineOf}
 use Rattle.ir_reader.specs.Reading.{start, with_item, Steps, Said, Faulty, Unsaid, Too-late, Reads, Done, Next, Stop, Overlong, ended, Answers, Read, Unread, IsFaultOfText}
@@ -72,7 +72,7 @@ abbrev IsOnLine : ℕ → Result Module (ℕ × ℕ) → Type 0
 IsOnLine count (Ok m) = Unit {0}
 IsOnLine count (Err e) = (1 ≤ e.1) × (e.1 ≤ count)
 
-ended_on : (m : Module) (p : Place) (count : ℕ) → 1 ≤ count → IsOnLine count (ended m p count)
+ended_on : (m : Module) (p : LineContext) (count : ℕ) → 1 ≤ count → IsOnLine count (ended m p count)
 ended_on m place.Outside count some = tt
 ended_on m (place.FunctionHead h) count some = (some, omega arith)
 ended_on m (place.BlockHead f h) count some = (some, omega arith)

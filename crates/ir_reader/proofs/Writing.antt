@@ -23,8 +23,8 @@ use Rattle.syntax.specs.declared.module.Module.{Module}
 use Rattle.ir_reader.specs.declared.annotating.FunctionHead.{FunctionHead}
 use Rattle.ir_reader.specs.declared.annotating.BlockHead.{BlockHead}
 use Rattle.ir_reader.specs.declared.draft.Draft.{Draft}
-use Rattle.ir_reader.specs.declared.draft.Place.{Place}
-use Rattle.ir_reader.specs.declared.draft.Place.TheVariants as place
+use Rattle.ir_reader.specs.declared.draft.LineContext.{LineContext}
+use Rattle.ir_reader.specs.declared.draft.LineContext.TheVariants as place
 use Rattle.ir_reader.specs.Opening.{zero_form, no_function_notes, new_function, new_block, with_global, with_block, with_phi, with_step, with_ending}
 use Rattle.ir_reader.specs.Annotating.{with_function_notes, with_block_notes, with_zone_of, annotated_function}
 use Rattle.ir_reader.specs.Draft.{drafted, placed, placed_in, placed_outside, placed_at_function, placed_in_function_head, placed_at_block, annotated_in_block_head, placed_in_block_head, placed_in_phis, placed_in_body, placed_in_ended}
@@ -36,7 +36,7 @@ pub record IsWholeWritten (m : Module) : Type 0 where
   pub functions : All IsFunctionWritten m.functions
 
 -- what is open
-abbrev pub IsPlaceWritten : Place → Type 0
+abbrev pub IsPlaceWritten : LineContext → Type 0
 IsPlaceWritten place.Outside = Unit {0}
 IsPlaceWritten (place.FunctionHead h) = IsFunctionWritten h.function
 IsPlaceWritten (place.BlockHead f h) = IsFunctionWritten f × IsBlockWritten h.block
@@ -212,7 +212,7 @@ outside_written m at (item.Define name result_type parameters) whole is =
     record { whole = whole; place = next }
 outside_written m at _ whole is = tt
 
-in_place : (m : Module) (p : Place) (at : ℕ) (i : Item) → IsWholeWritten m → IsPlaceWritten p → IsKeptItem i → WrittenIfSome (placed_in m p at i)
+in_place : (m : Module) (p : LineContext) (at : ℕ) (i : Item) → IsWholeWritten m → IsPlaceWritten p → IsKeptItem i → WrittenIfSome (placed_in m p at i)
 in_place m place.Outside at i whole p_is is = outside_written m at i whole is
 in_place m (place.FunctionHead h) at i whole p_is is = function_head_written m h at i whole p_is is
 in_place m (place.BlockHead f h) at i whole p_is is = block_head_written m f h at i whole p_is.0 p_is.1 is

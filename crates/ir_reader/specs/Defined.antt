@@ -13,8 +13,8 @@ use Rattle.syntax.specs.declared.module.Block.{Block}
 use Rattle.syntax.specs.declared.module.Function.{Function}
 use Rattle.syntax.specs.declared.module.Module.{Module}
 use Rattle.ir_reader.specs.declared.draft.Draft.{Draft}
-use Rattle.ir_reader.specs.declared.draft.Place.{Place}
-use Rattle.ir_reader.specs.declared.draft.Place.TheVariants as place
+use Rattle.ir_reader.specs.declared.draft.LineContext.{LineContext}
+use Rattle.ir_reader.specs.declared.draft.LineContext.TheVariants as place
 use Rattle.ir_reader.specs.Opening.{with_block}
 
 abbrev pub parameter_name : Parameter → List ℕ
@@ -73,7 +73,7 @@ abbrev pub reserved_inside : List ℕ
 reserved_inside = codes ".ret"
 
 -- the function that is open, as far as it was read
-abbrev pub open_function : Place → Option Function
+abbrev pub open_function : LineContext → Option Function
 open_function place.Outside = None
 open_function (place.FunctionHead h) = Some h.function
 open_function (place.BlockHead f h) = Some (with_block f h.block)

@@ -11,16 +11,16 @@ use Rattle.syntax.specs.declared.module.Module.{Module}
 use Rattle.ir_reader.specs.declared.annotating.FunctionHead.{FunctionHead}
 use Rattle.ir_reader.specs.declared.annotating.BlockHead.{BlockHead}
 use Rattle.ir_reader.specs.declared.draft.Draft.{Draft}
-use Rattle.ir_reader.specs.declared.draft.Place.{Place}
-use Rattle.ir_reader.specs.declared.draft.Place.TheVariants as place
+use Rattle.ir_reader.specs.declared.draft.LineContext.{LineContext}
+use Rattle.ir_reader.specs.declared.draft.LineContext.TheVariants as place
 use Rattle.ir_reader.specs.Opening.{new_function, new_block, with_global, with_function, with_block, with_phi, with_step, with_ending}
 use Rattle.ir_reader.specs.Annotating.{annotated_function, annotated_block}
 
-abbrev pub drafted : Module → Place → Draft
+abbrev pub drafted : Module → LineContext → Draft
 drafted m p = record { whole = m; place = p }
 
 -- behind a label
-abbrev pub new_place : Function → ℕ → List ℕ → Place
+abbrev pub new_place : Function → ℕ → List ℕ → LineContext
 new_place f line label = place.BlockHead f (record { block = new_block line label; has_left = false })
 
 abbrev pub placed_outside : Module → ℕ → Item → Option Draft
@@ -74,7 +74,7 @@ abbrev pub placed_in_block_head : Module → Function → BlockHead → ℕ → 
 placed_in_block_head m f h line (item.Annotation a) = annotated_in_block_head m f h a
 placed_in_block_head m f h line i = placed_in_phis m f h.block line i
 
-abbrev pub placed_in : Module → Place → ℕ → Item → Option Draft
+abbrev pub placed_in : Module → LineContext → ℕ → Item → Option Draft
 placed_in m place.Outside line i = placed_outside m line i
 placed_in m (place.FunctionHead h) line i = placed_in_function_head m h line i
 placed_in m (place.BlockHead f h) line i = placed_in_block_head m f h line i

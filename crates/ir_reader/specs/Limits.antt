@@ -10,8 +10,8 @@ use Rattle.syntax.specs.declared.module.Global.{Global}
 use Rattle.syntax.specs.declared.module.Block.{Block}
 use Rattle.syntax.specs.declared.module.Function.{Function}
 use Rattle.syntax.specs.declared.module.Module.{Module}
-use Rattle.ir_reader.specs.declared.draft.Place.{Place}
-use Rattle.ir_reader.specs.declared.draft.Place.TheVariants as place
+use Rattle.ir_reader.specs.declared.draft.LineContext.{LineContext}
+use Rattle.ir_reader.specs.declared.draft.LineContext.TheVariants as place
 use Rattle.ir_reader.specs.Defined.{block_registers}
 
 abbrev pub global_cells : Module → ℕ
@@ -53,7 +53,7 @@ abbrev pub is_block_head_within : Function → Block → Bool
 is_block_head_within f b = nat_lt (length f.blocks) 1024 && are_block_notes_within b.notes
 
 -- what the last item may have passed at its place
-abbrev pub is_place_within : Module → Place → Bool
+abbrev pub is_place_within : Module → LineContext → Bool
 is_place_within m (place.FunctionHead h) = is_function_head_within m h.function
 is_place_within m (place.BlockHead f h) = is_block_head_within f h.block
 is_place_within m (place.Body f b shows) = nat_le (length shows) 32

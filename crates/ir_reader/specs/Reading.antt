@@ -8,8 +8,8 @@ use Rattle.ir_item.specs.declared.line.Line.{Line}
 use Rattle.ir_item.specs.Lines.{line_of, IsLineFault}
 use Rattle.syntax.specs.declared.module.Module.{Module}
 use Rattle.ir_reader.specs.declared.draft.Draft.{Draft}
-use Rattle.ir_reader.specs.declared.draft.Place.{Place}
-use Rattle.ir_reader.specs.declared.draft.Place.TheVariants as place
+use Rattle.ir_reader.specs.declared.draft.LineContext.{LineContext}
+use Rattle.ir_reader.specs.declared.draft.LineContext.TheVariants as place
 use Rattle.ir_reader.specs.Lines.{lines_of, content}
 use Rattle.ir_reader.specs.Draft.{placed}
 use Rattle.ir_reader.specs.Counting.{is_within_limits}
@@ -71,7 +71,7 @@ abbrev pub start : Draft
 start = record { whole = record { globals = []; functions = [] }; place = place.Outside }
 
 -- 105 on the last line, where that is in a function
-abbrev pub ended : Module → Place → ℕ → Result Module (ℕ × ℕ)
+abbrev pub ended : Module → LineContext → ℕ → Result Module (ℕ × ℕ)
 ended m place.Outside count = Ok m
 ended m _ count = Err (105, count)
 

@@ -5,8 +5,8 @@ use Rattle.refusal.specs.declared.refused.Refused.TheVariants as faults
 use Rattle.syntax.specs.declared.module.Module.{Module}
 use Rattle.ir_item.specs.declared.line.Line.{Line}
 use Rattle.ir_reader.specs.declared.draft.Draft.{Draft}
-use Rattle.ir_reader.specs.declared.draft.Place.{Place}
-use Rattle.ir_reader.specs.declared.draft.Place.TheVariants as place
+use Rattle.ir_reader.specs.declared.draft.LineContext.{LineContext}
+use Rattle.ir_reader.specs.declared.draft.LineContext.TheVariants as place
 use Rattle.ir_reader.specs.declared.limits.Counts.{Counts}
 use Rattle.ir_reader.specs.declared.scope.Scope.{Scope}
 use Rattle.ir_reader.specs.declared.reader.Reader.{Reader}
@@ -16,7 +16,7 @@ use Rattle.ir_reader.specs.Draft.{placed}
 use Rattle.ir_reader.specs.Reading.{Steps, OverlongFault}
 
 -- no instruction stands before a phi
-abbrev pub IsStepless : Place → Type 0
+abbrev pub IsStepless : LineContext → Type 0
 IsStepless (place.BlockHead f h) = h.block.steps ≡ []
 IsStepless (place.Phis f b) = b.steps ≡ []
 IsStepless _ = Unit {0}

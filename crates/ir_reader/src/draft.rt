@@ -22,7 +22,7 @@ use syntax::{Block, Function, Inequality, Module};
 
 /// What the next line stands in. A function and a block that are not at their end are no part of the module yet.
 #[derive(Drop)]
-pub enum Place {
+pub enum LineContext {
     /// Not in a function.
     Outside,
     /// Behind a `define` and its annotations.
@@ -40,15 +40,15 @@ pub enum Place {
 #[derive(Drop)]
 pub struct Draft {
     pub whole: Module,
-    pub place: Place,
+    pub place: LineContext,
 }
 
 /// Behind a label.
-fn new_place(alloc: Global, function: Function, line: u32, label: Name) -> Place
+fn new_place(alloc: Global, function: Function, line: u32, label: Name) -> LineContext
     ensures { result ≡ new_place function line label }
 {
     let block = new_block(alloc, line, label);
-    Place::BlockHead(
+    LineContext::BlockHead(
         function,
         BlockHead {
             block,
@@ -68,7 +68,7 @@ fn put_outside(
     match item {
         Item::Global(global) if whole.functions.is_empty() => Ok(Some(Draft {
             whole: with_global(whole, global)?,
-            place: Place::Outside,
+            place: LineContext::Outside,
         })),
         Item::Define {
             name,
@@ -78,7 +78,7 @@ fn put_outside(
             let function = new_function(alloc, line, name, result_type, parameters);
             Ok(Some(Draft {
                 whole,
-                place: Place::FunctionHead(FunctionHead {
+                place: LineContext::FunctionHead(FunctionHead {
                     function,
                     has_measure: false,
                     has_budget: false,
@@ -103,7 +103,7 @@ fn annotate_function(
     match annotated_function(head, annotation) {
         Ok(Some(head)) => Ok(Some(Draft {
             whole,
-            place: Place::FunctionHead(head),
+            place: LineContext::FunctionHead(head),
         })),
         Ok(None) => {
             drop(whole);
@@ -151,7 +151,7 @@ fn annotate_block(
     match annotated_block(head, annotation) {
         Ok(Some(head)) => Ok(Some(Draft {
             whole,
-            place: Place::BlockHead(function, head),
+            place: LineContext::BlockHead(function, head),
         })),
         Ok(None) => {
             drop((whole, function));
@@ -177,7 +177,7 @@ fn with_shows(
     match shows.push(inequality) {
         Ok(()) => Ok(Some(Draft {
             whole,
-            place: Place::Body(function, block, shows),
+            place: LineContext::Body(function, block, shows),
         })),
         Err(refused) => {
             drop((whole, function, block, shows));
@@ -246,7 +246,7 @@ fn put_in_ended(
         Item::Close => match with_block(function, block) {
             Ok(function) => Ok(Some(Draft {
                 whole: with_function(whole, function)?,
-                place: Place::Outside,
+                place: LineContext::Outside,
             })),
             Err(OutOfMemory) => {
                 drop(whole);
@@ -301,7 +301,7 @@ fn put_in_body(
         Item::Instruction(instruction) => match with_step(block, line, shows, instruction) {
             Ok(block) => Ok(Some(Draft {
                 whole,
-                place: Place::Body(function, block, Seq::new(alloc)),
+                place: LineContext::Body(function, block, Seq::new(alloc)),
             })),
             Err(OutOfMemory) => {
                 drop((whole, function));
@@ -310,7 +310,7 @@ fn put_in_body(
         },
         Item::Terminator(terminator) => Ok(Some(Draft {
             whole,
-            place: Place::Ended(function, with_ending(block, line, shows, terminator)),
+            place: LineContext::Ended(function, with_ending(block, line, shows, terminator)),
         })),
         item => put_behind(alloc, whole, function, block, shows, line, item),
     }
@@ -330,7 +330,7 @@ fn put_in_phis(
         Item::Phi(phi) => match with_phi(block, phi) {
             Ok(block) => Ok(Some(Draft {
                 whole,
-                place: Place::Phis(function, block),
+                place: LineContext::Phis(function, block),
             })),
             Err(OutOfMemory) => {
                 drop((whole, function));
@@ -366,18 +366,18 @@ impl Draft {
     {
         let Draft { whole, place } = self;
         match place {
-            Place::Outside => put_outside(alloc, whole, line, item),
-            Place::FunctionHead(head) => put_in_function_head(alloc, whole, head, line, item),
-            Place::BlockHead(function, head) => {
+            LineContext::Outside => put_outside(alloc, whole, line, item),
+            LineContext::FunctionHead(head) => put_in_function_head(alloc, whole, head, line, item),
+            LineContext::BlockHead(function, head) => {
                 put_in_block_head(alloc, whole, function, head, line, item)
             }
-            Place::Phis(function, block) => {
+            LineContext::Phis(function, block) => {
                 put_in_phis(alloc, whole, function, block, line, item)
             }
-            Place::Body(function, block, shows) => {
+            LineContext::Body(function, block, shows) => {
                 put_in_body(alloc, whole, function, block, shows, line, item)
             }
-            Place::Ended(function, block) => {
+            LineContext::Ended(function, block) => {
                 put_in_ended(alloc, whole, function, block, line, item)
             }
         }

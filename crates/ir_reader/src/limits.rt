@@ -6,7 +6,7 @@ ghost use Rattle.ir_reader.specs.Defined.{defined_register, option_list};
 ghost use Rattle.ir_reader.specs.Limits.{instruction_cells, are_function_notes_within, are_block_notes_within, is_function_head_within};
 ghost use Rattle.ir_reader.specs.Limits.{is_block_head_within, is_place_within};
 
-use crate::draft::{Draft, Place};
+use crate::draft::{Draft, LineContext};
 use crate::scope::defined_register;
 use ir_item::Item;
 use syntax::{Block, BlockNotes, Function, FunctionNotes, Instruction, Module};
@@ -160,14 +160,14 @@ fn is_block_head_within(function: &Function, block: &Block) -> bool
     function.blocks.len() < MAX_BLOCKS && are_block_notes_within(&block.notes)
 }
 
-fn is_place_within(whole: &Module, place: &Place) -> bool
+fn is_place_within(whole: &Module, place: &LineContext) -> bool
     ensures { result ≡ is_place_within whole.now place.now }
 {
     match place {
-        Place::FunctionHead(head) => is_function_head_within(whole, &head.function),
-        Place::BlockHead(function, head) => is_block_head_within(function, &head.block),
-        Place::Body(_, _, shows) => shows.len() <= MAX_LINES,
-        Place::Outside | Place::Phis(_, _) | Place::Ended(_, _) => true,
+        LineContext::FunctionHead(head) => is_function_head_within(whole, &head.function),
+        LineContext::BlockHead(function, head) => is_block_head_within(function, &head.block),
+        LineContext::Body(_, _, shows) => shows.len() <= MAX_LINES,
+        LineContext::Outside | LineContext::Phis(_, _) | LineContext::Ended(_, _) => true,
     }
 }
 

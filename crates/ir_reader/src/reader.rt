@@ -11,7 +11,7 @@ ghost use Rattle.ir_reader.specs.Tracking.{IsTracked, OrMemory, judged_reader, j
 ghost use Rattle.ir_reader.specs.Tracking.{FaultEnded, or_too_late};
 ghost use Rattle.ir_reader.specs.Reading.{start, with_item, Steps, ended, Answers, IsFaultOfText};
 
-use crate::draft::{Draft, Place};
+use crate::draft::{Draft, LineContext};
 use crate::limits::{Counts, MAX_BYTES, is_within_limits};
 use crate::lines::{content, cut_line};
 use crate::scope::Scope;
@@ -114,7 +114,7 @@ impl Reader {
                     globals: Seq::new(alloc),
                     functions: Seq::new(alloc),
                 },
-                place: Place::Outside,
+                place: LineContext::Outside,
             },
             counts: Counts::new(),
             scope,
@@ -213,7 +213,7 @@ impl Reader {
         drop(scope);
         let Draft { whole, place } = draft;
         match place {
-            Place::Outside => Ok(whole),
+            LineContext::Outside => Ok(whole),
             other => {
                 drop(other);
                 drop(whole);

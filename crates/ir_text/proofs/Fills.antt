@@ -24,7 +24,7 @@ use Rattle.syntax.specs.declared.module.Function.{Function}
 use Rattle.syntax.specs.declared.module.Module.{Module}
 use Rattle.ir_reader.specs.declared.annotating.BlockHead.{BlockHead}
 use Rattle.ir_reader.specs.declared.draft.Draft.{Draft}
-use Rattle.ir_reader.specs.declared.draft.Place.TheVariants as place
+use Rattle.ir_reader.specs.declared.draft.LineContext.TheVariants as place
 use Rattle.ir_reader.specs.Opening.{no_function_notes, new_function, no_block_notes, new_block, with_function, with_block}
 use Rattle.ir_reader.specs.Annotating.{with_zone_of}
 use Rattle.ir_reader.specs.Draft.{drafted, new_place, placed}

@@ -21,8 +21,8 @@ use Rattle.syntax.specs.declared.module.Block.{Block}
 use Rattle.syntax.specs.declared.module.Function.{Function}
 use Rattle.syntax.specs.declared.module.Module.{Module}
 use Rattle.ir_reader.specs.declared.draft.Draft.{Draft}
-use Rattle.ir_reader.specs.declared.draft.Place.{Place}
-use Rattle.ir_reader.specs.declared.draft.Place.TheVariants as place
+use Rattle.ir_reader.specs.declared.draft.LineContext.{LineContext}
+use Rattle.ir_reader.specs.declared.draft.LineContext.TheVariants as place
 use Rattle.ir_reader.specs.Draft.{drafted}
 use Rattle.ir_reader.specs.Names.{is_repeated}
 use Rattle.ir_reader.specs.Defined.{reserved_outside, reserved_inside, module_names}
@@ -164,7 +164,7 @@ module_good m is =
 
 -- ---- printed and read again
 
-outside_only : (p : Place) → unlined_place p ≡ place.Outside → p ≡ place.Outside
+outside_only : (p : LineContext) → unlined_place p ≡ place.Outside → p ≡ place.Outside
 outside_only place.Outside h = refl
 outside_only (place.FunctionHead f) h = absurd cc
 outside_only (place.BlockHead f b) h = absurd cc
@@ -185,7 +185,7 @@ round_trip m is short =
     let lines : lines_of text ≡ map printed_line items = printed_lines items kept in
     let read : Reads start 1 1048576 (lines_of text) (Ok e) = subst (λ (ls : List (List ℕ)). Reads start 1 1048576 ls (Ok e)) (sym lines) again.1.1 in
     let outside : e.place ≡ place.Outside = outside_only e.place (ap (λ (d : Draft). d.place) again.1.0) in
-    let over : ended e.whole e.place (length (lines_of text)) ≡ Ok e.whole = ap (λ (p : Place). ended e.whole p (length (lines_of text))) outside in (
+    let over : ended e.whole e.place (length (lines_of text)) ≡ Ok e.whole = ap (λ (p : LineContext). ended e.whole p (length (lines_of text))) outside in (
       e.whole,
       (
         Read e (Ok e.whole) read over,

@@ -27,8 +27,8 @@ use Rattle.syntax.specs.declared.module.Module.{Module}
 use Rattle.ir_reader.specs.declared.annotating.FunctionHead.{FunctionHead}
 use Rattle.ir_reader.specs.declared.annotating.BlockHead.{BlockHead}
 use Rattle.ir_reader.specs.declared.draft.Draft.{Draft}
-use Rattle.ir_reader.specs.declared.draft.Place.{Place}
-use Rattle.ir_reader.specs.declared.draft.Place.TheVariants as place
+use Rattle.ir_reader.specs.declared.draft.LineContext.{LineContext}
+use Rattle.ir_reader.specs.declared.draft.LineContext.TheVariants as place
 use Rattle.ir_reader.specs.declared.limits.Counts.{Counts}
 use Rattle.ir_reader.specs.Opening.{with_global, with_function, with_block, with_phi, with_step}
 use Rattle.ir_reader.specs.Annotating.{with_function_notes, with_block_notes, with_zone_of, annotated_function}
@@ -46,7 +46,7 @@ unlined_function_head h = record h { function = unlined_function h.function }
 abbrev pub unlined_block_head : BlockHead → BlockHead
 unlined_block_head h = record h { block = unlined_block h.block }
 
-abbrev pub unlined_place : Place → Place
+abbrev pub unlined_place : LineContext → LineContext
 unlined_place place.Outside = place.Outside
 unlined_place (place.FunctionHead h) = place.FunctionHead (unlined_function_head h)
 unlined_place (place.BlockHead f h) = place.BlockHead (unlined_function f) (unlined_block_head h)
@@ -209,7 +209,7 @@ outside_unlined m at (item.Global g) =
     (same_test m.functions unlined_function) (ap (λ (n : Module). some_draft (drafted n place.Outside)) (with_global-unlined m g))
 outside_unlined m at _ = refl
 
-in_place : (m : Module) (p : Place) (at : ℕ) (i : Item) → option_map unlined_draft (placed_in m p at i) ≡ placed_in (unlined m) (unlined_place p) 0 (item_on 0 i)
+in_place : (m : Module) (p : LineContext) (at : ℕ) (i : Item) → option_map unlined_draft (placed_in m p at i) ≡ placed_in (unlined m) (unlined_place p) 0 (item_on 0 i)
 in_place m place.Outside at i = outside_unlined m at i
 in_place m (place.FunctionHead h) at i = function_head_unlined m h at i
 in_place m (place.BlockHead f h) at i = block_head_unlined m f h at i
@@ -266,7 +266,7 @@ function_cells-unlined f = sum_same block_cells unlined_block (λ b. sum_same st
 pub global_cells-unlined : (m : Module) → global_cells (unlined m) ≡ global_cells m
 global_cells-unlined m = sum_same (λ (g : Global). g.cells) unlined_global (λ g. refl) m.globals
 
-open_unlined : (p : Place) → open_function (unlined_place p) ≡ option_map unlined_function (open_function p)
+open_unlined : (p : LineContext) → open_function (unlined_place p) ≡ option_map unlined_function (open_function p)
 open_unlined place.Outside = refl
 open_unlined (place.FunctionHead h) = refl
 open_unlined (place.BlockHead f h) = ap (λ (g : Function). let o : Option Function = Some g in o) (sym (with_block-unlined f h.block))
@@ -307,7 +307,7 @@ counts-unlined d =
     same_counts (global_cells (unlined d.whole)) (global_cells d.whole) (registers_in (open_function (unlined_place d.place))) (registers_in o) (cells_in (open_function (unlined_place d.place))) (cells_in o) (global_cells-unlined d.whole)
     (ap registers_in (open_unlined d.place) ∙ registers_in-unlined o) (ap cells_in (open_unlined d.place) ∙ cells_in-unlined o)
 
-place_within-unlined : (m : Module) (p : Place) → is_place_within (unlined m) (unlined_place p) ≡ is_place_within m p
+place_within-unlined : (m : Module) (p : LineContext) → is_place_within (unlined m) (unlined_place p) ≡ is_place_within m p
 place_within-unlined m place.Outside = refl
 place_within-unlined m (place.FunctionHead h) = simp length-map
 place_within-unlined m (place.BlockHead f h) = simp length-map

@@ -20,7 +20,7 @@ use Rattle.syntax.specs.declared.module.Block.{Block as BlockText}
 use Rattle.syntax.specs.declared.module.Function.{Function as FunctionText}
 use Rattle.syntax.specs.declared.module.Module.{Module}
 use Rattle.syntax.specs.declared.module.ResultType.{ResultType}
-use Rattle.types_names.specs.declared.form.Place.TheVariants.{Body}
+use Rattle.types_names.specs.declared.form.AnnotationPlace.TheVariants.{Body}
 use Rattle.types_names.specs.Address.{Items}
 use Rattle.types_names.specs.Fault.{all_of, and_then, both_of, made_of, unless_of}
 use Rattle.types_names.specs.Form.{inequalities_of}

@@ -30,8 +30,8 @@ use Rattle.types_names.specs.declared.address.WholeObject.{WholeObject}
 use Rattle.types.specs.declared.call.ResolvedCall.{ResolvedCall}
 use Rattle.refusal.specs.declared.refused.Refused.{Refused as TypeFault}
 use Rattle.refusal.specs.declared.refused.Refused.TheVariants.{Fault}
-use Rattle.types_names.specs.declared.form.Place.{Place}
-use Rattle.types_names.specs.declared.form.Place.TheVariants as place
+use Rattle.types_names.specs.declared.form.AnnotationPlace.{AnnotationPlace}
+use Rattle.types_names.specs.declared.form.AnnotationPlace.TheVariants as place
 use Rattle.types.specs.declared.instruction.Spot.{Spot}
 use Rattle.types_names.specs.declared.item.Item.{Item}
 use Rattle.types_names.specs.declared.item.Item.TheVariants as item
@@ -171,7 +171,7 @@ module _ (items : Items) (globals : ℕ) (n : ℕ) (IsParameter : List ℕ → T
             let entry = entries_found _ items name (item.Global id cells) bounded is in
             subst P (same_ok (object.Global id) found k) (entry.2 id.0 cells refl, λ m. contains_pushed m.globals id.0)
 
-    noted_adds : (where_it_stands : Place) (line : ℕ) (at : AddressText) (found : ObjectName) → noted_object items scope where_it_stands line at ≡ Ok found → Adds (λ m. with_address items m at) found
+    noted_adds : (where_it_stands : AnnotationPlace) (line : ℕ) (at : AddressText) (found : ObjectName) → noted_object items scope where_it_stands line at ≡ Ok found → Adds (λ m. with_address items m at) found
     noted_adds place.Head line (address_text.Global name) found e = noted_global_adds line name found e
     noted_adds (place.Guarantee outcome) line (address_text.Global name) found e = noted_global_adds line name found e
     noted_adds place.Body line (address_text.Global name) found e = noted_global_adds line name found e
@@ -181,7 +181,7 @@ module _ (items : Items) (globals : ℕ) (n : ℕ) (IsParameter : List ℕ → T
     noted_adds place.Body line (address_text.Register name) found e = own_adds (λ m. m) found (noted_register_own line name found e)
     noted_adds (place.Start block) line (address_text.Register name) found e = own_adds (λ m. m) found (noted_before_own block line name found e)
 
-    pub zone_adds : (stands : Place) (written : ZoneText) (zone : Zone) → zone_of items scope stands written ≡ Ok zone → Adds (λ m. with_address items m written.object) zone.object
+    pub zone_adds : (stands : AnnotationPlace) (written : ZoneText) (zone : Zone) → zone_of items scope stands written ≡ Ok zone → Adds (λ m. with_address items m written.object) zone.object
     zone_adds stands written zone e =
         let made = made_ok _ _ zone e in
         let parts = both_ok _ _ made.0 made.1 in

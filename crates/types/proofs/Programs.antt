@@ -31,7 +31,7 @@ use Rattle.types.specs.declared.block.Body.{Body}
 use Rattle.types.specs.declared.block.Head.{Head}
 use Rattle.types.specs.declared.function.Head.{Head as FunctionHead}
 use Rattle.refusal.specs.declared.refused.Refused.{Refused as TypeFault}
-use Rattle.types_names.specs.declared.form.Place.TheVariants as place
+use Rattle.types_names.specs.declared.form.AnnotationPlace.TheVariants as place
 use Rattle.types_names.specs.declared.item.Item.{Item}
 use Rattle.types_names.specs.declared.item.Item.TheVariants as item
 use Rattle.types_names.specs.declared.mention.Mentions.{Mentions}

@@ -11,7 +11,7 @@ use Rattle.syntax.specs.declared.module.Function.{Function as FunctionText}
 use Rattle.syntax.specs.declared.module.ResultType.{ResultType}
 use Rattle.syntax.specs.declared.module.ResultType.TheVariants.{Number, Void}
 use Rattle.refusal.specs.declared.refused.Refused.{Refused as TypeFault}
-use Rattle.types_names.specs.declared.form.Place.TheVariants as place
+use Rattle.types_names.specs.declared.form.AnnotationPlace.TheVariants as place
 use Rattle.types.specs.declared.function.Head.{Head}
 use Rattle.types_names.specs.declared.layout.Layout.{Layout}
 use Rattle.types_names.specs.Address.{Items}

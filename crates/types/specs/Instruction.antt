@@ -25,7 +25,7 @@ use Rattle.syntax.specs.declared.operator.Width.TheVariants.{Bits64}
 use Rattle.refusal.specs.declared.refused.Refused.{Refused as TypeFault}
 use Rattle.refusal.specs.declared.refused.Refused.TheVariants.{Fault}
 use Rattle.program.specs.Widths.{source_width}
-use Rattle.types_names.specs.declared.form.Place.TheVariants.{Body}
+use Rattle.types_names.specs.declared.form.AnnotationPlace.TheVariants.{Body}
 use Rattle.types.specs.declared.instruction.Spot.{Spot}
 use Rattle.types_names.specs.declared.scope.Holding.{Holding}
 use Rattle.types_names.specs.declared.scope.Holding.TheVariants as holding

@@ -12,7 +12,7 @@ use program::{Block, Ending, Inequality, Left, Pending, Phi, Step, Zone};
 use std::alloc::Global;
 use syntax::ResultType;
 use types_names::{
-    Place, Scope, TypeFault, both, joined, resolve_all_pending, resolve_first_zones,
+    AnnotationPlace, Scope, TypeFault, both, joined, resolve_all_pending, resolve_first_zones,
     resolve_inequalities, resolve_left,
 };
 
@@ -42,12 +42,12 @@ fn resolve_head(
 ) -> Result<Head, TypeFault>
     ensures { Gives result (spec.head_of world.now.items.now scope.now block notes.now) }
 {
-    let place = Place::Start(block);
+    let place = AnnotationPlace::Start(block);
     let keeps = resolve_inequalities(alloc, scope, place, notes.keeps.as_slice());
     let pending = resolve_all_pending(alloc, world.items, scope, block, notes.pending.as_slice());
     let left = resolve_left(alloc, scope, block, &notes.left);
     let foot = notes.foot.as_slice();
-    let foot = resolve_first_zones(alloc, world.items, scope, Place::Body, foot);
+    let foot = resolve_first_zones(alloc, world.items, scope, AnnotationPlace::Body, foot);
     let ((keeps, pending), (left, foot)) = both(both(keeps, pending), both(left, foot))?;
     Ok(Head {
         keeps,

@@ -13,8 +13,8 @@ use std::alloc::{AllocError, Global};
 use std::hash::RandomState;
 use syntax::{FunctionNotes, ResultType};
 use types_names::{
-    Layout, Place, Scope, TypeFault, both, joined, resolve_first_zones, resolve_inequalities,
-    resolve_measure, resolve_zones,
+    AnnotationPlace, Layout, Scope, TypeFault, both, joined, resolve_first_zones,
+    resolve_inequalities, resolve_measure, resolve_zones,
 };
 
 /// The annotations at a function's head but its budget.
@@ -46,7 +46,7 @@ fn resolve_head_zones(
     ensures { Gives result (spec.head_zones_of world.now.items.now scope.now notes.now) }
 {
     let items = world.items;
-    let place = Place::Head;
+    let place = AnnotationPlace::Head;
     let reads = resolve_first_zones(alloc, items, scope, place, notes.reads.as_slice());
     let writes = resolve_zones(alloc, items, scope, place, reads, notes.writes.as_slice());
     resolve_zones(alloc, items, scope, place, writes, notes.adds.as_slice())
@@ -62,9 +62,12 @@ fn resolve_head(
     ensures { Gives result (spec.head_of world.now.items.now layout.now result_type notes.now) }
 {
     let scope = &layout.scope;
-    let guarantee = Place::Guarantee(result_register(result_type, layout.registers.len()));
+    let guarantee = AnnotationPlace::Guarantee(result_register(
+        result_type,
+        layout.registers.len(),
+    ));
     let requirements = notes.requirements.as_slice();
-    let requirements = resolve_inequalities(alloc, scope, Place::Head, requirements);
+    let requirements = resolve_inequalities(alloc, scope, AnnotationPlace::Head, requirements);
     let guarantees = resolve_inequalities(alloc, scope, guarantee, notes.guarantees.as_slice());
     let zones = resolve_head_zones(alloc, world, scope, notes);
     let measure = resolve_measure(alloc, scope, &notes.measure);

@@ -13,7 +13,7 @@ use program::{
 };
 use std::alloc::Global;
 use types_names::{
-    Holding, Place, Scope, TypeFault, both, joined, pointer_misuse, resolve_address,
+    AnnotationPlace, Holding, Scope, TypeFault, both, joined, pointer_misuse, resolve_address,
     resolve_inequalities, resolve_label, resolve_object, resolve_operand, resolve_register,
     type_mismatch, unless,
 };
@@ -420,7 +420,7 @@ fn resolve_step(
         block,
         line,
     };
-    let shows = resolve_inequalities(alloc, scope, Place::Body, step.shows.as_slice());
+    let shows = resolve_inequalities(alloc, scope, AnnotationPlace::Body, step.shows.as_slice());
     let instruction = resolve_instruction(alloc, world, scope, spot, &step.instruction);
     let (shows, instruction) = both(shows, instruction)?;
     Ok(Step {

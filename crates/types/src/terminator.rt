@@ -9,8 +9,8 @@ use program::{Case, Ending, Terminator, Width};
 use std::alloc::Global;
 use syntax::ResultType;
 use types_names::{
-    Place, Scope, TypeFault, both, fits_width, joined, resolve_condition, resolve_inequalities,
-    resolve_label, resolve_operand, resolve_region, type_mismatch, unless,
+    AnnotationPlace, Scope, TypeFault, both, fits_width, joined, resolve_condition,
+    resolve_inequalities, resolve_label, resolve_operand, resolve_region, type_mismatch, unless,
 };
 
 fn resolve_branch(
@@ -213,7 +213,7 @@ fn resolve_known_ending(
     ensures { Gives result (spec.known_ending_of scope.now result_type ending.now) }
 {
     let line = ending.line;
-    let shows = resolve_inequalities(alloc, scope, Place::Body, ending.shows.as_slice());
+    let shows = resolve_inequalities(alloc, scope, AnnotationPlace::Body, ending.shows.as_slice());
     let terminator = resolve_terminator(alloc, scope, line, result_type, &ending.terminator);
     let (shows, terminator) = both(shows, terminator)?;
     Ok(Ending {

@@ -17,8 +17,8 @@ use Rattle.syntax.specs.declared.annotation.Term.{Term as TermText}
 use Rattle.syntax.specs.declared.operator.Width.TheVariants.{Bits64}
 use Rattle.refusal.specs.declared.refused.Refused.{Refused as TypeFault}
 use Rattle.refusal.specs.declared.refused.Refused.TheVariants.{Fault}
-use Rattle.types_names.specs.declared.form.Place.{Place}
-use Rattle.types_names.specs.declared.form.Place.TheVariants as place
+use Rattle.types_names.specs.declared.form.AnnotationPlace.{AnnotationPlace}
+use Rattle.types_names.specs.declared.form.AnnotationPlace.TheVariants as place
 use Rattle.types_names.specs.declared.scope.Named.{Named}
 use Rattle.types_names.specs.declared.scope.Named.TheVariants as named
 use Rattle.types_names.specs.declared.scope.Register.{Register}
@@ -59,7 +59,7 @@ abbrev pub made_before : ℕ → ℕ → Register → Result (Unit {0}) TypeFaul
 made_before line block register = unless_of (not (is_step_of block register.origin)) (Fault 206 line)
 
 -- the register of a form's term
-abbrev pub term_register_of : Scope → Place → ℕ → List ℕ → Result RegisterId TypeFault
+abbrev pub term_register_of : Scope → AnnotationPlace → ℕ → List ℕ → Result RegisterId TypeFault
 term_register_of scope place.Head line name = parameter_term_of scope line name
 term_register_of scope (place.Guarantee outcome) line name = guarantee_term_of scope line outcome name
 term_register_of scope place.Body line name = made_of (λ register. register.id) (number_of scope line name)
@@ -70,7 +70,7 @@ abbrev pub is_small_coefficient : ℤ → Bool
 is_small_coefficient coefficient = int_le (negsuc 999999) coefficient && int_le coefficient (pos 1000000)
 
 -- a term: 206 beside the faults of its register
-abbrev pub term_of : Scope → Place → ℕ → TermText → Result Term TypeFault
+abbrev pub term_of : Scope → AnnotationPlace → ℕ → TermText → Result Term TypeFault
 term_of scope place line term =
     made_of (λ p. record { register = p.0; coefficient = term.coefficient })
     (both_of (term_register_of scope place line term.register) (unless_of (is_small_coefficient term.coefficient) (Fault 206 line)))
@@ -98,7 +98,7 @@ abbrev pub ordered_form : ℕ → List Term → ℤ → Result Form TypeFault
 ordered_form line terms constant = with_all line (constant_form constant) terms
 
 -- `F`
-abbrev pub form_in_scope : Scope → Place → ℕ → FormText → Result Form TypeFault
+abbrev pub form_in_scope : Scope → AnnotationPlace → ℕ → FormText → Result Form TypeFault
 form_in_scope scope place line form =
     and_then (both_of (all_of (λ _. term_of scope place line) form.terms) (unless_of (keeps_limits form) (Fault 206 line)))
     (λ p. ordered_form line p.0 form.constant)
@@ -146,9 +146,9 @@ limited_inequality text left right =
     (unless_of (is_difference_within left.terms text.left.constant right.terms text.right.constant) (Fault 206 text.line))
 
 -- `F R F`
-abbrev pub inequality_of : Scope → Place → InequalityText → Result Inequality TypeFault
+abbrev pub inequality_of : Scope → AnnotationPlace → InequalityText → Result Inequality TypeFault
 inequality_of scope place text =
     and_then (both_of (form_in_scope scope place text.line text.left) (form_in_scope scope place text.line text.right)) (λ p. limited_inequality text p.0 p.1)
 
-abbrev pub inequalities_of : Scope → Place → List InequalityText → Result (List Inequality) TypeFault
+abbrev pub inequalities_of : Scope → AnnotationPlace → List InequalityText → Result (List Inequality) TypeFault
 inequalities_of scope place texts = all_of (λ _. inequality_of scope place) texts

@@ -15,8 +15,8 @@ use Rattle.syntax.specs.declared.instruction.Address.{Address as AddressText}
 use Rattle.syntax.specs.declared.instruction.Address.TheVariants as text
 use Rattle.refusal.specs.declared.refused.Refused.{Refused as TypeFault}
 use Rattle.refusal.specs.declared.refused.Refused.TheVariants.{Fault}
-use Rattle.types_names.specs.declared.form.Place.{Place}
-use Rattle.types_names.specs.declared.form.Place.TheVariants as place
+use Rattle.types_names.specs.declared.form.AnnotationPlace.{AnnotationPlace}
+use Rattle.types_names.specs.declared.form.AnnotationPlace.TheVariants as place
 use Rattle.types_names.specs.declared.item.Item.{Item}
 use Rattle.types_names.specs.declared.item.Item.TheVariants as item
 use Rattle.types_names.specs.declared.scope.Register.{Register}
@@ -50,7 +50,7 @@ noted_before scope block line name =
     and_then (noted_holding line register) (λ found. made_of (λ _. found) (made_before line block register)))
 
 -- `O` of an annotation
-abbrev pub noted_object : Items → Scope → Place → ℕ → AddressText → Result ObjectName TypeFault
+abbrev pub noted_object : Items → Scope → AnnotationPlace → ℕ → AddressText → Result ObjectName TypeFault
 noted_object items scope place line (text.Global name) = noted_global line (look_up items name)
 noted_object items scope place.Head line (text.Register name) = noted_parameter scope line name
 noted_object items scope (place.Guarantee outcome) line (text.Register name) = noted_parameter scope line name
@@ -58,17 +58,17 @@ noted_object items scope place.Body line (text.Register name) = noted_register s
 noted_object items scope (place.Start block) line (text.Register name) = noted_before scope block line name
 
 -- `O F F`
-abbrev pub zone_of : Items → Scope → Place → ZoneText → Result Zone TypeFault
+abbrev pub zone_of : Items → Scope → AnnotationPlace → ZoneText → Result Zone TypeFault
 zone_of items scope place zone =
     made_of (λ p. record { line = zone.line; mode = zone.mode; object = p.0; low = p.1.0; high = p.1.1 })
     (both_of (noted_object items scope place zone.line zone.object)
     (both_of (form_in_scope scope place zone.line zone.low) (form_in_scope scope place zone.line zone.high)))
 
 -- the zones of one kind behind those before
-abbrev pub more_zones : Items → Scope → Place → Result (List Zone) TypeFault → List ZoneText → Result (List Zone) TypeFault
+abbrev pub more_zones : Items → Scope → AnnotationPlace → Result (List Zone) TypeFault → List ZoneText → Result (List Zone) TypeFault
 more_zones items scope place before zones = all_from (λ _. zone_of items scope place) 0 before zones
 
-abbrev pub zones_of : Items → Scope → Place → List ZoneText → Result (List Zone) TypeFault
+abbrev pub zones_of : Items → Scope → AnnotationPlace → List ZoneText → Result (List Zone) TypeFault
 zones_of items scope place zones = more_zones items scope place (Ok []) zones
 
 -- the region of a `pending` line: 206 where an instruction of the block itself starts it

@@ -17,7 +17,7 @@ use syntax::Relation;
 
 /// Where an annotation stands, which says what it may name.
 #[derive(Clone, Copy)]
-pub enum Place {
+pub enum AnnotationPlace {
     /// At a function's head: parameters.
     Head,
     /// In `ensures`: parameters and the result, which is this register; a function that returns nothing has none.
@@ -87,20 +87,20 @@ pub fn made_before(line: u32, block: usize, register: Register) -> Result<(), Ty
 /// The register of a form's term.
 fn resolve_term(
     scope: &Scope,
-    place: Place,
+    place: AnnotationPlace,
     line: u32,
     name: &Name,
 ) -> Result<RegisterId, TypeFault>
     ensures { result ≡ spec.term_register_of scope.now place line name.now }
 {
     match place {
-        Place::Head => parameter_term(scope, line, name),
-        Place::Guarantee(outcome) => guarantee_term(scope, line, outcome, name),
-        Place::Body => {
+        AnnotationPlace::Head => parameter_term(scope, line, name),
+        AnnotationPlace::Guarantee(outcome) => guarantee_term(scope, line, outcome, name),
+        AnnotationPlace::Body => {
             let register = number_register(scope, line, name)?;
             Ok(register.id)
         }
-        Place::Start(block) => {
+        AnnotationPlace::Start(block) => {
             let register = number_register(scope, line, name)?;
             made_before(line, block, register)?;
             Ok(register.id)
@@ -120,7 +120,12 @@ fn is_small_coefficient(coefficient: i64) -> bool
     -GREATEST_COEFFICIENT <= coefficient && coefficient <= GREATEST_COEFFICIENT
 }
 
-fn term(scope: &Scope, place: Place, line: u32, term: &syntax::Term) -> Result<Term, TypeFault>
+fn term(
+    scope: &Scope,
+    place: AnnotationPlace,
+    line: u32,
+    term: &syntax::Term,
+) -> Result<Term, TypeFault>
     ensures { result ≡ spec.term_of scope.now place line term.now }
 {
     let coefficient = term.coefficient;
@@ -135,7 +140,7 @@ fn term(scope: &Scope, place: Place, line: u32, term: &syntax::Term) -> Result<T
 fn terms(
     alloc: Global,
     scope: &Scope,
-    place: Place,
+    place: AnnotationPlace,
     line: u32,
     items: &[syntax::Term],
 ) -> Result<Seq<Term>, TypeFault>
@@ -181,7 +186,7 @@ fn keeps_limits(form: &syntax::Form) -> bool
 pub fn resolve_form(
     alloc: Global,
     scope: &Scope,
-    place: Place,
+    place: AnnotationPlace,
     line: u32,
     form: &syntax::Form,
 ) -> Result<Form, TypeFault>
@@ -314,7 +319,7 @@ fn limited_inequality(
 pub fn resolve_inequality(
     alloc: Global,
     scope: &Scope,
-    place: Place,
+    place: AnnotationPlace,
     item: &syntax::Inequality,
 ) -> Result<Inequality, TypeFault>
     ensures { Gives result (spec.inequality_of scope.now place item.now) }
@@ -329,7 +334,7 @@ pub fn resolve_inequality(
 pub fn resolve_inequalities(
     alloc: Global,
     scope: &Scope,
-    place: Place,
+    place: AnnotationPlace,
     items: &[syntax::Inequality],
 ) -> Result<Seq<Inequality>, TypeFault>
     ensures { Gives result (spec.inequalities_of scope.now place items.now) }

@@ -22,7 +22,7 @@ pub use fault::{
     both, downward_call, form_limit, joined, pointer_misuse, type_mismatch, unknown_name, unless,
     wrong_count,
 };
-pub use form::{Place, resolve_inequalities};
+pub use form::{AnnotationPlace, resolve_inequalities};
 pub use item::{Item, Items, items_of};
 pub use layout::Layout;
 pub use mention::{Mentions, all_mentions};

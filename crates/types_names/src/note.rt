@@ -8,7 +8,7 @@ ghost use Rattle.types_names.specs.Table.{look_up};
 use crate::TypeFault;
 use crate::address::held_object;
 use crate::fault::{both, joined, unknown_name};
-use crate::form::{Place, made_before, resolve_form, resolve_parameter};
+use crate::form::{AnnotationPlace, made_before, resolve_form, resolve_parameter};
 use crate::item::{Item, Items};
 use crate::operand::{resolve_region, resolve_register};
 use crate::scope::{Register, Scope};
@@ -66,7 +66,7 @@ fn noted_before(
 fn noted_object(
     items: &Items,
     scope: &Scope,
-    place: Place,
+    place: AnnotationPlace,
     line: u32,
     object: &syntax::Address,
 ) -> Result<ObjectName, TypeFault>
@@ -75,10 +75,10 @@ fn noted_object(
     match object {
         syntax::Address::Global(name) => noted_global(items, line, name),
         syntax::Address::Register(name) => match place {
-            Place::Head => noted_parameter(scope, line, name),
-            Place::Guarantee(_) => noted_parameter(scope, line, name),
-            Place::Body => noted_register(scope, line, name),
-            Place::Start(block) => noted_before(scope, block, line, name),
+            AnnotationPlace::Head => noted_parameter(scope, line, name),
+            AnnotationPlace::Guarantee(_) => noted_parameter(scope, line, name),
+            AnnotationPlace::Body => noted_register(scope, line, name),
+            AnnotationPlace::Start(block) => noted_before(scope, block, line, name),
         },
     }
 }
@@ -88,7 +88,7 @@ pub fn resolve_zone(
     alloc: Global,
     items: &Items,
     scope: &Scope,
-    place: Place,
+    place: AnnotationPlace,
     zone: &syntax::Zone,
 ) -> Result<Zone, TypeFault>
     ensures { Gives result (spec.zone_of items.now scope.now place zone.now) }
@@ -112,7 +112,7 @@ pub fn resolve_zones(
     alloc: Global,
     items: &Items,
     scope: &Scope,
-    place: Place,
+    place: AnnotationPlace,
     before: Result<Seq<Zone>, TypeFault>,
     zones: &[syntax::Zone],
 ) -> Result<Seq<Zone>, TypeFault>
@@ -130,7 +130,7 @@ pub fn resolve_first_zones(
     alloc: Global,
     items: &Items,
     scope: &Scope,
-    place: Place,
+    place: AnnotationPlace,
     zones: &[syntax::Zone],
 ) -> Result<Seq<Zone>, TypeFault>
     ensures { Gives result (spec.zones_of items.now scope.now place zones.now) }
@@ -165,7 +165,13 @@ fn resolve_pending(
 {
     let line = pending.zone.line;
     let region = pending_region(scope, block, line, &pending.region);
-    let zone = resolve_zone(alloc, items, scope, Place::Start(block), &pending.zone);
+    let zone = resolve_zone(
+        alloc,
+        items,
+        scope,
+        AnnotationPlace::Start(block),
+        &pending.zone,
+    );
     let (region, zone) = both(region, zone)?;
     Ok(Pending { region, zone })
 }
@@ -197,7 +203,7 @@ pub fn resolve_left(
     ensures { Gives result (spec.left_of scope.now block left.now) }
 {
     let line = left.line;
-    let place = Place::Start(block);
+    let place = AnnotationPlace::Start(block);
     let self_calls = resolve_form(alloc, scope, place, line, &left.self_calls);
     let instructions = resolve_form(alloc, scope, place, line, &left.instructions);
     let (self_calls, instructions) = both(self_calls, instructions)?;
@@ -217,7 +223,7 @@ pub fn resolve_measure(
     ensures { Gives result (spec.measure_of scope.now measure.now) }
 {
     let line = measure.line;
-    let form = resolve_form(alloc, scope, Place::Head, line, &measure.form)?;
+    let form = resolve_form(alloc, scope, AnnotationPlace::Head, line, &measure.form)?;
     Ok(Measure {
         line,
         form,

@@ -20,8 +20,8 @@ use Rattle.syntax.specs.declared.annotation.Term.{Term as TermText}
 use Rattle.syntax.specs.declared.module.Function.{Function as FunctionText}
 use Rattle.syntax.specs.declared.operator.Width.TheVariants.{Bits64}
 use Rattle.refusal.specs.declared.refused.Refused.TheVariants.{Fault}
-use Rattle.types_names.specs.declared.form.Place.{Place}
-use Rattle.types_names.specs.declared.form.Place.TheVariants as place
+use Rattle.types_names.specs.declared.form.AnnotationPlace.{AnnotationPlace}
+use Rattle.types_names.specs.declared.form.AnnotationPlace.TheVariants as place
 use Rattle.types_names.specs.declared.scope.Named.{Named}
 use Rattle.types_names.specs.declared.scope.Named.TheVariants as named
 use Rattle.types_names.specs.declared.scope.Register.{Register}
@@ -85,7 +85,7 @@ module _ (P : ℕ → Type 0) where
       let part = then_ok _ _ more e in
       with_all_over line terms part.0 more (with_one_over line form part.0 term over (All-head Q term terms all) part.1) (All-tail Q term terms all) part.2
 
-  module _ (scope : Scope) (stands : Place) (own : (line : ℕ) (name : List ℕ) (id : RegisterId) → term_register_of scope stands line name ≡ Ok id → P id.0) where
+  module _ (scope : Scope) (stands : AnnotationPlace) (own : (line : ℕ) (name : List ℕ) (id : RegisterId) → term_register_of scope stands line name ≡ Ok id → P id.0) where
     term_over : (line : ℕ) (written : TermText) (term : Term) → term_of scope stands line written ≡ Ok term → P term.register.0
     term_over line written term e =
         let made = made_ok _ _ term e in

@@ -17,7 +17,7 @@ use Rattle.syntax.specs.declared.module.Module.{Module}
 use Rattle.syntax.specs.declared.module.ResultType.{ResultType}
 use Rattle.syntax.specs.declared.terminator.Ending.{Ending as EndingText}
 use Rattle.refusal.specs.declared.refused.Refused.{Refused as TypeFault}
-use Rattle.types_names.specs.declared.form.Place.TheVariants as place
+use Rattle.types_names.specs.declared.form.AnnotationPlace.TheVariants as place
 use Rattle.types_names.specs.Address.{Items}
 use Rattle.types_names.specs.Fault.{all_of}
 use Rattle.types_names.specs.Form.{inequalities_of}

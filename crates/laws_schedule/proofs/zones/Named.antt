@@ -19,7 +19,7 @@ use Rattle.program.specs.declared.instruction.Step.{Step}
 use Rattle.syntax.specs.declared.module.Block.{Block as BlockText}
 use Rattle.syntax.specs.declared.module.Function.{Function as FunctionText}
 use Rattle.syntax.specs.declared.module.Module.{Module}
-use Rattle.types_names.specs.declared.form.Place.TheVariants as place
+use Rattle.types_names.specs.declared.form.AnnotationPlace.TheVariants as place
 use Rattle.types_names.specs.Item.{items_of}
 use Rattle.types_names.specs.Layout.{layout_of}
 use Rattle.types_names.specs.Note.{more_zones, zone_of, zones_of, pending_of, all_pending_of}

@@ -13,8 +13,8 @@ use Rattle.syntax.specs.declared.instruction.Address.{Address as AddressText}
 use Rattle.syntax.specs.declared.instruction.Address.TheVariants as text
 use Rattle.syntax.specs.declared.module.Function.{Function as FunctionText}
 use Rattle.refusal.specs.declared.refused.Refused.{Refused as TypeFault}
-use Rattle.types_names.specs.declared.form.Place.{Place}
-use Rattle.types_names.specs.declared.form.Place.TheVariants as place
+use Rattle.types_names.specs.declared.form.AnnotationPlace.{AnnotationPlace}
+use Rattle.types_names.specs.declared.form.AnnotationPlace.TheVariants as place
 use Rattle.types_names.specs.declared.item.Item.{Item}
 use Rattle.types_names.specs.declared.item.Item.TheVariants as item
 use Rattle.types_names.specs.declared.scope.Holding.{Holding}
@@ -91,14 +91,14 @@ module _ (items : Items) (function : FunctionText) where
       let made = made_ok (λ (u : Unit {0}). rest.0) (made_before line block part.0) o rest.2 in
       subst IsOwn made.2 (held_own line name part.0 rest.0 (register_found scope line name part.0 part.1) rest.1)
 
-  object_own : (stands : Place) (line : ℕ) (written : AddressText) (o : ObjectName) → noted_object items scope stands line written ≡ Ok o → IsOwn o
+  object_own : (stands : AnnotationPlace) (line : ℕ) (written : AddressText) (o : ObjectName) → noted_object items scope stands line written ≡ Ok o → IsOwn o
   object_own stands line (text.Global name) o e = global_own line (look_up items name) o e
   object_own place.Head line (text.Register name) o e = parameter_own line name o e
   object_own (place.Guarantee outcome) line (text.Register name) o e = parameter_own line name o e
   object_own place.Body line (text.Register name) o e = register_own line name o e
   object_own (place.Start block) line (text.Register name) o e = before_own block line name o e
 
-  pub zone_own : (stands : Place) (written : ZoneText) (z : Zone) → zone_of items scope stands written ≡ Ok z → IsOwn z.object
+  pub zone_own : (stands : AnnotationPlace) (written : ZoneText) (z : Zone) → zone_of items scope stands written ≡ Ok z → IsOwn z.object
   zone_own stands written z e =
       let made = made_ok _ _ z e in
       let P : Zone → Type 0 = λ x. IsOwn x.object in

@@ -14,7 +14,7 @@ use Rattle.syntax.specs.declared.annotation.Form.{Form as FormText}
 use Rattle.syntax.specs.declared.annotation.Term.{Term as TermText}
 use Rattle.refusal.specs.declared.refused.Refused.TheVariants.{Fault}
 use Rattle.ir_annotation.specs.Canonical.{IsCanonical}
-use Rattle.types_names.specs.declared.form.Place.{Place}
+use Rattle.types_names.specs.declared.form.AnnotationPlace.{AnnotationPlace}
 use Rattle.types_names.specs.Form.{is_small_coefficient, keeps_limits, term_of, within_bounds, with_one, with_all, form_in_scope}
 use Rattle.types_names.specs.Scope.{Scope}
 use Rattle.types_names.proofs.Inversion.{Each, made_ok, then_ok, both_ok, same_ok, unless_ok, err_not_ok}
@@ -124,7 +124,7 @@ pub small : (z : ℤ) → is_small_coefficient z ≡ true → unsigned_abs z ≤
 small (pos n) e = let l = leb-true n 1000000 (and_parts (int_le (negsuc 999999) (pos n)) (int_le (pos n) (pos 1000000)) e).1 in omega (arith, l)
 small (negsuc n) e = let l = leb-true n 999999 (and_parts (int_le (negsuc 999999) (negsuc n)) (int_le (negsuc n) (pos 1000000)) e).0 in omega (arith, l)
 
-module _ (scope : Scope) (stands : Place) (line : ℕ) where
+module _ (scope : Scope) (stands : AnnotationPlace) (line : ℕ) where
   term_small : (text : TermText) (term : Term) → term_of scope stands line text ≡ Ok term → unsigned_abs term.coefficient ≤ 1000000
   term_small text term e =
       let made = made_ok _ _ term e in

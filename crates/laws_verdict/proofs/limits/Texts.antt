@@ -33,8 +33,8 @@ use Rattle.refusal.specs.declared.refused.Refused.{Refused}
 use Rattle.ir_annotation.specs.Annotations.{IsInequality, IsZone, IsPending, IsLeft}
 use Rattle.ir_reader.specs.Kept.{IsZoneOf, AreFunctionNotesWritten, IsPhiWritten, IsStepWritten, IsEndingWritten, IsEndingWrittenIfAny, IsBlockWritten, IsKeptFunction, IsKeptModule}
 use Rattle.ir_reader.proofs.Keeping.{answers_kept}
-use Rattle.types_names.specs.declared.form.Place.{Place}
-use Rattle.types_names.specs.declared.form.Place.TheVariants as place
+use Rattle.types_names.specs.declared.form.AnnotationPlace.{AnnotationPlace}
+use Rattle.types_names.specs.declared.form.AnnotationPlace.TheVariants as place
 use Rattle.types_names.specs.declared.layout.Layout.{Layout}
 use Rattle.types_names.specs.Address.{Items}
 use Rattle.types_names.specs.Form.{inequality_between, inequality_of, inequalities_of}
@@ -57,7 +57,7 @@ use Rattle.laws_verdict.proofs.limits.Words.{meant_from, words_of, phi_words, en
 
 -- ---- annotations
 
-module _ (scope : Scope) (stands : Place) where
+module _ (scope : Scope) (stands : AnnotationPlace) where
   between_limited : (line : ℕ) (relation : Relation) (left right : Form) → IsLimited left → IsLimited right → AreSidesLimited (inequality_between line relation left right)
   between_limited line AtMost left right h k = record { low = h; high = k }
   between_limited line AtLeast left right h k = record { low = k; high = h }
