@@ -1,13 +1,15 @@
 //! A module's text with annotations put in that follow from it, each of them tried.
 //!
 //! [`annotate_lines`] proposes lines. Here each is tried by the functions of the verifier's phases, and taken out again where it is refused. What is accepted
-//! without the lines is accepted with them.
+//! without the lines is accepted with them. [`pruned`] goes the other way: it takes out what an accepted text can do without.
 #![tactic(auto)]
 
-mod annotated;
 mod new_lines;
 mod plain;
+mod pruning;
 mod trial;
+mod trying;
 
-pub use annotated::annotated;
 pub use new_lines::NewLines;
+pub use pruning::pruned;
+pub use trying::annotated;

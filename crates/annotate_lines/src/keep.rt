@@ -16,6 +16,8 @@ pub struct Known<'a> {
     pub alloc: Global,
     pub function: &'a Function,
     pub edges: Vec<Edge<'a>>,
+    /// For each block the numbers of the edges that lead to it.
+    into: Vec<Vec<usize>>,
     pub facts: Facts<'a>,
     /// For each block the numbers of the facts that its head states.
     given: Vec<Vec<usize>>,
@@ -29,16 +31,40 @@ pub struct Known<'a> {
     marks: Vec<Vec<bool>>,
 }
 
-/// Whether a row of numbers has this one; a row that is not there has none.
-fn row_has(rows: &[Vec<usize>], row: usize, number: usize) -> bool {
+/// A row of numbers; one that is not there has none.
+fn row_of(rows: &[Vec<usize>], row: usize) -> &[usize] {
     if row < rows.len() {
-        for other in rows[row].as_slice() {
-            if *other == number {
-                return true;
-            }
+        rows[row].as_slice()
+    } else {
+        &[]
+    }
+}
+
+fn row_has(rows: &[Vec<usize>], row: usize, number: usize) -> bool {
+    for other in row_of(rows, row) {
+        if *other == number {
+            return true;
         }
     }
     false
+}
+
+/// For each block the numbers of the edges that lead to it.
+fn into_blocks(
+    alloc: Global,
+    edges: &[Edge<'_>],
+    count: usize,
+) -> Result<Vec<Vec<usize>>, AllocError> {
+    let mut into = Vec::new(alloc);
+    for _block in 0..count {
+        into.push(Vec::new(alloc))?;
+    }
+    for (number, edge) in edges.iter().enumerate() {
+        if edge.to < into.len() {
+            into[edge.to].push(number)?;
+        }
+    }
+    Ok(into)
 }
 
 impl<'a> Known<'a> {
@@ -104,11 +130,7 @@ impl<'a> Known<'a> {
 
     /// The numbers of the facts that the source of an edge adds on it.
     pub fn facts_on(&self, edge: usize) -> &[usize] {
-        if edge < self.added.len() {
-            self.added[edge].as_slice()
-        } else {
-            &[]
-        }
+        row_of(self.added.as_slice(), edge)
     }
 
     /// The facts that are known at a block.
@@ -226,20 +248,24 @@ impl<'a> Known<'a> {
 
     /// Whether some way leads to the block and each of them brings the fact.
     fn is_brought(&self, block: usize, fact: usize) -> bool {
-        let mut is_reached = false;
-        for number in 0..self.edges.len() {
-            if self.edges[number].to == block {
-                is_reached = true;
-                let from = self.edges[number].from;
-                let is_along = self.is_known(from, fact)
-                    || row_has(self.added.as_slice(), number, fact)
-                    || row_has(self.made.as_slice(), from, fact);
-                if !is_along {
-                    return false;
-                }
+        let into = row_of(self.into.as_slice(), block);
+        for number in into {
+            if !self.is_along(*number, fact) {
+                return false;
             }
         }
-        is_reached
+        !into.is_empty()
+    }
+
+    /// Whether the edge of this number brings the fact.
+    fn is_along(&self, number: usize, fact: usize) -> bool {
+        if number >= self.edges.len() {
+            return false;
+        }
+        let from = self.edges[number].from;
+        self.is_known(from, fact)
+            || row_has(self.added.as_slice(), number, fact)
+            || row_has(self.made.as_slice(), from, fact)
     }
 
     fn unmark(&mut self, block: usize, fact: usize) {
@@ -371,6 +397,7 @@ pub fn known_of<'a>(
     let mut known = Known {
         alloc,
         function,
+        into: into_blocks(alloc, edges.as_slice(), function.blocks.len())?,
         edges,
         facts: Facts::new(alloc, function),
         given: Vec::new(alloc),

@@ -8,6 +8,9 @@ use crate::sum::Sum;
 use std::alloc::{AllocError, Global};
 use syntax::{BinaryOperator, Instruction, Operand, Step};
 
+/// The most registers of a block whose bounds are told.
+const MOST_TOLD: usize = 128;
+
 /// What is known in a block as far as one has come, and the registers whose bounds are told.
 #[derive(Drop)]
 pub struct Walk<'a> {
@@ -36,6 +39,9 @@ impl<'a> Walk<'a> {
 
     /// Whether a sum is a product, or has a register whose bounds are told.
     fn is_asked(&self, instruction: &Instruction, sum: &Sum<'a>) -> bool {
+        if self.told.len() >= MOST_TOLD {
+            return false;
+        }
         for (name, _coefficient) in &sum.terms {
             if self.is_told(name) {
                 return true;

@@ -3,9 +3,8 @@
 use crate::recorded::run_told;
 use crate::speedup::run_speedup;
 use cli_answers::{
-    Beside, Job, Request, Status, Unverified, Verb, answer, effort_of, fail, in_own_lines, is_told,
-    judged_text, prepared, print_run, print_unprepared, print_unreadable, print_unverified,
-    verify_within,
+    Beside, Job, Request, Status, Verb, Verdict, answer, fail, is_told, prepared, print_run,
+    print_unprepared, print_unreadable, print_unverified, verdict_on,
 };
 use deque_pool::OpenGate;
 use std::alloc::Global;
@@ -60,17 +59,17 @@ fn verify_and_run<T: Threads + Wait + Clock + Sync, W: Write>(
     let Some(text) = module else {
         return print_unreadable(alloc, request.file.as_str(), output);
     };
-    let more = match judged_text(alloc, state, request, text, &effort_of(request)) {
-        Ok(more) => more,
-        Err(refused) => return print_unverified(&Unverified::Refused(refused), output, beside),
-    };
-    match verify_within(alloc, state, more.as_slice(), &effort_of(request)) {
+    let Verdict {
+        text: judged,
+        answer,
+    } = verdict_on(alloc, state, request, text, beside)?;
+    match answer {
         Ok(verified) => {
             let job = Job {
                 alloc,
                 state,
                 request,
-                text: more.as_slice(),
+                text: judged.as_slice(),
                 verified: &verified,
                 schedule,
             };
@@ -82,10 +81,7 @@ fn verify_and_run<T: Threads + Wait + Clock + Sync, W: Write>(
                 run_on_workers(rt, &job, output, beside)
             }
         }
-        Err(unverified) => {
-            let unverified = in_own_lines(alloc, text, more.as_slice(), unverified, beside)?;
-            print_unverified(&unverified, output, beside)
-        }
+        Err(unverified) => print_unverified(&unverified, output, beside),
     }
 }
 

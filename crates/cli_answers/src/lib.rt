@@ -12,20 +12,22 @@ mod json;
 mod requests;
 mod runs;
 mod tell;
+mod verdict;
 
 pub use cli_modules::{
-    Beside, Status, fail, in_own_lines, print_unreadable, print_unverified, read_file, read_text, write_file,
+    Beside, Status, fail, print_unreadable, print_unverified, read_file, read_text, write_file,
 };
 pub use cli_tellings::{Crew, Effort};
 pub use cli_words::{
     CellWord, Request, Setting, Telling, Verb, WordsFault, bytes_of, text_of, words,
 };
 pub use debugger::{
-    Debugger, Event, Finished, Machine, Memory, RunFault, Status as Standing, TaskView, Unverified,
-    Verified, read_schedule, replay, verify, verify_within,
+    Debugger, Event, Finished, Machine, Memory, RunFault, Status as Standing, TaskView, Verified,
+    read_schedule, replay, verify, verify_within,
 };
 pub use job::Job;
-pub use requests::{answer, effort_of, judged_text};
+pub use requests::{answer, effort_of};
 pub use runs::{prepared, print_run, print_unprepared};
 pub use tell::{is_told, tell_course};
+pub use verdict::{Verdict, verdict_on};
 pub use view_traces::Course;

@@ -5,12 +5,13 @@ use crate::job::Job;
 use crate::json::answer_json;
 use crate::runs::{debug, run_serial};
 use crate::tell::tell_replay;
+use crate::verdict::{Verdict, verdict_on};
 use cli_modules::{
-    Beside, Status, annotated, answer_text, in_own_lines, note_unverified, print_known, print_rule,
-    print_unreadable, print_unverified, print_verified,
+    Beside, Status, answer_text, note_unverified, print_known, print_rule, print_unreadable,
+    print_unverified, print_verified,
 };
 use cli_words::{Request, Verb, completions, manual};
-use debugger::{Effort, Refused, Unverified, verify_within};
+use debugger::Effort;
 use std::alloc::Global;
 use std::hash::RandomState;
 use std::io;
@@ -67,46 +68,29 @@ pub fn answer<R: Read, W: Write>(
     if let Some(status) = answer_text(alloc, state, request, text, &effort, output, beside)? {
         return Ok(status);
     }
-    let more = match judged_text(alloc, state, request, text, &effort) {
-        Ok(more) => more,
-        Err(refused) => return print_unverified(&Unverified::Refused(refused), output, beside),
-    };
-    match verify_within(alloc, state, more.as_slice(), &effort_of(request)) {
+    let Verdict {
+        text: judged,
+        answer,
+    } = verdict_on(alloc, state, request, text, beside)?;
+    match answer {
         Ok(verified) => {
             let job = Job {
                 alloc,
                 state,
                 request,
-                text: more.as_slice(),
+                text: judged.as_slice(),
                 verified: &verified,
                 schedule,
             };
             answer_verified(&job, state, input, output, beside)
         }
         Err(unverified) => {
-            let unverified = in_own_lines(alloc, text, more.as_slice(), unverified, beside)?;
             if request.verb == Verb::Verify {
                 note_unverified(alloc, request.file.as_str(), text, &unverified, beside)?;
             }
             print_unverified(&unverified, output, beside)
         }
     }
-}
-
-/// The text that is judged: with lines put in that follow from others, if the request asks for that.
-pub fn judged_text(
-    alloc: Global,
-    state: RandomState,
-    request: &Request,
-    text: &[u8],
-    effort: &Effort,
-) -> Result<Vec<u8>, Refused> {
-    if request.annotates {
-        return annotated(alloc, state, text, effort);
-    }
-    let mut more = Vec::new(alloc);
-    more.extend_from_slice(text)?;
-    Ok(more)
 }
 
 fn answer_verified<R: Read, W: Write>(

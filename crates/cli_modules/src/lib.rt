@@ -3,6 +3,7 @@
 #![tactic(auto)]
 
 mod accepted;
+mod annotations;
 mod beside;
 mod faults;
 mod files;
@@ -12,9 +13,9 @@ mod shown;
 mod status;
 
 pub use accepted::{find_function, print_verified};
-pub use annotate::annotated;
+pub use annotations::{in_own_lines, judged_text};
 pub use beside::{Beside, FileText};
-pub use faults::{in_own_lines, note_effort, note_fault, note_unverified};
+pub use faults::{note_effort, note_fault, note_unverified};
 pub use files::{read_file, read_text, write_file};
 pub use reasons::print_rule;
 pub use refusals::{fail, print_refused, print_unreadable, print_unverified, stop_for_memory};

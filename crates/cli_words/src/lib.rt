@@ -4,6 +4,7 @@
 //! ([`text_of`]) and a word again where a file is opened ([`bytes_of`]).
 #![tactic(auto)]
 
+mod annotating;
 mod manual_page;
 mod parsing;
 mod request;
@@ -11,6 +12,7 @@ mod shells;
 mod version;
 mod word;
 
+pub use annotating::Annotating;
 pub use manual_page::manual;
 pub use parsing::{is_name, words};
 pub use request::{CellWord, Request, Setting, Shell, Telling, Verb, WordsFault};

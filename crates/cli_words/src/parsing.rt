@@ -3,6 +3,7 @@
 ghost use Rattle.std.specs.Prelude.{◌≡◌, IfOk, IfSome, map};
 ghost use Rattle.cli_words.specs.Asked.{IsAsked, word_of};
 
+use crate::annotating::{ANNOTATE, PRUNE, WRITE, read_annotating};
 use crate::request::{CellWord, Request, Setting, Shell, Verb, WordsFault};
 use crate::version::VERSION_LINES;
 use clap::error::ErrorKind;
@@ -109,7 +110,7 @@ fn setting(alloc: Global, text: &str) -> Result<Option<Setting>, AllocError> {
 }
 
 /// The fault that this text tells, if there was memory for it.
-fn fault_with(text: Result<String, AllocError>) -> WordsFault {
+pub(crate) fn fault_with(text: Result<String, AllocError>) -> WordsFault {
     match text {
         Ok(text) => WordsFault::told(text),
         Err(_) => WordsFault::out_of_memory(),
@@ -278,13 +279,6 @@ const EFFORT: Part = Part {
     help: "gives up after N steps of search, in place of 1000000000",
 };
 
-const ANNOTATE: Part = Part {
-    name: "annotate",
-    value: "",
-    given: Given::Flag,
-    help: "puts in lines that follow from others first, as the command of this name does",
-};
-
 const ARG: Part = Part {
     name: "arg",
     value: "V",
@@ -434,6 +428,8 @@ static COMPLETIONS_PARTS: [Part; 1] = [SHELL];
 
 static MAN_PARTS: [Part; 0] = [];
 
+static ANNOTATE_PARTS: [Part; 4] = [FILE, PRUNE, WRITE, EFFORT];
+
 /// An option with a value.
 fn option<'a>(arg: Arg<'a>, part: &Part, action: ArgAction) -> Arg<'a> {
     arg.long(part.name).value_name(part.value).action(action)
@@ -474,7 +470,7 @@ pub(crate) fn about_of(verb: Verb) -> &'static str {
         }
         Verb::Print => "prints the canonical text of a module",
         Verb::Show => "tells what the verifier knows of each block of a module",
-        Verb::Annotate => "prints a module with annotations put in that follow from others",
+        Verb::Annotate => "prints a module with annotations put in that follow from others, or without those that it does not need",
         Verb::Completions => "prints a script that completes the words of this program in a shell",
         Verb::Man => "prints the manual page",
     }
@@ -492,7 +488,7 @@ pub(crate) fn example_of(verb: Verb) -> &'static str {
         Verb::Debug => "$ tapirvm debug pair.ll s.txt --workers 2 --arg 7",
         Verb::Print => "$ tapirvm print fib.ll",
         Verb::Show => "$ tapirvm show fib.ll",
-        Verb::Annotate => "$ tapirvm annotate fib.ll > annotated.ll",
+        Verb::Annotate => "$ tapirvm annotate fib.ll > annotated.ll\n$ tapirvm annotate --prune --write annotated.ll",
         Verb::Completions => "$ source <(tapirvm completions bash)",
         Verb::Man => "$ tapirvm man > tapirvm.1 && man ./tapirvm.1",
     }
@@ -510,7 +506,8 @@ pub(crate) fn parts_of(verb: Verb) -> &'static [Part] {
         Verb::Completions => &COMPLETIONS_PARTS,
         Verb::Man => &MAN_PARTS,
         Verb::Show => &KNOWN_PARTS,
-        Verb::Print | Verb::Annotate => &MODULE_PARTS,
+        Verb::Annotate => &ANNOTATE_PARTS,
+        Verb::Print => &MODULE_PARTS,
     }
 }
 
@@ -666,7 +663,6 @@ fn read_verify(
     ensures { request.new.verb ≡ request.old.verb }
 {
     request.table = table_of(alloc, matches)?;
-    request.annotates = matches.get_flag("annotate");
     read_show(alloc, matches, request)
 }
 
@@ -692,18 +688,6 @@ fn written_file(
         Some(file) => Ok(Some(String::from_str(alloc, file)?)),
         None => Ok(None),
     }
-}
-
-/// Reads the options of the serial run.
-fn read_serial(
-    alloc: Global,
-    matches: &ArgMatches<'_>,
-    request: &mut Request,
-) -> Result<(), WordsFault>
-    ensures { request.new.verb ≡ request.old.verb }
-{
-    request.annotates = matches.get_flag("annotate");
-    read_running(alloc, matches, request)
 }
 
 /// Reads what is to be told of a run.
@@ -732,7 +716,6 @@ fn read_run(
     ensures { request.new.verb ≡ request.old.verb }
 {
     read_running(alloc, matches, request)?;
-    request.annotates = matches.get_flag("annotate");
     request.telling.seed = number_of(alloc, matches, "seed", "--seed <S>")?;
     read_telling(alloc, matches, request)?;
     request.speedup = speedup_of(alloc, matches)?;
@@ -785,12 +768,13 @@ fn read_options(
         Verb::Run => read_run(alloc, matches, request)?,
         Verb::Replay => read_replay(alloc, matches, request)?,
         Verb::Debug => read_scheduled(alloc, matches, request)?,
-        Verb::Serial => read_serial(alloc, matches, request)?,
+        Verb::Serial => read_running(alloc, matches, request)?,
         Verb::Completions => request.shell = Some(shell_of(alloc, request.file.as_str())?),
         Verb::Show => read_show(alloc, matches, request)?,
-        Verb::Print | Verb::Annotate | Verb::Man => {}
+        Verb::Annotate => read_effort(alloc, matches, request)?,
+        Verb::Print | Verb::Man => {}
     }
-    Ok(())
+    read_annotating(alloc, matches, request)
 }
 
 /// The verb that a word names.

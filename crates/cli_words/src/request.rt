@@ -1,6 +1,7 @@
 ghost use Rattle.std.specs.Prelude.{◌≡◌};
 ghost use Rattle.cli_words.specs.Asked.{word_of};
 
+use crate::annotating::Annotating;
 use std::alloc::{AllocError, AllocFailed, Global};
 
 /// What the program is asked to do.
@@ -93,8 +94,7 @@ pub struct Request {
     pub show: Vec<CellWord>,
     /// The name, without `@`, of the function whose costs to print, for the verb that takes one.
     pub table: Option<String>,
-    /// Whether lines that follow from others are put in before the module is judged; of the verbs that may be asked for it.
-    pub annotates: bool,
+    pub annotating: Annotating,
     /// How many steps of search a verdict may take, where a number is named; of the verbs that ask for one.
     pub effort: Option<u64>,
     /// The number of the rule to print in place of a module, for the verb that takes one.
@@ -120,7 +120,7 @@ impl Drop for Request {
             set: _,
             show: _,
             table: _,
-            annotates: _,
+            annotating: _,
             effort: _,
             rule: _,
             shell: _,
@@ -145,7 +145,7 @@ impl Request {
             set: Vec::new(alloc),
             show: Vec::new(alloc),
             table: None,
-            annotates: false,
+            annotating: Annotating::nothing(),
             effort: None,
             rule: None,
             shell: None,

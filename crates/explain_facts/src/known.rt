@@ -95,6 +95,14 @@ pub fn fact_lines(
     Ok(lines)
 }
 
+/// Whether a register stands in a form, and does not fall out of it.
+fn has_registers(form: &Form) -> bool {
+    form.terms
+        .as_slice()
+        .iter()
+        .any(|term| term.coefficient != 0)
+}
+
 fn has_register(form: &Form, register: RegisterId) -> bool {
     form.terms
         .as_slice()
@@ -258,7 +266,7 @@ impl Known<'_> {
         unit: &str,
         out: &mut String,
     ) -> Result<(), Unanswered> {
-        if !form.terms.is_empty() {
+        if has_registers(form) {
             push_inequality(alloc, self.scene, form, out)?;
             out.push_str(" is ")?;
         }

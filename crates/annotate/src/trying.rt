@@ -9,7 +9,7 @@ use explain_facts::{match_text, spend};
 use ir_reader::read;
 use ranges::{Effort, Unanswered};
 use refusal::Refused;
-use std::alloc::{AllocError, Global};
+use std::alloc::Global;
 use std::hash::RandomState;
 use verifier::{Unverified, verify_within};
 
@@ -20,7 +20,7 @@ const STEPS_A_BYTE: usize = 100;
 const MOST_ROUNDS: usize = 64;
 
 /// A text as it was.
-fn copied(alloc: Global, text: &[u8]) -> Result<Vec<u8>, AllocError>
+pub fn copied(alloc: Global, text: &[u8]) -> Result<Vec<u8>, Refused>
     ensures { IfOk result (λ out. out.items ≡ text.now) }
 {
     let mut out = Vec::new(alloc);
@@ -41,12 +41,12 @@ fn judged(
     match verify_within(alloc, state, more, effort) {
         Ok(verified) => {
             drop(verified);
-            Ok(copied(alloc, more)?)
+            copied(alloc, more)
         }
         Err(_) => match verify_within(alloc, state, text, effort) {
-            Err(Unverified::Refused(Refused::Fault { .. })) => Ok(copied(alloc, more)?),
+            Err(Unverified::Refused(Refused::Fault { .. })) => copied(alloc, more),
             Err(Unverified::Refused(Refused::Memory)) => Err(Refused::Memory),
-            _ => Ok(copied(alloc, text)?),
+            _ => copied(alloc, text),
         },
     }
 }
@@ -154,6 +154,6 @@ pub fn annotated(
     match with_all(alloc, state, str::from_utf8(text).unwrap_or(""), effort) {
         Ok(more) => judged(alloc, state, text, more.as_bytes(), effort),
         Err(Unanswered::OutOfMemory) => Err(Refused::Memory),
-        Err(Unanswered::OutOfEffort) => Ok(copied(alloc, text)?),
+        Err(Unanswered::OutOfEffort) => copied(alloc, text),
     }
 }
