@@ -49,13 +49,6 @@ impl Counted {
         }
     }
 
-    fn unit(self) -> &'static str {
-        match self {
-            Counted::SelfCalls => "self call",
-            Counted::Instructions => "instruction",
-        }
-    }
-
     fn of_left(self, left: &Left) -> &Form {
         match self {
             Counted::SelfCalls => &left.self_calls,
@@ -196,7 +189,7 @@ impl Doing<'_> {
             self.push_share(alloc, counted, share, out)?;
         }
         out.push_str("\n    ")?;
-        self.known.push_gap(alloc, rest, counted.unit(), out)?;
+        self.known.push_gap(alloc, rest, out)?;
         self.push_edge_to(shares, out)?;
         Ok(out.push_str("\n")?)
     }
@@ -317,7 +310,7 @@ fn push_unshown(
     notes: &mut String,
 ) -> Result<(), Unanswered> {
     write!(notes, "  {what}: ")?;
-    known.push_gap(alloc, sum, "", notes)?;
+    known.push_gap(alloc, sum, notes)?;
     Ok(notes.push_str("\n")?)
 }
 
