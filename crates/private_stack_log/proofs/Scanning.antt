@@ -1,8 +1,8 @@
 -- The next bit of a mask.
-use Rattle.std.proofs.Common.{◌≡◌, ◌<◌, ◌≤◌, ◌+◌, ◌-◌, ◌/◌, ◌%◌, ◌^◌, ◌||◌, ◌⊎◌, ℕ, max, sym, ap, ◌∙◌, arith, true, false, nat_eq, shr-shr, inl, inr, w64}
+use Rattle.std.proofs.Common.{◌≡◌, ◌<◌, ◌≤◌, ◌+◌, ◌-◌, ◌/◌, ◌%◌, ◌^◌, ◌||◌, ◌&&◌, ◌⊎◌, ℕ, max, refl, sym, ap, ◌∙◌, arith, true, false, Bool, nat_eq, zero, suc, shr-shr, inl, inr, w64}
 use Rattle.std.specs.Int.{bit_at, trailing_zeros}
 use Rattle.std.specs.Prelude.{bit_or}
-use Rattle.std.proofs.lemmas.Bool.Decides.{leb_tells}
+use Rattle.std.proofs.lemmas.Bool.Decides.{eqb_tells, leb_tells}
 use Rattle.std.proofs.lemmas.Nat.{shr_le}
 use Rattle.std.proofs.lemmas.Nat.Bits.{bit_at-lt, bit_at-trailing_zeros, bit_at-zero, bit_at_above, bit_at_or}
 use Rattle.private_stack_log.specs.Bits.{is_set}
@@ -50,3 +50,25 @@ larger x y (inr p) (inr q) = (λ i. nat_eq (max (p i) (q i)) 1) ∙ sym (λ i. n
 
 pub either_set : (a b k : ℕ) → is_set (bit_or a b) k ≡ (is_set a k || is_set b k)
 either_set a b k = ap (λ (n : ℕ). nat_eq n 1) (bit_at_or a b k) ∙ larger (bit_at a k) (bit_at b k) (small (bit_at a k) (bit_at-lt a k)) (small (bit_at b k) (bit_at-lt b k))
+
+-- ---- all bits
+
+all_below : ℕ → ℕ → Bool
+all_below mask zero = true
+all_below mask (suc n) = is_set mask n && all_below mask n
+
+both_true : (a b : Bool) → (a && b) ≡ true → (a ≡ true) × (b ≡ true)
+both_true true b e = (refl, e)
+both_true false b e = absurd cc
+
+below_set : (mask n k : ℕ) → all_below mask n ≡ true → k < n → is_set mask k ≡ true
+below_set mask zero k all lt = absurd (omega (arith, lt))
+below_set mask (suc n) k all lt =
+    let both = both_true (is_set mask n) (all_below mask n) all in
+    elim (eqb_tells k n) [
+      | inl h ↦ ap (is_set mask) h.1 ∙ both.0
+      | inr h ↦ (let off = h.1 in below_set mask n k both.1 (omega (arith, off, lt)))
+    ]
+
+pub full_set : (k : ℕ) → k < 64 → is_set 18446744073709551615 k ≡ true
+full_set k lt = below_set 18446744073709551615 64 k refl lt

@@ -28,6 +28,14 @@ pub(crate) fn either(left: u64, right: u64) -> u64
     left | right
 }
 
+/// Whether all bits are set.
+#[inline(always)]
+pub(crate) fn is_full(mask: u64) -> bool
+    ensures { result ≡ true → (k : ℕ) → k < 64 → is_set mask k ≡ true }
+{
+    mask == u64::MAX
+}
+
 /// The first place from this one on whose bit is set.
 pub(crate) fn next(mask: u64, from: usize) -> Option<usize>
     requires { from ≤ 64 }

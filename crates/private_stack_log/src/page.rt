@@ -5,7 +5,7 @@ ghost use Rattle.private_stack_log.specs.Committing.{PageAgrees, PageDiffers, Pa
 ghost use Rattle.private_stack_log.specs.Known.{put_change, value_of};
 ghost use Rattle.private_stack_log.specs.Pages.{blank_page, changed_page, filled_page, loaded_page};
 
-use crate::bits::{either, is_set, next, with_bit};
+use crate::bits::{either, is_full, is_set, next, with_bit};
 use frame_engine::sum;
 use frame_strand::Change;
 
@@ -127,12 +127,30 @@ impl Page {
         }
     }
 
+    /// Whether the row holds the values, each of which was read. It goes on where one differs, so that many are compared at once.
+    fn agrees_whole(&self, row: &[i64]) -> bool
+        requires row { self.now.number * 64 + 64 ≤ length row.now }
+        requires read { (k : ℕ) → k < 64 → is_set self.now.read k ≡ true }
+        ensures yes { result ≡ true → PageAgrees (kept_of self.now) row.now }
+        ensures no { result ≡ false → PageDiffers (kept_of self.now) row.now }
+    {
+        let first = self.number * CELLS;
+        let mut same = true;
+        for place in 0..CELLS {
+            same &= row[first + place] == self.values[place];
+        }
+        same
+    }
+
     /// Whether the row of the board's cells holds what was read of it.
     pub(crate) fn agrees(&self, row: &[i64]) -> bool
         requires { self.now.number < 144115188075855872 }
         ensures yes { result ≡ true → PageAgrees (kept_of self.now) row.now }
         ensures no { result ≡ false → PageDiffers (kept_of self.now) row.now }
     {
+        if is_full(self.read) && self.number * CELLS + CELLS <= row.len() {
+            return self.agrees_whole(row);
+        }
         let mut from = 0;
         while let Some(place) = next(self.read, from) {
             if !holds(row, self.number * CELLS + place, &self.values[place]) {
@@ -162,12 +180,28 @@ impl Page {
         }
     }
 
+    /// Puts the changes into the row, each of which is stored.
+    fn write_whole(&self, row: &mut [i64])
+        requires row { self.now.number * 64 + 64 ≤ length row.old }
+        requires stored { (k : ℕ) → k < 64 → is_set self.now.stored k ≡ true }
+        ensures { PageIsPut (kept_of self.now) row.old row.new }
+    {
+        let first = self.number * CELLS;
+        for place in 0..CELLS {
+            row[first + place] = self.changes[place];
+        }
+    }
+
     /// Puts what was written into the row of the board's cells.
     pub(crate) fn write_into(&self, row: &mut [i64])
         requires number { self.now.number < 144115188075855872 }
         requires within { (k : ℕ) → k < 64 → (kept_of self.now).writes k ≢ None → self.now.number * 64 + k < length row.old }
         ensures { PageIsPut (kept_of self.now) row.old row.new }
     {
+        if is_full(self.stored) {
+            self.write_whole(row);
+            return;
+        }
         let written = either(self.stored, self.delta);
         let mut from = 0;
         while let Some(place) = next(written, from) {
