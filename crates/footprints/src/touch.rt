@@ -17,6 +17,7 @@ use program::{
     Address, Argument, Block, Function, FunctionId, Instruction, Mode, ObjectName, Terminator, Zone,
 };
 use ranges::{Move, Unanswered, argument_moves};
+use refusal::rule;
 use std::alloc::Global;
 
 /// Of what touches nothing.
@@ -24,7 +25,7 @@ fn no_use() -> Use
     ensures { result ≡ no_use }
 {
     Use {
-        number: 604,
+        number: rule::UNCOVERED_ZONE,
         covered: true,
         clear: true,
     }
@@ -36,7 +37,7 @@ fn access_use(alloc: Global, place: &Place<'_>, zone: &Zone) -> Result<Use, Unan
 {
     let y = as_written(zone);
     Ok(Use {
-        number: 601,
+        number: rule::UNCOVERED_CELL,
         covered: is_allowed(alloc, place, &y)?,
         clear: is_clear(alloc, place, &y)?,
     })
@@ -58,7 +59,7 @@ fn cell_use(
             access_use(alloc, place, &zone)
         }
         None => Ok(Use {
-            number: 601,
+            number: rule::UNCOVERED_CELL,
             covered: false,
             clear: true,
         }),
@@ -210,7 +211,7 @@ fn zones_use(
     let moves = argument_moves(alloc, arguments)?;
     let zones = callee.zones.as_slice();
     Ok(Use {
-        number: 604,
+        number: rule::UNCOVERED_ZONE,
         covered: are_put_allowed(alloc, place, &moves, arguments, zones)?,
         clear: are_put_clear(alloc, place, &moves, arguments, zones)?,
     })

@@ -8,6 +8,7 @@ ghost use Rattle.footprints_feet.specs.Feet.{foot_use};
 use footprints_zones::{MeasuredPlace, Place, Use, as_written};
 use program::Zone;
 use ranges::Unanswered;
+use refusal::rule;
 use std::alloc::Global;
 
 /// Whether each zone needs no cover, or has one.
@@ -39,7 +40,7 @@ fn zones_use(alloc: Global, place: &MeasuredPlace<'_>, foot: &[Zone]) -> Result<
     ensures { IfOk result (λ u. u ≡ foot_use place.now foot.now) }
 {
     Ok(Use {
-        number: 604,
+        number: rule::UNCOVERED_ZONE,
         covered: are_allowed(alloc, place, foot)?,
         clear: are_clear(alloc, place, foot)?,
     })
@@ -51,7 +52,7 @@ pub fn foot_use(alloc: Global, place: &Place<'_>, foot: &[Zone]) -> Result<Use, 
 {
     if foot.is_empty() {
         return Ok(Use {
-            number: 604,
+            number: rule::UNCOVERED_ZONE,
             covered: true,
             clear: true,
         });

@@ -10,7 +10,7 @@ use crate::task::first_tasks;
 use cfg::BlockEdges;
 use lists::Seq;
 use program::{Block, Function};
-use refusal::{Broken, lower};
+use refusal::{Broken, lower, rule};
 use std::alloc::{AllocError, Global};
 
 /// 306: a block is marked, since two paths give it different tasks.
@@ -26,7 +26,7 @@ fn mixed_fault(bodies: &[Block], blocks: &[BlockEdges], marks: &[bool]) -> Optio
         let broken = if marks[b] {
             Some(Broken {
                 line: block.line,
-                number: 306,
+                number: rule::TWO_TASKS,
             })
         } else {
             None

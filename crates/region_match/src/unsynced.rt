@@ -14,7 +14,7 @@ use crate::places::is_both;
 use crate::task::Task;
 use cfg::{BlockEdges, one_mark, reached};
 use program::{Block, BlockId, Ending, RegisterId, Terminator};
-use refusal::{Broken, lower};
+use refusal::{Broken, lower, rule};
 use std::alloc::{AllocError, Global};
 
 /// Whether a block ends with a sync within a region.
@@ -101,7 +101,7 @@ fn end_fault(ending: &Option<Ending>, is_open: bool) -> Option<Broken>
     if is_open && is_leaving(&ending.terminator) {
         Some(Broken {
             line: ending.line,
-            number: 304,
+            number: rule::UNSYNCED_DETACH,
         })
     } else {
         None
