@@ -4,7 +4,7 @@ use crate::beside::Beside;
 use crate::reasons::print_explanation;
 use crate::refusals::print_refused;
 use crate::status::Status;
-use annotate_trial::annotated;
+use annotate::annotated;
 use cli_words::{Request, Verb};
 use std::alloc::Global;
 use std::hash::RandomState;
