@@ -121,12 +121,6 @@ pub fn pruned(
     let mut shorter = text_of(alloc, text)?;
     match take_out_all(alloc, state, &mut shorter, effort) {
         Err(Unanswered::OutOfMemory) => Err(Unverified::Refused(Refused::Memory)),
-        _ => kept(
-            alloc,
-            state,
-            text,
-            shorter.as_bytes(),
-            &Effort::unlimited(),
-        ),
+        _ => kept(alloc, state, text, shorter.as_bytes(), &Effort::unlimited()),
     }
 }

@@ -6,10 +6,11 @@ use rules::push_heads;
 use std::alloc::{AllocError, Global};
 use verifier::{Refused, Unverified};
 
-/// Says on which line of the file a rule is broken, and what the rule means.
+/// Says on which line of the file a rule is broken, and what the rule means for this line of the text that was judged.
 pub fn note_fault(
     alloc: Global,
     file: &str,
+    own_line: u32,
     text: &[u8],
     number: u16,
     line: u32,
@@ -22,7 +23,7 @@ pub fn note_fault(
         return Err(AllocError);
     }
     let what = format!(in alloc; "rule {}", heads.as_str().trim())?;
-    beside.note_at(file, u64::from(line), what.as_str())
+    beside.note_at(file, u64::from(own_line), what.as_str())
 }
 
 /// The same of a module that is not verified, if it is refused.
@@ -35,7 +36,7 @@ pub fn note_unverified(
 ) -> Result<(), AllocError> {
     match unverified {
         Unverified::Refused(Refused::Fault { number, line }) => {
-            note_fault(alloc, file, text, *number, *line, beside)
+            note_fault(alloc, file, *line, text, *number, *line, beside)
         }
         _ => Ok(()),
     }
