@@ -6,8 +6,20 @@ use rules::push_heads;
 use std::alloc::{AllocError, Global};
 use verifier::{Refused, Unverified};
 
-/// Says on which line of the file a rule is broken, and what the rule means for this line of the text that was judged.
+/// Says on which line of the file a rule is broken, and what the rule means.
 pub fn note_fault(
+    alloc: Global,
+    file: &str,
+    text: &[u8],
+    number: u16,
+    line: u32,
+    beside: &mut Beside,
+) -> Result<(), AllocError> {
+    note_fault_at(alloc, file, line, text, number, line, beside)
+}
+
+/// The same of a text with lines put in, where the file has the line at another place.
+pub fn note_fault_at(
     alloc: Global,
     file: &str,
     own_line: u32,
@@ -36,7 +48,7 @@ pub fn note_unverified(
 ) -> Result<(), AllocError> {
     match unverified {
         Unverified::Refused(Refused::Fault { number, line }) => {
-            note_fault(alloc, file, *line, text, *number, *line, beside)
+            note_fault(alloc, file, text, *number, *line, beside)
         }
         _ => Ok(()),
     }

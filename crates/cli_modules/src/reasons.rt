@@ -2,7 +2,7 @@
 
 use crate::annotations::{judged_text, lines_put_in};
 use crate::beside::Beside;
-use crate::faults::note_fault;
+use crate::faults::note_fault_at;
 use crate::own_lines::with_own_lines;
 use crate::refusals::{print_undecided, stop_for_memory};
 use crate::status::Status;
@@ -32,7 +32,7 @@ fn explained(
         Explanation::Accepted { .. } => Status::Done,
         Explanation::Refused { first, .. } => {
             let own_line = new.own_line(first.line);
-            note_fault(
+            note_fault_at(
                 alloc,
                 file,
                 own_line,
