@@ -20,7 +20,6 @@ fn mixed_fault(bodies: &[Block], blocks: &[BlockEdges], marks: &[bool]) -> Optio
     requires blocks { length blocks.now ≡ length bodies.now }
     ensures { IsJudged ((b : ℕ) → b < length blocks.now → slice_index_or marks.now b false ≡ false) (IsMixedBlock bodies.now blocks.now) result }
 {
-    let _blocks = blocks;
     let mut named: Option<Broken> = None;
     for (b, block) in bodies.iter().enumerate() {
         let broken = if marks[b] {

@@ -28,7 +28,7 @@ fn is_sync(bodies: &[Block], block: usize, region: RegisterId) -> bool
 }
 
 /// The region and the continuation of the detach that a block ends with.
-fn detach_of(bodies: &[Block], block: usize) -> Option<(RegisterId, BlockId)>
+pub fn detach_of(bodies: &[Block], block: usize) -> Option<(RegisterId, BlockId)>
     ensures { MatchOption result ((region : RegisterId) (continuation : BlockId) → IsDetach (ending_at bodies.now block) region continuation → ⊥)
         (λ d. IsDetach (ending_at bodies.now block) d.0 d.1) }
 {
@@ -58,7 +58,7 @@ fn sync_marks(alloc: Global, bodies: &[Block], region: RegisterId) -> Result<Vec
 }
 
 /// Marks the blocks that a path from a continuation leads to with no sync of the region.
-fn open_marks(
+pub fn open_marks(
     alloc: Global,
     bodies: &[Block],
     blocks: &[BlockEdges],
