@@ -1,9 +1,9 @@
 -- Pages that are in use stay so, and their cells have places.
-use Rattle.std.proofs.Common.{◌≡◌, ◌∙◌, ℕ, ℤ, pos, negsuc, ◌/◌, Bool, true, false, cond, nat_eq, nat_lt, ◌&&◌, ◌||◌, refl, sym, ap, arith, subst}
+use Rattle.std.proofs.Common.{◌≡◌, ◌∙◌, ℕ, ℤ, pos, negsuc, ◌/◌, Bool, true, false, cond, nat_eq, nat_lt, ◌&&◌, ◌||◌, refl, sym, arith, subst}
 use Rattle.std.proofs.lemmas.Bool.{and_parts}
 use Rattle.std.proofs.lemmas.Bool.Decides.{nat_tests}
 use Rattle.frame_strand.specs.declared.cells.Change.{Change}
-use Rattle.private_stack_log.specs.Logs.{IsWider, Log, changed_log, has_place, is_open, pages_with, used_with, with_page}
+use Rattle.private_stack_log.specs.Logs.{IsWider, Log, changed_log, has_place, is_open, with_page}
 use Rattle.private_stack_log.specs.Tables.{Table, log_of}
 
 same_number : (n : ℕ) → nat_eq n n ≡ true

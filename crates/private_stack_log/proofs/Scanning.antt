@@ -1,10 +1,10 @@
 -- The next bit of a mask.
 use Rattle.std.proofs.Common.{◌≡◌, ◌<◌, ◌≤◌, ◌+◌, ◌-◌, ◌/◌, ◌%◌, ◌^◌, ◌||◌, ◌⊎◌, ℕ, max, sym, ap, ◌∙◌, arith, true, false, nat_eq, shr-shr, inl, inr, w64}
-use Rattle.std.specs.Int.{bit_at, trailing_zeros}
+use Rattle.std.specs.Int.{bit_at, bit_not, trailing_zeros}
 use Rattle.std.specs.Prelude.{bit_or}
-use Rattle.std.proofs.lemmas.Bool.Decides.{leb_tells}
+use Rattle.std.proofs.lemmas.Bool.Decides.{eqb_tells, leb_tells}
 use Rattle.std.proofs.lemmas.Nat.{shr_le}
-use Rattle.std.proofs.lemmas.Nat.Bits.{bit_at-lt, bit_at-trailing_zeros, bit_at-zero, bit_at_above, bit_at_or}
+use Rattle.std.proofs.lemmas.Nat.Bits.{bit_at-lt, bit_at-trailing_zeros, bit_at-zero, bit_at_above, bit_at_not, bit_at_or}
 use Rattle.private_stack_log.specs.Bits.{is_set}
 
 shifted : (mask from j : ℕ) → bit_at (mask / 2 ^ from) j ≡ bit_at mask (from + j)
@@ -50,3 +50,22 @@ larger x y (inr p) (inr q) = (λ i. nat_eq (max (p i) (q i)) 1) ∙ sym (λ i. n
 
 pub either_set : (a b k : ℕ) → is_set (bit_or a b) k ≡ (is_set a k || is_set b k)
 either_set a b k = ap (λ (n : ℕ). nat_eq n 1) (bit_at_or a b k) ∙ larger (bit_at a k) (bit_at b k) (small (bit_at a k) (bit_at-lt a k)) (small (bit_at b k) (bit_at-lt b k))
+
+-- ---- a run of set bits
+
+unset_then : (mask k : ℕ) → mask < 2 ^ 64 → k < 64 → is_set (bit_not w64 mask) k ≡ false → is_set mask k ≡ true
+unset_then mask k fits within off = elim (small (bit_at mask k) (bit_at-lt mask k)) [
+  | inl none ↦
+      let other : bit_at (bit_not w64 mask) k ≡ 1 = bit_at_not w64 mask k fits within ∙ ap (λ (n : ℕ). 1 - n) none in
+      let on : is_set (bit_not w64 mask) k ≡ true = ap (λ (n : ℕ). nat_eq n 1) other in
+      absurd (let bad = sym on ∙ off in cc)
+  | inr one ↦ ap (λ (n : ℕ). nat_eq n 1) one
+]
+
+-- a set bit, and behind it those that the mask's other bits pass over
+pub run_set : (mask place end : ℕ) → mask < 2 ^ 64 → end ≤ 64 → is_set mask place ≡ true → ((k : ℕ) → place + 1 ≤ k → k < end → is_set (bit_not w64 mask) k ≡ false) →
+    (k : ℕ) → place ≤ k → k < end → is_set mask k ≡ true
+run_set mask place end fits page on passed k ge lt = elim (eqb_tells k place) [
+  | inl h ↦ ap (is_set mask) h.1 ∙ on
+  | inr h ↦ let off = h.1 in unset_then mask k fits (omega (arith, lt, page)) (passed k (omega (arith, off, ge)) lt)
+]

@@ -46,3 +46,18 @@ pub(crate) fn next(mask: u64, from: usize) -> Option<usize>
     }
     Some(from + rest.trailing_zeros() as usize)
 }
+
+/// The place behind the run of set bits that goes on from this one.
+#[inline(always)]
+pub(crate) fn run_end(mask: u64, place: usize) -> usize
+    requires within { place < 64 }
+    requires begins { is_set mask place ≡ true }
+    ensures later { place < result }
+    ensures within { result ≤ 64 }
+    ensures set { (k : ℕ) → place ≤ k → k < result → is_set mask k ≡ true }
+{
+    match next(!mask, place + 1) {
+        Some(end) => end,
+        None => 64,
+    }
+}

@@ -4,7 +4,7 @@ ghost use Rattle.frame_engine.specs.Flat.{is_cell};
 ghost use Rattle.frame_strand.specs.Buffers.{raised_change};
 ghost use Rattle.private_stack_log.specs.Committing.{Agrees, IsPutInto};
 ghost use Rattle.private_stack_log.specs.Doing.{IsChanged, IsLoaded, IsMissing, LacksPlace};
-ghost use Rattle.private_stack_log.specs.Logs.{empty_log, filled_log, has_place, loaded_log, pages_of, place_of, value_at, with_page};
+ghost use Rattle.private_stack_log.specs.Logs.{empty_log, filled_log, has_place, is_open, loaded_log, pages_of, place_of, value_at, with_page};
 ghost use Rattle.private_stack_log.specs.Tables.{IsTable, entry_of, log_of};
 
 use crate::page::{CELLS, Page};
@@ -242,15 +242,45 @@ impl PageLog {
         }
     }
 
+    /// The cells of the address's page hold these values, from its first cell on, if it is or may be in use; whether it is.
+    fn fill_page(&mut self, at: &i64, values: &[i64]) -> bool
+        requires { length values.now ≤ 64 }
+        ensures filled { result ≡ true → log_of self.new ≡ filled_log (log_of self.old) at.now values.now }
+        ensures none { result ≡ false → has_place (log_of self.old) at.now ≡ false }
+        ensures unchanged { result ≡ false → self.new ≡ self.old }
+    {
+        match self.open(at) {
+            Some(slot) => {
+                self.pages[slot].fill(values);
+                true
+            }
+            None => false,
+        }
+    }
+
     /// The cells of the address's page hold these values, from its first cell on; the last page may have fewer than 64.
     pub fn fill(&mut self, at: &i64, values: &[i64])
         requires few { length values.now ≤ 64 }
         requires place { has_place (log_of self.old) at.now ≡ true }
         ensures { log_of self.new ≡ filled_log (log_of self.old) at.now values.now }
     {
-        if let Some(slot) = self.open(at) {
-            self.pages[slot].fill(values);
-        }
+        self.fill_page(at, values);
+    }
+
+    /// The same of a page that may be needed soon, as long as half of the pages are left, which are for those that are needed; whether it was done.
+    pub fn fill_ahead(&mut self, at: &i64, values: &[i64]) -> bool
+        requires { length values.now ≤ 64 }
+        ensures filled { result ≡ true → log_of self.new ≡ filled_log (log_of self.old) at.now values.now }
+        ensures unchanged { result ≡ false → self.new ≡ self.old }
+    {
+        self.used < PAGES / 2 && self.fill_page(at, values)
+    }
+
+    /// Whether the cell's page is in use.
+    pub fn has_page(&self, at: &i64) -> bool
+        ensures { result ≡ is_open (log_of self.now) at.now }
+    {
+        entry(self.directory.as_slice(), at) > 0
     }
 
     /// Whether the row of the board's cells holds what was read of it.

@@ -1,11 +1,11 @@
-ghost use Rattle.std.specs.Prelude.{◌≡◌, ◌≢◌, ◌<◌, ◌≤◌, ◌+◌, ◌*◌, ◌||◌, ℕ, true, false, length, slice_get, IfNone, None, Some};
+ghost use Rattle.std.specs.Prelude.{◌≡◌, ◌≢◌, ◌<◌, ◌≤◌, ◌+◌, ◌*◌, ◌||◌, ℕ, true, false, length, IfNone, None};
 ghost use Rattle.frame_strand.specs.Buffers.{raised_change};
 ghost use Rattle.private_stack_log.specs.Bits.{is_set};
-ghost use Rattle.private_stack_log.specs.Committing.{PageAgrees, PageDiffers, PageIsPut};
-ghost use Rattle.private_stack_log.specs.Known.{put_change, value_of};
+ghost use Rattle.private_stack_log.specs.Committing.{AgreesWithin, ArePut, PageAgrees, PageDiffers, PageIsPut};
+ghost use Rattle.private_stack_log.specs.Known.{value_of};
 ghost use Rattle.private_stack_log.specs.Pages.{blank_page, changed_page, filled_page, loaded_page};
 
-use crate::bits::{either, is_set, next, with_bit};
+use crate::bits::{either, is_set, next, run_end, with_bit};
 use frame_engine::sum;
 use frame_strand::Change;
 
@@ -127,6 +127,27 @@ impl Page {
         }
     }
 
+    /// Whether the row's cells at these places hold the values, each of which was read. It goes on where one differs, so that several are compared at
+    /// once.
+    fn agrees_within(&self, row: &[i64], from: usize, end: usize) -> bool
+        requires number { self.now.number < 144115188075855872 }
+        requires some { from < end }
+        requires page { end ≤ 64 }
+        requires read { (k : ℕ) → from ≤ k → k < end → is_set self.now.read k ≡ true }
+        ensures yes { result ≡ true → AgreesWithin (kept_of self.now) from end row.now }
+        ensures no { result ≡ false → PageDiffers (kept_of self.now) row.now }
+    {
+        let first = self.number * CELLS;
+        if row.len() < first + end {
+            return false;
+        }
+        let mut same = true;
+        for place in from..end {
+            same &= row[first + place] == self.values[place];
+        }
+        same
+    }
+
     /// Whether the row of the board's cells holds what was read of it.
     pub(crate) fn agrees(&self, row: &[i64]) -> bool
         requires { self.now.number < 144115188075855872 }
@@ -135,31 +156,49 @@ impl Page {
     {
         let mut from = 0;
         while let Some(place) = next(self.read, from) {
-            if !holds(row, self.number * CELLS + place, &self.values[place]) {
+            let end = run_end(self.read, place);
+            if !self.agrees_within(row, place, end) {
                 return false;
             }
-            from = place + 1;
+            from = end;
         }
         true
     }
 
-    /// Puts what is kept of a cell that was written into the row.
-    fn put(&self, row: &mut [i64], place: usize)
+    /// Puts the numbers of these places, each of which is stored, into the row.
+    fn put_stored(&self, row: &mut [i64], from: usize, end: usize)
+        requires number { self.now.number < 144115188075855872 }
+        requires some { from < end }
+        requires page { end ≤ 64 }
+        requires row { self.now.number * 64 + end ≤ length row.old }
+        requires stored { (k : ℕ) → from ≤ k → k < end → is_set self.now.stored k ≡ true }
+        ensures { ArePut (kept_of self.now) from end row.old row.new }
+    {
+        let first = self.number * CELLS;
+        for place in from..end {
+            row[first + place] = self.changes[place];
+        }
+    }
+
+    /// Puts what is kept of a cell that was written into the row, and with a stored one those right behind it that are stored too. The answer is the
+    /// place behind them.
+    fn put_from(&self, row: &mut [i64], place: usize) -> usize
         requires number { self.now.number < 144115188075855872 }
         requires place { place < 64 }
-        requires within { self.now.number * 64 + place < length row.old }
+        requires within { (k : ℕ) → k < 64 → (kept_of self.now).writes k ≢ None → self.now.number * 64 + k < length row.old }
         requires written { (is_set self.now.stored place || is_set self.now.delta place) ≡ true }
-        ensures long { length row.new ≡ length row.old }
-        ensures here { slice_get row.new (self.now.number * 64 + place) ≡
-            put_change ((kept_of self.now).writes place) (slice_get row.old (self.now.number * 64 + place)) }
-        ensures others { (i : ℕ) → i ≢ self.now.number * 64 + place → slice_get row.new i ≡ slice_get row.old i }
+        ensures later { place < result }
+        ensures page { result ≤ 64 }
+        ensures put { ArePut (kept_of self.now) place result row.old row.new }
     {
-        let at = self.number * CELLS + place;
         if is_set(self.stored, place) {
-            row[at] = self.changes[place];
-        } else {
-            row[at] = sum(row[at], self.changes[place]);
+            let end = run_end(self.stored, place);
+            self.put_stored(row, place, end);
+            return end;
         }
+        let at = self.number * CELLS + place;
+        row[at] = sum(row[at], self.changes[place]);
+        place + 1
     }
 
     /// Puts what was written into the row of the board's cells.
@@ -171,20 +210,7 @@ impl Page {
         let written = either(self.stored, self.delta);
         let mut from = 0;
         while let Some(place) = next(written, from) {
-            self.put(row, place);
-            from = place + 1;
+            from = self.put_from(row, place);
         }
-    }
-}
-
-/// Whether the row's cell there holds the value.
-#[inline(always)]
-fn holds(row: &[i64], at: usize, value: &i64) -> bool
-    ensures yes { result ≡ true → slice_get row.now at ≡ Some value.now }
-    ensures no { result ≡ false → slice_get row.now at ≢ Some value.now }
-{
-    match row.get(at) {
-        Some(held) => *held == *value,
-        None => false,
     }
 }

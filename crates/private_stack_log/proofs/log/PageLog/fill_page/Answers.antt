@@ -5,7 +5,7 @@ use Rattle.private_stack_log.specs.Holding.{table_of}
 use Rattle.private_stack_log.specs.Logs.{Log, with_page, with_values}
 use Rattle.private_stack_log.specs.Tables.{IsTable, Table, entry_of, log_of}
 use Rattle.private_stack_log.proofs.Paged.{filled_table, repaged, slot_within}
-use Rattle.private_stack_log.proofs.log.PageLog.fill.Goals as goal
+use Rattle.private_stack_log.proofs.log.PageLog.fill_page.Goals as goal
 
 pub index_mut-requires : goal.index_mut-requires
 index_mut-requires c =
@@ -31,5 +31,5 @@ now c = filled_table (table_of c.self.inside) c.self.invariant c.in-Some.slot c.
 pub invariant_of-self : goal.invariant_of-self
 invariant_of-self c = (now c).0
 
-pub returns-in-Some : goal.returns-in-Some
-returns-in-Some c = (now c).1 ∙ ap (λ (x : Log). with_values x c.args.at.now c.args.values.now) (before c)
+pub returns-in-Some-clause-filled : goal.returns-in-Some-clause-filled
+returns-in-Some-clause-filled c e = (now c).1 ∙ ap (λ (x : Log). with_values x c.args.at.now c.args.values.now) (before c)
