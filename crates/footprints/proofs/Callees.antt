@@ -16,9 +16,9 @@ zones_use p arguments zones = record {
   clear = list_all (λ (z : Zone). is_put_clear p (put_in arguments z)) zones;
 }
 
-pub zones_use-more : (p : Place) (arguments : List Argument) (zones : List Zone) (i : ℕ) (d : Zone) → i < length zones
+pub zones_use_more : (p : Place) (arguments : List Argument) (zones : List Zone) (i : ℕ) (d : Zone) → i < length zones
     → zones_use p arguments (take (i + 1) zones) ≡ joined_use (zones_use p arguments (take i zones)) (put_use p (put_in arguments (get_or zones i d)))
-zones_use-more p arguments zones i d l =
+zones_use_more p arguments zones i d l =
     rw (
       list_all_more (λ (z : Zone). is_put_allowed p (put_in arguments z)) zones i d l,
       list_all_more (λ (z : Zone). is_put_clear p (put_in arguments z)) zones i d l,

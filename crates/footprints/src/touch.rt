@@ -129,7 +129,7 @@ fn put_use(
 }
 
 /// 604: of a call of this function, which has some zones.
-#[tactic(auto, using(crate::proofs::Callees::zones_use-more))]
+#[tactic(auto, using(crate::proofs::Callees::zones_use_more))]
 fn zones_use(
     alloc: Global,
     place: &MeasuredPlace<'_>,

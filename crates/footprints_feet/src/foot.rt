@@ -47,7 +47,7 @@ pub fn joined_use(one: Use, other: Use) -> Use
 }
 
 /// 604: of a new child, a foot with some zones.
-#[tactic(auto, using(crate::proofs::Zones::foot_use-more))]
+#[tactic(auto, using(crate::proofs::Zones::foot_use_more))]
 fn zones_use(alloc: Global, place: &MeasuredPlace<'_>, foot: &[Zone]) -> Result<Use, Unanswered>
     ensures { IfOk result (λ u. u ≡ foot_use place.now foot.now) }
 {
